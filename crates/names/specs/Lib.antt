@@ -1,0 +1,9 @@
+pub mod Tags
+pub mod Sets
+pub mod RefusedNames
+pub mod Codes
+pub mod Names
+pub mod Table
+pub mod Sink
+pub mod Placed
+pub mod Rows

@@ -1,0 +1,27 @@
+-- Names as numbers: a table is the list of its texts, each by its bytes in UTF-8, and a number is a place in it.
+use Rattle.std.specs.Prelude.{◌≡◌, ℕ, ◌<◌, List, ◌++◌, take, length, slice_index_or, []}
+use Rattle.names.specs.Tags.{known}
+
+abbrev pub Texts : Type 0
+Texts = List (List ℕ)
+
+-- what a number stands for
+abbrev pub text_of : Texts → ℕ → List ℕ
+text_of names id = slice_index_or names id []
+
+-- a number of this table
+abbrev pub IsOf : Texts → ℕ → Type 0
+IsOf names id = id < length names
+
+-- the new table has all numbers of the old one, with their texts
+abbrev pub Grows : Texts → Texts → Type 0
+Grows old new = (more : Texts) × (new ≡ old ++ more)
+
+-- equal texts have equal numbers
+abbrev pub AreDistinct : Texts → Type 0
+AreDistinct names = (i j : ℕ) → i < length names → j < length names → text_of names i ≡ text_of names j → i ≡ j
+
+-- what every table is: the known names come first, and no two texts are equal
+pub record AreNames (names : Texts) : Type 0 where
+  pub known_first : take (length known) names ≡ known
+  pub distinct : AreDistinct names

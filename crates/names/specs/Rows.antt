@@ -1,0 +1,56 @@
+-- The sets, as the lists that they are.
+use Rattle.std.specs.Prelude.{◌≡◌, List, [], ◌∷◌, filter, refl, not, ◌&&◌, is_some}
+use Rattle.names.specs.declared.tag.Tag.{Tag}
+use Rattle.names.specs.declared.tag.Tag.TheVariants.{A, Abbr, Address, Applet, Area, Article, Aside, B, Base, Basefont, Bdi, Bdo, Bgsound, Big, Blockquote, Body, Br, Button, Caption, Center, Cite, Code, Col, Colgroup, Data, Dd, Del, Details, Dfn, Dialog, Dir, Div, Dl, Dt, Em, Embed, Fieldset, Figcaption, Figure, Font, Footer, Form, Frame, Frameset, H1, H2, H3, H4, H5, H6, Head, Header, Hgroup, Hr, Html, I, Iframe, Image, Img, Input, Ins, Kbd, Keygen, Label, Li, Link, Listing, Main, Mark, Marquee, Math, Menu, Meta, Nav, Nobr, Noembed, Noframes, Noscript, Object, Ol, Optgroup, Option, Output, P, Param, Plaintext, Pre, Q, Rb, Rp, Rt, Rtc, Ruby, S, Samp, Script, Search, Section, Select, Small, Source, Span, Strike, Strong, Style, Sub, Summary, Sup, Svg, Table, Tbody, Td, Template, Textarea, Tfoot, Th, Thead, Time, Title, Tr, Track, Tt, U, Ul, Var, Wbr, Xmp, Other}
+use Rattle.names.specs.Tags.{tags}
+use Rattle.names.specs.Sets.{is_special, is_formatting, has_implied_end, stops_scope, stops_list_item_scope, stops_button_scope, stops_table_scope, is_block, may_stay_open, is_heading, is_table_section, belongs_in_head, is_void, refused_name}
+
+row_is_special : filter is_special tags ≡ Address ∷ Applet ∷ Area ∷ Article ∷ Aside ∷ Base ∷ Basefont ∷ Bgsound ∷ Blockquote ∷ Body ∷ Br ∷ Button ∷ Caption ∷ Center ∷ 
+    Col ∷ Colgroup ∷ Dd ∷ Details ∷ Dir ∷ Div ∷ Dl ∷ Dt ∷ Embed ∷ Fieldset ∷ Figcaption ∷ Figure ∷ Footer ∷ Form ∷ 
+    H1 ∷ H2 ∷ H3 ∷ H4 ∷ H5 ∷ H6 ∷ Head ∷ Header ∷ Hgroup ∷ Hr ∷ Html ∷ Iframe ∷ Img ∷ Input ∷ 
+    Li ∷ Link ∷ Listing ∷ Main ∷ Marquee ∷ Menu ∷ Meta ∷ Nav ∷ Noembed ∷ Noframes ∷ Noscript ∷ Object ∷ Ol ∷ P ∷ 
+    Param ∷ Plaintext ∷ Pre ∷ Script ∷ Search ∷ Section ∷ Source ∷ Style ∷ Summary ∷ Table ∷ Tbody ∷ Td ∷ Textarea ∷ Tfoot ∷ 
+    Th ∷ Thead ∷ Title ∷ Tr ∷ Track ∷ Ul ∷ Wbr ∷ Xmp ∷ []
+row_is_special = refl
+
+row_is_formatting : filter is_formatting tags ≡ A ∷ B ∷ Big ∷ Code ∷ Em ∷ Font ∷ I ∷ Nobr ∷ S ∷ Small ∷ Strike ∷ Strong ∷ Tt ∷ U ∷ []
+row_is_formatting = refl
+
+row_has_implied_end : filter has_implied_end tags ≡ Dd ∷ Dt ∷ Li ∷ P ∷ Rb ∷ Rp ∷ Rt ∷ Rtc ∷ []
+row_has_implied_end = refl
+
+row_stops_scope : filter stops_scope tags ≡ Applet ∷ Caption ∷ Html ∷ Marquee ∷ Object ∷ Table ∷ Td ∷ Th ∷ []
+row_stops_scope = refl
+
+row_stops_list_item_scope : filter stops_list_item_scope tags ≡ Applet ∷ Caption ∷ Html ∷ Marquee ∷ Object ∷ Ol ∷ Table ∷ Td ∷ Th ∷ Ul ∷ []
+row_stops_list_item_scope = refl
+
+row_stops_button_scope : filter stops_button_scope tags ≡ Applet ∷ Button ∷ Caption ∷ Html ∷ Marquee ∷ Object ∷ Table ∷ Td ∷ Th ∷ []
+row_stops_button_scope = refl
+
+row_stops_table_scope : filter stops_table_scope tags ≡ Html ∷ Table ∷ []
+row_stops_table_scope = refl
+
+row_is_block : filter is_block tags ≡ Address ∷ Article ∷ Aside ∷ Blockquote ∷ Center ∷ Details ∷ Dialog ∷ Dir ∷ Div ∷ Dl ∷ Fieldset ∷ Figcaption ∷ Figure ∷ Footer ∷ 
+    Header ∷ Hgroup ∷ Main ∷ Menu ∷ Nav ∷ Ol ∷ Search ∷ Section ∷ Summary ∷ Ul ∷ []
+row_is_block = refl
+
+row_may_stay_open : filter may_stay_open tags ≡ Body ∷ Dd ∷ Dt ∷ Html ∷ Li ∷ P ∷ Rb ∷ Rp ∷ Rt ∷ Rtc ∷ Tbody ∷ Td ∷ Tfoot ∷ Th ∷ 
+    Thead ∷ Tr ∷ []
+row_may_stay_open = refl
+
+row_is_heading : filter is_heading tags ≡ H1 ∷ H2 ∷ H3 ∷ H4 ∷ H5 ∷ H6 ∷ []
+row_is_heading = refl
+
+row_is_table_section : filter is_table_section tags ≡ Tbody ∷ Tfoot ∷ Thead ∷ []
+row_is_table_section = refl
+
+row_belongs_in_head : filter belongs_in_head tags ≡ Base ∷ Basefont ∷ Bgsound ∷ Link ∷ Meta ∷ Noframes ∷ Script ∷ Style ∷ Title ∷ []
+row_belongs_in_head = refl
+
+row_is_void : filter is_void tags ≡ Area ∷ Base ∷ Basefont ∷ Bgsound ∷ Br ∷ Col ∷ Embed ∷ Hr ∷ Img ∷ Input ∷ Link ∷ Meta ∷ Param ∷ Source ∷ 
+    Track ∷ Wbr ∷ []
+row_is_void = refl
+
+row_refused : filter (λ t. is_some (refused_name t)) tags ≡ Frame ∷ Frameset ∷ Keygen ∷ Math ∷ Optgroup ∷ Option ∷ Select ∷ Svg ∷ Template ∷ []
+row_refused = refl

@@ -1,0 +1,136 @@
+//! The sets of names that the rules of the body and the serializer speak of (HTML Standard, 13.2.6.4.7 and 13.3).
+
+ghost use Rattle.std.specs.Prelude.{◌≡◌};
+ghost use Rattle.names.specs.Sets.{is_block, may_stay_open, is_heading, is_table_section, belongs_in_head, is_void};
+
+use crate::tag::Tag;
+
+impl Tag {
+    /// Whether the start tag of the name closes a p and its end tag is looked for in scope (13.2.6.4.7).
+    pub fn is_block(self) -> bool
+        ensures { result ≡ is_block self }
+    {
+        matches!(
+            self,
+            Tag::Address
+            | Tag::Article
+            | Tag::Aside
+            | Tag::Blockquote
+            | Tag::Center
+            | Tag::Details
+            | Tag::Dialog
+            | Tag::Dir
+            | Tag::Div
+            | Tag::Dl
+            | Tag::Fieldset
+            | Tag::Figcaption
+            | Tag::Figure
+            | Tag::Footer
+            | Tag::Header
+            | Tag::Hgroup
+            | Tag::Main
+            | Tag::Menu
+            | Tag::Nav
+            | Tag::Ol
+            | Tag::Search
+            | Tag::Section
+            | Tag::Summary
+            | Tag::Ul
+        )
+    }
+
+    /// Whether an element of the name may be open where the body ends (13.2.6.4.7).
+    pub fn may_stay_open(self) -> bool
+        ensures { result ≡ may_stay_open self }
+    {
+        matches!(
+            self,
+            Tag::Body
+            | Tag::Dd
+            | Tag::Dt
+            | Tag::Html
+            | Tag::Li
+            | Tag::P
+            | Tag::Rb
+            | Tag::Rp
+            | Tag::Rt
+            | Tag::Rtc
+            | Tag::Tbody
+            | Tag::Td
+            | Tag::Tfoot
+            | Tag::Th
+            | Tag::Thead
+            | Tag::Tr
+        )
+    }
+
+    /// Whether the name is one of h1 to h6.
+    pub fn is_heading(self) -> bool
+        ensures { result ≡ is_heading self }
+    {
+        matches!(
+            self,
+            Tag::H1
+            | Tag::H2
+            | Tag::H3
+            | Tag::H4
+            | Tag::H5
+            | Tag::H6
+        )
+    }
+
+    /// Whether the name is tbody, tfoot or thead.
+    pub fn is_table_section(self) -> bool
+        ensures { result ≡ is_table_section self }
+    {
+        matches!(
+            self,
+            Tag::Tbody
+            | Tag::Tfoot
+            | Tag::Thead
+        )
+    }
+
+    /// Whether the start tag of the name is read by the rules of the head wherever it stands (13.2.6.4.7).
+    pub fn belongs_in_head(self) -> bool
+        ensures { result ≡ belongs_in_head self }
+    {
+        matches!(
+            self,
+            Tag::Base
+            | Tag::Basefont
+            | Tag::Bgsound
+            | Tag::Link
+            | Tag::Meta
+            | Tag::Noframes
+            | Tag::Script
+            | Tag::Style
+            | Tag::Title
+        )
+    }
+
+    /// Whether an element of the name is written without an end tag (13.3).
+    pub fn is_void(self) -> bool
+        ensures { result ≡ is_void self }
+    {
+        matches!(
+            self,
+            Tag::Area
+            | Tag::Base
+            | Tag::Basefont
+            | Tag::Bgsound
+            | Tag::Br
+            | Tag::Col
+            | Tag::Embed
+            | Tag::Hr
+            | Tag::Img
+            | Tag::Input
+            | Tag::Link
+            | Tag::Meta
+            | Tag::Param
+            | Tag::Source
+            | Tag::Track
+            | Tag::Wbr
+        )
+    }
+}

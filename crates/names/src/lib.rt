@@ -1,0 +1,22 @@
+//! The vocabulary of the parser: names as numbers, the sets of names that the rules speak of, refusals, parse errors, and
+//! characters with their places.
+#![tactic(auto)]
+
+pub mod attr;
+pub mod error;
+pub mod groups;
+mod known;
+pub mod placed;
+pub mod raw;
+pub mod refusal;
+pub mod scopes;
+pub mod table;
+pub mod tag;
+
+pub use attr::Attr;
+pub use error::{ErrorCode, ParseError};
+pub use placed::Placed;
+pub use raw::{RawKind, RefusedName};
+pub use refusal::{Refusal, TableFault};
+pub use table::{NameId, Names};
+pub use tag::Tag;

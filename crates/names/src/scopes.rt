@@ -1,0 +1,200 @@
+//! The sets of names that element scopes and the formatting list speak of (HTML Standard, 13.2.4.2 and 13.2.4.3).
+
+ghost use Rattle.std.specs.Prelude.{◌≡◌};
+ghost use Rattle.names.specs.Sets.{is_special, is_formatting, has_implied_end, stops_scope, stops_list_item_scope, stops_button_scope, stops_table_scope};
+
+use crate::tag::Tag;
+
+impl Tag {
+    /// Whether the name is special (HTML Standard, 13.2.4.2).
+    pub fn is_special(self) -> bool
+        ensures { result ≡ is_special self }
+    {
+        matches!(
+            self,
+            Tag::Address
+            | Tag::Applet
+            | Tag::Area
+            | Tag::Article
+            | Tag::Aside
+            | Tag::Base
+            | Tag::Basefont
+            | Tag::Bgsound
+            | Tag::Blockquote
+            | Tag::Body
+            | Tag::Br
+            | Tag::Button
+            | Tag::Caption
+            | Tag::Center
+            | Tag::Col
+            | Tag::Colgroup
+            | Tag::Dd
+            | Tag::Details
+            | Tag::Dir
+            | Tag::Div
+            | Tag::Dl
+            | Tag::Dt
+            | Tag::Embed
+            | Tag::Fieldset
+            | Tag::Figcaption
+            | Tag::Figure
+            | Tag::Footer
+            | Tag::Form
+            | Tag::H1
+            | Tag::H2
+            | Tag::H3
+            | Tag::H4
+            | Tag::H5
+            | Tag::H6
+            | Tag::Head
+            | Tag::Header
+            | Tag::Hgroup
+            | Tag::Hr
+            | Tag::Html
+            | Tag::Iframe
+            | Tag::Img
+            | Tag::Input
+            | Tag::Li
+            | Tag::Link
+            | Tag::Listing
+            | Tag::Main
+            | Tag::Marquee
+            | Tag::Menu
+            | Tag::Meta
+            | Tag::Nav
+            | Tag::Noembed
+            | Tag::Noframes
+            | Tag::Noscript
+            | Tag::Object
+            | Tag::Ol
+            | Tag::P
+            | Tag::Param
+            | Tag::Plaintext
+            | Tag::Pre
+            | Tag::Script
+            | Tag::Search
+            | Tag::Section
+            | Tag::Source
+            | Tag::Style
+            | Tag::Summary
+            | Tag::Table
+            | Tag::Tbody
+            | Tag::Td
+            | Tag::Textarea
+            | Tag::Tfoot
+            | Tag::Th
+            | Tag::Thead
+            | Tag::Title
+            | Tag::Tr
+            | Tag::Track
+            | Tag::Ul
+            | Tag::Wbr
+            | Tag::Xmp
+        )
+    }
+
+    /// Whether elements of the name go into the list of active formatting elements (13.2.4.3).
+    pub fn is_formatting(self) -> bool
+        ensures { result ≡ is_formatting self }
+    {
+        matches!(
+            self,
+            Tag::A
+            | Tag::B
+            | Tag::Big
+            | Tag::Code
+            | Tag::Em
+            | Tag::Font
+            | Tag::I
+            | Tag::Nobr
+            | Tag::S
+            | Tag::Small
+            | Tag::Strike
+            | Tag::Strong
+            | Tag::Tt
+            | Tag::U
+        )
+    }
+
+    /// Whether the end tag of the name is implied where another end stands (13.2.6.3).
+    pub fn has_implied_end(self) -> bool
+        ensures { result ≡ has_implied_end self }
+    {
+        matches!(
+            self,
+            Tag::Dd
+            | Tag::Dt
+            | Tag::Li
+            | Tag::P
+            | Tag::Rb
+            | Tag::Rp
+            | Tag::Rt
+            | Tag::Rtc
+        )
+    }
+
+    /// Whether the name ends the search for an element in scope (13.2.4.2).
+    pub fn stops_scope(self) -> bool
+        ensures { result ≡ stops_scope self }
+    {
+        matches!(
+            self,
+            Tag::Applet
+            | Tag::Caption
+            | Tag::Html
+            | Tag::Marquee
+            | Tag::Object
+            | Tag::Table
+            | Tag::Td
+            | Tag::Th
+        )
+    }
+
+    /// Whether the name ends the search for an element in list item scope (13.2.4.2).
+    pub fn stops_list_item_scope(self) -> bool
+        ensures { result ≡ stops_list_item_scope self }
+    {
+        matches!(
+            self,
+            Tag::Applet
+            | Tag::Caption
+            | Tag::Html
+            | Tag::Marquee
+            | Tag::Object
+            | Tag::Ol
+            | Tag::Table
+            | Tag::Td
+            | Tag::Th
+            | Tag::Ul
+        )
+    }
+
+    /// Whether the name ends the search for an element in button scope (13.2.4.2).
+    pub fn stops_button_scope(self) -> bool
+        ensures { result ≡ stops_button_scope self }
+    {
+        matches!(
+            self,
+            Tag::Applet
+            | Tag::Button
+            | Tag::Caption
+            | Tag::Html
+            | Tag::Marquee
+            | Tag::Object
+            | Tag::Table
+            | Tag::Td
+            | Tag::Th
+        )
+    }
+
+    /// Whether the name ends the search for an element in table scope (13.2.4.2).
+    pub fn stops_table_scope(self) -> bool
+        ensures { result ≡ stops_table_scope self }
+    {
+        matches!(
+            self,
+            Tag::Html
+            | Tag::Table
+        )
+    }
+}

@@ -1,0 +1,100 @@
+//! Names as numbers.
+
+ghost use Rattle.std.specs.Prelude.{◌≡◌, ◌<◌, List, IfOk, OnErr, slice_get, Some};
+ghost use Rattle.names.specs.Names.{Texts, IsOf, Grows, AreNames};
+ghost use Rattle.names.specs.Tags.{known, tag_of, tag_named};
+ghost use Rattle.names.specs.declared.tag.Tag.{Tag as KnownTag};
+
+use crate::known::KNOWN;
+use crate::tag::{Tag, TAGS};
+use indexmap::IndexSet;
+use std::alloc::{AllocError, Global};
+use std::marker::Model;
+
+/// The number of a name. Known names have the same number in every table.
+#[derive(Clone, Copy, Debug, PartialEq, Eq)]
+pub struct NameId {
+    index: usize,
+}
+
+impl Model for NameId {
+    ghost use Rattle.std.specs.Prelude.{ℕ};
+
+    ghost Value = { ℕ };
+
+    ghost view = { λ a. a.index };
+
+    ghost inverse = { λ n. record { index = n } };
+}
+
+impl NameId {
+    /// Which known name it is.
+    pub fn tag(self) -> Tag
+        ensures { result ≡ tag_of self }
+    {
+        if self.index < TAGS.len() {
+            TAGS[self.index]
+        } else {
+            Tag::Other
+        }
+    }
+}
+
+/// Texts in the order in which they came. The known names come first.
+#[derive(Drop)]
+pub struct Names {
+    texts: IndexSet<String>,
+}
+
+impl Model for Names {
+    ghost use Rattle.std.specs.Prelude.{ℕ, List, map};
+    ghost use Rattle.std.specs.String.{string_bytes};
+    ghost use Rattle.names.specs.Table.{IsTable};
+
+    ghost Value = { List (List ℕ) };
+
+    ghost view = { λ n. map string_bytes n.texts.keys };
+
+    ghost invariant = { λ n. IsTable n.texts.keys };
+}
+
+impl Names {
+    /// A table of the known names. It allocates and hashes each of them (128 texts), so a table that serves many inputs is
+    /// cheaper than one for each.
+    pub fn new(alloc: Global) -> Result<Names, AllocError>
+        ensures known { IfOk result (λ names. names ≡ known) }
+        ensures names { IfOk result AreNames }
+    {
+        let mut texts = IndexSet::new(alloc);
+        for text in &KNOWN {
+            texts.insert(String::from_str(alloc, text)?)?;
+        }
+        Ok(Names { texts })
+    }
+
+    /// The number of a text, which a new text gets.
+    pub fn intern(&mut self, alloc: Global, text: &str) -> Result<NameId, AllocError>
+        ensures number { IfOk result (λ id. slice_get self.new id ≡ Some text.now) }
+        ensures tag { IfOk result (λ id. tag_of id ≡ tag_named text.now) }
+        ensures grows { Grows self.old self.new }
+        ensures names { AreNames self.new }
+        ensures unchanged { OnErr result (self.new ≡ self.old) }
+    {
+        match self.texts.get_index_of(text) {
+            Some(index) => Ok(NameId { index }),
+            None => {
+                let (index, _) = self.texts.insert_full(String::from_str(alloc, text)?)?;
+                Ok(NameId { index })
+            }
+        }
+    }
+
+    /// The text of a number.
+    pub fn text(&self, id: NameId) -> &str
+        requires { IsOf self.now id }
+        ensures text { slice_get self.now id ≡ Some result.now }
+        ensures names { AreNames self.now }
+    {
+        self.texts[id.index].as_str()
+    }
+}
