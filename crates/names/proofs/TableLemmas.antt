@@ -1,5 +1,5 @@
 -- Laws of a table's texts.
-use Rattle.std.proofs.Common.{◌≡◌, ℕ, ◌<◌, ◌≤◌, ◌+◌, Bool, true, false, List, [], ◌∷◌, ◌++◌, length, take, map, get_or, Option, Some, None, sym, refl, ap, ◌∙◌, subst, arith, rules, eqb}
+use Rattle.std.proofs.Common.{◌≡◌, ℕ, ◌<◌, ◌≤◌, true, false, List, [], ◌∷◌, ◌++◌, length, map, get_or, Option, Some, None, sym, refl, ap, ◌∙◌, arith, rules}
 use Rattle.std.proofs.lemmas.List.{map-append, take-append-le, length-take}
 use Rattle.std.proofs.lemmas.Map.Keys.{apart_from_distinct}
 use Rattle.std.proofs.lemmas.Slice.Eq.{bytes_eq-Decides}
@@ -12,11 +12,11 @@ use Rattle.indexmap.specs.IndexSet.{insert_key}
 use Rattle.std.proofs.Common.{cond, is_some}
 use Rattle.std.specs.Str.{bytes_eq}
 use Rattle.std.specs.String.{string_bytes, string_eq}
-use Rattle.std.proofs.Math.ListN.{get_or-map, length-map}
+use Rattle.std.proofs.Math.ListN.{length-map}
 use Rattle.std.proofs.lemmas.Bool.{cases_lt}
 use Rattle.std.proofs.lemmas.Option.{slice_get-get_or, slice_get-map}
 use Rattle.std.proofs.Common.{inl, inr}
-use Rattle.names.specs.Names.{text_of, AreDistinct}
+use Rattle.names.specs.Names.{text_of, AreDistinct, AreNames}
 use Rattle.names.specs.Tags.{known}
 use Rattle.names.specs.Table.{IsTable}
 
@@ -51,12 +51,14 @@ distinct_from (k ∷ ks) h i j p q same =
     let p' : i < length (k ∷ ks) = simp length-map at p in
     let q' : j < length (k ∷ ks) = simp length-map at q in
     let e : string_bytes (get_or (k ∷ ks) i k) ≡ string_bytes (get_or (k ∷ ks) j k) =
-        sym (text_of-keys (k ∷ ks) i k p') ∙ same ∙ text_of-keys (k ∷ ks) j k q' in
+    sym (text_of-keys (k ∷ ks) i k p') ∙ same ∙ text_of-keys (k ∷ ks) j k q' in
     elim (cases_lt i j) [
-        inl less ↦ absurd (apart (k ∷ ks) i j k h less q' e)
+      | inl less ↦ absurd (apart (k ∷ ks) i j k h less q' e)
       | inr other ↦ elim (cases_lt j i) [
-            inl less ↦ absurd (apart (k ∷ ks) j i k h less p' (sym e))
-          | inr ge ↦ omega arith ] ]
+        | inl less ↦ absurd (apart (k ∷ ks) j i k h less p' (sym e))
+        | inr ge ↦ omega arith
+      ]
+    ]
 
 -- a new key goes last
 pub grown : {A : Type 0} (old new : List (String A)) (key : String A) → list_any (string_eq key) old ≡ false → new ≡ insert_key string_eq old key → new ≡ old ++ key ∷ []
@@ -66,9 +68,9 @@ grown old new key absent e = e ∙ ap (λ b. cond b old (old ++ key ∷ [])) abs
 pub table_grown : {A : Type 0} (old new : List (String A)) (key : String A) → IsTable old → IsDistinct string_eq new → new ≡ old ++ key ∷ [] → IsTable new
 table_grown old new key h distinct e = record {
   known_first =
-    let room : length known ≤ length (map string_bytes old) = omega (arith, length-take (length known) (map string_bytes old), ap length h.known_first) in
-    rw (e, map-append) (rw take-append-le h.known_first);
-  distinct = distinct
+      let room : length known ≤ length (map string_bytes old) = omega (arith, length-take (length known) (map string_bytes old), ap length h.known_first) in
+      rw (e, map-append) (rw take-append-le h.known_first);
+  distinct = distinct;
 }
 
 -- no key has the text that was looked for in vain
@@ -89,3 +91,7 @@ number_from_position (k ∷ ks) i text h =
 pub number_stored : {A : Type 0} (keys : List (String A)) (i : ℕ) (key : String A) (text : List ℕ) → string_bytes key ≡ text → (k : String A) × (slice_get keys i ≡ Some k) × (string_eq key k ≡ true) → slice_get (map string_bytes keys) i ≡ Some text
 number_stored keys i key text is (k, at, same) =
     slice_get-map string_bytes keys i ∙ ap (option_map string_bytes) at ∙ ap Some (sym (bytes_eq-true _ _ same) ∙ is)
+
+-- a table's texts are names
+pub are_names : {A : Type 0} (keys : List (String A)) → IsTable keys → AreNames (map string_bytes keys)
+are_names keys h = record { known_first = h.known_first; distinct = distinct_from keys h.distinct }

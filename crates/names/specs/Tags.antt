@@ -1,5 +1,5 @@
 -- The known names: their texts, and their numbers, which are the same in every table.
-use Rattle.std.specs.Prelude.{ℕ, ◌≡◌, ◌==◌, Bool, List, [], ◌∷◌, ◌++◌, map, take, length, codes, slice_index_or, bytes_eq, if◌then◌else◌}
+use Rattle.std.specs.Prelude.{ℕ, List, [], ◌∷◌, ◌++◌, map, codes, slice_index_or, bytes_eq, if◌then◌else◌}
 use Rattle.names.specs.declared.tag.Tag.{Tag}
 use Rattle.names.specs.declared.tag.Tag.TheVariants.{A, Abbr, Address, Applet, Area, Article, Aside, B, Base, Basefont, Bdi, Bdo, Bgsound, Big, Blockquote, Body, Br, Button, Caption, Center, Cite, Code, Col, Colgroup, Data, Dd, Del, Details, Dfn, Dialog, Dir, Div, Dl, Dt, Em, Embed, Fieldset, Figcaption, Figure, Font, Footer, Form, Frame, Frameset, H1, H2, H3, H4, H5, H6, Head, Header, Hgroup, Hr, Html, I, Iframe, Image, Img, Input, Ins, Kbd, Keygen, Label, Li, Link, Listing, Main, Mark, Marquee, Math, Menu, Meta, Nav, Nobr, Noembed, Noframes, Noscript, Object, Ol, Optgroup, Option, Output, P, Param, Plaintext, Pre, Q, Rb, Rp, Rt, Rtc, Ruby, S, Samp, Script, Search, Section, Select, Small, Source, Span, Strike, Strong, Style, Sub, Summary, Sup, Svg, Table, Tbody, Td, Template, Textarea, Tfoot, Th, Thead, Time, Title, Tr, Track, Tt, U, Ul, Var, Wbr, Xmp, Other}
 
@@ -136,18 +136,18 @@ tag_text Other = []
 
 -- the known names, in the order of their numbers
 abbrev pub tags : List Tag
-tags = A ∷ Abbr ∷ Address ∷ Applet ∷ Area ∷ Article ∷ Aside ∷ B ∷ Base ∷ Basefont ∷ 
-    Bdi ∷ Bdo ∷ Bgsound ∷ Big ∷ Blockquote ∷ Body ∷ Br ∷ Button ∷ Caption ∷ Center ∷ 
-    Cite ∷ Code ∷ Col ∷ Colgroup ∷ Data ∷ Dd ∷ Del ∷ Details ∷ Dfn ∷ Dialog ∷ 
-    Dir ∷ Div ∷ Dl ∷ Dt ∷ Em ∷ Embed ∷ Fieldset ∷ Figcaption ∷ Figure ∷ Font ∷ 
-    Footer ∷ Form ∷ Frame ∷ Frameset ∷ H1 ∷ H2 ∷ H3 ∷ H4 ∷ H5 ∷ H6 ∷ 
-    Head ∷ Header ∷ Hgroup ∷ Hr ∷ Html ∷ I ∷ Iframe ∷ Image ∷ Img ∷ Input ∷ 
-    Ins ∷ Kbd ∷ Keygen ∷ Label ∷ Li ∷ Link ∷ Listing ∷ Main ∷ Mark ∷ Marquee ∷ 
-    Math ∷ Menu ∷ Meta ∷ Nav ∷ Nobr ∷ Noembed ∷ Noframes ∷ Noscript ∷ Object ∷ Ol ∷ 
-    Optgroup ∷ Option ∷ Output ∷ P ∷ Param ∷ Plaintext ∷ Pre ∷ Q ∷ Rb ∷ Rp ∷ 
-    Rt ∷ Rtc ∷ Ruby ∷ S ∷ Samp ∷ Script ∷ Search ∷ Section ∷ Select ∷ Small ∷ 
-    Source ∷ Span ∷ Strike ∷ Strong ∷ Style ∷ Sub ∷ Summary ∷ Sup ∷ Svg ∷ Table ∷ 
-    Tbody ∷ Td ∷ Template ∷ Textarea ∷ Tfoot ∷ Th ∷ Thead ∷ Time ∷ Title ∷ Tr ∷ 
+tags = A ∷ Abbr ∷ Address ∷ Applet ∷ Area ∷ Article ∷ Aside ∷ B ∷ Base ∷ Basefont ∷
+    Bdi ∷ Bdo ∷ Bgsound ∷ Big ∷ Blockquote ∷ Body ∷ Br ∷ Button ∷ Caption ∷ Center ∷
+    Cite ∷ Code ∷ Col ∷ Colgroup ∷ Data ∷ Dd ∷ Del ∷ Details ∷ Dfn ∷ Dialog ∷
+    Dir ∷ Div ∷ Dl ∷ Dt ∷ Em ∷ Embed ∷ Fieldset ∷ Figcaption ∷ Figure ∷ Font ∷
+    Footer ∷ Form ∷ Frame ∷ Frameset ∷ H1 ∷ H2 ∷ H3 ∷ H4 ∷ H5 ∷ H6 ∷
+    Head ∷ Header ∷ Hgroup ∷ Hr ∷ Html ∷ I ∷ Iframe ∷ Image ∷ Img ∷ Input ∷
+    Ins ∷ Kbd ∷ Keygen ∷ Label ∷ Li ∷ Link ∷ Listing ∷ Main ∷ Mark ∷ Marquee ∷
+    Math ∷ Menu ∷ Meta ∷ Nav ∷ Nobr ∷ Noembed ∷ Noframes ∷ Noscript ∷ Object ∷ Ol ∷
+    Optgroup ∷ Option ∷ Output ∷ P ∷ Param ∷ Plaintext ∷ Pre ∷ Q ∷ Rb ∷ Rp ∷
+    Rt ∷ Rtc ∷ Ruby ∷ S ∷ Samp ∷ Script ∷ Search ∷ Section ∷ Select ∷ Small ∷
+    Source ∷ Span ∷ Strike ∷ Strong ∷ Style ∷ Sub ∷ Summary ∷ Sup ∷ Svg ∷ Table ∷
+    Tbody ∷ Td ∷ Template ∷ Textarea ∷ Tfoot ∷ Th ∷ Thead ∷ Time ∷ Title ∷ Tr ∷
     Track ∷ Tt ∷ U ∷ Ul ∷ Var ∷ Wbr ∷ Xmp ∷ []
 
 -- the name of an attribute that a rule reads: whether an input is hidden

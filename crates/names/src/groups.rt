@@ -13,29 +13,29 @@ impl Tag {
         matches!(
             self,
             Tag::Address
-            | Tag::Article
-            | Tag::Aside
-            | Tag::Blockquote
-            | Tag::Center
-            | Tag::Details
-            | Tag::Dialog
-            | Tag::Dir
-            | Tag::Div
-            | Tag::Dl
-            | Tag::Fieldset
-            | Tag::Figcaption
-            | Tag::Figure
-            | Tag::Footer
-            | Tag::Header
-            | Tag::Hgroup
-            | Tag::Main
-            | Tag::Menu
-            | Tag::Nav
-            | Tag::Ol
-            | Tag::Search
-            | Tag::Section
-            | Tag::Summary
-            | Tag::Ul
+                | Tag::Article
+                | Tag::Aside
+                | Tag::Blockquote
+                | Tag::Center
+                | Tag::Details
+                | Tag::Dialog
+                | Tag::Dir
+                | Tag::Div
+                | Tag::Dl
+                | Tag::Fieldset
+                | Tag::Figcaption
+                | Tag::Figure
+                | Tag::Footer
+                | Tag::Header
+                | Tag::Hgroup
+                | Tag::Main
+                | Tag::Menu
+                | Tag::Nav
+                | Tag::Ol
+                | Tag::Search
+                | Tag::Section
+                | Tag::Summary
+                | Tag::Ul
         )
     }
 
@@ -46,21 +46,21 @@ impl Tag {
         matches!(
             self,
             Tag::Body
-            | Tag::Dd
-            | Tag::Dt
-            | Tag::Html
-            | Tag::Li
-            | Tag::P
-            | Tag::Rb
-            | Tag::Rp
-            | Tag::Rt
-            | Tag::Rtc
-            | Tag::Tbody
-            | Tag::Td
-            | Tag::Tfoot
-            | Tag::Th
-            | Tag::Thead
-            | Tag::Tr
+                | Tag::Dd
+                | Tag::Dt
+                | Tag::Html
+                | Tag::Li
+                | Tag::P
+                | Tag::Rb
+                | Tag::Rp
+                | Tag::Rt
+                | Tag::Rtc
+                | Tag::Tbody
+                | Tag::Td
+                | Tag::Tfoot
+                | Tag::Th
+                | Tag::Thead
+                | Tag::Tr
         )
     }
 
@@ -70,12 +70,7 @@ impl Tag {
     {
         matches!(
             self,
-            Tag::H1
-            | Tag::H2
-            | Tag::H3
-            | Tag::H4
-            | Tag::H5
-            | Tag::H6
+            Tag::H1 | Tag::H2 | Tag::H3 | Tag::H4 | Tag::H5 | Tag::H6
         )
     }
 
@@ -83,12 +78,7 @@ impl Tag {
     pub fn is_table_section(self) -> bool
         ensures { result ≡ is_table_section self }
     {
-        matches!(
-            self,
-            Tag::Tbody
-            | Tag::Tfoot
-            | Tag::Thead
-        )
+        matches!(self, Tag::Tbody | Tag::Tfoot | Tag::Thead)
     }
 
     /// Whether the start tag of the name is read by the rules of the head wherever it stands (13.2.6.4.7).
@@ -98,14 +88,14 @@ impl Tag {
         matches!(
             self,
             Tag::Base
-            | Tag::Basefont
-            | Tag::Bgsound
-            | Tag::Link
-            | Tag::Meta
-            | Tag::Noframes
-            | Tag::Script
-            | Tag::Style
-            | Tag::Title
+                | Tag::Basefont
+                | Tag::Bgsound
+                | Tag::Link
+                | Tag::Meta
+                | Tag::Noframes
+                | Tag::Script
+                | Tag::Style
+                | Tag::Title
         )
     }
 
@@ -116,21 +106,21 @@ impl Tag {
         matches!(
             self,
             Tag::Area
-            | Tag::Base
-            | Tag::Basefont
-            | Tag::Bgsound
-            | Tag::Br
-            | Tag::Col
-            | Tag::Embed
-            | Tag::Hr
-            | Tag::Img
-            | Tag::Input
-            | Tag::Link
-            | Tag::Meta
-            | Tag::Param
-            | Tag::Source
-            | Tag::Track
-            | Tag::Wbr
+                | Tag::Base
+                | Tag::Basefont
+                | Tag::Bgsound
+                | Tag::Br
+                | Tag::Col
+                | Tag::Embed
+                | Tag::Hr
+                | Tag::Img
+                | Tag::Input
+                | Tag::Link
+                | Tag::Meta
+                | Tag::Param
+                | Tag::Source
+                | Tag::Track
+                | Tag::Wbr
         )
     }
 }

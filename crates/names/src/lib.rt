@@ -5,7 +5,6 @@
 pub mod attr;
 pub mod error;
 pub mod groups;
-mod known;
 pub mod placed;
 pub mod raw;
 pub mod refusal;

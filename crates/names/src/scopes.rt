@@ -10,8 +10,7 @@ impl Tag {
     pub fn is_special(self) -> bool
         ensures { result ≡ is_special self }
     {
-        matches!(
-            self,
+        match self {
             Tag::Address
             | Tag::Applet
             | Tag::Area
@@ -89,16 +88,9 @@ impl Tag {
             | Tag::Track
             | Tag::Ul
             | Tag::Wbr
-            | Tag::Xmp
-        )
-    }
+            | Tag::Xmp => true,
 
-    /// Whether elements of the name go into the list of active formatting elements (13.2.4.3).
-    pub fn is_formatting(self) -> bool
-        ensures { result ≡ is_formatting self }
-    {
-        matches!(
-            self,
+            // formatting names
             Tag::A
             | Tag::B
             | Tag::Big
@@ -112,7 +104,70 @@ impl Tag {
             | Tag::Strike
             | Tag::Strong
             | Tag::Tt
-            | Tag::U
+            | Tag::U => false,
+
+            // other names of phrasing content, and dialog
+            Tag::Abbr
+            | Tag::Bdi
+            | Tag::Bdo
+            | Tag::Cite
+            | Tag::Data
+            | Tag::Del
+            | Tag::Dfn
+            | Tag::Dialog
+            | Tag::Ins
+            | Tag::Kbd
+            | Tag::Label
+            | Tag::Mark
+            | Tag::Output
+            | Tag::Q
+            | Tag::Samp
+            | Tag::Span
+            | Tag::Sub
+            | Tag::Sup
+            | Tag::Time
+            | Tag::Var => false,
+
+            // names of ruby, of what is left out, and any other
+            Tag::Frame
+            | Tag::Frameset
+            | Tag::Image
+            | Tag::Keygen
+            | Tag::Math
+            | Tag::Optgroup
+            | Tag::Option
+            | Tag::Rb
+            | Tag::Rp
+            | Tag::Rt
+            | Tag::Rtc
+            | Tag::Ruby
+            | Tag::Select
+            | Tag::Svg
+            | Tag::Template
+            | Tag::Other => false,
+        }
+    }
+
+    /// Whether elements of the name go into the list of active formatting elements (13.2.4.3).
+    pub fn is_formatting(self) -> bool
+        ensures { result ≡ is_formatting self }
+    {
+        matches!(
+            self,
+            Tag::A
+                | Tag::B
+                | Tag::Big
+                | Tag::Code
+                | Tag::Em
+                | Tag::Font
+                | Tag::I
+                | Tag::Nobr
+                | Tag::S
+                | Tag::Small
+                | Tag::Strike
+                | Tag::Strong
+                | Tag::Tt
+                | Tag::U
         )
     }
 
@@ -122,14 +177,7 @@ impl Tag {
     {
         matches!(
             self,
-            Tag::Dd
-            | Tag::Dt
-            | Tag::Li
-            | Tag::P
-            | Tag::Rb
-            | Tag::Rp
-            | Tag::Rt
-            | Tag::Rtc
+            Tag::Dd | Tag::Dt | Tag::Li | Tag::P | Tag::Rb | Tag::Rp | Tag::Rt | Tag::Rtc
         )
     }
 
@@ -140,13 +188,13 @@ impl Tag {
         matches!(
             self,
             Tag::Applet
-            | Tag::Caption
-            | Tag::Html
-            | Tag::Marquee
-            | Tag::Object
-            | Tag::Table
-            | Tag::Td
-            | Tag::Th
+                | Tag::Caption
+                | Tag::Html
+                | Tag::Marquee
+                | Tag::Object
+                | Tag::Table
+                | Tag::Td
+                | Tag::Th
         )
     }
 
@@ -157,15 +205,15 @@ impl Tag {
         matches!(
             self,
             Tag::Applet
-            | Tag::Caption
-            | Tag::Html
-            | Tag::Marquee
-            | Tag::Object
-            | Tag::Ol
-            | Tag::Table
-            | Tag::Td
-            | Tag::Th
-            | Tag::Ul
+                | Tag::Caption
+                | Tag::Html
+                | Tag::Marquee
+                | Tag::Object
+                | Tag::Ol
+                | Tag::Table
+                | Tag::Td
+                | Tag::Th
+                | Tag::Ul
         )
     }
 
@@ -176,14 +224,14 @@ impl Tag {
         matches!(
             self,
             Tag::Applet
-            | Tag::Button
-            | Tag::Caption
-            | Tag::Html
-            | Tag::Marquee
-            | Tag::Object
-            | Tag::Table
-            | Tag::Td
-            | Tag::Th
+                | Tag::Button
+                | Tag::Caption
+                | Tag::Html
+                | Tag::Marquee
+                | Tag::Object
+                | Tag::Table
+                | Tag::Td
+                | Tag::Th
         )
     }
 
@@ -191,10 +239,6 @@ impl Tag {
     pub fn stops_table_scope(self) -> bool
         ensures { result ≡ stops_table_scope self }
     {
-        matches!(
-            self,
-            Tag::Html
-            | Tag::Table
-        )
+        matches!(self, Tag::Html | Tag::Table)
     }
 }

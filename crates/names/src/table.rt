@@ -1,12 +1,12 @@
 //! Names as numbers.
 
-ghost use Rattle.std.specs.Prelude.{◌≡◌, ◌<◌, List, IfOk, OnErr, slice_get, Some};
+ghost use Rattle.std.specs.Prelude.{◌≡◌, ℕ, ◌<◌, List, [], IfOk, OnErr, map, slice_get, Some, true};
 ghost use Rattle.names.specs.Names.{Texts, IsOf, Grows, AreNames};
-ghost use Rattle.names.specs.Tags.{known, tag_of, tag_named};
+ghost use Rattle.names.specs.Table.{are_new, HoldsTexts};
+ghost use Rattle.names.specs.Tags.{known, tag_of, tag_named, tag_text};
 ghost use Rattle.names.specs.declared.tag.Tag.{Tag as KnownTag};
 
-use crate::known::KNOWN;
-use crate::tag::{Tag, TAGS};
+use crate::tag::{TAGS, Tag};
 use indexmap::IndexSet;
 use std::alloc::{AllocError, Global};
 use std::marker::Model;
@@ -40,6 +40,21 @@ impl NameId {
     }
 }
 
+/// The name of the attribute that tells whether an input is hidden.
+const TYPE: &str = "type";
+
+/// The texts of tags, no two of which are equal, in their order.
+fn tag_texts(alloc: Global, tags: &[Tag]) -> Result<IndexSet<String>, AllocError>
+    requires { are_new [] (map tag_text tags.now) ≡ true }
+    ensures { IfOk result (λ texts. HoldsTexts texts.keys (map tag_text tags.now)) }
+{
+    let mut texts = IndexSet::new(alloc);
+    for tag in tags {
+        texts.insert(String::from_str(alloc, tag.text())?)?;
+    }
+    Ok(texts)
+}
+
 /// Texts in the order in which they came. The known names come first.
 #[derive(Drop)]
 pub struct Names {
@@ -65,10 +80,8 @@ impl Names {
         ensures known { IfOk result (λ names. names ≡ known) }
         ensures names { IfOk result AreNames }
     {
-        let mut texts = IndexSet::new(alloc);
-        for text in &KNOWN {
-            texts.insert(String::from_str(alloc, text)?)?;
-        }
+        let mut texts = tag_texts(alloc, &TAGS)?;
+        texts.insert(String::from_str(alloc, TYPE)?)?;
         Ok(Names { texts })
     }
 
@@ -98,3 +111,8 @@ impl Names {
         self.texts[id.index].as_str()
     }
 }
+
+/// In every table the known name of a number is the one of its text.
+pub fn known_by_text()
+    ensures { (names : Texts) (id : ℕ) (text : List ℕ) → AreNames names → slice_get names id ≡ Some text → tag_of id ≡ tag_named text }
+{}

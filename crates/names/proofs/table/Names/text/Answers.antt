@@ -1,7 +1,5 @@
-use Rattle.std.proofs.Common.{◌≡◌, subst, map, string_bytes}
-use Rattle.names.specs.Names.{AreDistinct}
-use Rattle.names.proofs.TableLemmas.{distinct_from}
+use Rattle.names.proofs.TableLemmas.{are_names}
 use Rattle.names.proofs.table.Names.text.Goals as goal
 
-pub returns-clause-distinct : goal.returns-clause-distinct
-returns-clause-distinct c = rw (← c.self.view_is) (distinct_from _ c.self.invariant.distinct)
+pub returns-clause-names : goal.returns-clause-names
+returns-clause-names c = rw (← c.self.view_is) (are_names _ c.self.invariant)

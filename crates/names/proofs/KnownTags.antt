@@ -1,0 +1,41 @@
+-- The known name of a number is the one of its text.
+use Rattle.std.proofs.Common.{◌≡◌, ℕ, ◌<◌, Bool, true, false, List, [], ◌∷◌, ◌++◌, take, drop, length, map, get_or, Some, sym, refl, ap, ◌∙◌, subst, append_assoc, arith, cond, suc, zero}
+use Rattle.std.proofs.lemmas.List.{take-append-drop, get_or_past}
+use Rattle.std.proofs.lemmas.Option.{slice_get_within, get_or_from_slice_get}
+use Rattle.std.proofs.lemmas.Slice.Eq.{bytes_eq-Decides}
+use Rattle.std.specs.Prelude.{bytes_eq, slice_get}
+use Rattle.names.specs.declared.tag.Tag.{Tag}
+use Rattle.names.specs.declared.tag.Tag.TheVariants.{Other}
+use Rattle.names.specs.Tags.{tag_text, tags, tag_of, tag_named, tag_among, type_name}
+use Rattle.names.specs.Names.{Texts, text_of, AreDistinct, AreNames}
+
+different : (a b : List ℕ) → (a ≡ b → ⊥) → bytes_eq a b ≡ false
+different a b h = elim (bytes_eq a b) as (λ v. bytes_eq a b ≡ v → v ≡ false) [ true ↦ λ e. absurd (h ((bytes_eq-Decides a b).0 e)) | false ↦ λ e. refl ] refl
+
+others_distinct : (x : List ℕ) (xs : Texts) → AreDistinct (x ∷ xs) → AreDistinct xs
+others_distinct x xs h i j p q e = let k : suc i ≡ suc j = h (suc i) (suc j) (omega arith) (omega arith) e in omega arith
+
+-- the first tag of a text stands where the text does, in texts that are all different
+named_at : (ts : List Tag) (others : Texts) (id : ℕ) (text : List ℕ) → AreDistinct (map tag_text ts ++ others) → id < length (map tag_text ts ++ others)
+    → text_of (map tag_text ts ++ others) id ≡ text → get_or ts id Other ≡ tag_among ts text
+named_at [] others id text h less e = get_or_past [] id Other (omega arith)
+named_at (t ∷ ts) others zero text h less e = ap (λ (b : Bool). cond b t (tag_among ts text)) (sym ((bytes_eq-Decides (tag_text t) text).1 e))
+named_at (t ∷ ts) others (suc j) text h less e =
+    let no : bytes_eq (tag_text t) text ≡ false = different (tag_text t) text (λ same. let k : 0 ≡ suc j = h 0 (suc j) (omega arith) less (same ∙ sym e) in omega (arith, k)) in
+    named_at ts others j text (others_distinct (tag_text t) (map tag_text ts ++ others) h) (omega (arith, less)) e
+    ∙ ap (λ (b : Bool). cond b t (tag_among ts text)) (sym no)
+
+-- what follows the tags' texts in a table
+after_tags : (first last names : Texts) → take (length (first ++ last)) names ≡ first ++ last → (others : Texts) × (names ≡ first ++ others)
+after_tags first last names h = (
+  last ++ drop (length (first ++ last)) names,
+  sym (take-append-drop (length (first ++ last)) names) ∙ ap (λ (x : Texts). x ++ drop (length (first ++ last)) names) h
+      ∙ append_assoc first last (drop (length (first ++ last)) names),
+)
+
+pub tag_of-named : (names : Texts) (id : ℕ) (text : List ℕ) → AreNames names → slice_get names id ≡ Some text → tag_of id ≡ tag_named text
+tag_of-named names id text h at =
+    let (others, e) = after_tags (map tag_text tags) (type_name ∷ []) names h.known_first in
+    named_at tags others id text (subst AreDistinct e h.distinct)
+    (subst (λ (x : Texts). id < length x) e (slice_get_within names id text at))
+    (subst (λ (x : Texts). text_of x id ≡ text) e (get_or_from_slice_get names id text [] at))
