@@ -1,5 +1,5 @@
 -- The sets of names that the rules speak of, and the kinds of raw text.
-use Rattle.std.specs.Prelude.{Bool, true, false, Option, Some, None, is_some}
+use Rattle.std.specs.Prelude.{Bool, true, false, ◌||◌, Option, Some, None, is_some}
 use Rattle.names.specs.declared.tag.Tag.{Tag}
 use Rattle.names.specs.declared.tag.Tag.TheVariants as tag
 use Rattle.names.specs.declared.raw.RawKind.{RawKind}
@@ -131,32 +131,22 @@ stops_scope tag.Td = true
 stops_scope tag.Th = true
 stops_scope _ = false
 
--- whether it stops the search in list item scope
-abbrev pub stops_list_item_scope : Tag → Bool
-stops_list_item_scope tag.Applet = true
-stops_list_item_scope tag.Caption = true
-stops_list_item_scope tag.Html = true
-stops_list_item_scope tag.Marquee = true
-stops_list_item_scope tag.Object = true
-stops_list_item_scope tag.Ol = true
-stops_list_item_scope tag.Table = true
-stops_list_item_scope tag.Td = true
-stops_list_item_scope tag.Th = true
-stops_list_item_scope tag.Ul = true
-stops_list_item_scope _ = false
+-- whether it is ol or ul; whether it is button
+abbrev pub is_list : Tag → Bool
+is_list tag.Ol = true
+is_list tag.Ul = true
+is_list _ = false
 
--- whether it stops the search in button scope
+abbrev pub is_button : Tag → Bool
+is_button tag.Button = true
+is_button _ = false
+
+-- whether it stops the search in list item scope, and in button scope
+abbrev pub stops_list_item_scope : Tag → Bool
+stops_list_item_scope t = stops_scope t || is_list t
+
 abbrev pub stops_button_scope : Tag → Bool
-stops_button_scope tag.Applet = true
-stops_button_scope tag.Button = true
-stops_button_scope tag.Caption = true
-stops_button_scope tag.Html = true
-stops_button_scope tag.Marquee = true
-stops_button_scope tag.Object = true
-stops_button_scope tag.Table = true
-stops_button_scope tag.Td = true
-stops_button_scope tag.Th = true
-stops_button_scope _ = false
+stops_button_scope t = stops_scope t || is_button t
 
 -- whether it stops the search in table scope
 abbrev pub stops_table_scope : Tag → Bool

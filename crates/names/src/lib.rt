@@ -9,6 +9,7 @@ pub mod placed;
 pub mod raw;
 pub mod refusal;
 pub mod scopes;
+pub mod special;
 pub mod table;
 pub mod tag;
 

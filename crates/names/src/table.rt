@@ -116,3 +116,49 @@ impl Names {
 pub fn known_by_text()
     ensures { (names : Texts) (id : ℕ) (text : List ℕ) → AreNames names → slice_get names id ≡ Some text → tag_of id ≡ tag_named text }
 {}
+
+#[cfg(test)]
+mod tests {
+    use super::*;
+    use crate::attr::Attr;
+    use std::test::Fail;
+
+    #[test]
+    fn known_names_have_their_numbers(rt: HostRuntime) -> Result<(), Fail> {
+        let mut names = Names::new(rt.alloc())?;
+        for tag in TAGS {
+            let id = names.intern(rt.alloc(), tag.text())?;
+            assert_eq!(rt; id.tag(), tag);
+        }
+        let kind = names.intern(rt.alloc(), "type")?;
+        assert_eq!(rt; kind.tag(), Tag::Other);
+        assert_eq!(rt; names.text(kind), "type");
+        Ok(())
+    }
+
+    #[test]
+    fn equal_texts_have_equal_numbers(rt: HostRuntime) -> Result<(), Fail> {
+        let mut names = Names::new(rt.alloc())?;
+        let first = names.intern(rt.alloc(), "x-card")?;
+        let second = names.intern(rt.alloc(), "x-list")?;
+        assert_ne!(rt; first, second);
+        let again = names.intern(rt.alloc(), "x-card")?;
+        assert_eq!(rt; first, again);
+        assert_eq!(rt; first.tag(), Tag::Other);
+        assert_eq!(rt; names.text(again), "x-card");
+        Ok(())
+    }
+
+    #[test]
+    fn a_copy_is_equal(rt: HostRuntime) -> Result<(), Fail> {
+        let mut names = Names::new(rt.alloc())?;
+        let attr = Attr {
+            name: names.intern(rt.alloc(), "href")?,
+            value: String::from_str(rt.alloc(), "?x&not=1")?,
+        };
+        let copy = attr.copy(rt.alloc())?;
+        assert_eq!(rt; copy.name, attr.name);
+        assert_eq!(rt; copy.value.as_str(), "?x&not=1");
+        Ok(())
+    }
+}
