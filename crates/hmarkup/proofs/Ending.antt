@@ -1,0 +1,20 @@
+-- The input's end.
+use Rattle.std.proofs.Common.{ℕ, List, [], ◌∷◌, refl, Result, Ok}
+use Rattle.names.specs.declared.error.ParseError.{ParseError}
+use Rattle.names.specs.declared.error.ErrorCode.TheVariants.{EofInComment}
+use Rattle.names.specs.declared.placed.Placed.{Placed}
+use Rattle.names.specs.declared.refusal.Refusal.{Refusal}
+use Rattle.names.specs.Placed.{error}
+use Rattle.hmarkup.specs.declared.comment.CommentKind.TheVariants.{Comment, Bogus}
+use Rattle.hmarkup.specs.Walk.{Ends}
+use Rattle.hmarkup.specs.CommentWalk.{Progress, IsInComment, IsInBogus, IsSpan}
+use Rattle.hmarkup.proofs.Handing.{hand_one}
+use Rattle.hmarkup.proofs.Walking.{unclosed_at}
+use Rattle.hmarkup.proofs.InBogus.{bogus_unclosed}
+
+module _ {S : Type 0} (gives : S → ParseError → Result (Unit {0}) Refusal → S → Type 0) (w : Progress) (text : List Placed) (errs : List ParseError) (end : ℕ) where
+  pub end_in_comment : IsInComment w text errs → (old new : S) (r : Result (Unit {0}) Refusal) → gives old (error EofInComment end) r new → Ends gives (IsSpan Comment) text errs end w.data old r new
+  end_in_comment h old new r given = record { reported = error EofInComment end ∷ []; handed = hand_one gives old new (error EofInComment end) r given; is_span = unclosed_at w text errs h end }
+
+  pub end_in_bogus : IsInBogus w text errs → (old : S) → Ends gives (IsSpan Bogus) text errs end w.data old (Ok tt) old
+  end_in_bogus h old = record { reported = []; handed = (refl, refl); is_span = bogus_unclosed w text errs h }

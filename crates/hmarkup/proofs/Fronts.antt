@@ -1,0 +1,41 @@
+-- One text at the front of two.
+use Rattle.std.proofs.Common.{◌≡◌, ℕ, List, [], ◌∷◌, ◌++◌, length, take, sym, refl, ap, ◌∙◌, append_assoc, append-nil}
+use Rattle.std.proofs.Math.Seq.{take-append_seam}
+use Rattle.std.proofs.lemmas.List.{append_cancel_left}
+use Rattle.names.specs.declared.placed.Placed.{Placed}
+
+-- the span begins with the text
+pub record IsFront (text after rest span : List Placed) : Type 0 where
+  pub more : List Placed
+  pub span_is : span ≡ text ++ more
+  pub after_is : after ≡ more ++ rest
+
+-- of two texts at the front of one, one begins with the other
+pub front_of : (text after rest span : List Placed) → span ++ rest ≡ text ++ after → ((more : List Placed) → text ≡ span ++ more → rest ≡ []) → IsFront text after rest span
+front_of [] after rest span e last = record { more = span; span_is = refl; after_is = sym e }
+front_of (t ∷ ts) after rest [] e last =
+    let none : rest ≡ [] = last (t ∷ ts) refl in
+    absurd cc
+front_of (t ∷ ts) after rest (s ∷ ss) e last =
+    let same : s ≡ t = cc in
+    let k : IsFront ts after rest ss = front_of ts after rest ss (cc) (λ (more : List Placed) (h : ts ≡ ss ++ more). last more (ap (λ (x : List Placed). t ∷ x) h ∙ ap (λ (x : Placed). x ∷ (ss ++ more)) (sym same))) in
+    record { more = k.more; span_is = ap (λ (x : Placed). x ∷ ss) same ∙ ap (λ (x : List Placed). t ∷ x) k.span_is; after_is = k.after_is }
+
+-- it begins with one more character, where it doesn't end with the text
+pub front_more : (text : List Placed) (p : Placed) (after rest span : List Placed) → ((more : List Placed) → text ≡ span ++ more → rest ≡ []) → span ++ rest ≡ (text ++ p ∷ []) ++ after → IsFront (text ++ p ∷ []) after rest span
+front_more text p after rest span last e = past (front_of text (p ∷ after) rest span (e ∙ append_assoc text (p ∷ []) after) last)
+  where
+  past : IsFront text (p ∷ after) rest span → IsFront (text ++ p ∷ []) after rest span
+  past front = longer front.more front.span_is front.after_is
+    where
+    longer : (more : List Placed) → span ≡ text ++ more → p ∷ after ≡ more ++ rest → IsFront (text ++ p ∷ []) after rest span
+    longer [] s a = let none : rest ≡ [] = last [] (sym (append-nil text) ∙ sym s ∙ sym (append-nil span)) in absurd cc
+    longer (q ∷ qs) s a =
+        let same : q ≡ p = cc in
+        record { more = qs; span_is = s ∙ ap (λ (x : Placed). text ++ (x ∷ qs)) same ∙ sym (append_assoc text (p ∷ []) qs); after_is = cc }
+
+-- two texts of one length
+pub same_front : (xs ys zs ws : List Placed) → xs ++ ys ≡ zs ++ ws → length xs ≡ length zs → (xs ≡ zs) × (ys ≡ ws)
+same_front xs ys zs ws e l =
+    let same : xs ≡ zs = sym (take-append_seam xs ys) ∙ ap (λ (n : ℕ). take n (xs ++ ys)) l ∙ ap (take (length zs)) e ∙ take-append_seam zs ws in
+    (same, append_cancel_left zs ys ws (ap (λ (x : List Placed). x ++ ys) (sym same) ∙ e))

@@ -1,0 +1,40 @@
+-- A bogus comment that has not ended, and one more character or the end.
+use Rattle.std.proofs.Common.{◌≡◌, ℕ, Bool, true, false, ◌&&◌, eqb, List, [], ◌∷◌, ◌++◌, sym, refl, ap, ◌∙◌, append-nil}
+use Rattle.std.specs.Char.{encode_utf8}
+use Rattle.names.specs.declared.error.ParseError.{ParseError}
+use Rattle.names.specs.declared.placed.Placed.{Placed}
+use Rattle.names.specs.Placed.{before, Avoids, null_errors, text_bytes, without_null}
+use Rattle.hmarkup.specs.declared.comment.CommentKind.TheVariants.{Bogus}
+use Rattle.hmarkup.specs.Comment.{errors_here, closes_bogus, IsBogus, closed_bogus, unclosed_bogus}
+use Rattle.hmarkup.specs.CommentWalk.{Progress, IsInBogus}
+use Rattle.hmarkup.proofs.Marks.{Avoids-more, Avoids-append, before-avoids, text_bytes-append, null_errors-append}
+
+module _ (w : Progress) (text : List Placed) (errs : List ParseError) (ch at : ℕ) (h : IsInBogus w text errs) where
+  abbrev p : Placed
+  p = record { ch = ch; at = at }
+
+  avoids_more : Avoids closes_bogus text (p ∷ [])
+  avoids_more = Avoids-more closes_bogus closes_bogus p (λ q x a b. b) text [] h.no_close h.no_close
+
+  pub bogus_kept : (new : Progress) → new.kind ≡ Bogus → eqb ch 62 ≡ false → new.data ≡ w.data ++ encode_utf8 (without_null ch) → IsInBogus new (text ++ p ∷ []) (errs ++ errors_here false p)
+  bogus_kept new k e d = record {
+      kind_is = k;
+      no_close = Avoids-append closes_bogus text (p ∷ []) [] avoids_more (ap (λ (b : Bool). b && true) e, tt);
+      data_is = d ∙ ap (λ (x : List ℕ). x ++ encode_utf8 (without_null ch)) h.data_is ∙ ap (λ (x : List ℕ). text_bytes text ++ x) (sym (append-nil (encode_utf8 (without_null ch)))) ∙ sym (text_bytes-append text (p ∷ []));
+      errors_are = ap (λ (x : List ParseError). x ++ null_errors (p ∷ [])) h.errors_are ∙ sym (null_errors-append text (p ∷ []))
+    }
+
+  pub bogus_closed : ch ≡ 62 → (end : ℕ) (rest : List Placed) → IsBogus rest (text ++ p ∷ []) w.data (errs ++ [])
+  bogus_closed is end rest =
+      let k : before closes_bogus (p ∷ []) ≡ [] = ap (λ (c : ℕ). before closes_bogus (record { ch = c; at = at } ∷ [])) is in
+      closed_bogus text (p ∷ []) refl
+        (sym (before-avoids closes_bogus text (p ∷ []) avoids_more ∙ ap (λ (x : List Placed). text ++ x) k ∙ append-nil text))
+        (ap (λ (c : ℕ). c ∷ []) is) h.data_is (append-nil errs ∙ h.errors_are)
+
+-- no `>` stands in it
+pub before-bogus : (w : Progress) (text : List Placed) (errs : List ParseError) → IsInBogus w text errs → text ≡ before closes_bogus text
+before-bogus w text errs h = sym (ap (before closes_bogus) (sym (append-nil text)) ∙ before-avoids closes_bogus text [] h.no_close ∙ append-nil text)
+
+-- the input ends in it
+pub bogus_unclosed : (w : Progress) (text : List Placed) (errs : List ParseError) → IsInBogus w text errs → IsBogus [] text w.data (errs ++ [])
+bogus_unclosed w text errs h = unclosed_bogus refl (before-bogus w text errs h) h.data_is (append-nil errs ∙ h.errors_are)

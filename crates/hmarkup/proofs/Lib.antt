@@ -1,0 +1,11 @@
+pub mod Marks
+pub mod Fronts
+pub mod Handing
+pub mod Moving
+pub mod Walking
+pub mod InBogus
+pub mod Unique
+pub mod OneSpan
+pub mod Begins
+pub mod Ending
+pub mod OneKind

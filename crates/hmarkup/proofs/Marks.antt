@@ -1,0 +1,149 @@
+-- Words on texts: marks that a text avoids, and texts that grow.
+use Rattle.std.proofs.Common.{◌≡◌, ℕ, ◌≤◌, Bool, true, false, cond, ◌&&◌, ◌||◌, eqb, List, [], ◌∷◌, ◌++◌, length, map, sym, refl, ap, ◌∙◌, subst, append_assoc, append-nil, arith, length-append}
+use Rattle.std.proofs.lemmas.Bool.{false≢true}
+use Rattle.std.proofs.lemmas.Bool.Decides.{nat_tests}
+use Rattle.std.proofs.lemmas.List.{map-append}
+use Rattle.std.proofs.lemmas.Str.{encodes-append}
+use Rattle.std.proofs.lemmas.Grind.{flat_map-append}
+use Rattle.std.specs.Prelude.{encode_utf8_all}
+use Rattle.names.specs.declared.error.ParseError.{ParseError}
+use Rattle.names.specs.declared.error.ErrorCode.TheVariants.{UnexpectedNullCharacter}
+use Rattle.names.specs.declared.placed.Placed.{Placed}
+use Rattle.names.specs.Placed.{characters, spells, is_front, before, Avoids, error, null_errors, text_bytes, without_null}
+
+-- tests
+pub and_parts : (a b : Bool) → (a && b) ≡ true → (a ≡ true) × (b ≡ true)
+and_parts true b h = (refl, h)
+and_parts false b h = absurd (false≢true h)
+
+pub and_both : (a b : Bool) → a ≡ true → b ≡ true → (a && b) ≡ true
+and_both true b e f = f
+and_both false b e f = e
+
+pub and_no : (a b : Bool) → b ≡ false → (a && b) ≡ false
+and_no true b h = h
+and_no false b h = refl
+
+pub false_if : (b : Bool) → (b ≡ true → ⊥) → b ≡ false
+false_if true h = absurd (h refl)
+false_if false h = refl
+
+pub neither : (a b : Bool) → (a || b) ≡ false → (a ≡ false) × (b ≡ false)
+neither true b h = absurd (false≢true (sym h))
+neither false b h = (refl, h)
+
+pub or_none : (a b : Bool) → a ≡ false → b ≡ false → (a || b) ≡ false
+or_none true b e f = e
+or_none false b e f = f
+
+pub or_left : (a b : Bool) → a ≡ true → (a || b) ≡ true
+or_left true b e = refl
+or_left false b e = absurd (false≢true e)
+
+pub or_right : (a b : Bool) → b ≡ true → (a || b) ≡ true
+or_right true b e = refl
+or_right false b e = e
+
+-- the text before a mark, past a front that the mark avoids
+pub before-avoids : (mark : List Placed → Bool) (xs after : List Placed) → Avoids mark xs after → before mark (xs ++ after) ≡ xs ++ before mark after
+before-avoids mark [] after h = refl
+before-avoids mark (p ∷ ps) after h = ap (λ (b : Bool). cond b [] (p ∷ before mark (ps ++ after))) h.0 ∙ ap (λ (x : List Placed). p ∷ x) (before-avoids mark ps after h.1)
+
+pub before-here : (mark : List Placed → Bool) (xs : List Placed) → mark xs ≡ true → before mark xs ≡ []
+before-here mark [] h = refl
+before-here mark (x ∷ xs) h = ap (λ (b : Bool). cond b [] (x ∷ before mark xs)) h
+
+-- .. which is no longer than what stands before one place of the mark
+shorter : (b : Bool) (x : Placed) (front xs : List Placed) → length front ≤ length xs → length (cond b [] (x ∷ front)) ≤ length (x ∷ xs)
+shorter true x front xs h = omega arith
+shorter false x front xs h = omega (arith, h)
+
+pub before-short : (mark : List Placed → Bool) (xs ys : List Placed) → mark ys ≡ true → length (before mark (xs ++ ys)) ≤ length xs
+before-short mark [] ys h = omega (arith, ap length (before-here mark ys h))
+before-short mark (x ∷ xs) ys h = shorter (mark (x ∷ xs ++ ys)) x (before mark (xs ++ ys)) xs (before-short mark xs ys h)
+
+pub Avoids-append : (mark : List Placed → Bool) (xs ys after : List Placed) → Avoids mark xs (ys ++ after) → Avoids mark ys after → Avoids mark (xs ++ ys) after
+Avoids-append mark [] ys after h k = k
+Avoids-append mark (p ∷ ps) ys after h k =
+    (subst (λ (x : List Placed). mark (p ∷ x) ≡ false) (sym (append_assoc ps ys after)) h.0, Avoids-append mark ps ys after h.1 k)
+
+-- One more character follows: a mark is still avoided where it stands at no text that both marks avoided.
+pub Avoids-more : (first mark : List Placed → Bool) (p : Placed)
+  → ((q : Placed) (x : List Placed) → first (q ∷ x) ≡ false → mark (q ∷ x) ≡ false → mark (q ∷ x ++ p ∷ []) ≡ false)
+  → (xs after : List Placed) → Avoids first xs after → Avoids mark xs after → Avoids mark xs (after ++ p ∷ [])
+Avoids-more first mark p point [] after h k = tt
+Avoids-more first mark p point (q ∷ qs) after h k =
+    (subst (λ (x : List Placed). mark (q ∷ x) ≡ false) (append_assoc qs after (p ∷ [])) (point q (qs ++ after) h.0 k.0), Avoids-more first mark p point qs after h.1 k.1)
+
+-- what stands before the earliest mark avoids it
+test_of : (m : Bool) (x : Placed) (xs rest : List Placed) → x ∷ xs ≡ cond m [] (x ∷ rest) → (m ≡ false) × (xs ≡ rest)
+test_of true x xs rest h = absurd cc
+test_of false x xs rest h = (refl, cc)
+
+pub avoids-before : (mark : List Placed → Bool) (xs after : List Placed) → xs ≡ before mark (xs ++ after) → Avoids mark xs after
+avoids-before mark [] after h = tt
+avoids-before mark (x ∷ xs) after h =
+    let k = test_of (mark (x ∷ xs ++ after)) x xs (before mark (xs ++ after)) h in
+    (k.0, avoids-before mark xs after k.1)
+
+-- what begins a mark with one more character begins it without
+pub front-less : (xs : List Placed) (p : Placed) (m : List ℕ) → is_front (xs ++ p ∷ []) m ≡ true → is_front xs m ≡ true
+front-less [] p m h = refl
+front-less (x ∷ xs) p [] h = h
+front-less (x ∷ xs) p (c ∷ cs) h =
+    let k = and_parts (eqb x.ch c) (is_front (xs ++ p ∷ []) cs) h in
+    and_both (eqb x.ch c) (is_front xs cs) k.0 (front-less xs p cs k.1)
+
+pub front-longer : (xs : List Placed) (m n : List ℕ) → is_front xs m ≡ true → is_front xs (m ++ n) ≡ true
+front-longer [] m n h = refl
+front-longer (x ∷ xs) [] n h = absurd (false≢true h)
+front-longer (x ∷ xs) (c ∷ cs) n h =
+    let k = and_parts (eqb x.ch c) (is_front xs cs) h in
+    and_both (eqb x.ch c) (is_front xs (cs ++ n)) k.0 (front-longer xs cs n k.1)
+
+under : (b f s t : Bool) → (f ≡ false → s ≡ false → t ≡ false) → (b && f) ≡ false → (b && s) ≡ false → (b && t) ≡ false
+under true f s t go h k = go h k
+under false f s t go h k = refl
+
+-- A mark of one more character is avoided by a longer text too, unless the text is a beginning of it.
+pub spells-more : (m : List ℕ) (k : ℕ) (xs : List Placed) (p : Placed) → is_front xs m ≡ false → spells (m ++ k ∷ []) xs ≡ false → spells (m ++ k ∷ []) (xs ++ p ∷ []) ≡ false
+spells-more m k [] p f h = absurd (false≢true (sym f))
+spells-more [] k (x ∷ xs) p f h = h
+spells-more (c ∷ cs) k (x ∷ xs) p f h =
+    under (eqb x.ch c) (is_front xs cs) (spells (cs ++ k ∷ []) xs) (spells (cs ++ k ∷ []) (xs ++ p ∷ [])) (spells-more cs k xs p) f h
+
+-- a mark that is not at the front of a long text is not there when more follows
+over : (b s t : Bool) → (s ≡ false → t ≡ false) → (b && s) ≡ false → (b && t) ≡ false
+over true s t go h = go h
+over false s t go h = refl
+
+pub spells-long : (m : List ℕ) (xs ys : List Placed) → length m ≤ length xs → spells m xs ≡ false → spells m (xs ++ ys) ≡ false
+spells-long [] xs ys l h = absurd (false≢true (sym h))
+spells-long (c ∷ cs) [] ys l h = absurd (omega (arith, l))
+spells-long (c ∷ cs) (x ∷ xs) ys l h = over (eqb x.ch c) (spells cs xs) (spells cs (xs ++ ys)) (spells-long cs xs ys (omega (arith, l))) h
+
+-- a text spells its own characters
+eqb_self : (n : ℕ) → eqb n n ≡ true
+eqb_self n = grind (arith, nat_tests)
+
+spells-own : (xs rest : List Placed) → spells (characters xs) (xs ++ rest) ≡ true
+spells-own [] rest = refl
+spells-own (x ∷ xs) rest = and_both (eqb x.ch x.ch) (spells (characters xs) (xs ++ rest)) (eqb_self x.ch) (spells-own xs rest)
+
+pub spells-characters : (cs : List ℕ) (xs rest : List Placed) → characters xs ≡ cs → spells cs (xs ++ rest) ≡ true
+spells-characters cs xs rest h = subst (λ (c : List ℕ). spells c (xs ++ rest) ≡ true) h (spells-own xs rest)
+
+pub first_is : (x : Placed) (xs : List Placed) (c : ℕ) (cs : List ℕ) → characters (x ∷ xs) ≡ c ∷ cs → x.ch ≡ c
+first_is x xs c cs h = cc
+
+-- a text that is its front before a mark has no mark after a shorter front
+pub not_past : (mark : List Placed → Bool) (text inner close : List Placed) → text ≡ before mark text → text ≡ inner ++ close → mark close ≡ true → 1 ≤ length close → ⊥
+not_past mark text inner close b t m some =
+    omega (arith, ap length b, ap (λ (x : List Placed). length (before mark x)) t, before-short mark inner close m, ap length t, length-append inner close, some)
+
+-- data and errors of two texts, one after the other
+pub text_bytes-append : (xs ys : List Placed) → text_bytes (xs ++ ys) ≡ text_bytes xs ++ text_bytes ys
+text_bytes-append xs ys = ap encode_utf8_all (map-append (λ (p : Placed). without_null p.ch) xs ys) ∙ encodes-append (map (λ (p : Placed). without_null p.ch) xs) (map (λ (p : Placed). without_null p.ch) ys)
+
+pub null_errors-append : (xs ys : List Placed) → null_errors (xs ++ ys) ≡ null_errors xs ++ null_errors ys
+null_errors-append xs ys = flat_map-append (λ (p : Placed). cond (eqb p.ch 0) (error UnexpectedNullCharacter p.at ∷ []) []) xs ys

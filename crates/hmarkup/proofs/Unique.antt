@@ -1,0 +1,170 @@
+-- One comment at most stands at the front of a text.
+use Rattle.std.proofs.Common.{◌≡◌, ℕ, ◌≤◌, ◌+◌, Bool, true, false, ◌&&◌, ◌||◌, eqb, List, [], ◌∷◌, ◌++◌, map, length, sym, refl, ap, ◌∙◌, subst, codes, arith, length-append, append_assoc, append-nil, if◌then◌else◌, drop}
+use Rattle.std.proofs.lemmas.Bool.{false≢true, eqb-true}
+use Rattle.std.proofs.lemmas.List.{length-map, drop_at, drop_all, map-append}
+use Rattle.names.specs.declared.error.ParseError.{ParseError}
+use Rattle.names.specs.declared.error.ErrorCode.TheVariants.{AbruptClosingOfEmptyComment, EofInComment, IncorrectlyClosedComment}
+use Rattle.names.specs.declared.placed.Placed.{Placed}
+use Rattle.names.specs.Placed.{characters, place, spells, is_front, before, Avoids, error, null_errors, text_bytes}
+use Rattle.hmarkup.specs.declared.comment.CommentKind.{CommentKind}
+use Rattle.hmarkup.specs.declared.comment.CommentKind.TheVariants.{Comment, Bogus}
+use Rattle.hmarkup.specs.Comment.{closes_comment, closes_at_once, closes_bogus, is_ending, errors_after, IsComment, closed_at_once, closed, closed_with_bang, unclosed, IsBogus, closed_bogus, unclosed_bogus}
+use Rattle.hmarkup.specs.Walk.{IsOneSpan}
+use Rattle.hmarkup.specs.CommentWalk.{IsSpan}
+use Rattle.hmarkup.proofs.Marks.{and_parts, and_no, neither, or_none, or_left, or_right, before-avoids, before-here, avoids-before, spells-long, spells-characters, first_is}
+use Rattle.hmarkup.proofs.Fronts.{same_front}
+
+-- What a text tells of the comment at its front: its length, its data, and the error of its end.
+pub record Told : Type 0 where
+  pub size : ℕ
+  pub bytes : List ℕ
+  pub last : List ParseError
+
+abbrev pub told_by : Bool → Bool → ℕ → List Placed → List Placed → List Placed → Told
+told_by true bang end whole inner close = record { size = length inner + 3; bytes = text_bytes inner; last = [] }
+told_by false true end whole inner close = record { size = length inner + 4; bytes = text_bytes inner; last = error IncorrectlyClosedComment (place end (drop 3 close)) ∷ [] }
+told_by false false end whole inner close = record { size = length whole; bytes = text_bytes (before is_ending whole); last = error EofInComment end ∷ [] }
+
+abbrev pub told_at : ℕ → List Placed → List Placed → List Placed → Told
+told_at end whole inner close = told_by (spells (codes "-->") close) (spells (codes "--!>") close) end whole inner close
+
+abbrev pub told_at_once : Bool → ℕ → List Placed → Told
+told_at_once true end whole = record { size = 1; bytes = []; last = error AbruptClosingOfEmptyComment (place end whole) ∷ [] }
+told_at_once false end whole = record { size = 2; bytes = []; last = error AbruptClosingOfEmptyComment (place end (drop 1 whole)) ∷ [] }
+
+abbrev pub told : ℕ → List Placed → Told
+told end whole =
+    if closes_at_once whole then told_at_once (spells (codes ">") whole) end whole
+    else told_at end whole (before closes_comment whole) (drop (length (before closes_comment whole)) whole)
+
+-- .. which is what it is
+pub record IsTold (end : ℕ) (rest text : List Placed) (bytes : List ℕ) (errors : List ParseError) : Type 0 where
+  pub last : List ParseError
+  pub told_is : told end (text ++ rest) ≡ record { size = length text; bytes = bytes; last = last }
+  pub errors_are : errors ≡ errors_after [] text ++ last
+
+-- no mark comes into a text when more follows a closing mark
+closes-long : (xs ys : List Placed) → 4 ≤ length xs → closes_comment xs ≡ false → closes_comment (xs ++ ys) ≡ false
+closes-long xs ys l h =
+    let k = neither (spells (codes "-->") xs) (spells (codes "--!>") xs) h in
+    or_none (spells (codes "-->") (xs ++ ys)) (spells (codes "--!>") (xs ++ ys)) (spells-long (codes "-->") xs ys (omega (arith, l)) k.0) (spells-long (codes "--!>") xs ys (omega (arith, l)) k.1)
+
+Avoids-long : (xs close rest : List Placed) → 3 ≤ length close → Avoids closes_comment xs close → Avoids closes_comment xs (close ++ rest)
+Avoids-long [] close rest l h = tt
+Avoids-long (q ∷ qs) close rest l h =
+    (subst (λ (x : List Placed). closes_comment (q ∷ x) ≡ false) (append_assoc qs close rest)
+      (closes-long (q ∷ qs ++ close) rest (omega (arith, l, length-append qs close)) h.0), Avoids-long qs close rest l h.1)
+
+once-long : (xs ys : List Placed) → 2 ≤ length xs → closes_at_once xs ≡ false → closes_at_once (xs ++ ys) ≡ false
+once-long [] ys l h = absurd (omega (arith, l))
+once-long (x ∷ []) ys l h = absurd (omega (arith, l))
+once-long (x ∷ y ∷ xs) ys l h = h
+
+-- `--!>` is no `-->`
+no_arrow : (xs rest : List Placed) → characters xs ≡ codes "--!>" → spells (codes "-->") (xs ++ rest) ≡ false
+no_arrow [] rest h = absurd cc
+no_arrow (x ∷ []) rest h = absurd cc
+no_arrow (x ∷ y ∷ []) rest h = absurd cc
+no_arrow (x ∷ y ∷ z ∷ xs) rest h =
+    let third : z.ch ≡ 33 = cc in
+    let not : eqb z.ch 62 ≡ false = rw third refl in
+    and_no (eqb x.ch 45) (eqb y.ch 45 && (eqb z.ch 62 && true)) (and_no (eqb y.ch 45) (eqb z.ch 62 && true) (ap (λ (b : Bool). b && true) not))
+
+-- a comment that a mark closes
+told_closed : (end : ℕ) (inner close rest : List Placed) → 3 ≤ length close → closes_at_once (inner ++ close) ≡ false → inner ≡ before closes_comment (inner ++ close) → closes_comment (close ++ rest) ≡ true
+  → told end ((inner ++ close) ++ rest) ≡ told_at end ((inner ++ close) ++ rest) inner (close ++ rest)
+told_closed end inner close rest l s b c =
+    let whole : List Placed = (inner ++ close) ++ rest in
+    let starts : closes_at_once whole ≡ false = once-long (inner ++ close) rest (omega (arith, l, length-append inner close)) s in
+    let at_close : before closes_comment (close ++ rest) ≡ [] = before-here closes_comment (close ++ rest) c in
+    let inner_is : before closes_comment whole ≡ inner
+          = ap (before closes_comment) (append_assoc inner close rest) ∙ before-avoids closes_comment inner (close ++ rest) (Avoids-long inner close rest l (avoids-before closes_comment inner close b)) ∙ ap (λ (x : List Placed). inner ++ x) at_close ∙ append-nil inner in
+    let left : drop (length inner) whole ≡ close ++ rest = ap (drop (length inner)) (append_assoc inner close rest) ∙ drop_at inner (close ++ rest) (length inner) refl in
+    ap (λ (b : Bool). if b then told_at_once (spells (codes ">") whole) end whole else told_at end whole (before closes_comment whole) (drop (length (before closes_comment whole)) whole)) starts
+      ∙ ap (λ (x : List Placed). told_at end whole x (drop (length x) whole)) inner_is
+      ∙ ap (told_at end whole inner) left
+
+told_empty : (end : ℕ) (dash close rest : List Placed) → is_front dash (codes "-") ≡ true → characters close ≡ codes ">"
+  → told end ((dash ++ close) ++ rest) ≡ record { size = length (dash ++ close); bytes = []; last = error AbruptClosingOfEmptyComment (place end close) ∷ [] }
+told_empty end dash [] rest f c = absurd cc
+told_empty end dash (q ∷ r ∷ qs) rest f c = absurd cc
+told_empty end [] (q ∷ []) rest f c =
+    let is : q.ch ≡ 62 = first_is q [] 62 [] c in
+    let here : eqb q.ch 62 ≡ true = rw is refl in
+    rw here refl
+told_empty end (d ∷ []) (q ∷ []) rest f c =
+    let is : q.ch ≡ 62 = first_is q [] 62 [] c in
+    let dash_is : d.ch ≡ 45 = eqb-true d.ch 45 (and_parts (eqb d.ch 45) true f).0 in
+    let here : eqb q.ch 62 ≡ true = rw is refl in
+    let there : eqb d.ch 45 ≡ true = rw dash_is refl in
+    let not : eqb d.ch 62 ≡ false = rw dash_is refl in
+    rw (not, there, here) refl
+told_empty end (d ∷ e ∷ ds) (q ∷ []) rest f c = absurd (false≢true (and_parts (eqb d.ch 45) false f).1)
+
+told_is_same : (n m : ℕ) (bytes bytes' : List ℕ) (last last' : List ParseError) → n ≡ m → bytes ≡ bytes' → last ≡ last'
+  → let a : Told = record { size = n; bytes = bytes; last = last } in let b : Told = record { size = m; bytes = bytes'; last = last' } in a ≡ b
+told_is_same n m bytes bytes' last last' e f g = cc
+
+place-front : (end : ℕ) (close rest : List Placed) → characters close ≡ codes ">" → place end (close ++ rest) ≡ place end close
+place-front end [] rest c = absurd cc
+place-front end (q ∷ qs) rest c = refl
+
+pub told_of : (end : ℕ) (rest text : List Placed) (d : List ℕ) (es : List ParseError) → IsComment end rest text d es → IsTold end rest text d es
+told_of end rest text d es (closed_at_once dash close t f c data_is errors_are) = record {
+    last = error AbruptClosingOfEmptyComment (place end close) ∷ [];
+    told_is = ap (λ (x : List Placed). told end (x ++ rest)) t ∙ told_empty end dash close rest f c ∙ told_is_same _ _ _ _ _ _ (ap length (sym t)) (sym data_is) refl;
+    errors_are = errors_are
+  }
+told_of end rest text d es (closed inner close t s b c data_is errors_are) =
+    let size : length close ≡ 3 = sym (length-map close (λ (p : Placed). p.ch)) ∙ ap length c in
+    let arrow : spells (codes "-->") (close ++ rest) ≡ true = spells-characters (codes "-->") close rest c in
+    let at_close : closes_comment (close ++ rest) ≡ true = or_left (spells (codes "-->") (close ++ rest)) (spells (codes "--!>") (close ++ rest)) arrow in
+    let long : length inner + 3 ≡ length text = omega (arith, ap length t, length-append inner close, size) in
+    record {
+      last = [];
+      told_is = ap (λ (x : List Placed). told end (x ++ rest)) t
+        ∙ told_closed end inner close rest (omega (arith, size)) (sym (ap closes_at_once t) ∙ s) (b ∙ ap (before closes_comment) t) at_close
+        ∙ ap (λ (x : Bool). told_by x (spells (codes "--!>") (close ++ rest)) end ((inner ++ close) ++ rest) inner (close ++ rest)) arrow
+        ∙ told_is_same _ _ _ _ _ _ long (sym data_is) refl;
+      errors_are = errors_are ∙ sym (append-nil (errors_after [] text))
+    }
+told_of end rest text d es (closed_with_bang inner dashes close t s b c1 c data_is errors_are) =
+    let t' : text ≡ inner ++ (dashes ++ close) = t ∙ append_assoc inner dashes close in
+    let mark : characters (dashes ++ close) ≡ codes "--!>" = map-append (λ (p : Placed). p.ch) dashes close ∙ ap (λ (x : List ℕ). x ++ characters close) c1 ∙ ap (λ (x : List ℕ). codes "--!" ++ x) c in
+    let size : length (dashes ++ close) ≡ 4 = sym (length-map (dashes ++ close) (λ (p : Placed). p.ch)) ∙ ap length mark in
+    let three : length dashes ≡ 3 = sym (length-map dashes (λ (p : Placed). p.ch)) ∙ ap length c1 in
+    let no_way : spells (codes "-->") ((dashes ++ close) ++ rest) ≡ false = no_arrow (dashes ++ close) rest mark in
+    let bang : spells (codes "--!>") ((dashes ++ close) ++ rest) ≡ true = spells-characters (codes "--!>") (dashes ++ close) rest mark in
+    let at_close : closes_comment ((dashes ++ close) ++ rest) ≡ true = or_right (spells (codes "-->") ((dashes ++ close) ++ rest)) (spells (codes "--!>") ((dashes ++ close) ++ rest)) bang in
+    let long : length inner + 4 ≡ length text = omega (arith, ap length t', length-append inner (dashes ++ close), size) in
+    let past : drop 3 ((dashes ++ close) ++ rest) ≡ close ++ rest = ap (drop 3) (append_assoc dashes close rest) ∙ drop_at dashes (close ++ rest) 3 three in
+    record {
+      last = error IncorrectlyClosedComment (place end close) ∷ [];
+      told_is = ap (λ (x : List Placed). told end (x ++ rest)) t'
+        ∙ told_closed end inner (dashes ++ close) rest (omega (arith, size)) (sym (ap closes_at_once t') ∙ s) (b ∙ ap (before closes_comment) t') at_close
+        ∙ ap (λ (x : Bool). told_by x (spells (codes "--!>") ((dashes ++ close) ++ rest)) end ((inner ++ (dashes ++ close)) ++ rest) inner ((dashes ++ close) ++ rest)) no_way
+        ∙ ap (λ (x : Bool). told_by false x end ((inner ++ (dashes ++ close)) ++ rest) inner ((dashes ++ close) ++ rest)) bang
+        ∙ told_is_same _ _ _ _ _ _ long (sym data_is) (ap (λ (n : ℕ). error IncorrectlyClosedComment n ∷ []) (ap (place end) past ∙ place-front end close rest c));
+      errors_are = errors_are
+    }
+told_of end rest text d es (unclosed r s b data_is errors_are) =
+    let all : text ++ rest ≡ text = ap (λ (x : List Placed). text ++ x) r ∙ append-nil text in
+    let left : drop (length text) text ≡ [] = drop_all (length text) text (omega arith) in
+    record {
+      last = error EofInComment end ∷ [];
+      told_is = ap (told end) all
+        ∙ ap (λ (b : Bool). if b then told_at_once (spells (codes ">") text) end text else told_at end text (before closes_comment text) (drop (length (before closes_comment text)) text)) s
+        ∙ ap (λ (x : List Placed). told_at end text x (drop (length x) text)) (sym b)
+        ∙ ap (told_at end text text) left
+        ∙ told_is_same _ _ _ _ _ _ refl (sym data_is) refl;
+      errors_are = errors_are
+    }
+
+pub one_comment : IsOneSpan IsComment
+one_comment end rest rest' text text' d d' es es' h k e =
+    let a : IsTold end rest text d es = told_of end rest text d es h in
+    let b : IsTold end rest' text' d' es' = told_of end rest' text' d' es' k in
+    let same = sym a.told_is ∙ ap (told end) e ∙ b.told_is in
+    let front : (text ≡ text') × (rest ≡ rest') = same_front text rest text' rest' e (ap (λ (t : Told). t.size) same) in
+    (front.0, front.1, ap (λ (t : Told). t.bytes) same,
+      a.errors_are ∙ ap (λ (x : List Placed). errors_after [] x ++ a.last) front.0 ∙ ap (λ (x : List ParseError). errors_after [] text' ++ x) (ap (λ (t : Told). t.last) same) ∙ sym b.errors_are)

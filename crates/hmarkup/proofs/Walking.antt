@@ -1,0 +1,182 @@
+-- A comment that has not ended, and one more character or the end.
+use Rattle.std.proofs.Common.{◌≡◌, ℕ, ◌≤◌, Bool, true, false, ◌&&◌, ◌||◌, eqb, List, [], ◌∷◌, ◌++◌, map, length, sym, refl, ap, ◌∙◌, subst, append_assoc, append-nil, codes, arith, length-append}
+use Rattle.std.proofs.lemmas.Bool.{false≢true, eqb-true}
+use Rattle.std.proofs.lemmas.Str.{length-le-encodes}
+use Rattle.names.specs.declared.error.ParseError.{ParseError}
+use Rattle.names.specs.declared.error.ErrorCode.TheVariants.{AbruptClosingOfEmptyComment, EofInComment, IncorrectlyClosedComment}
+use Rattle.names.specs.declared.placed.Placed.{Placed}
+use Rattle.names.specs.Placed.{characters, error, before, Avoids, text_bytes, without_null}
+use Rattle.hmarkup.specs.declared.tail.Opening.{Opening}
+use Rattle.hmarkup.specs.declared.tail.Opening.TheVariants.{Outside, Less, LessBang, LessBangDash, Whole}
+use Rattle.hmarkup.specs.declared.tail.Ending.TheVariants.{Dashes, Bang}
+use Rattle.hmarkup.specs.Comment.{closes_comment, closes_at_once, is_ending, errors_here, errors_after, ends_with_opening, IsComment, closed_at_once, closed, closed_with_bang, unclosed}
+use Rattle.hmarkup.specs.CommentWalk.{Progress, IsOpening, IsInComment, backwards, is_whole}
+use Rattle.hmarkup.specs.Steps.{next, next_opening, opening_by_dash, opening_by_bang, decided}
+use Rattle.hmarkup.proofs.Marks.{Avoids-more, Avoids-append, before-avoids, neither, or_none, and_no, text_bytes-append}
+use Rattle.hmarkup.proofs.Moving.{moves, closes, closes-more, ending-more, dashes_close, bang_closes, dash_held, held_at_end, held_long}
+
+-- how much of an inner `<!--` was read
+opening_dash : (o : Opening) (at : ℕ) (seen : List Placed) → IsOpening o seen → IsOpening (opening_by_dash o) (record { ch = 45; at = at } ∷ seen)
+opening_dash Outside at seen h = record { less = refl; less_bang = refl; less_bang_dash = h.less_bang; whole = h.less_bang_dash }
+opening_dash Less at seen h = record { less = refl; less_bang = refl; less_bang_dash = h.less_bang; whole = h.less_bang_dash }
+opening_dash LessBang at seen h = record { less = refl; less_bang = refl; less_bang_dash = h.less_bang; whole = h.less_bang_dash }
+opening_dash LessBangDash at seen h = record { less = refl; less_bang = refl; less_bang_dash = h.less_bang; whole = h.less_bang_dash }
+opening_dash Whole at seen h = record { less = refl; less_bang = refl; less_bang_dash = h.less_bang; whole = h.less_bang_dash }
+
+opening_bang : (o : Opening) (at : ℕ) (seen : List Placed) → IsOpening o seen → IsOpening (opening_by_bang o) (record { ch = 33; at = at } ∷ seen)
+opening_bang Outside at seen h = record { less = refl; less_bang = h.less; less_bang_dash = refl; whole = refl }
+opening_bang Less at seen h = record { less = refl; less_bang = h.less; less_bang_dash = refl; whole = refl }
+opening_bang LessBang at seen h = record { less = refl; less_bang = h.less; less_bang_dash = refl; whole = refl }
+opening_bang LessBangDash at seen h = record { less = refl; less_bang = h.less; less_bang_dash = refl; whole = refl }
+opening_bang Whole at seen h = record { less = refl; less_bang = h.less; less_bang_dash = refl; whole = refl }
+
+opening_on_tests : (o : Opening) (seen : List Placed) (ch at : ℕ) → IsOpening o seen → (dash bang less : Bool) → eqb ch 45 ≡ dash → eqb ch 33 ≡ bang → eqb ch 60 ≡ less
+  → IsOpening (next_opening o ch) (record { ch = ch; at = at } ∷ seen)
+opening_on_tests o seen ch at h true bang less e f g = subst (λ (c : ℕ). IsOpening (next_opening o c) (record { ch = c; at = at } ∷ seen)) (sym (eqb-true ch 45 e)) (opening_dash o at seen h)
+opening_on_tests o seen ch at h false true less e f g = subst (λ (c : ℕ). IsOpening (next_opening o c) (record { ch = c; at = at } ∷ seen)) (sym (eqb-true ch 33 f)) (opening_bang o at seen h)
+opening_on_tests o seen ch at h false false true e f g = subst (λ (c : ℕ). IsOpening (next_opening o c) (record { ch = c; at = at } ∷ seen)) (sym (eqb-true ch 60 g)) (record { less = refl; less_bang = refl; less_bang_dash = refl; whole = refl })
+opening_on_tests o seen ch at h false false false e f g = record { less = simp (e, f, g); less_bang = simp (e, f, g); less_bang_dash = simp (e, f, g); whole = simp (e, f, g) }
+
+pub opening-next : (o : Opening) (seen : List Placed) (ch at : ℕ) → IsOpening o seen → IsOpening (next_opening o ch) (record { ch = ch; at = at } ∷ seen)
+opening-next o seen ch at h = opening_on_tests o seen ch at h (eqb ch 45) (eqb ch 33) (eqb ch 60) refl refl refl
+
+-- one character more, backwards; more text, in the errors
+pub backwards-snoc : (seen xs : List Placed) (p : Placed) → backwards seen (xs ++ p ∷ []) ≡ p ∷ backwards seen xs
+backwards-snoc seen [] p = refl
+backwards-snoc seen (x ∷ xs) p = backwards-snoc (x ∷ seen) xs p
+
+pub errors-append : (seen xs ys : List Placed) → errors_after seen (xs ++ ys) ≡ errors_after seen xs ++ errors_after (backwards seen xs) ys
+errors-append seen [] ys = refl
+errors-append seen (x ∷ xs) ys = ap (λ (es : List ParseError). errors_here (ends_with_opening seen) x ++ es) (errors-append (x ∷ seen) xs ys)
+    ∙ sym (append_assoc (errors_here (ends_with_opening seen) x) (errors_after (x ∷ seen) xs) (errors_after (backwards (x ∷ seen) xs) ys))
+
+-- data
+pub data-none : (xs : List Placed) → length (text_bytes xs) ≡ 0 → xs ≡ []
+data-none [] h = refl
+data-none (x ∷ xs) h = absurd (omega (arith, h, length-le-encodes (map (λ (p : Placed). without_null p.ch) (x ∷ xs))))
+
+none_of : (xs : List Placed) → length xs ≡ 0 → length (text_bytes xs) ≡ 0
+none_of [] h = refl
+none_of (x ∷ xs) h = absurd (omega (arith, h))
+
+-- one character more closes no comment at its start
+not_first : (a b : Bool) → (a && true) ≡ false → (a && b) ≡ false
+not_first true b h = absurd (false≢true (sym h))
+not_first false b h = refl
+
+once-long : (text : List Placed) (p : Placed) → 2 ≤ length text → closes_at_once text ≡ false → closes_at_once (text ++ p ∷ []) ≡ false
+once-long [] p l h = absurd (omega (arith, l))
+once-long (q ∷ []) p l h = absurd (omega (arith, l))
+once-long (q ∷ r ∷ more) p l h = h
+
+once-other : (text : List Placed) (p : Placed) → eqb p.ch 62 ≡ false → closes_at_once text ≡ false → closes_at_once (text ++ p ∷ []) ≡ false
+once-other [] p e h = or_none (eqb p.ch 62 && true) (eqb p.ch 45 && false) (ap (λ (b : Bool). b && true) e) (and_no (eqb p.ch 45) false refl)
+once-other (q ∷ []) p e h = or_none (eqb q.ch 62 && true) (eqb q.ch 45 && (eqb p.ch 62 && true)) (neither (eqb q.ch 62 && true) (eqb q.ch 45 && false) h).0 (and_no (eqb q.ch 45) (eqb p.ch 62 && true) (ap (λ (b : Bool). b && true) e))
+once-other (q ∷ r ∷ more) p e h = h
+
+once-past : (inner held : List Placed) (p : Placed) → (length inner ≡ 0 → ⊥) → Avoids is_ending inner held → closes_at_once (inner ++ held) ≡ false → closes_at_once ((inner ++ held) ++ p ∷ []) ≡ false
+once-past [] held p some k h = absurd (some refl)
+once-past (q ∷ []) [] p some k h = or_none (eqb q.ch 62 && true) (eqb q.ch 45 && (eqb p.ch 62 && true)) (neither (eqb q.ch 62 && true) (eqb q.ch 45 && false) h).0 (not_first (eqb q.ch 45) (eqb p.ch 62 && true) k.0)
+once-past (q ∷ []) (r ∷ rs) p some k h = h
+once-past (q ∷ r ∷ more) held p some k h = h
+
+module _ (w : Progress) (text : List Placed) (errs : List ParseError) (ch at : ℕ) (nested : Bool) (nested_is : nested ≡ is_whole w.opening) (h : IsInComment w text errs) where
+  abbrev p : Placed
+  p = record { ch = ch; at = at }
+
+  abbrev now : List Placed
+  now = text ++ p ∷ []
+
+  now_is : now ≡ h.inner ++ (h.held ++ p ∷ [])
+  now_is = ap (λ (x : List Placed). x ++ p ∷ []) h.text_is ∙ append_assoc h.inner h.held (p ∷ [])
+
+  avoids_closing : Avoids closes_comment h.inner (h.held ++ p ∷ [])
+  avoids_closing = Avoids-more is_ending closes_comment p (closes-more p) h.inner h.held h.no_ending h.no_close
+
+  avoids_ending : Avoids is_ending h.inner (h.held ++ p ∷ [])
+  avoids_ending = Avoids-more is_ending is_ending p (ending-more p) h.inner h.held h.no_ending h.no_ending
+
+  abbrev errors_now : List ParseError
+  errors_now = errs ++ errors_here nested p
+
+  pub errors_now_are : errors_now ≡ errors_after [] now
+  errors_now_are = ap (λ (es : List ParseError). es ++ errors_here nested p) h.errors_are
+      ∙ ap (λ (b : Bool). errors_after [] text ++ errors_here b p) (nested_is ∙ sym h.opening.whole)
+      ∙ ap (λ (es : List ParseError). errors_after [] text ++ es) (sym (append-nil (errors_here (ends_with_opening (backwards [] text)) p)))
+      ∙ sym (errors-append [] text (p ∷ []))
+
+  -- the comment goes on
+  pub kept : closes_at_once now ≡ false → (closes w.ending ≡ true → eqb ch 62 ≡ false) → IsInComment (next w ch) now errors_now
+  kept starts unclosed' =
+      let m = moves w.ending h.held ch at unclosed' h.is_held in
+      record {
+        kind_is = h.kind_is;
+        inner = h.inner ++ m.moved;
+        held = m.left;
+        text_is = now_is ∙ ap (λ (x : List Placed). h.inner ++ x) m.split ∙ sym (append_assoc h.inner m.moved m.left);
+        is_held = m.is_held;
+        not_at_once = starts;
+        no_close = Avoids-append closes_comment h.inner m.moved m.left (subst (λ (x : List Placed). Avoids closes_comment h.inner x) m.split avoids_closing) m.no_close;
+        no_ending = Avoids-append is_ending h.inner m.moved m.left (subst (λ (x : List Placed). Avoids is_ending h.inner x) m.split avoids_ending) m.no_ending;
+        opening = subst (λ (x : List Placed). IsOpening (next_opening w.opening ch) x) (sym (backwards-snoc [] text p)) (opening-next w.opening (backwards [] text) ch at h.opening);
+        data_is = ap (λ (d : List ℕ). d ++ decided w.ending ch) h.data_is ∙ ap (λ (d : List ℕ). text_bytes h.inner ++ d) (sym m.bytes_are) ∙ sym (text_bytes-append h.inner m.moved);
+        errors_are = errors_now_are
+      }
+
+  -- what stands before the closing mark that ends here
+  before_now : before closes_comment (h.held ++ p ∷ []) ≡ [] → h.inner ≡ before closes_comment now
+  before_now e = sym (ap (before closes_comment) now_is ∙ before-avoids closes_comment h.inner (h.held ++ p ∷ []) avoids_closing
+      ∙ ap (λ (x : List Placed). h.inner ++ x) e ∙ append-nil h.inner)
+
+  starts_not : closes w.ending ≡ true → closes_at_once now ≡ false
+  starts_not e = once-long text p
+      (let k = held_long w.ending h.held h.is_held e in omega (arith, k, ap length h.text_is, length-append h.inner h.held)) h.not_at_once
+
+  -- it is closed by `-->`
+  pub closed_now : ch ≡ 62 → w.ending ≡ Dashes → (end : ℕ) (rest : List Placed) → IsComment end rest now w.data errors_now
+  closed_now is e end rest =
+      let k : (before closes_comment (h.held ++ p ∷ []) ≡ []) × (characters (h.held ++ p ∷ []) ≡ codes "-->")
+            = subst (λ (c : ℕ). (before closes_comment (h.held ++ record { ch = c; at = at } ∷ []) ≡ []) × (characters (h.held ++ record { ch = c; at = at } ∷ []) ≡ codes "-->")) (sym is) (dashes_close w.ending h.held at h.is_held e) in
+      closed h.inner (h.held ++ p ∷ []) now_is (starts_not (ap closes e)) (before_now k.0) k.1 h.data_is errors_now_are
+
+  -- it is closed by `--!>`
+  pub bang_closed_now : ch ≡ 62 → w.ending ≡ Bang → (end : ℕ) (rest : List Placed) → IsComment end rest now w.data (errs ++ (errors_here nested p ++ error IncorrectlyClosedComment at ∷ []))
+  bang_closed_now is e end rest =
+      let k : (before closes_comment (h.held ++ p ∷ []) ≡ []) × (characters h.held ≡ codes "--!")
+            = subst (λ (c : ℕ). (before closes_comment (h.held ++ record { ch = c; at = at } ∷ []) ≡ []) × (characters h.held ≡ codes "--!")) (sym is) (bang_closes w.ending h.held at h.is_held e) in
+      closed_with_bang h.inner h.held (p ∷ []) (ap (λ (x : List Placed). x ++ p ∷ []) h.text_is) (starts_not (ap closes e)) (before_now k.0) k.1 (ap (λ (c : ℕ). c ∷ []) is) h.data_is
+        (sym (append_assoc errs (errors_here nested p) (error IncorrectlyClosedComment at ∷ [])) ∙ ap (λ (es : List ParseError). es ++ error IncorrectlyClosedComment at ∷ []) errors_now_are)
+
+  -- it is closed at its start
+  pub empty_now : ch ≡ 62 → closes w.ending ≡ false → length w.data ≡ 0 → (end : ℕ) (rest : List Placed) → IsComment end rest now w.data (errs ++ (errors_here nested p ++ error AbruptClosingOfEmptyComment at ∷ []))
+  empty_now is e none end rest =
+      let nothing : h.inner ≡ [] = data-none h.inner (sym (ap length h.data_is) ∙ none) in
+      let text_is : text ≡ h.held = h.text_is ∙ ap (λ (x : List Placed). x ++ h.held) nothing in
+      let now_held : now ≡ h.held ++ p ∷ [] = ap (λ (x : List Placed). x ++ p ∷ []) text_is in
+      closed_at_once h.held (p ∷ []) now_held (dash_held w.ending h.held h.is_held e) (ap (λ (c : ℕ). c ∷ []) is) (h.data_is ∙ ap text_bytes nothing)
+        (sym (append_assoc errs (errors_here nested p) (error AbruptClosingOfEmptyComment at ∷ [])) ∙ ap (λ (es : List ParseError). es ++ error AbruptClosingOfEmptyComment at ∷ []) errors_now_are)
+
+  -- it goes on at a `>` after data
+  pub kept_past : closes w.ending ≡ false → (length w.data ≡ 0 → ⊥) → IsInComment (next w ch) now errors_now
+  kept_past e some =
+      kept
+        (ap (λ (x : List Placed). closes_at_once (x ++ p ∷ [])) h.text_is
+          ∙ once-past h.inner h.held p (λ z. some (ap length h.data_is ∙ none_of h.inner z)) h.no_ending (sym (ap closes_at_once h.text_is) ∙ h.not_at_once))
+        (λ k. absurd (false≢true (sym e ∙ k)))
+
+  pub kept_other : eqb ch 62 ≡ false → IsInComment (next w ch) now errors_now
+  kept_other e = kept (once-other text p e h.not_at_once) (λ _. e)
+
+-- no closing mark stands in it
+pub before-text : (w : Progress) (text : List Placed) (errs : List ParseError) → IsInComment w text errs → text ≡ before closes_comment text
+before-text w text errs h =
+    sym (ap (before closes_comment) h.text_is ∙ before-avoids closes_comment h.inner h.held h.no_close ∙ ap (λ (x : List Placed). h.inner ++ x) (held_at_end w.ending h.held h.is_held).0 ∙ sym h.text_is)
+
+-- the input ends in it
+pub unclosed_at : (w : Progress) (text : List Placed) (errs : List ParseError) → IsInComment w text errs → (end : ℕ) → IsComment end [] text w.data (errs ++ error EofInComment end ∷ [])
+unclosed_at w text errs h end =
+    let k = held_at_end w.ending h.held h.is_held in
+    unclosed refl h.not_at_once
+      (before-text w text errs h)
+      (h.data_is ∙ ap text_bytes (sym (ap (before is_ending) h.text_is ∙ before-avoids is_ending h.inner h.held h.no_ending ∙ ap (λ (x : List Placed). h.inner ++ x) k.1 ∙ append-nil h.inner)))
+      (ap (λ (es : List ParseError). es ++ error EofInComment end ∷ []) h.errors_are)

@@ -1,0 +1,5 @@
+pub mod Comment
+pub mod Walk
+pub mod CommentWalk
+pub mod Steps
+pub mod Rows

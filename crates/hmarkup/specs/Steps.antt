@@ -1,0 +1,65 @@
+-- What the walk's own functions do at a character that closes nothing: their contracts, and no public clause's.
+use Rattle.std.specs.Prelude.{◌≡◌, ℕ, ◌==◌, if◌then◌else◌, List, [], ◌∷◌, ◌++◌, codes}
+use Rattle.std.specs.Char.{encode_utf8}
+use Rattle.names.specs.Placed.{without_null}
+use Rattle.hmarkup.specs.declared.tail.Ending.{Ending}
+use Rattle.hmarkup.specs.declared.tail.Ending.TheVariants.{Plain, Dash, Dashes, Bang}
+use Rattle.hmarkup.specs.declared.tail.Opening.{Opening}
+use Rattle.hmarkup.specs.declared.tail.Opening.TheVariants.{Outside, Less, LessBang, LessBangDash, Whole}
+use Rattle.hmarkup.specs.CommentWalk.{Progress}
+
+-- the ending then, after a `-`, a `!` and any character
+abbrev pub dash_after : Ending → Ending
+dash_after Plain = Dash
+dash_after Dash = Dashes
+dash_after Dashes = Dashes
+dash_after Bang = Dash
+
+abbrev pub bang_after : Ending → Ending
+bang_after Dashes = Bang
+bang_after _ = Plain
+
+abbrev pub next_ending : Ending → ℕ → Ending
+next_ending ending c = if c == 45 then dash_after ending else (if c == 33 then bang_after ending else Plain)
+
+abbrev pub ending_text : Ending → List ℕ
+ending_text Plain = []
+ending_text Dash = codes "-"
+ending_text Dashes = codes "--"
+ending_text Bang = codes "--!"
+
+-- the bytes that are known to be data then
+abbrev pub decided_by_dash : Ending → List ℕ
+decided_by_dash Plain = []
+decided_by_dash Dash = []
+decided_by_dash Dashes = codes "-"
+decided_by_dash Bang = codes "--!"
+
+abbrev pub decided_by_bang : Ending → List ℕ
+decided_by_bang Plain = codes "!"
+decided_by_bang Dash = codes "-!"
+decided_by_bang Dashes = []
+decided_by_bang Bang = codes "--!!"
+
+-- ..but for the character itself, where it is neither `-` nor `!`
+abbrev pub decided_text : Ending → ℕ → List ℕ
+decided_text ending c = if c == 45 then decided_by_dash ending else (if c == 33 then decided_by_bang ending else ending_text ending)
+
+abbrev pub decided : Ending → ℕ → List ℕ
+decided ending c = if c == 45 then decided_by_dash ending else (if c == 33 then decided_by_bang ending else ending_text ending ++ encode_utf8 (without_null c))
+
+-- how much of an inner `<!--` was read then
+abbrev pub opening_by_bang : Opening → Opening
+opening_by_bang Less = LessBang
+opening_by_bang _ = Outside
+
+abbrev pub opening_by_dash : Opening → Opening
+opening_by_dash LessBang = LessBangDash
+opening_by_dash LessBangDash = Whole
+opening_by_dash _ = Outside
+
+abbrev pub next_opening : Opening → ℕ → Opening
+next_opening opening c = if c == 45 then opening_by_dash opening else (if c == 33 then opening_by_bang opening else (if c == 60 then Less else Outside))
+
+abbrev pub next : Progress → ℕ → Progress
+next walk c = record { kind = walk.kind; ending = next_ending walk.ending c; opening = next_opening walk.opening c; «data» = walk.data ++ decided walk.ending c }

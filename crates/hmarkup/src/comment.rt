@@ -1,0 +1,189 @@
+//! A comment or a bogus comment, a character at a time.
+
+ghost use Rattle.std.specs.Prelude.{◌≡◌, ◌++◌, ℕ, List, [], OnOk, string_bytes};
+ghost use Rattle.std.specs.Char.{encode_utf8};
+ghost use Rattle.names.specs.declared.error.ParseError.{ParseError as Error};
+ghost use Rattle.names.specs.declared.placed.Placed.{Placed};
+ghost use Rattle.names.specs.Placed.{without_null};
+ghost use Rattle.names.specs.Sink.{Hands};
+ghost use Rattle.hmarkup.specs.declared.comment.CommentKind.{CommentKind as Kind};
+ghost use Rattle.hmarkup.specs.declared.comment.CommentKind.TheVariants.{Comment, Bogus};
+ghost use Rattle.hmarkup.specs.Comment.{errors_here};
+ghost use Rattle.hmarkup.specs.Walk.{BeginsSpans, IsOpen, IsOneSpan, Takes, Ends};
+ghost use Rattle.hmarkup.specs.CommentWalk.{Progress, HasReadOf, IsInComment, IsInBogus, IsSpan};
+ghost use Rattle.hmarkup.specs.Steps.{next};
+
+use crate::tail::{Ending, Opening};
+use crate::sink::ErrorSink;
+use names::{ErrorCode, ParseError, Refusal};
+use std::alloc::{AllocError, Global};
+use std::marker::Model;
+
+/// What is read.
+#[derive(Clone, Copy, Debug, PartialEq, Eq)]
+pub enum CommentKind {
+    /// A comment, after its `<!--`.
+    Comment,
+    /// What is read as a comment up to the first `>`.
+    Bogus,
+}
+
+/// Reads a comment after its opening mark, a character at a time. It hands over each error as it comes, in the order of the
+/// text. After an `Ok(true)` it takes no more, and after an `Err` it is of no further use.
+#[derive(Drop)]
+pub struct CommentWalk {
+    kind: CommentKind,
+    ending: Ending,
+    opening: Opening,
+    text: String,
+}
+
+impl Model for CommentWalk {
+    ghost use Rattle.std.specs.Prelude.{string_bytes};
+    ghost use Rattle.hmarkup.specs.CommentWalk.{Progress};
+
+    ghost Value = { Progress };
+
+    ghost view = { λ w. record { kind = w.kind; ending = w.ending; opening = w.opening; «data» = string_bytes w.text } };
+}
+
+/// Reports the errors of a character.
+fn report<S: ErrorSink>(nested: bool, ch: char, at: u64, errors: &mut S) -> Result<(), Refusal>
+    ensures { Hands S.gives errors.old (errors_here nested (record { ch = ch; at = at })) result errors.new }
+{
+    if nested && ch != '>' {
+        errors.take_error(ParseError { code: ErrorCode::NestedComment, at })?;
+    }
+    if ch == '\0' {
+        return errors.take_error(ParseError { code: ErrorCode::UnexpectedNullCharacter, at });
+    }
+    Ok(())
+}
+
+/// Adds a character to a text; NUL as U+FFFD.
+fn push(text: &mut String, ch: char) -> Result<(), AllocError>
+    ensures { OnOk result (string_bytes text.new ≡ string_bytes text.old ++ encode_utf8 (without_null ch)) }
+{
+    if ch == '\0' {
+        return text.push('\u{FFFD}');
+    }
+    text.push(ch)
+}
+
+impl CommentWalk {
+    /// Reads what follows `<!--`.
+    pub fn comment(alloc: Global) -> CommentWalk
+        ensures { HasReadOf Comment result [] [] }
+    {
+        CommentWalk {
+            kind: CommentKind::Comment,
+            ending: Ending::Plain,
+            opening: Opening::Outside,
+            text: String::new(alloc),
+        }
+    }
+
+    /// Reads what is a comment up to the first `>`.
+    pub fn bogus(alloc: Global) -> CommentWalk
+        ensures { HasReadOf Bogus result [] [] }
+    {
+        CommentWalk {
+            kind: CommentKind::Bogus,
+            ending: Ending::Plain,
+            opening: Opening::Outside,
+            text: String::new(alloc),
+        }
+    }
+
+    /// Takes the next character, and tells whether the comment has ended with it.
+    pub fn take_char<S: ErrorSink>(&mut self, ch: char, at: u64, errors: &mut S) -> Result<bool, Refusal>
+        ensures { (kind : Kind) (text : List Placed) (raised : List Error) → HasReadOf kind self.old text raised
+            → Takes S.gives (HasReadOf kind) (IsSpan kind) text raised (record { ch = ch; at = at }) errors.old result self.new self.new.data errors.new }
+    {
+        match self.kind {
+            CommentKind::Comment => self.take_in_comment(ch, at, errors),
+            CommentKind::Bogus => self.take_in_bogus(ch, at, errors),
+        }
+    }
+
+    fn take_in_bogus<S: ErrorSink>(&mut self, ch: char, at: u64, errors: &mut S) -> Result<bool, Refusal>
+        ensures { (text : List Placed) (raised : List Error) → IsInBogus self.old text raised
+            → Takes S.gives IsInBogus (IsSpan Bogus) text raised (record { ch = ch; at = at }) errors.old result self.new self.new.data errors.new }
+    {
+        if ch == '>' {
+            return Ok(true);
+        }
+        report(false, ch, at, errors)?;
+        push(&mut self.text, ch)?;
+        Ok(false)
+    }
+
+    fn take_in_comment<S: ErrorSink>(&mut self, ch: char, at: u64, errors: &mut S) -> Result<bool, Refusal>
+        ensures { (text : List Placed) (raised : List Error) → IsInComment self.old text raised
+            → Takes S.gives IsInComment (IsSpan Comment) text raised (record { ch = ch; at = at }) errors.old result self.new self.new.data errors.new }
+    {
+        report(self.opening.is_whole(), ch, at, errors)?;
+        if ch == '>' {
+            match self.ending {
+                Ending::Dashes => return Ok(true),
+                Ending::Bang => {
+                    errors.take_error(ParseError { code: ErrorCode::IncorrectlyClosedComment, at })?;
+                    return Ok(true);
+                }
+                Ending::Plain | Ending::Dash => {
+                    if self.text.is_empty() {
+                        errors.take_error(ParseError { code: ErrorCode::AbruptClosingOfEmptyComment, at })?;
+                        return Ok(true);
+                    }
+                }
+            }
+        }
+        self.keep(ch)?;
+        Ok(false)
+    }
+
+    /// Goes on at a character that closes nothing.
+    fn keep(&mut self, ch: char) -> Result<(), AllocError>
+        ensures { OnOk result (self.new ≡ next self.old ch) }
+    {
+        self.text.push_str(self.ending.decided(ch))?;
+        if ch != '-' && ch != '!' {
+            push(&mut self.text, ch)?;
+        }
+        self.ending = self.ending.after(ch);
+        self.opening = self.opening.after(ch);
+        Ok(())
+    }
+
+    /// Says that the input ends, at `end`.
+    pub fn end<S: ErrorSink>(&self, end: u64, errors: &mut S) -> Result<(), Refusal>
+        ensures { (kind : Kind) (text : List Placed) (raised : List Error) → HasReadOf kind self.now text raised
+            → Ends S.gives (IsSpan kind) text raised end self.now.data errors.old result errors.new }
+    {
+        match self.kind {
+            CommentKind::Comment => errors.take_error(ParseError { code: ErrorCode::EofInComment, at: end }),
+            CommentKind::Bogus => Ok(()),
+        }
+    }
+
+    /// The data of the comment, once it has ended.
+    pub fn into_data(self) -> String
+        ensures { string_bytes result ≡ self.data }
+    {
+        self.text
+    }
+}
+
+/// What a walk has read is the beginning of a comment: each comment at the front of a text that begins so begins so too, with
+/// the errors that were reported. It ends there only where the input does.
+pub fn goes_on_in_a_span()
+    ensures begins { (kind : Kind) (walk : Progress) (text : List Placed) (errors : List Error) → HasReadOf kind walk text errors → BeginsSpans (IsSpan kind) text errors }
+    ensures is_open { (kind : Kind) (walk : Progress) (text : List Placed) (errors : List Error) → HasReadOf kind walk text errors → IsOpen (IsSpan kind) text }
+{
+}
+
+/// One comment at most stands at the front of a text.
+pub fn one_span()
+    ensures { (kind : Kind) → IsOneSpan (IsSpan kind) }
+{
+}

@@ -1,0 +1,99 @@
+//! How much of a mark ends the text that was read of a comment.
+
+ghost use Rattle.std.specs.Prelude.{◌≡◌};
+ghost use Rattle.hmarkup.specs.Steps.{next_opening, next_ending, decided_text};
+ghost use Rattle.hmarkup.specs.CommentWalk.{is_whole};
+
+/// The beginning of a closing mark that ends the text: nothing, `-`, `--` or `--!`.
+#[derive(Clone, Copy, Debug, PartialEq, Eq)]
+pub enum Ending {
+    Plain,
+    Dash,
+    Dashes,
+    Bang,
+}
+
+/// The beginning of an inner `<!--` that ends the text: nothing, `<`, `<!`, `<!-` or all of it.
+#[derive(Clone, Copy, Debug, PartialEq, Eq)]
+pub enum Opening {
+    Outside,
+    Less,
+    LessBang,
+    LessBangDash,
+    Whole,
+}
+
+impl Ending {
+    /// The ending after one more character, which closes nothing.
+    pub fn after(self, ch: char) -> Ending
+        ensures { result ≡ next_ending self ch }
+    {
+        match ch {
+            '-' => match self {
+                Ending::Plain => Ending::Dash,
+                Ending::Dash => Ending::Dashes,
+                Ending::Dashes => Ending::Dashes,
+                Ending::Bang => Ending::Dash,
+            },
+            '!' => match self {
+                Ending::Dashes => Ending::Bang,
+                _ => Ending::Plain,
+            },
+            _ => Ending::Plain,
+        }
+    }
+
+    /// What is known to be data then, but for the character itself where it is neither `-` nor `!`.
+    pub fn decided(self, ch: char) -> &'static str
+        ensures { result.now ≡ decided_text self ch }
+    {
+        match ch {
+            '-' => match self {
+                Ending::Plain => "",
+                Ending::Dash => "",
+                Ending::Dashes => "-",
+                Ending::Bang => "--!",
+            },
+            '!' => match self {
+                Ending::Plain => "!",
+                Ending::Dash => "-!",
+                Ending::Dashes => "",
+                Ending::Bang => "--!!",
+            },
+            _ => match self {
+                Ending::Plain => "",
+                Ending::Dash => "-",
+                Ending::Dashes => "--",
+                Ending::Bang => "--!",
+            },
+        }
+    }
+}
+
+impl Opening {
+    /// Whether all of it was read.
+    pub fn is_whole(self) -> bool
+        ensures { result ≡ is_whole self }
+    {
+        matches!(self, Opening::Whole)
+    }
+
+    /// The opening after one more character.
+    pub fn after(self, ch: char) -> Opening
+        ensures { result ≡ next_opening self ch }
+    {
+        match ch {
+            '-' => match self {
+                Opening::LessBang => Opening::LessBangDash,
+                Opening::LessBangDash => Opening::Whole,
+                _ => Opening::Outside,
+            },
+            '!' => match self {
+                Opening::Less => Opening::LessBang,
+                _ => Opening::Outside,
+            },
+            '<' => Opening::Less,
+            _ => Opening::Outside,
+        }
+    }
+}
