@@ -146,8 +146,11 @@ impl CommentWalk {
     fn keep(&mut self, ch: char) -> Result<(), AllocError>
         ensures { OnOk result (self.new ≡ next self.old ch) }
     {
-        self.text.push_str(self.ending.decided(ch))?;
-        if ch != '-' && ch != '!' {
+        let may_close = ch == '-' || ch == '!';
+        if may_close || self.ending != Ending::Plain {
+            self.text.push_str(self.ending.decided(ch))?;
+        }
+        if !may_close {
             push(&mut self.text, ch)?;
         }
         self.ending = self.ending.after(ch);
