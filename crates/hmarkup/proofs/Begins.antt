@@ -1,12 +1,12 @@
 -- What was read of a comment is a front of each comment at the front of the text, and its errors are a front of theirs.
-use Rattle.std.proofs.Common.{◌≡◌, ℕ, ◌≤◌, Bool, true, false, ◌&&◌, ◌||◌, eqb, List, [], ◌∷◌, ◌++◌, map, length, sym, refl, ap, ◌∙◌, subst, codes, arith, length-append, append_assoc, append-nil}
-use Rattle.std.proofs.lemmas.List.{map-append, length-map}
+use Rattle.std.proofs.Common.{◌≡◌, ℕ, ◌≤◌, true, false, ◌&&◌, ◌||◌, eqb, List, [], ◌∷◌, ◌++◌, length, sym, refl, ap, ◌∙◌, subst, codes, arith, append_assoc, append-nil}
+use Rattle.std.proofs.lemmas.List.{map-append}
 use Rattle.std.proofs.lemmas.Bool.{false≢true, eqb-true}
 use Rattle.std.specs.Char.{encode_utf8}
 use Rattle.names.specs.declared.error.ParseError.{ParseError}
 use Rattle.names.specs.declared.error.ErrorCode.TheVariants.{AbruptClosingOfEmptyComment, EofInComment, IncorrectlyClosedComment}
 use Rattle.names.specs.declared.placed.Placed.{Placed}
-use Rattle.names.specs.Placed.{characters, place, spells, is_front, before, error, null_errors, text_bytes, without_null}
+use Rattle.names.specs.Placed.{characters, place, spells, is_front, error, null_errors, without_null}
 use Rattle.hmarkup.specs.declared.comment.CommentKind.{CommentKind}
 use Rattle.hmarkup.specs.declared.comment.CommentKind.TheVariants.{Comment, Bogus}
 use Rattle.hmarkup.specs.Comment.{closes_comment, closes_at_once, closes_bogus, errors_here, errors_after, IsComment, closed_at_once, closed, closed_with_bang, unclosed, IsBogus, closed_bogus, unclosed_bogus}
@@ -23,7 +23,7 @@ once_closed dash [] more f c = absurd cc
 once_closed [] (q ∷ qs) more f c = subst (λ (n : ℕ). ((eqb n 62 && true) || (eqb n 45 && spells (codes ">") (qs ++ more))) ≡ true) (sym (first_is q qs 62 [] c)) refl
 once_closed (d ∷ []) (q ∷ qs) more f c =
     subst (λ (m : ℕ). ((eqb m 62 && true) || (eqb m 45 && (eqb q.ch 62 && true))) ≡ true) (sym (eqb-true d.ch 45 (and_parts (eqb d.ch 45) true f).0))
-      (subst (λ (n : ℕ). (eqb n 62 && true) ≡ true) (sym (first_is q qs 62 [] c)) refl)
+    (subst (λ (n : ℕ). (eqb n 62 && true) ≡ true) (sym (first_is q qs 62 [] c)) refl)
 once_closed (d ∷ e ∷ ds) (q ∷ qs) more f c = absurd (false≢true (and_parts (eqb d.ch 45) false f).1)
 
 some_of : (close : List Placed) (c : ℕ) (cs : List ℕ) (more : List Placed) → characters close ≡ c ∷ cs → 1 ≤ length (close ++ more)
@@ -32,24 +32,24 @@ some_of (q ∷ qs) c cs more h = omega arith
 
 -- a comment has not ended in what was read of it
 not_ended : (w : Progress) (text : List Placed) (errs : List ParseError) → IsInComment w text errs → (end : ℕ) (rest span : List Placed) (d : List ℕ) (es : List ParseError) → IsComment end rest span d es
-  → (more : List Placed) → text ≡ span ++ more → rest ≡ []
+    → (more : List Placed) → text ≡ span ++ more → rest ≡ []
 not_ended w text errs h end rest span d es (closed_at_once dash close t f c data_is errors_are) more e =
     absurd (false≢true (sym h.not_at_once ∙ ap closes_at_once (e ∙ ap (λ (x : List Placed). x ++ more) t) ∙ once_closed dash close more f c))
 not_ended w text errs h end rest span d es (closed inner close t s b c data_is errors_are) more e =
     absurd (not_past closes_comment text inner (close ++ more) (before-text w text errs h) (e ∙ ap (λ (x : List Placed). x ++ more) t ∙ append_assoc inner close more)
-      (or_left (spells (codes "-->") (close ++ more)) (spells (codes "--!>") (close ++ more)) (spells-characters (codes "-->") close more c)) (some_of close 45 (codes "->") more c))
+    (or_left (spells (codes "-->") (close ++ more)) (spells (codes "--!>") (close ++ more)) (spells-characters (codes "-->") close more c)) (some_of close 45 (codes "->") more c))
 not_ended w text errs h end rest span d es (closed_with_bang inner dashes close t s b c1 c data_is errors_are) more e =
     let mark : characters (dashes ++ close) ≡ codes "--!>" = map-append (λ (p : Placed). p.ch) dashes close ∙ ap (λ (x : List ℕ). x ++ characters close) c1 ∙ ap (λ (x : List ℕ). codes "--!" ++ x) c in
     absurd (not_past closes_comment text inner ((dashes ++ close) ++ more) (before-text w text errs h)
-      (e ∙ ap (λ (x : List Placed). x ++ more) (t ∙ append_assoc inner dashes close) ∙ append_assoc inner (dashes ++ close) more)
-      (or_right (spells (codes "-->") ((dashes ++ close) ++ more)) (spells (codes "--!>") ((dashes ++ close) ++ more)) (spells-characters (codes "--!>") (dashes ++ close) more mark)) (some_of (dashes ++ close) 45 (codes "-!>") more mark))
+    (e ∙ ap (λ (x : List Placed). x ++ more) (t ∙ append_assoc inner dashes close) ∙ append_assoc inner (dashes ++ close) more)
+    (or_right (spells (codes "-->") ((dashes ++ close) ++ more)) (spells (codes "--!>") ((dashes ++ close) ++ more)) (spells-characters (codes "--!>") (dashes ++ close) more mark)) (some_of (dashes ++ close) 45 (codes "-!>") more mark))
 not_ended w text errs h end rest span d es (unclosed r s b data_is errors_are) more e = r
 
 not_ended_bogus : (w : Progress) (text : List Placed) (errs : List ParseError) → IsInBogus w text errs → (rest span : List Placed) (d : List ℕ) (es : List ParseError) → IsBogus rest span d es
-  → (more : List Placed) → text ≡ span ++ more → rest ≡ []
+    → (more : List Placed) → text ≡ span ++ more → rest ≡ []
 not_ended_bogus w text errs h rest span d es (closed_bogus inner close t b c data_is errors_are) more e =
     absurd (not_past closes_bogus text inner (close ++ more) (before-bogus w text errs h) (e ∙ ap (λ (x : List Placed). x ++ more) t ∙ append_assoc inner close more)
-      (spells-characters (codes ">") close more c) (some_of close 62 [] more c))
+    (spells-characters (codes ">") close more c) (some_of close 62 [] more c))
 not_ended_bogus w text errs h rest span d es (unclosed_bogus r b data_is errors_are) more e = r
 
 pub open_of : (kind : CommentKind) (w : Progress) (text : List Placed) (errs : List ParseError) → HasReadOf kind w text errs → IsOpen (IsSpan kind) text
@@ -78,7 +78,7 @@ bogus_errors rest span d es (unclosed_bogus r b data_is errors_are) = errors_are
 
 -- the errors of a text's characters are a front of the comment's
 begins_with : (text after rest span : List Placed) (errs : List ParseError) (end : ℕ) (d : List ℕ) (es : List ParseError) → errs ≡ errors_after [] text → IsFront text after rest span → IsComment end rest span d es
-  → Begins text after rest span errs es
+    → Begins text after rest span errs es
 begins_with text after rest span errs end d es e front s =
     let all = comment_errors end rest span d es s in
     record {
@@ -87,7 +87,7 @@ begins_with text after rest span errs end d es e front s =
       span_is = front.span_is;
       after_is = front.after_is;
       all_are = all.1 ∙ ap (λ (x : List Placed). errors_after [] x ++ all.0) front.span_is ∙ ap (λ (x : List ParseError). x ++ all.0) (errors-append [] text front.more)
-        ∙ append_assoc (errors_after [] text) (errors_after (backwards [] text) front.more) all.0 ∙ ap (λ (x : List ParseError). x ++ (errors_after (backwards [] text) front.more ++ all.0)) (sym e)
+          ∙ append_assoc (errors_after [] text) (errors_after (backwards [] text) front.more) all.0 ∙ ap (λ (x : List ParseError). x ++ (errors_after (backwards [] text) front.more ++ all.0)) (sym e);
     }
 
 -- up to here, and at one more character
@@ -107,7 +107,7 @@ begins_bogus w text errs h end after rest span d all s e =
       later = null_errors front.more;
       span_is = front.span_is;
       after_is = front.after_is;
-      all_are = bogus_errors rest span d all s ∙ ap null_errors front.span_is ∙ null_errors-append text front.more ∙ ap (λ (x : List ParseError). x ++ null_errors front.more) (sym h.errors_are)
+      all_are = bogus_errors rest span d all s ∙ ap null_errors front.span_is ∙ null_errors-append text front.more ∙ ap (λ (x : List ParseError). x ++ null_errors front.more) (sym h.errors_are);
     }
 
 pub begins_of : (kind : CommentKind) (w : Progress) (text : List Placed) (errs : List ParseError) → HasReadOf kind w text errs → BeginsSpans (IsSpan kind) text errs
@@ -116,15 +116,15 @@ begins_of Bogus w text errs h = begins_bogus w text errs h
 
 -- a whole span begins each span at the front of the text, since it is that span
 pub begins_whole : {V : Type 0} (Spans : ℕ → List Placed → List Placed → V → List ParseError → Type 0) → IsOneSpan Spans → (text : List Placed) (value : V) (errs : List ParseError)
-  → ((end : ℕ) (rest : List Placed) → Spans end rest text value errs) → BeginsSpans Spans text errs
+    → ((end : ℕ) (rest : List Placed) → Spans end rest text value errs) → BeginsSpans Spans text errs
 begins_whole Spans one text value errs given end after rest span other all s e =
     let same = one end rest after span text other value all errs s (given end after) e in
     record { more = []; later = []; span_is = same.0 ∙ sym (append-nil text); after_is = sym same.1; all_are = same.3 ∙ sym (append-nil errs) }
 
 -- a bogus comment, at one more character that doesn't end it
 pub bogus_more : (w : Progress) (text : List Placed) (errs : List ParseError) (ch at : ℕ) → IsInBogus w text errs → eqb ch 62 ≡ false
-  → BeginsSpans (IsSpan Bogus) (text ++ record { ch = ch; at = at } ∷ []) (errs ++ errors_here false (record { ch = ch; at = at }))
+    → BeginsSpans (IsSpan Bogus) (text ++ record { ch = ch; at = at } ∷ []) (errs ++ errors_here false (record { ch = ch; at = at }))
 bogus_more w text errs ch at h other =
     let then : Progress = record { kind = w.kind; ending = w.ending; opening = w.opening; «data» = w.data ++ encode_utf8 (without_null ch) } in
     begins_bogus then (text ++ record { ch = ch; at = at } ∷ []) (errs ++ errors_here false (record { ch = ch; at = at }))
-      (bogus_kept w text errs ch at h then h.kind_is other refl)
+    (bogus_kept w text errs ch at h then h.kind_is other refl)

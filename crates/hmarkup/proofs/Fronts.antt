@@ -11,28 +11,40 @@ pub record IsFront (text after rest span : List Placed) : Type 0 where
   pub after_is : after ≡ more ++ rest
 
 -- of two texts at the front of one, one begins with the other
+heads_are : (x y : Placed) (xs ys : List Placed) → x ∷ xs ≡ y ∷ ys → x ≡ y
+heads_are x y xs ys e = cc
+
+tails_are : (x y : Placed) (xs ys : List Placed) → x ∷ xs ≡ y ∷ ys → xs ≡ ys
+tails_are x y xs ys e = cc
+
+cons_are : (x y : Placed) (xs ys : List Placed) → x ≡ y → xs ≡ ys → x ∷ xs ≡ y ∷ ys
+cons_are x y xs ys e f = cc
+
+front_cons : (t s : Placed) (ts after rest ss : List Placed) → s ≡ t → IsFront ts after rest ss → IsFront (t ∷ ts) after rest (s ∷ ss)
+front_cons t s ts after rest ss e front = record { more = front.more; span_is = cons_are s t ss (ts ++ front.more) e front.span_is; after_is = front.after_is }
+
 pub front_of : (text after rest span : List Placed) → span ++ rest ≡ text ++ after → ((more : List Placed) → text ≡ span ++ more → rest ≡ []) → IsFront text after rest span
 front_of [] after rest span e last = record { more = span; span_is = refl; after_is = sym e }
 front_of (t ∷ ts) after rest [] e last =
     let none : rest ≡ [] = last (t ∷ ts) refl in
     absurd cc
 front_of (t ∷ ts) after rest (s ∷ ss) e last =
-    let same : s ≡ t = cc in
-    let k : IsFront ts after rest ss = front_of ts after rest ss (cc) (λ (more : List Placed) (h : ts ≡ ss ++ more). last more (ap (λ (x : List Placed). t ∷ x) h ∙ ap (λ (x : Placed). x ∷ (ss ++ more)) (sym same))) in
-    record { more = k.more; span_is = ap (λ (x : Placed). x ∷ ss) same ∙ ap (λ (x : List Placed). t ∷ x) k.span_is; after_is = k.after_is }
+    front_cons t s ts after rest ss (heads_are s t (ss ++ rest) (ts ++ after) e)
+    (front_of ts after rest ss (tails_are s t (ss ++ rest) (ts ++ after) e)
+    (λ (more : List Placed) (h : ts ≡ ss ++ more). last more (cons_are t s ts (ss ++ more) (sym (heads_are s t (ss ++ rest) (ts ++ after) e)) h)))
 
 -- it begins with one more character, where it doesn't end with the text
 pub front_more : (text : List Placed) (p : Placed) (after rest span : List Placed) → ((more : List Placed) → text ≡ span ++ more → rest ≡ []) → span ++ rest ≡ (text ++ p ∷ []) ++ after → IsFront (text ++ p ∷ []) after rest span
 front_more text p after rest span last e = past (front_of text (p ∷ after) rest span (e ∙ append_assoc text (p ∷ []) after) last)
   where
-  past : IsFront text (p ∷ after) rest span → IsFront (text ++ p ∷ []) after rest span
-  past front = longer front.more front.span_is front.after_is
-    where
-    longer : (more : List Placed) → span ≡ text ++ more → p ∷ after ≡ more ++ rest → IsFront (text ++ p ∷ []) after rest span
-    longer [] s a = let none : rest ≡ [] = last [] (sym (append-nil text) ∙ sym s ∙ sym (append-nil span)) in absurd cc
-    longer (q ∷ qs) s a =
-        let same : q ≡ p = cc in
-        record { more = qs; span_is = s ∙ ap (λ (x : Placed). text ++ (x ∷ qs)) same ∙ sym (append_assoc text (p ∷ []) qs); after_is = cc }
+    past : IsFront text (p ∷ after) rest span → IsFront (text ++ p ∷ []) after rest span
+    past front = longer front.more front.span_is front.after_is
+      where
+        longer : (more : List Placed) → span ≡ text ++ more → p ∷ after ≡ more ++ rest → IsFront (text ++ p ∷ []) after rest span
+        longer [] s a = let none : rest ≡ [] = last [] (sym (append-nil text) ∙ sym s ∙ sym (append-nil span)) in absurd cc
+        longer (q ∷ qs) s a =
+            let same : q ≡ p = cc in
+            record { more = qs; span_is = s ∙ ap (λ (x : Placed). text ++ (x ∷ qs)) same ∙ sym (append_assoc text (p ∷ []) qs); after_is = cc }
 
 -- two texts of one length
 pub same_front : (xs ys zs ws : List Placed) → xs ++ ys ≡ zs ++ ws → length xs ≡ length zs → (xs ≡ zs) × (ys ≡ ws)

@@ -1,5 +1,5 @@
 -- Handing an error to a sink, whatever it answers.
-use Rattle.std.proofs.Common.{◌≡◌, List, [], ◌∷◌, ◌++◌, refl, Result, Ok, Err}
+use Rattle.std.proofs.Common.{List, [], ◌∷◌, ◌++◌, refl, Result, Ok, Err}
 use Rattle.names.specs.Sink.{Hands}
 use Rattle.names.proofs.Handing.{Hands-append}
 

@@ -18,18 +18,18 @@ module _ (w : Progress) (text : List Placed) (errs : List ParseError) (ch at : �
 
   pub bogus_kept : (new : Progress) → new.kind ≡ Bogus → eqb ch 62 ≡ false → new.data ≡ w.data ++ encode_utf8 (without_null ch) → IsInBogus new (text ++ p ∷ []) (errs ++ errors_here false p)
   bogus_kept new k e d = record {
-      kind_is = k;
-      no_close = Avoids-append closes_bogus text (p ∷ []) [] avoids_more (ap (λ (b : Bool). b && true) e, tt);
-      data_is = d ∙ ap (λ (x : List ℕ). x ++ encode_utf8 (without_null ch)) h.data_is ∙ ap (λ (x : List ℕ). text_bytes text ++ x) (sym (append-nil (encode_utf8 (without_null ch)))) ∙ sym (text_bytes-append text (p ∷ []));
-      errors_are = ap (λ (x : List ParseError). x ++ null_errors (p ∷ [])) h.errors_are ∙ sym (null_errors-append text (p ∷ []))
-    }
+    kind_is = k;
+    no_close = Avoids-append closes_bogus text (p ∷ []) [] avoids_more (ap (λ (b : Bool). b && true) e, tt);
+    data_is = d ∙ ap (λ (x : List ℕ). x ++ encode_utf8 (without_null ch)) h.data_is ∙ ap (λ (x : List ℕ). text_bytes text ++ x) (sym (append-nil (encode_utf8 (without_null ch)))) ∙ sym (text_bytes-append text (p ∷ []));
+    errors_are = ap (λ (x : List ParseError). x ++ null_errors (p ∷ [])) h.errors_are ∙ sym (null_errors-append text (p ∷ []));
+  }
 
   pub bogus_closed : ch ≡ 62 → (end : ℕ) (rest : List Placed) → IsBogus rest (text ++ p ∷ []) w.data (errs ++ [])
   bogus_closed is end rest =
       let k : before closes_bogus (p ∷ []) ≡ [] = ap (λ (c : ℕ). before closes_bogus (record { ch = c; at = at } ∷ [])) is in
       closed_bogus text (p ∷ []) refl
-        (sym (before-avoids closes_bogus text (p ∷ []) avoids_more ∙ ap (λ (x : List Placed). text ++ x) k ∙ append-nil text))
-        (ap (λ (c : ℕ). c ∷ []) is) h.data_is (append-nil errs ∙ h.errors_are)
+      (sym (before-avoids closes_bogus text (p ∷ []) avoids_more ∙ ap (λ (x : List Placed). text ++ x) k ∙ append-nil text))
+      (ap (λ (c : ℕ). c ∷ []) is) h.data_is (append-nil errs ∙ h.errors_are)
 
 -- no `>` stands in it
 pub before-bogus : (w : Progress) (text : List Placed) (errs : List ParseError) → IsInBogus w text errs → text ≡ before closes_bogus text

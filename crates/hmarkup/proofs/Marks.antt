@@ -1,12 +1,11 @@
 -- Words on texts: marks that a text avoids, and texts that grow.
-use Rattle.std.proofs.Common.{◌≡◌, ℕ, ◌≤◌, Bool, true, false, cond, ◌&&◌, ◌||◌, eqb, List, [], ◌∷◌, ◌++◌, length, map, sym, refl, ap, ◌∙◌, subst, append_assoc, append-nil, arith, length-append}
+use Rattle.std.proofs.Common.{◌≡◌, ℕ, ◌≤◌, Bool, true, false, cond, ◌&&◌, ◌||◌, eqb, List, [], ◌∷◌, ◌++◌, length, map, sym, refl, ap, ◌∙◌, subst, append_assoc, arith, length-append}
 use Rattle.std.proofs.lemmas.Bool.{false≢true}
 use Rattle.std.proofs.lemmas.Bool.Decides.{nat_tests}
 use Rattle.std.proofs.lemmas.List.{map-append}
 use Rattle.std.proofs.lemmas.Str.{encodes-append}
 use Rattle.std.proofs.lemmas.Grind.{flat_map-append}
 use Rattle.std.specs.Prelude.{encode_utf8_all}
-use Rattle.names.specs.declared.error.ParseError.{ParseError}
 use Rattle.names.specs.declared.error.ErrorCode.TheVariants.{UnexpectedNullCharacter}
 use Rattle.names.specs.declared.placed.Placed.{Placed}
 use Rattle.names.specs.Placed.{characters, spells, is_front, before, Avoids, error, null_errors, text_bytes, without_null}
@@ -69,8 +68,8 @@ Avoids-append mark (p ∷ ps) ys after h k =
 
 -- One more character follows: a mark is still avoided where it stands at no text that both marks avoided.
 pub Avoids-more : (first mark : List Placed → Bool) (p : Placed)
-  → ((q : Placed) (x : List Placed) → first (q ∷ x) ≡ false → mark (q ∷ x) ≡ false → mark (q ∷ x ++ p ∷ []) ≡ false)
-  → (xs after : List Placed) → Avoids first xs after → Avoids mark xs after → Avoids mark xs (after ++ p ∷ [])
+    → ((q : Placed) (x : List Placed) → first (q ∷ x) ≡ false → mark (q ∷ x) ≡ false → mark (q ∷ x ++ p ∷ []) ≡ false)
+    → (xs after : List Placed) → Avoids first xs after → Avoids mark xs after → Avoids mark xs (after ++ p ∷ [])
 Avoids-more first mark p point [] after h k = tt
 Avoids-more first mark p point (q ∷ qs) after h k =
     (subst (λ (x : List Placed). mark (q ∷ x) ≡ false) (append_assoc qs after (p ∷ [])) (point q (qs ++ after) h.0 k.0), Avoids-more first mark p point qs after h.1 k.1)

@@ -1,17 +1,16 @@
 -- The last characters of a comment that has not ended, when one more comes.
-use Rattle.std.proofs.Common.{◌≡◌, ℕ, Bool, true, false, cond, ◌&&◌, ◌||◌, ◌⊎◌, eqb, List, [], ◌∷◌, ◌++◌, sym, refl, ap, ◌∙◌, subst, append_assoc, append-nil, codes, arith, ◌≤◌, length}
+use Rattle.std.proofs.Common.{◌≡◌, ℕ, Bool, true, false, ◌⊎◌, eqb, List, [], ◌∷◌, ◌++◌, sym, refl, ◌∙◌, subst, append-nil, codes, arith, ◌≤◌, length}
 use Rattle.std.proofs.lemmas.Bool.{false≢true, eqb-true}
 use mathlib.Core.Logic.{inl, inr}
-use Rattle.std.specs.Char.{encode_utf8}
 use lib.Utf8.{encode}
 use Rattle.names.specs.declared.placed.Placed.{Placed}
-use Rattle.names.specs.Placed.{characters, spells, is_front, before, Avoids, text_bytes, without_null}
+use Rattle.names.specs.Placed.{characters, spells, is_front, before, Avoids, text_bytes}
 use Rattle.hmarkup.specs.declared.tail.Ending.{Ending}
 use Rattle.hmarkup.specs.declared.tail.Ending.TheVariants.{Plain, Dash, Dashes, Bang}
-use Rattle.hmarkup.specs.Comment.{closes_comment, closes_at_once, is_ending}
+use Rattle.hmarkup.specs.Comment.{closes_comment, is_ending}
 use Rattle.hmarkup.specs.CommentWalk.{IsHeld, holds_nothing, holds_dash, holds_dashes, holds_bang}
-use Rattle.hmarkup.specs.Steps.{next_ending, decided, ending_text}
-use Rattle.hmarkup.proofs.Marks.{front-less, front-longer, spells-more, neither, or_none, false_if, Avoids-more}
+use Rattle.hmarkup.specs.Steps.{next_ending, decided}
+use Rattle.hmarkup.proofs.Marks.{front-less, front-longer, spells-more, neither, or_none, false_if}
 
 -- one more character makes no mark within the data
 pub ending-more : (p q : Placed) (x : List Placed) → is_ending (q ∷ x) ≡ false → is_ending (q ∷ x) ≡ false → is_ending (q ∷ x ++ p ∷ []) ≡ false
@@ -22,7 +21,7 @@ closes-more p q x h k =
     let parts = neither (spells (codes "-->") (q ∷ x)) (spells (codes "--!>") (q ∷ x)) k in
     let short : is_front (q ∷ x) (codes "--") ≡ false = false_if (is_front (q ∷ x) (codes "--")) (λ e. false≢true (sym h ∙ front-longer (q ∷ x) (codes "--") (codes "!") e)) in
     or_none (spells (codes "-->") (q ∷ x ++ p ∷ [])) (spells (codes "--!>") (q ∷ x ++ p ∷ []))
-      (spells-more (codes "--") 62 (q ∷ x) p short parts.0) (spells-more (codes "--!") 62 (q ∷ x) p h parts.1)
+    (spells-more (codes "--") 62 (q ∷ x) p short parts.0) (spells-more (codes "--!") 62 (q ∷ x) p h parts.1)
 
 -- The characters held, and one more: some are data now, and some are held.
 pub record Moves (ending : Ending) (held : List Placed) (p : Placed) : Type 0 where
@@ -63,7 +62,7 @@ moves_other ending held p n45 n33 n62 (holds_dashes a b) = let n62 = n62 refl in
 moves_other ending held p n45 n33 n62 (holds_bang a b d) = let n62 = n62 refl in record { moved = record { ch = 45; at = a } ∷ record { ch = 45; at = b } ∷ record { ch = 33; at = d } ∷ p ∷ []; left = []; split = refl; is_held = simp (n45, n33) holds_nothing; no_close = (simp (n62), (refl, (refl, (simp (n45), tt)))); no_ending = (refl, (refl, (refl, (simp (n45), tt)))); bytes_are = simp (n45, n33, append-nil) }
 
 on_tests : (ending : Ending) (held : List Placed) (ch at : ℕ) → (closes ending ≡ true → eqb ch 62 ≡ false) → IsHeld ending held
-  → (dash bang : Bool) → eqb ch 45 ≡ dash → eqb ch 33 ≡ bang → Moves ending held (record { ch = ch; at = at })
+    → (dash bang : Bool) → eqb ch 45 ≡ dash → eqb ch 33 ≡ bang → Moves ending held (record { ch = ch; at = at })
 on_tests ending held ch at n62 h true bang e f = subst (λ (c : ℕ). Moves ending held (record { ch = c; at = at })) (sym (eqb-true ch 45 e)) (moves_dash ending held at h)
 on_tests ending held ch at n62 h false true e f = subst (λ (c : ℕ). Moves ending held (record { ch = c; at = at })) (sym (eqb-true ch 33 f)) (moves_bang ending held at h)
 on_tests ending held ch at n62 h false false e f = moves_other ending held (record { ch = ch; at = at }) e f n62 h
@@ -73,21 +72,21 @@ moves ending held ch at n62 h = on_tests ending held ch at n62 h (eqb ch 45) (eq
 
 -- what is held at the closing character, and at the end
 pub dashes_close : (ending : Ending) (held : List Placed) (at : ℕ) → IsHeld ending held → ending ≡ Dashes
-  → (before closes_comment (held ++ record { ch = 62; at = at } ∷ []) ≡ []) × (characters (held ++ record { ch = 62; at = at } ∷ []) ≡ codes "-->")
+    → (before closes_comment (held ++ record { ch = 62; at = at } ∷ []) ≡ []) × (characters (held ++ record { ch = 62; at = at } ∷ []) ≡ codes "-->")
 dashes_close ending held at holds_nothing e = absurd cc
 dashes_close ending held at (holds_dash a) e = absurd cc
 dashes_close ending held at (holds_dashes a b) e = (refl, refl)
 dashes_close ending held at (holds_bang a b d) e = absurd cc
 
 pub bang_closes : (ending : Ending) (held : List Placed) (at : ℕ) → IsHeld ending held → ending ≡ Bang
-  → (before closes_comment (held ++ record { ch = 62; at = at } ∷ []) ≡ []) × (characters held ≡ codes "--!")
+    → (before closes_comment (held ++ record { ch = 62; at = at } ∷ []) ≡ []) × (characters held ≡ codes "--!")
 bang_closes ending held at holds_nothing e = absurd cc
 bang_closes ending held at (holds_dash a) e = absurd cc
 bang_closes ending held at (holds_dashes a b) e = absurd cc
 bang_closes ending held at (holds_bang a b d) e = (refl, refl)
 
 pub dash_held : (ending : Ending) (held : List Placed) → IsHeld ending held → closes ending ≡ false
-  → is_front held (codes "-") ≡ true
+    → is_front held (codes "-") ≡ true
 dash_held ending held holds_nothing e = refl
 dash_held ending held (holds_dash a) e = refl
 dash_held ending held (holds_dashes a b) e = absurd cc

@@ -1,5 +1,5 @@
 -- What a walk of one kind has read.
-use Rattle.std.proofs.Common.{◌≡◌, ℕ, sym, ◌∙◌, List}
+use Rattle.std.proofs.Common.{◌≡◌, sym, ◌∙◌, List}
 use Rattle.names.specs.declared.error.ParseError.{ParseError}
 use Rattle.names.specs.declared.placed.Placed.{Placed}
 use Rattle.hmarkup.specs.declared.comment.CommentKind.{CommentKind}
@@ -7,11 +7,11 @@ use Rattle.hmarkup.specs.declared.comment.CommentKind.TheVariants.{Comment, Bogu
 use Rattle.hmarkup.specs.CommentWalk.{Progress, HasReadOf}
 
 pub comment_only : (kind : CommentKind) (walk : Progress) (text : List Placed) (errors : List ParseError) → walk.kind ≡ Comment → HasReadOf kind walk text errors
-  → (P : CommentKind → Type 0) → (HasReadOf Comment walk text errors → P Comment) → P kind
+    → (P : CommentKind → Type 0) → (HasReadOf Comment walk text errors → P Comment) → P kind
 comment_only Comment walk text errors is h P given = given h
 comment_only Bogus walk text errors is h P given = let no_way = sym is ∙ h.kind_is in absurd cc
 
 pub bogus_only : (kind : CommentKind) (walk : Progress) (text : List Placed) (errors : List ParseError) → walk.kind ≡ Bogus → HasReadOf kind walk text errors
-  → (P : CommentKind → Type 0) → (HasReadOf Bogus walk text errors → P Bogus) → P kind
+    → (P : CommentKind → Type 0) → (HasReadOf Bogus walk text errors → P Bogus) → P kind
 bogus_only Comment walk text errors is h P given = let no_way = sym is ∙ h.kind_is in absurd cc
 bogus_only Bogus walk text errors is h P given = given h

@@ -1,6 +1,6 @@
 -- One bogus comment at most stands at the front of a text, and one span of either kind.
-use Rattle.std.proofs.Common.{◌≡◌, ℕ, ◌≤◌, Bool, true, false, List, [], ◌∷◌, ◌++◌, length, take, drop, sym, refl, ap, ◌∙◌, codes, append_assoc, append-nil, arith, length-append, ◌+◌}
-use Rattle.std.proofs.lemmas.List.{drop_at, drop_all, length-map}
+use Rattle.std.proofs.Common.{◌≡◌, ℕ, List, [], ◌∷◌, ◌++◌, length, take, drop, sym, refl, ap, ◌∙◌, codes, append_assoc, append-nil, arith, length-append, ◌+◌}
+use Rattle.std.proofs.lemmas.List.{drop_at, drop_all}
 use Rattle.names.specs.declared.error.ParseError.{ParseError}
 use Rattle.names.specs.declared.placed.Placed.{Placed}
 use Rattle.names.specs.Placed.{characters, before, Avoids, null_errors, text_bytes}
@@ -38,10 +38,10 @@ told_bogus rest text d es (closed_bogus inner close t b c data_is errors_are) =
     record {
       inner = inner;
       inner_is = sym (ap (before closes_bogus) whole ∙ before-avoids closes_bogus inner (close ++ rest) avoided
-        ∙ ap (λ (x : List Placed). inner ++ x) (before-here closes_bogus (close ++ rest) (spells-characters (codes ">") close rest c)) ∙ append-nil inner);
+          ∙ ap (λ (x : List Placed). inner ++ x) (before-here closes_bogus (close ++ rest) (spells-characters (codes ">") close rest c)) ∙ append-nil inner);
       size_is = omega (arith, ap length t, length-append inner close, one_char close rest c, ap (λ (x : List Placed). length (take 1 x)) left);
       bytes_are = data_is;
-      errors_are = errors_are
+      errors_are = errors_are;
     }
 told_bogus rest text d es (unclosed_bogus r b data_is errors_are) =
     let whole : text ++ rest ≡ text = ap (λ (x : List Placed). text ++ x) r ∙ append-nil text in
@@ -51,7 +51,7 @@ told_bogus rest text d es (unclosed_bogus r b data_is errors_are) =
       inner_is = b ∙ ap (before closes_bogus) (sym whole);
       size_is = omega (arith, ap (λ (x : List Placed). length (take 1 x)) left);
       bytes_are = data_is;
-      errors_are = errors_are
+      errors_are = errors_are;
     }
 
 one_bogus : IsOneSpan (IsSpan Bogus)
@@ -60,7 +60,7 @@ one_bogus end rest rest' text text' d d' es es' h k e =
     let b : IsToldBogus rest' text' d' es' = told_bogus rest' text' d' es' k in
     let same : a.inner ≡ b.inner = a.inner_is ∙ ap (before closes_bogus) e ∙ sym b.inner_is in
     let front : (text ≡ text') × (rest ≡ rest') = same_front text rest text' rest' e
-          (a.size_is ∙ ap (λ (x : List Placed). length x + length (take 1 (drop (length x) (text ++ rest)))) same ∙ ap (λ (x : List Placed). length b.inner + length (take 1 (drop (length b.inner) x))) e ∙ sym b.size_is) in
+    (a.size_is ∙ ap (λ (x : List Placed). length x + length (take 1 (drop (length x) (text ++ rest)))) same ∙ ap (λ (x : List Placed). length b.inner + length (take 1 (drop (length b.inner) x))) e ∙ sym b.size_is) in
     (front.0, front.1, a.bytes_are ∙ ap text_bytes same ∙ sym b.bytes_are, a.errors_are ∙ ap null_errors same ∙ sym b.errors_are)
 
 pub one_of : (kind : CommentKind) → IsOneSpan (IsSpan kind)

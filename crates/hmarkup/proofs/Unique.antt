@@ -1,16 +1,13 @@
 -- One comment at most stands at the front of a text.
-use Rattle.std.proofs.Common.{◌≡◌, ℕ, ◌≤◌, ◌+◌, Bool, true, false, ◌&&◌, ◌||◌, eqb, List, [], ◌∷◌, ◌++◌, map, length, sym, refl, ap, ◌∙◌, subst, codes, arith, length-append, append_assoc, append-nil, if◌then◌else◌, drop}
+use Rattle.std.proofs.Common.{◌≡◌, ℕ, ◌≤◌, ◌+◌, Bool, true, false, ◌&&◌, eqb, List, [], ◌∷◌, ◌++◌, length, sym, refl, ap, ◌∙◌, subst, codes, arith, length-append, append_assoc, append-nil, if◌then◌else◌, drop}
 use Rattle.std.proofs.lemmas.Bool.{false≢true, eqb-true}
 use Rattle.std.proofs.lemmas.List.{length-map, drop_at, drop_all, map-append}
 use Rattle.names.specs.declared.error.ParseError.{ParseError}
 use Rattle.names.specs.declared.error.ErrorCode.TheVariants.{AbruptClosingOfEmptyComment, EofInComment, IncorrectlyClosedComment}
 use Rattle.names.specs.declared.placed.Placed.{Placed}
-use Rattle.names.specs.Placed.{characters, place, spells, is_front, before, Avoids, error, null_errors, text_bytes}
-use Rattle.hmarkup.specs.declared.comment.CommentKind.{CommentKind}
-use Rattle.hmarkup.specs.declared.comment.CommentKind.TheVariants.{Comment, Bogus}
-use Rattle.hmarkup.specs.Comment.{closes_comment, closes_at_once, closes_bogus, is_ending, errors_after, IsComment, closed_at_once, closed, closed_with_bang, unclosed, IsBogus, closed_bogus, unclosed_bogus}
+use Rattle.names.specs.Placed.{characters, place, spells, is_front, before, Avoids, error, text_bytes}
+use Rattle.hmarkup.specs.Comment.{closes_comment, closes_at_once, is_ending, errors_after, IsComment, closed_at_once, closed, closed_with_bang, unclosed}
 use Rattle.hmarkup.specs.Walk.{IsOneSpan}
-use Rattle.hmarkup.specs.CommentWalk.{IsSpan}
 use Rattle.hmarkup.proofs.Marks.{and_parts, and_no, neither, or_none, or_left, or_right, before-avoids, before-here, avoids-before, spells-long, spells-characters, first_is}
 use Rattle.hmarkup.proofs.Fronts.{same_front}
 
@@ -51,9 +48,11 @@ closes-long xs ys l h =
 
 Avoids-long : (xs close rest : List Placed) → 3 ≤ length close → Avoids closes_comment xs close → Avoids closes_comment xs (close ++ rest)
 Avoids-long [] close rest l h = tt
-Avoids-long (q ∷ qs) close rest l h =
-    (subst (λ (x : List Placed). closes_comment (q ∷ x) ≡ false) (append_assoc qs close rest)
-      (closes-long (q ∷ qs ++ close) rest (omega (arith, l, length-append qs close)) h.0), Avoids-long qs close rest l h.1)
+Avoids-long (q ∷ qs) close rest l h = (
+  subst (λ (x : List Placed). closes_comment (q ∷ x) ≡ false) (append_assoc qs close rest)
+      (closes-long (q ∷ qs ++ close) rest (omega (arith, l, length-append qs close)) h.0),
+  Avoids-long qs close rest l h.1,
+)
 
 once-long : (xs ys : List Placed) → 2 ≤ length xs → closes_at_once xs ≡ false → closes_at_once (xs ++ ys) ≡ false
 once-long [] ys l h = absurd (omega (arith, l))
@@ -72,20 +71,20 @@ no_arrow (x ∷ y ∷ z ∷ xs) rest h =
 
 -- a comment that a mark closes
 told_closed : (end : ℕ) (inner close rest : List Placed) → 3 ≤ length close → closes_at_once (inner ++ close) ≡ false → inner ≡ before closes_comment (inner ++ close) → closes_comment (close ++ rest) ≡ true
-  → told end ((inner ++ close) ++ rest) ≡ told_at end ((inner ++ close) ++ rest) inner (close ++ rest)
+    → told end ((inner ++ close) ++ rest) ≡ told_at end ((inner ++ close) ++ rest) inner (close ++ rest)
 told_closed end inner close rest l s b c =
     let whole : List Placed = (inner ++ close) ++ rest in
     let starts : closes_at_once whole ≡ false = once-long (inner ++ close) rest (omega (arith, l, length-append inner close)) s in
     let at_close : before closes_comment (close ++ rest) ≡ [] = before-here closes_comment (close ++ rest) c in
     let inner_is : before closes_comment whole ≡ inner
-          = ap (before closes_comment) (append_assoc inner close rest) ∙ before-avoids closes_comment inner (close ++ rest) (Avoids-long inner close rest l (avoids-before closes_comment inner close b)) ∙ ap (λ (x : List Placed). inner ++ x) at_close ∙ append-nil inner in
+    = ap (before closes_comment) (append_assoc inner close rest) ∙ before-avoids closes_comment inner (close ++ rest) (Avoids-long inner close rest l (avoids-before closes_comment inner close b)) ∙ ap (λ (x : List Placed). inner ++ x) at_close ∙ append-nil inner in
     let left : drop (length inner) whole ≡ close ++ rest = ap (drop (length inner)) (append_assoc inner close rest) ∙ drop_at inner (close ++ rest) (length inner) refl in
     ap (λ (b : Bool). if b then told_at_once (spells (codes ">") whole) end whole else told_at end whole (before closes_comment whole) (drop (length (before closes_comment whole)) whole)) starts
-      ∙ ap (λ (x : List Placed). told_at end whole x (drop (length x) whole)) inner_is
-      ∙ ap (told_at end whole inner) left
+    ∙ ap (λ (x : List Placed). told_at end whole x (drop (length x) whole)) inner_is
+    ∙ ap (told_at end whole inner) left
 
 told_empty : (end : ℕ) (dash close rest : List Placed) → is_front dash (codes "-") ≡ true → characters close ≡ codes ">"
-  → told end ((dash ++ close) ++ rest) ≡ record { size = length (dash ++ close); bytes = []; last = error AbruptClosingOfEmptyComment (place end close) ∷ [] }
+    → told end ((dash ++ close) ++ rest) ≡ record { size = length (dash ++ close); bytes = []; last = error AbruptClosingOfEmptyComment (place end close) ∷ [] }
 told_empty end dash [] rest f c = absurd cc
 told_empty end dash (q ∷ r ∷ qs) rest f c = absurd cc
 told_empty end [] (q ∷ []) rest f c =
@@ -102,7 +101,7 @@ told_empty end (d ∷ []) (q ∷ []) rest f c =
 told_empty end (d ∷ e ∷ ds) (q ∷ []) rest f c = absurd (false≢true (and_parts (eqb d.ch 45) false f).1)
 
 told_is_same : (n m : ℕ) (bytes bytes' : List ℕ) (last last' : List ParseError) → n ≡ m → bytes ≡ bytes' → last ≡ last'
-  → let a : Told = record { size = n; bytes = bytes; last = last } in let b : Told = record { size = m; bytes = bytes'; last = last' } in a ≡ b
+    → let a : Told = record { size = n; bytes = bytes; last = last } in let b : Told = record { size = m; bytes = bytes'; last = last' } in a ≡ b
 told_is_same n m bytes bytes' last last' e f g = cc
 
 place-front : (end : ℕ) (close rest : List Placed) → characters close ≡ codes ">" → place end (close ++ rest) ≡ place end close
@@ -111,10 +110,10 @@ place-front end (q ∷ qs) rest c = refl
 
 pub told_of : (end : ℕ) (rest text : List Placed) (d : List ℕ) (es : List ParseError) → IsComment end rest text d es → IsTold end rest text d es
 told_of end rest text d es (closed_at_once dash close t f c data_is errors_are) = record {
-    last = error AbruptClosingOfEmptyComment (place end close) ∷ [];
-    told_is = ap (λ (x : List Placed). told end (x ++ rest)) t ∙ told_empty end dash close rest f c ∙ told_is_same _ _ _ _ _ _ (ap length (sym t)) (sym data_is) refl;
-    errors_are = errors_are
-  }
+  last = error AbruptClosingOfEmptyComment (place end close) ∷ [];
+  told_is = ap (λ (x : List Placed). told end (x ++ rest)) t ∙ told_empty end dash close rest f c ∙ told_is_same _ _ _ _ _ _ (ap length (sym t)) (sym data_is) refl;
+  errors_are = errors_are;
+}
 told_of end rest text d es (closed inner close t s b c data_is errors_are) =
     let size : length close ≡ 3 = sym (length-map close (λ (p : Placed). p.ch)) ∙ ap length c in
     let arrow : spells (codes "-->") (close ++ rest) ≡ true = spells-characters (codes "-->") close rest c in
@@ -123,10 +122,10 @@ told_of end rest text d es (closed inner close t s b c data_is errors_are) =
     record {
       last = [];
       told_is = ap (λ (x : List Placed). told end (x ++ rest)) t
-        ∙ told_closed end inner close rest (omega (arith, size)) (sym (ap closes_at_once t) ∙ s) (b ∙ ap (before closes_comment) t) at_close
-        ∙ ap (λ (x : Bool). told_by x (spells (codes "--!>") (close ++ rest)) end ((inner ++ close) ++ rest) inner (close ++ rest)) arrow
-        ∙ told_is_same _ _ _ _ _ _ long (sym data_is) refl;
-      errors_are = errors_are ∙ sym (append-nil (errors_after [] text))
+          ∙ told_closed end inner close rest (omega (arith, size)) (sym (ap closes_at_once t) ∙ s) (b ∙ ap (before closes_comment) t) at_close
+          ∙ ap (λ (x : Bool). told_by x (spells (codes "--!>") (close ++ rest)) end ((inner ++ close) ++ rest) inner (close ++ rest)) arrow
+          ∙ told_is_same _ _ _ _ _ _ long (sym data_is) refl;
+      errors_are = errors_are ∙ sym (append-nil (errors_after [] text));
     }
 told_of end rest text d es (closed_with_bang inner dashes close t s b c1 c data_is errors_are) =
     let t' : text ≡ inner ++ (dashes ++ close) = t ∙ append_assoc inner dashes close in
@@ -141,11 +140,11 @@ told_of end rest text d es (closed_with_bang inner dashes close t s b c1 c data_
     record {
       last = error IncorrectlyClosedComment (place end close) ∷ [];
       told_is = ap (λ (x : List Placed). told end (x ++ rest)) t'
-        ∙ told_closed end inner (dashes ++ close) rest (omega (arith, size)) (sym (ap closes_at_once t') ∙ s) (b ∙ ap (before closes_comment) t') at_close
-        ∙ ap (λ (x : Bool). told_by x (spells (codes "--!>") ((dashes ++ close) ++ rest)) end ((inner ++ (dashes ++ close)) ++ rest) inner ((dashes ++ close) ++ rest)) no_way
-        ∙ ap (λ (x : Bool). told_by false x end ((inner ++ (dashes ++ close)) ++ rest) inner ((dashes ++ close) ++ rest)) bang
-        ∙ told_is_same _ _ _ _ _ _ long (sym data_is) (ap (λ (n : ℕ). error IncorrectlyClosedComment n ∷ []) (ap (place end) past ∙ place-front end close rest c));
-      errors_are = errors_are
+          ∙ told_closed end inner (dashes ++ close) rest (omega (arith, size)) (sym (ap closes_at_once t') ∙ s) (b ∙ ap (before closes_comment) t') at_close
+          ∙ ap (λ (x : Bool). told_by x (spells (codes "--!>") ((dashes ++ close) ++ rest)) end ((inner ++ (dashes ++ close)) ++ rest) inner ((dashes ++ close) ++ rest)) no_way
+          ∙ ap (λ (x : Bool). told_by false x end ((inner ++ (dashes ++ close)) ++ rest) inner ((dashes ++ close) ++ rest)) bang
+          ∙ told_is_same _ _ _ _ _ _ long (sym data_is) (ap (λ (n : ℕ). error IncorrectlyClosedComment n ∷ []) (ap (place end) past ∙ place-front end close rest c));
+      errors_are = errors_are;
     }
 told_of end rest text d es (unclosed r s b data_is errors_are) =
     let all : text ++ rest ≡ text = ap (λ (x : List Placed). text ++ x) r ∙ append-nil text in
@@ -153,11 +152,11 @@ told_of end rest text d es (unclosed r s b data_is errors_are) =
     record {
       last = error EofInComment end ∷ [];
       told_is = ap (told end) all
-        ∙ ap (λ (b : Bool). if b then told_at_once (spells (codes ">") text) end text else told_at end text (before closes_comment text) (drop (length (before closes_comment text)) text)) s
-        ∙ ap (λ (x : List Placed). told_at end text x (drop (length x) text)) (sym b)
-        ∙ ap (told_at end text text) left
-        ∙ told_is_same _ _ _ _ _ _ refl (sym data_is) refl;
-      errors_are = errors_are
+          ∙ ap (λ (b : Bool). if b then told_at_once (spells (codes ">") text) end text else told_at end text (before closes_comment text) (drop (length (before closes_comment text)) text)) s
+          ∙ ap (λ (x : List Placed). told_at end text x (drop (length x) text)) (sym b)
+          ∙ ap (told_at end text text) left
+          ∙ told_is_same _ _ _ _ _ _ refl (sym data_is) refl;
+      errors_are = errors_are;
     }
 
 pub one_comment : IsOneSpan IsComment
@@ -165,6 +164,9 @@ one_comment end rest rest' text text' d d' es es' h k e =
     let a : IsTold end rest text d es = told_of end rest text d es h in
     let b : IsTold end rest' text' d' es' = told_of end rest' text' d' es' k in
     let same = sym a.told_is ∙ ap (told end) e ∙ b.told_is in
-    let front : (text ≡ text') × (rest ≡ rest') = same_front text rest text' rest' e (ap (λ (t : Told). t.size) same) in
-    (front.0, front.1, ap (λ (t : Told). t.bytes) same,
-      a.errors_are ∙ ap (λ (x : List Placed). errors_after [] x ++ a.last) front.0 ∙ ap (λ (x : List ParseError). errors_after [] text' ++ x) (ap (λ (t : Told). t.last) same) ∙ sym b.errors_are)
+    let front : (text ≡ text') × (rest ≡ rest') = same_front text rest text' rest' e (ap (λ (t : Told). t.size) same) in (
+      front.0,
+      front.1,
+      ap (λ (t : Told). t.bytes) same,
+      a.errors_are ∙ ap (λ (x : List Placed). errors_after [] x ++ a.last) front.0 ∙ ap (λ (x : List ParseError). errors_after [] text' ++ x) (ap (λ (t : Told). t.last) same) ∙ sym b.errors_are,
+    )

@@ -1,5 +1,5 @@
 -- A comment that has not ended, and one more character or the end.
-use Rattle.std.proofs.Common.{◌≡◌, ℕ, ◌≤◌, Bool, true, false, ◌&&◌, ◌||◌, eqb, List, [], ◌∷◌, ◌++◌, map, length, sym, refl, ap, ◌∙◌, subst, append_assoc, append-nil, codes, arith, length-append}
+use Rattle.std.proofs.Common.{◌≡◌, ℕ, ◌≤◌, Bool, true, false, ◌&&◌, eqb, List, [], ◌∷◌, ◌++◌, map, length, sym, refl, ap, ◌∙◌, subst, append_assoc, append-nil, codes, arith, length-append}
 use Rattle.std.proofs.lemmas.Bool.{false≢true, eqb-true}
 use Rattle.std.proofs.lemmas.Str.{length-le-encodes}
 use Rattle.names.specs.declared.error.ParseError.{ParseError}
@@ -31,7 +31,7 @@ opening_bang LessBangDash at seen h = record { less = refl; less_bang = h.less; 
 opening_bang Whole at seen h = record { less = refl; less_bang = h.less; less_bang_dash = refl; whole = refl }
 
 opening_on_tests : (o : Opening) (seen : List Placed) (ch at : ℕ) → IsOpening o seen → (dash bang less : Bool) → eqb ch 45 ≡ dash → eqb ch 33 ≡ bang → eqb ch 60 ≡ less
-  → IsOpening (next_opening o ch) (record { ch = ch; at = at } ∷ seen)
+    → IsOpening (next_opening o ch) (record { ch = ch; at = at } ∷ seen)
 opening_on_tests o seen ch at h true bang less e f g = subst (λ (c : ℕ). IsOpening (next_opening o c) (record { ch = c; at = at } ∷ seen)) (sym (eqb-true ch 45 e)) (opening_dash o at seen h)
 opening_on_tests o seen ch at h false true less e f g = subst (λ (c : ℕ). IsOpening (next_opening o c) (record { ch = c; at = at } ∷ seen)) (sym (eqb-true ch 33 f)) (opening_bang o at seen h)
 opening_on_tests o seen ch at h false false true e f g = subst (λ (c : ℕ). IsOpening (next_opening o c) (record { ch = c; at = at } ∷ seen)) (sym (eqb-true ch 60 g)) (record { less = refl; less_bang = refl; less_bang_dash = refl; whole = refl })
@@ -120,7 +120,7 @@ module _ (w : Progress) (text : List Placed) (errs : List ParseError) (ch at : �
         no_ending = Avoids-append is_ending h.inner m.moved m.left (subst (λ (x : List Placed). Avoids is_ending h.inner x) m.split avoids_ending) m.no_ending;
         opening = subst (λ (x : List Placed). IsOpening (next_opening w.opening ch) x) (sym (backwards-snoc [] text p)) (opening-next w.opening (backwards [] text) ch at h.opening);
         data_is = ap (λ (d : List ℕ). d ++ decided w.ending ch) h.data_is ∙ ap (λ (d : List ℕ). text_bytes h.inner ++ d) (sym m.bytes_are) ∙ sym (text_bytes-append h.inner m.moved);
-        errors_are = errors_now_are
+        errors_are = errors_now_are;
       }
 
   -- what stands before the closing mark that ends here
@@ -136,16 +136,16 @@ module _ (w : Progress) (text : List Placed) (errs : List ParseError) (ch at : �
   pub closed_now : ch ≡ 62 → w.ending ≡ Dashes → (end : ℕ) (rest : List Placed) → IsComment end rest now w.data errors_now
   closed_now is e end rest =
       let k : (before closes_comment (h.held ++ p ∷ []) ≡ []) × (characters (h.held ++ p ∷ []) ≡ codes "-->")
-            = subst (λ (c : ℕ). (before closes_comment (h.held ++ record { ch = c; at = at } ∷ []) ≡ []) × (characters (h.held ++ record { ch = c; at = at } ∷ []) ≡ codes "-->")) (sym is) (dashes_close w.ending h.held at h.is_held e) in
+      = subst (λ (c : ℕ). (before closes_comment (h.held ++ record { ch = c; at = at } ∷ []) ≡ []) × (characters (h.held ++ record { ch = c; at = at } ∷ []) ≡ codes "-->")) (sym is) (dashes_close w.ending h.held at h.is_held e) in
       closed h.inner (h.held ++ p ∷ []) now_is (starts_not (ap closes e)) (before_now k.0) k.1 h.data_is errors_now_are
 
   -- it is closed by `--!>`
   pub bang_closed_now : ch ≡ 62 → w.ending ≡ Bang → (end : ℕ) (rest : List Placed) → IsComment end rest now w.data (errs ++ (errors_here nested p ++ error IncorrectlyClosedComment at ∷ []))
   bang_closed_now is e end rest =
       let k : (before closes_comment (h.held ++ p ∷ []) ≡ []) × (characters h.held ≡ codes "--!")
-            = subst (λ (c : ℕ). (before closes_comment (h.held ++ record { ch = c; at = at } ∷ []) ≡ []) × (characters h.held ≡ codes "--!")) (sym is) (bang_closes w.ending h.held at h.is_held e) in
+      = subst (λ (c : ℕ). (before closes_comment (h.held ++ record { ch = c; at = at } ∷ []) ≡ []) × (characters h.held ≡ codes "--!")) (sym is) (bang_closes w.ending h.held at h.is_held e) in
       closed_with_bang h.inner h.held (p ∷ []) (ap (λ (x : List Placed). x ++ p ∷ []) h.text_is) (starts_not (ap closes e)) (before_now k.0) k.1 (ap (λ (c : ℕ). c ∷ []) is) h.data_is
-        (sym (append_assoc errs (errors_here nested p) (error IncorrectlyClosedComment at ∷ [])) ∙ ap (λ (es : List ParseError). es ++ error IncorrectlyClosedComment at ∷ []) errors_now_are)
+      (sym (append_assoc errs (errors_here nested p) (error IncorrectlyClosedComment at ∷ [])) ∙ ap (λ (es : List ParseError). es ++ error IncorrectlyClosedComment at ∷ []) errors_now_are)
 
   -- it is closed at its start
   pub empty_now : ch ≡ 62 → closes w.ending ≡ false → length w.data ≡ 0 → (end : ℕ) (rest : List Placed) → IsComment end rest now w.data (errs ++ (errors_here nested p ++ error AbruptClosingOfEmptyComment at ∷ []))
@@ -154,15 +154,15 @@ module _ (w : Progress) (text : List Placed) (errs : List ParseError) (ch at : �
       let text_is : text ≡ h.held = h.text_is ∙ ap (λ (x : List Placed). x ++ h.held) nothing in
       let now_held : now ≡ h.held ++ p ∷ [] = ap (λ (x : List Placed). x ++ p ∷ []) text_is in
       closed_at_once h.held (p ∷ []) now_held (dash_held w.ending h.held h.is_held e) (ap (λ (c : ℕ). c ∷ []) is) (h.data_is ∙ ap text_bytes nothing)
-        (sym (append_assoc errs (errors_here nested p) (error AbruptClosingOfEmptyComment at ∷ [])) ∙ ap (λ (es : List ParseError). es ++ error AbruptClosingOfEmptyComment at ∷ []) errors_now_are)
+      (sym (append_assoc errs (errors_here nested p) (error AbruptClosingOfEmptyComment at ∷ [])) ∙ ap (λ (es : List ParseError). es ++ error AbruptClosingOfEmptyComment at ∷ []) errors_now_are)
 
   -- it goes on at a `>` after data
   pub kept_past : closes w.ending ≡ false → (length w.data ≡ 0 → ⊥) → IsInComment (next w ch) now errors_now
   kept_past e some =
       kept
-        (ap (λ (x : List Placed). closes_at_once (x ++ p ∷ [])) h.text_is
-          ∙ once-past h.inner h.held p (λ z. some (ap length h.data_is ∙ none_of h.inner z)) h.no_ending (sym (ap closes_at_once h.text_is) ∙ h.not_at_once))
-        (λ k. absurd (false≢true (sym e ∙ k)))
+      (ap (λ (x : List Placed). closes_at_once (x ++ p ∷ [])) h.text_is
+      ∙ once-past h.inner h.held p (λ z. some (ap length h.data_is ∙ none_of h.inner z)) h.no_ending (sym (ap closes_at_once h.text_is) ∙ h.not_at_once))
+      (λ k. absurd (false≢true (sym e ∙ k)))
 
   pub kept_other : eqb ch 62 ≡ false → IsInComment (next w ch) now errors_now
   kept_other e = kept (once-other text p e h.not_at_once) (λ _. e)
@@ -177,6 +177,6 @@ pub unclosed_at : (w : Progress) (text : List Placed) (errs : List ParseError) �
 unclosed_at w text errs h end =
     let k = held_at_end w.ending h.held h.is_held in
     unclosed refl h.not_at_once
-      (before-text w text errs h)
-      (h.data_is ∙ ap text_bytes (sym (ap (before is_ending) h.text_is ∙ before-avoids is_ending h.inner h.held h.no_ending ∙ ap (λ (x : List Placed). h.inner ++ x) k.1 ∙ append-nil h.inner)))
-      (ap (λ (es : List ParseError). es ++ error EofInComment end ∷ []) h.errors_are)
+    (before-text w text errs h)
+    (h.data_is ∙ ap text_bytes (sym (ap (before is_ending) h.text_is ∙ before-avoids is_ending h.inner h.held h.no_ending ∙ ap (λ (x : List Placed). h.inner ++ x) k.1 ∙ append-nil h.inner)))
+    (ap (λ (es : List ParseError). es ++ error EofInComment end ∷ []) h.errors_are)

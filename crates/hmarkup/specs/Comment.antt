@@ -34,16 +34,16 @@ errors_after seen (p ∷ ps) = errors_here (ends_with_opening seen) p ++ errors_
 pub data IsComment (end : ℕ) (rest text : List Placed) («data» : List ℕ) (errors : List ParseError) : Type 0 where
   -- `>` or `->` right at the start
   closed_at_once : (dash close : List Placed) → text ≡ dash ++ close → is_front dash (codes "-") ≡ true → characters close ≡ codes ">"
-    → «data» ≡ [] → errors ≡ errors_after [] text ++ error AbruptClosingOfEmptyComment (place end close) ∷ [] → IsComment end rest text «data» errors
+      → «data» ≡ [] → errors ≡ errors_after [] text ++ error AbruptClosingOfEmptyComment (place end close) ∷ [] → IsComment end rest text «data» errors
   -- up to the earliest closing mark
   closed : (inner close : List Placed) → text ≡ inner ++ close → closes_at_once text ≡ false → inner ≡ before closes_comment text → characters close ≡ codes "-->"
-    → «data» ≡ text_bytes inner → errors ≡ errors_after [] text → IsComment end rest text «data» errors
+      → «data» ≡ text_bytes inner → errors ≡ errors_after [] text → IsComment end rest text «data» errors
   closed_with_bang : (inner dashes close : List Placed) → text ≡ inner ++ dashes ++ close → closes_at_once text ≡ false → inner ≡ before closes_comment text
-    → characters dashes ≡ codes "--!" → characters close ≡ codes ">"
-    → «data» ≡ text_bytes inner → errors ≡ errors_after [] text ++ error IncorrectlyClosedComment (place end close) ∷ [] → IsComment end rest text «data» errors
+      → characters dashes ≡ codes "--!" → characters close ≡ codes ">"
+      → «data» ≡ text_bytes inner → errors ≡ errors_after [] text ++ error IncorrectlyClosedComment (place end close) ∷ [] → IsComment end rest text «data» errors
   -- no closing mark up to the end: without the longest of the endings `--!`, `--`, `-` that it has
   unclosed : rest ≡ [] → closes_at_once text ≡ false → text ≡ before closes_comment text
-    → «data» ≡ text_bytes (before is_ending text) → errors ≡ errors_after [] text ++ error EofInComment end ∷ [] → IsComment end rest text «data» errors
+      → «data» ≡ text_bytes (before is_ending text) → errors ≡ errors_after [] text ++ error EofInComment end ∷ [] → IsComment end rest text «data» errors
 
 -- the mark that closes a bogus comment
 abbrev pub closes_bogus : List Placed → Bool
@@ -52,5 +52,5 @@ closes_bogus text = spells (codes ">") text
 -- The text is what is read as a comment up to the first `>`, or to the end.
 pub data IsBogus (rest text : List Placed) («data» : List ℕ) (errors : List ParseError) : Type 0 where
   closed_bogus : (inner close : List Placed) → text ≡ inner ++ close → inner ≡ before closes_bogus text → characters close ≡ codes ">"
-    → «data» ≡ text_bytes inner → errors ≡ null_errors inner → IsBogus rest text «data» errors
+      → «data» ≡ text_bytes inner → errors ≡ null_errors inner → IsBogus rest text «data» errors
   unclosed_bogus : rest ≡ [] → text ≡ before closes_bogus text → «data» ≡ text_bytes text → errors ≡ null_errors text → IsBogus rest text «data» errors

@@ -1,7 +1,6 @@
 -- Worked rows: what stands after `<!--`.
-use Rattle.std.specs.Prelude.{◌≡◌, ℕ, List, [], ◌∷◌, ◌++◌, refl, codes}
+use Rattle.std.specs.Prelude.{[], ◌∷◌, refl, codes}
 use lib.Utf8.{encode}
-use Rattle.names.specs.declared.placed.Placed.{Placed}
 use Rattle.names.specs.Placed.{placed, error}
 use Rattle.names.specs.declared.error.ErrorCode.TheVariants.{AbruptClosingOfEmptyComment, EofInComment, IncorrectlyClosedComment, NestedComment, UnexpectedNullCharacter}
 use Rattle.hmarkup.specs.Comment.{IsComment, closed_at_once, closed, closed_with_bang, unclosed, IsBogus, closed_bogus}

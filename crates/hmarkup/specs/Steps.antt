@@ -1,5 +1,5 @@
 -- What the walk's own functions do at a character that closes nothing: their contracts, and no public clause's.
-use Rattle.std.specs.Prelude.{◌≡◌, ℕ, ◌==◌, if◌then◌else◌, List, [], ◌∷◌, ◌++◌, codes}
+use Rattle.std.specs.Prelude.{ℕ, ◌==◌, if◌then◌else◌, List, [], ◌++◌, codes}
 use Rattle.std.specs.Char.{encode_utf8}
 use Rattle.names.specs.Placed.{without_null}
 use Rattle.hmarkup.specs.declared.tail.Ending.{Ending}

@@ -4,7 +4,7 @@ ghost use Rattle.std.specs.Prelude.{◌≡◌, ◌++◌, ℕ, List, [], OnOk, st
 ghost use Rattle.std.specs.Char.{encode_utf8};
 ghost use Rattle.names.specs.declared.error.ParseError.{ParseError as Error};
 ghost use Rattle.names.specs.declared.placed.Placed.{Placed};
-ghost use Rattle.names.specs.Placed.{without_null};
+ghost use Rattle.names.specs.Placed.{error, without_null};
 ghost use Rattle.names.specs.Sink.{Hands};
 ghost use Rattle.hmarkup.specs.declared.comment.CommentKind.{CommentKind as Kind};
 ghost use Rattle.hmarkup.specs.declared.comment.CommentKind.TheVariants.{Comment, Bogus};
@@ -13,8 +13,8 @@ ghost use Rattle.hmarkup.specs.Walk.{BeginsSpans, IsOpen, IsOneSpan, Takes, Ends
 ghost use Rattle.hmarkup.specs.CommentWalk.{Progress, HasReadOf, IsInComment, IsInBogus, IsSpan};
 ghost use Rattle.hmarkup.specs.Steps.{next};
 
-use crate::tail::{Ending, Opening};
 use crate::sink::ErrorSink;
+use crate::tail::{Ending, Opening};
 use names::{ErrorCode, ParseError, Refusal};
 use std::alloc::{AllocError, Global};
 use std::marker::Model;
@@ -47,15 +47,22 @@ impl Model for CommentWalk {
     ghost view = { λ w. record { kind = w.kind; ending = w.ending; opening = w.opening; «data» = string_bytes w.text } };
 }
 
-/// Reports the errors of a character.
+/// Hands over an error.
+fn tell<S: ErrorSink>(code: ErrorCode, at: u64, errors: &mut S) -> Result<(), Refusal>
+    ensures { S.gives errors.old (error code at) result errors.new }
+{
+    errors.take_error(ParseError { code, at })
+}
+
+/// Hands over the errors of a character.
 fn report<S: ErrorSink>(nested: bool, ch: char, at: u64, errors: &mut S) -> Result<(), Refusal>
     ensures { Hands S.gives errors.old (errors_here nested (record { ch = ch; at = at })) result errors.new }
 {
     if nested && ch != '>' {
-        errors.take_error(ParseError { code: ErrorCode::NestedComment, at })?;
+        tell(ErrorCode::NestedComment, at, errors)?;
     }
     if ch == '\0' {
-        return errors.take_error(ParseError { code: ErrorCode::UnexpectedNullCharacter, at });
+        return tell(ErrorCode::UnexpectedNullCharacter, at, errors);
     }
     Ok(())
 }
@@ -96,7 +103,12 @@ impl CommentWalk {
     }
 
     /// Takes the next character, and tells whether the comment has ended with it.
-    pub fn take_char<S: ErrorSink>(&mut self, ch: char, at: u64, errors: &mut S) -> Result<bool, Refusal>
+    pub fn take_char<S: ErrorSink>(
+        &mut self,
+        ch: char,
+        at: u64,
+        errors: &mut S,
+    ) -> Result<bool, Refusal>
         ensures { (kind : Kind) (text : List Placed) (raised : List Error) → HasReadOf kind self.old text raised
             → Takes S.gives (HasReadOf kind) (IsSpan kind) text raised (record { ch = ch; at = at }) errors.old result self.new self.new.data errors.new }
     {
@@ -106,19 +118,31 @@ impl CommentWalk {
         }
     }
 
-    fn take_in_bogus<S: ErrorSink>(&mut self, ch: char, at: u64, errors: &mut S) -> Result<bool, Refusal>
+    fn take_in_bogus<S: ErrorSink>(
+        &mut self,
+        ch: char,
+        at: u64,
+        errors: &mut S,
+    ) -> Result<bool, Refusal>
         ensures { (text : List Placed) (raised : List Error) → IsInBogus self.old text raised
             → Takes S.gives IsInBogus (IsSpan Bogus) text raised (record { ch = ch; at = at }) errors.old result self.new self.new.data errors.new }
     {
-        if ch == '>' {
-            return Ok(true);
+        match ch {
+            '>' => Ok(true),
+            _ => {
+                report(false, ch, at, errors)?;
+                push(&mut self.text, ch)?;
+                Ok(false)
+            }
         }
-        report(false, ch, at, errors)?;
-        push(&mut self.text, ch)?;
-        Ok(false)
     }
 
-    fn take_in_comment<S: ErrorSink>(&mut self, ch: char, at: u64, errors: &mut S) -> Result<bool, Refusal>
+    fn take_in_comment<S: ErrorSink>(
+        &mut self,
+        ch: char,
+        at: u64,
+        errors: &mut S,
+    ) -> Result<bool, Refusal>
         ensures { (text : List Placed) (raised : List Error) → IsInComment self.old text raised
             → Takes S.gives IsInComment (IsSpan Comment) text raised (record { ch = ch; at = at }) errors.old result self.new self.new.data errors.new }
     {
@@ -127,12 +151,12 @@ impl CommentWalk {
             match self.ending {
                 Ending::Dashes => return Ok(true),
                 Ending::Bang => {
-                    errors.take_error(ParseError { code: ErrorCode::IncorrectlyClosedComment, at })?;
+                    tell(ErrorCode::IncorrectlyClosedComment, at, errors)?;
                     return Ok(true);
                 }
                 Ending::Plain | Ending::Dash => {
                     if self.text.is_empty() {
-                        errors.take_error(ParseError { code: ErrorCode::AbruptClosingOfEmptyComment, at })?;
+                        tell(ErrorCode::AbruptClosingOfEmptyComment, at, errors)?;
                         return Ok(true);
                     }
                 }
@@ -164,7 +188,7 @@ impl CommentWalk {
             → Ends S.gives (IsSpan kind) text raised end self.now.data errors.old result errors.new }
     {
         match self.kind {
-            CommentKind::Comment => errors.take_error(ParseError { code: ErrorCode::EofInComment, at: end }),
+            CommentKind::Comment => tell(ErrorCode::EofInComment, end, errors),
             CommentKind::Bogus => Ok(()),
         }
     }
@@ -182,11 +206,12 @@ impl CommentWalk {
 pub fn goes_on_in_a_span()
     ensures begins { (kind : Kind) (walk : Progress) (text : List Placed) (errors : List Error) → HasReadOf kind walk text errors → BeginsSpans (IsSpan kind) text errors }
     ensures is_open { (kind : Kind) (walk : Progress) (text : List Placed) (errors : List Error) → HasReadOf kind walk text errors → IsOpen (IsSpan kind) text }
-{
-}
+{}
 
 /// One comment at most stands at the front of a text.
 pub fn one_span()
     ensures { (kind : Kind) → IsOneSpan (IsSpan kind) }
-{
-}
+{}
+
+#[cfg(test)]
+mod tests;

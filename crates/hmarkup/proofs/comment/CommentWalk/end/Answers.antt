@@ -1,10 +1,7 @@
 use Rattle.std.proofs.Common.{◌≡◌, ap, sym, ◌∙◌, Ok}
-use Rattle.names.specs.declared.error.ParseError.{ParseError}
-use Rattle.names.specs.declared.placed.Placed.{Placed}
-use Rattle.hmarkup.specs.declared.comment.CommentKind.{CommentKind}
 use Rattle.hmarkup.specs.declared.comment.CommentKind.TheVariants.{Comment, Bogus}
-use Rattle.hmarkup.specs.CommentWalk.{Progress, HasReadOf, IsSpan}
-use Rattle.hmarkup.specs.Walk.{Takes, Ends}
+use Rattle.hmarkup.specs.CommentWalk.{Progress, IsSpan}
+use Rattle.hmarkup.specs.Walk.{Ends}
 use Rattle.hmarkup.proofs.OneKind.{comment_only, bogus_only}
 use Rattle.hmarkup.proofs.Ending.{end_in_comment, end_in_bogus}
 use Rattle.hmarkup.proofs.comment.CommentWalk.end.Goals as goal
@@ -13,12 +10,12 @@ pub returns-in-Comment : goal.returns-in-Comment
 returns-in-Comment g c =
     let kind_is : c.args.self.now.kind ≡ Comment = sym (ap (λ (w : Progress). w.kind) c.self.view_is) ∙ c.in-Comment.is in
     λ kind text raised h. comment_only kind c.args.self.now text raised kind_is h
-      (λ k. Ends g.S.ErrorSink.gives (IsSpan k) text raised c.args.end c.args.self.now.data c.args.errors.now c.take_error.result c.take_error.new.self)
-      (λ h. end_in_comment g.S.ErrorSink.gives c.args.self.now text raised c.args.end h _ _ _ c.take_error.ensures)
+    (λ k. Ends g.S.ErrorSink.gives (IsSpan k) text raised c.args.end c.args.self.now.data c.args.errors.now c.tell.result c.tell.new.errors)
+    (λ h. end_in_comment g.S.ErrorSink.gives c.args.self.now text raised c.args.end h _ _ _ c.tell.ensures)
 
 pub returns-in-Bogus : goal.returns-in-Bogus
 returns-in-Bogus g c =
     let kind_is : c.args.self.now.kind ≡ Bogus = sym (ap (λ (w : Progress). w.kind) c.self.view_is) ∙ c.in-Bogus.is in
     λ kind text raised h. bogus_only kind c.args.self.now text raised kind_is h
-      (λ k. Ends g.S.ErrorSink.gives (IsSpan k) text raised c.args.end c.args.self.now.data c.args.errors.now (Ok tt) c.args.errors.now)
-      (λ h. end_in_bogus g.S.ErrorSink.gives c.args.self.now text raised c.args.end h _)
+    (λ k. Ends g.S.ErrorSink.gives (IsSpan k) text raised c.args.end c.args.self.now.data c.args.errors.now (Ok tt) c.args.errors.now)
+    (λ h. end_in_bogus g.S.ErrorSink.gives c.args.self.now text raised c.args.end h _)
