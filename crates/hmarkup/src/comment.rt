@@ -118,6 +118,7 @@ impl CommentWalk {
         }
     }
 
+    /// Takes a character of a bogus comment.
     fn take_in_bogus<S: ErrorSink>(
         &mut self,
         ch: char,
@@ -137,6 +138,7 @@ impl CommentWalk {
         }
     }
 
+    /// Takes a character of a comment.
     fn take_in_comment<S: ErrorSink>(
         &mut self,
         ch: char,
