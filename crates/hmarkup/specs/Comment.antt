@@ -17,7 +17,7 @@ closes_at_once text = spells (codes ">") text || spells (codes "->") text
 abbrev pub is_ending : List Placed → Bool
 is_ending text = is_front text (codes "--!")
 
--- the errors of a character, which may follow an inner `<!--`
+-- the errors of a character: after an inner `<!--` (13.2.5.49), and of NUL (13.2.5.45)
 abbrev pub errors_here : Bool → Placed → List ParseError
 errors_here nested p = error_if (nested && not (is_greater p.ch)) NestedComment p.at ++ null_errors (p ∷ [])
 
@@ -32,10 +32,10 @@ errors_after seen (p ∷ ps) = errors_here (ends_with_opening seen) p ++ errors_
 
 -- The text after `<!--` is a comment, where `rest` follows it and the input ends at `end`.
 pub data IsComment (end : ℕ) (rest text : List Placed) («data» : List ℕ) (errors : List ParseError) : Type 0 where
-  -- `>` or `->` right at the start
+  -- `>` or `->` right at the start (13.2.5.43, 13.2.5.44)
   closed_at_once : (dash close : List Placed) → text ≡ dash ++ close → is_front dash (codes "-") ≡ true → characters close ≡ codes ">"
       → «data» ≡ [] → errors ≡ errors_after [] text ++ error AbruptClosingOfEmptyComment (place end close) ∷ [] → IsComment end rest text «data» errors
-  -- up to the earliest closing mark
+  -- up to the earliest closing mark (13.2.5.51, 13.2.5.52)
   closed : (inner close : List Placed) → text ≡ inner ++ close → closes_at_once text ≡ false → inner ≡ before closes_comment text → characters close ≡ codes "-->"
       → «data» ≡ text_bytes inner → errors ≡ errors_after [] text → IsComment end rest text «data» errors
   closed_with_bang : (inner dashes close : List Placed) → text ≡ inner ++ dashes ++ close → closes_at_once text ≡ false → inner ≡ before closes_comment text
@@ -49,7 +49,7 @@ pub data IsComment (end : ℕ) (rest text : List Placed) («data» : List ℕ) (
 abbrev pub closes_bogus : List Placed → Bool
 closes_bogus text = spells (codes ">") text
 
--- The text is what is read as a comment up to the first `>`, or to the end.
+-- The text is what is read as a comment up to the first `>`, or to the end (13.2.5.41).
 pub data IsBogus (rest text : List Placed) («data» : List ℕ) (errors : List ParseError) : Type 0 where
   closed_bogus : (inner close : List Placed) → text ≡ inner ++ close → inner ≡ before closes_bogus text → characters close ≡ codes ">"
       → «data» ≡ text_bytes inner → errors ≡ null_errors inner → IsBogus rest text «data» errors

@@ -102,7 +102,8 @@ impl CommentWalk {
         }
     }
 
-    /// Takes the next character, and tells whether the comment has ended with it.
+    /// Takes the next character, which stands at byte `at`, and tells whether the comment has ended with it. An `Err` is
+    /// `Memory` or the sink's own.
     pub fn take_char<S: ErrorSink>(
         &mut self,
         ch: char,
@@ -184,7 +185,7 @@ impl CommentWalk {
         Ok(())
     }
 
-    /// Says that the input ends, at `end`.
+    /// Says that the input ends, and is `end` bytes long. An `Err` is the sink's own.
     pub fn end<S: ErrorSink>(&self, end: u64, errors: &mut S) -> Result<(), Refusal>
         ensures { (kind : Kind) (text : List Placed) (raised : List Error) → HasReadOf kind self.now text raised
             → Ends S.gives (IsSpan kind) text raised end self.now.data errors.old result errors.new }

@@ -10,157 +10,37 @@ use std::process::Abort;
 use std::test::Fail;
 
 /// A text after the opening mark, its data, the byte after it, and its errors.
-struct Row {
-    text: &'static str,
-    data: &'static str,
-    end: u64,
-    errors: &'static [(ErrorCode, u64)],
-}
+type Row = (&'static str, &'static str, u64, &'static [(ErrorCode, u64)]);
 
 /// What follows `<!--`, from byte 4 on.
 const COMMENTS: [Row; 19] = [
-    Row {
-        text: ">",
-        data: "",
-        end: 5,
-        errors: &[(Abrupt, 4)],
-    },
-    Row {
-        text: "->",
-        data: "",
-        end: 6,
-        errors: &[(Abrupt, 5)],
-    },
-    Row {
-        text: "-->",
-        data: "",
-        end: 7,
-        errors: &[],
-    },
-    Row {
-        text: "--!>",
-        data: "",
-        end: 8,
-        errors: &[(Incorrect, 7)],
-    },
-    Row {
-        text: "",
-        data: "",
-        end: 4,
-        errors: &[(Eof, 4)],
-    },
-    Row {
-        text: "a-->b",
-        data: "a",
-        end: 8,
-        errors: &[],
-    },
-    Row {
-        text: "a--!>b",
-        data: "a",
-        end: 9,
-        errors: &[(Incorrect, 8)],
-    },
-    Row {
-        text: "a--->",
-        data: "a-",
-        end: 9,
-        errors: &[],
-    },
-    Row {
-        text: "a->b-->",
-        data: "a->b",
-        end: 11,
-        errors: &[],
-    },
-    Row {
-        text: "a--!-->",
-        data: "a--!",
-        end: 11,
-        errors: &[],
-    },
-    Row {
-        text: "a--",
-        data: "a",
-        end: 7,
-        errors: &[(Eof, 7)],
-    },
-    Row {
-        text: "a--!",
-        data: "a",
-        end: 8,
-        errors: &[(Eof, 8)],
-    },
-    Row {
-        text: "a---",
-        data: "a-",
-        end: 8,
-        errors: &[(Eof, 8)],
-    },
-    Row {
-        text: "<!--a-->",
-        data: "<!--a",
-        end: 12,
-        errors: &[(Nested, 8)],
-    },
-    Row {
-        text: "a<!-->",
-        data: "a<!",
-        end: 10,
-        errors: &[],
-    },
-    Row {
-        text: "<!--!>",
-        data: "<!",
-        end: 10,
-        errors: &[(Nested, 8), (Incorrect, 9)],
-    },
-    Row {
-        text: "<!--\0-->",
-        data: "<!--\u{FFFD}",
-        end: 12,
-        errors: &[(Nested, 8), (Null, 8)],
-    },
-    Row {
-        text: "\0-->",
-        data: "\u{FFFD}",
-        end: 8,
-        errors: &[(Null, 4)],
-    },
-    Row {
-        text: "é-->",
-        data: "é",
-        end: 9,
-        errors: &[],
-    },
+    (">", "", 5, &[(Abrupt, 4)]),
+    ("->", "", 6, &[(Abrupt, 5)]),
+    ("-->", "", 7, &[]),
+    ("--!>", "", 8, &[(Incorrect, 7)]),
+    ("", "", 4, &[(Eof, 4)]),
+    ("a-->b", "a", 8, &[]),
+    ("a--!>b", "a", 9, &[(Incorrect, 8)]),
+    ("a--->", "a-", 9, &[]),
+    ("a->b-->", "a->b", 11, &[]),
+    ("a--!-->", "a--!", 11, &[]),
+    ("a--", "a", 7, &[(Eof, 7)]),
+    ("a--!", "a", 8, &[(Eof, 8)]),
+    ("a---", "a-", 8, &[(Eof, 8)]),
+    ("<!--a-->", "<!--a", 12, &[(Nested, 8)]),
+    ("a<!-->", "a<!", 10, &[]),
+    ("<!--!>", "<!", 10, &[(Nested, 8), (Incorrect, 9)]),
+    ("<!--\0-->", "<!--\u{FFFD}", 12, &[(Nested, 8), (Null, 8)]),
+    ("\0-->", "\u{FFFD}", 8, &[(Null, 4)]),
+    ("é-->", "é", 9, &[]),
 ];
 
 /// What follows the `<` of a bogus comment, from byte 1 on.
 const BOGUS: [Row; 4] = [
-    Row {
-        text: "?a>b",
-        data: "?a",
-        end: 4,
-        errors: &[],
-    },
-    Row {
-        text: "?a--",
-        data: "?a--",
-        end: 5,
-        errors: &[],
-    },
-    Row {
-        text: "?\0>",
-        data: "?\u{FFFD}",
-        end: 4,
-        errors: &[(Null, 2)],
-    },
-    Row {
-        text: ">",
-        data: "",
-        end: 2,
-        errors: &[],
-    },
+    ("?a>b", "?a", 4, &[]),
+    ("?a--", "?a--", 5, &[]),
+    ("?\0>", "?\u{FFFD}", 4, &[(Null, 2)]),
+    (">", "", 2, &[]),
 ];
 
 /// Keeps errors, as many as it has room for.
@@ -208,7 +88,7 @@ fn reads_rows(
     rows: &[Row],
     at: u64,
 ) -> Result<(), Fail> {
-    for row in rows {
+    for &(text, data, end, told) in rows {
         let mut errors = Errors {
             room: 9,
             kept: Vec::new(alloc),
@@ -217,10 +97,10 @@ fn reads_rows(
             CommentKind::Comment => CommentWalk::comment(alloc),
             CommentKind::Bogus => CommentWalk::bogus(alloc),
         };
-        let (data, end) = read(walk, row.text, at, &mut errors)?;
-        assert_eq!(rt; data.as_str(), row.data, "of {}", row.text);
-        assert_eq!(rt; end, row.end, "after {}", row.text);
-        assert_eq!(rt; errors.kept.as_slice(), row.errors, "of {}", row.text);
+        let (found, after) = read(walk, text, at, &mut errors)?;
+        assert_eq!(rt; found.as_str(), data, "of {text}");
+        assert_eq!(rt; after, end, "after {text}");
+        assert_eq!(rt; errors.kept.as_slice(), told, "of {text}");
     }
     Ok(())
 }
