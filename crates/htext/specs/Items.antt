@@ -1,0 +1,47 @@
+-- What a sink is handed: the characters of a text, and the errors of the input stream (HTML Standard, 13.2.3.5).
+use Rattle.std.specs.Prelude.{ℕ, ◌%◌, Bool, not, ◌&&◌, ◌||◌, ◌==◌, nat_le, List, [], ◌∷◌, ◌++◌, map}
+use Rattle.std.specs.List.{flat_map}
+use Rattle.std.specs.Char.{is_control}
+use Rattle.names.specs.Placed.{is_space, error_if}
+use Rattle.names.specs.declared.placed.Placed.{Placed}
+use Rattle.names.specs.declared.error.ParseError.{ParseError}
+use Rattle.names.specs.declared.error.ErrorCode.TheVariants.{ControlCharacterInInputStream, NoncharacterInInputStream}
+
+-- a control that is neither white space nor NUL
+abbrev pub is_stray_control : ℕ → Bool
+is_stray_control c = is_control c && not (c == 0 || is_space c)
+
+-- U+FDD0 to U+FDEF, and each code point that ends in FFFE or FFFF
+abbrev pub is_noncharacter : ℕ → Bool
+is_noncharacter c = (nat_le 0xFDD0 c && nat_le c 0xFDEF) || nat_le 0xFFFE (c % 0x10000)
+
+-- the errors of the input stream that a character of a text, and a text, raises
+abbrev pub errors_of : Placed → List ParseError
+errors_of p = error_if (is_stray_control p.ch) ControlCharacterInInputStream p.at
+    ++ error_if (is_noncharacter p.ch) NoncharacterInInputStream p.at
+
+abbrev pub input_errors : List Placed → List ParseError
+input_errors text = flat_map errors_of text
+
+-- what a sink is handed: a character, or an error of the input stream
+pub data CharItem : Type 0 where
+  Character : Placed → CharItem
+  InputError : ParseError → CharItem
+
+-- a character right after its errors, and so each character of a text
+abbrev pub items_of : Placed → List CharItem
+items_of p = map InputError (errors_of p) ++ Character p ∷ []
+
+abbrev pub items : List Placed → List CharItem
+items text = flat_map items_of text
+
+-- the characters among what is handed over, and the errors
+abbrev pub characters_among : List CharItem → List Placed
+characters_among [] = []
+characters_among (Character p ∷ rest) = p ∷ characters_among rest
+characters_among (InputError e ∷ rest) = characters_among rest
+
+abbrev pub errors_among : List CharItem → List ParseError
+errors_among [] = []
+errors_among (Character p ∷ rest) = errors_among rest
+errors_among (InputError e ∷ rest) = e ∷ errors_among rest

@@ -1,0 +1,4 @@
+pub mod Text
+pub mod Items
+pub mod Decoding
+pub mod Rows

@@ -1,0 +1,90 @@
+//! How a character is handed over.
+
+ghost use Rattle.std.specs.Prelude.{◌≡◌, ◌↔◌, Bool, ℕ, [], ◌∷◌, IsTrue};
+ghost use Rattle.names.specs.Sink.{Hands};
+ghost use Rattle.htext.specs.declared.Bom.{Bom as Mark};
+ghost use Rattle.htext.specs.Text.{read_as};
+ghost use Rattle.htext.specs.Items.{Character, items, is_stray_control, is_noncharacter};
+
+use crate::Bom;
+use crate::sink::CharSink;
+use names::{ErrorCode, ParseError, Refusal};
+
+const BYTE_ORDER_MARK: char = '\u{FEFF}';
+
+/// Hands over what a character is in the text, after its errors.
+#[inline]
+pub(crate) fn hand_char<S: CharSink>(
+    bom: Bom,
+    after_return: bool,
+    ch: char,
+    at: u64,
+    sink: &mut S,
+) -> Result<(), Refusal>
+    ensures { Hands S.gives sink.old
+        (items (read_as bom after_return (record { ch = ch; at = at }))) result sink.new }
+{
+    if is_plain(ch) {
+        return sink.take_char(ch, at);
+    }
+    hand_special(bom, after_return, ch, at, sink)
+}
+
+// Whether a character is in the text as it came, wherever it stands, and raises no error.
+#[inline]
+fn is_plain(ch: char) -> bool
+    ensures { IsTrue result → (bom : Mark) (after_return : Bool) (at : ℕ)
+        → items (read_as bom after_return (record { ch = ch; at = at })) ≡ Character (record { ch = ch; at = at }) ∷ [] }
+{
+    matches!(ch, ' '..='~' | '\u{A0}'..='\u{FDCF}')
+}
+
+// The same as `hand_char`, for any character.
+#[inline(never)]
+fn hand_special<S: CharSink>(
+    bom: Bom,
+    after_return: bool,
+    ch: char,
+    at: u64,
+    sink: &mut S,
+) -> Result<(), Refusal>
+    ensures { Hands S.gives sink.old
+        (items (read_as bom after_return (record { ch = ch; at = at }))) result sink.new }
+{
+    let is_dropped_mark = bom == Bom::Drop && at == 0 && ch == BYTE_ORDER_MARK;
+    if is_dropped_mark || (after_return && ch == '\n') {
+        return Ok(());
+    }
+    hand_read(if ch == '\r' { '\n' } else { ch }, at, sink)
+}
+
+// Hands over a character of the text, after its errors.
+fn hand_read<S: CharSink>(ch: char, at: u64, sink: &mut S) -> Result<(), Refusal>
+    ensures { Hands S.gives sink.old (items_of (record { ch = ch; at = at })) result sink.new }
+{
+    if is_stray_control(ch) {
+        sink.take_error(ParseError {
+            code: ErrorCode::ControlCharacterInInputStream,
+            at,
+        })?;
+    }
+    if is_noncharacter(ch) {
+        sink.take_error(ParseError {
+            code: ErrorCode::NoncharacterInInputStream,
+            at,
+        })?;
+    }
+    sink.take_char(ch, at)
+}
+
+fn is_stray_control(ch: char) -> bool
+    ensures { result ≡ is_stray_control ch }
+{
+    ch.is_control() && !(ch == '\0' || ch.is_ascii_whitespace())
+}
+
+fn is_noncharacter(ch: char) -> bool
+    ensures { result ≡ is_noncharacter ch }
+{
+    matches!(ch, '\u{FDD0}'..='\u{FDEF}') || ch as u32 % PLANE >= LAST_TWO
+}

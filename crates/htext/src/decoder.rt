@@ -1,0 +1,167 @@
+//! Bytes in any pieces, read as UTF-8 up to a limit.
+
+ghost use Rattle.std.specs.Prelude.{◌≡◌, ◌≤◌, ℕ, List, [], ◌∷◌, ◌++◌, drop, Some, Ok, Err, OnOk, IfErr, vec_len};
+ghost use Rattle.names.specs.declared.refusal.Refusal.{Refusal as Refused};
+ghost use Rattle.htext.specs.Text.{refusal_of, decoded, valid_len};
+ghost use Rattle.htext.specs.Decoding.{HasFed, Feeds, answer_at_end};
+
+use crate::Bom;
+use crate::reading::{Reading, refusal_at};
+use crate::sink::CharSink;
+use names::Refusal;
+use std::alloc::Global;
+use std::marker::Model;
+
+/// The greatest input limit, in bytes.
+pub const MAX_INPUT: u64 = 1_073_741_824;
+
+/// Reads the bytes of an input, which come in pieces, and hands its text to a sink.
+#[derive(Drop)]
+pub struct Decoder {
+    reading: Reading,
+    /// What has been fed and not been read: the beginning of a character that a piece has cut.
+    undecoded: Vec<u8>,
+    refused: Option<Refusal>,
+}
+
+impl Model for Decoder {
+    ghost use Rattle.htext.specs.Decoding.{Progress};
+
+    ghost Value = { Progress };
+
+    ghost view = { λ d. record {
+        bom = d.reading.bom; limit = d.reading.limit; read = d.reading.read; after_return = d.reading.after_return;
+        undecoded = d.undecoded.items; refused = d.refused } };
+}
+
+impl Decoder {
+    /// A decoder that takes at most `limit` bytes.
+    pub fn new(alloc: Global, bom: Bom, limit: u64) -> Decoder
+        requires { limit ≤ MAX_INPUT }
+        ensures fed { HasFed result [] }
+        ensures nothing { decoded bom limit [] ≡ [] }
+        ensures bom { result.bom ≡ bom }
+        ensures limit { result.limit ≡ limit }
+    {
+        Decoder {
+            reading: Reading {
+                bom,
+                limit,
+                read: 0,
+                after_return: false,
+            },
+            undecoded: Vec::new(alloc),
+            refused: None,
+        }
+    }
+
+    /// Reads the next piece of the input, and hands its text to the sink. After an error each call answers that error.
+    pub fn feed<S: CharSink>(&mut self, bytes: &[u8], sink: &mut S) -> Result<(), Refusal>
+        ensures feeds { (fed : List ℕ) → HasFed self.old fed
+            → Feeds S.gives self.old.bom self.old.limit fed bytes.now sink.old result sink.new }
+        ensures fed { OnOk result ((fed : List ℕ) → HasFed self.old fed → HasFed self.new (fed ++ bytes.now)) }
+
+        // A refusal stays.
+        ensures refused { IfErr result (λ refusal. self.new.refused ≡ Some refusal) }
+        ensures again { (refusal : Refused) → self.old.refused ≡ Some refusal
+            → (result ≡ Err refusal) × (self.new ≡ self.old) × (sink.new ≡ sink.old) }
+        ensures bom { self.new.bom ≡ self.old.bom }
+        ensures limit { self.new.limit ≡ self.old.limit }
+    {
+        if let Some(refusal) = self.refused {
+            return Err(refusal);
+        }
+        let answer = self.read_on(bytes, sink);
+        if let Err(refusal) = answer {
+            self.refused = Some(refusal);
+        }
+        answer
+    }
+
+    // The same for a decoder that has refused nothing yet, which doesn't keep its refusal. A character that the last piece
+    // has cut is joined byte by byte; what follows is read in its place.
+    fn read_on<S: CharSink>(&mut self, bytes: &[u8], sink: &mut S) -> Result<(), Refusal>
+        ensures feeds { (fed : List ℕ) → HasFed self.old fed
+            → Feeds S.gives self.old.bom self.old.limit fed bytes.now sink.old result sink.new }
+        ensures fed { OnOk result ((fed : List ℕ) → HasFed self.old fed → HasFed self.new (fed ++ bytes.now)) }
+        ensures bom { self.new.bom ≡ self.old.bom }
+        ensures limit { self.new.limit ≡ self.old.limit }
+    {
+        for (index, byte) in bytes.iter().enumerate() {
+            if self.undecoded.is_empty() {
+                return self.read_piece(&bytes[index..], sink);
+            }
+            self.read_byte(*byte, sink)?;
+        }
+        Ok(())
+    }
+
+    // The same for one byte, after bytes that are not decoded.
+    fn read_byte<S: CharSink>(&mut self, byte: u8, sink: &mut S) -> Result<(), Refusal>
+        ensures feeds { (fed : List ℕ) → HasFed self.old fed
+            → Feeds S.gives self.old.bom self.old.limit fed (byte ∷ []) sink.old result sink.new }
+        ensures fed { OnOk result ((fed : List ℕ) → HasFed self.old fed → HasFed self.new (fed ++ byte ∷ [])) }
+        ensures bom { self.new.bom ≡ self.old.bom }
+        ensures limit { self.new.limit ≡ self.old.limit }
+    {
+        self.undecoded.push(byte)?;
+        let count = self.reading.read_on(&self.undecoded, sink)?;
+        remove_front(&mut self.undecoded, count);
+        Ok(())
+    }
+
+    // The same for a piece, where all bytes before it are decoded.
+    fn read_piece<S: CharSink>(&mut self, bytes: &[u8], sink: &mut S) -> Result<(), Refusal>
+        requires { self.old.undecoded ≡ [] }
+        ensures feeds { (fed : List ℕ) → HasFed self.old fed
+            → Feeds S.gives self.old.bom self.old.limit fed bytes.now sink.old result sink.new }
+        ensures fed { OnOk result ((fed : List ℕ) → HasFed self.old fed → HasFed self.new (fed ++ bytes.now)) }
+        ensures bom { self.new.bom ≡ self.old.bom }
+        ensures limit { self.new.limit ≡ self.old.limit }
+    {
+        let count = self.reading.read_on(bytes, sink)?;
+        self.undecoded.extend_from_slice(&bytes[count..])?;
+        Ok(())
+    }
+
+    /// How many bytes have been read: those of the valid front.
+    pub fn read(&self) -> u64
+        ensures { result ≡ self.now.read }
+    {
+        self.reading.read
+    }
+
+    /// Says that the input has ended. After an error each call answers that error.
+    pub fn finish<S: CharSink>(&mut self, sink: &mut S) -> Result<(), Refusal>
+        ensures answer { (fed : List ℕ) → HasFed self.old fed
+            → result ≡ answer_at_end (refusal_of self.old.limit fed) }
+        ensures sink { sink.new ≡ sink.old }
+        ensures unchanged { OnOk result (self.new ≡ self.old) }
+
+        // A refusal stays.
+        ensures refused { IfErr result (λ refusal. self.new.refused ≡ Some refusal) }
+        ensures again { (refusal : Refused) → self.old.refused ≡ Some refusal
+            → (result ≡ Err refusal) × (self.new ≡ self.old) }
+    {
+        let _ = sink;
+        if let Some(refusal) = self.refused {
+            return Err(refusal);
+        }
+        let rest = self.undecoded.as_slice();
+        if rest.is_empty() {
+            return Ok(());
+        }
+        let refusal = refusal_at(rest, self.reading.read);
+        self.refused = Some(refusal);
+        Err(refusal)
+    }
+}
+
+/// Takes the first bytes away.
+fn remove_front(bytes: &mut Vec<u8>, count: usize)
+    requires { count ≤ vec_len bytes.old }
+    ensures { bytes.new.items ≡ drop count bytes.old.items }
+{
+    bytes.rotate_left(count);
+    bytes.truncate(bytes.len() - count);
+}

@@ -1,0 +1,21 @@
+//! The text of an input: bytes in any pieces, read as UTF-8 up to a limit, with newlines normalized and with the errors of
+//! the input stream (HTML Standard, 13.2.3.5).
+#![tactic(auto)]
+
+mod character;
+pub mod decoder;
+pub mod laws;
+mod reading;
+pub mod sink;
+
+pub use decoder::{Decoder, MAX_INPUT};
+pub use sink::CharSink;
+
+/// What becomes of a byte order mark (EF BB BF) at the front of an input.
+#[derive(Clone, Copy, Debug, PartialEq, Eq)]
+pub enum Bom {
+    /// It isn't part of the text, as in a document.
+    Drop,
+    /// It is the character U+FEFF, as in a fragment.
+    Keep,
+}

@@ -1,0 +1,105 @@
+//! How far an input has been read.
+
+ghost use Rattle.std.specs.Prelude.{◌≡◌, ℕ, ◌+◌, ◌-◌, ◌≤◌, ◌++◌, List, length, take, drop, Ok, Err, MatchResult};
+ghost use Rattle.std.specs.Str.{chars};
+ghost use Rattle.std.specs.Str.Lossy.{utf8_valid_len};
+ghost use Rattle.names.specs.Placed.{placed};
+ghost use Rattle.names.specs.Sink.{Hands};
+ghost use Rattle.htext.specs.Text.{normalized, ends_in_return, refusal_with};
+ghost use Rattle.htext.specs.Items.{items};
+ghost use Rattle.htext.specs.Decoding.{HasRead, Feeds, HandsNew};
+
+use crate::Bom;
+use crate::character::hand_char;
+use crate::decoder::MAX_INPUT;
+use crate::sink::CharSink;
+use names::Refusal;
+use simdutf8::compat::from_utf8;
+
+/// No character has more bytes.
+const LONGEST_CHARACTER: usize = 4;
+
+/// How far an input has been read.
+#[derive(Drop)]
+pub(crate) struct Reading {
+    pub(crate) bom: Bom,
+    pub(crate) limit: u64,
+    /// How many bytes have been read.
+    pub(crate) read: u64,
+    /// Whether the last character was a CR.
+    pub(crate) after_return: bool,
+    ghost limited: { limit ≤ MAX_INPUT },
+    ghost within: { read ≤ limit },
+}
+
+impl Reading {
+    /// Reads the longest front of the bytes that is UTF-8 and fits, hands its text to the sink, and answers its length. Where
+    /// a whole character's bytes are left after it, no character begins there: the bytes are refused.
+    pub(crate) fn read_on<S: CharSink>(
+        &mut self,
+        bytes: &[u8],
+        sink: &mut S,
+    ) -> Result<usize, Refusal>
+        ensures { (fed piece : List ℕ) → HasRead self.old.limit self.old.read self.old.after_return fed
+            → bytes.now ≡ drop self.old.read fed ++ piece
+            → MatchResult result
+                (λ count. HandsNew S.gives self.old.bom self.old.limit fed (fed ++ piece) sink.old (Ok tt) sink.new
+                    × HasRead self.new.limit self.new.read self.new.after_return (fed ++ piece)
+                    × (drop count bytes.now ≡ drop self.new.read (fed ++ piece)))
+                (λ e. Feeds S.gives self.old.bom self.old.limit fed piece sink.old (Err e) sink.new) }
+        ensures few { IfOk result (λ count. (count ≤ length bytes.now) × (length bytes.now ≤ count + 3)) }
+        ensures bom { self.new.bom ≡ self.old.bom }
+        ensures limit { self.new.limit ≡ self.old.limit }
+    {
+        let room = ((self.limit - self.read) as usize).min(bytes.len());
+        let text = valid_text(&bytes[..room]);
+        self.hand_text(text, sink)?;
+        let rest = &bytes[text.len()..];
+        if rest.len() < LONGEST_CHARACTER {
+            return Ok(text.len());
+        }
+        Err(refusal_at(rest, self.read))
+    }
+
+    // Reads a text, and hands it to the sink.
+    fn hand_text<S: CharSink>(&mut self, text: &str, sink: &mut S) -> Result<(), Refusal>
+        requires { self.old.read + length text.now ≤ self.old.limit }
+        ensures handed { Hands S.gives sink.old
+            (items (normalized self.old.bom self.old.after_return (placed self.old.read (chars text.now)))) result sink.new }
+        ensures read { OnOk result (self.new.read ≡ self.old.read + length text.now) }
+        ensures end { OnOk result (self.new.after_return ≡ ends_in_return self.old.after_return (chars text.now)) }
+        ensures bom { self.new.bom ≡ self.old.bom }
+        ensures limit { self.new.limit ≡ self.old.limit }
+    {
+        let base = self.read;
+        let mut after_return = self.after_return;
+        for (index, ch) in text.char_indices() {
+            hand_char(self.bom, after_return, ch, base + index as u64, sink)?;
+            after_return = ch == '\r';
+        }
+        self.after_return = after_return;
+        self.read += text.len() as u64;
+        Ok(())
+    }
+}
+
+/// The longest front that is UTF-8.
+fn valid_text(bytes: &[u8]) -> &str
+    ensures { result.now ≡ take (utf8_valid_len bytes.now) bytes.now }
+{
+    match from_utf8(bytes) {
+        Ok(text) => text,
+        Err(error) => from_utf8(&bytes[..error.valid_up_to()]).unwrap(),
+    }
+}
+
+/// Why bytes that begin with no character that fits are refused.
+pub(crate) fn refusal_at(bytes: &[u8], at: u64) -> Refusal
+    ensures { result ≡ refusal_with (utf8_valid_len bytes.now) at }
+{
+    if valid_text(bytes).is_empty() {
+        Refusal::NotUtf8 { at }
+    } else {
+        Refusal::TooLarge { at }
+    }
+}
