@@ -3,14 +3,18 @@
 ghost use Rattle.std.specs.Prelude.{◌≡◌, ◌↔◌, Bool, ℕ, [], ◌∷◌, IsTrue};
 ghost use Rattle.names.specs.Sink.{Hands};
 ghost use Rattle.htext.specs.declared.Bom.{Bom as Mark};
-ghost use Rattle.htext.specs.Text.{read_as};
-ghost use Rattle.htext.specs.Items.{Character, items, is_stray_control, is_noncharacter};
+ghost use Rattle.htext.specs.Text.{is_dropped_mark, read_as};
+ghost use Rattle.htext.specs.Items.{Character, items, items_of, is_stray_control, is_noncharacter};
 
 use crate::Bom;
 use crate::sink::CharSink;
 use names::{ErrorCode, ParseError, Refusal};
 
 const BYTE_ORDER_MARK: char = '\u{FEFF}';
+
+/// How many code points a plane has; the last two of each are noncharacters.
+const PLANE: u32 = 0x1_0000;
+const FIRST_OF_LAST_TWO: u32 = 0xFFFE;
 
 /// Hands over what a character is in the text, after its errors.
 #[inline]
@@ -51,11 +55,22 @@ fn hand_special<S: CharSink>(
     ensures { Hands S.gives sink.old
         (items (read_as bom after_return (record { ch = ch; at = at }))) result sink.new }
 {
-    let is_dropped_mark = bom == Bom::Drop && at == 0 && ch == BYTE_ORDER_MARK;
-    if is_dropped_mark || (after_return && ch == '\n') {
+    if is_dropped_mark(bom, ch, at) || (after_return && ch == '\n') {
         return Ok(());
     }
-    hand_read(if ch == '\r' { '\n' } else { ch }, at, sink)
+    if ch == '\r' {
+        return hand_read('\n', at, sink);
+    }
+    hand_read(ch, at, sink)
+}
+
+fn is_dropped_mark(bom: Bom, ch: char, at: u64) -> bool
+    ensures { result ≡ is_dropped_mark bom (record { ch = ch; at = at }) }
+{
+    match bom {
+        Bom::Drop => at == 0 && ch == BYTE_ORDER_MARK,
+        Bom::Keep => false,
+    }
 }
 
 // Hands over a character of the text, after its errors.
@@ -86,5 +101,5 @@ fn is_stray_control(ch: char) -> bool
 fn is_noncharacter(ch: char) -> bool
     ensures { result ≡ is_noncharacter ch }
 {
-    matches!(ch, '\u{FDD0}'..='\u{FDEF}') || ch as u32 % PLANE >= LAST_TWO
+    matches!(ch, '\u{FDD0}'..='\u{FDEF}') || ch as u32 % PLANE >= FIRST_OF_LAST_TWO
 }

@@ -1,10 +1,11 @@
 //! How far an input has been read.
 
-ghost use Rattle.std.specs.Prelude.{◌≡◌, ℕ, ◌+◌, ◌-◌, ◌≤◌, ◌++◌, List, length, take, drop, Ok, Err, MatchResult};
+ghost use Rattle.std.specs.Prelude.{◌≡◌, ℕ, ◌+◌, ◌-◌, ◌≤◌, ◌++◌, List, length, take, drop, Ok, Err, IfOk, OnOk, MatchResult};
 ghost use Rattle.std.specs.Str.{chars};
 ghost use Rattle.std.specs.Str.Lossy.{utf8_valid_len};
 ghost use Rattle.names.specs.Placed.{placed};
 ghost use Rattle.names.specs.Sink.{Hands};
+ghost use Rattle.htext.specs.declared.decoder.TheConstants.{MAX_INPUT};
 ghost use Rattle.htext.specs.Text.{normalized, ends_in_return, refusal_with};
 ghost use Rattle.htext.specs.Items.{items};
 ghost use Rattle.htext.specs.Decoding.{HasRead, Feeds, HandsNew};
@@ -40,7 +41,7 @@ impl Reading {
         bytes: &[u8],
         sink: &mut S,
     ) -> Result<usize, Refusal>
-        ensures { (fed piece : List ℕ) → HasRead self.old.limit self.old.read self.old.after_return fed
+        ensures reads { (fed piece : List ℕ) → HasRead self.old.limit self.old.read self.old.after_return fed
             → bytes.now ≡ drop self.old.read fed ++ piece
             → MatchResult result
                 (λ count. HandsNew S.gives self.old.bom self.old.limit fed (fed ++ piece) sink.old (Ok tt) sink.new

@@ -1,0 +1,1 @@
+-- One piece more, after bytes that were read.

@@ -1,0 +1,79 @@
+-- How items are handed to a sink.
+use Rattle.std.proofs.Common.{◌≡◌, ℕ, ◌+◌, Bool, eqb, List, [], ◌∷◌, ◌++◌, sym, refl, ap, ◌∙◌, subst, Result, Ok, Err, MatchResult, append_assoc, append-nil}
+use Rattle.std.proofs.lemmas.Str.{chars_past_char, chars-nil}
+use Rattle.std.specs.Prelude.{⊤}
+use Rattle.std.specs.Str.{chars, IsUtf8}
+use Rattle.std.specs.Char.{encode_utf8, len_utf8}
+use Rattle.names.specs.Placed.{placed}
+use Rattle.names.specs.Sink.{Hands, Continues}
+use Rattle.names.specs.declared.placed.Placed.{Placed}
+use Rattle.names.specs.declared.refusal.Refusal.{Refusal}
+use Rattle.htext.specs.declared.Bom.{Bom}
+use Rattle.htext.specs.Text.{read_as, normalized, decoded}
+use Rattle.htext.specs.Items.{CharItem, items}
+use Rattle.htext.specs.Decoding.{HandsNew, Feeds, IsRefusedFrom, ran_out, sink_refused, took_all}
+use Rattle.htext.proofs.Texts.{items-append, decoded_goes_on}
+
+-- items after items
+pub Hands-append : {S X E : Type 0} (gives : S → X → Result (Unit {0}) E → S → Type 0) (old : S) (xs ys : List X) (middle : S) (answer : Result (Unit {0}) E) (new : S) → Hands gives old xs (Ok tt) middle → Hands gives middle ys answer new → Hands gives old (xs ++ ys) answer new
+Hands-append gives old [] ys middle answer new (ok, same) h = subst (λ s. Hands gives s ys answer new) (sym same) h
+Hands-append gives old (x ∷ xs) ys middle answer new (Ok u, next, given, rest) h = (Ok u, next, given, Hands-append gives next xs ys middle answer new rest h)
+Hands-append gives old (x ∷ xs) ys middle answer new (Err e, next, given, (differs, same)) h = absurd cc
+
+-- where the sink refused, whatever would have come after
+pub Hands-front : {S X E : Type 0} (gives : S → X → Result (Unit {0}) E → S → Type 0) (old : S) (xs ys : List X) (e : E) (new : S) → Hands gives old xs (Err e) new → Hands gives old (xs ++ ys) (Err e) new
+Hands-front gives old [] ys e new (differs, same) = absurd cc
+Hands-front gives old (x ∷ xs) ys e new (Ok u, next, given, rest) = (Ok u, next, given, Hands-front gives next xs ys e new rest)
+Hands-front gives old (x ∷ xs) ys e new (Err d, next, given, rest) = (Err d, next, given, rest)
+
+module _ {S : Type 0} (gives : S → CharItem → Result (Unit {0}) Refusal → S → Type 0) (bom : Bom) (limit : ℕ) where
+  pub HandsNew-none : (bytes : List ℕ) (sink : S) → HandsNew gives bom limit bytes bytes sink (Ok tt) sink
+  HandsNew-none bytes sink = ([], sym (append-nil (decoded bom limit bytes)), (refl, refl))
+
+  -- one piece after another
+  pub HandsNew-append : (before middle after : List ℕ) (old between : S) (answer : Result (Unit {0}) Refusal) (new : S) → HandsNew gives bom limit before middle old (Ok tt) between → HandsNew gives bom limit middle after between answer new → HandsNew gives bom limit before after old answer new
+  HandsNew-append before middle after old between answer new (xs, to_middle, first) (ys, to_after, second) =
+      (xs ++ ys,
+          to_after ∙ ap (λ (x : List Placed). x ++ ys) to_middle ∙ append_assoc (decoded bom limit before) xs ys,
+          subst (λ x. Hands gives old x answer new) (sym (items-append xs ys)) (Hands-append gives old (items xs) (items ys) between answer new first second))
+
+  -- where the sink refused, whatever comes after
+  pub HandsNew-goes_on : (before bytes : List ℕ) (old : S) (e : Refusal) (new : S) → HandsNew gives bom limit before bytes old (Err e) new → (more : List ℕ) → HandsNew gives bom limit before (bytes ++ more) old (Err e) new
+  HandsNew-goes_on before bytes old e new (xs, is, handed) more =
+      let on = decoded_goes_on bom limit bytes more in
+      (xs ++ on.0,
+          on.1 ∙ ap (λ (x : List Placed). x ++ on.0) is ∙ append_assoc (decoded bom limit before) xs on.0,
+          subst (λ x. Hands gives old x (Err e) new) (sym (items-append xs on.0)) (Hands-front gives old (items xs) (items on.0) e new handed))
+
+  pub Feeds-append : (fed first second : List ℕ) (old between : S) (answer : Result (Unit {0}) Refusal) (new : S) → HandsNew gives bom limit fed (fed ++ first) old (Ok tt) between → Feeds gives bom limit (fed ++ first) second between answer new → Feeds gives bom limit fed (first ++ second) old answer new
+  Feeds-append fed first second old between answer new handed (ran_out is) = ran_out is
+  Feeds-append fed first second old between answer new handed (sink_refused e is refused) =
+      sink_refused e is (λ more. subst (λ (x : List ℕ). HandsNew gives bom limit fed (x ++ more) old (Err e) new) (append_assoc fed first second)
+          (HandsNew-append fed (fed ++ first) (((fed ++ first) ++ second) ++ more) old between (Err e) new handed (refused more)))
+  Feeds-append fed first second old between answer new handed (took_all took answered) =
+      subst (λ (x : List ℕ). HandsNew gives bom limit fed x old (Ok tt) new → MatchResult answer (λ _. ⊤) (IsRefusedFrom bom limit x) → Feeds gives bom limit fed (first ++ second) old answer new) (sym (append_assoc fed first second)) took_all
+          (HandsNew-append fed (fed ++ first) ((fed ++ first) ++ second) old between (Ok tt) new handed took) answered
+
+-- A loop that hands over the characters of bytes, one by one: `bytes` are left, at the place `at`.
+module _ {S : Type 0} (gives : S → CharItem → Result (Unit {0}) Refusal → S → Type 0) (bom : Bom) (old : S) (all : List CharItem) (now : S) (after_return : Bool) (at : ℕ) (bytes : List ℕ)
+    (continues : Continues gives old all now (items (normalized bom after_return (placed at (chars bytes))))) where
+  hand_on : (c : ℕ) (others : List ℕ) → IsUtf8 bytes → bytes ≡ encode_utf8 c ++ others → Continues gives old all now (items (read_as bom after_return (record { ch = c; at = at })) ++ items (normalized bom (eqb c 13) (placed (at + len_utf8 c) (chars others))))
+  hand_on c others u is =
+      subst (λ (x : List CharItem). Continues gives old all now x)
+          (ap (λ (x : List ℕ). items (normalized bom after_return (placed at x))) (chars_past_char bytes others c u is)
+          ∙ items-append (read_as bom after_return (record { ch = c; at = at })) (normalized bom (eqb c 13) (placed (at + len_utf8 c) (chars others))))
+          continues
+
+  -- the next character was taken
+  pub hand_more : (c : ℕ) (others : List ℕ) (next : S) → IsUtf8 bytes → bytes ≡ encode_utf8 c ++ others → Hands gives now (items (read_as bom after_return (record { ch = c; at = at }))) (Ok tt) next → Continues gives old all next (items (normalized bom (eqb c 13) (placed (at + len_utf8 c) (chars others))))
+  hand_more c others next u is handed = λ answer new h. hand_on c others u is answer new (Hands-append gives now _ _ next answer new handed h)
+
+  -- it was refused
+  pub hand_refused : (c : ℕ) (others : List ℕ) (next : S) (e : Refusal) → IsUtf8 bytes → bytes ≡ encode_utf8 c ++ others → Hands gives now (items (read_as bom after_return (record { ch = c; at = at }))) (Err e) next → Hands gives old all (Err e) next
+  hand_refused c others next e u is handed = hand_on c others u is (Err e) next (Hands-front gives now _ _ e next handed)
+
+  -- none is left
+  pub hand_all : bytes ≡ [] → Hands gives old all (Ok tt) now
+  hand_all is =
+      continues (Ok tt) now
+          (subst (λ (x : List ℕ). Hands gives now (items (normalized bom after_return (placed at x))) (Ok tt) now) (sym (ap chars is ∙ chars-nil)) (refl, refl))

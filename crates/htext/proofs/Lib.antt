@@ -1,0 +1,4 @@
+pub mod Valid
+pub mod Texts
+pub mod Handing
+pub mod Feeding

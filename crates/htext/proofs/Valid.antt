@@ -1,0 +1,186 @@
+-- Laws of the valid front.
+use Rattle.std.proofs.Common.{◌≡◌, ℕ, zero, suc, ◌<◌, ◌≤◌, ◌+◌, ◌-◌, Bool, true, false, cond, List, [], ◌∷◌, ◌++◌, length, take, drop, sym, refl, ap, ◌∙◌, subst, arith, inl, inr, ◌&&◌, append_assoc, eqb, None, Some}
+use Rattle.std.proofs.lemmas.Bool.Decides.{nat_tests}
+use Rattle.std.proofs.lemmas.Bool.{cases_lt}
+use Rattle.std.proofs.lemmas.List.{take_at, drop_at, take-append-le, take_all, length-append, length-take, length-take-le, take-append-drop}
+use Rattle.std.proofs.Math.Seq.{take-append-add}
+use Rattle.std.proofs.lemmas.Str.{IsUtf8-nil, IsUtf8-append, IsUtf8-drop, IsCharBoundary-from_take, IsUtf8-from_is_utf8, is_utf8-from_IsUtf8, utf8_valid_len_le, length-encode, len_utf8_bounds, IsUtf8-encode}
+use Rattle.std.specs.Str.{all_scalars as scalars}
+use Rattle.std.specs.Str.{IsUtf8, is_utf8, encode_utf8_all}
+use Rattle.std.specs.Str.Lossy.{utf8_valid_len, valid_len_up_to}
+use Rattle.std.specs.Char.{IsScalar, encode_utf8}
+use Rattle.names.specs.declared.refusal.Refusal.TheVariants.{NotUtf8, TooLarge}
+use Rattle.htext.specs.Text.{valid_len, valid_front, refusal_with, refusal_of}
+
+-- a front of a front
+pub take-take : (m n : ℕ) (bs : List ℕ) → m ≤ n → take m (take n bs) ≡ take m bs
+take-take m n bs le = elim (cases_lt n (length bs)) [
+    inl less ↦
+      let k : length (take n bs) ≡ n = length-take-le n bs (omega arith) in
+      sym (ap (take m) (sym (take-append-drop n bs)) ∙ take-append-le m (take n bs) (drop n bs) (omega arith))
+  | inr ge ↦ ap (take m) (take_all n bs ge) ]
+
+-- what follows a text in a text is one
+tail_utf8 : (xs zs : List ℕ) → IsUtf8 xs → IsUtf8 (xs ++ zs) → IsUtf8 zs
+tail_utf8 xs zs u v =
+    let front : take (length xs) (xs ++ zs) ≡ xs = take_at xs zs (length xs) refl in
+    let back : drop (length xs) (xs ++ zs) ≡ zs = drop_at xs zs (length xs) refl in
+    let le : length xs ≤ length (xs ++ zs) = omega (arith, length-append xs zs) in
+    subst IsUtf8 back (IsUtf8-drop (xs ++ zs) (length xs) v (IsCharBoundary-from_take (xs ++ zs) (length xs) v le (subst IsUtf8 (sym front) u)))
+
+-- one step of the search for the valid length
+step_utf8 : (b : Bool) (bs : List ℕ) (m n : ℕ) → is_utf8 (take m bs) ≡ b → IsUtf8 (take n bs) → IsUtf8 (take (cond b m n) bs)
+step_utf8 true bs m n e h = IsUtf8-from_is_utf8 _ e
+step_utf8 false bs m n e h = h
+
+up_to_utf8 : (bs : List ℕ) (n : ℕ) → IsUtf8 (take (valid_len_up_to bs n) bs)
+up_to_utf8 bs zero = IsUtf8-nil
+up_to_utf8 bs (suc n) = step_utf8 (is_utf8 (take (suc n) bs)) bs (suc n) (valid_len_up_to bs n) refl (up_to_utf8 bs n)
+
+-- the longest front that is UTF-8 is so
+front_utf8 : (bs : List ℕ) → IsUtf8 (take (utf8_valid_len bs) bs)
+unfolding utf8_valid_len
+front_utf8 bs = up_to_utf8 bs (length bs)
+
+-- nothing longer than the valid front is one
+step_longest : (b : Bool) (bs : List ℕ) (k n m : ℕ) → is_utf8 (take (suc n) bs) ≡ b → cond b (suc n) k < m → m ≤ suc n → (k < m → m ≤ n → IsUtf8 (take m bs) → ⊥) → IsUtf8 (take m bs) → ⊥
+step_longest true bs k n m e less within longest u = absurd (omega arith)
+step_longest false bs k n m e less within longest u =
+    elim (cases_lt n m) [
+        inl above ↦
+            let same : m ≡ suc n = omega arith in
+            let valid : is_utf8 (take (suc n) bs) ≡ true = subst (λ (x : ℕ). is_utf8 (take x bs) ≡ true) same (is_utf8-from_IsUtf8 _ u) in
+            absurd cc
+      | inr le ↦ longest less le u ]
+
+up_to_longest : (bs : List ℕ) (n m : ℕ) → valid_len_up_to bs n < m → m ≤ n → IsUtf8 (take m bs) → ⊥
+up_to_longest bs zero m less within u = absurd (omega arith)
+up_to_longest bs (suc n) m less within u = step_longest (is_utf8 (take (suc n) bs)) bs (valid_len_up_to bs n) n m refl less within (up_to_longest bs n m) u
+
+front_longest : (bs : List ℕ) (m : ℕ) → utf8_valid_len bs < m → m ≤ length bs → IsUtf8 (take m bs) → ⊥
+unfolding utf8_valid_len
+front_longest bs m less within u = up_to_longest bs (length bs) m less within u
+
+-- the valid length by what it says
+valid_len_is : (bs : List ℕ) (n : ℕ) → n ≤ length bs → IsUtf8 (take n bs) → ((m : ℕ) → n < m → m ≤ length bs → IsUtf8 (take m bs) → ⊥) → utf8_valid_len bs ≡ n
+valid_len_is bs n within front longest =
+    elim (cases_lt (utf8_valid_len bs) n) [
+        inl below ↦ absurd (front_longest bs n below within front)
+      | inr le ↦ elim (cases_lt n (utf8_valid_len bs)) [
+            inl above ↦ absurd (longest (utf8_valid_len bs) above (utf8_valid_len_le bs) (front_utf8 bs))
+          | inr ge ↦ omega arith ] ]
+
+-- after a text the valid front goes on
+utf8_valid_len-append : (xs ys : List ℕ) → IsUtf8 xs → utf8_valid_len (xs ++ ys) ≡ length xs + utf8_valid_len ys
+utf8_valid_len-append xs ys u = valid_len_is (xs ++ ys) (length xs + utf8_valid_len ys)
+    (omega (arith, length-append xs ys, utf8_valid_len_le ys))
+    (subst IsUtf8 (sym (take-append-add xs ys (utf8_valid_len ys))) (IsUtf8-append _ _ u (front_utf8 ys)))
+    (λ m less within v.
+        let k : m ≡ length xs + (m - length xs) = omega arith in
+        let w : IsUtf8 (xs ++ take (m - length xs) ys) = subst IsUtf8 (ap (λ (x : ℕ). take x (xs ++ ys)) k ∙ take-append-add xs ys (m - length xs)) v in
+        front_longest ys (m - length xs) (omega arith) (omega (arith, length-append xs ys)) (tail_utf8 xs _ u w))
+
+pub valid_len-append : (limit : ℕ) (xs ys : List ℕ) → IsUtf8 xs → length xs ≤ limit → valid_len limit (xs ++ ys) ≡ length xs + valid_len (limit - length xs) ys
+valid_len-append limit xs ys u within =
+    let k : limit ≡ length xs + (limit - length xs) = omega arith in
+    ap (λ (x : ℕ). utf8_valid_len (take x (xs ++ ys))) k
+    ∙ ap utf8_valid_len (take-append-add xs ys (limit - length xs))
+    ∙ utf8_valid_len-append xs (take (limit - length xs) ys) u
+
+pub valid_len_le : (limit : ℕ) (bs : List ℕ) → (valid_len limit bs ≤ limit) × (valid_len limit bs ≤ length bs)
+valid_len_le limit bs = (omega (arith, utf8_valid_len_le (take limit bs), length-take limit bs), omega (arith, utf8_valid_len_le (take limit bs), length-take limit bs))
+
+pub valid_len-nil : (limit : ℕ) → valid_len limit [] ≡ 0
+valid_len-nil limit = omega (arith, valid_len_le limit [])
+
+pub valid_front-append : (limit : ℕ) (xs ys : List ℕ) → IsUtf8 xs → length xs ≤ limit → valid_front limit (xs ++ ys) ≡ xs ++ valid_front (limit - length xs) ys
+valid_front-append limit xs ys u within =
+    ap (λ (x : ℕ). take x (xs ++ ys)) (valid_len-append limit xs ys u within) ∙ take-append-add xs ys (valid_len (limit - length xs) ys)
+
+pub valid_front_utf8 : (limit : ℕ) (bs : List ℕ) → IsUtf8 (valid_front limit bs)
+valid_front_utf8 limit bs = subst IsUtf8 (take-take (valid_len limit bs) limit bs (valid_len_le limit bs).0) (front_utf8 (take limit bs))
+
+pub length-valid_front : (limit : ℕ) (bs : List ℕ) → length (valid_front limit bs) ≡ valid_len limit bs
+length-valid_front limit bs = length-take-le (valid_len limit bs) bs (valid_len_le limit bs).1
+
+first_true : (x y : Bool) → (x && y) ≡ true → x ≡ true
+first_true true y h = refl
+first_true false y h = h
+
+-- a character that begins bytes is in their valid front, and nothing else begins one
+starts_by : (bs : List ℕ) (cs : List ℕ) (n : ℕ) → scalars cs ≡ true → encode_utf8_all cs ≡ take n bs → 0 < length (take n bs) → (c : ℕ) × (more : List ℕ) × IsScalar c × (bs ≡ encode_utf8 c ++ more)
+starts_by bs [] n s e h = absurd (omega (arith, ap length e))
+starts_by bs (c ∷ cs) n s e h = (c, encode_utf8_all cs ++ drop n bs, first_true _ _ s,
+    sym (take-append-drop n bs) ∙ ap (λ (x : List ℕ). x ++ drop n bs) (sym e) ∙ append_assoc (encode_utf8 c) (encode_utf8_all cs) (drop n bs))
+
+starts : (bs : List ℕ) → 0 < utf8_valid_len bs → (c : ℕ) × (more : List ℕ) × IsScalar c × (bs ≡ encode_utf8 c ++ more)
+starts bs h =
+    let u = front_utf8 bs in
+    starts_by bs u.0 (utf8_valid_len bs) u.1.0 u.1.1 (omega (arith, length-take-le (utf8_valid_len bs) bs (utf8_valid_len_le bs)))
+
+starts_back : (bs more : List ℕ) (c : ℕ) → IsScalar c → bs ≡ encode_utf8 c ++ more → 0 < utf8_valid_len bs
+starts_back bs more c s e =
+    omega (arith, ap utf8_valid_len e, utf8_valid_len-append (encode_utf8 c) more (IsUtf8-encode c s), length-encode c, (len_utf8_bounds c).0)
+
+decided_by : (n : ℕ) (rest more : List ℕ) → 4 ≤ length rest → (c : ℕ) × (r : List ℕ) × IsScalar c × (take n (rest ++ more) ≡ encode_utf8 c ++ r) → 0 < utf8_valid_len (take n rest)
+decided_by n rest more four (c, r, s, e) =
+    let k : ℕ = length (encode_utf8 c) in
+    let k-four : k ≤ 4 = omega (arith, length-encode c, (len_utf8_bounds c).1) in
+    let k-n : k ≤ n = omega (arith, ap length e, length-append (encode_utf8 c) r, length-take n (rest ++ more)) in
+    let front : take k (take n rest) ≡ encode_utf8 c =
+        take-take k n rest k-n ∙ sym (take-append-le k rest more (omega arith)) ∙ sym (take-take k n (rest ++ more) k-n)
+        ∙ ap (take k) e ∙ take_at (encode_utf8 c) r k refl in
+    starts_back (take n rest) (drop k (take n rest)) c s (sym (take-append-drop k (take n rest)) ∙ ap (λ (x : List ℕ). x ++ drop k (take n rest)) front)
+
+-- four bytes tell whether a character begins there, under a limit and under none
+decided : (n : ℕ) (rest more : List ℕ) → 4 ≤ length rest → 0 < utf8_valid_len (take n (rest ++ more)) → 0 < utf8_valid_len (take n rest)
+decided n rest more four h = decided_by n rest more four (starts (take n (rest ++ more)) h)
+
+pub stays_stuck : (limit : ℕ) (rest more : List ℕ) → 4 ≤ length rest → valid_len limit rest ≡ 0 → valid_len limit (rest ++ more) ≡ 0
+stays_stuck limit rest more four none =
+    elim (cases_lt 0 (valid_len limit (rest ++ more))) [
+        inl some ↦ absurd (omega (arith, decided limit rest more four some))
+      | inr none_more ↦ omega arith ]
+
+decided_unlimited : (rest more : List ℕ) → 4 ≤ length rest → 0 < utf8_valid_len (rest ++ more) → 0 < utf8_valid_len rest
+decided_unlimited rest more four h =
+    let n : ℕ = length (rest ++ more) in
+    let a : take n (rest ++ more) ≡ rest ++ more = take_all n (rest ++ more) (omega arith) in
+    let b : take n rest ≡ rest = take_all n rest (omega (arith, length-append rest more)) in
+    subst (λ (x : List ℕ). 0 < utf8_valid_len x) b (decided n rest more four (subst (λ (x : List ℕ). 0 < utf8_valid_len x) (sym a) h))
+
+going_on_by : (rest more : List ℕ) → (c : ℕ) × (r : List ℕ) × IsScalar c × (rest ≡ encode_utf8 c ++ r) → 0 < utf8_valid_len (rest ++ more)
+going_on_by rest more (c, r, s, e) = starts_back (rest ++ more) (r ++ more) c s (ap (λ (x : List ℕ). x ++ more) e ∙ append_assoc (encode_utf8 c) r more)
+
+going_on : (rest more : List ℕ) → 0 < utf8_valid_len rest → 0 < utf8_valid_len (rest ++ more)
+going_on rest more h = going_on_by rest more (starts rest h)
+
+-- the refusal depends on whether a character follows, and not on how many do
+refusal_same : (j k at : ℕ) → (0 < j → 0 < k) → (0 < k → 0 < j) → refusal_with j at ≡ refusal_with k at
+refusal_same j k at to from = elim (cases_lt 0 j) [
+    inl some ↦
+      let a : eqb j 0 ≡ false = grind (arith, nat_tests) in
+      let h : 0 < k = to some in
+      let b : eqb k 0 ≡ false = grind (arith, nat_tests) in
+      ap (λ (x : Bool). cond x (NotUtf8 at) (TooLarge at)) (a ∙ sym b)
+  | inr none ↦ elim (cases_lt 0 k) [
+        inl some ↦ absurd (omega (arith, from some))
+      | inr none_more ↦ ap (λ (x : ℕ). refusal_with x at) (omega arith) ] ]
+
+refusal_value : (v len u w r k : ℕ) → v ≡ w → len ≡ w + r → 0 < r → u ≡ w + k → cond (eqb v len) None (Some (refusal_with (u - v) v)) ≡ Some (refusal_with k w)
+refusal_value v len u w r k a b c d =
+    let less : eqb v len ≡ false = grind (arith, nat_tests) in
+    let e : u - v ≡ k = omega arith in
+    rw (less, e, a) refl
+
+-- where the valid front ends before the bytes do
+pub refusal_past : (limit : ℕ) (front rest : List ℕ) → IsUtf8 front → length front ≤ limit → valid_len (limit - length front) rest ≡ 0 → 0 < length rest → refusal_of limit (front ++ rest) ≡ Some (refusal_with (utf8_valid_len rest) (length front))
+refusal_past limit front rest u within stuck some =
+    refusal_value (valid_len limit (front ++ rest)) (length (front ++ rest)) (utf8_valid_len (front ++ rest)) (length front) (length rest) (utf8_valid_len rest)
+    (omega (arith, valid_len-append limit front rest u within)) (length-append front rest) some (utf8_valid_len-append front rest u)
+
+-- the same, whatever comes after four bytes or more
+pub refusal_stays : (limit : ℕ) (front rest more : List ℕ) → IsUtf8 front → length front ≤ limit → valid_len (limit - length front) rest ≡ 0 → 4 ≤ length rest → refusal_of limit (front ++ (rest ++ more)) ≡ Some (refusal_with (utf8_valid_len rest) (length front))
+refusal_stays limit front rest more u within stuck four =
+    refusal_past limit front (rest ++ more) u within (stays_stuck (limit - length front) rest more four stuck) (omega (arith, length-append rest more))
+    ∙ ap Some (refusal_same (utf8_valid_len (rest ++ more)) (utf8_valid_len rest) (length front) (decided_unlimited rest more four) (going_on rest more))

@@ -1,0 +1,19 @@
+use Rattle.std.proofs.Common.{◌≡◌, ◌+◌, length}
+use Rattle.std.specs.Str.{chars, IsUtf8}
+use Rattle.names.specs.Placed.{placed}
+use Rattle.names.specs.Sink.{Continues}
+use Rattle.htext.specs.Text.{normalized, ends_in_return}
+use Rattle.htext.specs.Items.{items}
+use Rattle.htext.proofs.reading.Reading.hand_text.Given as goal
+
+-- The sink is given the rest as it was given all, and the rest stands after a CR as all does.
+abbrev pub invariant-loop-index : goal.invariant-loop-index
+invariant-loop-index g l =
+    let rest = l.index-iterator.rest.now in
+    record {
+      handed : Continues g.S.CharSink.gives l.fn.sink (items (normalized l.fn.self.bom l.fn.self.after_return (placed l.fn.self.read (chars l.fn.text))))
+        l.sink (items (normalized l.fn.self.bom l.after_return (placed (l.fn.self.read + l.index-iterator.at) (chars rest))));
+      reached : l.index-iterator.at + length rest ≡ length l.fn.text;
+      utf8 : IsUtf8 rest;
+      ends : ends_in_return l.after_return (chars rest) ≡ ends_in_return l.fn.self.after_return (chars l.fn.text)
+    }
