@@ -9,7 +9,7 @@ use Rattle.names.specs.Sink.{Hands, Continues}
 use Rattle.names.specs.declared.placed.Placed.{Placed}
 use Rattle.names.specs.declared.refusal.Refusal.{Refusal}
 use Rattle.htext.specs.declared.Bom.{Bom}
-use Rattle.htext.specs.Text.{read_as, normalized, decoded}
+use Rattle.htext.specs.Text.{read_as, normalized, refusal_of, decoded}
 use Rattle.htext.specs.Items.{CharItem, items}
 use Rattle.htext.specs.Decoding.{HandsNew, Feeds, IsRefusedFrom, ran_out, sink_refused, took_all}
 use Rattle.htext.proofs.Texts.{items-append, decoded_goes_on}
@@ -32,27 +32,50 @@ module _ {S : Type 0} (gives : S → CharItem → Result (Unit {0}) Refusal → 
 
   -- one piece after another
   pub HandsNew-append : (before middle after : List ℕ) (old between : S) (answer : Result (Unit {0}) Refusal) (new : S) → HandsNew gives bom limit before middle old (Ok tt) between → HandsNew gives bom limit middle after between answer new → HandsNew gives bom limit before after old answer new
-  HandsNew-append before middle after old between answer new (xs, to_middle, first) (ys, to_after, second) =
-      (xs ++ ys,
-          to_after ∙ ap (λ (x : List Placed). x ++ ys) to_middle ∙ append_assoc (decoded bom limit before) xs ys,
-          subst (λ x. Hands gives old x answer new) (sym (items-append xs ys)) (Hands-append gives old (items xs) (items ys) between answer new first second))
+  HandsNew-append before middle after old between answer new (xs, to_middle, first) (ys, to_after, second) = (
+    xs ++ ys,
+    to_after ∙ ap (λ (x : List Placed). x ++ ys) to_middle ∙ append_assoc (decoded bom limit before) xs ys,
+    subst (λ x. Hands gives old x answer new) (sym (items-append xs ys)) (Hands-append gives old (items xs) (items ys) between answer new first second),
+  )
 
   -- where the sink refused, whatever comes after
   pub HandsNew-goes_on : (before bytes : List ℕ) (old : S) (e : Refusal) (new : S) → HandsNew gives bom limit before bytes old (Err e) new → (more : List ℕ) → HandsNew gives bom limit before (bytes ++ more) old (Err e) new
   HandsNew-goes_on before bytes old e new (xs, is, handed) more =
-      let on = decoded_goes_on bom limit bytes more in
-      (xs ++ on.0,
-          on.1 ∙ ap (λ (x : List Placed). x ++ on.0) is ∙ append_assoc (decoded bom limit before) xs on.0,
-          subst (λ x. Hands gives old x (Err e) new) (sym (items-append xs on.0)) (Hands-front gives old (items xs) (items on.0) e new handed))
+      let on = decoded_goes_on bom limit bytes more in (
+        xs ++ on.0,
+        on.1 ∙ ap (λ (x : List Placed). x ++ on.0) is ∙ append_assoc (decoded bom limit before) xs on.0,
+        subst (λ x. Hands gives old x (Err e) new) (sym (items-append xs on.0)) (Hands-front gives old (items xs) (items on.0) e new handed),
+      )
 
   pub Feeds-append : (fed first second : List ℕ) (old between : S) (answer : Result (Unit {0}) Refusal) (new : S) → HandsNew gives bom limit fed (fed ++ first) old (Ok tt) between → Feeds gives bom limit (fed ++ first) second between answer new → Feeds gives bom limit fed (first ++ second) old answer new
   Feeds-append fed first second old between answer new handed (ran_out is) = ran_out is
   Feeds-append fed first second old between answer new handed (sink_refused e is refused) =
       sink_refused e is (λ more. subst (λ (x : List ℕ). HandsNew gives bom limit fed (x ++ more) old (Err e) new) (append_assoc fed first second)
-          (HandsNew-append fed (fed ++ first) (((fed ++ first) ++ second) ++ more) old between (Err e) new handed (refused more)))
+      (HandsNew-append fed (fed ++ first) (((fed ++ first) ++ second) ++ more) old between (Err e) new handed (refused more)))
   Feeds-append fed first second old between answer new handed (took_all took answered) =
       subst (λ (x : List ℕ). HandsNew gives bom limit fed x old (Ok tt) new → MatchResult answer (λ _. ⊤) (IsRefusedFrom bom limit x) → Feeds gives bom limit fed (first ++ second) old answer new) (sym (append_assoc fed first second)) took_all
-          (HandsNew-append fed (fed ++ first) ((fed ++ first) ++ second) old between (Ok tt) new handed took) answered
+      (HandsNew-append fed (fed ++ first) ((fed ++ first) ++ second) old between (Ok tt) new handed took) answered
+
+  -- what is refused stays so
+  pub Feeds-more : (fed piece : List ℕ) (old : S) (e : Refusal) (new : S) → Feeds gives bom limit fed piece old (Err e) new → (rest : List ℕ) → Feeds gives bom limit fed (piece ++ rest) old (Err e) new
+  Feeds-more fed piece old e new (ran_out is) rest = ran_out is
+  Feeds-more fed piece old e new (sink_refused d is refused) rest =
+      sink_refused d is (λ more. subst (λ (x : List ℕ). HandsNew gives bom limit fed x old (Err d) new)
+      (sym (append_assoc (fed ++ piece) rest more) ∙ ap (λ (x : List ℕ). x ++ more) (append_assoc fed piece rest)) (refused (rest ++ more)))
+  Feeds-more fed piece old e new (took_all (xs, is, handed) refused) rest =
+      let whole : (fed ++ piece) ++ rest ≡ fed ++ (piece ++ rest) = append_assoc fed piece rest in
+      took_all (xs, ap (decoded bom limit) (sym whole) ∙ (refused rest).1 ∙ is, handed)
+      (λ more.
+      let again : (fed ++ (piece ++ rest)) ++ more ≡ (fed ++ piece) ++ (rest ++ more) = ap (λ (x : List ℕ). x ++ more) (sym whole) ∙ append_assoc (fed ++ piece) rest more in (
+        ap (refusal_of limit) again ∙ (refused (rest ++ more)).0,
+        ap (decoded bom limit) again ∙ (refused (rest ++ more)).1 ∙ sym (ap (decoded bom limit) (sym whole) ∙ (refused rest).1),
+      ))
+
+  -- what is accepted was handed over
+  pub handed_all : (fed piece : List ℕ) (old new : S) → Feeds gives bom limit fed piece old (Ok tt) new → HandsNew gives bom limit fed (fed ++ piece) old (Ok tt) new
+  handed_all fed piece old new (ran_out is) = absurd cc
+  handed_all fed piece old new (sink_refused e is refused) = absurd cc
+  handed_all fed piece old new (took_all took answered) = took
 
 -- A loop that hands over the characters of bytes, one by one: `bytes` are left, at the place `at`.
 module _ {S : Type 0} (gives : S → CharItem → Result (Unit {0}) Refusal → S → Type 0) (bom : Bom) (old : S) (all : List CharItem) (now : S) (after_return : Bool) (at : ℕ) (bytes : List ℕ)
@@ -60,9 +83,9 @@ module _ {S : Type 0} (gives : S → CharItem → Result (Unit {0}) Refusal → 
   hand_on : (c : ℕ) (others : List ℕ) → IsUtf8 bytes → bytes ≡ encode_utf8 c ++ others → Continues gives old all now (items (read_as bom after_return (record { ch = c; at = at })) ++ items (normalized bom (eqb c 13) (placed (at + len_utf8 c) (chars others))))
   hand_on c others u is =
       subst (λ (x : List CharItem). Continues gives old all now x)
-          (ap (λ (x : List ℕ). items (normalized bom after_return (placed at x))) (chars_past_char bytes others c u is)
-          ∙ items-append (read_as bom after_return (record { ch = c; at = at })) (normalized bom (eqb c 13) (placed (at + len_utf8 c) (chars others))))
-          continues
+      (ap (λ (x : List ℕ). items (normalized bom after_return (placed at x))) (chars_past_char bytes others c u is)
+      ∙ items-append (read_as bom after_return (record { ch = c; at = at })) (normalized bom (eqb c 13) (placed (at + len_utf8 c) (chars others))))
+      continues
 
   -- the next character was taken
   pub hand_more : (c : ℕ) (others : List ℕ) (next : S) → IsUtf8 bytes → bytes ≡ encode_utf8 c ++ others → Hands gives now (items (read_as bom after_return (record { ch = c; at = at }))) (Ok tt) next → Continues gives old all next (items (normalized bom (eqb c 13) (placed (at + len_utf8 c) (chars others))))
@@ -76,4 +99,4 @@ module _ {S : Type 0} (gives : S → CharItem → Result (Unit {0}) Refusal → 
   pub hand_all : bytes ≡ [] → Hands gives old all (Ok tt) now
   hand_all is =
       continues (Ok tt) now
-          (subst (λ (x : List ℕ). Hands gives now (items (normalized bom after_return (placed at x))) (Ok tt) now) (sym (ap chars is ∙ chars-nil)) (refl, refl))
+      (subst (λ (x : List ℕ). Hands gives now (items (normalized bom after_return (placed at x))) (Ok tt) now) (sym (ap chars is ∙ chars-nil)) (refl, refl))

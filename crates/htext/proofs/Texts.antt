@@ -1,5 +1,5 @@
 -- Laws of texts.
-use Rattle.std.proofs.Common.{◌≡◌, ℕ, ◌+◌, ◌-◌, ◌≤◌, Bool, false, List, [], ◌∷◌, ◌++◌, length, take, drop, sym, refl, ap, ◌∙◌, arith, append_assoc, eqb, map}
+use Rattle.std.proofs.Common.{◌≡◌, ℕ, ◌+◌, ◌-◌, ◌≤◌, Bool, false, List, [], ◌∷◌, ◌++◌, length, drop, sym, refl, ap, ◌∙◌, arith, append_assoc, eqb, map}
 use Rattle.std.proofs.lemmas.List.{length-append, take-append-drop}
 use Rattle.std.proofs.lemmas.Str.{chars-append, encodes-chars, length-encode}
 use Rattle.std.specs.Str.{chars, IsUtf8, encode_utf8_all}
@@ -40,9 +40,10 @@ decoded_goes_on bom limit bytes more =
     let n : ℕ = valid_len limit bytes in
     let front : List ℕ = valid_front limit bytes in
     let within : length front ≤ limit = omega (arith, length-valid_front limit bytes, valid_len_le limit bytes) in
-    let parts : bytes ++ more ≡ front ++ (drop n bytes ++ more) = ap (λ (x : List ℕ). x ++ more) (sym (take-append-drop n bytes)) ∙ append_assoc front (drop n bytes) more in
-    (normalized bom (ends_in_return false (chars front)) (placed (length front) (chars (valid_front (limit - length front) (drop n bytes ++ more)))),
-        ap (decoded bom limit) parts ∙ decoded-append bom limit front (drop n bytes ++ more) (valid_front_utf8 limit bytes) within)
+    let parts : bytes ++ more ≡ front ++ (drop n bytes ++ more) = ap (λ (x : List ℕ). x ++ more) (sym (take-append-drop n bytes)) ∙ append_assoc front (drop n bytes) more in (
+      normalized bom (ends_in_return false (chars front)) (placed (length front) (chars (valid_front (limit - length front) (drop n bytes ++ more)))),
+      ap (decoded bom limit) parts ∙ decoded-append bom limit front (drop n bytes ++ more) (valid_front_utf8 limit bytes) within,
+    )
 
 -- what is handed over of a text
 pub items-append : (xs ys : List Placed) → items (xs ++ ys) ≡ items xs ++ items ys

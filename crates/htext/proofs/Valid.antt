@@ -15,10 +15,11 @@ use Rattle.htext.specs.Text.{valid_len, valid_front, refusal_with, refusal_of}
 -- a front of a front
 pub take-take : (m n : ℕ) (bs : List ℕ) → m ≤ n → take m (take n bs) ≡ take m bs
 take-take m n bs le = elim (cases_lt n (length bs)) [
-    inl less ↦
+  | inl less ↦
       let k : length (take n bs) ≡ n = length-take-le n bs (omega arith) in
       sym (ap (take m) (sym (take-append-drop n bs)) ∙ take-append-le m (take n bs) (drop n bs) (omega arith))
-  | inr ge ↦ ap (take m) (take_all n bs ge) ]
+  | inr ge ↦ ap (take m) (take_all n bs ge)
+]
 
 -- what follows a text in a text is one
 tail_utf8 : (xs zs : List ℕ) → IsUtf8 xs → IsUtf8 (xs ++ zs) → IsUtf8 zs
@@ -47,11 +48,12 @@ step_longest : (b : Bool) (bs : List ℕ) (k n m : ℕ) → is_utf8 (take (suc n
 step_longest true bs k n m e less within longest u = absurd (omega arith)
 step_longest false bs k n m e less within longest u =
     elim (cases_lt n m) [
-        inl above ↦
-            let same : m ≡ suc n = omega arith in
-            let valid : is_utf8 (take (suc n) bs) ≡ true = subst (λ (x : ℕ). is_utf8 (take x bs) ≡ true) same (is_utf8-from_IsUtf8 _ u) in
-            absurd cc
-      | inr le ↦ longest less le u ]
+      | inl above ↦
+          let same : m ≡ suc n = omega arith in
+          let valid : is_utf8 (take (suc n) bs) ≡ true = subst (λ (x : ℕ). is_utf8 (take x bs) ≡ true) same (is_utf8-from_IsUtf8 _ u) in
+          absurd cc
+      | inr le ↦ longest less le u
+    ]
 
 up_to_longest : (bs : List ℕ) (n m : ℕ) → valid_len_up_to bs n < m → m ≤ n → IsUtf8 (take m bs) → ⊥
 up_to_longest bs zero m less within u = absurd (omega arith)
@@ -65,10 +67,12 @@ front_longest bs m less within u = up_to_longest bs (length bs) m less within u
 valid_len_is : (bs : List ℕ) (n : ℕ) → n ≤ length bs → IsUtf8 (take n bs) → ((m : ℕ) → n < m → m ≤ length bs → IsUtf8 (take m bs) → ⊥) → utf8_valid_len bs ≡ n
 valid_len_is bs n within front longest =
     elim (cases_lt (utf8_valid_len bs) n) [
-        inl below ↦ absurd (front_longest bs n below within front)
+      | inl below ↦ absurd (front_longest bs n below within front)
       | inr le ↦ elim (cases_lt n (utf8_valid_len bs)) [
-            inl above ↦ absurd (longest (utf8_valid_len bs) above (utf8_valid_len_le bs) (front_utf8 bs))
-          | inr ge ↦ omega arith ] ]
+        | inl above ↦ absurd (longest (utf8_valid_len bs) above (utf8_valid_len_le bs) (front_utf8 bs))
+        | inr ge ↦ omega arith
+      ]
+    ]
 
 -- after a text the valid front goes on
 utf8_valid_len-append : (xs ys : List ℕ) → IsUtf8 xs → utf8_valid_len (xs ++ ys) ≡ length xs + utf8_valid_len ys
@@ -76,9 +80,9 @@ utf8_valid_len-append xs ys u = valid_len_is (xs ++ ys) (length xs + utf8_valid_
     (omega (arith, length-append xs ys, utf8_valid_len_le ys))
     (subst IsUtf8 (sym (take-append-add xs ys (utf8_valid_len ys))) (IsUtf8-append _ _ u (front_utf8 ys)))
     (λ m less within v.
-        let k : m ≡ length xs + (m - length xs) = omega arith in
-        let w : IsUtf8 (xs ++ take (m - length xs) ys) = subst IsUtf8 (ap (λ (x : ℕ). take x (xs ++ ys)) k ∙ take-append-add xs ys (m - length xs)) v in
-        front_longest ys (m - length xs) (omega arith) (omega (arith, length-append xs ys)) (tail_utf8 xs _ u w))
+    let k : m ≡ length xs + (m - length xs) = omega arith in
+    let w : IsUtf8 (xs ++ take (m - length xs) ys) = subst IsUtf8 (ap (λ (x : ℕ). take x (xs ++ ys)) k ∙ take-append-add xs ys (m - length xs)) v in
+    front_longest ys (m - length xs) (omega arith) (omega (arith, length-append xs ys)) (tail_utf8 xs _ u w))
 
 pub valid_len-append : (limit : ℕ) (xs ys : List ℕ) → IsUtf8 xs → length xs ≤ limit → valid_len limit (xs ++ ys) ≡ length xs + valid_len (limit - length xs) ys
 valid_len-append limit xs ys u within =
@@ -110,8 +114,12 @@ first_true false y h = h
 -- a character that begins bytes is in their valid front, and nothing else begins one
 starts_by : (bs : List ℕ) (cs : List ℕ) (n : ℕ) → scalars cs ≡ true → encode_utf8_all cs ≡ take n bs → 0 < length (take n bs) → (c : ℕ) × (more : List ℕ) × IsScalar c × (bs ≡ encode_utf8 c ++ more)
 starts_by bs [] n s e h = absurd (omega (arith, ap length e))
-starts_by bs (c ∷ cs) n s e h = (c, encode_utf8_all cs ++ drop n bs, first_true _ _ s,
-    sym (take-append-drop n bs) ∙ ap (λ (x : List ℕ). x ++ drop n bs) (sym e) ∙ append_assoc (encode_utf8 c) (encode_utf8_all cs) (drop n bs))
+starts_by bs (c ∷ cs) n s e h = (
+  c,
+  encode_utf8_all cs ++ drop n bs,
+  first_true _ _ s,
+  sym (take-append-drop n bs) ∙ ap (λ (x : List ℕ). x ++ drop n bs) (sym e) ∙ append_assoc (encode_utf8 c) (encode_utf8_all cs) (drop n bs),
+)
 
 starts : (bs : List ℕ) → 0 < utf8_valid_len bs → (c : ℕ) × (more : List ℕ) × IsScalar c × (bs ≡ encode_utf8 c ++ more)
 starts bs h =
@@ -128,8 +136,8 @@ decided_by n rest more four (c, r, s, e) =
     let k-four : k ≤ 4 = omega (arith, length-encode c, (len_utf8_bounds c).1) in
     let k-n : k ≤ n = omega (arith, ap length e, length-append (encode_utf8 c) r, length-take n (rest ++ more)) in
     let front : take k (take n rest) ≡ encode_utf8 c =
-        take-take k n rest k-n ∙ sym (take-append-le k rest more (omega arith)) ∙ sym (take-take k n (rest ++ more) k-n)
-        ∙ ap (take k) e ∙ take_at (encode_utf8 c) r k refl in
+    take-take k n rest k-n ∙ sym (take-append-le k rest more (omega arith)) ∙ sym (take-take k n (rest ++ more) k-n)
+    ∙ ap (take k) e ∙ take_at (encode_utf8 c) r k refl in
     starts_back (take n rest) (drop k (take n rest)) c s (sym (take-append-drop k (take n rest)) ∙ ap (λ (x : List ℕ). x ++ drop k (take n rest)) front)
 
 -- four bytes tell whether a character begins there, under a limit and under none
@@ -139,8 +147,9 @@ decided n rest more four h = decided_by n rest more four (starts (take n (rest +
 pub stays_stuck : (limit : ℕ) (rest more : List ℕ) → 4 ≤ length rest → valid_len limit rest ≡ 0 → valid_len limit (rest ++ more) ≡ 0
 stays_stuck limit rest more four none =
     elim (cases_lt 0 (valid_len limit (rest ++ more))) [
-        inl some ↦ absurd (omega (arith, decided limit rest more four some))
-      | inr none_more ↦ omega arith ]
+      | inl some ↦ absurd (omega (arith, decided limit rest more four some))
+      | inr none_more ↦ omega arith
+    ]
 
 decided_unlimited : (rest more : List ℕ) → 4 ≤ length rest → 0 < utf8_valid_len (rest ++ more) → 0 < utf8_valid_len rest
 decided_unlimited rest more four h =
@@ -158,14 +167,16 @@ going_on rest more h = going_on_by rest more (starts rest h)
 -- the refusal depends on whether a character follows, and not on how many do
 refusal_same : (j k at : ℕ) → (0 < j → 0 < k) → (0 < k → 0 < j) → refusal_with j at ≡ refusal_with k at
 refusal_same j k at to from = elim (cases_lt 0 j) [
-    inl some ↦
+  | inl some ↦
       let a : eqb j 0 ≡ false = grind (arith, nat_tests) in
       let h : 0 < k = to some in
       let b : eqb k 0 ≡ false = grind (arith, nat_tests) in
       ap (λ (x : Bool). cond x (NotUtf8 at) (TooLarge at)) (a ∙ sym b)
   | inr none ↦ elim (cases_lt 0 k) [
-        inl some ↦ absurd (omega (arith, from some))
-      | inr none_more ↦ ap (λ (x : ℕ). refusal_with x at) (omega arith) ] ]
+    | inl some ↦ absurd (omega (arith, from some))
+    | inr none_more ↦ ap (λ (x : ℕ). refusal_with x at) (omega arith)
+  ]
+]
 
 refusal_value : (v len u w r k : ℕ) → v ≡ w → len ≡ w + r → 0 < r → u ≡ w + k → cond (eqb v len) None (Some (refusal_with (u - v) v)) ≡ Some (refusal_with k w)
 refusal_value v len u w r k a b c d =

@@ -47,11 +47,11 @@ pub data Feeds {S : Type 0} (gives : S → CharItem → Result (Unit {0}) Refusa
     (fed piece : List ℕ) (old : S) (answer : Result (Unit {0}) Refusal) (new : S) : Type 0 where
   ran_out : answer ≡ Err Memory → Feeds gives bom limit fed piece old answer new
   sink_refused : (e : Refusal) → answer ≡ Err e
-    → ((more : List ℕ) → HandsNew gives bom limit fed ((fed ++ piece) ++ more) old (Err e) new)
-    → Feeds gives bom limit fed piece old answer new
+      → ((more : List ℕ) → HandsNew gives bom limit fed ((fed ++ piece) ++ more) old (Err e) new)
+      → Feeds gives bom limit fed piece old answer new
   took_all : HandsNew gives bom limit fed (fed ++ piece) old (Ok tt) new
-    → MatchResult answer (λ _. ⊤) (IsRefusedFrom bom limit (fed ++ piece))
-    → Feeds gives bom limit fed piece old answer new
+      → MatchResult answer (λ _. ⊤) (IsRefusedFrom bom limit (fed ++ piece))
+      → Feeds gives bom limit fed piece old answer new
 
 -- what is answered where nothing more comes
 abbrev pub answer_at_end : Option Refusal → Result (Unit {0}) Refusal

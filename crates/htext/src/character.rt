@@ -14,6 +14,7 @@ const BYTE_ORDER_MARK: char = '\u{FEFF}';
 
 /// How many code points a plane has; the last two of each are noncharacters.
 const PLANE: u32 = 0x1_0000;
+
 const FIRST_OF_LAST_TWO: u32 = 0xFFFE;
 
 /// Hands over what a character is in the text, after its errors.

@@ -30,8 +30,13 @@ impl Model for Decoder {
     ghost Value = { Progress };
 
     ghost view = { λ d. record {
-        bom = d.reading.bom; limit = d.reading.limit; read = d.reading.read; after_return = d.reading.after_return;
-        undecoded = d.undecoded.items; refused = d.refused } };
+      bom = d.reading.bom;
+      limit = d.reading.limit;
+      read = d.reading.read;
+      after_return = d.reading.after_return;
+      undecoded = d.undecoded.items;
+      refused = d.refused;
+    } };
 }
 
 impl Decoder {

@@ -44,10 +44,10 @@ impl Reading {
         ensures reads { (fed piece : List ℕ) → HasRead self.old.limit self.old.read self.old.after_return fed
             → bytes.now ≡ drop self.old.read fed ++ piece
             → MatchResult result
-                (λ count. HandsNew S.gives self.old.bom self.old.limit fed (fed ++ piece) sink.old (Ok tt) sink.new
-                    × HasRead self.new.limit self.new.read self.new.after_return (fed ++ piece)
-                    × (drop count bytes.now ≡ drop self.new.read (fed ++ piece)))
-                (λ e. Feeds S.gives self.old.bom self.old.limit fed piece sink.old (Err e) sink.new) }
+            (λ count. HandsNew S.gives self.old.bom self.old.limit fed (fed ++ piece) sink.old (Ok tt) sink.new
+            × HasRead self.new.limit self.new.read self.new.after_return (fed ++ piece)
+            × (drop count bytes.now ≡ drop self.new.read (fed ++ piece)))
+            (λ e. Feeds S.gives self.old.bom self.old.limit fed piece sink.old (Err e) sink.new) }
         ensures few { IfOk result (λ count. (count ≤ length bytes.now) × (length bytes.now ≤ count + 3)) }
         ensures bom { self.new.bom ≡ self.old.bom }
         ensures limit { self.new.limit ≡ self.old.limit }

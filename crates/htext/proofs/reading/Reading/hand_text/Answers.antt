@@ -1,4 +1,4 @@
-use Rattle.std.proofs.Common.{◌≡◌, ℕ, ◌+◌, Bool, eqb, List, length, refl, sym, ap, ◌∙◌, arith, add-zero, add_assoc, Err}
+use Rattle.std.proofs.Common.{◌≡◌, ℕ, ◌+◌, List, length, refl, sym, ap, ◌∙◌, arith, add-zero}
 use Rattle.std.proofs.lemmas.Result.{err_from_is_err_and}
 use Rattle.std.proofs.lemmas.Str.{IsUtf8-past_char, chars_past_char, length-encode, chars-nil}
 use Rattle.std.proofs.lemmas.List.{length-append, nil_from_length}
@@ -28,7 +28,7 @@ loop-index-preserved g c =
       handed = rw next (hand_more g.S.CharSink.gives _ _ _ c.loop-index.sink _ _ _ c.loop-index.invariant.handed c.in-Some.ch _ _ c.loop-index.invariant.utf8 steps.1 (rw (← steps.0) c.in_ok-hand_char.ensures));
       reached = omega (arith, c.loop-index.invariant.reached, steps.2, ap length steps.1, length-append (encode_utf8 c.in-Some.ch) c.next.new.self.rest.now);
       utf8 = IsUtf8-past_char _ _ _ c.loop-index.invariant.utf8 steps.1;
-      ends = sym (ap (ends_in_return c.loop-index.after_return) (chars_past_char _ _ _ c.loop-index.invariant.utf8 steps.1)) ∙ c.loop-index.invariant.ends
+      ends = sym (ap (ends_in_return c.loop-index.after_return) (chars_past_char _ _ _ c.loop-index.invariant.utf8 steps.1)) ∙ c.loop-index.invariant.ends;
     }
 
 pub returns-clause-handed : goal.returns-clause-handed

@@ -12,8 +12,8 @@ invariant-loop-index g l =
     let rest = l.index-iterator.rest.now in
     record {
       handed : Continues g.S.CharSink.gives l.fn.sink (items (normalized l.fn.self.bom l.fn.self.after_return (placed l.fn.self.read (chars l.fn.text))))
-        l.sink (items (normalized l.fn.self.bom l.after_return (placed (l.fn.self.read + l.index-iterator.at) (chars rest))));
+          l.sink (items (normalized l.fn.self.bom l.after_return (placed (l.fn.self.read + l.index-iterator.at) (chars rest))));
       reached : l.index-iterator.at + length rest ≡ length l.fn.text;
       utf8 : IsUtf8 rest;
-      ends : ends_in_return l.after_return (chars rest) ≡ ends_in_return l.fn.self.after_return (chars l.fn.text)
+      ends : ends_in_return l.after_return (chars rest) ≡ ends_in_return l.fn.self.after_return (chars l.fn.text);
     }

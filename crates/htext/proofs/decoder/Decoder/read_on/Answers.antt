@@ -1,0 +1,40 @@
+use Rattle.std.proofs.Common.{◌≡◌, ℕ, ◌+◌, ◌-◌, ◌++◌, ◌∷◌, [], List, length, take, drop, get_or, Ok, Err, sym, ap, ◌∙◌, subst, arith, append_assoc}
+use Rattle.std.proofs.lemmas.List.{take_all, take_more, take-append-drop, length-drop}
+use Rattle.std.proofs.lemmas.Result.{err_from_is_err_and}
+use Rattle.htext.specs.Decoding.{HasFed, Feeds, HandsNew}
+use Rattle.htext.proofs.Handing.{HandsNew-append, Feeds-append, Feeds-more, handed_all}
+use Rattle.htext.proofs.decoder.Decoder.read_on.Goals as goal
+
+pub returns-then-is_empty-clause-feeds : goal.returns-then-is_empty-clause-feeds
+returns-then-is_empty-clause-feeds g c = λ fed h.
+    let bytes = c.args.bytes.now in
+    let i = c.loop-index.index in
+    let left : length (drop i bytes) ≡ length bytes - i = length-drop i bytes in
+    let piece = rw (c.loop-index.invariant.bom, c.loop-index.invariant.limit, take_all (length bytes - i) (drop i bytes) (omega arith)) at (c.read_piece.ensures.feeds (fed ++ take i bytes) (c.loop-index.invariant.fed fed h)) in
+    subst (λ (x : List ℕ). Feeds g.S.CharSink.gives c.args.self.now.bom c.args.self.now.limit fed x c.args.sink.now c.read_piece.result c.read_piece.new.sink) (take-append-drop i bytes)
+    (Feeds-append g.S.CharSink.gives _ _ fed (take i bytes) (drop i bytes) _ _ _ _ (c.loop-index.invariant.handed fed h) piece)
+
+pub returns-in_err-read_byte-clause-feeds : goal.returns-in_err-read_byte-clause-feeds
+returns-in_err-read_byte-clause-feeds g c = λ fed h.
+    let bytes = c.args.bytes.now in
+    let i = c.loop-index.index in
+    let e = err_from_is_err_and c.from_residual.result c.from_residual.ensures.1 in
+    let piece = rw (← take_more bytes i 0 c.loop-index-test.true) at
+    (Feeds-append g.S.CharSink.gives _ _ fed (take i bytes) (get_or bytes i 0 ∷ []) _ _ _ _ (c.loop-index.invariant.handed fed h) (rw (c.loop-index.invariant.bom, c.loop-index.invariant.limit) at (c.in_err-read_byte.ensures.feeds (fed ++ take i bytes) (c.loop-index.invariant.fed fed h)))) in
+    rw (e.1, e.2) (subst (λ (x : List ℕ). Feeds g.S.CharSink.gives c.args.self.now.bom c.args.self.now.limit fed x c.args.sink.now (Err c.in_err-read_byte.field-0.0) c.read_byte.new.sink) (take-append-drop (i + 1) bytes)
+    (Feeds-more g.S.CharSink.gives _ _ fed (take (i + 1) bytes) _ _ _ piece (drop (i + 1) bytes)))
+
+pub loop-index-preserved : goal.loop-index-preserved
+loop-index-preserved g c =
+    let bytes = c.args.bytes.now in
+    let i = c.loop-index.index in
+    let more : (fed : List ℕ) → (fed ++ take i bytes) ++ get_or bytes i 0 ∷ [] ≡ fed ++ take (i + 1) bytes =
+    λ fed. append_assoc fed (take i bytes) (get_or bytes i 0 ∷ []) ∙ ap (λ (x : List ℕ). fed ++ x) (sym (take_more bytes i 0 c.loop-index-test.true)) in
+    record {
+      fed = λ fed h. subst (HasFed c.read_byte.new.self) (more fed) (c.in_ok-read_byte.ensures.fed (fed ++ take i bytes) (c.loop-index.invariant.fed fed h));
+      handed = λ fed h. subst (λ (x : List ℕ). HandsNew g.S.CharSink.gives c.args.self.now.bom c.args.self.now.limit fed x c.args.sink.now (Ok tt) c.read_byte.new.sink) (more fed)
+          (HandsNew-append g.S.CharSink.gives _ _ fed (fed ++ take i bytes) _ _ _ _ _ (c.loop-index.invariant.handed fed h)
+          (handed_all g.S.CharSink.gives _ _ _ _ _ _ (rw (c.loop-index.invariant.bom, c.loop-index.invariant.limit) at (c.in_ok-read_byte.ensures.feeds (fed ++ take i bytes) (c.loop-index.invariant.fed fed h)))));
+      bom = c.read_byte.ensures.bom ∙ c.loop-index.invariant.bom;
+      limit = c.read_byte.ensures.limit ∙ c.loop-index.invariant.limit;
+    }
