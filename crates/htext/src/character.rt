@@ -1,12 +1,13 @@
 //! How a character is handed over.
 
-ghost use Rattle.std.specs.Prelude.{◌≡◌, ◌↔◌, Bool, ℕ, [], ◌∷◌, IsTrue};
+ghost use Rattle.std.specs.Prelude.{◌≡◌, ◌<◌, Bool, ℕ, [], ◌∷◌, IsTrue};
 ghost use Rattle.names.specs.Sink.{Hands};
 ghost use Rattle.htext.specs.declared.Bom.{Bom as Mark};
 ghost use Rattle.htext.specs.Text.{is_dropped_mark, read_as};
 ghost use Rattle.htext.specs.Items.{Character, items, items_of, is_stray_control, is_noncharacter};
 
 use crate::Bom;
+use crate::decoder::MAX_INPUT;
 use crate::sink::CharSink;
 use names::{ErrorCode, ParseError, Refusal};
 
@@ -26,6 +27,7 @@ pub(crate) fn hand_char<S: CharSink>(
     at: u64,
     sink: &mut S,
 ) -> Result<(), Refusal>
+    requires { at < MAX_INPUT }
     ensures { Hands S.gives sink.old
         (items (read_as bom after_return (record { ch = ch; at = at }))) result sink.new }
 {
@@ -53,6 +55,7 @@ fn hand_special<S: CharSink>(
     at: u64,
     sink: &mut S,
 ) -> Result<(), Refusal>
+    requires { at < MAX_INPUT }
     ensures { Hands S.gives sink.old
         (items (read_as bom after_return (record { ch = ch; at = at }))) result sink.new }
 {
@@ -76,6 +79,7 @@ fn is_dropped_mark(bom: Bom, ch: char, at: u64) -> bool
 
 // Hands over a character of the text, after its errors.
 fn hand_read<S: CharSink>(ch: char, at: u64, sink: &mut S) -> Result<(), Refusal>
+    requires { at < MAX_INPUT }
     ensures { Hands S.gives sink.old (items_of (record { ch = ch; at = at })) result sink.new }
 {
     if is_stray_control(ch) {
