@@ -1,14 +1,14 @@
 -- Laws of texts.
-use Rattle.std.proofs.Common.{◌≡◌, ℕ, ◌+◌, ◌-◌, ◌≤◌, Bool, false, List, [], ◌∷◌, ◌++◌, length, drop, sym, refl, ap, ◌∙◌, arith, append_assoc, eqb, map}
+use Rattle.std.proofs.Common.{◌≡◌, ℕ, ◌+◌, ◌-◌, ◌≤◌, ◌<◌, Bool, true, false, cond, ◌&&◌, ◌||◌, subst, List, [], ◌∷◌, ◌++◌, length, drop, sym, refl, ap, ◌∙◌, arith, append_assoc, eqb, map}
 use Rattle.std.proofs.lemmas.List.{length-append, take-append-drop}
-use Rattle.std.proofs.lemmas.Str.{chars-append, encodes-chars, length-encode}
+use Rattle.std.proofs.lemmas.Str.{chars-append, encodes-chars, length-encode, len_utf8_bounds}
 use Rattle.std.specs.Str.{chars, IsUtf8, encode_utf8_all}
 use Rattle.std.specs.Char.{encode_utf8, len_utf8}
 use Rattle.names.specs.Placed.{placed}
 use Rattle.names.specs.declared.placed.Placed.{Placed}
 use Rattle.names.specs.declared.error.ParseError.{ParseError}
 use Rattle.htext.specs.declared.Bom.{Bom}
-use Rattle.htext.specs.Text.{read_as, normalized, ends_in_return, text, valid_len, valid_front, decoded}
+use Rattle.htext.specs.Text.{is_dropped_mark, PlacesRise, read_as, normalized, ends_in_return, text, valid_len, valid_front, decoded}
 use Rattle.htext.specs.Items.{CharItem, Character, InputError, errors_of, items_of, items, input_errors, characters_among, errors_among}
 use Rattle.htext.proofs.Valid.{valid_len_le, valid_front-append, valid_front_utf8, length-valid_front}
 
@@ -44,6 +44,23 @@ decoded_goes_on bom limit bytes more =
       normalized bom (ends_in_return false (chars front)) (placed (length front) (chars (valid_front (limit - length front) (drop n bytes ++ more)))),
       ap (decoded bom limit) parts ∙ decoded-append bom limit front (drop n bytes ++ more) (valid_front_utf8 limit bytes) within,
     )
+
+-- places rise from character to character
+read_rises : (left_out : Bool) (first at next end c : ℕ) (rest : List Placed) → first ≤ at → at < next → ((from : ℕ) → from ≤ next → PlacesRise from rest end) → PlacesRise first (cond left_out [] (record { ch = c; at = at } ∷ []) ++ rest) end
+read_rises true first at next end c rest le less more = more first (omega arith)
+read_rises false first at next end c rest le less more = (le, more (at + 1) (omega arith))
+
+normalized_rises : (bom : Bom) (after_return : Bool) (first at : ℕ) (cs : List ℕ) → first ≤ at → PlacesRise first (normalized bom after_return (placed at cs)) (at + length (encode_utf8_all cs))
+normalized_rises bom after_return first at [] le = omega arith
+normalized_rises bom after_return first at (c ∷ cs) le =
+    let end : (at + len_utf8 c) + length (encode_utf8_all cs) ≡ at + length (encode_utf8 c ++ encode_utf8_all cs) = omega (arith, length-append (encode_utf8 c) (encode_utf8_all cs), length-encode c) in
+    read_rises (is_dropped_mark bom (record { ch = c; at = at }) || (after_return && eqb c 10)) first at (at + len_utf8 c) (at + length (encode_utf8_all (c ∷ cs))) (cond (eqb c 13) 10 c) _ le (omega (arith, (len_utf8_bounds c).0))
+    (λ from within. subst (λ (n : ℕ). PlacesRise from (normalized bom (eqb c 13) (placed (at + len_utf8 c) cs)) n) end (normalized_rises bom (eqb c 13) from (at + len_utf8 c) cs within))
+
+pub decoded_rises : (bom : Bom) (limit : ℕ) (bytes : List ℕ) → PlacesRise 0 (decoded bom limit bytes) (valid_len limit bytes)
+decoded_rises bom limit bytes =
+    let front : List ℕ = valid_front limit bytes in
+    subst (PlacesRise 0 (decoded bom limit bytes)) (omega (arith, ap length (encodes-chars front (valid_front_utf8 limit bytes)), length-valid_front limit bytes)) (normalized_rises bom false 0 0 (chars front) (omega arith))
 
 -- what is handed over of a text
 pub items-append : (xs ys : List Placed) → items (xs ++ ys) ≡ items xs ++ items ys

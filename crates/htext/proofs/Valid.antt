@@ -121,12 +121,12 @@ starts_by bs (c ∷ cs) n s e h = (
   sym (take-append-drop n bs) ∙ ap (λ (x : List ℕ). x ++ drop n bs) (sym e) ∙ append_assoc (encode_utf8 c) (encode_utf8_all cs) (drop n bs),
 )
 
-starts : (bs : List ℕ) → 0 < utf8_valid_len bs → (c : ℕ) × (more : List ℕ) × IsScalar c × (bs ≡ encode_utf8 c ++ more)
+pub starts : (bs : List ℕ) → 0 < utf8_valid_len bs → (c : ℕ) × (more : List ℕ) × IsScalar c × (bs ≡ encode_utf8 c ++ more)
 starts bs h =
     let u = front_utf8 bs in
     starts_by bs u.0 (utf8_valid_len bs) u.1.0 u.1.1 (omega (arith, length-take-le (utf8_valid_len bs) bs (utf8_valid_len_le bs)))
 
-starts_back : (bs more : List ℕ) (c : ℕ) → IsScalar c → bs ≡ encode_utf8 c ++ more → 0 < utf8_valid_len bs
+pub starts_back : (bs more : List ℕ) (c : ℕ) → IsScalar c → bs ≡ encode_utf8 c ++ more → 0 < utf8_valid_len bs
 starts_back bs more c s e =
     omega (arith, ap utf8_valid_len e, utf8_valid_len-append (encode_utf8 c) more (IsUtf8-encode c s), length-encode c, (len_utf8_bounds c).0)
 
@@ -165,7 +165,7 @@ going_on : (rest more : List ℕ) → 0 < utf8_valid_len rest → 0 < utf8_valid
 going_on rest more h = going_on_by rest more (starts rest h)
 
 -- the refusal depends on whether a character follows, and not on how many do
-refusal_same : (j k at : ℕ) → (0 < j → 0 < k) → (0 < k → 0 < j) → refusal_with j at ≡ refusal_with k at
+pub refusal_same : (j k at : ℕ) → (0 < j → 0 < k) → (0 < k → 0 < j) → refusal_with j at ≡ refusal_with k at
 refusal_same j k at to from = elim (cases_lt 0 j) [
   | inl some ↦
       let a : eqb j 0 ≡ false = grind (arith, nat_tests) in

@@ -1,5 +1,6 @@
 -- The text of an input: its characters, each with the place of its first byte (HTML Standard, 13.2.3.5).
-use Rattle.std.specs.Prelude.{ℕ, ◌-◌, Bool, false, ◌&&◌, ◌||◌, ◌==◌, if◌then◌else◌, List, [], ◌∷◌, ◌++◌, length, take, Option, Some, None}
+use Rattle.std.specs.Prelude.{◌≡◌, ℕ, ◌+◌, ◌-◌, ◌≤◌, Bool, false, ◌&&◌, ◌||◌, ◌==◌, if◌then◌else◌, List, [], ◌∷◌, ◌++◌, length, take, Option, Some, None}
+use Rattle.std.specs.Char.{IsScalar, encode_utf8}
 use Rattle.std.specs.Str.{chars}
 use Rattle.std.specs.Str.Lossy.{utf8_valid_len}
 use Rattle.names.specs.Placed.{placed}
@@ -52,6 +53,15 @@ refusal_of limit bytes =
     if valid_len limit bytes == length bytes then None
     else Some (refusal_with (utf8_valid_len bytes - valid_len limit bytes) (valid_len limit bytes))
 
+-- no character stands at the front of the bytes
+abbrev pub BeginsNoCharacter : List ℕ → Type 0
+BeginsNoCharacter bytes = (ch : ℕ) (more : List ℕ) → IsScalar ch → bytes ≡ encode_utf8 ch ++ more → ⊥
+
 -- what is read of bytes, valid or not: the text of the valid front
 abbrev pub decoded : Bom → ℕ → List ℕ → List Placed
 decoded bom limit bytes = text bom (valid_front limit bytes)
+
+-- the places rise, from `first` on, and lie before `end`
+abbrev pub PlacesRise : ℕ → List Placed → ℕ → Type 0
+PlacesRise first [] end = first ≤ end
+PlacesRise first (p ∷ ps) end = (first ≤ p.at) × PlacesRise (p.at + 1) ps end
