@@ -7,6 +7,8 @@ pub mod decoder;
 pub mod laws;
 mod reading;
 pub mod sink;
+#[cfg(test)]
+mod tests;
 
 pub use decoder::{Decoder, MAX_INPUT};
 pub use sink::CharSink;
