@@ -1,7 +1,6 @@
 -- One piece more, after bytes that were read.
-use Rattle.std.proofs.Common.{◌≡◌, ℕ, ◌≤◌, ◌+◌, ◌-◌, Bool, true, false, List, [], ◌++◌, length, take, drop, sym, refl, ap, ◌∙◌, subst, arith, min, append_assoc, None, Some, Result, Ok, Err, cond, eqb, inl, inr}
+use Rattle.std.proofs.Common.{◌≡◌, ℕ, ◌<◌, ◌≤◌, ◌+◌, ◌-◌, Bool, true, false, List, [], ◌++◌, length, take, drop, sym, refl, ap, ◌∙◌, subst, arith, min, append_assoc, None, Some, Result, Ok, Err, cond, eqb}
 use Rattle.std.proofs.lemmas.List.{drop_at, take_min, length-append, length-take-le, take-append-drop, length-drop}
-use Rattle.std.proofs.lemmas.Bool.{cases_lt}
 use Rattle.std.proofs.lemmas.Bool.Decides.{nat_tests}
 use Rattle.std.proofs.lemmas.Str.{IsUtf8-append, chars-append}
 use Rattle.std.specs.Str.{chars, IsUtf8}
@@ -124,28 +123,23 @@ module _ (bom : Bom) (limit read : ℕ) (after_return : Bool) (fed piece joined 
     pub feeds_stuck : 4 ≤ length (drop (length text) joined) → Hands gives old (items (normalized bom after_return (placed read (chars text)))) (Ok tt) new → Feeds gives bom limit fed piece old (Err (refusal_with (utf8_valid_len (drop (length text) joined)) (read + length text))) new
     feeds_stuck four handed = took_all (hands_new (Ok tt) handed) (refused four)
 
--- what is answered at the end
-pub answer_is : (d : Progress) (fed : List ℕ) → HasFed d fed → refusal_of d.limit fed ≡ cond (eqb (length d.undecoded) 0) None (Some (refusal_with (utf8_valid_len d.undecoded) d.read))
-answer_is d fed h = elim (cases_lt 0 (length d.undecoded)) [
-  | inl some ↦
-      let k : eqb (length d.undecoded) 0 ≡ false = grind (arith, nat_tests) in
-      let front : List ℕ = take d.read fed in
-      let rest : List ℕ = drop d.read fed in
-      let le : (d.read ≤ d.limit) × (d.read ≤ length fed) = (omega (arith, h.front.length_is, valid_len_le d.limit fed), omega (arith, h.front.length_is, valid_len_le d.limit fed)) in
-      let u : IsUtf8 front = subst (λ (n : ℕ). IsUtf8 (take n fed)) (sym h.front.length_is) (valid_front_utf8 d.limit fed) in
-      let len : length front ≡ d.read = length-take-le d.read fed le.1 in
-      let stuck : valid_len (d.limit - length front) rest ≡ 0 =
-      omega (arith, valid_len-append d.limit front rest u (omega (arith, len, le)), ap (valid_len d.limit) (take-append-drop d.read fed), h.front.length_is, len) in
-      let p : refusal_of d.limit (front ++ rest) ≡ Some (refusal_with (utf8_valid_len rest) (length front)) =
-      refusal_past d.limit front rest u (omega (arith, len, le)) stuck (omega (arith, ap length h.undecoded)) in
-      ap (refusal_of d.limit) (sym (take-append-drop d.read fed)) ∙ p
-      ∙ ap (λ (x : ℕ). Some (refusal_with (utf8_valid_len rest) x)) len
-      ∙ ap (λ (x : List ℕ). Some (refusal_with (utf8_valid_len x) d.read)) (sym h.undecoded)
-      ∙ ap (λ (b : Bool). cond b None (Some (refusal_with (utf8_valid_len d.undecoded) d.read))) (sym k)
-  | inr none ↦
-      let k : eqb (length d.undecoded) 0 ≡ true = grind (arith, nat_tests) in
-      let all : valid_len d.limit fed ≡ length fed = omega (arith, h.front.length_is, valid_len_le d.limit fed, ap length h.undecoded, length-drop d.read fed) in
-      let e : eqb (valid_len d.limit fed) (length fed) ≡ true = grind (arith, nat_tests) in
-      ap (λ (b : Bool). cond b None (Some (refusal_with (utf8_valid_len fed - valid_len d.limit fed) (valid_len d.limit fed)))) e
-      ∙ ap (λ (b : Bool). cond b None (Some (refusal_with (utf8_valid_len d.undecoded) d.read))) (sym k)
-]
+-- where the input ends: nothing is left, or no character begins what is
+pub accepted_at_end : (d : Progress) (fed : List ℕ) → HasFed d fed → length d.undecoded ≡ 0 → refusal_of d.limit fed ≡ None
+accepted_at_end d fed h none =
+    let all : valid_len d.limit fed ≡ length fed = omega (arith, h.front.length_is, valid_len_le d.limit fed, ap length h.undecoded, length-drop d.read fed) in
+    let e : eqb (valid_len d.limit fed) (length fed) ≡ true = grind (arith, nat_tests) in
+    ap (λ (b : Bool). cond b None (Some (refusal_with (utf8_valid_len fed - valid_len d.limit fed) (valid_len d.limit fed)))) e
+
+pub refused_at_end : (d : Progress) (fed : List ℕ) → HasFed d fed → 0 < length d.undecoded → refusal_of d.limit fed ≡ Some (refusal_with (utf8_valid_len d.undecoded) d.read)
+refused_at_end d fed h some =
+    let front : List ℕ = take d.read fed in
+    let rest : List ℕ = drop d.read fed in
+    let le : (d.read ≤ d.limit) × (d.read ≤ length fed) = (omega (arith, h.front.length_is, valid_len_le d.limit fed), omega (arith, h.front.length_is, valid_len_le d.limit fed)) in
+    let u : IsUtf8 front = subst (λ (n : ℕ). IsUtf8 (take n fed)) (sym h.front.length_is) (valid_front_utf8 d.limit fed) in
+    let len : length front ≡ d.read = length-take-le d.read fed le.1 in
+    let stuck : valid_len (d.limit - length front) rest ≡ 0 =
+    omega (arith, valid_len-append d.limit front rest u (omega (arith, len, le)), ap (valid_len d.limit) (take-append-drop d.read fed), h.front.length_is, len) in
+    ap (refusal_of d.limit) (sym (take-append-drop d.read fed))
+    ∙ refusal_past d.limit front rest u (omega (arith, len, le)) stuck (omega (arith, ap length h.undecoded))
+    ∙ ap (λ (n : ℕ). Some (refusal_with (utf8_valid_len rest) n)) len
+    ∙ ap (λ (x : List ℕ). Some (refusal_with (utf8_valid_len x) d.read)) (sym h.undecoded)

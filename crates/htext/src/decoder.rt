@@ -110,7 +110,7 @@ impl Decoder {
         ensures limit { self.new.limit ≡ self.old.limit }
     {
         self.undecoded.push(byte)?;
-        let count = self.reading.read_on(&self.undecoded, sink)?;
+        let count = self.reading.advance(&self.undecoded, sink)?;
         remove_front(&mut self.undecoded, count);
         Ok(())
     }
@@ -124,7 +124,7 @@ impl Decoder {
         ensures bom { self.new.bom ≡ self.old.bom }
         ensures limit { self.new.limit ≡ self.old.limit }
     {
-        let count = self.reading.read_on(bytes, sink)?;
+        let count = self.reading.advance(bytes, sink)?;
         self.undecoded.extend_from_slice(&bytes[count..])?;
         Ok(())
     }
@@ -156,7 +156,7 @@ impl Decoder {
         if rest.is_empty() {
             return Ok(());
         }
-        let refusal = refusal_at(rest, self.reading.read);
+        let refusal = refusal_at(rest, self.read());
         self.refused = Some(refusal);
         Err(refusal)
     }

@@ -36,7 +36,7 @@ pub(crate) struct Reading {
 impl Reading {
     /// Reads the longest front of the bytes that is UTF-8 and fits, hands its text to the sink, and answers its length. Where
     /// a whole character's bytes are left after it, no character begins there: the bytes are refused.
-    pub(crate) fn read_on<S: CharSink>(
+    pub(crate) fn advance<S: CharSink>(
         &mut self,
         bytes: &[u8],
         sink: &mut S,

@@ -1,16 +1,18 @@
-use Rattle.std.proofs.Common.{◌≡◌, ℕ, Bool, true, false, List, length, sym, ap, ◌∙◌, cond, eqb, None, Some}
-use Rattle.std.specs.Str.Lossy.{utf8_valid_len}
-use Rattle.htext.specs.Text.{refusal_with}
+use Rattle.std.proofs.Common.{◌≡◌, ◌<◌, length, sym, ap, ◌∙◌, arith}
+use Rattle.std.proofs.lemmas.Bool.{eqb-true}
+use Rattle.std.proofs.lemmas.Bool.Decides.{nat_tests}
 use Rattle.htext.specs.Decoding.{answer_at_end}
-use Rattle.htext.proofs.Feeding.{answer_is}
+use Rattle.htext.proofs.Feeding.{accepted_at_end, refused_at_end}
 use Rattle.htext.proofs.decoder.Decoder.finish.Goals as goal
 
 pub returns-then-is_empty-clause-answer : goal.returns-then-is_empty-clause-answer
 returns-then-is_empty-clause-answer g c = rw (← c.self.view_is) (λ fed h.
-    let k : eqb (length c.self.inside.undecoded.items) 0 ≡ true = sym (c.is_empty.ensures ∙ ap (λ (x : List ℕ). eqb (length x) 0) c.as_slice-rest.ensures.value) ∙ c.if-is_empty.true in
-    sym (ap answer_at_end (answer_is _ fed h ∙ ap (λ (b : Bool). cond b None (Some (refusal_with (utf8_valid_len c.self.inside.undecoded.items) c.self.inside.reading.read))) k)))
+    let none : length c.self.inside.undecoded.items ≡ 0 = ap length (sym c.as_slice-rest.ensures.value) ∙ eqb-true _ _ (sym c.is_empty.ensures ∙ c.if-is_empty.true) in
+    sym (ap answer_at_end (accepted_at_end _ fed h none)))
 
 pub returns-clause-answer : goal.returns-clause-answer
 returns-clause-answer g c = rw (← c.self.view_is) (λ fed h.
-    let k : eqb (length c.self.inside.undecoded.items) 0 ≡ false = sym (c.is_empty.ensures ∙ ap (λ (x : List ℕ). eqb (length x) 0) c.as_slice-rest.ensures.value) ∙ c.if-is_empty.false in
-    rw (c.refusal_at-refusal.ensures, c.as_slice-rest.ensures.value) (sym (ap answer_at_end (answer_is _ fed h ∙ ap (λ (b : Bool). cond b None (Some (refusal_with (utf8_valid_len c.self.inside.undecoded.items) c.self.inside.reading.read))) k))))
+    let value = ap length c.as_slice-rest.ensures.value in
+    let test = sym c.is_empty.ensures ∙ c.if-is_empty.false in
+    let some : 0 < length c.self.inside.undecoded.items = grind (arith, nat_tests) in
+    rw (c.refusal_at-refusal.ensures, c.as_slice-rest.ensures.value, c.read.ensures, ← c.self.view_is) (sym (ap answer_at_end (refused_at_end _ fed h some))))

@@ -2,7 +2,7 @@ use Rattle.std.proofs.Common.{◌≡◌, ◌-◌, ℕ, Ok, length, drop, arith}
 use Rattle.std.proofs.lemmas.Result.{err_from_is_err_and}
 use Rattle.std.proofs.lemmas.List.{length-drop, take_all}
 use Rattle.htext.proofs.Feeding.{valid_front_is, hands_new, has_read, rest_is, feeds_refused, feeds_stuck}
-use Rattle.htext.proofs.reading.Reading.read_on.Goals as goal
+use Rattle.htext.proofs.reading.Reading.advance.Goals as goal
 
 pub returns-in_err-hand_text-clause-reads : goal.returns-in_err-hand_text-clause-reads
 returns-in_err-hand_text-clause-reads g c = λ fed piece h j.
