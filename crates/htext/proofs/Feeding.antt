@@ -124,9 +124,12 @@ module _ (bom : Bom) (limit read : ℕ) (after_return : Bool) (fed piece joined 
     feeds_stuck four handed = took_all (hands_new (Ok tt) handed) (refused four)
 
 -- where the input ends: nothing is left, or no character begins what is
+pub read_at_end : (d : Progress) (fed : List ℕ) → HasFed d fed → length d.undecoded ≡ 0 → d.read ≡ length fed
+read_at_end d fed h none = omega (arith, h.front.length_is, valid_len_le d.limit fed, ap length h.undecoded, length-drop d.read fed)
+
 pub accepted_at_end : (d : Progress) (fed : List ℕ) → HasFed d fed → length d.undecoded ≡ 0 → refusal_of d.limit fed ≡ None
 accepted_at_end d fed h none =
-    let all : valid_len d.limit fed ≡ length fed = omega (arith, h.front.length_is, valid_len_le d.limit fed, ap length h.undecoded, length-drop d.read fed) in
+    let all : valid_len d.limit fed ≡ length fed = omega (arith, h.front.length_is, read_at_end d fed h none) in
     let e : eqb (valid_len d.limit fed) (length fed) ≡ true = grind (arith, nat_tests) in
     ap (λ (b : Bool). cond b None (Some (refusal_with (utf8_valid_len fed - valid_len d.limit fed) (valid_len d.limit fed)))) e
 

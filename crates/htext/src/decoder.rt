@@ -1,6 +1,6 @@
 //! Bytes in any pieces, read as UTF-8 up to a limit.
 
-ghost use Rattle.std.specs.Prelude.{◌≡◌, ◌≤◌, ℕ, List, [], ◌∷◌, ◌++◌, drop, Some, Ok, Err, OnOk, IfErr, vec_len};
+ghost use Rattle.std.specs.Prelude.{◌≡◌, ◌≤◌, ℕ, List, [], ◌∷◌, ◌++◌, length, drop, Some, Ok, Err, OnOk, IfErr, vec_len};
 ghost use Rattle.names.specs.declared.refusal.Refusal.{Refusal as Refused};
 ghost use Rattle.htext.specs.Text.{refusal_of, decoded, valid_len};
 ghost use Rattle.htext.specs.Decoding.{HasFed, Feeds, answer_at_end};
@@ -140,6 +140,7 @@ impl Decoder {
     pub fn finish<S: CharSink>(&mut self, sink: &mut S) -> Result<(), Refusal>
         ensures answer { (fed : List ℕ) → HasFed self.old fed
             → result ≡ answer_at_end (refusal_of self.old.limit fed) }
+        ensures whole { OnOk result ((fed : List ℕ) → HasFed self.old fed → self.old.read ≡ length fed) }
         ensures sink { sink.new ≡ sink.old }
         ensures unchanged { OnOk result (self.new ≡ self.old) }
 

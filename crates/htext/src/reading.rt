@@ -35,7 +35,7 @@ pub(crate) struct Reading {
 
 impl Reading {
     /// Reads the longest front of the bytes that is UTF-8 and fits, hands its text to the sink, and answers its length. Where
-    /// a whole character's bytes are left after it, no character begins there: the bytes are refused.
+    /// no fewer bytes are left than the longest character has, no character begins there, and the bytes are refused.
     pub(crate) fn advance<S: CharSink>(
         &mut self,
         bytes: &[u8],

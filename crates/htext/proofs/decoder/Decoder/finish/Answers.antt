@@ -2,13 +2,18 @@ use Rattle.std.proofs.Common.{◌≡◌, ◌<◌, length, sym, ap, ◌∙◌, ar
 use Rattle.std.proofs.lemmas.Bool.{eqb-true}
 use Rattle.std.proofs.lemmas.Bool.Decides.{nat_tests}
 use Rattle.htext.specs.Decoding.{answer_at_end}
-use Rattle.htext.proofs.Feeding.{accepted_at_end, refused_at_end}
+use Rattle.htext.proofs.Feeding.{read_at_end, accepted_at_end, refused_at_end}
 use Rattle.htext.proofs.decoder.Decoder.finish.Goals as goal
 
 pub returns-then-is_empty-clause-answer : goal.returns-then-is_empty-clause-answer
 returns-then-is_empty-clause-answer g c = rw (← c.self.view_is) (λ fed h.
     let none : length c.self.inside.undecoded.items ≡ 0 = ap length (sym c.as_slice-rest.ensures.value) ∙ eqb-true _ _ (sym c.is_empty.ensures ∙ c.if-is_empty.true) in
     sym (ap answer_at_end (accepted_at_end _ fed h none)))
+
+pub returns-then-is_empty-clause-whole : goal.returns-then-is_empty-clause-whole
+returns-then-is_empty-clause-whole g c = rw (← c.self.view_is) (λ fed h.
+    let none : length c.self.inside.undecoded.items ≡ 0 = ap length (sym c.as_slice-rest.ensures.value) ∙ eqb-true _ _ (sym c.is_empty.ensures ∙ c.if-is_empty.true) in
+    read_at_end _ fed h none)
 
 pub returns-clause-answer : goal.returns-clause-answer
 returns-clause-answer g c = rw (← c.self.view_is) (λ fed h.
