@@ -5,6 +5,7 @@ use Rattle.std.specs.Prelude.{⊤}
 use Rattle.std.specs.Str.{chars, IsUtf8}
 use Rattle.std.specs.Char.{encode_utf8, len_utf8}
 use Rattle.names.specs.Placed.{placed}
+use Rattle.names.proofs.Handing.{Hands-append}
 use Rattle.names.specs.Sink.{Hands, Continues}
 use Rattle.names.specs.declared.placed.Placed.{Placed}
 use Rattle.names.specs.declared.refusal.Refusal.{Refusal}
@@ -13,12 +14,6 @@ use Rattle.htext.specs.Text.{read_as, normalized, refusal_of, decoded}
 use Rattle.htext.specs.Items.{CharItem, items}
 use Rattle.htext.specs.Decoding.{HandsNew, Feeds, IsRefusedFrom, ran_out, sink_refused, took_all}
 use Rattle.htext.proofs.Texts.{items-append, decoded_goes_on}
-
--- items after items
-pub Hands-append : {S X E : Type 0} (gives : S → X → Result (Unit {0}) E → S → Type 0) (old : S) (xs ys : List X) (middle : S) (answer : Result (Unit {0}) E) (new : S) → Hands gives old xs (Ok tt) middle → Hands gives middle ys answer new → Hands gives old (xs ++ ys) answer new
-Hands-append gives old [] ys middle answer new (ok, same) h = subst (λ s. Hands gives s ys answer new) (sym same) h
-Hands-append gives old (x ∷ xs) ys middle answer new (Ok u, next, given, rest) h = (Ok u, next, given, Hands-append gives next xs ys middle answer new rest h)
-Hands-append gives old (x ∷ xs) ys middle answer new (Err e, next, given, (differs, same)) h = absurd cc
 
 -- where the sink refused, whatever would have come after
 pub Hands-front : {S X E : Type 0} (gives : S → X → Result (Unit {0}) E → S → Type 0) (old : S) (xs ys : List X) (e : E) (new : S) → Hands gives old xs (Err e) new → Hands gives old (xs ++ ys) (Err e) new
@@ -35,7 +30,7 @@ module _ {S : Type 0} (gives : S → CharItem → Result (Unit {0}) Refusal → 
   HandsNew-append before middle after old between answer new (xs, to_middle, first) (ys, to_after, second) = (
     xs ++ ys,
     to_after ∙ ap (λ (x : List Placed). x ++ ys) to_middle ∙ append_assoc (decoded bom limit before) xs ys,
-    subst (λ x. Hands gives old x answer new) (sym (items-append xs ys)) (Hands-append gives old (items xs) (items ys) between answer new first second),
+    subst (λ x. Hands gives old x answer new) (sym (items-append xs ys)) (Hands-append gives old between new (items xs) (items ys) answer first second),
   )
 
   -- where the sink refused, whatever comes after
@@ -89,7 +84,7 @@ module _ {S : Type 0} (gives : S → CharItem → Result (Unit {0}) Refusal → 
 
   -- the next character was taken
   pub hand_more : (c : ℕ) (others : List ℕ) (next : S) → IsUtf8 bytes → bytes ≡ encode_utf8 c ++ others → Hands gives now (items (read_as bom after_return (record { ch = c; at = at }))) (Ok tt) next → Continues gives old all next (items (normalized bom (eqb c 13) (placed (at + len_utf8 c) (chars others))))
-  hand_more c others next u is handed = λ answer new h. hand_on c others u is answer new (Hands-append gives now _ _ next answer new handed h)
+  hand_more c others next u is handed = λ answer new h. hand_on c others u is answer new (Hands-append gives now next new _ _ answer handed h)
 
   -- it was refused
   pub hand_refused : (c : ℕ) (others : List ℕ) (next : S) (e : Refusal) → IsUtf8 bytes → bytes ≡ encode_utf8 c ++ others → Hands gives now (items (read_as bom after_return (record { ch = c; at = at }))) (Err e) next → Hands gives old all (Err e) next
