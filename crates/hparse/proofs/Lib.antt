@@ -1,0 +1,14 @@
+pub mod AttributeWords
+pub mod CallLemmas
+pub mod Escapes
+pub mod Gathered
+pub mod Grouping
+pub mod Held
+pub mod Joined
+pub mod Meanings
+pub mod Meant
+pub mod OpenLines
+pub mod Pieces
+pub mod StartTag
+pub mod Turns
+pub mod Written

@@ -1,0 +1,14 @@
+pub mod Answer
+pub mod Calls
+pub mod Collecting
+pub mod Command
+pub mod Counted
+pub mod Fed
+pub mod Holding
+pub mod Quoted
+pub mod Refusal
+pub mod Running
+pub mod Shown
+pub mod TokenLineRows
+pub mod TokenLines
+pub mod TokenRun

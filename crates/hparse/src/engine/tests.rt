@@ -1,0 +1,223 @@
+//! Runs over readers and writers that take a byte a call, and that fail.
+
+ghost use Rattle.std.specs.Prelude.{◌<◌};
+
+use crate::command::{Command, Task};
+use crate::engine::run;
+use crate::source::Source;
+use crate::target::Target;
+use names::Refusal;
+use std::alloc::Global;
+use std::process::Abort;
+use std::test::Fail;
+
+const INPUT: &[u8] = b"<p>a<!--b--></p>";
+
+const LINES: &str = "0 start \"p\"\n3 chars \"a\"\n4 comment \"b\"\n12 end \"p\"\n16 eof\n";
+
+/// A number that no call has.
+const NEVER: u64 = 1_000_000;
+
+/// Gives one byte a call, and fails at one call (from 1).
+#[derive(Drop)]
+struct Reader<'a> {
+    rest: &'a [u8],
+    calls: u64,
+    failing_call: u64,
+    failures: u64,
+}
+
+impl<'a> Reader<'a> {
+    fn new(bytes: &'a [u8], failing_call: u64) -> Self {
+        Reader {
+            rest: bytes,
+            calls: 0,
+            failing_call,
+            failures: 0,
+        }
+    }
+}
+
+impl<'a> Source for Reader<'a> {
+    ghost use Rattle.std.specs.Prelude.{Some};
+
+    ghost left = { λ reader. Some reader.rest.now };
+
+    ghost failed = { λ reader. reader.failures };
+
+    fn read(&mut self, buffer: &mut [u8]) -> Option<usize> {
+        self.calls = self.calls.saturating_add(1);
+        if self.calls == self.failing_call {
+            self.failures = self.failures.saturating_add(1);
+            return None;
+        }
+        if buffer.is_empty() {
+            return Some(0);
+        }
+        match self.rest.split_first() {
+            None => Some(0),
+            Some((first, rest)) => {
+                buffer[0] = *first;
+                self.rest = rest;
+                Some(1)
+            }
+        }
+    }
+
+    fn failures(&self) -> u64 {
+        self.failures
+    }
+}
+
+/// Takes one byte a call, and fails at one call (from 1).
+#[derive(Drop)]
+struct Writer {
+    text: Vec<u8>,
+    calls: u64,
+    failing_call: u64,
+    failures: u64,
+    flushed: bool,
+}
+
+impl Writer {
+    fn new(alloc: Global, failing_call: u64) -> Self {
+        Writer {
+            text: Vec::new(alloc),
+            calls: 0,
+            failing_call,
+            failures: 0,
+            flushed: false,
+        }
+    }
+}
+
+impl Target for Writer {
+    ghost use Rattle.std.specs.Prelude.{Some};
+
+    ghost written = { λ writer. Some writer.text.items };
+
+    ghost failed = { λ writer. writer.failures };
+
+    fn write(&mut self, bytes: &[u8]) -> Option<usize> {
+        self.calls = self.calls.saturating_add(1);
+        if bytes.is_empty() {
+            return Some(0);
+        }
+        if self.calls == self.failing_call || self.text.push(bytes[0]).is_err() {
+            self.failures = self.failures.saturating_add(1);
+            return None;
+        }
+        Some(1)
+    }
+
+    fn flush(&mut self) -> bool {
+        self.calls = self.calls.saturating_add(1);
+        if self.calls == self.failing_call {
+            self.failures = self.failures.saturating_add(1);
+            return false;
+        }
+        self.flushed = true;
+        true
+    }
+
+    fn failures(&self) -> u64 {
+        self.failures
+    }
+}
+
+/// Runs over an input, and asks for this answer; what was written is handed back.
+fn expect_answer(
+    rt: &impl Abort,
+    alloc: Global,
+    reader: &mut Reader,
+    writer: &mut Writer,
+    piece: usize,
+    answer: Result<(), Refusal>,
+)
+    requires { 0 < piece }
+{
+    let command = Command {
+        task: Task::Tokens,
+        piece,
+    };
+    let found = run(alloc, command, 1_000, reader, writer);
+    assert_eq!(rt; found, answer);
+}
+
+#[test]
+fn any_piece_gives_the_same_lines(rt: HostRuntime) -> Result<(), Fail> {
+    for piece in 1..20 {
+        let mut reader = Reader::new(INPUT, NEVER);
+        let mut writer = Writer::new(rt.alloc(), NEVER);
+        expect_answer(&rt, rt.alloc(), &mut reader, &mut writer, piece, Ok(()));
+        assert_eq!(rt; writer.text.as_slice(), LINES.as_bytes());
+        assert!(rt; writer.flushed);
+        assert_eq!(rt; reader.rest.len(), 0);
+    }
+    Ok(())
+}
+
+#[test]
+fn a_read_that_fails(rt: HostRuntime) -> Result<(), Fail> {
+    // One call a byte, and one that finds the end.
+    for call in 1..18 {
+        let mut reader = Reader::new(INPUT, call);
+        let mut writer = Writer::new(rt.alloc(), NEVER);
+        expect_answer(
+            &rt,
+            rt.alloc(),
+            &mut reader,
+            &mut writer,
+            4,
+            Err(Refusal::Read),
+        );
+        assert_eq!(rt; reader.calls, call);
+        assert_eq!(rt; reader.failures(), 1);
+        assert_eq!(rt; writer.calls, 0);
+    }
+    Ok(())
+}
+
+#[test]
+fn a_write_that_fails(rt: HostRuntime) -> Result<(), Fail> {
+    // One call a byte, and one that hands on what is held back.
+    for call in 1..58 {
+        let mut reader = Reader::new(INPUT, NEVER);
+        let mut writer = Writer::new(rt.alloc(), call);
+        expect_answer(
+            &rt,
+            rt.alloc(),
+            &mut reader,
+            &mut writer,
+            4,
+            Err(Refusal::Write),
+        );
+        assert_eq!(rt; writer.calls, call);
+        assert_eq!(rt; writer.failures(), 1);
+        assert_eq!(rt; writer.text.len() as u64, call - 1);
+        assert!(rt; LINES.as_bytes().starts_with(&writer.text));
+        assert!(rt; !writer.flushed);
+    }
+    Ok(())
+}
+
+#[test]
+fn a_refusal_writes_nothing(rt: HostRuntime) -> Result<(), Fail> {
+    let mut reader = Reader::new(b"a<title>b", NEVER);
+    let mut writer = Writer::new(rt.alloc(), NEVER);
+    let refusal = Err(Refusal::NotYet { at: 1 });
+    expect_answer(&rt, rt.alloc(), &mut reader, &mut writer, 4, refusal);
+    assert_eq!(rt; writer.calls, 0);
+    Ok(())
+}
+
+#[test]
+fn reading_stops_where_bytes_are_refused(rt: HostRuntime) -> Result<(), Fail> {
+    let mut reader = Reader::new(b"a\xFFbcdefghij", NEVER);
+    let mut writer = Writer::new(rt.alloc(), NEVER);
+    let refusal = Err(Refusal::NotUtf8 { at: 1 });
+    expect_answer(&rt, rt.alloc(), &mut reader, &mut writer, 4, refusal);
+    assert_eq!(rt; writer.calls, 0);
+    assert!(rt; reader.rest.len() > 4);
+    Ok(())
+}

@@ -1,0 +1,93 @@
+//! A tokenizer that is fed the text of a document.
+
+ghost use Rattle.std.specs.Prelude.{◌≡◌, List, [], IfOk, MatchResult, false};
+ghost use Rattle.names.specs.declared.refusal.Refusal.TheVariants.{Memory};
+ghost use Rattle.htext.specs.Items.{CharItem};
+ghost use Rattle.hparse.specs.Holding.{HoldsItems, EndsText, Refuses, is_of_bytes, IsRunOf};
+
+use crate::collect::Collected;
+use crate::token_run::TokenRun;
+use hmarkup::ErrorSink;
+use htext::CharSink;
+use htoken::{Start, Tokenizer};
+use names::{Names, ParseError, Refusal};
+use std::alloc::{AllocError, Global};
+
+/// A tokenizer, with the names of its tokens and what has been collected.
+#[derive(Drop)]
+pub struct Feeding {
+    pub names: Names,
+    pub tokenizer: Tokenizer,
+    pub collected: Collected,
+}
+
+impl Feeding {
+    pub fn new(alloc: Global) -> Result<Feeding, AllocError>
+        ensures { IfOk result (λ feeding. HoldsItems feeding []) }
+    {
+        Ok(Feeding {
+            names: Names::new(alloc)?,
+            tokenizer: Tokenizer::new(alloc, Start::Document),
+            collected: Collected {
+                tokens: Vec::new(alloc),
+                errors: Vec::new(alloc),
+            },
+        })
+    }
+
+    /// Says that the text ends, at the input's byte `end`.
+    pub fn finish(&mut self, end: u64) -> Result<(), Refusal>
+        ensures { (items : List CharItem) → HoldsItems self.old items → EndsText items end result self.new }
+    {
+        self.tokenizer
+            .finish(&mut self.names, end, &mut self.collected)
+    }
+
+    /// What is answered where a decoder, after this text, has answered a refusal: the text's own comes first, where it ends
+    /// at the byte that is refused.
+    pub fn refuse(&mut self, refusal: Refusal) -> Refusal
+        ensures answer { (held : List CharItem) → HoldsItems self.old held → Refuses held refusal result }
+        ensures other { is_of_bytes refusal ≡ false → result ≡ refusal }
+    {
+        match refusal {
+            Refusal::NotUtf8 { at } | Refusal::TooLarge { at } => match self.finish(at) {
+                Ok(()) => refusal,
+                Err(earlier) => earlier,
+            },
+            _ => refusal,
+        }
+    }
+
+    /// What has been collected, with the errors in their order.
+    pub fn into_run(self) -> Result<TokenRun, Refusal>
+        ensures { MatchResult result (IsRunOf self) (λ refusal. refusal ≡ Memory) }
+    {
+        let Feeding {
+            names,
+            collected,
+            ..
+        } = self;
+        let Collected { tokens, mut errors } = collected;
+        errors.sort_by_key(|error| (error.at, error.code.rank()))?;
+        Ok(TokenRun {
+            names,
+            tokens,
+            errors,
+        })
+    }
+}
+
+impl CharSink for Feeding {
+    ghost use Rattle.hparse.specs.Holding.{Steps};
+
+    ghost gives = { Steps };
+
+    fn take_char(&mut self, ch: char, at: u64) -> Result<(), Refusal> {
+        self.tokenizer
+            .feed_char(&mut self.names, ch, at, &mut self.collected)
+    }
+
+    fn take_error(&mut self, error: ParseError) -> Result<(), Refusal> {
+        self.collected.take_error(error)
+    }
+}

@@ -1,0 +1,58 @@
+//! A document that comes in pieces.
+
+ghost use Rattle.std.specs.Prelude.{◌≤◌, ℕ, List, [], ◌++◌, IfOk};
+ghost use Rattle.hparse.specs.Fed.{HasRead, FeedsPiece};
+ghost use Rattle.hparse.specs.Shown.{Shows};
+
+use crate::feeding::Feeding;
+use crate::token_run::TokenRun;
+use htext::{Bom, Decoder, MAX_INPUT};
+use names::Refusal;
+use std::alloc::{AllocError, Global};
+
+/// The decoder of a document, and what its text is fed to.
+#[derive(Drop)]
+pub struct Reading {
+    pub decoder: Decoder,
+    pub feeding: Feeding,
+}
+
+impl Reading {
+    /// A document of at most `input_limit` bytes.
+    pub fn new(alloc: Global, input_limit: u64) -> Result<Reading, AllocError>
+        requires { input_limit ≤ MAX_INPUT }
+        ensures { IfOk result (λ reading. HasRead input_limit reading []) }
+    {
+        Ok(Reading {
+            decoder: Decoder::new(alloc, Bom::Drop, input_limit),
+            feeding: Feeding::new(alloc)?,
+        })
+    }
+
+    /// Reads the next piece. Nothing is fed after an error.
+    pub fn feed(&mut self, piece: &[u8]) -> Result<(), Refusal>
+        ensures { (limit : ℕ) (bytes : List ℕ) → HasRead limit self.old bytes → FeedsPiece limit (bytes ++ piece.now) result self.new }
+    {
+        match self.decoder.feed(piece, &mut self.feeding) {
+            Ok(()) => Ok(()),
+            Err(refusal) => Err(self.feeding.refuse(refusal)),
+        }
+    }
+
+    /// The answer, where the document has ended.
+    pub fn finish(self) -> Result<TokenRun, Refusal>
+        ensures { (limit : ℕ) (bytes : List ℕ) → HasRead limit self bytes → Shows limit bytes result }
+    {
+        let Reading {
+            mut decoder,
+            mut feeding,
+        } = self;
+        match decoder.finish(&mut feeding) {
+            Ok(()) => {
+                feeding.finish(decoder.read())?;
+                feeding.into_run()
+            }
+            Err(refusal) => Err(feeding.refuse(refusal)),
+        }
+    }
+}

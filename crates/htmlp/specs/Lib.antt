@@ -1,0 +1,3 @@
+pub mod Ending
+pub mod Fault
+pub mod Line

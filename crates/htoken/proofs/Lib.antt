@@ -1,0 +1,9 @@
+pub mod Runs
+pub mod Tags
+pub mod Comments
+pub mod Bogus
+pub mod Markup
+pub mod Handing
+pub mod Whole
+pub mod Finishing
+pub mod Feeding

@@ -1,0 +1,9 @@
+pub mod Token
+pub mod Standing
+pub mod Data
+pub mod NotYet
+pub mod Tokens
+pub mod Handing
+pub mod Tokenizing
+pub mod Reading
+pub mod Rows
