@@ -7,8 +7,7 @@ mod check;
 use crate::case::Case;
 use crate::check::check;
 use anyhow::{Context, Result};
-use std::env;
-use std::fs;
+use std::{env, fs};
 
 fn main(rt: HostRuntime) -> Result<()> {
     let mut words = env::args(&rt)?.skip(1);

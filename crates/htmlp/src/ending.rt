@@ -6,8 +6,7 @@ ghost use Rattle.htmlp.specs.Ending.{ending_text, fault_line, fault_status, refu
 ghost use Rattle.hparse.specs.Refusal.{detail_of, detail_text, number_of, number_text, refusal_text};
 
 use crate::fault::Fault;
-use hparse::RefusalText;
-use hparse::{Target, write_all};
+use hparse::{RefusalText, Target, write_all};
 use itoa::Buffer;
 use names::Refusal;
 use std::fmt;

@@ -4,8 +4,8 @@ ghost use Rattle.std.specs.Prelude.{◌≡◌};
 ghost use Rattle.htmlp.specs.Fault.{fault_of_error};
 ghost use Rattle.htmlp.specs.declared.fault.Fault.TheVariants as fault;
 
-use hparse::RefusalText;
 use clap::error::ErrorKind;
+use hparse::RefusalText;
 use names::Refusal;
 use std::alloc::AllocError;
 use thiserror::Error;

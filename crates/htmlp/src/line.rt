@@ -7,10 +7,10 @@ ghost use Rattle.clap.specs.declared.builder.command.Command.TheViews.{out-Comma
 ghost use Rattle.htmlp.specs.Line.{command_shape, file_rule, number_of, number_rule, piece_of, program, task_of, value_of, FaultOf, IsPiece};
 ghost use Rattle.htmlp.specs.declared.fault.Fault.TheVariants as fault;
 
-use crate::said::Line;
-use hparse::{Command, Task};
 use crate::fault::Fault;
+use crate::said::Line;
 use clap::Arg;
+use hparse::{Command, Task};
 use std::alloc::{AllocError, Global};
 
 /// The most bytes that are fed at a time, which is also how many they are where no option says so.

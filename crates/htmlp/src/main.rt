@@ -23,7 +23,9 @@ fn main(rt: HostRuntime) -> ExitCode {
 
 /// Does what the words of the command line say.
 fn answer(rt: &HostRuntime) -> Result<(), Fault> {
-    let words: Vec<String> = env::args(rt).map_err(|_| Fault::Memory)?.collect(rt.alloc())?;
+    let words: Vec<String> = env::args(rt)
+        .map_err(|_| Fault::Memory)?
+        .collect(rt.alloc())?;
     let texts: Vec<&str> = words.iter().map(|word| word.as_str()).collect(rt.alloc())?;
     do_line(rt, &line::line(rt.alloc(), &texts)?)
 }
@@ -36,9 +38,21 @@ fn do_line(rt: &HostRuntime, line: &said::Line) -> Result<(), Fault>
     match line.file {
         Some(name) => {
             let file = File::open(rt, name).map_err(|_| Fault::CannotRead)?;
-            run(rt.alloc(), line.command, MAX_INPUT, &mut Counted::new(file), &mut target)?;
+            run(
+                rt.alloc(),
+                line.command,
+                MAX_INPUT,
+                &mut Counted::new(file),
+                &mut target,
+            )?;
         }
-        None => run(rt.alloc(), line.command, MAX_INPUT, &mut Counted::new(rt.stdin()), &mut target)?,
+        None => run(
+            rt.alloc(),
+            line.command,
+            MAX_INPUT,
+            &mut Counted::new(rt.stdin()),
+            &mut target,
+        )?,
     }
     Ok(())
 }

@@ -16,8 +16,8 @@ returns-then-is_empty-clause-reads c =
     let some : 0 < length c.args.text.now = omega (arith, mark_some c.args.kind, c.requires.within) in
     let read = c.in_ok-cut_off.ensures in
     reads_unfinished c.args.end c.args.kind c.args.text.now c.tag_parts.result.0.now c.tag_parts.result.1.now _ c.requires.opens c.tag_parts.ensures some c.args.names.now _
-      (eqb-true _ _ (sym c.is_empty.ensures ∙ c.if-is_empty.true)) read.0 read.1
-      (read.2 ∙ ap (λ (es : List ParseError). es ++ error EofInTag c.args.end ∷ []) (c.in_ok-errors.ensures ∙ errors_found (λ x. eqb x 0) UnexpectedNullCharacter c.tag_parts.result.0.now))
+    (eqb-true _ _ (sym c.is_empty.ensures ∙ c.if-is_empty.true)) read.0 read.1
+    (read.2 ∙ ap (λ (es : List ParseError). es ++ error EofInTag c.args.end ∷ []) (c.in_ok-errors.ensures ∙ errors_found (λ x. eqb x 0) UnexpectedNullCharacter c.tag_parts.result.0.now))
 
 pub returns-then-more-ne62-clause-reads : goal.returns-then-more-ne62-clause-reads
 returns-then-more-ne62-clause-reads c =
