@@ -18,6 +18,10 @@ const REFUSED: u8 = 2;
 /// The status of a fault.
 const FAULT: u8 = 3;
 
+const CANNOT_READ: &[u8] = b"fault: cannot read\n";
+
+const CANNOT_WRITE: &[u8] = b"fault: cannot write\n";
+
 /// Writes the line that tells why there is no answer, where one is due, and answers the status of the program: 0 for an
 /// answer, 2 for a refusal, 3 for a fault. A failed write of the line changes no status.
 pub fn ending<W: Target>(outcome: &Result<(), Fault>, target: &mut W) -> u8
@@ -50,8 +54,8 @@ fn write_fault<W: Target>(target: &mut W, fault: &Fault) -> Result<(), Refusal>
 {
     match fault {
         Fault::Memory => write_part(target, b"fault: out of memory\n"),
-        Fault::CannotRead => write_part(target, b"fault: cannot read\n"),
-        Fault::CannotWrite => write_part(target, b"fault: cannot write\n"),
+        Fault::CannotRead => write_part(target, CANNOT_READ),
+        Fault::CannotWrite => write_part(target, CANNOT_WRITE),
         Fault::Refused(refusal) => write_refusal(target, *refusal),
         Fault::Line(error) => write!(Text(target), "{error}").or(Err(Refusal::Write)),
         Fault::Number { .. } => writeln!(Text(target), "error: {fault}").or(Err(Refusal::Write)),
@@ -63,8 +67,8 @@ fn write_refusal<W: Target>(target: &mut W, refusal: Refusal) -> Result<(), Refu
         (refusal_line refusal) result }
 {
     match refusal {
-        Refusal::Read => write_part(target, b"fault: cannot read\n"),
-        Refusal::Write => write_part(target, b"fault: cannot write\n"),
+        Refusal::Read => write_part(target, CANNOT_READ),
+        Refusal::Write => write_part(target, CANNOT_WRITE),
         _ => write_refused(target, RefusalText(refusal)),
     }
 }
