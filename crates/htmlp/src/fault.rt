@@ -10,7 +10,7 @@ use names::Refusal;
 use std::alloc::AllocError;
 use thiserror::Error;
 
-/// Why the program ends without an answer. The text is that of its line on standard error.
+/// Why the program ends without an answer. The text stands in its line on standard error.
 #[derive(Debug, Drop, Error)]
 pub enum Fault {
     /// No memory was left to read the command line in.
