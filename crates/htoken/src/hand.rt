@@ -6,10 +6,11 @@ ghost use Rattle.htoken.specs.Reading.{items_of};
 
 use crate::sink::TokenSink;
 use crate::span::ReadSpan;
+use hmarkup::ErrorSink;
 use names::{ParseError, Refusal};
 
 /// Hands over errors, up to the first that is refused.
-fn hand_errors<S: TokenSink>(errors: &[ParseError], sink: &mut S) -> Result<(), Refusal>
+fn hand_errors<S: ErrorSink>(errors: &[ParseError], sink: &mut S) -> Result<(), Refusal>
     ensures { Hands S.gives sink.old errors.now result sink.new }
 {
     for error in errors {
