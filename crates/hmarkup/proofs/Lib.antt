@@ -9,3 +9,16 @@ pub mod OneSpan
 pub mod Begins
 pub mod Ending
 pub mod OneKind
+pub mod Characters
+pub mod Parts
+pub mod Spaces
+pub mod Endings
+pub mod Stepping
+pub mod Skipping
+pub mod Keywords
+pub mod Naming
+pub mod Quoting
+pub mod Phases
+pub mod Reading
+pub mod Outcomes
+pub mod Lines

@@ -122,7 +122,7 @@ spells-long (c ∷ cs) [] ys l h = absurd (omega (arith, l))
 spells-long (c ∷ cs) (x ∷ xs) ys l h = over (eqb x.ch c) (spells cs xs) (spells cs (xs ++ ys)) (spells-long cs xs ys (omega (arith, l))) h
 
 -- a text spells its own characters
-eqb_self : (n : ℕ) → eqb n n ≡ true
+pub eqb_self : (n : ℕ) → eqb n n ≡ true
 eqb_self n = grind (arith, nat_tests)
 
 spells-own : (xs rest : List Placed) → spells (characters xs) (xs ++ rest) ≡ true

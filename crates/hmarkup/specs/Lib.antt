@@ -3,3 +3,9 @@ pub mod Walk
 pub mod CommentWalk
 pub mod Steps
 pub mod Rows
+pub mod Doctype
+pub mod DoctypeSteps
+pub mod DoctypeWalk
+pub mod Quirks
+pub mod DoctypeRows
+pub mod QuirksRows

@@ -15,7 +15,8 @@ ghost use Rattle.hmarkup.specs.Steps.{next};
 
 use crate::sink::ErrorSink;
 use crate::tail::{Ending, Opening};
-use names::{ErrorCode, ParseError, Refusal};
+use crate::taking::{push, tell};
+use names::{ErrorCode, Refusal};
 use std::alloc::{AllocError, Global};
 use std::marker::Model;
 
@@ -47,13 +48,6 @@ impl Model for CommentWalk {
     ghost view = { λ w. record { kind = w.kind; ending = w.ending; opening = w.opening; «data» = string_bytes w.text } };
 }
 
-/// Hands over an error.
-fn tell<S: ErrorSink>(code: ErrorCode, at: u64, errors: &mut S) -> Result<(), Refusal>
-    ensures { S.gives errors.old (error code at) result errors.new }
-{
-    errors.take_error(ParseError { code, at })
-}
-
 /// Hands over the errors of a character.
 fn report<S: ErrorSink>(nested: bool, ch: char, at: u64, errors: &mut S) -> Result<(), Refusal>
     ensures { Hands S.gives errors.old (errors_here nested (record { ch = ch; at = at })) result errors.new }
@@ -65,16 +59,6 @@ fn report<S: ErrorSink>(nested: bool, ch: char, at: u64, errors: &mut S) -> Resu
         return tell(ErrorCode::UnexpectedNullCharacter, at, errors);
     }
     Ok(())
-}
-
-/// Adds a character to a text; NUL as U+FFFD.
-fn push(text: &mut String, ch: char) -> Result<(), AllocError>
-    ensures { OnOk result (string_bytes text.new ≡ string_bytes text.old ++ encode_utf8 (without_null ch)) }
-{
-    if ch == '\0' {
-        return text.push('\u{FFFD}');
-    }
-    text.push(ch)
 }
 
 impl CommentWalk {

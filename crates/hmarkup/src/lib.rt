@@ -1,9 +1,18 @@
-//! Comments, and what is read as one, a character at a time (HTML Standard, 13.2.5.41 and 13.2.5.43 to 13.2.5.52).
+//! Comments, what is read as one, and doctypes, a character at a time (HTML Standard, 13.2.5.41 and 13.2.5.43 to 13.2.5.68).
 #![tactic(auto)]
 
 pub mod comment;
+pub mod doctype;
+#[cfg(test)]
+mod kept;
+mod keyword;
+mod phase;
+pub mod quirks;
 pub mod sink;
 mod tail;
+mod taking;
 
 pub use comment::{CommentKind, CommentWalk};
+pub use doctype::{Doctype, DoctypeWalk};
+pub use quirks::{QuirkKind, Quirks};
 pub use sink::ErrorSink;

@@ -1,6 +1,7 @@
 //! Whole texts, read by a walk.
 
 use super::*;
+use crate::kept::Errors;
 use names::ErrorCode::{
     AbruptClosingOfEmptyComment as Abrupt, EofInComment as Eof,
     IncorrectlyClosedComment as Incorrect, NestedComment as Nested,
@@ -43,25 +44,6 @@ const BOGUS: [Row; 4] = [
     (">", "", 2, &[]),
 ];
 
-/// Keeps errors, as many as it has room for.
-#[derive(Drop)]
-struct Errors {
-    room: usize,
-    kept: Vec<(ErrorCode, u64)>,
-}
-
-impl ErrorSink for Errors {
-    ghost gives = { λ old error answer new. Unit {0} };
-
-    fn take_error(&mut self, error: ParseError) -> Result<(), Refusal> {
-        if self.kept.len() >= self.room {
-            return Err(Refusal::Write);
-        }
-        self.kept.push((error.code, error.at))?;
-        Ok(())
-    }
-}
-
 /// Reads the text from byte `at` on: its data, and the byte after it.
 fn read(
     mut walk: CommentWalk,
@@ -89,10 +71,7 @@ fn reads_rows(
     at: u64,
 ) -> Result<(), Fail> {
     for &(text, data, end, told) in rows {
-        let mut errors = Errors {
-            room: 9,
-            kept: Vec::new(alloc),
-        };
+        let mut errors = Errors::new(alloc, 9);
         let walk = match kind {
             CommentKind::Comment => CommentWalk::comment(alloc),
             CommentKind::Bogus => CommentWalk::bogus(alloc),
@@ -117,10 +96,7 @@ fn reads_bogus_comments(rt: HostRuntime) -> Result<(), Fail> {
 
 #[test]
 fn stops_where_the_sink_refuses(rt: HostRuntime) {
-    let mut errors = Errors {
-        room: 1,
-        kept: Vec::new(rt.alloc()),
-    };
+    let mut errors = Errors::new(rt.alloc(), 1);
     let answer = read(CommentWalk::comment(rt.alloc()), "<!--!>", 4, &mut errors);
     assert_eq!(rt; answer.err(), Some(Refusal::Write));
     assert_eq!(rt; errors.kept.as_slice(), [(Nested, 8)].as_slice());

@@ -1,0 +1,79 @@
+-- One key and its characters, looked up.
+use Rattle.std.proofs.Common.{◌≡◌, ℕ, zero, suc, Bool, true, false, true≢false, cond, nat_eq, nat_lt, bytes_eq, List, [], ◌∷◌, map, length, slice_get, Contains, Option, Some, None, refl, sym, ap, ◌∙◌, subst}
+use Rattle.std.proofs.lemmas.Slice.Eq.{bytes_eq-Decides}
+use Rattle.std.proofs.lemmas.Option.{slice_get_within, get_or_from_slice_get, slice_get-get_or}
+use Rattle.std.specs.List.{starts_with, AllByRecursion, IsDistinct}
+use Rattle.std.specs.List.Sorted.{IsStrictlySortedBy}
+use Rattle.charref.specs.Reference.{Entry, Entities, IsTable, longest, longer, core}
+use Rattle.charref.specs.Table.{IsSortedTable}
+use Rattle.charref.proofs.Keys.{whole, longest-whole}
+use Rattle.charref.proofs.Ranges.{some_same}
+use Rattle.charref.proofs.Members.{sorted_from_parts}
+
+-- the longest key is a key of the table that the text begins with
+pub longest_among : (table : Entities) (text : List ℕ) (e : Entry) → longest table text ≡ Some e → (k : ℕ) × (slice_get table k ≡ Some e) × (starts_with nat_eq text e.key ≡ true)
+longest_among [] text e h = absurd (cc)
+longest_among (x ∷ xs) text e h = by (starts_with nat_eq text x.key) (longest xs text) refl refl h (longest_among xs text)
+  where
+    later : ((k : ℕ) × (slice_get xs k ≡ Some e) × (starts_with nat_eq text e.key ≡ true)) → (k : ℕ) × (slice_get (x ∷ xs) k ≡ Some e) × (starts_with nat_eq text e.key ≡ true)
+    later found = (suc found.0, found.1, found.2)
+
+    here : x ≡ e → starts_with nat_eq text x.key ≡ true → (k : ℕ) × (slice_get (x ∷ xs) k ≡ Some e) × (starts_with nat_eq text e.key ≡ true)
+    here is test = (zero, ap Some is, subst (λ (y : Entry). starts_with nat_eq text y.key ≡ true) is test)
+
+    choose : (b : Bool) (f : Entry) → longest xs text ≡ Some f → starts_with nat_eq text x.key ≡ true → cond b (Some x) (Some f) ≡ Some e
+        → ((g : Entry) → longest xs text ≡ Some g → (k : ℕ) × (slice_get xs k ≡ Some g) × (starts_with nat_eq text g.key ≡ true)) → (k : ℕ) × (slice_get (x ∷ xs) k ≡ Some e) × (starts_with nat_eq text e.key ≡ true)
+    choose true f others test h among = here (some_same x e h) test
+    choose false f others test h among = later (among e (others ∙ h))
+
+    by : (b : Bool) (o : Option Entry) → starts_with nat_eq text x.key ≡ b → longest xs text ≡ o → cond b (longer x o) o ≡ Some e
+        → ((g : Entry) → longest xs text ≡ Some g → (k : ℕ) × (slice_get xs k ≡ Some g) × (starts_with nat_eq text g.key ≡ true)) → (k : ℕ) × (slice_get (x ∷ xs) k ≡ Some e) × (starts_with nat_eq text e.key ≡ true)
+    by false o test others h among = later (among e (others ∙ h))
+    by true None test others h among = here (some_same x e h) test
+    by true (Some f) test others h among = choose (nat_lt (length f.key) (length x.key)) f others test h among
+
+-- a key stands once in a table
+other_below : (keys : Entities) (key : List ℕ) (k : ℕ) (e : Entry) → AllByRecursion (λ y. bytes_eq key y ≡ false) (map (λ e. e.key) keys) → slice_get keys k ≡ Some e → bytes_eq key e.key ≡ false
+other_below [] key k e all h = absurd (cc)
+other_below (x ∷ xs) key zero e all h = let same : x ≡ e = cc in subst (λ (y : Entry). bytes_eq key y.key ≡ false) same all.0
+other_below (x ∷ xs) key (suc k) e all h = other_below xs key k e all.1 h
+
+same_key : (a b : List ℕ) → a ≡ b → bytes_eq a b ≡ false → ⊥
+same_key a b is other = true≢false (sym ((bytes_eq-Decides a b).1 is) ∙ other)
+
+pub once : (table : Entities) → IsDistinct bytes_eq (map (λ e. e.key) table) → (j k : ℕ) (e f : Entry) → slice_get table j ≡ Some e → slice_get table k ≡ Some f → e.key ≡ f.key → j ≡ k
+unfolding IsDistinct
+once [] distinct j k e f p q is = absurd (cc)
+once (x ∷ xs) distinct zero zero e f p q is = refl
+once (x ∷ xs) distinct zero (suc k) e f p q is = absurd (let same : x ≡ e = cc in same_key x.key f.key (ap (λ (y : Entry). y.key) same ∙ is) (other_below xs x.key k f distinct.0 q))
+once (x ∷ xs) distinct (suc j) zero e f p q is = absurd (let same : x ≡ f = cc in same_key x.key e.key (ap (λ (y : Entry). y.key) same ∙ sym is) (other_below xs x.key j e distinct.0 p))
+once (x ∷ xs) distinct (suc j) (suc k) e f p q is = let s : j ≡ k = once xs distinct.1 j k e f p q is in ap suc s
+
+pub same_entry : (e : Entry) (key characters : List ℕ) → e.key ≡ key → e.stands_for ≡ characters → e ≡ record { key = key; stands_for = characters }
+same_entry e key characters p q = λ i. record { key = p i; stands_for = q i }
+
+-- what is found under a whole key
+pub has_true : (table : Entities) (key characters : List ℕ) (e : Entry) → longest table key ≡ Some e → length e.key ≡ length key → e.stands_for ≡ characters → Contains table (record { key = key; stands_for = characters })
+has_true table key characters e found size stands =
+    let among : (k : ℕ) × (slice_get table k ≡ Some e) × (starts_with nat_eq key e.key ≡ true) = longest_among table key e found in
+    let key-is : e.key ≡ key = whole key e.key among.2 size in
+    let made : Entry = record { key = key; stands_for = characters } in
+    let is : e ≡ made = same_entry e key characters key-is stands in
+    let got : slice_get table among.0 ≡ Some made = among.1 ∙ ap Some is in
+    (among.0, slice_get_within table among.0 made got, get_or_from_slice_get table among.0 made made got)
+
+pub has_found : (table : Entities) (e : Entry) → IsTable table → Contains table e → longest table e.key ≡ Some e
+has_found table e is_table (k, less, got) =
+    let at : slice_get table k ≡ Some e = slice_get-get_or table k e less ∙ ap Some got in
+    longest-whole table e.key k e (record { here = λ j f p is. once table is_table.distinct j k f e p at is }) at refl
+
+pub core_sorted : IsSortedTable core
+unfolding IsStrictlySortedBy
+core_sorted = sorted_from_parts core refl refl ((refl, (refl, (refl, (refl, tt)))), ((refl, (refl, (refl, tt))), ((refl, (refl, tt)), ((refl, tt), (tt, tt)))))
+
+pub has_only : (table : Entities) (key characters : List ℕ) (e : Entry) → IsTable table → longest table key ≡ Some e → Contains table (record { key = key; stands_for = characters }) → (e.key ≡ key) × (e.stands_for ≡ characters)
+has_only table key characters e is_table found contains =
+    let made : Entry = record { key = key; stands_for = characters } in
+    let other : longest table key ≡ Some made = has_found table made is_table contains in
+    let is : e ≡ made = some_same e made (sym found ∙ other) in
+    (ap (λ (y : Entry). y.key) is, ap (λ (y : Entry). y.stands_for) is)

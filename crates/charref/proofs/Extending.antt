@@ -1,0 +1,244 @@
+-- A name with one character more.
+use Rattle.std.proofs.Common.{arith, ◌≡◌, ℕ, ◌+◌, ◌≤◌, ◌<◌, Bool, true, false, true≢false, not, ◌&&◌, ◌||◌, ◌==◌, cond, nat_eq, bytes_eq, codes, List, [], ◌∷◌, ◌++◌, length, slice_get, Some, refl, sym, ap, ◌∙◌, subst, length-append}
+use Rattle.std.proofs.lemmas.List.{append-nil, map-append, length-map}
+use Rattle.std.proofs.lemmas.Slice.Eq.{bytes_eq-Decides}
+use Rattle.std.proofs.lemmas.Bool.{and_parts, and_from}
+use Rattle.std.proofs.lemmas.Bool.Decides.{nat_tests}
+use Rattle.std.specs.List.{starts_with}
+use Rattle.names.specs.declared.placed.Placed.{Placed}
+use Rattle.names.specs.Placed.{characters, all, is_empty, is_alphanumeric, is_equals}
+use Rattle.charref.specs.declared.last.Last.TheVariants.{Alphanumeric, Semicolon, Equals, Other}
+use Rattle.charref.specs.declared.search.Search.{Search}
+use Rattle.charref.specs.Reference.{Entry, Entities, IsTable, longest, is_key, is_key_name, is_empty_list, ends_in_semicolon, is_kept}
+use Rattle.charref.specs.Table.{best_entry, is_whole, is_as_long, IsOver, GoesOn, HasNone, HasRead}
+use Rattle.charref.specs.Held.{key_bytes}
+use Rattle.charref.specs.Last.{IsSettled, last_of, is_letter_or_digit}
+use Rattle.charref.proofs.Keys.{no_longer, longest-over, longest-more, begins_itself, whole}
+use Rattle.charref.proofs.Core.{longest_among}
+use Rattle.charref.proofs.Naming.{is_key_of}
+
+-- the characters of a key are ASCII
+is_small : (c : ℕ) → is_alphanumeric c ≡ true → c < 128
+is_small c h = grind (arith, nat_tests)
+
+one_semicolon : (cs : List ℕ) → bytes_eq cs (codes ";") ≡ true → cs ≡ 59 ∷ []
+one_semicolon cs h = (bytes_eq-Decides cs (codes ";")).0 h
+
+-- what follows a character of a name
+data Follows (cs : List ℕ) : Type 0 where
+  ends : cs ≡ [] → Follows cs
+  closes : cs ≡ 59 ∷ [] → Follows cs
+  continues : is_key_name cs ≡ true → Follows cs
+
+follows : (cs : List ℕ) → (is_empty_list cs || bytes_eq cs (codes ";") || is_key_name cs) ≡ true → Follows cs
+follows [] h = ends refl
+follows (c ∷ cs) h = by (bytes_eq (c ∷ cs) (codes ";")) refl h
+  where
+    by : (b : Bool) → bytes_eq (c ∷ cs) (codes ";") ≡ b → (b || is_key_name (c ∷ cs)) ≡ true → Follows (c ∷ cs)
+    by true is h = closes (one_semicolon (c ∷ cs) is)
+    by false is h = continues h
+
+name_ascii : (name bytes : List ℕ) (c : ℕ) → is_key_name name ≡ true → starts_with nat_eq name (bytes ++ c ∷ []) ≡ true → c < 128
+name_ascii [] bytes c h p = absurd (true≢false (sym h))
+name_ascii (x ∷ xs) [] c h p =
+    let same : c ≡ x = (let t : nat_eq c x ≡ true = (and_parts _ _ p).0 in grind (arith, nat_tests)) in
+    let small : x < 128 = is_small x (and_parts (is_alphanumeric x) _ h).0 in
+    omega arith
+name_ascii (x ∷ xs) (b ∷ bs) c h p = elim (follows xs (and_parts (is_alphanumeric x) _ h).1) [
+  | ends is ↦ absurd (none bs (subst (λ ys. starts_with nat_eq ys (bs ++ c ∷ []) ≡ true) is (and_parts _ _ p).1))
+  | closes is ↦ one bs (subst (λ ys. starts_with nat_eq ys (bs ++ c ∷ []) ≡ true) is (and_parts _ _ p).1)
+  | continues more ↦ name_ascii xs bs c more (and_parts _ _ p).1
+]
+  where
+    none : (bs : List ℕ) → starts_with nat_eq [] (bs ++ c ∷ []) ≡ true → ⊥
+    none [] q = true≢false (sym q)
+    none (b ∷ bs) q = true≢false (sym q)
+
+    one : (bs : List ℕ) → starts_with nat_eq (59 ∷ []) (bs ++ c ∷ []) ≡ true → c < 128
+    one [] q = let t : nat_eq c 59 ≡ true = (and_parts _ _ q).0 in (let same : c ≡ 59 = grind (arith, nat_tests) in omega arith)
+    one (b ∷ bs) q = absurd (none bs (and_parts _ _ q).1)
+
+key_ascii : (key bytes : List ℕ) (c : ℕ) → is_key key ≡ true → starts_with nat_eq key (bytes ++ c ∷ []) ≡ true → c < 128
+key_ascii [] bytes c h p = absurd (true≢false (sym h))
+key_ascii (x ∷ xs) [] c h p =
+    let amp : nat_eq x 38 ≡ true = (and_parts _ _ h).0 in
+    let same : nat_eq c x ≡ true = (and_parts _ _ p).0 in
+    let x-is : x ≡ 38 = grind (arith, nat_tests) in
+    let c-is : c ≡ x = grind (arith, nat_tests) in
+    omega arith
+key_ascii (x ∷ xs) (b ∷ bs) c h p = name_ascii xs bs c (and_parts _ _ h).1 (and_parts _ _ p).1
+
+pub none_past_ascii : (table : Entities) (bytes : List ℕ) (c : ℕ) → IsTable table → 128 ≤ c → HasNone table (bytes ++ c ∷ [])
+none_past_ascii table bytes c is_table big = record { none = λ k e h p. let small : c < 128 = key_ascii e.key bytes c (is_key_of table k e is_table h) p in omega arith }
+
+begins_less : (key bytes : List ℕ) (c : ℕ) → starts_with nat_eq key (bytes ++ c ∷ []) ≡ true → starts_with nat_eq key bytes ≡ true
+begins_less key [] c p = refl
+begins_less [] (b ∷ bs) c p = absurd (true≢false (sym p))
+begins_less (x ∷ xs) (b ∷ bs) c p = and_from _ _ (and_parts _ _ p).0 (begins_less xs bs c (and_parts _ _ p).1)
+
+pub none_past_over : (table : Entities) (bytes : List ℕ) (c : ℕ) → IsOver table bytes → HasNone table (bytes ++ c ∷ [])
+none_past_over table bytes c over = record {
+  none = λ k e h p.
+      let most : length e.key ≤ length bytes = over.no_more k e h (begins_less e.key bytes c p) in
+      let least : length (bytes ++ c ∷ []) ≤ length e.key = no_longer e.key (bytes ++ c ∷ []) p in
+      let more : length (bytes ++ c ∷ []) ≡ length bytes + 1 = length-append bytes (c ∷ []) in
+      omega arith;
+}
+
+-- ONE CHARACTER MORE
+
+pub key_bytes-more : (text : List Placed) (p : Placed) → key_bytes (text ++ p ∷ []) ≡ key_bytes text ++ p.ch ∷ []
+key_bytes-more text p = ap (λ cs. 38 ∷ cs) (map-append (λ (q : Placed). q.ch) text (p ∷ []))
+
+-- the characters before the end of a name
+name_front : (name : List ℕ) (text : List Placed) → is_key_name name ≡ true → starts_with nat_eq name (characters text) ≡ true → length text < length name → all is_alphanumeric text ≡ true
+name_front name [] h p less = refl
+name_front [] (q ∷ qs) h p less = absurd (omega arith)
+name_front (x ∷ xs) (q ∷ qs) h p less =
+    let same : q.ch ≡ x = (let t : nat_eq q.ch x ≡ true = (and_parts _ _ p).0 in grind (arith, nat_tests)) in
+    let letter : is_alphanumeric q.ch ≡ true = ap is_alphanumeric same ∙ (and_parts (is_alphanumeric x) _ h).0 in
+    and_from _ _ letter (elim (follows xs (and_parts (is_alphanumeric x) _ h).1) [
+      | ends is ↦ absurd (let none : length xs ≡ 0 = ap length is in omega arith)
+      | closes is ↦ only qs (let one : length xs ≡ 1 = ap length is in omega arith)
+      | continues more ↦ name_front xs qs more (and_parts _ _ p).1 (omega arith)
+    ])
+  where
+    only : (qs : List Placed) → length qs < 1 → all is_alphanumeric qs ≡ true
+    only [] h = refl
+    only (r ∷ rs) h = absurd (omega arith)
+
+key_front : (key : List ℕ) (text : List Placed) → is_key key ≡ true → starts_with nat_eq key (key_bytes text) ≡ true → length (key_bytes text) < length key → all is_alphanumeric text ≡ true
+key_front [] text h p less = absurd (omega arith)
+key_front (x ∷ xs) text h p less =
+    let size : length (characters text) ≡ length text = length-map text (λ q. q.ch) in
+    name_front xs text (and_parts _ _ h).1 (and_parts _ _ p).1 (omega arith)
+
+pub front_of : (table : Entities) (text : List Placed) → IsTable table → GoesOn table (key_bytes text) → all is_alphanumeric text ≡ true
+front_of table text is_table goes = key_front goes.entry.key text (is_key_of table goes.place goes.entry is_table goes.stands) goes.opens goes.is_longer
+
+-- a name that doesn't end in a letter or digit ends in `;`
+name_last : (c : ℕ) (text : List Placed) (p : Placed) → is_key_name (characters (text ++ p ∷ [])) ≡ true → is_alphanumeric p.ch ≡ false → ends_in_semicolon (c ∷ characters (text ++ p ∷ [])) ≡ true
+name_last c [] p h other = absurd (true≢false (sym (and_parts (is_alphanumeric p.ch) _ h).0 ∙ other))
+name_last c (q ∷ qs) p h other = elim (follows (characters (qs ++ p ∷ [])) (and_parts (is_alphanumeric q.ch) _ h).1) [
+  | ends is ↦ absurd (empty qs is)
+  | closes is ↦ subst (λ cs. ends_in_semicolon (c ∷ q.ch ∷ cs) ≡ true) (sym is) refl
+  | continues more ↦ name_last q.ch qs p more other
+]
+  where
+    empty : (qs : List Placed) → characters (qs ++ p ∷ []) ≡ [] → ⊥
+    empty [] h = cc
+    empty (r ∷ rs) h = cc
+
+-- what was read is settled: no key begins with the next character
+module _ (table : Entities) (in_value : Bool) (text after : List Placed) (p : Placed) (search : Search) (read : HasRead search table (key_bytes text)) (none : HasNone table (key_bytes text ++ p.ch ∷ [])) where
+  pub best_before : best_entry table search.best ≡ longest table (key_bytes (text ++ p ∷ []))
+  best_before =
+      read.best ∙ sym (longest-more table (key_bytes text) p.ch (λ k e h is. none.none k e h (subst (λ bs. starts_with nat_eq e.key bs ≡ true) is (begins_itself e.key))))
+      ∙ ap (longest table) (sym (key_bytes-more text p))
+
+  pub settled_before : IsSettled table in_value (text ++ p ∷ []) after
+  settled_before = record {
+    same = longest-over table (key_bytes (text ++ p ∷ [])) (characters after) (subst (λ bs. IsOver table bs) (sym (key_bytes-more text p)) (record { no_more = λ k e h opens. absurd (none.none k e h opens) }));
+    not_kept = λ e found size. absurd (
+        let among : (k : ℕ) × (slice_get table k ≡ Some e) × (starts_with nat_eq (key_bytes text) e.key ≡ true) = longest_among table (key_bytes text) e (sym read.best ∙ best_before ∙ found) in
+        let most : length e.key ≤ length (key_bytes text) = no_longer (key_bytes text) e.key among.2 in
+        let count : length (characters text) ≡ length text = length-map text (λ q. q.ch) in
+        let more : length (text ++ p ∷ []) ≡ length text + 1 = length-append text (p ∷ []) in
+        omega arith);
+  }
+
+-- or keys do, but none goes on, and no key waits
+module _ (table : Entities) (in_value : Bool) (text after : List Placed) (p : Placed) (is_table : IsTable table) (next : Search) (read : HasRead next table (key_bytes text ++ p.ch ∷ [])) (over : IsOver table (key_bytes text ++ p.ch ∷ []))
+    (waits : (in_value && is_alphanumeric p.ch && is_whole table next) ≡ false) where
+  pub best_after : best_entry table next.best ≡ longest table (key_bytes (text ++ p ∷ []))
+  best_after = read.best ∙ ap (longest table) (sym (key_bytes-more text p))
+
+  as_long : (e : Entry) → longest table (key_bytes (text ++ p ∷ [])) ≡ Some e → length e.key ≡ length (text ++ p ∷ []) + 1 → is_whole table next ≡ true
+  as_long e found size =
+      let count : length (characters (text ++ p ∷ [])) ≡ length (text ++ p ∷ []) = length-map (text ++ p ∷ []) (λ q. q.ch) in
+      let same : length (key_bytes (text ++ p ∷ [])) ≡ length (key_bytes text ++ p.ch ∷ []) = ap length (key_bytes-more text p) in
+      let deep : next.depth ≡ length (key_bytes text ++ p.ch ∷ []) = read.depth in
+      let equal : length e.key ≡ next.depth = omega arith in
+      ap (is_as_long next.depth) (best_after ∙ found) ∙ grind (arith, nat_tests)
+
+  semicolon_of : (e : Entry) → longest table (key_bytes (text ++ p ∷ [])) ≡ Some e → length e.key ≡ length (text ++ p ∷ []) + 1 → is_alphanumeric p.ch ≡ false → ends_in_semicolon e.key ≡ true
+  semicolon_of e found size other =
+      let among : (k : ℕ) × (slice_get table k ≡ Some e) × (starts_with nat_eq (key_bytes (text ++ p ∷ [])) e.key ≡ true) = longest_among table (key_bytes (text ++ p ∷ [])) e found in
+      let count : length (characters (text ++ p ∷ [])) ≡ length (text ++ p ∷ []) = length-map (text ++ p ∷ []) (λ q. q.ch) in
+      let is : e.key ≡ key_bytes (text ++ p ∷ []) = whole (key_bytes (text ++ p ∷ [])) e.key among.2 (omega arith) in
+      let key : is_key (key_bytes (text ++ p ∷ [])) ≡ true = subst (λ k. is_key k ≡ true) is (is_key_of table among.0 e is_table among.1) in
+      subst (λ k. ends_in_semicolon k ≡ true) (sym is) (name_last 38 text p (and_parts (38 == 38) _ key).1 other)
+
+  pub settled_after : IsSettled table in_value (text ++ p ∷ []) after
+  settled_after = record {
+    same = longest-over table (key_bytes (text ++ p ∷ [])) (characters after) (subst (λ bs. IsOver table bs) (sym (key_bytes-more text p)) over);
+    not_kept = λ e found size. by in_value (is_alphanumeric p.ch) refl refl e found size (as_long e found size);
+  }
+    where
+      by : (b a : Bool) → in_value ≡ b → is_alphanumeric p.ch ≡ a → (e : Entry) → longest table (key_bytes (text ++ p ∷ [])) ≡ Some e → length e.key ≡ length (text ++ p ∷ []) + 1 → is_whole table next ≡ true → is_kept in_value e.key after ≡ false
+      by false a is letter e found size long = rw is refl
+      by true true is letter e found size long = absurd (true≢false (sym (and_from _ _ (and_from _ _ is letter) long) ∙ waits))
+      by true false is letter e found size long = rw (is, semicolon_of e found size letter) refl
+
+-- the kind of the last character
+pub letter_of : (c : ℕ) → is_letter_or_digit (last_of c) ≡ is_alphanumeric c
+letter_of c = by (is_alphanumeric c) (nat_eq c 59) (is_equals c)
+  where
+    by : (a b d : Bool) → is_letter_or_digit (cond a Alphanumeric (cond b Semicolon (cond d Equals Other))) ≡ a
+    by true b d = refl
+    by false true d = refl
+    by false false true = refl
+    by false false false = refl
+
+-- what was read so far is nothing exactly at the depth of the `&`
+pub nothing_read : (text : List Placed) → length (key_bytes text) ≡ 1 → text ≡ []
+nothing_read [] h = refl
+nothing_read (q ∷ qs) h = absurd (omega arith)
+
+pub something_read : (text : List Placed) (P : Type 0) → (length (key_bytes text) ≡ 1 → P) → is_empty text ≡ true → P
+something_read [] P h is = h refl
+something_read (q ∷ qs) P h is = absurd (true≢false (sym is))
+
+pub run_more : (text : List Placed) (p : Placed) → all is_alphanumeric text ≡ true → is_alphanumeric p.ch ≡ true → all is_alphanumeric (text ++ p ∷ []) ≡ true
+run_more [] p h is = and_from _ _ is refl
+run_more (q ∷ qs) p h is = and_from _ _ (and_parts _ _ h).0 (run_more qs p (and_parts _ _ h).1 is)
+
+-- how many characters were read
+pub count_read : (text : List Placed) (p : Placed) (depth : ℕ) → depth ≡ length (key_bytes text) → depth ≡ length (text ++ p ∷ [])
+count_read text p depth is =
+    let count : length (characters text) ≡ length text = length-map text (λ q. q.ch) in
+    let more : length (text ++ p ∷ []) ≡ length text + 1 = length-append text (p ∷ []) in
+    omega arith
+
+-- AT THE END
+
+pub record Snoc (text : List Placed) : Type 0 where
+  pub front : List Placed
+  pub last : Placed
+  pub is : text ≡ front ++ last ∷ []
+  pub run : all is_alphanumeric front ≡ true
+  pub letter : is_alphanumeric last.ch ≡ true
+
+pub snoc : (q : Placed) (qs : List Placed) → all is_alphanumeric (q ∷ qs) ≡ true → Snoc (q ∷ qs)
+snoc q [] h = record { front = []; last = q; is = refl; run = refl; letter = (and_parts _ _ h).0 }
+snoc q (r ∷ rs) h = let more : Snoc (r ∷ rs) = snoc r rs (and_parts _ _ h).1 in
+    record { front = q ∷ more.front; last = more.last; is = ap (λ xs. q ∷ xs) more.is; run = and_from _ _ (and_parts _ _ h).0 more.run; letter = more.letter }
+
+pub some_snoc : (text : List Placed) → all is_alphanumeric text ≡ true → 2 ≤ length (key_bytes text) → Snoc text
+some_snoc [] h some = absurd (omega arith)
+some_snoc (q ∷ qs) h some = snoc q qs h
+
+pub settled_at_end : (table : Entities) (in_value : Bool) (text : List Placed) → IsSettled table in_value text []
+settled_at_end table in_value text = record {
+  same = ap (longest table) (append-nil (key_bytes text));
+  not_kept = λ e found size. by in_value (not (ends_in_semicolon e.key));
+}
+  where
+    by : (a b : Bool) → (a && b && false) ≡ false
+    by true true = refl
+    by true false = refl
+    by false true = refl
+    by false false = refl
+
+pub last_letter : (c : ℕ) → is_alphanumeric c ≡ true → Alphanumeric ≡ last_of c
+last_letter c h = rw h refl

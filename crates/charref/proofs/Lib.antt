@@ -1,0 +1,12 @@
+pub mod Keys
+pub mod Ranges
+pub mod Searching
+pub mod KeyTexts
+pub mod Members
+pub mod Core
+pub mod Naming
+pub mod Telling
+pub mod Numbers
+pub mod Extending
+pub mod Taking
+pub mod Opening

@@ -1,0 +1,79 @@
+-- A name that has been read: its key, or none.
+use Rattle.std.proofs.Common.{arith, ◌≡◌, ℕ, zero, suc, ◌-◌, ◌≤◌, ◌<◌, Bool, true, true≢false, nat_eq, List, [], ◌∷◌, ◌++◌, length, take, drop, slice_get, get_or, Some, refl, sym, ap, ◌∙◌, subst}
+use Rattle.std.proofs.lemmas.Bool.{and_parts, and_from}
+use Rattle.std.proofs.lemmas.Bool.Decides.{nat_tests}
+use Rattle.std.specs.List.{starts_with, list_all}
+use Rattle.names.specs.declared.placed.Placed.{Placed}
+use Rattle.names.specs.Placed.{characters, begins, all, past, is_alphanumeric}
+use Rattle.charref.specs.Reference.{Entry, Entities, IsTable, is_key, ends_in_semicolon}
+
+-- the last byte of a key
+pub ends_at : (xs : List ℕ) → 0 < length xs → ends_in_semicolon xs ≡ nat_eq (get_or xs (length xs - 1) 0) 59
+ends_at [] h = absurd (omega arith)
+ends_at (x ∷ []) h = refl
+ends_at (x ∷ y ∷ xs) h =
+    let later : ends_in_semicolon (y ∷ xs) ≡ nat_eq (get_or (y ∷ xs) (length (y ∷ xs) - 1) 0) 59 = ends_at (y ∷ xs) (omega arith) in
+    let at : length (x ∷ y ∷ xs) - 1 ≡ suc (length (y ∷ xs) - 1) = omega arith in
+    later ∙ ap (λ n. nat_eq (get_or (x ∷ y ∷ xs) n 0) 59) (sym at)
+
+-- a text that begins with a key is the key and the rest
+pub key_of : (bytes key : List ℕ) → starts_with nat_eq bytes key ≡ true → key ≡ take (length key) bytes
+key_of bytes [] p = refl
+key_of [] (c ∷ cs) p = absurd (true≢false (sym p))
+key_of (x ∷ xs) (c ∷ cs) p =
+    let first : c ≡ x = (let h : nat_eq c x ≡ true = (and_parts _ _ p).0 in grind (arith, nat_tests)) in
+    let others : cs ≡ take (length cs) xs = key_of xs cs (and_parts _ _ p).1 in
+    cc
+
+pub take-map : (n : ℕ) (text : List Placed) → take n (characters text) ≡ characters (take n text)
+take-map zero text = refl
+take-map (suc n) [] = refl
+take-map (suc n) (p ∷ ps) = ap (λ cs. p.ch ∷ cs) (take-map n ps)
+
+-- runs of alphanumerics
+pub all-append : (test : ℕ → Bool) (xs ys : List Placed) → all test xs ≡ true → all test ys ≡ true → all test (xs ++ ys) ≡ true
+all-append test [] ys h g = g
+all-append test (p ∷ ps) ys h g = and_from _ _ (and_parts _ _ h).0 (all-append test ps ys (and_parts _ _ h).1 g)
+
+pub past-run : (xs ys : List Placed) → all is_alphanumeric xs ≡ true → past is_alphanumeric (xs ++ ys) ≡ past is_alphanumeric ys
+past-run [] ys h = refl
+past-run (p ∷ ps) ys h = let test : is_alphanumeric p.ch ≡ true = (and_parts _ _ h).0 in rw test (past-run ps ys (and_parts _ _ h).1)
+
+pub begins-drop : (xs ys : List Placed) (n : ℕ) → all is_alphanumeric xs ≡ true → n < length xs → begins is_alphanumeric (drop n (xs ++ ys)) ≡ true
+begins-drop [] ys n h lt = absurd (omega arith)
+begins-drop (p ∷ ps) ys zero h lt = (and_parts _ _ h).0
+begins-drop (p ∷ ps) ys (suc n) h lt = begins-drop ps ys n (and_parts _ _ h).1 (omega arith)
+
+pub drop-seam : (xs ys : List Placed) (n : ℕ) → n ≡ length xs → drop n (xs ++ ys) ≡ ys
+drop-seam [] ys zero h = refl
+drop-seam [] ys (suc n) h = absurd (omega arith)
+drop-seam (p ∷ ps) ys zero h = absurd (omega arith)
+drop-seam (p ∷ ps) ys (suc n) h = drop-seam ps ys n (omega arith)
+
+pub drop-within : (xs ys : List Placed) (n : ℕ) → n ≤ length xs → drop n (xs ++ ys) ≡ drop n xs ++ ys
+drop-within xs ys zero h = refl
+drop-within [] ys (suc n) h = absurd (omega arith)
+drop-within (p ∷ ps) ys (suc n) h = drop-within ps ys n (omega arith)
+
+-- keys of a table
+key_in : (table : Entities) (k : ℕ) (e : Entry) → list_all (λ entry. is_key entry.key) table ≡ true → slice_get table k ≡ Some e → is_key e.key ≡ true
+key_in [] k e keys h = absurd (cc)
+key_in (x ∷ xs) zero e keys h = let same : x ≡ e = cc in subst (λ (y : Entry). is_key y.key ≡ true) same (and_parts _ _ keys).0
+key_in (x ∷ xs) (suc k) e keys h = key_in xs k e (and_parts _ _ keys).1 h
+
+pub is_key_of : (table : Entities) (k : ℕ) (e : Entry) → IsTable table → slice_get table k ≡ Some e → is_key e.key ≡ true
+is_key_of table k e is_table h = key_in table k e is_table.keys h
+
+-- a key begins with `&` and an alphanumeric
+pub record Opens (key : List ℕ) : Type 0 where
+  pub first : ℕ
+  pub others : List ℕ
+  pub is : key ≡ 38 ∷ first ∷ others
+  pub alphanumeric : is_alphanumeric first ≡ true
+
+pub key_opens : (key : List ℕ) → is_key key ≡ true → Opens key
+key_opens [] h = absurd (true≢false (sym h))
+key_opens (c ∷ []) h = absurd (true≢false (sym (and_parts _ _ h).1))
+key_opens (c ∷ d ∷ cs) h =
+    let amp : c ≡ 38 = (let t : nat_eq c 38 ≡ true = (and_parts _ _ h).0 in grind (arith, nat_tests)) in
+    record { first = d; others = cs; is = ap (λ x. x ∷ d ∷ cs) amp; alphanumeric = (and_parts (is_alphanumeric d) _ (and_parts _ _ h).1).0 }

@@ -1,0 +1,231 @@
+-- Numbers, digit by digit.
+use Rattle.std.proofs.Common.{arith, ◌≡◌, ◌⊎◌, inl, inr, ℕ, zero, suc, ◌+◌, ◌-◌, ◌*◌, ◌≤◌, ◌<◌, min, Bool, true, false, true≢false, not, ◌&&◌, ◌||◌, ◌==◌, nat_eq, nat_lt, nat_le, List, [], ◌∷◌, ◌++◌, map, length, take, drop, Some, None, option_to_list, refl, sym, ap, ◌∙◌, append_assoc, length-append}
+use Rattle.std.proofs.lemmas.List.{append-nil}
+use Rattle.std.proofs.lemmas.Bool.{and_parts, and_from}
+use Rattle.std.proofs.lemmas.Bool.Decides.{nat_tests}
+use Rattle.std.specs.Char.{to_ascii_lowercase}
+use Rattle.names.specs.declared.placed.Placed.{Placed}
+use Rattle.names.specs.declared.error.ErrorCode.TheVariants.{AbsenceOfDigitsInNumericCharacterReference, MissingSemicolonAfterCharacterReference}
+use Rattle.names.specs.Placed.{begins, stops, all, is_empty, is_digit, is_alphanumeric, error, error_if}
+use Rattle.charref.specs.declared.number.Base.{Base}
+use Rattle.charref.specs.declared.number.Base.TheVariants.{Decimal, Hexadecimal}
+use Rattle.charref.specs.declared.reference.Characters.TheVariants.{One}
+use Rattle.charref.specs.declared.state.State.TheVariants.{NumberSign, HexadecimalSign, Number}
+use Rattle.charref.specs.Reference.{Entities, is_hex_digit, digit_value, number_from, begins_number, numbered, number_fault, is_semicolon_if_any, IsReference, decimal, hexadecimal, no_digits, alone}
+use Rattle.charref.specs.Number.{is_digit_of, radix}
+use Rattle.charref.specs.Held.{IsSign, number_sign, small_x, capital_x, IsHeld, after_sign, after_x, in_number}
+use Rattle.charref.specs.Pieces.{IsRead, errors_of, number_of}
+use Rattle.charref.proofs.Naming.{drop-seam}
+use Rattle.charref.proofs.Telling.{read_text, drop-all}
+
+-- SIGNS
+
+pub one_number_sign : (table : Entities) (in_value : Bool) (p : Placed) → p.ch ≡ 35 → IsHeld table in_value NumberSign (p ∷ [])
+one_number_sign table in_value p is = after_sign (p ∷ []) (number_sign p is)
+
+pub two_signs : (table : Entities) (in_value : Bool) (text : List Placed) (p : Placed) → IsSign Decimal text → (p.ch ≡ 120) ⊎ (p.ch ≡ 88) → IsHeld table in_value HexadecimalSign (text ++ p ∷ [])
+two_signs table in_value _ p (number_sign q is) (inl x) = after_x (q ∷ p ∷ []) (small_x q p is x)
+two_signs table in_value _ p (number_sign q is) (inr x) = after_x (q ∷ p ∷ []) (capital_x q p is x)
+
+begins_sign : (q : Placed) (rest : List Placed) → q.ch ≡ 35 → begins (λ c. c == 35) (q ∷ rest) ≡ true
+begins_sign q rest is = grind (arith, nat_tests)
+
+-- nothing but `#`, or `#x`, and then no digit
+pub no_decimal : (table : Entities) (in_value : Bool) (text after : List Placed) (p : Placed) → IsSign Decimal text → is_digit p.ch ≡ false → nat_eq p.ch 120 ≡ false → nat_eq p.ch 88 ≡ false
+    → IsRead table in_value (text ++ p ∷ []) after (record { characters = One 38; left = 2; missing_semicolon = false; fault = Some AbsenceOfDigitsInNumericCharacterReference; in_run = false })
+no_decimal table in_value _ after p (number_sign q is) digit x capital =
+    read_text table in_value (q ∷ p ∷ []) after _ refl (λ amp amp-is. no_digits amp amp-is (begins_sign q (p ∷ after) is)
+    (let first : nat_eq q.ch 35 ≡ true = grind (arith, nat_tests) in rw (first, digit, x, capital) refl) refl)
+
+pub no_sign : (table : Entities) (in_value : Bool) (text : List Placed) → IsSign Decimal text
+    → IsRead table in_value text [] (record { characters = One 38; left = 1; missing_semicolon = false; fault = Some AbsenceOfDigitsInNumericCharacterReference; in_run = false })
+no_sign table in_value _ (number_sign q is) =
+    read_text table in_value (q ∷ []) [] _ refl (λ amp amp-is. no_digits amp amp-is (begins_sign q [] is)
+    (let first : nat_eq q.ch 35 ≡ true = grind (arith, nat_tests) in rw first refl) refl)
+
+no_number_after : (q r : Placed) (rest : List Placed) → q.ch ≡ 35 → is_digit r.ch ≡ false → begins is_hex_digit rest ≡ false → begins_number (q ∷ r ∷ rest) ≡ false
+no_number_after q r rest is digit hex = let first : nat_eq q.ch 35 ≡ true = grind (arith, nat_tests) in rw (first, digit, hex) (by (nat_eq r.ch 120 || nat_eq r.ch 88))
+  where
+    by : (b : Bool) → (b && false) ≡ false
+    by true = refl
+    by false = refl
+
+x_no_digit : (r : Placed) → r.ch ≡ 120 → is_digit r.ch ≡ false
+x_no_digit r is = ap is_digit is
+
+capital_no_digit : (r : Placed) → r.ch ≡ 88 → is_digit r.ch ≡ false
+capital_no_digit r is = ap is_digit is
+
+pub no_hexadecimal : (table : Entities) (in_value : Bool) (text after : List Placed) (p : Placed) → IsSign Hexadecimal text → is_hex_digit p.ch ≡ false
+    → IsRead table in_value (text ++ p ∷ []) after (record { characters = One 38; left = 3; missing_semicolon = false; fault = Some AbsenceOfDigitsInNumericCharacterReference; in_run = false })
+no_hexadecimal table in_value _ after p (small_x q r is x) digit =
+    read_text table in_value (q ∷ r ∷ p ∷ []) after _ refl (λ amp amp-is. no_digits amp amp-is (begins_sign q (r ∷ p ∷ after) is) (no_number_after q r (p ∷ after) is (x_no_digit r x) digit) refl)
+no_hexadecimal table in_value _ after p (capital_x q r is x) digit =
+    read_text table in_value (q ∷ r ∷ p ∷ []) after _ refl (λ amp amp-is. no_digits amp amp-is (begins_sign q (r ∷ p ∷ after) is) (no_number_after q r (p ∷ after) is (capital_no_digit r x) digit) refl)
+
+pub no_x : (table : Entities) (in_value : Bool) (text : List Placed) → IsSign Hexadecimal text
+    → IsRead table in_value text [] (record { characters = One 38; left = 2; missing_semicolon = false; fault = Some AbsenceOfDigitsInNumericCharacterReference; in_run = false })
+no_x table in_value _ (small_x q r is x) =
+    read_text table in_value (q ∷ r ∷ []) [] _ refl (λ amp amp-is. no_digits amp amp-is (begins_sign q (r ∷ []) is) (no_number_after q r [] is (x_no_digit r x) refl) refl)
+no_x table in_value _ (capital_x q r is x) =
+    read_text table in_value (q ∷ r ∷ []) [] _ refl (λ amp amp-is. no_digits amp amp-is (begins_sign q (r ∷ []) is) (no_number_after q r [] is (capital_no_digit r x) refl) refl)
+
+-- an `&` before something else, or before nothing
+pub alone_before : (table : Entities) (in_value : Bool) (p : Placed) (after : List Placed) → is_alphanumeric p.ch ≡ false → nat_eq p.ch 35 ≡ false
+    → IsRead table in_value (p ∷ []) after (record { characters = One 38; left = 1; missing_semicolon = false; fault = None; in_run = false })
+alone_before table in_value p after letter sign =
+    read_text table in_value (p ∷ []) after _ refl (λ amp amp-is. alone amp amp-is (rw (letter, sign) refl) refl)
+
+pub alone_at_end : (table : Entities) (in_value : Bool) → IsRead table in_value [] [] (record { characters = One 38; left = 0; missing_semicolon = false; fault = None; in_run = false })
+alone_at_end table in_value = read_text table in_value [] [] _ refl (λ amp amp-is. alone amp amp-is refl refl)
+
+-- DIGITS
+
+pub number_from-more : (value base : ℕ) (digits : List Placed) (p : Placed) → number_from value base (digits ++ p ∷ []) ≡ number_from value base digits * base + digit_value p.ch
+number_from-more value base [] p = refl
+number_from-more value base (q ∷ qs) p = number_from-more (value * base + digit_value q.ch) base qs p
+
+pub min-more : (base : Base) (n d : ℕ) → min (min n 0x110000 * radix base + d) 0x110000 ≡ min (n * radix base + d) 0x110000
+min-more Decimal n d = omega arith
+min-more Hexadecimal n d = omega arith
+
+pub min-digit : (d : ℕ) → d < 16 → d ≡ min d 0x110000
+min-digit d h = omega arith
+
+too_great : (n : ℕ) → 0x110000 ≤ n → numbered n ≡ 0xFFFD
+too_great n h =
+    let none : nat_eq n 0 ≡ false = grind (arith, nat_tests) in
+    let great : nat_lt 0x10FFFF n ≡ true = grind (arith, nat_tests) in
+    rw (none, great) refl
+
+fault_of_great : (n : ℕ) → 0x110000 ≤ n → number_fault n ≡ number_fault 0x110000
+fault_of_great n h =
+    let none : nat_eq n 0 ≡ false = grind (arith, nat_tests) in
+    let great : nat_lt 0x10FFFF n ≡ true = grind (arith, nat_tests) in
+    rw (none, great) refl
+
+-- above the greatest code all numbers are as one
+pub numbered-min : (n : ℕ) → numbered (min n 0x110000) ≡ numbered n
+numbered-min n = by (nat_le 0x110000 n) refl
+  where
+    by : (b : Bool) → nat_le 0x110000 n ≡ b → numbered (min n 0x110000) ≡ numbered n
+    by true test = let h : 0x110000 ≤ n = grind (arith, nat_tests) in let is : min n 0x110000 ≡ 0x110000 = omega arith in ap numbered is ∙ too_great 0x110000 (omega arith) ∙ sym (too_great n h)
+    by false test = let is : min n 0x110000 ≡ n = (let h : n < 0x110000 = grind (arith, nat_tests) in omega arith) in ap numbered is
+
+pub number_fault-min : (n : ℕ) → number_fault (min n 0x110000) ≡ number_fault n
+number_fault-min n = by (nat_le 0x110000 n) refl
+  where
+    by : (b : Bool) → nat_le 0x110000 n ≡ b → number_fault (min n 0x110000) ≡ number_fault n
+    by true test = let h : 0x110000 ≤ n = grind (arith, nat_tests) in let is : min n 0x110000 ≡ 0x110000 = omega arith in ap number_fault is ∙ sym (fault_of_great n h)
+    by false test = let is : min n 0x110000 ≡ n = (let h : n < 0x110000 = grind (arith, nat_tests) in omega arith) in ap number_fault is
+
+all-not-not : (test : ℕ → Bool) (xs : List Placed) → all test xs ≡ true → all (λ c. not (not (test c))) xs ≡ true
+all-not-not test [] h = refl
+all-not-not test (p ∷ ps) h = let first : test p.ch ≡ true = (and_parts _ _ h).0 in rw first (all-not-not test ps (and_parts _ _ h).1)
+
+all-one : (test : ℕ → Bool) (xs : List Placed) (p : Placed) → all test xs ≡ true → test p.ch ≡ true → all test (xs ++ p ∷ []) ≡ true
+all-one test [] p h is = and_from _ _ is refl
+all-one test (q ∷ qs) p h is = and_from _ _ (and_parts _ _ h).0 (all-one test qs p (and_parts _ _ h).1 is)
+
+begins-one : (test : ℕ → Bool) (xs ys : List Placed) → begins test xs ≡ true → begins test (xs ++ ys) ≡ true
+begins-one test [] ys h = absurd (true≢false (sym h))
+begins-one test (q ∷ qs) ys h = h
+
+-- the first digit, and one more
+pub first_digit : (table : Entities) (in_value : Bool) (base : Base) (sign : List Placed) (p : Placed) (d : ℕ) → IsSign base sign → is_digit_of base p.ch ≡ true → d ≡ digit_value p.ch → d < 16
+    → IsHeld table in_value (Number base d) (sign ++ p ∷ [])
+first_digit table in_value base sign p d is test value small =
+    in_number base d sign (p ∷ []) (sign ++ p ∷ []) refl is test (and_from _ _ test refl)
+    (min-digit d small ∙ ap (λ n. min n 0x110000) (value ∙ (let z : digit_value p.ch ≡ 0 * radix base + digit_value p.ch = omega (arith, mul_zero base) in z)))
+  where
+    mul_zero : (b : Base) → 0 * radix b ≡ 0
+    mul_zero Decimal = refl
+    mul_zero Hexadecimal = refl
+
+pub next_digit : (table : Entities) (in_value : Bool) (base : Base) (value : ℕ) (text : List Placed) (p : Placed) (d next : ℕ) → IsHeld table in_value (Number base value) text → is_digit_of base p.ch ≡ true → d ≡ digit_value p.ch
+    → next ≡ min (value * radix base + d) 0x110000 → IsHeld table in_value (Number base next) (text ++ p ∷ [])
+next_digit table in_value _ _ _ p d next (in_number base value sign digits text text-is is opens run value-is) test d-is next-is =
+    in_number base next sign (digits ++ p ∷ []) (text ++ p ∷ []) (ap (λ xs. xs ++ p ∷ []) text-is ∙ append_assoc sign digits (p ∷ [])) is
+    (begins-one (is_digit_of base) digits (p ∷ []) opens) (all-one (is_digit_of base) digits p run test)
+    (next-is ∙ ap (λ v. min (v * radix base + d) 0x110000) value-is ∙ min-more base (number_from 0 (radix base) digits) d ∙ ap (λ n. min (number_from 0 (radix base) digits * radix base + n) 0x110000) d-is
+    ∙ ap (λ n. min n 0x110000) (sym (number_from-more 0 (radix base) digits p)))
+
+-- the number that was read, with its `;` or without
+number_errors : (at value n : ℕ) (missing : Bool) → numbered value ≡ numbered n → number_fault value ≡ number_fault n → (left : ℕ) (after : List Placed)
+    → errors_of (number_of value left missing) at after ≡ error_if missing MissingSemicolonAfterCharacterReference at ++ map (λ code. error code at) (option_to_list (number_fault n))
+number_errors at value n missing same fault left after =
+    append-nil (error_if missing MissingSemicolonAfterCharacterReference at ++ map (λ code. error code at) (option_to_list (number_fault value)))
+    ∙ ap (λ o. error_if missing MissingSemicolonAfterCharacterReference at ++ map (λ code. error code at) (option_to_list o)) fault
+
+number_reads : (table : Entities) (in_value : Bool) (base : Base) (sign digits close rest after : List Placed) (value left : ℕ) → IsSign base sign → begins (is_digit_of base) digits ≡ true → all (is_digit_of base) digits ≡ true
+    → value ≡ min (number_from 0 (radix base) digits) 0x110000 → stops (λ c. not (is_digit_of base c)) (close ++ rest) ≡ true → is_semicolon_if_any close rest ≡ true
+    → (amp : Placed) → amp.ch ≡ 38 → IsReference table in_value rest (record { text = amp ∷ (sign ++ digits ++ close); gives = numbered value ∷ []; errors = errors_of (number_of value left (is_empty close)) amp.at after })
+number_reads table in_value Decimal _ digits close rest after value left (number_sign q is) opens run value-is stop semicolon amp amp-is =
+    let n : ℕ = number_from 0 10 digits in
+    let same : numbered value ≡ numbered n = ap numbered value-is ∙ numbered-min n in
+    let fault : number_fault value ≡ number_fault n = ap number_fault value-is ∙ number_fault-min n in
+    decimal (amp ∷ q ∷ []) digits close (λ i. amp-is i ∷ is i ∷ []) opens (record { passes_none = all-not-not is_digit digits run; stops_after = stop }) semicolon
+    (λ i. record { text = amp ∷ q ∷ digits ++ close; gives = same i ∷ []; errors = number_errors amp.at value n (is_empty close) same fault left after i })
+number_reads table in_value Hexadecimal _ digits close rest after value left (small_x q r is x) opens run value-is stop semicolon amp amp-is =
+    let n : ℕ = number_from 0 16 digits in
+    let same : numbered value ≡ numbered n = ap numbered value-is ∙ numbered-min n in
+    let fault : number_fault value ≡ number_fault n = ap number_fault value-is ∙ number_fault-min n in
+    hexadecimal (amp ∷ q ∷ r ∷ []) digits close (λ i. to_ascii_lowercase (amp-is i) ∷ to_ascii_lowercase (is i) ∷ to_ascii_lowercase (x i) ∷ []) opens (record { passes_none = all-not-not is_hex_digit digits run; stops_after = stop }) semicolon
+    (λ i. record { text = amp ∷ q ∷ r ∷ digits ++ close; gives = same i ∷ []; errors = number_errors amp.at value n (is_empty close) same fault left after i })
+number_reads table in_value Hexadecimal _ digits close rest after value left (capital_x q r is x) opens run value-is stop semicolon amp amp-is =
+    let n : ℕ = number_from 0 16 digits in
+    let same : numbered value ≡ numbered n = ap numbered value-is ∙ numbered-min n in
+    let fault : number_fault value ≡ number_fault n = ap number_fault value-is ∙ number_fault-min n in
+    hexadecimal (amp ∷ q ∷ r ∷ []) digits close (λ i. to_ascii_lowercase (amp-is i) ∷ to_ascii_lowercase (is i) ∷ to_ascii_lowercase (x i) ∷ []) opens (record { passes_none = all-not-not is_hex_digit digits run; stops_after = stop }) semicolon
+    (λ i. record { text = amp ∷ q ∷ r ∷ digits ++ close; gives = same i ∷ []; errors = number_errors amp.at value n (is_empty close) same fault left after i })
+
+no_digit_semicolon : (base : Base) → is_digit_of base 59 ≡ false
+no_digit_semicolon Decimal = refl
+no_digit_semicolon Hexadecimal = refl
+
+pub take-all : (xs : List Placed) (n : ℕ) → n ≡ length xs → take n xs ≡ xs
+take-all [] zero h = refl
+take-all [] (suc n) h = refl
+take-all (p ∷ ps) zero h = absurd (omega arith)
+take-all (p ∷ ps) (suc n) h = ap (λ qs. p ∷ qs) (take-all ps n (omega arith))
+
+take-seam : (xs ys : List Placed) (n : ℕ) → n ≡ length xs → take n (xs ++ ys) ≡ xs
+take-seam [] ys zero h = refl
+take-seam [] ys (suc n) h = absurd (omega arith)
+take-seam (p ∷ ps) ys zero h = absurd (omega arith)
+take-seam (p ∷ ps) ys (suc n) h = ap (λ qs. p ∷ qs) (take-seam ps ys n (omega arith))
+
+-- the `;` of a number
+pub number_closed : (table : Entities) (in_value : Bool) (base : Base) (value : ℕ) (text after : List Placed) (p : Placed) → IsHeld table in_value (Number base value) text → p.ch ≡ 59
+    → IsRead table in_value (text ++ p ∷ []) after (number_of value 0 false)
+number_closed table in_value _ _ _ after p (in_number base value sign digits text text-is is opens run value-is) semicolon =
+    let size : length (text ++ p ∷ []) - 0 ≡ length (text ++ p ∷ []) = omega arith in
+    let belongs : take (length (text ++ p ∷ []) - 0) (text ++ p ∷ []) ≡ sign ++ digits ++ p ∷ [] = take-all (text ++ p ∷ []) (length (text ++ p ∷ []) - 0) size ∙ ap (λ xs. xs ++ p ∷ []) text-is in
+    let gone : drop (length (text ++ p ∷ []) - 0) (text ++ p ∷ []) ≡ [] = drop-all (text ++ p ∷ []) (length (text ++ p ∷ []) - 0) (omega arith) in
+    record {
+      within = omega arith;
+      reads = λ amp amp-is. rw (belongs, gone) (number_reads table in_value base sign digits (p ∷ []) after after value 0 is opens run value-is
+          (ap not (ap (is_digit_of base) semicolon ∙ no_digit_semicolon base)) (let test : nat_eq p.ch 59 ≡ true = grind (arith, nat_tests) in and_from _ _ test refl) amp amp-is);
+    }
+
+-- and another character after its digits, or the end
+pub number_open : (table : Entities) (in_value : Bool) (base : Base) (value : ℕ) (text after : List Placed) (p : Placed) → IsHeld table in_value (Number base value) text → is_digit_of base p.ch ≡ false → nat_eq p.ch 59 ≡ false
+    → IsRead table in_value (text ++ p ∷ []) after (number_of value 1 true)
+number_open table in_value _ _ _ after p (in_number base value sign digits text text-is is opens run value-is) digit semicolon =
+    let size : length (text ++ p ∷ []) ≡ length text + 1 = length-append text (p ∷ []) in
+    let belongs : take (length (text ++ p ∷ []) - 1) (text ++ p ∷ []) ≡ sign ++ digits ++ [] = take-seam text (p ∷ []) (length (text ++ p ∷ []) - 1) (omega arith) ∙ text-is ∙ sym (append-nil (sign ++ digits)) in
+    let gone : drop (length (text ++ p ∷ []) - 1) (text ++ p ∷ []) ≡ p ∷ [] = drop-seam text (p ∷ []) (length (text ++ p ∷ []) - 1) (omega arith) in
+    record {
+      within = omega arith;
+      reads = λ amp amp-is. rw (belongs, gone) (number_reads table in_value base sign digits [] (p ∷ after) after value 1 is opens run value-is (ap not digit) (ap not semicolon) amp amp-is);
+    }
+
+pub number_at_end : (table : Entities) (in_value : Bool) (base : Base) (value : ℕ) (text : List Placed) → IsHeld table in_value (Number base value) text → IsRead table in_value text [] (number_of value 0 true)
+number_at_end table in_value _ _ _ (in_number base value sign digits text text-is is opens run value-is) =
+    let size : length text - 0 ≡ length text = omega arith in
+    let belongs : take (length text - 0) text ≡ sign ++ digits ++ [] = take-all text (length text - 0) size ∙ text-is ∙ sym (append-nil (sign ++ digits)) in
+    let gone : drop (length text - 0) text ≡ [] = drop-all text (length text - 0) (omega arith) in
+    record {
+      within = omega arith;
+      reads = λ amp amp-is. rw (belongs, gone) (number_reads table in_value base sign digits [] [] [] value 0 is opens run value-is refl refl amp amp-is);
+    }

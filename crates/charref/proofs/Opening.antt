@@ -1,0 +1,106 @@
+-- A walk outside of a value goes on only while what it has taken may become a reference.
+use Rattle.std.proofs.Common.{arith, ◌≡◌, ℕ, ◌-◌, ◌<◌, true, false, nat_eq, List, [], ◌∷◌, ◌++◌, map, length, drop, Some, refl, sym, ap, ◌∙◌, append_assoc}
+use Rattle.std.proofs.lemmas.List.{append-nil, map-append, take-append-drop}
+use Rattle.std.proofs.lemmas.Bool.{and_parts}
+use Rattle.std.proofs.lemmas.Option.{slice_get_within, get_or_from_slice_get}
+use Rattle.std.specs.List.{starts_with}
+use Rattle.names.specs.declared.placed.Placed.{Placed}
+use Rattle.names.specs.Placed.{characters, all, is_empty, is_alphanumeric}
+use Rattle.charref.specs.declared.number.Base.{Base}
+use Rattle.charref.specs.declared.number.Base.TheVariants.{Decimal, Hexadecimal}
+use Rattle.charref.specs.declared.state.State.{State}
+use Rattle.charref.specs.declared.state.State.TheVariants.{NumberSign, Number}
+use Rattle.charref.specs.declared.walk.Walk.{Walk}
+use Rattle.charref.specs.Reference.{Entry, Entities, IsTable, longest, named, named_piece}
+use Rattle.charref.specs.Table.{GoesOn}
+use Rattle.charref.specs.Held.{key_bytes, IsSign, IsHeld, in_name, after_sign, after_x, in_number}
+use Rattle.charref.specs.Open.{IsOpen}
+use Rattle.charref.specs.Pieces.{IsRead, number_of}
+use Rattle.charref.specs.Walk.{HasTaken}
+use Rattle.charref.proofs.Core.{has_found}
+use Rattle.charref.proofs.Naming.{key_of}
+use Rattle.charref.proofs.Numbers.{one_number_sign, first_digit, number_closed, take-all}
+
+at_once : ℕ → Placed
+at_once c = record { ch = c; at = 0 }
+
+-- what is open after one character more is open before it
+open_before : (table : Entities) (amp : Placed) (text : List Placed) (p : Placed) → IsOpen table amp (text ++ p ∷ []) → IsOpen table amp text
+open_before table amp text p open' = record {
+  more = p ∷ open'.more;
+  rest = open'.rest;
+  piece = open'.piece;
+  is_more = refl;
+  text_is = open'.text_is ∙ ap (λ xs. amp ∷ xs) (append_assoc text (p ∷ []) open'.more);
+  is_reference = open'.is_reference;
+}
+
+open_number : (table : Entities) (amp : Placed) (base : Base) (value : ℕ) (text : List Placed) → amp.ch ≡ 38 → IsHeld table false (Number base value) text → IsOpen table amp text
+unfolding at_once
+open_number table amp base value text is held =
+    let read : IsRead table false (text ++ at_once 59 ∷ []) [] (number_of value 0 false) = number_closed table false base value text [] (at_once 59) held refl in
+    record {
+      more = at_once 59 ∷ [];
+      rest = _;
+      piece = _;
+      is_more = refl;
+      text_is = ap (λ xs. amp ∷ xs) (take-all (text ++ at_once 59 ∷ []) (length (text ++ at_once 59 ∷ []) - 0) (omega arith));
+      is_reference = read.reads amp is;
+    }
+
+open_sign : (table : Entities) (amp : Placed) (base : Base) (text : List Placed) → amp.ch ≡ 38 → IsSign base text → IsOpen table amp text
+unfolding at_once
+open_sign table amp Decimal text is sign = open_before table amp text (at_once 49) (open_number table amp Decimal 1 (text ++ at_once 49 ∷ []) is (first_digit table false Decimal text (at_once 49) 1 sign refl refl (omega arith)))
+open_sign table amp Hexadecimal text is sign = open_before table amp text (at_once 49) (open_number table amp Hexadecimal 1 (text ++ at_once 49 ∷ []) is (first_digit table false Hexadecimal text (at_once 49) 1 sign refl refl (omega arith)))
+
+-- a key that begins with the text, read to its end
+placed_again : (cs : List ℕ) → characters (map at_once cs) ≡ cs
+unfolding at_once
+placed_again [] = refl
+placed_again (c ∷ cs) = ap (λ ds. c ∷ ds) (placed_again cs)
+
+rest_of_key : (key bytes : List ℕ) → starts_with nat_eq key bytes ≡ true → key ≡ bytes ++ drop (length bytes) key
+rest_of_key key bytes p = sym (take-append-drop (length bytes) key) ∙ ap (λ xs. xs ++ drop (length bytes) key) (sym (key_of key bytes p))
+
+some_more : (cs ds : List ℕ) → length ds < length (ds ++ cs) → is_empty (map at_once cs) ≡ false
+some_more [] ds h = absurd (let e : ds ++ [] ≡ ds = append-nil ds in let s : length (ds ++ []) ≡ length ds = ap length e in omega arith)
+some_more (c ∷ cs) ds h = refl
+
+open_key : (table : Entities) (amp q : Placed) (qs : List Placed) → IsTable table → amp.ch ≡ 38 → is_alphanumeric q.ch ≡ true → GoesOn table (key_bytes (q ∷ qs)) → IsOpen table amp (q ∷ qs)
+open_key table amp q qs is_table is letter goes =
+    let e : Entry = goes.entry in
+    let text : List Placed = q ∷ qs in
+    let extra : List ℕ = drop (length (key_bytes text)) e.key in
+    let key-is : e.key ≡ key_bytes text ++ extra = rest_of_key e.key (key_bytes text) goes.opens in
+    let size : length e.key ≡ length (key_bytes text ++ extra) = ap length key-is in
+    let longer : length (key_bytes text) < length e.key = goes.is_longer in
+    let all-is : characters (text ++ map at_once extra) ≡ characters text ++ extra = map-append (λ (p : Placed). p.ch) text (map at_once extra) ∙ ap (λ cs. characters text ++ cs) (placed_again extra) in
+    let whole-is : characters (amp ∷ (text ++ map at_once extra)) ≡ e.key = ap (λ c. c ∷ characters (text ++ map at_once extra)) is ∙ ap (λ cs. 38 ∷ cs) all-is ∙ sym key-is in
+    let found : longest table e.key ≡ Some e = has_found table e is_table (goes.place, slice_get_within table goes.place e goes.stands, get_or_from_slice_get table goes.place e e goes.stands) in
+    record {
+      more = map at_once extra;
+      rest = [];
+      piece = named_piece (amp ∷ (text ++ map at_once extra)) e;
+      is_more = some_more extra (key_bytes text) (omega arith);
+      text_is = refl;
+      is_reference = named amp (text ++ map at_once extra) e is letter
+          (ap (λ (xs : List Placed). longest table (characters (amp ∷ xs))) (append-nil (text ++ map at_once extra)) ∙ ap (longest table) whole-is ∙ found) whole-is refl refl;
+    }
+
+open_name : (table : Entities) (amp : Placed) (text : List Placed) → IsTable table → amp.ch ≡ 38 → all is_alphanumeric text ≡ true → (is_empty text ≡ false → GoesOn table (key_bytes text)) → IsOpen table amp text
+unfolding at_once
+open_name table amp [] is_table is run goes = open_before table amp [] (at_once 35) (open_held (one_number_sign table false (at_once 35) refl))
+  where
+    open_held : IsHeld table false NumberSign (at_once 35 ∷ []) → IsOpen table amp (at_once 35 ∷ [])
+    open_held (after_sign text sign) = open_sign table amp Decimal text is sign
+open_name table amp (q ∷ qs) is_table is run goes = open_key table amp q qs is_table is (and_parts _ _ run).0 (goes refl)
+
+open_held : (table : Entities) (amp : Placed) (state : State) (text : List Placed) → IsTable table → amp.ch ≡ 38 → IsHeld table false state text → IsOpen table amp text
+open_held table amp _ _ is_table is (in_name search text read run goes) = open_name table amp text is_table is run (goes refl)
+open_held table amp _ _ is_table is (after_sign text sign) = open_sign table amp Decimal text is sign
+open_held table amp _ _ is_table is (after_x text sign) = open_sign table amp Hexadecimal text is sign
+open_held table amp _ _ is_table is (in_number base value sign digits text text-is signs opens run value-is) =
+    open_number table amp base value text is (in_number base value sign digits text text-is signs opens run value-is)
+
+pub open_taken : (walk : Walk) (table : Entities) (text : List Placed) (amp : Placed) → IsTable table → HasTaken walk table false text → amp.ch ≡ 38 → IsOpen table amp text
+open_taken walk table text amp is_table taken is = open_held table amp walk.state text is_table is taken.held

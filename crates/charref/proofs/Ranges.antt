@@ -1,0 +1,150 @@
+-- The range of the keys that begin with what was read, and how a byte narrows it.
+use Rattle.std.proofs.Common.{arith, ◌≡◌, ℕ, ◌+◌, ◌-◌, ◌≤◌, ◌<◌, Bool, true, false, ◌&&◌, nat_eq, nat_lt, nat_le, List, [], ◌∷◌, ◌++◌, length, slice_get, slice_range, get_or, Option, Some, None, option_map, Less, refl, sym, ap, ◌∙◌, subst}
+use Rattle.std.proofs.lemmas.Bool.{and_parts, and_from}
+use Rattle.std.proofs.lemmas.Bool.Decides.{nat_tests}
+use Rattle.std.proofs.lemmas.Option.{slice_get-map, slice_get-get_or, slice_get_within, get_or_from_slice_get}
+use Rattle.std.proofs.lemmas.List.Edits.{get_or-between, length-between}
+use Rattle.std.specs.Cmp.Lexicographic.{slice_cmp}
+use Rattle.std.specs.Ordering.{nat_cmp}
+use Rattle.std.specs.List.{starts_with}
+use Rattle.std.specs.List.Sorted.{IsNonDecreasingBy, IsPartitionPoint}
+use Rattle.charref.specs.declared.entity.Entity.{Entity}
+use Rattle.charref.specs.Reference.{Entry, Entities}
+use Rattle.charref.specs.Table.{entry, entries, code_at, IsSortedTable, IsRange, IsRising, IsParted, IsOver}
+use Rattle.charref.proofs.Keys.{code_at-le, starts_with-more, begins_later, in_order, begins_itself, IsOnly}
+
+-- what a slice of entities has at a place
+pub entry_at : (es : List Entity) (k : ℕ) (d : Entity) → k < length es → slice_get (entries es) k ≡ Some (entry (get_or es k d))
+entry_at es k d h = slice_get-map entry es k ∙ ap (option_map entry) (slice_get-get_or es k d h)
+
+-- what rises by the entries rises in the slice
+pub rising_slice : (es : List Entity) (low high depth : ℕ) → low ≤ high → high ≤ length es → IsRising (entries es) low high depth
+    → IsNonDecreasingBy (λ e. code_at e.key.items depth) (slice_range es low high)
+rising_slice es low high depth ordered within rising i j d le lt =
+    let size : length (slice_range es low high) ≡ high - low = length-between es low high within in
+    let first : get_or (slice_range es low high) i d ≡ get_or es (low + i) d = get_or-between es low high i d (omega arith) in
+    let second : get_or (slice_range es low high) j d ≡ get_or es (low + j) d = get_or-between es low high j d (omega arith) in
+    rw (first, second) (rising.at (low + i) (low + j) (entry (get_or es (low + i) d)) (entry (get_or es (low + j) d)) (entry_at es (low + i) d (omega arith)) (entry_at es (low + j) d (omega arith)) (omega arith) (omega arith) (omega arith))
+
+pub some_same : {A : Type 0} (x y : A) → Some x ≡ Some y → x ≡ y
+some_same x y h = cc
+
+-- a place that parts the slice parts the entries
+entity_at : (es : List Entity) (k : ℕ) (e : Entry) → slice_get (entries es) k ≡ Some e → (d : Entity) × (slice_get es k ≡ Some d) × (entry d ≡ e)
+entity_at es k e p = by (slice_get es k) refl (sym (slice_get-map entry es k) ∙ p)
+  where
+    by : (o : Option Entity) → slice_get es k ≡ o → option_map entry o ≡ Some e → (d : Entity) × (slice_get es k ≡ Some d) × (entry d ≡ e)
+    by None is got = absurd (cc)
+    by (Some d) is got = (d, is, some_same (entry d) e got)
+
+pub from_slice : (es : List Entity) (low high depth code place : ℕ) → low ≤ high → high ≤ length es → place ≤ high - low
+    → IsPartitionPoint (λ e. nat_lt (code_at e.key.items depth) code ≡ true) (λ e. nat_lt (code_at e.key.items depth) code ≡ false) (slice_range es low high) place
+    → IsParted (entries es) low (low + place) high depth code
+from_slice es low high depth code place ordered within room parted = record {
+  below = λ k e p from to. let d : (d : Entity) × (slice_get es k ≡ Some d) × (entry d ≡ e) = entity_at es k e p in by_below k e from to d.0 d.1 d.2;
+  above = λ k e p from to. let d : (d : Entity) × (slice_get es k ≡ Some d) × (entry d ≡ e) = entity_at es k e p in by_above k e from to d.0 d.1 d.2;
+}
+  where
+    size : length (slice_range es low high) ≡ high - low
+    size = length-between es low high within
+
+    same : (k : ℕ) (d : Entity) → slice_get es k ≡ Some d → low ≤ k → k < high → get_or (slice_range es low high) (k - low) d ≡ d
+    same k d got from to = get_or-between es low high (k - low) d (omega arith) ∙ ap (λ n. get_or es n d) (let e : low + (k - low) ≡ k = omega arith in e) ∙ get_or_from_slice_get es k d d got
+
+    by_above : (k : ℕ) (e : Entry) → low + place ≤ k → k < high → (d : Entity) → slice_get es k ≡ Some d → entry d ≡ e → code ≤ code_at e.key depth
+    by_above k e from to d got is =
+        let test : nat_lt (code_at d.key.items depth) code ≡ false = subst (λ (y : Entity). nat_lt (code_at y.key.items depth) code ≡ false) (same k d got (omega arith) to) (parted.1 (k - low) d (omega arith) (omega (arith, size))) in
+        subst (λ (y : Entry). code ≤ code_at y.key depth) is (grind (arith, nat_tests))
+
+    by_below : (k : ℕ) (e : Entry) → low ≤ k → k < low + place → (d : Entity) → slice_get es k ≡ Some d → entry d ≡ e → code_at e.key depth < code
+    by_below k e from to d got is =
+        let test : nat_lt (code_at d.key.items depth) code ≡ true = subst (λ (y : Entity). nat_lt (code_at y.key.items depth) code ≡ true) (same k d got from (omega arith)) (parted.0 (k - low) d (omega arith) (omega arith)) in
+        subst (λ (y : Entry). code_at y.key depth < code) is (grind (arith, nat_tests))
+
+-- The bytes after what was read rise within the range.
+pub within : (low high k : ℕ) → (nat_le low k && nat_lt k high) ≡ true → (low ≤ k) × (k < high)
+within low high k h = let parts : (nat_le low k ≡ true) × (nat_lt k high ≡ true) = and_parts _ _ h in (grind (arith, nat_tests, parts.0), grind (arith, nat_tests, parts.1))
+
+pub inside : (low high k : ℕ) → low ≤ k → k < high → (nat_le low k && nat_lt k high) ≡ true
+inside low high k l h = and_from (nat_le low k) (nat_lt k high) (grind (arith, nat_tests)) (grind (arith, nat_tests))
+
+pub range_rises : (table : Entities) (bytes : List ℕ) (low high : ℕ) → IsSortedTable table → IsRange table bytes low high → IsRising table low high (length bytes)
+range_rises table bytes low high sorted range = record {
+  at = λ j k e f p q from le to.
+      let first : starts_with nat_eq e.key bytes ≡ true = range.exact j e p ∙ inside low high j from (omega arith) in
+      let second : starts_with nat_eq f.key bytes ≡ true = range.exact k f q ∙ inside low high k (omega arith) to in
+      by j k e f p q le first second (nat_lt j k) refl;
+}
+  where
+    by : (j k : ℕ) (e f : Entry) → slice_get table j ≡ Some e → slice_get table k ≡ Some f → j ≤ k → starts_with nat_eq e.key bytes ≡ true → starts_with nat_eq f.key bytes ≡ true
+        → (b : Bool) → nat_lt j k ≡ b → code_at e.key (length bytes) ≤ code_at f.key (length bytes)
+    by j k e f p q le first second true is = code_at-le bytes e.key f.key first second (in_order table sorted.sorted j k e f p q (grind (arith, nat_tests)))
+    by j k e f p q le first second false is =
+        let place : j ≡ k = grind (arith, nat_tests) in
+        let both : Some e ≡ Some f = sym p ∙ ap (slice_get table) place ∙ q in
+        let same : e ≡ f = some_same e f both in
+        subst (λ (y : Entry). code_at e.key (length bytes) ≤ code_at y.key (length bytes)) same (omega arith)
+
+-- a part of what rises rises
+pub rises_later : (table : Entities) (low middle high depth : ℕ) → low ≤ middle → IsRising table low high depth → IsRising table middle high depth
+rises_later table low middle high depth h rising = record { at = λ j k e f p q from le to. rising.at j k e f p q (omega arith) le to }
+
+-- The keys that begin with one byte more.
+pub range_more : (table : Entities) (bytes : List ℕ) (byte low high from to : ℕ) → IsRange table bytes low high → low ≤ from → from ≤ to → to ≤ high
+    → IsParted table low from high (length bytes) (byte + 1) → IsParted table from to high (length bytes) (byte + 2) → IsRange table (bytes ++ byte ∷ []) from to
+range_more table bytes byte low high from to range a b c first second = record {
+  ordered = b;
+  within = (let w : high ≤ length table = range.within in omega arith);
+  exact = λ k e p. starts_with-more bytes byte e.key ∙ ap (λ t. t && nat_eq (byte + 1) (code_at e.key (length bytes))) (range.exact k e p) ∙ by k e p (nat_le low k) (nat_lt k from) (nat_lt k to) (nat_lt k high) refl refl refl refl;
+}
+  where
+    by : (k : ℕ) (e : Entry) → slice_get table k ≡ Some e → (l f t h : Bool) → nat_le low k ≡ l → nat_lt k from ≡ f → nat_lt k to ≡ t → nat_lt k high ≡ h
+        → ((nat_le low k && nat_lt k high) && nat_eq (byte + 1) (code_at e.key (length bytes))) ≡ (nat_le from k && nat_lt k to)
+    by k e p false f t h is-l is-f is-t is-h = let test : nat_le from k ≡ false = grind (arith, nat_tests) in rw (is-l, test)
+    by k e p true true t h is-l is-f is-t is-h =
+        let code : code_at e.key (length bytes) < byte + 1 = first.below k e p (grind (arith, nat_tests)) (grind (arith, nat_tests)) in
+        let other : nat_eq (byte + 1) (code_at e.key (length bytes)) ≡ false = grind (arith, nat_tests) in
+        let test : nat_le from k ≡ false = grind (arith, nat_tests) in
+        let in-high : nat_lt k high ≡ true = grind (arith, nat_tests) in
+        rw (is-l, in-high, other, test)
+    by k e p true false true h is-l is-f is-t is-h =
+        let here : from ≤ k = grind (arith, nat_tests) in
+        let less : k < high = grind (arith, nat_tests) in
+        let least : byte + 1 ≤ code_at e.key (length bytes) = first.above k e p here less in
+        let most : code_at e.key (length bytes) < byte + 2 = second.below k e p here (grind (arith, nat_tests)) in
+        let same : nat_eq (byte + 1) (code_at e.key (length bytes)) ≡ true = grind (arith, nat_tests) in
+        let test : nat_le from k ≡ true = grind (arith, nat_tests) in
+        let in-high : nat_lt k high ≡ true = grind (arith, nat_tests) in
+        rw (is-l, in-high, same, test, is-t)
+    by k e p true false false false is-l is-f is-t is-h =
+        let test : nat_le from k ≡ true = grind (arith, nat_tests) in
+        rw (is-l, is-h, test, is-t)
+    by k e p true false false true is-l is-f is-t is-h =
+        let least : byte + 2 ≤ code_at e.key (length bytes) = second.above k e p (grind (arith, nat_tests)) (grind (arith, nat_tests)) in
+        let other : nat_eq (byte + 1) (code_at e.key (length bytes)) ≡ false = grind (arith, nat_tests) in
+        let test : nat_le from k ≡ true = grind (arith, nat_tests) in
+        rw (is-l, is-h, other, test, is-t)
+
+-- Where the range is empty, no key goes on.
+pub range_over : (table : Entities) (bytes : List ℕ) (low high : ℕ) → IsRange table bytes low high → low ≡ high → IsOver table bytes
+range_over table bytes low high range none = record { no_more = λ k e p begins. absurd (let at : (low ≤ k) × (k < high) = within low high k (sym (range.exact k e p) ∙ begins) in omega (arith, at.0, at.1)) }
+
+-- the key that is what was read stands first in the range
+pub only_first : (table : Entities) (bytes : List ℕ) (low high : ℕ) → IsSortedTable table → IsRange table bytes low high → IsOnly table bytes low
+only_first table bytes low high sorted range = record {
+  here = λ k e p is.
+      let at : (low ≤ k) × (k < high) = within low high k (sym (range.exact k e p) ∙ subst (λ x. starts_with nat_eq x bytes ≡ true) (sym is) (begins_itself bytes)) in
+      by k e p is at.0 at.1 (nat_lt low k) refl (slice_get table low) refl;
+}
+  where
+    by : (k : ℕ) (e : Entry) → slice_get table k ≡ Some e → e.key ≡ bytes → low ≤ k → k < high → (b : Bool) → nat_lt low k ≡ b → (o : Option Entry) → slice_get table low ≡ o → k ≡ low
+    by k e p is from to false test o got = grind (arith, nat_tests)
+    by k e p is from to true test None got =
+        let less : k < length table = slice_get_within table k e p in
+        let some : low < length table = grind (arith, nat_tests) in
+        absurd (let f : slice_get table low ≡ Some (get_or table low e) = slice_get-get_or table low e some in cc)
+    by k e p is from to true test (Some f) got =
+        let less : low < k = grind (arith, nat_tests) in
+        let begins : starts_with nat_eq f.key bytes ≡ true = range.exact low f got ∙ inside low high low (omega arith) (omega arith) in
+        let order : slice_cmp nat_cmp f.key e.key ≡ Less = in_order table sorted.sorted low k f e got p less in
+        absurd (begins_later f.key bytes begins (subst (λ x. slice_cmp nat_cmp f.key x ≡ Less) is order))

@@ -1,0 +1,209 @@
+-- A reference that was told, as the definition has it.
+use Rattle.std.proofs.Common.{arith, ◌≡◌, ℕ, zero, suc, ◌+◌, ◌-◌, ◌≤◌, ◌<◌, Bool, true, false, true≢false, not, ◌&&◌, ◌||◌, ◌==◌, cond, nat_eq, nat_lt, List, [], ◌∷◌, ◌++◌, length, take, drop, slice_get, Some, None, Bor, refl, sym, ap, ◌∙◌, subst, append_assoc, length-append}
+use Rattle.std.proofs.lemmas.List.{append-nil, map-append, length-map, take-append-drop}
+use Rattle.std.proofs.lemmas.Bool.{and_parts}
+use Rattle.std.proofs.lemmas.Bool.Decides.{nat_tests}
+use Rattle.std.specs.List.{starts_with}
+use Rattle.names.specs.declared.placed.Placed.{Placed}
+use Rattle.names.specs.declared.error.ParseError.{ParseError}
+use Rattle.names.specs.declared.error.ErrorCode.TheVariants.{MissingSemicolonAfterCharacterReference, UnknownNamedCharacterReference}
+use Rattle.names.specs.Placed.{characters, begins, all, is_empty, past, is_alphanumeric, is_equals, error_if}
+use Rattle.charref.specs.declared.last.Last.{Last}
+use Rattle.charref.specs.declared.last.Last.TheVariants.{Alphanumeric, Semicolon, Equals, Other}
+use Rattle.charref.specs.declared.reference.Reference.{Reference}
+use Rattle.charref.specs.declared.reference.Characters.TheVariants.{Named, One}
+use Rattle.charref.specs.Reference.{Entry, Entities, IsTable, longest, ends_in_semicolon, is_kept, IsReference, named, kept, unknown}
+use Rattle.charref.specs.Held.{key_bytes}
+use Rattle.charref.specs.Last.{IsSettled, last_of, goes_on_name, is_kept_before}
+use Rattle.charref.specs.Pieces.{IsRead, characters_of, errors_of, unknown_of}
+use Rattle.charref.proofs.Keys.{no_longer}
+use Rattle.charref.proofs.Core.{longest_among}
+use Rattle.charref.proofs.Naming.{key_of, take-map, past-run, begins-drop, drop-seam, drop-within, is_key_of, Opens, key_opens}
+
+begins_first : (test : ℕ → Bool) (name : List Placed) (c : ℕ) (cs : List ℕ) → characters name ≡ c ∷ cs → begins test name ≡ test c
+begins_first test [] c cs h = absurd (cc)
+begins_first test (p ∷ ps) c cs h = let first : p.ch ≡ c = cc in ap test first
+
+begins-append : (test : ℕ → Bool) (xs ys : List Placed) → begins test xs ≡ true → begins test (xs ++ ys) ≡ true
+begins-append test [] ys h = absurd (true≢false (sym h))
+begins-append test (p ∷ ps) ys h = h
+
+begins_or : (xs : List Placed) → begins is_alphanumeric xs ≡ true → begins (λ c. is_equals c || is_alphanumeric c) xs ≡ true
+begins_or [] h = absurd (true≢false (sym h))
+begins_or (p ∷ ps) h = by (is_equals p.ch)
+  where
+    by : (b : Bool) → (b || is_alphanumeric p.ch) ≡ true
+    by true = refl
+    by false = h
+
+-- an `&` that is text: all that was read is left
+pub read_text : (table : Entities) (in_value : Bool) (text after : List Placed) (found : Reference) → found.left ≡ length text
+    → ((amp : Placed) → amp.ch ≡ 38 → IsReference table in_value (text ++ after) (record { text = amp ∷ []; gives = characters_of found.characters; errors = errors_of found amp.at after }))
+    → IsRead table in_value text after found
+read_text table in_value text after found left reads =
+    let none : length text - found.left ≡ 0 = omega arith in
+    record {
+      within = omega arith;
+      reads = λ amp is. rw none (reads amp is);
+    }
+
+module _ (table : Entities) (in_value : Bool) (text after : List Placed) (is_table : IsTable table) (e : Entry)
+    (found : longest table (key_bytes text) ≡ Some e) (same : longest table (key_bytes text ++ characters after) ≡ longest table (key_bytes text)) where
+  among : (k : ℕ) × (slice_get table k ≡ Some e) × (starts_with nat_eq (key_bytes text) e.key ≡ true)
+  among = longest_among table (key_bytes text) e found
+
+  opens : Opens e.key
+  opens = key_opens e.key (is_key_of table among.0 e is_table among.1)
+
+  pub least : 2 ≤ length e.key
+  least = let size : length e.key ≡ length (38 ∷ opens.first ∷ opens.others) = ap length opens.is in omega arith
+
+  pub most : length e.key ≤ length text + 1
+  most = let size : length e.key ≤ length (key_bytes text) = no_longer (key_bytes text) e.key among.2 in let count : length (characters text) ≡ length text = length-map text (λ p. p.ch) in omega arith
+
+  key_is : e.key ≡ 38 ∷ characters (take (length e.key - 1) text)
+  key_is =
+      let size : 2 ≤ length e.key = least in
+      let next : length e.key ≡ suc (length e.key - 1) = omega arith in
+      key_of (key_bytes text) e.key among.2 ∙ ap (λ n. take n (key_bytes text)) next ∙ ap (λ cs. 38 ∷ cs) (take-map (length e.key - 1) text)
+
+  name_is : characters (take (length e.key - 1) text) ≡ opens.first ∷ opens.others
+  name_is = let h : 38 ∷ characters (take (length e.key - 1) text) ≡ 38 ∷ opens.first ∷ opens.others = sym key_is ∙ opens.is in cc
+
+  name_opens : begins is_alphanumeric (take (length e.key - 1) text) ≡ true
+  name_opens = begins_first is_alphanumeric (take (length e.key - 1) text) opens.first opens.others name_is ∙ opens.alphanumeric
+
+  always : (amp : Placed) → amp.ch ≡ 38 → (rest : List Placed) → rest ≡ text ++ after → longest table (characters (amp ∷ rest)) ≡ Some e
+  always amp is rest rest-is =
+      let all-is : characters (amp ∷ rest) ≡ key_bytes text ++ characters after =
+      ap (λ (r : List Placed). amp.ch ∷ characters r) rest-is ∙ ap (λ c. c ∷ characters (text ++ after)) is ∙ ap (λ cs. 38 ∷ cs) (map-append (λ (p : Placed). p.ch) text after) in
+      ap (longest table) all-is ∙ same ∙ found
+
+  joined : take (length e.key - 1) text ++ (drop (length e.key - 1) text ++ after) ≡ text ++ after
+  joined = sym (append_assoc (take (length e.key - 1) text) (drop (length e.key - 1) text) after) ∙ ap (λ xs. xs ++ after) (take-append-drop (length e.key - 1) text)
+
+  text_opens : begins is_alphanumeric (text ++ after) ≡ true
+  text_opens = subst (λ xs. begins is_alphanumeric xs ≡ true) joined (begins-append is_alphanumeric (take (length e.key - 1) text) (drop (length e.key - 1) text ++ after) name_opens)
+
+  no_more : (xs : List ParseError) → xs ++ [] ++ [] ≡ xs
+  no_more xs = append-nil (xs ++ []) ∙ append-nil xs
+
+  pub read_named : (lent : Bor (List ℕ)) (left : ℕ) → lent.now ≡ e.stands_for → left ≡ length text - (length e.key - 1) → is_kept in_value e.key (drop (length e.key - 1) text ++ after) ≡ false
+      → IsRead table in_value text after (record { characters = Named lent; left = left; missing_semicolon = not (ends_in_semicolon e.key); fault = None; in_run = false })
+  read_named lent left stands left-is free =
+      let size : length e.key ≤ length text + 1 = most in
+      let two : 2 ≤ length e.key = least in
+      let belongs : length text - left ≡ length e.key - 1 = omega arith in
+      record {
+        within = omega arith;
+        reads = λ amp is. rw belongs (named amp (take (length e.key - 1) text) e is name_opens
+            (always amp is (take (length e.key - 1) text ++ (drop (length e.key - 1) text ++ after)) joined)
+            (ap (λ c. c ∷ characters (take (length e.key - 1) text)) is ∙ sym key_is) free
+            (λ i. record { text = amp ∷ take (length e.key - 1) text; gives = stands i; errors = no_more (error_if (not (ends_in_semicolon e.key)) MissingSemicolonAfterCharacterReference amp.at) i }));
+      }
+
+  pub read_kept : (left : ℕ) → left ≡ length text → is_kept in_value e.key (drop (length e.key - 1) text ++ after) ≡ true
+      → IsRead table in_value text after (record { characters = One 38; left = left; missing_semicolon = false; fault = None; in_run = false })
+  read_kept left left-is keeps =
+      read_text table in_value text after _ left-is (λ amp is.
+      kept amp e is text_opens (always amp is (text ++ after) refl)
+      (let size : length e.key ≤ length text + 1 = most in ap (is_kept in_value e.key) (drop-within text after (length e.key - 1) (omega arith)) ∙ keeps) refl)
+
+pub drop-all : (xs : List Placed) (n : ℕ) → length xs ≤ n → drop n xs ≡ []
+drop-all [] zero h = refl
+drop-all [] (suc n) h = refl
+drop-all (p ∷ ps) zero h = absurd (omega arith)
+drop-all (p ∷ ps) (suc n) h = drop-all ps n (omega arith)
+
+and_none : (a b : Bool) → (a && b && false) ≡ false
+and_none true true = refl
+and_none true false = refl
+and_none false true = refl
+and_none false false = refl
+
+last_follows : (c : ℕ) → (is_equals c || is_alphanumeric c) ≡ goes_on_name (last_of c)
+last_follows c = choose (is_alphanumeric c) (nat_eq c 59) (is_equals c) refl refl
+  where
+    choose : (a b d : Bool) → nat_eq c 59 ≡ b → is_equals c ≡ d → (d || a) ≡ goes_on_name (cond a Alphanumeric (cond b Semicolon (cond d Equals Other)))
+    choose true b true y z = refl
+    choose true b false y z = refl
+    choose false true false y z = refl
+    choose false true true y z = absurd (grind (arith, nat_tests))
+    choose false false true y z = refl
+    choose false false false y z = refl
+
+-- whether a key is kept, by what is left after it and the last character
+is_kept_at : (in_value : Bool) (front : List Placed) (p : Placed) (after : List Placed) (key : List ℕ) (n left : ℕ) → all is_alphanumeric front ≡ true → n ≤ length front + 1 → left ≡ length (front ++ p ∷ []) - n
+    → (left ≡ 0 → is_kept in_value key after ≡ false) → is_kept in_value key (drop n (front ++ p ∷ []) ++ after) ≡ is_kept_before in_value (ends_in_semicolon key) left (last_of p.ch)
+is_kept_at in_value front p after key n left run most left-is whole = by (nat_lt n (length front)) (nat_eq n (length front)) refl refl
+  where
+    size : length (front ++ p ∷ []) ≡ length front + 1
+    size = length-append front (p ∷ [])
+
+    by : (b d : Bool) → nat_lt n (length front) ≡ b → nat_eq n (length front) ≡ d → is_kept in_value key (drop n (front ++ p ∷ []) ++ after) ≡ is_kept_before in_value (ends_in_semicolon key) left (last_of p.ch)
+    by true d x y =
+        let less : n < length front = grind (arith, nat_tests) in
+        let many : nat_lt 1 left ≡ true = (let h : 1 < left = omega (arith, size) in grind (arith, nat_tests)) in
+        let begins-is : begins (λ c. is_equals c || is_alphanumeric c) (drop n (front ++ p ∷ []) ++ after) ≡ true =
+        begins-append (λ c. is_equals c || is_alphanumeric c) (drop n (front ++ p ∷ [])) after (begins_or (drop n (front ++ p ∷ [])) (begins-drop front (p ∷ []) n run less)) in
+        rw (begins-is, many)
+    by false true x y =
+        let is : n ≡ length front = grind (arith, nat_tests) in
+        let one : left ≡ 1 = omega (arith, size) in
+        rw (drop-seam front (p ∷ []) n is, one, last_follows p.ch)
+    by false false x y =
+        let is : n ≡ length front + 1 = (let h : length front ≤ n = grind (arith, nat_tests) in let g : n ≡ length front → ⊥ = (λ e. absurd (true≢false (sym (let t : nat_eq n (length front) ≡ true = grind (arith, nat_tests) in t) ∙ y))) in omega (arith, g)) in
+        let none : left ≡ 0 = omega (arith, size) in
+        let gone : drop n (front ++ p ∷ []) ≡ [] = drop-all (front ++ p ∷ []) n (omega (arith, size)) in
+        rw (gone, none, whole none) (sym (and_none in_value (not (ends_in_semicolon key))))
+
+-- no key: the errors are those of the run of alphanumerics
+unknown_errors : (front : List Placed) (p : Placed) (after : List Placed) (at left : ℕ) → all is_alphanumeric front ≡ true
+    → errors_of (unknown_of left (last_of p.ch)) at after ≡ error_if (begins (λ c. c == 59) (past is_alphanumeric (front ++ p ∷ [] ++ after))) UnknownNamedCharacterReference at
+unknown_errors front p after at left run = by (is_alphanumeric p.ch) (nat_eq p.ch 59) (is_equals p.ch) refl refl refl
+    ∙ ap (λ xs. error_if (begins (λ c. c == 59) xs) UnknownNamedCharacterReference at) (sym (past-run front (p ∷ after) run)) ∙ ap (λ (xs : List Placed). error_if (begins (λ c. c == 59) (past is_alphanumeric xs)) UnknownNamedCharacterReference at) (sym (append_assoc front (p ∷ []) after))
+  where
+    by : (a b d : Bool) → is_alphanumeric p.ch ≡ a → nat_eq p.ch 59 ≡ b → is_equals p.ch ≡ d
+        → errors_of (unknown_of left (cond a Alphanumeric (cond b Semicolon (cond d Equals Other)))) at after ≡ error_if (begins (λ c. c == 59) (cond (not a) (p ∷ after) (past is_alphanumeric after))) UnknownNamedCharacterReference at
+    by true b d x y z = refl
+    by false true d x y z = rw y refl
+    by false false true x y z = rw y refl
+    by false false false x y z = rw y refl
+
+unknown_left : (left : ℕ) (last : Last) → (unknown_of left last).left ≡ left
+unknown_left left Alphanumeric = refl
+unknown_left left Semicolon = refl
+unknown_left left Equals = refl
+unknown_left left Other = refl
+
+unknown_gives : (left : ℕ) (last : Last) → characters_of (unknown_of left last).characters ≡ 38 ∷ []
+unknown_gives left Alphanumeric = refl
+unknown_gives left Semicolon = refl
+unknown_gives left Equals = refl
+unknown_gives left Other = refl
+
+run_opens : (front : List Placed) (p : Placed) (after : List Placed) → all is_alphanumeric front ≡ true → (is_empty front ≡ true → is_alphanumeric p.ch ≡ true) → begins is_alphanumeric (front ++ p ∷ [] ++ after) ≡ true
+run_opens [] p after run first = first refl
+run_opens (q ∷ qs) p after run first = (and_parts _ _ run).0
+
+pub read_unknown : (table : Entities) (in_value : Bool) (front : List Placed) (p : Placed) (after : List Placed) (left : ℕ) → all is_alphanumeric front ≡ true → (is_empty front ≡ true → is_alphanumeric p.ch ≡ true)
+    → left ≡ length (front ++ p ∷ []) → longest table (key_bytes (front ++ p ∷ [])) ≡ None → IsSettled table in_value (front ++ p ∷ []) after → IsRead table in_value (front ++ p ∷ []) after (unknown_of left (last_of p.ch))
+read_unknown table in_value front p after left run first left-is none settled =
+    read_text table in_value (front ++ p ∷ []) after (unknown_of left (last_of p.ch)) (unknown_left left (last_of p.ch) ∙ left-is) (λ amp is.
+    unknown amp is (run_opens front p after run first)
+    (ap (λ c. longest table (c ∷ characters (front ++ p ∷ [] ++ after))) is ∙ ap (λ cs. longest table (38 ∷ cs)) (map-append (λ (q : Placed). q.ch) (front ++ p ∷ []) after) ∙ settled.same ∙ none)
+    (λ i. record { text = amp ∷ []; gives = unknown_gives left (last_of p.ch) i; errors = unknown_errors front p after amp.at left run i }))
+
+-- a key: it is kept, or its characters come
+pub kept_by : (table : Entities) (in_value : Bool) (front : List Placed) (p : Placed) (after : List Placed) (e : Entry) (left : ℕ) → IsTable table → all is_alphanumeric front ≡ true → longest table (key_bytes (front ++ p ∷ [])) ≡ Some e
+    → IsSettled table in_value (front ++ p ∷ []) after → left ≡ length (front ++ p ∷ []) - (length e.key - 1)
+    → is_kept in_value e.key (drop (length e.key - 1) (front ++ p ∷ []) ++ after) ≡ is_kept_before in_value (ends_in_semicolon e.key) left (last_of p.ch)
+kept_by table in_value front p after e left is_table run found settled left-is =
+    let text : List Placed = front ++ p ∷ [] in
+    let size : length (front ++ p ∷ []) ≡ length front + 1 = length-append front (p ∷ []) in
+    let two : 2 ≤ length e.key = least table in_value text after is_table e found settled.same in
+    let top : length e.key ≤ length (front ++ p ∷ []) + 1 = most table in_value text after is_table e found settled.same in
+    is_kept_at in_value front p after e.key (length e.key - 1) left run (omega arith) left-is (λ none. settled.not_kept e found (omega arith))
+
+pub some_key : (table : Entities) (k : ℕ) (e : Entry) → IsTable table → slice_get table k ≡ Some e → 1 ≤ length e.key
+some_key table k e is_table h = let opened : Opens e.key = key_opens e.key (is_key_of table k e is_table h) in let size : length e.key ≡ length (38 ∷ opened.first ∷ opened.others) = ap length opened.is in omega arith

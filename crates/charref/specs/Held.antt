@@ -1,0 +1,38 @@
+-- What a walk has been handed after the `&`, by its state.
+use Rattle.std.specs.Prelude.{◌≡◌, ℕ, Bool, true, false, nat_le, min, List, [], ◌∷◌, ◌++◌}
+use Rattle.names.specs.declared.placed.Placed.{Placed}
+use Rattle.names.specs.Placed.{characters, begins, is_empty, all, is_alphanumeric}
+use Rattle.charref.specs.declared.number.Base.{Base}
+use Rattle.charref.specs.declared.number.Base.TheVariants.{Decimal, Hexadecimal}
+use Rattle.charref.specs.declared.search.Search.{Search}
+use Rattle.charref.specs.declared.state.State.{State}
+use Rattle.charref.specs.declared.state.State.TheVariants.{Name, NumberSign, HexadecimalSign, Number}
+use Rattle.charref.specs.Reference.{Entities, number_from}
+use Rattle.charref.specs.Number.{is_digit_of, radix}
+use Rattle.charref.specs.Table.{GoesOn, HasRead, is_search_within}
+
+-- a state of a walk through a table of so many entries
+abbrev pub is_within : State → ℕ → Bool
+is_within (Name search) count = is_search_within search count
+is_within NumberSign count = true
+is_within HexadecimalSign count = true
+is_within (Number base value) count = nat_le value 0x110000
+
+-- the bytes of a key that begins with `&` and this text
+abbrev pub key_bytes : List Placed → List ℕ
+key_bytes text = 38 ∷ characters text
+
+-- the text before the digits of a number
+pub data IsSign : Base → List Placed → Type 0 where
+  number_sign : (p : Placed) → p.ch ≡ 35 → IsSign Decimal (p ∷ [])
+  small_x : (p q : Placed) → p.ch ≡ 35 → q.ch ≡ 120 → IsSign Hexadecimal (p ∷ q ∷ [])
+  capital_x : (p q : Placed) → p.ch ≡ 35 → q.ch ≡ 88 → IsSign Hexadecimal (p ∷ q ∷ [])
+
+-- The text is what a walk in this state has been handed. In a value a whole key waits for the character after it.
+pub data IsHeld (table : Entities) (in_value : Bool) : State → List Placed → Type 0 where
+  in_name : (search : Search) (text : List Placed) → HasRead search table (key_bytes text) → all is_alphanumeric text ≡ true
+      → (in_value ≡ false → is_empty text ≡ false → GoesOn table (key_bytes text)) → IsHeld table in_value (Name search) text
+  after_sign : (text : List Placed) → IsSign Decimal text → IsHeld table in_value NumberSign text
+  after_x : (text : List Placed) → IsSign Hexadecimal text → IsHeld table in_value HexadecimalSign text
+  in_number : (base : Base) (value : ℕ) (sign digits text : List Placed) → text ≡ sign ++ digits → IsSign base sign → begins (is_digit_of base) digits ≡ true
+      → all (is_digit_of base) digits ≡ true → value ≡ min (number_from 0 (radix base) digits) 0x110000 → IsHeld table in_value (Number base value) text

@@ -1,0 +1,10 @@
+pub mod Reference
+pub mod Reading
+pub mod Rows
+pub mod Table
+pub mod Number
+pub mod Held
+pub mod Pieces
+pub mod Last
+pub mod Open
+pub mod Walk

@@ -1,0 +1,86 @@
+-- A table in memory, and what looking up in it comes to.
+use Rattle.std.specs.Prelude.{◌≡◌, ℕ, ◌+◌, ◌≤◌, ◌<◌, Bool, true, false, nat_eq, nat_le, nat_lt, ◌&&◌, List, map, length, slice_get, Option, Some, None, IfSome}
+use Rattle.std.specs.List.{starts_with}
+use Rattle.std.specs.List.Sorted.{IsStrictlySortedBy}
+use Rattle.std.specs.Cmp.Lexicographic.{slice_cmp}
+use Rattle.std.specs.Ordering.{nat_cmp}
+use Rattle.charref.specs.declared.entity.Entity.{Entity}
+use Rattle.charref.specs.declared.search.Search.{Search}
+use Rattle.charref.specs.Reference.{Entry, Entities, IsTable, longest}
+
+abbrev pub entry : Entity → Entry
+entry entity = record { key = entity.key.items; stands_for = entity.characters.items }
+
+abbrev pub entries : List Entity → Entities
+entries entities = map entry entities
+
+-- a table whose keys stand in the order of their bytes
+pub record IsSortedTable (table : Entities) : Type 0 where
+  pub is_table : IsTable table
+  pub sorted : IsStrictlySortedBy (slice_cmp nat_cmp) (map (λ e. e.key) table)
+
+-- the byte of a key at a depth, from 1 on; 0 past its end
+abbrev pub code_of : Option ℕ → ℕ
+code_of None = 0
+code_of (Some byte) = byte + 1
+
+abbrev pub code_at : List ℕ → ℕ → ℕ
+code_at key depth = code_of (slice_get key depth)
+
+-- The entries whose keys begin with these bytes stand from `low` up to `high`.
+pub record IsRange (table : Entities) (bytes : List ℕ) (low high : ℕ) : Type 0 where
+  pub ordered : low ≤ high
+  pub within : high ≤ length table
+  pub exact : (k : ℕ) (e : Entry) → slice_get table k ≡ Some e → starts_with nat_eq e.key bytes ≡ (nat_le low k && nat_lt k high)
+
+-- In the entries from `low` up to `high` the byte at this depth does not fall.
+pub record IsRising (table : Entities) (low high depth : ℕ) : Type 0 where
+  pub at : (j k : ℕ) (e f : Entry) → slice_get table j ≡ Some e → slice_get table k ≡ Some f → low ≤ j → j ≤ k → k < high → code_at e.key depth ≤ code_at f.key depth
+
+-- From `low` up to `middle` it is below this code, and from there up to `high` it is not.
+pub record IsParted (table : Entities) (low middle high depth code : ℕ) : Type 0 where
+  pub below : (k : ℕ) (e : Entry) → slice_get table k ≡ Some e → low ≤ k → k < middle → code_at e.key depth < code
+  pub above : (k : ℕ) (e : Entry) → slice_get table k ≡ Some e → middle ≤ k → k < high → code ≤ code_at e.key depth
+
+-- the entry that was found
+abbrev pub best_entry : Entities → Option ℕ → Option Entry
+best_entry table None = None
+best_entry table (Some k) = slice_get table k
+
+-- A search of the table has read these bytes.
+pub record HasRead (search : Search) (table : Entities) (bytes : List ℕ) : Type 0 where
+  pub depth : search.depth ≡ length bytes
+  pub range : IsRange table bytes search.low search.high
+  pub within : IfSome search.best (λ k. k < length table)
+  pub best : best_entry table search.best ≡ longest table bytes
+
+-- No key of the table begins with these bytes and goes on; some key does.
+pub record IsOver (table : Entities) (bytes : List ℕ) : Type 0 where
+  pub no_more : (k : ℕ) (e : Entry) → slice_get table k ≡ Some e → starts_with nat_eq e.key bytes ≡ true → length e.key ≤ length bytes
+
+pub record GoesOn (table : Entities) (bytes : List ℕ) : Type 0 where
+  pub place : ℕ
+  pub entry : Entry
+  pub stands : slice_get table place ≡ Some entry
+  pub opens : starts_with nat_eq entry.key bytes ≡ true
+  pub is_longer : length bytes < length entry.key
+
+-- whether the key that was found is as long as what was read
+abbrev pub is_as_long : ℕ → Option Entry → Bool
+is_as_long depth None = false
+is_as_long depth (Some e) = nat_eq (length e.key) depth
+
+abbrev pub is_whole : Entities → Search → Bool
+is_whole table search = is_as_long search.depth (best_entry table search.best)
+
+-- No key of the table begins with these bytes.
+pub record HasNone (table : Entities) (bytes : List ℕ) : Type 0 where
+  pub none : (k : ℕ) (e : Entry) → slice_get table k ≡ Some e → starts_with nat_eq e.key bytes ≡ true → ⊥
+
+-- A search stays within a table of so many entries.
+abbrev pub is_place : Option ℕ → ℕ → Bool
+is_place None count = true
+is_place (Some k) count = nat_lt k count
+
+abbrev pub is_search_within : Search → ℕ → Bool
+is_search_within search count = nat_le search.low search.high && nat_le search.high count && is_place search.best count

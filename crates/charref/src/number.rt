@@ -1,0 +1,134 @@
+//! The characters of numeric references (HTML Standard, 13.2.5.75 to 13.2.5.80).
+
+ghost use Rattle.std.specs.Prelude.{◌≡◌, ◌+◌, ◌*◌, ◌≤◌, ◌<◌, true, false, min, MatchOption};
+ghost use Rattle.charref.specs.Reference.{numbered, number_fault, replaced, replacements, is_surrogate, is_noncharacter, is_control, digit_value};
+ghost use Rattle.names.specs.Placed.{is_space};
+ghost use Rattle.charref.specs.Number.{is_digit_of, radix};
+
+use names::ErrorCode;
+
+/// How a number is written.
+#[derive(Clone, Copy, Debug)]
+pub(crate) enum Base {
+    Decimal,
+    Hexadecimal,
+}
+
+/// One more than the greatest code of a character: what any greater number is counted as.
+pub(crate) const TOO_GREAT: u32 = 0x11_0000;
+
+impl Base {
+    /// The value of a digit.
+    pub(crate) fn digit(self, ch: char) -> Option<u32>
+        ensures { MatchOption result (is_digit_of self ch ≡ false) (λ digit. (is_digit_of self ch ≡ true) × (digit ≡ digit_value ch) × (digit < 16)) }
+    {
+        match (self, ch) {
+            (_, '0'..='9') => Some(ch as u32 - '0' as u32),
+            (Base::Hexadecimal, 'A'..='F') => Some(ch as u32 - 'A' as u32 + 10),
+            (Base::Hexadecimal, 'a'..='f') => Some(ch as u32 - 'a' as u32 + 10),
+            _ => None,
+        }
+    }
+
+    /// The number with a digit more, as far as it matters.
+    pub(crate) fn more(self, value: u32, digit: u32) -> u32
+        requires value { value ≤ TOO_GREAT }
+        requires digit { digit < 16 }
+        ensures { result ≡ min (value * radix self + digit) TOO_GREAT }
+    {
+        let radix = match self {
+            Base::Decimal => 10,
+            Base::Hexadecimal => 16,
+        };
+        (value * radix + digit).min(TOO_GREAT)
+    }
+}
+
+fn is_surrogate(value: u32) -> bool
+    ensures { result ≡ is_surrogate value }
+{
+    0xD800 <= value && value <= 0xDFFF
+}
+
+fn is_noncharacter(value: u32) -> bool
+    ensures { result ≡ is_noncharacter value }
+{
+    0xFDD0 <= value && value <= 0xFDEF || value % 0x1_0000 >= 0xFFFE
+}
+
+fn is_control(value: u32) -> bool
+    ensures { result ≡ is_control value }
+{
+    value < 32 || 127 <= value && value <= 159
+}
+
+fn is_space(value: u32) -> bool
+    ensures { result ≡ is_space value }
+{
+    matches!(value, 9 | 10 | 12 | 13 | 32)
+}
+
+/// What stands for a control from 80 to 9F, where a character is listed for it.
+fn replaced(value: u32) -> u32
+    ensures { result ≡ replaced replacements value }
+{
+    match value {
+        0x80 => 0x20AC,
+        0x82 => 0x201A,
+        0x83 => 0x0192,
+        0x84 => 0x201E,
+        0x85 => 0x2026,
+        0x86 => 0x2020,
+        0x87 => 0x2021,
+        0x88 => 0x02C6,
+        0x89 => 0x2030,
+        0x8A => 0x0160,
+        0x8B => 0x2039,
+        0x8C => 0x0152,
+        0x8E => 0x017D,
+        0x91 => 0x2018,
+        0x92 => 0x2019,
+        0x93 => 0x201C,
+        0x94 => 0x201D,
+        0x95 => 0x2022,
+        0x96 => 0x2013,
+        0x97 => 0x2014,
+        0x98 => 0x02DC,
+        0x99 => 0x2122,
+        0x9A => 0x0161,
+        0x9B => 0x203A,
+        0x9C => 0x0153,
+        0x9E => 0x017E,
+        0x9F => 0x0178,
+        _ => value,
+    }
+}
+
+/// The character of a number.
+pub(crate) fn numbered(value: u32) -> char
+    ensures { result ≡ numbered value }
+{
+    match char::from_u32(replaced(value)) {
+        Some(character) if value != 0 => character,
+        _ => char::REPLACEMENT_CHARACTER,
+    }
+}
+
+/// What is wrong with a number.
+pub(crate) fn number_fault(value: u32) -> Option<ErrorCode>
+    ensures { result ≡ number_fault value }
+{
+    if value == 0 {
+        Some(ErrorCode::NullCharacterReference)
+    } else if value > 0x10_FFFF {
+        Some(ErrorCode::CharacterReferenceOutsideUnicodeRange)
+    } else if is_surrogate(value) {
+        Some(ErrorCode::SurrogateCharacterReference)
+    } else if is_noncharacter(value) {
+        Some(ErrorCode::NoncharacterCharacterReference)
+    } else if value == 13 || is_control(value) && !is_space(value) {
+        Some(ErrorCode::ControlCharacterReference)
+    } else {
+        None
+    }
+}

@@ -1,0 +1,163 @@
+//! Reading a table of JSON text.
+
+ghost use Rattle.std.specs.Prelude.{◌≡◌, ◌⊎◌, List, Ok, Err, Some, IfOk, IfErr, option_map, string_bytes, encode_utf8_all};
+ghost use Rattle.names.specs.declared.refusal.TableFault.{TableFault};
+ghost use Rattle.serde_json.specs.View.{view, items_view, members_view};
+ghost use Rattle.serde_json.specs.Errors.{IsMemory};
+ghost use Rattle.charref.specs.Reference.{is_key, is_key_name, Entities};
+ghost use Rattle.charref.specs.Reading.{codepoint, codepoints, fields, entry_of, entities_of, table_of, table_of_members, IsRefusedWith};
+ghost use Rattle.charref.specs.Table.{entry, entries};
+ghost use Rattle.std.specs.List.Sorted.{IsStrictlySortedBy};
+ghost use Rattle.std.specs.Map.{keys_of};
+ghost use Rattle.std.specs.String.{string_cmp};
+
+use crate::entity::Entity;
+use crate::table::Table;
+use names::{Refusal, TableFault};
+use serde_json::{Error, Map, Value};
+use std::alloc::{AllocError, Global};
+
+/// Whether this is alphanumerics, one or more, and then at most one `;`.
+fn is_key_name(name: &[u8]) -> bool
+    ensures { result ≡ is_key_name name.now }
+{
+    for (index, byte) in name.iter().enumerate() {
+        if !byte.is_ascii_alphanumeric() {
+            return index > 0 && *byte == b';' && index + 1 == name.len();
+        }
+    }
+    !name.is_empty()
+}
+
+/// Whether this is a key: `&` and its name.
+fn is_key(key: &[u8]) -> bool
+    ensures { result ≡ is_key key.now }
+{
+    match key {
+        [b'&', name @ ..] => is_key_name(name),
+        _ => false,
+    }
+}
+
+/// The character of a number in digits alone, other than NUL.
+fn codepoint(value: &Value) -> Option<char>
+    ensures { result ≡ codepoint (view value.now) }
+{
+    let number = u32::try_from(value.as_u64()?).ok()?;
+    let character = char::from_u32(number)?;
+    if character == '\0' {
+        None
+    } else {
+        Some(character)
+    }
+}
+
+/// The characters of a list of one or two.
+fn codepoints(alloc: Global, list: &[Value]) -> Result<Option<Vec<char>>, AllocError>
+    ensures { IfOk result (λ found. option_map (λ v. v.items) found ≡ codepoints (items_view list.now)) }
+{
+    match list {
+        [] => Ok(None),
+        [only] => match codepoint(only) {
+            Some(character) => Ok(Some(Vec::from_slice(alloc, &[character])?)),
+            None => Ok(None),
+        },
+        [first, second] => match (codepoint(first), codepoint(second)) {
+            (Some(first), Some(second)) => Ok(Some(Vec::from_slice(alloc, &[first, second])?)),
+            _ => Ok(None),
+        },
+        [_, _, _, ..] => Ok(None),
+    }
+}
+
+/// The text of some characters.
+fn text_of(alloc: Global, characters: &[char]) -> Result<String, AllocError>
+    ensures { IfOk result (λ text. string_bytes text ≡ encode_utf8_all characters.now) }
+{
+    let mut text = String::new(alloc);
+    for character in characters {
+        text.push(*character)?;
+    }
+    Ok(text)
+}
+
+/// The list and the text of an entry, where it is an object that has both.
+fn fields(value: &Value) -> Option<(&Vec<Value>, &str)>
+    ensures { option_map (λ pair. (items_view pair.0.now.items, pair.1.now)) result ≡ fields (view value.now) }
+{
+    let list = value.get("codepoints")?.as_array()?;
+    let text = value.get("characters")?.as_str()?;
+    Some((list, text))
+}
+
+fn fault(cause: TableFault) -> Refusal
+    ensures { result ≡ Refusal.BadTable cause }
+{
+    Refusal::BadTable { cause }
+}
+
+/// What a text is refused with that `serde_json` does not read.
+fn json_fault(error: Error) -> Refusal
+    ensures memory { IsMemory error → result ≡ Refusal.Memory }
+    ensures json { ¬ IsMemory error → result ≡ Refusal.BadTable TableFault.Json }
+{
+    if error.is_memory() {
+        Refusal::Memory
+    } else {
+        fault(TableFault::Json)
+    }
+}
+
+/// The entry of a key and its value.
+fn entity_of(alloc: Global, key: &str, value: &Value) -> Result<Entity, Refusal>
+    ensures ok { IfOk result (λ entity. entry_of key.now (view value.now) ≡ Ok (entry entity)) }
+    ensures err { IfErr result (λ e. IsRefusedWith (entry_of key.now (view value.now)) e) }
+{
+    if !is_key(key.as_bytes()) {
+        return Err(fault(TableFault::Key));
+    }
+    let Some((list, text)) = fields(value) else {
+        return Err(fault(TableFault::Shape));
+    };
+    let Some(characters) = codepoints(alloc, list)? else {
+        return Err(fault(TableFault::Codepoints));
+    };
+    if text_of(alloc, &characters)?.as_str() != text {
+        return Err(fault(TableFault::Characters));
+    }
+    Ok(Entity {
+        key: Vec::from_slice(alloc, key.as_bytes())?,
+        characters,
+    })
+}
+
+/// The entries of an object's members, in the order of their keys.
+fn entities_of(alloc: Global, members: &Map<String, Value>) -> Result<Vec<Entity>, Refusal>
+    ensures ok { IfOk result (λ entities. entities_of (members_view members.now.entries) ≡ Ok (entries entities.items)) }
+    ensures sorted { IsStrictlySortedBy string_cmp (keys_of members.now.entries) }
+    ensures err { IfErr result (λ e. IsRefusedWith (entities_of (members_view members.now.entries)) e) }
+{
+    let mut entities = Vec::with_capacity(alloc, members.len())?;
+    for (key, value) in members.iter() {
+        entities.push(entity_of(alloc, key.as_str(), value)?)?;
+    }
+    Ok(entities)
+}
+
+impl Table {
+    /// The table of a JSON text: an object of key to object with `codepoints`, a list of one or two numbers, and
+    /// `characters`, their text. Of equal keys, and of equal fields of an entry, the last one counts; other fields are not
+    /// looked at. The first fault is told: of the text as JSON, of the whole, and then entry by entry in the order of their
+    /// keys' bytes.
+    pub fn read(alloc: Global, text: &str) -> Result<Table, Refusal>
+        ensures ok { IfOk result (λ table. table_of text.now ≡ Ok table) }
+        ensures err { IfErr result (λ e. IsRefusedWith (table_of text.now) e) }
+    {
+        let value = Value::from_str(alloc, text).map_err(json_fault)?;
+        let Some(members) = value.as_object() else {
+            return Err(fault(TableFault::Shape));
+        };
+        let entities = entities_of(alloc, members)?;
+        Ok(Table { entities })
+    }
+}

@@ -1,0 +1,151 @@
+//! A look-up, byte by byte.
+
+ghost use Rattle.std.specs.Prelude.{◌≡◌, ◌↔◌, ℕ, ◌+◌, ◌-◌, ◌≤◌, ◌<◌, [], ◌∷◌, ◌++◌, List, true, false, None, length, IsTrue, IsNone, IfSome};
+ghost use Rattle.charref.specs.Reference.{longest};
+ghost use Rattle.charref.specs.Table.{entries, code_at, best_entry, IsSortedTable, IsRising, IsParted, IsOver, GoesOn, HasNone, HasRead, is_whole, is_search_within};
+
+use crate::entity::Entity;
+
+/// How far a look-up has come: so many bytes were read, the entities from `low` up to `high` have keys that begin with them,
+/// and that at `best` has the longest key that they begin with.
+#[derive(Clone, Copy, Debug)]
+pub(crate) struct Search {
+    pub(crate) depth: usize,
+    pub(crate) low: usize,
+    pub(crate) high: usize,
+    pub(crate) best: Option<usize>,
+}
+
+/// The byte of a key at `depth`, from 1 on; 0 past its end.
+fn code_at(key: &[u8], depth: usize) -> u16
+    ensures { result ≡ code_at key.now depth }
+{
+    match key.get(depth) {
+        Some(byte) => u16::from(*byte) + 1,
+        None => 0,
+    }
+}
+
+/// The first of the entities from `low` up to `high` whose key has at `depth` at least this code, or `high`.
+fn first_from(entities: &[Entity], low: usize, high: usize, depth: usize, code: u16) -> usize
+    requires ordered { low ≤ high }
+    requires within { high ≤ length entities.now }
+    ensures after { low ≤ result }
+    ensures before { result ≤ high }
+    ensures parted { IsRising (entries entities.now) low high depth
+        → IsParted (entries entities.now) low result high depth code }
+{
+    low + entities[low..high].partition_point(|entity| code_at(&entity.key, depth) < code)
+}
+
+impl Search {
+    /// Before the first byte.
+    pub(crate) fn new(entities: &[Entity]) -> Search
+        requires sorted { IsSortedTable (entries entities.now) }
+        ensures read { HasRead result (entries entities.now) [] }
+        ensures within { (result.low ≡ 0) × (result.high ≡ length entities.now) }
+        ensures best { result.best ≡ None }
+        ensures depth { result.depth ≡ 0 }
+    {
+        Search {
+            depth: 0,
+            low: 0,
+            high: entities.len(),
+            best: None,
+        }
+    }
+
+    /// Whether no key begins with what was read.
+    pub(crate) fn is_over(&self) -> bool
+        ensures { IsTrue result ↔ (self.now.low ≡ self.now.high) }
+    {
+        self.low == self.high
+    }
+
+    /// Reads one byte more.
+    pub(crate) fn narrow(&mut self, entities: &[Entity], byte: u8)
+        requires sorted { IsSortedTable (entries entities.now) }
+        requires within { (self.old.low ≤ self.old.high) × (self.old.high ≤ length entities.now) }
+        requires room { self.old.depth < usize.MAX }
+        ensures read { (bytes : List ℕ) → HasRead self.old (entries entities.now) bytes
+            → HasRead self.new (entries entities.now) (bytes ++ byte ∷ []) }
+        ensures within { (self.new.low ≤ self.new.high) × (self.new.high ≤ length entities.now) }
+        ensures depth { self.new.depth ≡ self.old.depth + 1 }
+        ensures best { IfSome self.old.best (λ k. k < length entities.now) → IfSome self.new.best (λ k. k < length entities.now) }
+    {
+        let code = u16::from(byte) + 1;
+        let low = first_from(entities, self.low, self.high, self.depth, code);
+        let high = first_from(entities, low, self.high, self.depth, code + 1);
+        let depth = self.depth + 1;
+        let best = if low < high && entities[low].key.len() == depth {
+            Some(low)
+        } else {
+            self.best
+        };
+        *self = Search {
+            depth,
+            low,
+            high,
+            best,
+        };
+    }
+
+    /// Whether some key begins with what was read and goes on: the last of the range, if any.
+    pub(crate) fn goes_on(&self, entities: &[Entity]) -> bool
+        requires sorted { IsSortedTable (entries entities.now) }
+        requires within { (self.now.low ≤ self.now.high) × (self.now.high ≤ length entities.now) }
+        ensures open { (bytes : List ℕ) → HasRead self.now (entries entities.now) bytes → result ≡ true
+            → GoesOn (entries entities.now) bytes }
+        ensures over { (bytes : List ℕ) → HasRead self.now (entries entities.now) bytes → result ≡ false
+            → IsOver (entries entities.now) bytes }
+        ensures room { result ≡ true → self.now.depth < usize.MAX }
+    {
+        self.low < self.high && entities[self.high - 1].key.len() > self.depth
+    }
+
+    /// With one character more, where some key begins with it.
+    pub(crate) fn extended(&self, entities: &[Entity], ch: char) -> Option<Search>
+        requires sorted { IsSortedTable (entries entities.now) }
+        requires within { is_search_within self.now (length entities.now) ≡ true }
+        ensures within { IfSome result (λ next. is_search_within next (length entities.now) ≡ true) }
+        ensures read { IfSome result (λ next. (bytes : List ℕ) → HasRead self.now (entries entities.now) bytes
+            → HasRead next (entries entities.now) (bytes ++ ch ∷ [])) }
+        ensures none { IsNone result → (bytes : List ℕ) → HasRead self.now (entries entities.now) bytes
+            → HasNone (entries entities.now) (bytes ++ ch ∷ []) }
+    {
+        if self.goes_on(entities) && ch.is_ascii() {
+            let mut next = *self;
+            next.narrow(entities, ch as u8);
+            Some(next)
+        } else {
+            None
+        }
+    }
+
+    /// Whether what was read is a key.
+    pub(crate) fn is_whole(&self, entities: &[Entity]) -> bool
+        requires within { IfSome self.now.best (λ k. k < length entities.now) }
+        ensures { result ≡ is_whole (entries entities.now) self.now }
+    {
+        match self.best {
+            Some(best) => entities[best].key.len() == self.depth,
+            None => false,
+        }
+    }
+}
+
+/// Reads a text as far as some key goes on.
+pub(crate) fn search_for(entities: &[Entity], text: &[u8]) -> Search
+    requires sorted { IsSortedTable (entries entities.now) }
+    ensures within { IfSome result.best (λ k. k < length entities.now) }
+    ensures best { best_entry (entries entities.now) result.best ≡ longest (entries entities.now) text.now }
+{
+    let mut search = Search::new(entities);
+    for byte in text {
+        if search.is_over() {
+            return search;
+        }
+        search.narrow(entities, *byte);
+    }
+    search
+}

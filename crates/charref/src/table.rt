@@ -1,0 +1,87 @@
+//! The table of named character references.
+
+ghost use Rattle.std.specs.Prelude.{◌≡◌, ◌↔◌, [], ◌∷◌, length, Some, None, IfOk, IfErr, IsTrue, Contains, MatchOption};
+ghost use Rattle.charref.specs.Reference.{Entry, Entities, IsTable, HasCore, core, longest};
+ghost use Rattle.charref.specs.Table.{entries, IsSortedTable};
+
+use crate::entity::Entity;
+use crate::search::search_for;
+use names::Refusal;
+use std::alloc::Global;
+use std::marker::Model;
+
+/// A table of named character references, in the order of its keys' bytes, so that the keys which begin with what has been
+/// read are a range. A look-up narrows this range byte by byte, each time by a binary search: it costs no more than the
+/// length of the longest key times the logarithm of the number of keys, and takes no memory.
+#[derive(Debug, Drop)]
+pub struct Table {
+    pub(crate) entities: Vec<Entity>,
+}
+
+impl Model for Table {
+    ghost Value = { Entities };
+
+    ghost view = { λ table. entries table.entities.items };
+
+    ghost invariant = { λ table. IsSortedTable (entries table.entities.items) };
+}
+
+/// A key that a text begins with: its length in bytes, the `&` among them, and the characters that it stands for.
+#[derive(Clone, Copy, Debug)]
+pub struct Match<'t> {
+    pub length: usize,
+    pub characters: &'t [char],
+}
+
+impl Table {
+    /// The five entries that the serializer counts on: `&amp;`, `&gt;`, `&lt;`, `&nbsp;` and `&quot;`.
+    pub fn core(alloc: Global) -> Result<Table, Refusal>
+        ensures ok { IfOk result (λ table. table ≡ core) }
+        ensures err { IfErr result (λ e. e ≡ Refusal.Memory) }
+    {
+        let mut entities = Vec::with_capacity(alloc, 5)?;
+        entities.push(Entity::new(alloc, b"&amp;", &['&'])?)?;
+        entities.push(Entity::new(alloc, b"&gt;", &['>'])?)?;
+        entities.push(Entity::new(alloc, b"&lt;", &['<'])?)?;
+        entities.push(Entity::new(alloc, b"&nbsp;", &['\u{A0}'])?)?;
+        entities.push(Entity::new(alloc, b"&quot;", &['"'])?)?;
+        Ok(Table { entities })
+    }
+
+    /// The longest of all keys that the text, which begins with the `&`, begins with.
+    pub fn longest(&self, text: &[u8]) -> Option<Match<'_>>
+        ensures table { IsTable self.now }
+        ensures found { MatchOption result (longest self.now text.now ≡ None)
+            (λ found. (e : Entry) × (longest self.now text.now ≡ Some e) × (found.length ≡ length e.key) × (found.characters.now ≡ e.stands_for)) }
+    {
+        let best = search_for(&self.entities, text).best?;
+        let entity = &self.entities[best];
+        Some(Match {
+            length: entity.key.len(),
+            characters: &entity.characters,
+        })
+    }
+
+    /// Whether the key stands for this character alone.
+    fn has(&self, key: &[u8], character: char) -> bool
+        ensures table { IsTable self.now }
+        ensures has { IsTrue result ↔ Contains self.now (record { key = key.now; stands_for = character ∷ [] }) }
+    {
+        match self.longest(key) {
+            Some(found) => found.length == key.len() && found.characters == [character].as_slice(),
+            None => false,
+        }
+    }
+
+    /// Whether the five entries that the serializer counts on are there.
+    pub fn has_core(&self) -> bool
+        ensures table { IsTable self.now }
+        ensures core { IsTrue result ↔ HasCore self.now }
+    {
+        self.has(b"&amp;", '&')
+            && self.has(b"&gt;", '>')
+            && self.has(b"&lt;", '<')
+            && self.has(b"&nbsp;", '\u{A0}')
+            && self.has(b"&quot;", '"')
+    }
+}

@@ -1,0 +1,286 @@
+//! The steps of a walk.
+
+ghost use Rattle.std.specs.Prelude.{◌≡◌, ◌+◌, [], ◌∷◌, ◌++◌, Bool, true, false, ◌&&◌, ℕ, List, length, IfSome, IsSome, ◌<◌, ◌≤◌};
+ghost use Rattle.names.specs.declared.placed.Placed.{Placed};
+ghost use Rattle.names.specs.Placed.{all, is_empty, is_alphanumeric};
+ghost use Rattle.charref.specs.Reference.{Entities, longest, ends_in_semicolon, IsTable};
+ghost use Rattle.charref.specs.Table.{best_entry, entries, is_search_within, is_whole, HasRead};
+ghost use Rattle.charref.specs.Held.{key_bytes, IsHeld, IsSign};
+ghost use Rattle.charref.specs.Open.{IsOpen};
+ghost use Rattle.charref.specs.declared.walk.Walk.{Walk as WalkOf};
+ghost use Rattle.charref.specs.Last.{last_of, is_letter_or_digit, IsSettled};
+ghost use Rattle.charref.specs.Pieces.{IsRead, unknown_of, number_of};
+ghost use Rattle.charref.specs.Walk.{HasTaken, Takes, NextIs, is_next_within};
+
+use crate::entity::Entity;
+use crate::last::{Last, is_kept};
+use crate::next::Next;
+use crate::number::{Base, TOO_GREAT, number_fault, numbered};
+use crate::reference::{Characters, Reference};
+use crate::search::Search;
+use crate::state::State;
+use crate::table::Table;
+use crate::walk::Walk;
+use names::ErrorCode;
+
+impl<'t> Walk<'t> {
+    /// A walk right after an `&`, which stands in an attribute's value or not.
+    pub fn new(table: &'t Table, in_value: bool) -> Walk<'t>
+        ensures table { IsTable table.now }
+        ensures taken { HasTaken result table.now in_value [] }
+    {
+        let mut search = Search::new(&table.entities);
+        search.narrow(&table.entities, b'&');
+        Walk {
+            table,
+            in_value,
+            state: State::Name(search),
+        }
+    }
+
+    /// Takes the character after those that it has taken. Where the reference is not known yet, there is no answer; otherwise
+    /// the walk has ended, and stays as it was.
+    pub fn take(&mut self, ch: char) -> Option<Reference<'t>>
+        ensures ended { IsSome result → self.new ≡ self.old }
+        ensures taken { (table : Entities) (in_value : Bool) (text : List Placed) (p : Placed)
+            → HasTaken self.old table in_value text → p.ch ≡ ch → Takes table in_value (text ++ p ∷ []) result self.new }
+    {
+        match self.step(ch) {
+            Next::Goes(state) => {
+                self.state = state;
+                None
+            }
+            Next::Ended(found) => Some(found),
+        }
+    }
+
+    fn step(&self, ch: char) -> Next<'t>
+        ensures within { is_next_within result (length self.now.table.now) ≡ true }
+        ensures next { (table : Entities) (in_value : Bool) (text : List Placed) (p : Placed)
+            → HasTaken self.now table in_value text → p.ch ≡ ch → NextIs table in_value (text ++ p ∷ []) result }
+    {
+        match self.state {
+            State::Name(search) => after_name(self.table, self.in_value, search, ch),
+            State::NumberSign => after_sign(ch),
+            State::HexadecimalSign => after_x(ch),
+            State::Number(base, value) => after_digits(base, value, ch),
+        }
+    }
+
+    /// What stands at the `&` where the text ends after the characters that the walk has taken.
+    pub fn end(&self) -> Reference<'t>
+        ensures { (table : Entities) (in_value : Bool) (text : List Placed)
+            → HasTaken self.now table in_value text → IsRead table in_value text [] result }
+    {
+        match self.state {
+            State::Name(search) => name_at_end(self.table, self.in_value, search),
+            State::NumberSign => as_text(
+                1,
+                Some(ErrorCode::AbsenceOfDigitsInNumericCharacterReference),
+                false,
+            ),
+            State::HexadecimalSign => as_text(
+                2,
+                Some(ErrorCode::AbsenceOfDigitsInNumericCharacterReference),
+                false,
+            ),
+            State::Number(_, value) => number(value, 0, true),
+        }
+    }
+}
+
+/// An `&` that is text, as are all the characters that were read.
+fn as_text<'t>(left: usize, fault: Option<ErrorCode>, in_run: bool) -> Reference<'t>
+    ensures { result ≡ record { characters = Characters.One 38; left = left; missing_semicolon = false; fault = fault; in_run = in_run } }
+{
+    Reference {
+        characters: Characters::One('&'),
+        left,
+        missing_semicolon: false,
+        fault,
+        in_run,
+    }
+}
+
+/// Whether a key ends in a `;`.
+fn ends_in_semicolon(key: &[u8]) -> bool
+    ensures { result ≡ ends_in_semicolon key.now }
+{
+    !key.is_empty() && key[key.len() - 1] == b';'
+}
+
+/// The `&` as text, where no key begins with what was read (13.2.5.73, 13.2.5.74).
+fn unknown<'t>(left: usize, last: Last) -> Reference<'t>
+    ensures { result ≡ unknown_of left last }
+{
+    match last {
+        Last::Alphanumeric => as_text(left, None, true),
+        Last::Semicolon => as_text(left, Some(ErrorCode::UnknownNamedCharacterReference), false),
+        Last::Equals | Last::Other => as_text(left, None, false),
+    }
+}
+
+/// What so many characters after the `&` are, the last of which is such, where the entity at `best` has the longest key that
+/// they begin with (13.2.5.73).
+fn decided<'t>(
+    table: &'t Table,
+    in_value: bool,
+    best: Option<usize>,
+    read: usize,
+    last: Last,
+) -> Reference<'t>
+    requires { IfSome best (λ k. k < length table.now) }
+    ensures { (front : List Placed) (p : Placed) (after : List Placed) → all is_alphanumeric front ≡ true
+        → (is_empty front ≡ true → is_alphanumeric p.ch ≡ true) → read ≡ length (front ++ p ∷ []) → last ≡ last_of p.ch
+        → best_entry table.now best ≡ longest table.now (key_bytes (front ++ p ∷ []))
+        → IsSettled table.now in_value (front ++ p ∷ []) after → IsRead table.now in_value (front ++ p ∷ []) after result }
+{
+    let Some(best) = best else {
+        return unknown(read, last);
+    };
+    let entity = &table.entities[best];
+    let left = read.saturating_sub(entity.key.len() - 1);
+    let semicolon = ends_in_semicolon(&entity.key);
+    if is_kept(in_value, semicolon, left, last) {
+        return as_text(read, None, false);
+    }
+    Reference {
+        characters: Characters::Named(&entity.characters),
+        left,
+        missing_semicolon: !semicolon,
+        fault: None,
+        in_run: false,
+    }
+}
+
+/// A number (13.2.5.80).
+fn number<'t>(value: u32, left: usize, missing_semicolon: bool) -> Reference<'t>
+    ensures { result ≡ number_of value left missing_semicolon }
+{
+    Reference {
+        characters: Characters::One(numbered(value)),
+        left,
+        missing_semicolon,
+        fault: number_fault(value),
+        in_run: false,
+    }
+}
+
+/// After `#` (13.2.5.75).
+fn after_sign<'t>(ch: char) -> Next<'t>
+    ensures within { (count : ℕ) → is_next_within result count ≡ true }
+    ensures next { (table : Entities) (in_value : Bool) (text : List Placed) (p : Placed) → IsSign Base.Decimal text
+        → p.ch ≡ ch → NextIs table in_value (text ++ p ∷ []) result }
+{
+    if ch == 'x' || ch == 'X' {
+        return Next::Goes(State::HexadecimalSign);
+    }
+    match Base::Decimal.digit(ch) {
+        Some(digit) => Next::Goes(State::Number(Base::Decimal, digit)),
+        None => Next::Ended(as_text(
+            2,
+            Some(ErrorCode::AbsenceOfDigitsInNumericCharacterReference),
+            false,
+        )),
+    }
+}
+
+/// After `#x` (13.2.5.76).
+fn after_x<'t>(ch: char) -> Next<'t>
+    ensures within { (count : ℕ) → is_next_within result count ≡ true }
+    ensures next { (table : Entities) (in_value : Bool) (text : List Placed) (p : Placed) → IsSign Base.Hexadecimal text
+        → p.ch ≡ ch → NextIs table in_value (text ++ p ∷ []) result }
+{
+    match Base::Hexadecimal.digit(ch) {
+        Some(digit) => Next::Goes(State::Number(Base::Hexadecimal, digit)),
+        None => Next::Ended(as_text(
+            3,
+            Some(ErrorCode::AbsenceOfDigitsInNumericCharacterReference),
+            false,
+        )),
+    }
+}
+
+/// After the digits of a number (13.2.5.78, 13.2.5.79).
+fn after_digits<'t>(base: Base, value: u32, ch: char) -> Next<'t>
+    requires { value ≤ TOO_GREAT }
+    ensures within { (count : ℕ) → is_next_within result count ≡ true }
+    ensures next { (table : Entities) (in_value : Bool) (text : List Placed) (p : Placed)
+        → IsHeld table in_value (State.Number base value) text → p.ch ≡ ch → NextIs table in_value (text ++ p ∷ []) result }
+{
+    match base.digit(ch) {
+        Some(digit) => Next::Goes(State::Number(base, base.more(value, digit))),
+        None if ch == ';' => Next::Ended(number(value, 0, false)),
+        None => Next::Ended(number(value, 1, true)),
+    }
+}
+
+/// Right after the `&`, where no alphanumeric stands (13.2.5.72).
+fn after_ampersand<'t>(ch: char) -> Next<'t>
+    ensures within { (count : ℕ) → is_next_within result count ≡ true }
+    ensures next { (table : Entities) (in_value : Bool) (p : Placed) → p.ch ≡ ch → is_alphanumeric ch ≡ false
+        → NextIs table in_value (p ∷ []) result }
+{
+    if ch == '#' {
+        Next::Goes(State::NumberSign)
+    } else {
+        Next::Ended(as_text(1, None, false))
+    }
+}
+
+/// Whether a key that is all that was read waits for the character after it, by the rule for values (13.2.5.73).
+fn waits(in_value: bool, last: Last, search: Search, entities: &[Entity]) -> bool
+    requires { IfSome search.best (λ k. k < length entities.now) }
+    ensures { result ≡ (in_value && is_letter_or_digit last && is_whole (entries entities.now) search) }
+{
+    in_value && last.is_alphanumeric() && search.is_whole(entities)
+}
+
+/// After a beginning of a name (13.2.5.73).
+fn after_name<'t>(table: &'t Table, in_value: bool, search: Search, ch: char) -> Next<'t>
+    requires { is_search_within search (length table.now) ≡ true }
+    ensures within { is_next_within result (length table.now) ≡ true }
+    ensures next { (text : List Placed) (p : Placed) → HasRead search table.now (key_bytes text)
+        → all is_alphanumeric text ≡ true → p.ch ≡ ch → NextIs table.now in_value (text ++ p ∷ []) result }
+{
+    let last = Last::of(ch);
+    if search.depth == 1 && !last.is_alphanumeric() {
+        return after_ampersand(ch);
+    }
+    let Some(next) = search.extended(&table.entities, ch) else {
+        return Next::Ended(decided(table, in_value, search.best, search.depth, last));
+    };
+    if next.goes_on(&table.entities) {
+        return Next::Goes(State::Name(next));
+    }
+    if waits(in_value, last, next, &table.entities) {
+        return Next::Goes(State::Name(next));
+    }
+    Next::Ended(decided(table, in_value, next.best, search.depth, last))
+}
+
+/// A beginning of a name, where the text ends.
+fn name_at_end<'t>(table: &'t Table, in_value: bool, search: Search) -> Reference<'t>
+    requires { is_search_within search (length table.now) ≡ true }
+    ensures { (text : List Placed) → HasRead search table.now (key_bytes text) → all is_alphanumeric text ≡ true
+        → IsRead table.now in_value text [] result }
+{
+    if search.depth <= 1 {
+        as_text(0, None, false)
+    } else {
+        decided(
+            table,
+            in_value,
+            search.best,
+            search.depth - 1,
+            Last::Alphanumeric,
+        )
+    }
+}
+
+/// A law: outside of an attribute's value a walk goes on only while what it has taken, with more characters after it, is one
+/// reference. So what is held back for it may still become a reference.
+pub fn goes_on_in_a_reference()
+    ensures { (walk : WalkOf) (table : Entities) (text : List Placed) (amp : Placed) → IsTable table
+        → HasTaken walk table false text → amp.ch ≡ 38 → IsOpen table amp text }
+{}

@@ -1,0 +1,329 @@
+-- What stands after the name of a doctype, and letters of its keywords: each character.
+use Rattle.std.proofs.Common.{◌≡◌, ℕ, ◌≤◌, Bool, true, false, ◌&&◌, eqb, if◌then◌else◌, List, [], ◌∷◌, ◌++◌, sym, refl, ap, ◌∙◌, subst, codes, Option, Some, None, arith}
+use Rattle.std.specs.Char.{to_ascii_lowercase}
+use Rattle.std.proofs.lemmas.Bool.{false≢true, eqb-true}
+use Rattle.names.specs.declared.error.ParseError.{ParseError}
+use Rattle.names.specs.declared.error.ErrorCode.TheVariants.{InvalidCharacterSequenceAfterDoctypeName}
+use Rattle.names.specs.declared.placed.Placed.{Placed}
+use Rattle.names.specs.Placed.{characters, begins, is_space, is_greater, is_greater_or_end, spells_in_any_case, error, null_errors}
+use Rattle.hmarkup.specs.declared.keyword.Identifier.{Identifier}
+use Rattle.hmarkup.specs.declared.keyword.Identifier.TheVariants.{Public, System}
+use Rattle.hmarkup.specs.declared.keyword.Letters.{Letters}
+use Rattle.hmarkup.specs.declared.keyword.Letters.TheVariants.{P, Pu, Pub, Publ, Publi, S, Sy, Sys, Syst, Syste}
+use Rattle.hmarkup.specs.Doctype.{Found, closed, force, IsSkipped, AfterName, name_ends, name_skips, names_identifier, is_keyword, keyword, lowered, FollowsKeyword, FollowsName}
+use Rattle.hmarkup.specs.DoctypeSteps.{after_name, begins_keyword, first_letter, goes_on_with, in_keyword, next_letter, letters_after, letters_of, step_errors, found_by}
+use Rattle.hmarkup.specs.DoctypeWalk.{left, IsInKeyword, whole, fails}
+use Rattle.hmarkup.proofs.Marks.{and_both, and_no, neither, or_none, eqb_self}
+use Rattle.hmarkup.proofs.Characters.{lower_is_far, far_not_space, far_not_greater, far_not_null, no_null_error}
+use Rattle.hmarkup.proofs.Spaces.{past_space, at_once, with_space, with_none, any_space}
+use Rattle.hmarkup.proofs.Endings.{greater_spells, end_at, end_not_space, skipped_ends, skipped_goes, skipped_more, skips_at, skips_from, skips_not_space}
+use Rattle.hmarkup.proofs.Stepping.{Goes, Stepped, plain_errors, space_error, greater_error}
+
+-- keywords, a letter at a time
+pub left_after : Option Letters → List ℕ
+left_after None = []
+left_after (Some letters) = left letters
+
+pub left_is : (letters : Letters) → left letters ≡ next_letter letters ∷ left_after (letters_after letters)
+unfolding left_after
+left_is P = refl
+left_is Pu = refl
+left_is Pub = refl
+left_is Publ = refl
+left_is Publi = refl
+left_is S = refl
+left_is Sy = refl
+left_is Sys = refl
+left_is Syst = refl
+left_is Syste = refl
+
+pub next_is_letter : (letters : Letters) → 97 ≤ next_letter letters
+next_is_letter P = omega arith
+next_is_letter Pu = omega arith
+next_is_letter Pub = omega arith
+next_is_letter Publ = omega arith
+next_is_letter Publi = omega arith
+next_is_letter S = omega arith
+next_is_letter Sy = omega arith
+next_is_letter Sys = omega arith
+next_is_letter Syst = omega arith
+next_is_letter Syste = omega arith
+
+abbrev pub KeepsWhich : Letters → Option Letters → Type 0
+KeepsWhich letters None = Unit {0}
+KeepsWhich letters (Some next) = letters_of next ≡ letters_of letters
+
+pub keeps_which : (letters : Letters) → KeepsWhich letters (letters_after letters)
+keeps_which P = refl
+keeps_which Pu = refl
+keeps_which Pub = refl
+keeps_which Publ = refl
+keeps_which Publi = tt
+keeps_which S = refl
+keeps_which Sy = refl
+keeps_which Sys = refl
+keeps_which Syst = refl
+keeps_which Syste = tt
+
+-- a letter of a keyword in either case
+pub letter_error : (p : Placed) (c : ℕ) → to_ascii_lowercase p.ch ≡ c → 97 ≤ c → null_errors (p ∷ []) ≡ []
+letter_error p c h l = no_null_error p (far_not_null p.ch (lower_is_far p.ch c h l))
+
+pub letter_not_greater : (p : Placed) (c : ℕ) → to_ascii_lowercase p.ch ≡ c → 97 ≤ c → is_greater p.ch ≡ false
+letter_not_greater p c h l = far_not_greater p.ch (lower_is_far p.ch c h l)
+
+pub letter_not_space : (p : Placed) (c : ℕ) → to_ascii_lowercase p.ch ≡ c → 97 ≤ c → is_space p.ch ≡ false
+letter_not_space p c h l = far_not_space p.ch (lower_is_far p.ch c h l)
+
+pub rest_no : (a b : Bool) → a ≡ true → (a && b) ≡ false → b ≡ false
+rest_no true b e h = h
+rest_no false b e h = absurd (false≢true e)
+
+pub first_no : (a b : Bool) → a ≡ false → (a && b) ≡ false
+first_no true b e = absurd (false≢true (sym e))
+first_no false b e = refl
+
+-- the first letter of a keyword, if it is one
+abbrev pub first_by : Bool → Bool → Option Letters
+first_by a b = if a then Some P else (if b then Some S else None)
+
+-- a text that begins with a word in either case
+record Worded (p : Placed) (ps : List Placed) (c : ℕ) (cs : List ℕ) (after : List Placed) : Type 0 where
+  more : List Placed
+  letter : to_ascii_lowercase p.ch ≡ c
+  text_is : ps ≡ more ++ after
+  others : lowered more ≡ cs
+
+worded : (p : Placed) (ps word after : List Placed) (c : ℕ) (cs : List ℕ) → p ∷ ps ≡ word ++ after → lowered word ≡ c ∷ cs → Worded p ps c cs after
+worded p ps [] after c cs t w = absurd cc
+worded p ps (x ∷ xs) after c cs t w =
+    let head : p ≡ x = cc in
+    let letter : to_ascii_lowercase x.ch ≡ c = cc in
+    record { more = xs; letter = ap (λ (q : Placed). to_ascii_lowercase q.ch) head ∙ letter; text_is = cc; others = cc }
+
+keyword_begins : (which : Identifier) (p : Placed) (ps word after : List Placed) → p ∷ ps ≡ word ++ after → lowered word ≡ keyword which → (c : ℕ) × (97 ≤ c) × (to_ascii_lowercase p.ch ≡ c)
+keyword_begins Public p ps word after t w = (112, omega arith, (worded p ps word after 112 (codes "ublic") t w).letter)
+keyword_begins System p ps word after t w = (115, omega arith, (worded p ps word after 115 (codes "ystem") t w).letter)
+
+pub no_keyword : (which : Identifier) (word after : List Placed) → [] ≡ word ++ after → lowered word ≡ keyword which → ⊥
+no_keyword Public [] after t w = cc
+no_keyword System [] after t w = cc
+no_keyword which (x ∷ xs) after t w = cc
+
+module _ (known : Found) (end : ℕ) (rest : List Placed) (found : Found) where
+  -- after the name
+  pub name_not_space : (text : List Placed) (errors : List ParseError) → AfterName known end rest text found errors → begins is_space text ≡ false
+  name_not_space text errors (name_ends h) = end_not_space known end rest text found errors h
+  name_not_space text errors (name_skips h) = skips_not_space _ _ (force known) end rest text found errors h
+  name_not_space [] errors (names_identifier which word after t w k) = refl
+  name_not_space (p ∷ ps) errors (names_identifier which word after t w k) = let b = keyword_begins which p ps word after t w in letter_not_space p b.0 b.2 b.1
+
+module _ (known : Found) (end : ℕ) (rest : List Placed) (p : Placed) (ps : List Placed) (found : Found) where
+  pub name_ended : (errors : List ParseError) → is_greater p.ch ≡ true → AfterName known end rest (p ∷ ps) found errors → (ps ≡ []) × (found ≡ known) × (errors ≡ [])
+  name_ended errors eg (name_ends h) = let k = end_at known end rest p ps found errors h in (k.1, k.2, k.3)
+  name_ended errors eg (name_skips h) = absurd (false≢true (sym (skips_at (force known) end rest found p ps errors _ _ h).1 ∙ eg))
+  name_ended errors eg (names_identifier which word after t w k) =
+      let b = keyword_begins which p ps word after t w in
+      absurd (false≢true (sym (letter_not_greater p b.0 b.2 b.1) ∙ eg))
+
+  skips_by : (errors : List ParseError) (a b : Bool) → eqb (to_ascii_lowercase p.ch) 112 ≡ a → eqb (to_ascii_lowercase p.ch) 115 ≡ b
+      → is_keyword (p ∷ ps) ≡ false → (later : List ParseError) → errors ≡ (error InvalidCharacterSequenceAfterDoctypeName p.at ∷ null_errors (p ∷ [])) ++ later → IsSkipped (force known) end rest ps found later
+      → Stepped (begins_keyword (first_by a b) p.at) known end rest p ps found errors
+  skips_by errors true b ea eb none later e h =
+      let c : to_ascii_lowercase p.ch ≡ 112 = eqb-true (to_ascii_lowercase p.ch) 112 ea in
+      let n : null_errors (p ∷ []) ≡ [] = letter_error p 112 c (omega arith) in
+      record {
+        later = errors;
+        errors_are = sym (plain_errors p n None errors);
+        goes = fails later (rest_no (eqb (to_ascii_lowercase p.ch) 112) (spells_in_any_case (codes "ublic") ps) ea (neither _ _ none).0) h (e ∙ plain_errors p n (Some (error InvalidCharacterSequenceAfterDoctypeName p.at)) later);
+      }
+  skips_by errors false true ea eb none later e h =
+      let c : to_ascii_lowercase p.ch ≡ 115 = eqb-true (to_ascii_lowercase p.ch) 115 eb in
+      let n : null_errors (p ∷ []) ≡ [] = letter_error p 115 c (omega arith) in
+      record {
+        later = errors;
+        errors_are = sym (plain_errors p n None errors);
+        goes = fails later (rest_no (eqb (to_ascii_lowercase p.ch) 115) (spells_in_any_case (codes "ystem") ps) eb (neither _ _ none).1) h (e ∙ plain_errors p n (Some (error InvalidCharacterSequenceAfterDoctypeName p.at)) later);
+      }
+  skips_by errors false false ea eb none later e h = record { later = later; errors_are = e; goes = h }
+
+  keyword_by : (errors : List ParseError) (which : Identifier) (word after : List Placed) (a b : Bool) → eqb (to_ascii_lowercase p.ch) 112 ≡ a → eqb (to_ascii_lowercase p.ch) 115 ≡ b
+      → p ∷ ps ≡ word ++ after → lowered word ≡ keyword which → FollowsKeyword which known end rest after found errors
+      → Stepped (begins_keyword (first_by a b) p.at) known end rest p ps found errors
+  keyword_by errors Public word after a b ea eb t w k =
+      let v : Worded p ps 112 (codes "ublic") after = worded p ps word after 112 (codes "ublic") t w in
+      let is : a ≡ true = sym ea ∙ ap (λ (n : ℕ). eqb n 112) v.letter in
+      subst (λ (x : Bool). Stepped (begins_keyword (first_by x b) p.at) known end rest p ps found errors) (sym is) (record {
+        later = errors;
+        errors_are = sym (plain_errors p (letter_error p 112 v.letter (omega arith)) None errors);
+        goes = whole v.more after v.text_is v.others k;
+      })
+  keyword_by errors System word after a b ea eb t w k =
+      let v : Worded p ps 115 (codes "ystem") after = worded p ps word after 115 (codes "ystem") t w in
+      let is : a ≡ false = sym ea ∙ ap (λ (n : ℕ). eqb n 112) v.letter in
+      let is_s : b ≡ true = sym eb ∙ ap (λ (n : ℕ). eqb n 115) v.letter in
+      subst (λ (x : Bool). Stepped (begins_keyword (first_by x b) p.at) known end rest p ps found errors) (sym is)
+      (subst (λ (x : Bool). Stepped (begins_keyword (first_by false x) p.at) known end rest p ps found errors) (sym is_s) (record {
+        later = errors;
+        errors_are = sym (plain_errors p (letter_error p 115 v.letter (omega arith)) None errors);
+        goes = whole v.more after v.text_is v.others k;
+      }))
+
+  -- after the name, neither white space nor `>`
+  from_name_core : (errors : List ParseError) (g a b : Bool) → is_greater p.ch ≡ g → eqb (to_ascii_lowercase p.ch) 112 ≡ a → eqb (to_ascii_lowercase p.ch) 115 ≡ b
+      → AfterName known end rest (p ∷ ps) found errors → Stepped (after_name false g (first_by a b) p.at) known end rest p ps found errors
+  from_name_core errors true a b eg ea eb h =
+      let k = name_ended errors eg h in
+      record { later = []; errors_are = k.2 ∙ sym (plain_errors p (greater_error p eg) None []); goes = (k.0, k.1, refl) }
+  from_name_core errors false a b eg ea eb (name_ends h) = absurd (false≢true (sym eg ∙ (end_at known end rest p ps found errors h).0))
+  from_name_core errors false a b eg ea eb (name_skips h) =
+      let k = skips_at (force known) end rest found p ps errors _ _ h in
+      skips_by errors a b ea eb k.2 k.3.0 k.3.1 k.3.2
+  from_name_core errors false a b eg ea eb (names_identifier which word after t w k) = keyword_by errors which word after a b ea eb t w k
+
+  pub from_after_name : (errors : List ParseError) (s g : Bool) → is_space p.ch ≡ s → is_greater p.ch ≡ g → FollowsName known end rest (p ∷ ps) found errors
+      → Stepped (after_name s g (first_letter p.ch) p.at) known end rest p ps found errors
+  from_after_name errors true g es eg h = record {
+    later = errors;
+    errors_are = sym (plain_errors p (space_error p es) None errors);
+    goes = any_space (AfterName known) true false end rest ps found errors (past_space (λ spaced. AfterName known) false end rest found errors p ps h es (λ b text. name_not_space known end rest found text errors));
+  }
+  from_after_name errors false g es eg h = from_name_core errors g _ _ eg refl refl (at_once (λ spaced. AfterName known) false end rest found errors (p ∷ ps) h es)
+
+  -- backwards
+  other_letter : (c : ℕ) (cs : List ℕ) (text : List Placed) → to_ascii_lowercase p.ch ≡ c → (d : ℕ) → eqb c d ≡ false → spells_in_any_case (d ∷ cs) (p ∷ text) ≡ false
+  other_letter c cs text l d e = first_no (eqb (to_ascii_lowercase p.ch) d) (spells_in_any_case cs text) (ap (λ (n : ℕ). eqb n d) l ∙ e)
+
+  same_letter : (c : ℕ) (cs : List ℕ) (text : List Placed) → spells_in_any_case cs text ≡ false → spells_in_any_case (c ∷ cs) (p ∷ text) ≡ false
+  same_letter c cs text e = and_no (eqb (to_ascii_lowercase p.ch) c) (spells_in_any_case cs text) e
+
+  skips_letter : (later more : List ParseError) (c : ℕ) → to_ascii_lowercase p.ch ≡ c → 97 ≤ c → is_keyword (p ∷ ps) ≡ false → IsSkipped (force known) end rest ps found more
+      → later ≡ error InvalidCharacterSequenceAfterDoctypeName p.at ∷ more → AfterName known end rest (p ∷ ps) found later
+  skips_letter later more c l far none h e =
+      subst (λ (x : List ParseError). AfterName known end rest (p ∷ ps) found x)
+      (plain_errors p (letter_error p c l far) (Some (error InvalidCharacterSequenceAfterDoctypeName p.at)) more ∙ sym e)
+      (name_skips (skips_from (force known) end rest found p ps more is_keyword InvalidCharacterSequenceAfterDoctypeName (letter_not_space p c l far) (letter_not_greater p c l far) none h))
+
+  to_public : (later : List ParseError) → to_ascii_lowercase p.ch ≡ 112 → IsInKeyword P p.at known end rest ps found later → AfterName known end rest (p ∷ ps) found later
+  to_public later l (whole word after t w k) =
+      names_identifier Public (p ∷ word) after (ap (λ (x : List Placed). p ∷ x) t) (ap (λ (c : ℕ). c ∷ lowered word) l ∙ ap (λ (x : List ℕ). 112 ∷ x) w) k
+  to_public later l (fails more sp h e) =
+      skips_letter later more 112 l (omega arith) (or_none _ _ (same_letter 112 (codes "ublic") ps sp) (other_letter 112 (codes "ystem") ps l 115 refl)) h e
+
+  to_system : (later : List ParseError) → to_ascii_lowercase p.ch ≡ 115 → IsInKeyword S p.at known end rest ps found later → AfterName known end rest (p ∷ ps) found later
+  to_system later l (whole word after t w k) =
+      names_identifier System (p ∷ word) after (ap (λ (x : List Placed). p ∷ x) t) (ap (λ (c : ℕ). c ∷ lowered word) l ∙ ap (λ (x : List ℕ). 115 ∷ x) w) k
+  to_system later l (fails more sp h e) =
+      skips_letter later more 115 l (omega arith) (or_none _ _ (other_letter 115 (codes "ublic") ps l 112 refl) (same_letter 115 (codes "ystem") ps sp)) h e
+
+  to_name_core : (later : List ParseError) (a b : Bool) → is_space p.ch ≡ false → is_greater p.ch ≡ false → eqb (to_ascii_lowercase p.ch) 112 ≡ a → eqb (to_ascii_lowercase p.ch) 115 ≡ b
+      → Goes (begins_keyword (first_by a b) p.at).next (found_by (begins_keyword (first_by a b) p.at) p known) end rest ps found later
+      → AfterName known end rest (p ∷ ps) found (step_errors (begins_keyword (first_by a b) p.at) p ++ later)
+  to_name_core later true b es eg ea eb h =
+      let l : to_ascii_lowercase p.ch ≡ 112 = eqb-true (to_ascii_lowercase p.ch) 112 ea in
+      subst (λ (x : List ParseError). AfterName known end rest (p ∷ ps) found x) (sym (plain_errors p (letter_error p 112 l (omega arith)) None later)) (to_public later l h)
+  to_name_core later false true es eg ea eb h =
+      let l : to_ascii_lowercase p.ch ≡ 115 = eqb-true (to_ascii_lowercase p.ch) 115 eb in
+      subst (λ (x : List ParseError). AfterName known end rest (p ∷ ps) found x) (sym (plain_errors p (letter_error p 115 l (omega arith)) None later)) (to_system later l h)
+  to_name_core later false false es eg ea eb h =
+      name_skips (skips_from (force known) end rest found p ps later is_keyword InvalidCharacterSequenceAfterDoctypeName es eg
+      (or_none _ _ (first_no (eqb (to_ascii_lowercase p.ch) 112) (spells_in_any_case (codes "ublic") ps) ea) (first_no (eqb (to_ascii_lowercase p.ch) 115) (spells_in_any_case (codes "ystem") ps) eb)) h)
+
+  pub to_after_name : (later : List ParseError) (s g : Bool) → is_space p.ch ≡ s → is_greater p.ch ≡ g
+      → Goes (after_name s g (first_letter p.ch) p.at).next (found_by (after_name s g (first_letter p.ch) p.at) p known) end rest ps found later
+      → FollowsName known end rest (p ∷ ps) found (step_errors (after_name s g (first_letter p.ch) p.at) p ++ later)
+  to_after_name later true g es eg h =
+      subst (λ (x : List ParseError). FollowsName known end rest (p ∷ ps) found x) (sym (plain_errors p (space_error p es) None later))
+      (with_space (λ spaced. AfterName known) false end rest found later p ps es (any_space (AfterName known) false true end rest ps found later h))
+  to_after_name later false true es eg (t, f, e) =
+      with_none (λ spaced. AfterName known) false end rest found _ (p ∷ ps)
+      (name_ends (closed (ap (λ (x : List Placed). characters (p ∷ x)) t ∙ greater_spells p eg) f (plain_errors p (greater_error p eg) None later ∙ e)))
+  to_after_name later false false es eg h = with_none (λ spaced. AfterName known) false end rest found _ (p ∷ ps) (to_name_core later _ _ es eg refl refl h)
+
+  -- letters of a keyword
+  keyword_goes : (letters : Letters) (first : ℕ) (errors : List ParseError) (next : Option Letters) (word after : List Placed) → KeepsWhich letters next → ps ≡ word ++ after → lowered word ≡ left_after next
+      → FollowsKeyword (letters_of letters) known end rest after found errors → null_errors (p ∷ []) ≡ []
+      → Stepped (goes_on_with (letters_of letters) next first) known end rest p ps found errors
+  unfolding left_after
+  keyword_goes letters first errors None (x ∷ xs) after w t l k n = absurd cc
+  keyword_goes letters first errors None [] after w t l k n = record {
+    later = errors;
+    errors_are = sym (plain_errors p n None errors);
+    goes = subst (λ (x : List Placed). FollowsKeyword (letters_of letters) known end rest x found errors) (sym t) k;
+  }
+  keyword_goes letters first errors (Some next) word after w t l k n = record {
+    later = errors;
+    errors_are = sym (plain_errors p n None errors);
+    goes = whole word after t l (subst (λ (x : Identifier). FollowsKeyword x known end rest after found errors) (sym w) k);
+  }
+
+  keyword_fails : (letters : Letters) (first : ℕ) (errors later : List ParseError) (next : Option Letters) → spells_in_any_case (left_after next) ps ≡ false → IsSkipped (force known) end rest ps found later
+      → errors ≡ error InvalidCharacterSequenceAfterDoctypeName first ∷ later → null_errors (p ∷ []) ≡ [] → Stepped (goes_on_with (letters_of letters) next first) known end rest p ps found errors
+  unfolding left_after
+  keyword_fails letters first errors later None sp h e n = absurd (false≢true (sym sp))
+  keyword_fails letters first errors later (Some next) sp h e n = record { later = errors; errors_are = sym (plain_errors p n None errors); goes = fails later sp h e }
+
+  pub from_keyword : (letters : Letters) (first : ℕ) (errors : List ParseError) (m g : Bool) → eqb (to_ascii_lowercase p.ch) (next_letter letters) ≡ m → is_greater p.ch ≡ g
+      → IsInKeyword letters first known end rest (p ∷ ps) found errors → Stepped (in_keyword letters first m g) known end rest p ps found errors
+  from_keyword letters first errors true g em eg (whole word after t w k) =
+      let v : Worded p ps (next_letter letters) (left_after (letters_after letters)) after = worded p ps word after _ _ t (w ∙ left_is letters) in
+      keyword_goes letters first errors (letters_after letters) v.more after (keeps_which letters) v.text_is v.others k (letter_error p _ v.letter (next_is_letter letters))
+  from_keyword letters first errors false g em eg (whole word after t w k) =
+      let v : Worded p ps (next_letter letters) (left_after (letters_after letters)) after = worded p ps word after _ _ t (w ∙ left_is letters) in
+      absurd (false≢true (sym em ∙ subst (λ (n : ℕ). eqb n (next_letter letters) ≡ true) (sym v.letter) (eqb_self (next_letter letters))))
+  from_keyword letters first errors true g em eg (fails later sp h e) =
+      let l : to_ascii_lowercase p.ch ≡ next_letter letters = eqb-true _ _ em in
+      let far : 97 ≤ next_letter letters = next_is_letter letters in
+      let k = skipped_goes (force known) end rest found p ps later h (letter_not_greater p _ l far) in
+      let n : null_errors (p ∷ []) ≡ [] = letter_error p _ l far in
+      let sp' : spells_in_any_case (next_letter letters ∷ left_after (letters_after letters)) (p ∷ ps) ≡ false = ap (λ (x : List ℕ). spells_in_any_case x (p ∷ ps)) (sym (left_is letters)) ∙ sp in
+      keyword_fails letters first errors k.0 (letters_after letters) (rest_no _ _ em sp') k.2 (e ∙ ap (λ (x : List ParseError). error InvalidCharacterSequenceAfterDoctypeName first ∷ x) (k.1 ∙ ap (λ (x : List ParseError). x ++ k.0) n)) n
+  from_keyword letters first errors false true em eg (fails later sp h e) =
+      let k = skipped_ends (force known) end rest found p ps later h eg in
+      record {
+        later = [];
+        errors_are = e ∙ ap (λ (x : List ParseError). error InvalidCharacterSequenceAfterDoctypeName first ∷ x) k.1 ∙ sym (plain_errors p (greater_error p eg) (Some (error InvalidCharacterSequenceAfterDoctypeName first)) []);
+        goes = (k.0, h.found_is, refl);
+      }
+  from_keyword letters first errors false false em eg (fails later sp h e) =
+      let k = skipped_goes (force known) end rest found p ps later h eg in
+      record { later = k.0; errors_are = e ∙ ap (λ (x : List ParseError). error InvalidCharacterSequenceAfterDoctypeName first ∷ x) k.1; goes = k.2 }
+
+  -- backwards
+  word_more : (letters : Letters) (word : List Placed) → to_ascii_lowercase p.ch ≡ next_letter letters → lowered word ≡ left_after (letters_after letters) → lowered (p ∷ word) ≡ left letters
+  word_more letters word l w = ap (λ (c : ℕ). c ∷ lowered word) l ∙ ap (λ (x : List ℕ). next_letter letters ∷ x) w ∙ sym (left_is letters)
+
+  keyword_on : (letters : Letters) (first : ℕ) (later : List ParseError) (next : Option Letters) → letters_after letters ≡ next → KeepsWhich letters next → to_ascii_lowercase p.ch ≡ next_letter letters
+      → Goes (goes_on_with (letters_of letters) next first).next (found_by (goes_on_with (letters_of letters) next first) p known) end rest ps found later → IsInKeyword letters first known end rest (p ∷ ps) found later
+  unfolding left_after
+  keyword_on letters first later None o w l h =
+      whole (p ∷ []) ps refl (word_more letters [] l (ap left_after (sym o))) h
+  keyword_on letters first later (Some next) o w l (whole word after t s k) =
+      whole (p ∷ word) after (ap (λ (x : List Placed). p ∷ x) t) (word_more letters word l (s ∙ ap left_after (sym o))) (subst (λ (x : Identifier). FollowsKeyword x known end rest after found later) w k)
+  keyword_on letters first later (Some next) o w l (fails more sp h e) =
+      let far : 97 ≤ next_letter letters = next_is_letter letters in
+      let n : null_errors (p ∷ []) ≡ [] = letter_error p _ l far in
+      let all_no : spells_in_any_case (next_letter letters ∷ left next) (p ∷ ps) ≡ false = same_letter (next_letter letters) (left next) ps sp in
+      fails more (ap (λ (x : List ℕ). spells_in_any_case x (p ∷ ps)) (left_is letters ∙ ap (λ (x : Option Letters). next_letter letters ∷ left_after x) o) ∙ all_no)
+      (subst (λ (x : List ParseError). IsSkipped (force known) end rest (p ∷ ps) found x) (ap (λ (x : List ParseError). x ++ more) n) (skipped_more (force known) end rest found p ps more h (letter_not_greater p _ l far))) e
+
+  other_no : (letters : Letters) → eqb (to_ascii_lowercase p.ch) (next_letter letters) ≡ false → spells_in_any_case (left letters) (p ∷ ps) ≡ false
+  other_no letters em = ap (λ (x : List ℕ). spells_in_any_case x (p ∷ ps)) (left_is letters) ∙ first_no (eqb (to_ascii_lowercase p.ch) (next_letter letters)) (spells_in_any_case (left_after (letters_after letters)) ps) em
+
+  pub to_keyword : (letters : Letters) (first : ℕ) (later : List ParseError) (m g : Bool) → eqb (to_ascii_lowercase p.ch) (next_letter letters) ≡ m → is_greater p.ch ≡ g
+      → Goes (in_keyword letters first m g).next (found_by (in_keyword letters first m g) p known) end rest ps found later
+      → IsInKeyword letters first known end rest (p ∷ ps) found (step_errors (in_keyword letters first m g) p ++ later)
+  to_keyword letters first later true g em eg h =
+      let l : to_ascii_lowercase p.ch ≡ next_letter letters = eqb-true _ _ em in
+      subst (λ (x : List ParseError). IsInKeyword letters first known end rest (p ∷ ps) found x) (sym (no_errors letters first later (letters_after letters) (letter_error p _ l (next_is_letter letters))))
+      (keyword_on letters first later (letters_after letters) refl (keeps_which letters) l h)
+    where
+      no_errors : (letters : Letters) (first : ℕ) (later : List ParseError) (next : Option Letters) → null_errors (p ∷ []) ≡ [] → step_errors (goes_on_with (letters_of letters) next first) p ++ later ≡ later
+      no_errors letters first later None n = plain_errors p n None later
+      no_errors letters first later (Some next) n = plain_errors p n None later
+  to_keyword letters first later false true em eg (t, f, e) =
+      fails [] (other_no letters em)
+      (record { skipped = []; close = p ∷ ps; text_is = refl; without = refl; closes = subst (λ (x : List Placed). is_greater_or_end (p ∷ x) rest ≡ true) (sym t) (and_both (is_greater p.ch) true eg refl); found_is = f; errors_are = refl })
+      (plain_errors p (greater_error p eg) (Some (error InvalidCharacterSequenceAfterDoctypeName first)) later ∙ ap (λ (x : List ParseError). error InvalidCharacterSequenceAfterDoctypeName first ∷ x) e)
+  to_keyword letters first later false false em eg h =
+      fails (null_errors (p ∷ []) ++ later) (other_no letters em) (skipped_more (force known) end rest found p ps later h eg) refl

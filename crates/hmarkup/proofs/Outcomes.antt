@@ -1,0 +1,83 @@
+-- What the calls of a doctype walk do, as its sink answers.
+use Rattle.std.proofs.Common.{◌≡◌, ℕ, true, false, List, [], ◌∷◌, ◌++◌, sym, refl, ap, ◌∙◌, subst, Option, Some, None, Result, Ok, Err}
+use Rattle.names.specs.declared.error.ParseError.{ParseError}
+use Rattle.names.specs.declared.placed.Placed.{Placed}
+use Rattle.names.specs.declared.refusal.Refusal.{Refusal}
+use Rattle.names.specs.declared.refusal.Refusal.TheVariants.{Memory}
+use Rattle.names.specs.Sink.{Hands}
+use Rattle.hmarkup.specs.declared.phase.Phase.{Phase}
+use Rattle.hmarkup.specs.declared.phase.Phase.TheVariants as phase
+use Rattle.hmarkup.specs.declared.phase.Step.{Step}
+use Rattle.hmarkup.specs.Walk.{Takes, ran_out, sink_refused, goes_on, ended, Ends, BeginsSpans}
+use Rattle.hmarkup.specs.Doctype.{Found, IsDoctype, force}
+use Rattle.hmarkup.specs.DoctypeSteps.{step, step_errors, found_by, fault_errors, end_fault, found_at_end}
+use Rattle.hmarkup.specs.DoctypeWalk.{Reading, HasReadDoctype}
+use Rattle.hmarkup.proofs.Handing.{hand_one}
+use Rattle.hmarkup.proofs.Reading.{read_more, read_whole, begins_past, read_to_end}
+
+module _ {S : Type 0} (gives : S → ParseError → Result (Unit {0}) Refusal → S → Type 0) (w : Reading) (text : List Placed) (errs : List ParseError) (h : HasReadDoctype w text errs) where
+  module _ (p : Placed) (s : Step) (s_is : s ≡ step w.phase p) (old new : S) where
+    begins_so : BeginsSpans IsDoctype (text ++ p ∷ []) (errs ++ step_errors s p)
+    begins_so = subst (λ (x : Step). BeginsSpans IsDoctype (text ++ p ∷ []) (errs ++ step_errors x p)) (sym s_is) (begins_past w text errs p h)
+
+    pub take_refused : (walk : Reading) (found : Found) (e : Refusal) → Hands gives old (step_errors s p) (Err e) new → Takes gives HasReadDoctype IsDoctype text errs p old (Err e) walk found new
+    take_refused walk found e given = sink_refused e (step_errors s p) refl given begins_so
+
+    pub take_ran_out : (walk : Reading) (found : Found) → Hands gives old (step_errors s p) (Ok tt) new → Takes gives HasReadDoctype IsDoctype text errs p old (Err Memory) walk found new
+    take_ran_out walk found given = ran_out (step_errors s p) refl given begins_so
+
+    pub take_goes_on : (next : Phase) (found : Found) → Hands gives old (step_errors s p) (Ok tt) new → s.next ≡ Some next → found ≡ found_by s p w.found
+        → Takes gives HasReadDoctype IsDoctype text errs p old (Ok false) (record { phase = next; found = found }) found new
+    take_goes_on next found given is f =
+        goes_on (step_errors s p) refl given
+        (subst (λ (x : Found). HasReadDoctype (record { phase = next; found = x }) (text ++ p ∷ []) (errs ++ step_errors s p)) (sym f)
+        (subst (λ (x : Step). HasReadDoctype (record { phase = next; found = found_by x p w.found }) (text ++ p ∷ []) (errs ++ step_errors x p)) (sym s_is)
+        (read_more w text errs p h next (ap (λ (x : Step). x.next) (sym s_is) ∙ is))))
+
+    pub take_ended : (walk : Reading) (found : Found) → Hands gives old (step_errors s p) (Ok tt) new → s.next ≡ None → found ≡ found_by s p w.found
+        → Takes gives HasReadDoctype IsDoctype text errs p old (Ok true) walk found new
+    take_ended walk found given is f =
+        ended (step_errors s p) refl given
+        (λ end rest. subst (λ (x : Found). IsDoctype end rest (text ++ p ∷ []) x (errs ++ step_errors s p)) (sym f)
+        (subst (λ (x : Step). IsDoctype end rest (text ++ p ∷ []) (found_by x p w.found) (errs ++ step_errors x p)) (sym s_is)
+        (read_whole w text errs p h (ap (λ (x : Step). x.next) (sym s_is) ∙ is) end rest)))
+
+  -- the end of input
+  forced_at : (phase : Phase) (end : ℕ) (fault : ParseError) → end_fault phase end ≡ Some fault → (known : Found) → found_at_end phase known ≡ force known
+  forced_at (phase.BeforeName spaced) end fault e known = refl
+  forced_at phase.Name end fault e known = refl
+  forced_at phase.AfterName end fault e known = refl
+  forced_at (phase.Keyword letters first) end fault e known = refl
+  forced_at (phase.AfterKeyword which spaced) end fault e known = refl
+  forced_at (phase.Quoted which mark) end fault e known = refl
+  forced_at (phase.AfterPublic spaced) end fault e known = refl
+  forced_at phase.AfterSystem end fault e known = refl
+  forced_at phase.Skipped end fault e known = absurd cc
+
+  as_it_was : (phase : Phase) (end : ℕ) → end_fault phase end ≡ None → (known : Found) → found_at_end phase known ≡ known
+  as_it_was (phase.BeforeName spaced) end e known = absurd cc
+  as_it_was phase.Name end e known = absurd cc
+  as_it_was phase.AfterName end e known = absurd cc
+  as_it_was (phase.Keyword letters first) end e known = absurd cc
+  as_it_was (phase.AfterKeyword which spaced) end e known = absurd cc
+  as_it_was (phase.Quoted which mark) end e known = absurd cc
+  as_it_was (phase.AfterPublic spaced) end e known = absurd cc
+  as_it_was phase.AfterSystem end e known = absurd cc
+  as_it_was phase.Skipped end e known = refl
+
+  pub end_faulty : (end : ℕ) (fault : ParseError) (found : Found) (old new : S) (answer : Result (Unit {0}) Refusal) → end_fault w.phase end ≡ Some fault → found ≡ force w.found → gives old fault answer new
+      → Ends gives IsDoctype text errs end found old answer new
+  end_faulty end fault found old new answer e f given = record {
+    reported = fault ∷ [];
+    handed = hand_one gives old new fault answer given;
+    is_span = subst (λ (x : Found). IsDoctype end [] text x (errs ++ fault ∷ [])) (forced_at w.phase end fault e w.found ∙ sym f)
+        (subst (λ (x : Option ParseError). IsDoctype end [] text (found_at_end w.phase w.found) (errs ++ fault_errors x)) e (read_to_end w text errs end h));
+  }
+
+  pub end_plain : (end : ℕ) (old : S) → end_fault w.phase end ≡ None → Ends gives IsDoctype text errs end w.found old (Ok tt) old
+  end_plain end old e = record {
+    reported = [];
+    handed = (refl, refl);
+    is_span = subst (λ (x : Found). IsDoctype end [] text x (errs ++ [])) (as_it_was w.phase end e w.found)
+        (subst (λ (x : Option ParseError). IsDoctype end [] text (found_at_end w.phase w.found) (errs ++ fault_errors x)) e (read_to_end w text errs end h));
+  }

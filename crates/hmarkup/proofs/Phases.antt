@@ -1,0 +1,217 @@
+-- Each character of a doctype, and its end, in each phase.
+use Rattle.std.proofs.Common.{◌≡◌, ℕ, Bool, true, false, List, [], ◌∷◌, ◌++◌, sym, refl, ap, ◌∙◌, subst, Option, Some, None}
+use Rattle.std.specs.Prelude.{is_some}
+use Rattle.std.proofs.lemmas.Bool.{false≢true}
+use Rattle.names.specs.declared.error.ParseError.{ParseError}
+use Rattle.names.specs.declared.error.ErrorCode.TheVariants.{EofInDoctype, InvalidCharacterSequenceAfterDoctypeName}
+use Rattle.names.specs.declared.placed.Placed.{Placed}
+use Rattle.names.specs.Placed.{spells_in_any_case, is_quote, error, null_errors, text_bytes, name_bytes}
+use Rattle.hmarkup.specs.declared.keyword.Identifier.{Identifier}
+use Rattle.hmarkup.specs.declared.keyword.Identifier.TheVariants.{Public, System}
+use Rattle.hmarkup.specs.declared.keyword.Letters.{Letters}
+use Rattle.hmarkup.specs.declared.phase.Phase.{Phase}
+use Rattle.hmarkup.specs.declared.phase.Phase.TheVariants as phase
+use Rattle.hmarkup.specs.Doctype.{Found, IsEnd, cut_off, force, named, IsInside, quoted, abrupt, unclosed, AfterSystemIdentifier, system_ends, system_skips, AfterPublicIdentifier, public_ends, public_skips, second, Follows, AfterKeyword, identifier, missing, keyword_skips, keyword_cut_off, AfterName, name_ends, name_skips, names_identifier, FollowsName, AfterOpening, begins_name, nameless, unfinished}
+use Rattle.hmarkup.specs.DoctypeSteps.{before_name, in_name, begins_keyword, after_name, goes_on_with, in_keyword, after_keyword, follows, in_quotes, after_public, after_system, in_skipped, letters_of, step, step_errors, found_by, fault_errors, end_fault, found_at_end, letters_after}
+use Rattle.hmarkup.specs.DoctypeWalk.{GoesOn, Fits, identifier_of, IsInKeyword, whole, fails}
+use Rattle.hmarkup.proofs.Parts.{named_not, identified_not, is_identified}
+use Rattle.hmarkup.proofs.Spaces.{at_once, with_none}
+use Rattle.hmarkup.proofs.Endings.{end_at_end, skipped_at_end, skips_not_at_end}
+use Rattle.hmarkup.proofs.Stepping.{Goes, Stepped}
+use Rattle.hmarkup.proofs.Skipping.{from_skipped, to_skipped, from_system, to_system}
+use Rattle.hmarkup.proofs.Keywords.{left_is, no_keyword, from_after_name, to_after_name, from_keyword, to_keyword}
+use Rattle.hmarkup.proofs.Naming.{from_name, to_name, from_before, to_before}
+use Rattle.hmarkup.proofs.Quoting.{from_inside, to_inside, from_after_keyword, to_after_keyword, from_public, to_public}
+
+module _ (known : Found) (end : ℕ) (rest : List Placed) (p : Placed) (ps : List Placed) (found : Found) where
+  -- what a character leaves of a doctype
+  pub from_phase : (phase : Phase) (errors : List ParseError) → Fits phase known → GoesOn phase known end rest (p ∷ ps) found errors → Stepped (step phase p) known end rest p ps found errors
+  from_phase (phase.BeforeName spaced) errors fits h = from_before known end rest p ps found errors spaced _ _ refl refl h
+  from_phase phase.Name errors fits h = from_name known end rest p ps found errors _ _ refl refl fits h
+  from_phase phase.AfterName errors fits h = from_after_name known end rest p ps found errors _ _ refl refl h
+  from_phase (phase.Keyword letters first) errors fits h = from_keyword known end rest p ps found letters first errors _ _ refl refl h
+  from_phase (phase.AfterKeyword which spaced) errors fits h = from_after_keyword which known end rest p ps found errors spaced _ _ _ refl refl refl h
+  from_phase (phase.Quoted which mark) errors fits h = from_inside which mark known end rest p ps found fits.0 fits.1 errors _ _ refl refl h
+  from_phase (phase.AfterPublic spaced) errors fits h = from_public known end rest p ps found errors spaced _ _ _ refl refl refl h
+  from_phase phase.AfterSystem errors fits h = from_system known end rest p ps found errors _ _ refl refl h
+  from_phase phase.Skipped errors fits h = from_skipped known end rest p ps found errors _ refl h
+
+  -- .. and back
+  pub to_phase : (phase : Phase) (later : List ParseError) → Fits phase known → Goes (step phase p).next (found_by (step phase p) p known) end rest ps found later
+      → GoesOn phase known end rest (p ∷ ps) found (step_errors (step phase p) p ++ later)
+  to_phase (phase.BeforeName spaced) later fits h = to_before known end rest p ps found later spaced _ _ refl refl h
+  to_phase phase.Name later fits h = to_name known end rest p ps found later _ _ refl refl fits h
+  to_phase phase.AfterName later fits h = to_after_name known end rest p ps found later _ _ refl refl h
+  to_phase (phase.Keyword letters first) later fits h = to_keyword known end rest p ps found letters first later _ _ refl refl h
+  to_phase (phase.AfterKeyword which spaced) later fits h = to_after_keyword which known end rest p ps found later spaced _ _ _ refl refl refl h
+  to_phase (phase.Quoted which mark) later fits h = to_inside which mark known end rest p ps found fits.0 fits.1 later _ _ refl refl h
+  to_phase (phase.AfterPublic spaced) later fits h = to_public known end rest p ps found later spaced _ _ _ refl refl refl h
+  to_phase phase.AfterSystem later fits h = to_system known end rest p ps found later _ _ refl refl h
+  to_phase phase.Skipped later fits h = to_skipped known end rest p ps found later _ refl h
+
+-- a name or an identifier stays begun
+abbrev pub FitsNext : Option Phase → Found → Type 0
+FitsNext None known = Unit {0}
+FitsNext (Some phase) known = Fits phase known
+
+module _ (known : Found) (p : Placed) where
+  fits_before : (spaced s g : Bool) → FitsNext (before_name spaced s g p.at).next (found_by (before_name spaced s g p.at) p known)
+  fits_before spaced true g = tt
+  fits_before spaced false true = tt
+  fits_before spaced false false = refl
+
+  fits_name : (s g : Bool) → FitsNext (in_name s g).next (found_by (in_name s g) p known)
+  fits_name true g = tt
+  fits_name false true = tt
+  fits_name false false = refl
+
+  fits_letters : (letters : Option Letters) → FitsNext (begins_keyword letters p.at).next (found_by (begins_keyword letters p.at) p known)
+  fits_letters None = tt
+  fits_letters (Some letters) = tt
+
+  fits_after_name : (s g : Bool) (letters : Option Letters) → FitsNext (after_name s g letters p.at).next (found_by (after_name s g letters p.at) p known)
+  fits_after_name true g letters = tt
+  fits_after_name false true letters = tt
+  fits_after_name false false letters = fits_letters letters
+
+  fits_goes_on : (which : Identifier) (letters : Option Letters) (first : ℕ) → FitsNext (goes_on_with which letters first).next (found_by (goes_on_with which letters first) p known)
+  fits_goes_on which None first = tt
+  fits_goes_on which (Some letters) first = tt
+
+  fits_keyword : (letters : Letters) (first : ℕ) (m g : Bool) → FitsNext (in_keyword letters first m g).next (found_by (in_keyword letters first m g) p known)
+  fits_keyword letters first true g = fits_goes_on (letters_of letters) (letters_after letters) first
+  fits_keyword letters first false true = tt
+  fits_keyword letters first false false = tt
+
+  fits_after_keyword : (which : Identifier) (spaced s g q : Bool) → is_quote p.ch ≡ q → FitsNext (after_keyword which spaced s g q p.ch p.at).next (found_by (after_keyword which spaced s g q p.ch p.at) p known)
+  fits_after_keyword which spaced true g q e = tt
+  fits_after_keyword which spaced false true q e = tt
+  fits_after_keyword which spaced false false true e = (e, is_identified which [] known)
+  fits_after_keyword which spaced false false false e = tt
+
+  fits_follows : (which : Identifier) → Fits (follows which) known
+  fits_follows Public = tt
+  fits_follows System = tt
+
+  fits_quotes : (which : Identifier) (mark : ℕ) (c g : Bool) → is_quote mark ≡ true → FitsNext (in_quotes which mark c g p.at).next (found_by (in_quotes which mark c g p.at) p known)
+  fits_quotes which mark true g e = fits_follows which
+  fits_quotes which mark false true e = tt
+  fits_quotes which mark false false e = (e, is_identified which (text_bytes (p ∷ [])) known)
+
+  fits_public : (spaced s g q : Bool) → is_quote p.ch ≡ q → FitsNext (after_public spaced s g q p.ch p.at).next (found_by (after_public spaced s g q p.ch p.at) p known)
+  fits_public spaced true g q e = tt
+  fits_public spaced false true q e = tt
+  fits_public spaced false false true e = (e, refl)
+  fits_public spaced false false false e = tt
+
+  fits_system : (s g : Bool) → FitsNext (after_system s g p.at).next (found_by (after_system s g p.at) p known)
+  fits_system true g = tt
+  fits_system false true = tt
+  fits_system false false = tt
+
+  fits_skipped : (g : Bool) → FitsNext (in_skipped g).next (found_by (in_skipped g) p known)
+  fits_skipped true = tt
+  fits_skipped false = tt
+
+  pub fits_next : (phase : Phase) → Fits phase known → FitsNext (step phase p).next (found_by (step phase p) p known)
+  fits_next (phase.BeforeName spaced) fits = fits_before spaced _ _
+  fits_next phase.Name fits = fits_name _ _
+  fits_next phase.AfterName fits = fits_after_name _ _ _
+  fits_next (phase.Keyword letters first) fits = fits_keyword letters first _ _
+  fits_next (phase.AfterKeyword which spaced) fits = fits_after_keyword which spaced _ _ _ refl
+  fits_next (phase.Quoted which mark) fits = fits_quotes which mark _ _ fits.0
+  fits_next (phase.AfterPublic spaced) fits = fits_public spaced _ _ _ refl
+  fits_next phase.AfterSystem fits = fits_system _ _
+  fits_next phase.Skipped fits = fits_skipped _
+
+-- the end of input: each phase, from its production
+abbrev pub AtEnd : Phase → Found → ℕ → List Placed → Found → List ParseError → Type 0
+AtEnd phase known end rest found errors = (rest ≡ []) × (found ≡ found_at_end phase known) × (errors ≡ fault_errors (end_fault phase end))
+
+module _ (known : Found) (end : ℕ) (rest : List Placed) (found : Found) (errors : List ParseError) where
+  abbrev CutOff : Type 0
+  CutOff = (rest ≡ []) × (found ≡ force known) × (errors ≡ error EofInDoctype end ∷ [])
+
+  opening_at_end : (spaced : Bool) → AfterOpening known spaced end rest [] found errors → CutOff
+  opening_at_end spaced (begins_name later n h e) = absurd (false≢true n)
+  opening_at_end spaced (nameless c f e) = absurd cc
+  opening_at_end spaced (unfinished r t f e) = (r, f, e)
+
+  after_name_at_end : AfterName known end rest [] found errors → CutOff
+  after_name_at_end (name_ends h) = end_at_end known end rest found errors h
+  after_name_at_end (name_skips h) = absurd (skips_not_at_end _ _ (force known) end rest found errors h)
+  after_name_at_end (names_identifier which word after t w k) = absurd (no_keyword which word after t w)
+
+  letters_at_end : (letters : Letters) (first : ℕ) → IsInKeyword letters first known end rest [] found errors → (rest ≡ []) × (found ≡ force known) × (errors ≡ error InvalidCharacterSequenceAfterDoctypeName first ∷ [])
+  letters_at_end letters first (whole [] after t w k) = let l = w ∙ left_is letters in absurd cc
+  letters_at_end letters first (whole (x ∷ xs) after t w k) = absurd cc
+  letters_at_end letters first (fails later sp h e) =
+      let k = skipped_at_end (force known) end rest found later h in
+      (k.0, k.1, e ∙ ap (λ (x : List ParseError). error InvalidCharacterSequenceAfterDoctypeName first ∷ x) k.2)
+
+  keyword_at_end : (which : Identifier) (spaced : Bool) → AfterKeyword which known spaced end rest [] found errors → CutOff
+  keyword_at_end which spaced (identifier h) = let t = h.text_is in absurd cc
+  keyword_at_end which spaced (missing c f e) = absurd cc
+  keyword_at_end which spaced (keyword_skips h) = absurd (skips_not_at_end _ _ (force known) end rest found errors h)
+  keyword_at_end which spaced (keyword_cut_off r t f e) = (r, f, e)
+
+  inside_at_end : (which : Identifier) (mark : ℕ) → is_some (identifier_of which known) ≡ true → IsInside which mark (Follows which) known end rest [] found errors → CutOff
+  inside_at_end which mark begun (quoted [] [] after later t a m h e) = absurd cc
+  inside_at_end which mark begun (quoted [] (x ∷ xs) after later t a m h e) = absurd cc
+  inside_at_end which mark begun (quoted (x ∷ xs) close after later t a m h e) = absurd cc
+  inside_at_end which mark begun (abrupt [] [] t a m f e) = absurd cc
+  inside_at_end which mark begun (abrupt [] (x ∷ xs) t a m f e) = absurd cc
+  inside_at_end which mark begun (abrupt (x ∷ xs) close t a m f e) = absurd cc
+  inside_at_end which mark begun (unclosed r a f e) = (r, f ∙ ap force (identified_not which known begun), e)
+
+  public_at_end : (spaced : Bool) → AfterPublicIdentifier known spaced end rest [] found errors → CutOff
+  public_at_end spaced (public_ends h) = end_at_end known end rest found errors h
+  public_at_end spaced (public_skips h) = absurd (skips_not_at_end _ _ (force known) end rest found errors h)
+  public_at_end spaced (second h) = let t = h.text_is in absurd cc
+
+  system_at_end : AfterSystemIdentifier known end rest [] found errors → CutOff
+  system_at_end (system_ends h) = end_at_end known end rest found errors h
+  system_at_end (system_skips h) = absurd (skips_not_at_end _ _ known end rest found errors h)
+
+name_at_end : (known : Found) (end : ℕ) (rest : List Placed) (found : Found) (errors : List ParseError) → is_some known.name ≡ true → (name after : List Placed) (later : List ParseError) → [] ≡ name ++ after
+    → FollowsName (named (name_bytes name) known) end rest after found later → errors ≡ null_errors name ++ later → (rest ≡ []) × (found ≡ force known) × (errors ≡ error EofInDoctype end ∷ [])
+name_at_end known end rest found errors begun (x ∷ xs) after later t f e = absurd cc
+name_at_end known end rest found errors begun [] after later t f e =
+    let at_end : FollowsName (named [] known) end rest [] found later = subst (λ (x : List Placed). FollowsName (named [] known) end rest x found later) (sym t) f in
+    let k = after_name_at_end (named [] known) end rest found later (at_once (λ spaced. AfterName (named [] known)) false end rest found later [] at_end refl) in
+    (k.0, k.1 ∙ ap force (named_not known begun), e ∙ k.2)
+
+pub end_of : (phase : Phase) (known : Found) (end : ℕ) (rest : List Placed) (found : Found) (errors : List ParseError) → Fits phase known → GoesOn phase known end rest [] found errors → AtEnd phase known end rest found errors
+end_of (phase.BeforeName spaced) known end rest found errors fits h = opening_at_end known end rest found errors spaced (at_once (AfterOpening known) spaced end rest found errors [] h refl)
+end_of phase.Name known end rest found errors fits h = name_at_end known end rest found errors fits h.name h.after h.later h.text_is h.follows h.errors_are
+end_of phase.AfterName known end rest found errors fits h = after_name_at_end known end rest found errors (at_once (λ spaced. AfterName known) false end rest found errors [] h refl)
+end_of (phase.Keyword letters first) known end rest found errors fits h = letters_at_end known end rest found errors letters first h
+end_of (phase.AfterKeyword which spaced) known end rest found errors fits h = keyword_at_end known end rest found errors which spaced (at_once (AfterKeyword which known) spaced end rest found errors [] h refl)
+end_of (phase.Quoted which mark) known end rest found errors fits h = inside_at_end known end rest found errors which mark fits.1 h
+end_of (phase.AfterPublic spaced) known end rest found errors fits h = public_at_end known end rest found errors spaced (at_once (AfterPublicIdentifier known) spaced end rest found errors [] h refl)
+end_of phase.AfterSystem known end rest found errors fits h = system_at_end known end rest found errors (at_once (λ spaced. AfterSystemIdentifier known) false end rest found errors [] h refl)
+end_of phase.Skipped known end rest found errors fits h = skipped_at_end known end rest found errors h
+
+-- .. and back
+cut_off_here : (known : Found) (end : ℕ) → IsEnd known end [] [] (force known) (error EofInDoctype end ∷ [])
+cut_off_here known end = cut_off refl refl refl refl
+
+pub ends_in : (phase : Phase) (known : Found) (end : ℕ) → Fits phase known → GoesOn phase known end [] [] (found_at_end phase known) (fault_errors (end_fault phase end))
+ends_in (phase.BeforeName spaced) known end fits = with_none (AfterOpening known) spaced end [] _ _ [] (unfinished refl refl refl refl)
+ends_in phase.Name known end fits = record {
+  name = [];
+  after = [];
+  later = error EofInDoctype end ∷ [];
+  text_is = refl;
+  runs = record { passes_none = refl; stops_after = refl };
+  follows = with_none (λ spaced. AfterName (named [] known)) false end [] _ _ [] (name_ends (cut_off refl refl (ap force (sym (named_not known fits))) refl));
+  errors_are = refl;
+}
+ends_in phase.AfterName known end fits = with_none (λ spaced. AfterName known) false end [] _ _ [] (name_ends (cut_off_here known end))
+ends_in (phase.Keyword letters first) known end fits =
+    fails [] (ap (λ (x : List ℕ). spells_in_any_case x []) (left_is letters)) (record { skipped = []; close = []; text_is = refl; without = refl; closes = refl; found_is = refl; errors_are = refl }) refl
+ends_in (phase.AfterKeyword which spaced) known end fits = with_none (AfterKeyword which known) spaced end [] _ _ [] (keyword_cut_off refl refl refl refl)
+ends_in (phase.Quoted which mark) known end fits = unclosed refl refl (ap force (sym (identified_not which known fits.1))) refl
+ends_in (phase.AfterPublic spaced) known end fits = with_none (AfterPublicIdentifier known) spaced end [] _ _ [] (public_ends (cut_off_here known end))
+ends_in phase.AfterSystem known end fits = with_none (λ spaced. AfterSystemIdentifier known) false end [] _ _ [] (system_ends (cut_off_here known end))
+ends_in phase.Skipped known end fits = record { skipped = []; close = []; text_is = refl; without = refl; closes = refl; found_is = refl; errors_are = refl }

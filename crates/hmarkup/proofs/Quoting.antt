@@ -1,0 +1,291 @@
+-- The identifiers of a doctype, and what stands before them: each character.
+use Rattle.std.proofs.Common.{◌≡◌, ℕ, Bool, true, false, not, ◌||◌, eqb, if◌then◌else◌, List, [], ◌∷◌, ◌++◌, sym, refl, ap, ◌∙◌, subst, codes, Some, None, append_assoc}
+use Rattle.std.specs.Prelude.{is_some}
+use Rattle.std.proofs.lemmas.Bool.{false≢true, eqb-true}
+use Rattle.names.specs.declared.error.ParseError.{ParseError}
+use Rattle.names.specs.declared.error.ErrorCode.{ErrorCode}
+use Rattle.names.specs.declared.error.ErrorCode.TheVariants.{EofInDoctype, MissingWhitespaceBetweenDoctypePublicAndSystemIdentifiers}
+use Rattle.names.specs.declared.placed.Placed.{Placed}
+use Rattle.names.specs.Placed.{characters, place, begins, all, is_space, is_greater, is_quote, error, error_if, null_errors, text_bytes}
+use Rattle.hmarkup.specs.declared.keyword.Identifier.{Identifier}
+use Rattle.hmarkup.specs.declared.keyword.Identifier.TheVariants.{Public, System}
+use Rattle.hmarkup.specs.Doctype.{Found, Stands, closed, force, identified, no_space_after_keyword, no_identifier, no_quote, abrupt_identifier, AfterSpace, IsInside, quoted, abrupt, unclosed, IsIdentifier, FollowsSystem, AfterPublicIdentifier, public_ends, public_skips, second, Follows, AfterKeyword, identifier, missing, keyword_skips, keyword_cut_off}
+use Rattle.hmarkup.specs.DoctypeSteps.{after_keyword, after_public, follows, in_quotes, step_errors, fault_errors, found_by}
+use Rattle.hmarkup.specs.DoctypeWalk.{GoesOn, identifier_of}
+use Rattle.hmarkup.proofs.Marks.{and_parts, and_both, null_errors-append, eqb_self}
+use Rattle.hmarkup.proofs.Characters.{quote_not_space, quote_not_greater, greater_not_space}
+use Rattle.hmarkup.proofs.Parts.{identified-cons, identified_not}
+use Rattle.hmarkup.proofs.Spaces.{past_space, at_once, with_space, with_none}
+use Rattle.hmarkup.proofs.Endings.{only_greater, greater_spells, neither_of, not_either, end_at, end_not_space, skips_at, skips_from, skips_not_space}
+use Rattle.hmarkup.proofs.Stepping.{Goes, Stepped, plain_errors, space_error, greater_error, quote_error, fault_if}
+
+-- a quote that begins an identifier
+module _ (which : Identifier) (code : ErrorCode) (After : Found → Stands) (known : Found) (spaced : Bool) (end : ℕ) (rest : List Placed) (found : Found) where
+  identifier_not_space : (text : List Placed) (errors : List ParseError) → IsIdentifier which code After known spaced end rest text found errors → begins is_space text ≡ false
+  identifier_not_space text errors h = ap (begins is_space) h.text_is ∙ quote_not_space h.quote.ch h.is_mark
+
+  record Quoted (p : Placed) (ps : List Placed) (errors : List ParseError) : Type 0 where
+    later : List ParseError
+    is_mark : is_quote p.ch ≡ true
+    inside : IsInside which p.ch After (identified which [] known) end rest ps found later
+    errors_are : errors ≡ (fault_errors (if spaced then None else Some (error code p.at)) ++ null_errors (p ∷ [])) ++ later
+
+  quote_at : (p : Placed) (ps : List Placed) (errors : List ParseError) → IsIdentifier which code After known spaced end rest (p ∷ ps) found errors → Quoted p ps errors
+  quote_at p ps errors h = of_parts h.quote h.more h.later h.text_is h.is_mark h.inside h.errors_are
+    where
+      of_parts : (quote : Placed) (more : List Placed) (later : List ParseError) → p ∷ ps ≡ quote ∷ more → is_quote quote.ch ≡ true → IsInside which quote.ch After (identified which [] known) end rest more found later
+          → errors ≡ error_if (not spaced) code quote.at ++ later → Quoted p ps errors
+      of_parts quote more later t m i e =
+          let head : quote ≡ p = cc in
+          let tail : more ≡ ps = cc in
+          let is_mark : is_quote p.ch ≡ true = subst (λ (x : Placed). is_quote x.ch ≡ true) head m in
+          record {
+            later = later;
+            is_mark = is_mark;
+            inside = subst (λ (x : Placed). IsInside which x.ch After (identified which [] known) end rest ps found later) head (subst (λ (x : List Placed). IsInside which quote.ch After (identified which [] known) end rest x found later) tail i);
+            errors_are = e ∙ ap (λ (x : Placed). error_if (not spaced) code x.at ++ later) head ∙ ap (λ (x : List ParseError). x ++ later) (fault_if spaced code p.at)
+                ∙ sym (plain_errors p (quote_error p is_mark) (if spaced then None else Some (error code p.at)) later);
+          }
+
+  identifier_from : (p : Placed) (ps : List Placed) (later : List ParseError) → is_quote p.ch ≡ true → IsInside which p.ch After (identified which [] known) end rest ps found later
+      → IsIdentifier which code After known spaced end rest (p ∷ ps) found ((fault_errors (if spaced then None else Some (error code p.at)) ++ null_errors (p ∷ [])) ++ later)
+  identifier_from p ps later m h = record {
+    quote = p;
+    more = ps;
+    later = later;
+    text_is = refl;
+    is_mark = m;
+    inside = h;
+    errors_are = plain_errors p (quote_error p m) (if spaced then None else Some (error code p.at)) later ∙ ap (λ (x : List ParseError). x ++ later) (sym (fault_if spaced code p.at));
+  }
+
+goes_follows : (which : Identifier) (known : Found) (end : ℕ) (rest text : List Placed) (found : Found) (errors : List ParseError) → Follows which known end rest text found errors → GoesOn (follows which) known end rest text found errors
+goes_follows Public known end rest text found errors h = h
+goes_follows System known end rest text found errors h = h
+
+follows_goes : (which : Identifier) (known : Found) (end : ℕ) (rest text : List Placed) (found : Found) (errors : List ParseError) → GoesOn (follows which) known end rest text found errors → Follows which known end rest text found errors
+follows_goes Public known end rest text found errors h = h
+follows_goes System known end rest text found errors h = h
+
+both_no : (a b : Bool) → a ≡ false → b ≡ false → (a || b) ≡ false
+both_no true b e f = e
+both_no false b e f = f
+
+module _ (which : Identifier) (mark : ℕ) (known : Found) (end : ℕ) (rest : List Placed) (p : Placed) (ps : List Placed) (found : Found) where
+  abbrev apart : ℕ → Bool
+  apart c = not (eqb c mark || is_greater c)
+
+  -- inside an identifier: a character of it
+  first_apart : (c g : Bool) → eqb p.ch mark ≡ c → is_greater p.ch ≡ g → (x : Placed) → x ≡ p → apart x.ch ≡ true → (c ≡ false) × (g ≡ false)
+  first_apart c g ec eg x e a =
+      let k = neither_of (eqb x.ch mark) (is_greater x.ch) a in
+      (sym ec ∙ ap (λ (q : Placed). eqb q.ch mark) (sym e) ∙ k.0, sym eg ∙ ap (λ (q : Placed). is_greater q.ch) (sym e) ∙ k.1)
+
+  inside_step : (errors later : List ParseError) (c g : Bool) → c ≡ false → g ≡ false → errors ≡ null_errors (p ∷ []) ++ later
+      → IsInside which mark (Follows which) (identified which (text_bytes (p ∷ [])) known) end rest ps found later → Stepped (in_quotes which mark c g p.at) known end rest p ps found errors
+  inside_step errors later true g ec eg e h = absurd (false≢true (sym ec))
+  inside_step errors later false true ec eg e h = absurd (false≢true (sym eg))
+  inside_step errors later false false ec eg e h = record { later = later; errors_are = e; goes = h }
+
+  null_split : (x : Placed) (xs : List Placed) (later : List ParseError) → x ≡ p → null_errors (x ∷ xs) ++ later ≡ null_errors (p ∷ []) ++ (null_errors xs ++ later)
+  null_split x xs later e = ap (λ (y : List ParseError). y ++ later) (null_errors-append (x ∷ []) xs) ∙ append_assoc (null_errors (x ∷ [])) (null_errors xs) later
+      ∙ ap (λ (q : Placed). null_errors (q ∷ []) ++ (null_errors xs ++ later)) e
+
+  identified_split : (x : Placed) (xs : List Placed) → x ≡ p → identified which (text_bytes (x ∷ xs)) known ≡ identified which (text_bytes xs) (identified which (text_bytes (p ∷ [])) known)
+  identified_split x xs e = identified-cons which x xs known ∙ ap (λ (q : Placed). identified which (text_bytes xs) (identified which (text_bytes (q ∷ [])) known)) e
+
+  module _ (is_mark : is_quote mark ≡ true) (begun : is_some (identifier_of which known) ≡ true) where
+    closed_by : (errors : List ParseError) (c g : Bool) → eqb p.ch mark ≡ c → (close after : List Placed) → p ∷ ps ≡ close ++ after → characters close ≡ mark ∷ []
+        → Follows which (identified which [] known) end rest after found errors → Stepped (in_quotes which mark c g p.at) known end rest p ps found errors
+    closed_by errors c g ec [] after t m h = absurd cc
+    closed_by errors c g ec (x ∷ y ∷ ys) after t m h = absurd cc
+    closed_by errors c g ec (x ∷ []) after t m h =
+        let head : p ≡ x = cc in
+        let tail : after ≡ ps = cc in
+        let is_x : x.ch ≡ mark = cc in
+        let is : p.ch ≡ mark = ap (λ (q : Placed). q.ch) head ∙ is_x in
+        let same : c ≡ true = sym ec ∙ ap (λ (n : ℕ). eqb n mark) is ∙ eqb_self mark in
+        let quote : is_quote p.ch ≡ true = ap is_quote is ∙ is_mark in
+        subst (λ (b : Bool). Stepped (in_quotes which mark b g p.at) known end rest p ps found errors) (sym same) (record {
+          later = errors;
+          errors_are = sym (plain_errors p (quote_error p quote) None errors);
+          goes = goes_follows which known end rest ps found errors (subst (λ (x : Found). Follows which x end rest ps found errors) (identified_not which known begun) (subst (λ (x : List Placed). Follows which (identified which [] known) end rest x found errors) tail h));
+        })
+
+    greater_now : (errors : List ParseError) (c g : Bool) → eqb p.ch mark ≡ c → is_greater p.ch ≡ g → characters (p ∷ ps) ≡ codes ">" → found ≡ force (identified which [] known) → errors ≡ error (abrupt_identifier which) p.at ∷ []
+        → Stepped (in_quotes which mark c g p.at) known end rest p ps found errors
+    greater_now errors true g ec eg t f e =
+        absurd (false≢true (sym (quote_not_greater mark is_mark) ∙ ap is_greater (sym (eqb-true p.ch mark ec)) ∙ (only_greater p ps t).0))
+    greater_now errors false false ec eg t f e = absurd (false≢true (sym eg ∙ (only_greater p ps t).0))
+    greater_now errors false true ec eg t f e =
+        record { later = []; errors_are = e ∙ sym (plain_errors p (greater_error p eg) (Some (error (abrupt_identifier which) p.at)) []); goes = ((only_greater p ps t).1, f ∙ ap force (identified_not which known begun), refl) }
+
+    abrupt_by : (errors : List ParseError) (c g : Bool) → eqb p.ch mark ≡ c → is_greater p.ch ≡ g → (close : List Placed) → p ∷ ps ≡ close → characters close ≡ codes ">"
+        → found ≡ force (identified which [] known) → errors ≡ error (abrupt_identifier which) (place end close) ∷ [] → Stepped (in_quotes which mark c g p.at) known end rest p ps found errors
+    abrupt_by errors c g ec eg close t m f e =
+        greater_now errors c g ec eg (ap characters t ∙ m) f (e ∙ ap (λ (x : List Placed). error (abrupt_identifier which) (place end x) ∷ []) (sym t))
+
+    pub from_inside : (errors : List ParseError) (c g : Bool) → eqb p.ch mark ≡ c → is_greater p.ch ≡ g → IsInside which mark (Follows which) known end rest (p ∷ ps) found errors
+        → Stepped (in_quotes which mark c g p.at) known end rest p ps found errors
+    from_inside errors c g ec eg (quoted [] close after later t a m h e) =
+        subst (λ (x : List ParseError). Stepped (in_quotes which mark c g p.at) known end rest p ps found x) (sym e) (closed_by later c g ec close after t m h)
+    from_inside errors c g ec eg (quoted (x ∷ xs) close after later t a m h e) =
+        let head : x ≡ p = cc in
+        let parts = and_parts (apart x.ch) (all apart xs) a in
+        let k = first_apart c g ec eg x head parts.0 in
+        inside_step errors (null_errors xs ++ later) c g k.0 k.1 (e ∙ null_split x xs later head)
+        (quoted xs close after later (cc) parts.1 m (subst (λ (y : Found). Follows which y end rest after found later) (identified_split x xs head) h) refl)
+    from_inside errors c g ec eg (abrupt [] close t a m f e) = abrupt_by errors c g ec eg close t m f e
+    from_inside errors c g ec eg (abrupt (x ∷ xs) close t a m f e) =
+        let head : x ≡ p = cc in
+        let parts = and_parts (apart x.ch) (all apart xs) a in
+        let k = first_apart c g ec eg x head parts.0 in
+        inside_step errors (null_errors xs ++ error (abrupt_identifier which) (place end close) ∷ []) c g k.0 k.1 (e ∙ null_split x xs (error (abrupt_identifier which) (place end close) ∷ []) head)
+        (abrupt xs close (cc) parts.1 m (f ∙ ap force (identified_split x xs head)) refl)
+    from_inside errors c g ec eg (unclosed r a f e) =
+        let parts = and_parts (apart p.ch) (all apart ps) a in
+        let k = first_apart c g ec eg p refl parts.0 in
+        inside_step errors (null_errors ps ++ error EofInDoctype end ∷ []) c g k.0 k.1 (e ∙ null_split p ps (error EofInDoctype end ∷ []) refl)
+        (unclosed r parts.1 (f ∙ ap force (identified_split p ps refl)) refl)
+
+    -- backwards
+    inside_more : (later : List ParseError) → eqb p.ch mark ≡ false → is_greater p.ch ≡ false → IsInside which mark (Follows which) (identified which (text_bytes (p ∷ [])) known) end rest ps found later
+        → IsInside which mark (Follows which) known end rest (p ∷ ps) found (null_errors (p ∷ []) ++ later)
+    inside_more later ec eg (quoted inside close after more t a m h e) =
+        quoted (p ∷ inside) close after more (ap (λ (x : List Placed). p ∷ x) t) (and_both (apart p.ch) (all apart inside) (not_either (eqb p.ch mark) (is_greater p.ch) ec eg) a) m
+        (subst (λ (y : Found). Follows which y end rest after found more) (sym (identified_split p inside refl)) h) (ap (λ (x : List ParseError). null_errors (p ∷ []) ++ x) e ∙ sym (null_split p inside more refl))
+    inside_more later ec eg (abrupt inside close t a m f e) =
+        abrupt (p ∷ inside) close (ap (λ (x : List Placed). p ∷ x) t) (and_both (apart p.ch) (all apart inside) (not_either (eqb p.ch mark) (is_greater p.ch) ec eg) a) m
+        (f ∙ ap force (sym (identified_split p inside refl))) (ap (λ (x : List ParseError). null_errors (p ∷ []) ++ x) e ∙ sym (null_split p inside (error (abrupt_identifier which) (place end close) ∷ []) refl))
+    inside_more later ec eg (unclosed r a f e) =
+        unclosed r (and_both (apart p.ch) (all apart ps) (not_either (eqb p.ch mark) (is_greater p.ch) ec eg) a)
+        (f ∙ ap force (sym (identified_split p ps refl))) (ap (λ (x : List ParseError). null_errors (p ∷ []) ++ x) e ∙ sym (null_split p ps (error EofInDoctype end ∷ []) refl))
+
+    pub to_inside : (later : List ParseError) (c g : Bool) → eqb p.ch mark ≡ c → is_greater p.ch ≡ g → Goes (in_quotes which mark c g p.at).next (found_by (in_quotes which mark c g p.at) p known) end rest ps found later
+        → IsInside which mark (Follows which) known end rest (p ∷ ps) found (step_errors (in_quotes which mark c g p.at) p ++ later)
+    to_inside later true g ec eg h =
+        let is : p.ch ≡ mark = eqb-true p.ch mark ec in
+        let quote : is_quote p.ch ≡ true = ap is_quote is ∙ is_mark in
+        quoted [] (p ∷ []) ps later refl refl (ap (λ (n : ℕ). n ∷ []) is)
+        (subst (λ (x : Found). Follows which x end rest ps found later) (sym (identified_not which known begun)) (follows_goes which known end rest ps found later h)) (plain_errors p (quote_error p quote) None later)
+    to_inside later false true ec eg (t, f, e) =
+        abrupt [] (p ∷ ps) refl refl (ap (λ (x : List Placed). characters (p ∷ x)) t ∙ greater_spells p eg) (f ∙ ap force (sym (identified_not which known begun)))
+        (plain_errors p (greater_error p eg) (Some (error (abrupt_identifier which) p.at)) later ∙ ap (λ (x : List ParseError). error (abrupt_identifier which) p.at ∷ x) e)
+    to_inside later false false ec eg h = inside_more later ec eg h
+
+-- after a keyword
+module _ (which : Identifier) (known : Found) (end : ℕ) (rest : List Placed) (p : Placed) (ps : List Placed) (found : Found) where
+  keyword_not_space : (spaced : Bool) (text : List Placed) (errors : List ParseError) → AfterKeyword which known spaced end rest text found errors → begins is_space text ≡ false
+  keyword_not_space spaced text errors (identifier h) = identifier_not_space which _ _ known spaced end rest found text errors h
+  keyword_not_space spaced [] errors (missing c f e) = refl
+  keyword_not_space spaced (q ∷ qs) errors (missing c f e) = greater_not_space q.ch (only_greater q qs c).0
+  keyword_not_space spaced text errors (keyword_skips h) = skips_not_space _ _ (force known) end rest text found errors h
+  keyword_not_space spaced [] errors (keyword_cut_off r t f e) = refl
+  keyword_not_space spaced (q ∷ qs) errors (keyword_cut_off r t f e) = absurd cc
+
+  -- a quote
+  quote_by : (errors : List ParseError) (spaced g q : Bool) → is_greater p.ch ≡ g → is_quote p.ch ≡ q → IsIdentifier which (no_space_after_keyword which) (Follows which) known spaced end rest (p ∷ ps) found errors
+      → Stepped (after_keyword which spaced false g q p.ch p.at) known end rest p ps found errors
+  quote_by errors spaced true q eg eq h =
+      let k = quote_at which _ _ known spaced end rest found p ps errors h in
+      absurd (false≢true (sym (quote_not_greater p.ch k.is_mark) ∙ eg))
+  quote_by errors spaced false false eg eq h =
+      let k = quote_at which _ _ known spaced end rest found p ps errors h in
+      absurd (false≢true (sym eq ∙ k.is_mark))
+  quote_by errors spaced false true eg eq h =
+      let k = quote_at which _ _ known spaced end rest found p ps errors h in
+      record { later = k.later; errors_are = k.errors_are; goes = k.inside }
+
+  from_keyword_core : (errors : List ParseError) (spaced g q : Bool) → is_greater p.ch ≡ g → is_quote p.ch ≡ q → AfterKeyword which known spaced end rest (p ∷ ps) found errors
+      → Stepped (after_keyword which spaced false g q p.ch p.at) known end rest p ps found errors
+  from_keyword_core errors spaced g q eg eq (identifier h) = quote_by errors spaced g q eg eq h
+  from_keyword_core errors spaced true q eg eq (missing c f e) =
+      record { later = []; errors_are = e ∙ sym (plain_errors p (greater_error p eg) (Some (error (no_identifier which) p.at)) []); goes = ((only_greater p ps c).1, f, refl) }
+  from_keyword_core errors spaced false q eg eq (missing c f e) = absurd (false≢true (sym eg ∙ (only_greater p ps c).0))
+  from_keyword_core errors spaced true q eg eq (keyword_skips h) = absurd (false≢true (sym (skips_at (force known) end rest found p ps errors _ _ h).1 ∙ eg))
+  from_keyword_core errors spaced false true eg eq (keyword_skips h) = absurd (false≢true (sym (skips_at (force known) end rest found p ps errors _ _ h).2 ∙ eq))
+  from_keyword_core errors spaced false false eg eq (keyword_skips h) =
+      let k = skips_at (force known) end rest found p ps errors _ _ h in
+      record { later = k.3.0; errors_are = k.3.1; goes = k.3.2 }
+  from_keyword_core errors spaced g q eg eq (keyword_cut_off r t f e) = absurd cc
+
+  pub from_after_keyword : (errors : List ParseError) (spaced s g q : Bool) → is_space p.ch ≡ s → is_greater p.ch ≡ g → is_quote p.ch ≡ q → AfterSpace (AfterKeyword which known) spaced end rest (p ∷ ps) found errors
+      → Stepped (after_keyword which spaced s g q p.ch p.at) known end rest p ps found errors
+  from_after_keyword errors spaced true g q es eg eq h = record {
+    later = errors;
+    errors_are = sym (plain_errors p (space_error p es) None errors);
+    goes = past_space (AfterKeyword which known) spaced end rest found errors p ps h es (λ b text. keyword_not_space b text errors);
+  }
+  from_after_keyword errors spaced false g q es eg eq h = from_keyword_core errors spaced g q eg eq (at_once (AfterKeyword which known) spaced end rest found errors (p ∷ ps) h es)
+
+  pub to_after_keyword : (later : List ParseError) (spaced s g q : Bool) → is_space p.ch ≡ s → is_greater p.ch ≡ g → is_quote p.ch ≡ q
+      → Goes (after_keyword which spaced s g q p.ch p.at).next (found_by (after_keyword which spaced s g q p.ch p.at) p known) end rest ps found later
+      → AfterSpace (AfterKeyword which known) spaced end rest (p ∷ ps) found (step_errors (after_keyword which spaced s g q p.ch p.at) p ++ later)
+  to_after_keyword later spaced true g q es eg eq h =
+      subst (λ (x : List ParseError). AfterSpace (AfterKeyword which known) spaced end rest (p ∷ ps) found x) (sym (plain_errors p (space_error p es) None later))
+      (with_space (AfterKeyword which known) spaced end rest found later p ps es h)
+  to_after_keyword later spaced false true q es eg eq (t, f, e) =
+      with_none (AfterKeyword which known) spaced end rest found _ (p ∷ ps)
+      (missing (ap (λ (x : List Placed). characters (p ∷ x)) t ∙ greater_spells p eg) f
+      (plain_errors p (greater_error p eg) (Some (error (no_identifier which) p.at)) later ∙ ap (λ (x : List ParseError). error (no_identifier which) p.at ∷ x) e))
+  to_after_keyword later spaced false false true es eg eq h =
+      with_none (AfterKeyword which known) spaced end rest found _ (p ∷ ps) (identifier (identifier_from which (no_space_after_keyword which) (Follows which) known spaced end rest found p ps later eq h))
+  to_after_keyword later spaced false false false es eg eq h =
+      with_none (AfterKeyword which known) spaced end rest found _ (p ∷ ps) (keyword_skips (skips_from (force known) end rest found p ps later (begins is_quote) (no_quote which) es eg eq h))
+
+-- after the public identifier
+module _ (known : Found) (end : ℕ) (rest : List Placed) (p : Placed) (ps : List Placed) (found : Found) where
+  public_not_space : (spaced : Bool) (text : List Placed) (errors : List ParseError) → AfterPublicIdentifier known spaced end rest text found errors → begins is_space text ≡ false
+  public_not_space spaced text errors (public_ends h) = end_not_space known end rest text found errors h
+  public_not_space spaced text errors (public_skips h) = skips_not_space _ _ (force known) end rest text found errors h
+  public_not_space spaced text errors (second h) = identifier_not_space System _ _ known spaced end rest found text errors h
+
+  second_by : (errors : List ParseError) (spaced g q : Bool) → is_greater p.ch ≡ g → is_quote p.ch ≡ q
+      → IsIdentifier System MissingWhitespaceBetweenDoctypePublicAndSystemIdentifiers FollowsSystem known spaced end rest (p ∷ ps) found errors
+      → Stepped (after_public spaced false g q p.ch p.at) known end rest p ps found errors
+  second_by errors spaced true q eg eq h =
+      let k = quote_at System _ _ known spaced end rest found p ps errors h in
+      absurd (false≢true (sym (quote_not_greater p.ch k.is_mark) ∙ eg))
+  second_by errors spaced false false eg eq h =
+      let k = quote_at System _ _ known spaced end rest found p ps errors h in
+      absurd (false≢true (sym eq ∙ k.is_mark))
+  second_by errors spaced false true eg eq h =
+      let k = quote_at System _ _ known spaced end rest found p ps errors h in
+      record { later = k.later; errors_are = k.errors_are; goes = k.inside }
+
+  from_public_core : (errors : List ParseError) (spaced g q : Bool) → is_greater p.ch ≡ g → is_quote p.ch ≡ q → AfterPublicIdentifier known spaced end rest (p ∷ ps) found errors
+      → Stepped (after_public spaced false g q p.ch p.at) known end rest p ps found errors
+  from_public_core errors spaced true q eg eq (public_ends h) =
+      let k = end_at known end rest p ps found errors h in
+      record { later = []; errors_are = k.3 ∙ sym (plain_errors p (greater_error p eg) None []); goes = (k.1, k.2, refl) }
+  from_public_core errors spaced false q eg eq (public_ends h) = absurd (false≢true (sym eg ∙ (end_at known end rest p ps found errors h).0))
+  from_public_core errors spaced true q eg eq (public_skips h) = absurd (false≢true (sym (skips_at (force known) end rest found p ps errors _ _ h).1 ∙ eg))
+  from_public_core errors spaced false true eg eq (public_skips h) = absurd (false≢true (sym (skips_at (force known) end rest found p ps errors _ _ h).2 ∙ eq))
+  from_public_core errors spaced false false eg eq (public_skips h) =
+      let k = skips_at (force known) end rest found p ps errors _ _ h in
+      record { later = k.3.0; errors_are = k.3.1; goes = k.3.2 }
+  from_public_core errors spaced g q eg eq (second h) = second_by errors spaced g q eg eq h
+
+  pub from_public : (errors : List ParseError) (spaced s g q : Bool) → is_space p.ch ≡ s → is_greater p.ch ≡ g → is_quote p.ch ≡ q → AfterSpace (AfterPublicIdentifier known) spaced end rest (p ∷ ps) found errors
+      → Stepped (after_public spaced s g q p.ch p.at) known end rest p ps found errors
+  from_public errors spaced true g q es eg eq h = record {
+    later = errors;
+    errors_are = sym (plain_errors p (space_error p es) None errors);
+    goes = past_space (AfterPublicIdentifier known) spaced end rest found errors p ps h es (λ b text. public_not_space b text errors);
+  }
+  from_public errors spaced false g q es eg eq h = from_public_core errors spaced g q eg eq (at_once (AfterPublicIdentifier known) spaced end rest found errors (p ∷ ps) h es)
+
+  pub to_public : (later : List ParseError) (spaced s g q : Bool) → is_space p.ch ≡ s → is_greater p.ch ≡ g → is_quote p.ch ≡ q
+      → Goes (after_public spaced s g q p.ch p.at).next (found_by (after_public spaced s g q p.ch p.at) p known) end rest ps found later
+      → AfterSpace (AfterPublicIdentifier known) spaced end rest (p ∷ ps) found (step_errors (after_public spaced s g q p.ch p.at) p ++ later)
+  to_public later spaced true g q es eg eq h =
+      subst (λ (x : List ParseError). AfterSpace (AfterPublicIdentifier known) spaced end rest (p ∷ ps) found x) (sym (plain_errors p (space_error p es) None later))
+      (with_space (AfterPublicIdentifier known) spaced end rest found later p ps es h)
+  to_public later spaced false true q es eg eq (t, f, e) =
+      with_none (AfterPublicIdentifier known) spaced end rest found _ (p ∷ ps)
+      (public_ends (closed (ap (λ (x : List Placed). characters (p ∷ x)) t ∙ greater_spells p eg) f (plain_errors p (greater_error p eg) None later ∙ e)))
+  to_public later spaced false false true es eg eq h =
+      with_none (AfterPublicIdentifier known) spaced end rest found _ (p ∷ ps)
+      (second (identifier_from System MissingWhitespaceBetweenDoctypePublicAndSystemIdentifiers FollowsSystem known spaced end rest found p ps later eq h))
+  to_public later spaced false false false es eg eq h =
+      with_none (AfterPublicIdentifier known) spaced end rest found _ (p ∷ ps) (public_skips (skips_from (force known) end rest found p ps later (begins is_quote) (no_quote System) es eg eq h))

@@ -1,0 +1,180 @@
+-- Doctypes (HTML Standard, 13.2.5.53 to 13.2.5.68): a text after `<!DOCTYPE`, what it holds, and its errors in the order of the
+-- text. A relation says what a text is from some place on, where `known` was found before it.
+use Rattle.std.specs.Prelude.{◌≡◌, ℕ, Bool, true, false, not, ◌||◌, ◌==◌, List, [], ◌∷◌, ◌++◌, map, codes, Option, Some, None}
+use Rattle.std.specs.Char.{to_ascii_lowercase}
+use Rattle.names.specs.declared.error.ParseError.{ParseError}
+use Rattle.names.specs.declared.error.ErrorCode.{ErrorCode}
+use Rattle.names.specs.declared.error.ErrorCode.TheVariants.{AbruptDoctypePublicIdentifier, AbruptDoctypeSystemIdentifier, EofInDoctype, InvalidCharacterSequenceAfterDoctypeName, MissingDoctypeName, MissingDoctypePublicIdentifier, MissingDoctypeSystemIdentifier, MissingQuoteBeforeDoctypePublicIdentifier, MissingQuoteBeforeDoctypeSystemIdentifier, MissingWhitespaceAfterDoctypePublicKeyword, MissingWhitespaceAfterDoctypeSystemKeyword, MissingWhitespaceBeforeDoctypeName, MissingWhitespaceBetweenDoctypePublicAndSystemIdentifiers, UnexpectedCharacterAfterDoctypeSystemIdentifier}
+use Rattle.names.specs.declared.placed.Placed.{Placed}
+use Rattle.names.specs.Placed.{characters, place, begins, is_empty, spells_in_any_case, all, RunsTo, is_space, is_greater, is_quote, is_greater_or_end, error, error_if, null_errors, text_bytes, name_bytes}
+use Rattle.hmarkup.specs.declared.keyword.Identifier.{Identifier}
+use Rattle.hmarkup.specs.declared.keyword.Identifier.TheVariants.{Public, System}
+
+-- what a doctype holds: its name and identifiers, each missing or present though empty, and whether it forces quirks
+pub record Found : Type 0 where
+  pub name : Option (List ℕ)
+  pub public : Option (List ℕ)
+  pub system : Option (List ℕ)
+  pub forced : Bool
+
+abbrev pub nothing : Found
+nothing = record { name = None; public = None; system = None; forced = false }
+
+-- A text that stands before `rest` in an input that ends at `end`, what is found in all, and the errors of the text.
+abbrev pub Stands : Type 1
+Stands = ℕ → List Placed → List Placed → Found → List ParseError → Type 0
+
+-- the bytes, after those that are there
+abbrev pub longer : Option (List ℕ) → List ℕ → List ℕ
+longer None bytes = bytes
+longer (Some before) bytes = before ++ bytes
+
+abbrev pub named : List ℕ → Found → Found
+named bytes known = record { name = Some (longer known.name bytes); public = known.public; system = known.system; forced = known.forced }
+
+abbrev pub identified : Identifier → List ℕ → Found → Found
+identified Public bytes known = record { name = known.name; public = Some (longer known.public bytes); system = known.system; forced = known.forced }
+identified System bytes known = record { name = known.name; public = known.public; system = Some (longer known.system bytes); forced = known.forced }
+
+abbrev pub force : Found → Found
+force known = record { name = known.name; public = known.public; system = known.system; forced = true }
+
+-- the two identifiers: their keywords, and the errors that name them
+abbrev pub keyword : Identifier → List ℕ
+keyword Public = codes "public"
+keyword System = codes "system"
+
+abbrev pub no_space_after_keyword : Identifier → ErrorCode
+no_space_after_keyword Public = MissingWhitespaceAfterDoctypePublicKeyword
+no_space_after_keyword System = MissingWhitespaceAfterDoctypeSystemKeyword
+
+abbrev pub no_identifier : Identifier → ErrorCode
+no_identifier Public = MissingDoctypePublicIdentifier
+no_identifier System = MissingDoctypeSystemIdentifier
+
+abbrev pub no_quote : Identifier → ErrorCode
+no_quote Public = MissingQuoteBeforeDoctypePublicIdentifier
+no_quote System = MissingQuoteBeforeDoctypeSystemIdentifier
+
+abbrev pub abrupt_identifier : Identifier → ErrorCode
+abrupt_identifier Public = AbruptDoctypePublicIdentifier
+abrupt_identifier System = AbruptDoctypeSystemIdentifier
+
+-- White space, and then what `Then` says, which is told whether white space stands before it.
+pub record AfterSpace (Then : Bool → Stands) (spaced : Bool) (end : ℕ) (rest text : List Placed) (found : Found) (errors : List ParseError) : Type 0 where
+  pub space : List Placed
+  pub after : List Placed
+  pub text_is : text ≡ space ++ after
+  pub spaces : all is_space space ≡ true
+  pub then : Then (spaced || not (is_empty space)) end rest after found errors
+
+-- The doctype ends: by `>`, or by the end of input, which forces quirks.
+pub data IsEnd (known : Found) (end : ℕ) (rest text : List Placed) (found : Found) (errors : List ParseError) : Type 0 where
+  closed : characters text ≡ codes ">" → found ≡ known → errors ≡ [] → IsEnd known end rest text found errors
+  cut_off : rest ≡ [] → text ≡ [] → found ≡ force known → errors ≡ error EofInDoctype end ∷ [] → IsEnd known end rest text found errors
+
+-- A skipped rest: all up to `>` or the end (13.2.5.68).
+pub record IsSkipped (known : Found) (end : ℕ) (rest text : List Placed) (found : Found) (errors : List ParseError) : Type 0 where
+  pub skipped : List Placed
+  pub close : List Placed
+  pub text_is : text ≡ skipped ++ close
+  pub without : all (λ c. not (is_greater c)) skipped ≡ true
+  pub closes : is_greater_or_end close rest ≡ true
+  pub found_is : found ≡ known
+  pub errors_are : errors ≡ null_errors skipped
+
+-- The rest is skipped, since it fails the test, and begins with neither white space nor `>`: its first character shows the fault.
+pub record Skips (test : List Placed → Bool) (fault : ErrorCode) (known : Found) (end : ℕ) (rest text : List Placed) (found : Found) (errors : List ParseError) : Type 0 where
+  pub later : List ParseError
+  pub first : begins (λ c. not (is_space c || is_greater c)) text ≡ true
+  pub fails : test text ≡ false
+  pub skips : IsSkipped known end rest text found later
+  pub errors_are : errors ≡ error fault (place end text) ∷ later
+
+-- The inside of an identifier after its quote, which the same quote ends, or `>` or the end of input, which both force quirks
+-- (13.2.5.59, 13.2.5.60, 13.2.5.65, 13.2.5.66).
+pub data IsInside (which : Identifier) (mark : ℕ) (After : Found → Stands) (known : Found) (end : ℕ) (rest text : List Placed) (found : Found) (errors : List ParseError) : Type 0 where
+  quoted : (inside close after : List Placed) (later : List ParseError) → text ≡ inside ++ (close ++ after) → all (λ c. not (c == mark || is_greater c)) inside ≡ true → characters close ≡ mark ∷ []
+      → After (identified which (text_bytes inside) known) end rest after found later → errors ≡ null_errors inside ++ later → IsInside which mark After known end rest text found errors
+  abrupt : (inside close : List Placed) → text ≡ inside ++ close → all (λ c. not (c == mark || is_greater c)) inside ≡ true → characters close ≡ codes ">"
+      → found ≡ force (identified which (text_bytes inside) known) → errors ≡ null_errors inside ++ error (abrupt_identifier which) (place end close) ∷ [] → IsInside which mark After known end rest text found errors
+  unclosed : rest ≡ [] → all (λ c. not (c == mark || is_greater c)) text ≡ true
+      → found ≡ force (identified which (text_bytes text) known) → errors ≡ null_errors text ++ error EofInDoctype end ∷ [] → IsInside which mark After known end rest text found errors
+
+-- An identifier in quotes, which is present from its quote on, and `After` it; with an error where no white space stands before it.
+pub record IsIdentifier (which : Identifier) (at_once : ErrorCode) (After : Found → Stands) (known : Found) (spaced : Bool) (end : ℕ) (rest text : List Placed) (found : Found) (errors : List ParseError) : Type 0 where
+  pub quote : Placed
+  pub more : List Placed
+  pub later : List ParseError
+  pub text_is : text ≡ quote ∷ more
+  pub is_mark : is_quote quote.ch ≡ true
+  pub inside : IsInside which quote.ch After (identified which [] known) end rest more found later
+  pub errors_are : errors ≡ error_if (not spaced) at_once quote.at ++ later
+
+-- what stands after the system identifier and white space (13.2.5.67)
+pub data AfterSystemIdentifier (known : Found) (end : ℕ) (rest text : List Placed) (found : Found) (errors : List ParseError) : Type 0 where
+  system_ends : IsEnd known end rest text found errors → AfterSystemIdentifier known end rest text found errors
+  system_skips : Skips (λ text. false) UnexpectedCharacterAfterDoctypeSystemIdentifier known end rest text found errors → AfterSystemIdentifier known end rest text found errors
+
+abbrev pub FollowsSystem : Found → Stands
+FollowsSystem known = AfterSpace (λ spaced. AfterSystemIdentifier known) false
+
+-- what stands after the public identifier and white space (13.2.5.61, 13.2.5.62)
+pub data AfterPublicIdentifier (known : Found) (spaced : Bool) (end : ℕ) (rest text : List Placed) (found : Found) (errors : List ParseError) : Type 0 where
+  public_ends : IsEnd known end rest text found errors → AfterPublicIdentifier known spaced end rest text found errors
+  public_skips : Skips (begins is_quote) (no_quote System) (force known) end rest text found errors → AfterPublicIdentifier known spaced end rest text found errors
+  second : IsIdentifier System MissingWhitespaceBetweenDoctypePublicAndSystemIdentifiers FollowsSystem known spaced end rest text found errors → AfterPublicIdentifier known spaced end rest text found errors
+
+abbrev pub FollowsPublic : Found → Stands
+FollowsPublic known = AfterSpace (AfterPublicIdentifier known) false
+
+abbrev pub Follows : Identifier → Found → Stands
+Follows Public = FollowsPublic
+Follows System = FollowsSystem
+
+-- what stands after PUBLIC or SYSTEM and white space (13.2.5.57, 13.2.5.58, 13.2.5.63, 13.2.5.64)
+pub data AfterKeyword (which : Identifier) (known : Found) (spaced : Bool) (end : ℕ) (rest text : List Placed) (found : Found) (errors : List ParseError) : Type 0 where
+  identifier : IsIdentifier which (no_space_after_keyword which) (Follows which) known spaced end rest text found errors → AfterKeyword which known spaced end rest text found errors
+  missing : characters text ≡ codes ">" → found ≡ force known → errors ≡ error (no_identifier which) (place end text) ∷ [] → AfterKeyword which known spaced end rest text found errors
+  keyword_skips : Skips (begins is_quote) (no_quote which) (force known) end rest text found errors → AfterKeyword which known spaced end rest text found errors
+  keyword_cut_off : rest ≡ [] → text ≡ [] → found ≡ force known → errors ≡ error EofInDoctype end ∷ [] → AfterKeyword which known spaced end rest text found errors
+
+abbrev pub FollowsKeyword : Identifier → Found → Stands
+FollowsKeyword which known = AfterSpace (AfterKeyword which known) false
+
+abbrev pub is_keyword : List Placed → Bool
+is_keyword text = spells_in_any_case (keyword Public) text || spells_in_any_case (keyword System) text
+
+abbrev pub lowered : List Placed → List ℕ
+lowered text = map (λ p. to_ascii_lowercase p.ch) text
+
+-- what stands after the name and white space (13.2.5.56)
+pub data AfterName (known : Found) (end : ℕ) (rest text : List Placed) (found : Found) (errors : List ParseError) : Type 0 where
+  name_ends : IsEnd known end rest text found errors → AfterName known end rest text found errors
+  name_skips : Skips is_keyword InvalidCharacterSequenceAfterDoctypeName (force known) end rest text found errors → AfterName known end rest text found errors
+  names_identifier : (which : Identifier) (word after : List Placed) → text ≡ word ++ after → lowered word ≡ keyword which
+      → FollowsKeyword which known end rest after found errors → AfterName known end rest text found errors
+
+abbrev pub FollowsName : Found → Stands
+FollowsName known = AfterSpace (λ spaced. AfterName known) false
+
+-- A name, up to white space, `>` or the end, and what follows it (13.2.5.55).
+pub record IsName (known : Found) (end : ℕ) (rest text : List Placed) (found : Found) (errors : List ParseError) : Type 0 where
+  pub name : List Placed
+  pub after : List Placed
+  pub later : List ParseError
+  pub text_is : text ≡ name ++ after
+  pub runs : RunsTo (λ c. is_space c || is_greater c) name (after ++ rest)
+  pub follows : FollowsName (named (name_bytes name) known) end rest after found later
+  pub errors_are : errors ≡ null_errors name ++ later
+
+-- what stands after `<!DOCTYPE` and white space (13.2.5.53, 13.2.5.54)
+pub data AfterOpening (known : Found) (spaced : Bool) (end : ℕ) (rest text : List Placed) (found : Found) (errors : List ParseError) : Type 0 where
+  begins_name : (later : List ParseError) → begins (λ c. not (is_space c || is_greater c)) text ≡ true → IsName known end rest text found later
+      → errors ≡ error_if (not spaced) MissingWhitespaceBeforeDoctypeName (place end text) ++ later → AfterOpening known spaced end rest text found errors
+  nameless : characters text ≡ codes ">" → found ≡ force known → errors ≡ error MissingDoctypeName (place end text) ∷ [] → AfterOpening known spaced end rest text found errors
+  unfinished : rest ≡ [] → text ≡ [] → found ≡ force known → errors ≡ error EofInDoctype end ∷ [] → AfterOpening known spaced end rest text found errors
+
+-- The text after `<!DOCTYPE` is a doctype, where `rest` follows it and the input ends at `end`.
+abbrev pub IsDoctype : ℕ → List Placed → List Placed → Found → List ParseError → Type 0
+IsDoctype = AfterSpace (AfterOpening nothing) false

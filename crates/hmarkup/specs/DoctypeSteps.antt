@@ -1,0 +1,176 @@
+-- What a character does to a doctype walk: the contracts of its own functions, and no public clause's.
+use Rattle.std.specs.Prelude.{ℕ, Bool, true, false, ◌==◌, if◌then◌else◌, List, [], ◌∷◌, ◌++◌, Option, Some, None}
+use Rattle.std.specs.Char.{to_ascii_lowercase}
+use Rattle.names.specs.declared.error.ParseError.{ParseError}
+use Rattle.names.specs.declared.error.ErrorCode.{ErrorCode}
+use Rattle.names.specs.declared.error.ErrorCode.TheVariants.{EofInDoctype, InvalidCharacterSequenceAfterDoctypeName, MissingDoctypeName, MissingWhitespaceBeforeDoctypeName, MissingWhitespaceBetweenDoctypePublicAndSystemIdentifiers, UnexpectedCharacterAfterDoctypeSystemIdentifier}
+use Rattle.names.specs.declared.placed.Placed.{Placed}
+use Rattle.names.specs.Placed.{is_space, is_greater, is_quote, error, null_errors, text_bytes, name_bytes}
+use Rattle.hmarkup.specs.declared.keyword.Identifier.{Identifier}
+use Rattle.hmarkup.specs.declared.keyword.Identifier.TheVariants.{Public, System}
+use Rattle.hmarkup.specs.declared.keyword.Letters.{Letters}
+use Rattle.hmarkup.specs.declared.keyword.Letters.TheVariants.{P, Pu, Pub, Publ, Publi, S, Sy, Sys, Syst, Syste}
+use Rattle.hmarkup.specs.declared.phase.Phase.{Phase}
+use Rattle.hmarkup.specs.declared.phase.Phase.TheVariants as phase
+use Rattle.hmarkup.specs.declared.phase.Keeps.{Keeps}
+use Rattle.hmarkup.specs.declared.phase.Keeps.TheVariants as keeps
+use Rattle.hmarkup.specs.declared.phase.Step.{Step}
+use Rattle.hmarkup.specs.Doctype.{Found, named, identified, force, no_space_after_keyword, no_identifier, no_quote, abrupt_identifier}
+
+-- keywords, letter for letter
+abbrev pub first_letter : ℕ → Option Letters
+first_letter c = if to_ascii_lowercase c == 112 then Some P else (if to_ascii_lowercase c == 115 then Some S else None)
+
+abbrev pub next_letter : Letters → ℕ
+next_letter P = 117
+next_letter Pu = 98
+next_letter Pub = 108
+next_letter Publ = 105
+next_letter Publi = 99
+next_letter S = 121
+next_letter Sy = 115
+next_letter Sys = 116
+next_letter Syst = 101
+next_letter Syste = 109
+
+abbrev pub letters_after : Letters → Option Letters
+letters_after P = Some Pu
+letters_after Pu = Some Pub
+letters_after Pub = Some Publ
+letters_after Publ = Some Publi
+letters_after Publi = None
+letters_after S = Some Sy
+letters_after Sy = Some Sys
+letters_after Sys = Some Syst
+letters_after Syst = Some Syste
+letters_after Syste = None
+
+abbrev pub letters_of : Letters → Identifier
+letters_of P = Public
+letters_of Pu = Public
+letters_of Pub = Public
+letters_of Publ = Public
+letters_of Publi = Public
+letters_of S = System
+letters_of Sy = System
+letters_of Sys = System
+letters_of Syst = System
+letters_of Syste = System
+
+-- the forms of a step
+abbrev pub goes_to : Phase → Step
+goes_to next = record { fault = None; keeps = keeps.Nothing; forces = false; next = Some next }
+
+abbrev pub ends : Step
+ends = record { fault = None; keeps = keeps.Nothing; forces = false; next = None }
+
+abbrev pub refuses : ErrorCode → ℕ → Step
+refuses code at = record { fault = Some (error code at); keeps = keeps.Nothing; forces = true; next = None }
+
+abbrev pub skips : ErrorCode → ℕ → Bool → Step
+skips code at forced = record { fault = Some (error code at); keeps = keeps.Nothing; forces = forced; next = Some phase.Skipped }
+
+abbrev pub faulty : Keeps → Bool → ErrorCode → ℕ → Phase → Step
+faulty kept spaced code at next = record { fault = if spaced then None else Some (error code at); keeps = kept; forces = false; next = Some next }
+
+-- The step of each phase, by what the character is.
+abbrev pub before_name : Bool → Bool → Bool → ℕ → Step
+before_name spaced space greater at =
+    if space then goes_to (phase.BeforeName true)
+    else (if greater then refuses MissingDoctypeName at
+    else faulty keeps.Name spaced MissingWhitespaceBeforeDoctypeName at phase.Name)
+
+abbrev pub in_name : Bool → Bool → Step
+in_name space greater =
+    if space then goes_to phase.AfterName
+    else (if greater then ends
+    else record { fault = None; keeps = keeps.Name; forces = false; next = Some phase.Name })
+
+abbrev pub begins_keyword : Option Letters → ℕ → Step
+begins_keyword (Some letters) at = goes_to (phase.Keyword letters at)
+begins_keyword None at = skips InvalidCharacterSequenceAfterDoctypeName at true
+
+abbrev pub after_name : Bool → Bool → Option Letters → ℕ → Step
+after_name space greater letters at = if space then goes_to phase.AfterName else (if greater then ends else begins_keyword letters at)
+
+abbrev pub goes_on_with : Identifier → Option Letters → ℕ → Step
+goes_on_with which (Some letters) first = goes_to (phase.Keyword letters first)
+goes_on_with which None first = goes_to (phase.AfterKeyword which false)
+
+abbrev pub in_keyword : Letters → ℕ → Bool → Bool → Step
+in_keyword letters first matches greater =
+    if matches then goes_on_with (letters_of letters) (letters_after letters) first
+    else (if greater then refuses InvalidCharacterSequenceAfterDoctypeName first
+    else skips InvalidCharacterSequenceAfterDoctypeName first true)
+
+abbrev pub after_keyword : Identifier → Bool → Bool → Bool → Bool → ℕ → ℕ → Step
+after_keyword which spaced space greater quote ch at =
+    if space then goes_to (phase.AfterKeyword which true)
+    else (if greater then refuses (no_identifier which) at
+    else (if quote then faulty (keeps.Quote which) spaced (no_space_after_keyword which) at (phase.Quoted which ch)
+    else skips (no_quote which) at true))
+
+abbrev pub follows : Identifier → Phase
+follows Public = phase.AfterPublic false
+follows System = phase.AfterSystem
+
+abbrev pub in_quotes : Identifier → ℕ → Bool → Bool → ℕ → Step
+in_quotes which mark closes greater at =
+    if closes then goes_to (follows which)
+    else (if greater then refuses (abrupt_identifier which) at
+    else record { fault = None; keeps = keeps.Inside which; forces = false; next = Some (phase.Quoted which mark) })
+
+abbrev pub after_public : Bool → Bool → Bool → Bool → ℕ → ℕ → Step
+after_public spaced space greater quote ch at =
+    if space then goes_to (phase.AfterPublic true)
+    else (if greater then ends
+    else (if quote then faulty (keeps.Quote System) spaced MissingWhitespaceBetweenDoctypePublicAndSystemIdentifiers at (phase.Quoted System ch)
+    else skips (no_quote System) at true))
+
+abbrev pub after_system : Bool → Bool → ℕ → Step
+after_system space greater at =
+    if space then goes_to phase.AfterSystem
+    else (if greater then ends
+    else skips UnexpectedCharacterAfterDoctypeSystemIdentifier at false)
+
+abbrev pub in_skipped : Bool → Step
+in_skipped greater = if greater then ends else goes_to phase.Skipped
+
+abbrev pub step : Phase → Placed → Step
+step (phase.BeforeName spaced) p = before_name spaced (is_space p.ch) (is_greater p.ch) p.at
+step phase.Name p = in_name (is_space p.ch) (is_greater p.ch)
+step phase.AfterName p = after_name (is_space p.ch) (is_greater p.ch) (first_letter p.ch) p.at
+step (phase.Keyword letters first) p = in_keyword letters first (to_ascii_lowercase p.ch == next_letter letters) (is_greater p.ch)
+step (phase.AfterKeyword which spaced) p = after_keyword which spaced (is_space p.ch) (is_greater p.ch) (is_quote p.ch) p.ch p.at
+step (phase.Quoted which mark) p = in_quotes which mark (p.ch == mark) (is_greater p.ch) p.at
+step (phase.AfterPublic spaced) p = after_public spaced (is_space p.ch) (is_greater p.ch) (is_quote p.ch) p.ch p.at
+step phase.AfterSystem p = after_system (is_space p.ch) (is_greater p.ch) p.at
+step phase.Skipped p = in_skipped (is_greater p.ch)
+
+-- what is found then
+abbrev pub kept : Keeps → Placed → Found → Found
+kept keeps.Nothing p known = known
+kept keeps.Name p known = named (name_bytes (p ∷ [])) known
+kept (keeps.Quote which) p known = identified which [] known
+kept (keeps.Inside which) p known = identified which (text_bytes (p ∷ [])) known
+
+abbrev pub found_by : Step → Placed → Found → Found
+found_by step p known = if step.forces then force (kept step.keeps p known) else kept step.keeps p known
+
+-- the errors of the character
+abbrev pub fault_errors : Option ParseError → List ParseError
+fault_errors None = []
+fault_errors (Some fault) = fault ∷ []
+
+abbrev pub step_errors : Step → Placed → List ParseError
+step_errors step p = fault_errors step.fault ++ null_errors (p ∷ [])
+
+-- what the input's end does: its error, and whether it forces quirks
+abbrev pub end_fault : Phase → ℕ → Option ParseError
+end_fault (phase.Keyword letters first) end = Some (error InvalidCharacterSequenceAfterDoctypeName first)
+end_fault phase.Skipped end = None
+end_fault _ end = Some (error EofInDoctype end)
+
+abbrev pub found_at_end : Phase → Found → Found
+found_at_end phase.Skipped known = known
+found_at_end _ known = force known

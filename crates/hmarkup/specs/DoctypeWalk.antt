@@ -1,0 +1,81 @@
+-- What a doctype walk has read.
+use Rattle.std.specs.Prelude.{◌≡◌, ℕ, true, false, List, ◌∷◌, ◌++◌, codes, Option, Some, None, is_some, String, string_bytes}
+use Rattle.names.specs.declared.error.ParseError.{ParseError}
+use Rattle.names.specs.declared.error.ErrorCode.TheVariants.{InvalidCharacterSequenceAfterDoctypeName}
+use Rattle.names.specs.declared.placed.Placed.{Placed}
+use Rattle.names.specs.Placed.{spells_in_any_case, is_quote, error}
+use Rattle.hmarkup.specs.declared.keyword.Identifier.{Identifier}
+use Rattle.hmarkup.specs.declared.keyword.Identifier.TheVariants.{Public, System}
+use Rattle.hmarkup.specs.declared.keyword.Letters.{Letters}
+use Rattle.hmarkup.specs.declared.keyword.Letters.TheVariants.{P, Pu, Pub, Publ, Publi, S, Sy, Sys, Syst, Syste}
+use Rattle.hmarkup.specs.declared.phase.Phase.{Phase}
+use Rattle.hmarkup.specs.declared.phase.Phase.TheVariants as phase
+use Rattle.hmarkup.specs.Doctype.{Found, Stands, force, AfterSpace, IsSkipped, IsInside, AfterSystemIdentifier, AfterPublicIdentifier, Follows, AfterKeyword, FollowsKeyword, lowered, AfterName, IsName, AfterOpening, IsDoctype}
+use Rattle.hmarkup.specs.DoctypeSteps.{letters_of}
+use Rattle.hmarkup.specs.Walk.{Begins}
+
+-- a text in UTF-8, if there is one
+abbrev pub text_of : {A : Type 0} → Option (String A) → Option (List ℕ)
+text_of None = None
+text_of (Some text) = Some (string_bytes text)
+
+-- what contracts see of a walk
+pub record Reading : Type 0 where
+  pub phase : Phase
+  pub found : Found
+
+-- the letters that a keyword goes on with
+abbrev pub left : Letters → List ℕ
+left P = codes "ublic"
+left Pu = codes "blic"
+left Pub = codes "lic"
+left Publ = codes "ic"
+left Publi = codes "c"
+left S = codes "ystem"
+left Sy = codes "stem"
+left Sys = codes "tem"
+left Syst = codes "em"
+left Syste = codes "m"
+
+-- After letters of a keyword, the first of which stands at `first`: the others, or a skipped rest.
+pub data IsInKeyword (letters : Letters) (first : ℕ) (known : Found) (end : ℕ) (rest text : List Placed) (found : Found) (errors : List ParseError) : Type 0 where
+  whole : (word after : List Placed) → text ≡ word ++ after → lowered word ≡ left letters → FollowsKeyword (letters_of letters) known end rest after found errors
+      → IsInKeyword letters first known end rest text found errors
+  fails : (later : List ParseError) → spells_in_any_case (left letters) text ≡ false → IsSkipped (force known) end rest text found later
+      → errors ≡ error InvalidCharacterSequenceAfterDoctypeName first ∷ later → IsInKeyword letters first known end rest text found errors
+
+-- how a doctype goes on in each phase, where `known` was found
+abbrev pub GoesOn : Phase → Found → Stands
+GoesOn (phase.BeforeName spaced) known = AfterSpace (AfterOpening known) spaced
+GoesOn phase.Name known = IsName known
+GoesOn phase.AfterName known = AfterSpace (λ spaced. AfterName known) false
+GoesOn (phase.Keyword letters first) known = IsInKeyword letters first known
+GoesOn (phase.AfterKeyword which spaced) known = AfterSpace (AfterKeyword which known) spaced
+GoesOn (phase.Quoted which mark) known = IsInside which mark (Follows which) known
+GoesOn (phase.AfterPublic spaced) known = AfterSpace (AfterPublicIdentifier known) spaced
+GoesOn phase.AfterSystem known = AfterSpace (λ spaced. AfterSystemIdentifier known) false
+GoesOn phase.Skipped known = IsSkipped known
+
+abbrev pub identifier_of : Identifier → Found → Option (List ℕ)
+identifier_of Public known = known.public
+identifier_of System known = known.system
+
+-- in a name or an identifier, it was begun
+abbrev pub Fits : Phase → Found → Type 0
+Fits phase.Name known = is_some known.name ≡ true
+Fits (phase.Quoted which mark) known = (is_quote mark ≡ true) × (is_some (identifier_of which known) ≡ true)
+Fits _ known = Unit {0}
+
+-- A doctype that begins with this text, and its errors with these, goes on from there as the walk's phase says.
+pub record GoesOnAfter (walk : Reading) (text : List Placed) (errors : List ParseError) (end : ℕ) (after rest span : List Placed) (found : Found) (all : List ParseError) : Type 0 where
+  pub begins : Begins text after rest span errors all
+  pub goes_on : GoesOn walk.phase walk.found end rest begins.more found begins.later
+
+-- The walk has read this text after `<!DOCTYPE`, its doctype has not ended, and these errors were reported: what goes on as its
+-- phase says is a doctype with the text before it, and no other doctype begins with the text.
+pub record HasReadDoctype (walk : Reading) (text : List Placed) (errors : List ParseError) : Type 0 where
+  pub fits : Fits walk.phase walk.found
+  pub goes_on : (end : ℕ) (rest more : List Placed) (found : Found) (later : List ParseError) → GoesOn walk.phase walk.found end rest more found later
+      → IsDoctype end rest (text ++ more) found (errors ++ later)
+  pub no_other : (end : ℕ) (after rest span : List Placed) (found : Found) (all : List ParseError) → IsDoctype end rest span found all → span ++ rest ≡ text ++ after
+      → GoesOnAfter walk text errors end after rest span found all

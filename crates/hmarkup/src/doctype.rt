@@ -1,0 +1,218 @@
+//! A doctype, a character at a time.
+
+ghost use Rattle.std.specs.Prelude.{◌≡◌, ◌++◌, ◌∷◌, ℕ, [], List, Option, Some, OnOk};
+ghost use Rattle.std.specs.Char.{encode_utf8};
+ghost use Rattle.names.specs.declared.error.ParseError.{ParseError as Error};
+ghost use Rattle.names.specs.declared.placed.Placed.{Placed};
+ghost use Rattle.names.specs.Placed.{null_errors, without_null};
+ghost use Rattle.names.specs.Sink.{Hands};
+ghost use Rattle.hmarkup.specs.Doctype.{IsDoctype, force, longer};
+ghost use Rattle.hmarkup.specs.DoctypeSteps.{fault_errors, kept, found_by};
+ghost use Rattle.hmarkup.specs.DoctypeWalk.{Reading, HasReadDoctype, text_of};
+ghost use Rattle.hmarkup.specs.Walk.{BeginsSpans, IsOpen, IsOneSpan, Takes, Ends};
+
+use crate::keyword::Identifier;
+use crate::phase::{Keeps, Phase, Step};
+use crate::sink::ErrorSink;
+use crate::taking::{push, tell};
+use names::{ErrorCode, ParseError, Refusal};
+use std::alloc::{AllocError, Global};
+use std::marker::Model;
+
+/// What a doctype holds. A name or an identifier that is there may be empty.
+#[derive(Drop)]
+pub struct Doctype {
+    pub name: Option<String>,
+    pub public_id: Option<String>,
+    pub system_id: Option<String>,
+    /// Whether it forces quirks.
+    pub forced: bool,
+}
+
+impl Model for Doctype {
+    ghost use Rattle.hmarkup.specs.Doctype.{Found};
+    ghost use Rattle.hmarkup.specs.DoctypeWalk.{text_of};
+
+    ghost Value = { Found };
+
+    ghost view = { λ d. record { name = text_of d.name; public = text_of d.public_id; system = text_of d.system_id; forced = d.forced } };
+}
+
+/// Reads a doctype after its `<!DOCTYPE`, a character at a time. It hands over each error as it comes, in the order of the
+/// text. After an `Ok(true)` it takes no more, and after an `Err` it is of no further use.
+#[derive(Drop)]
+pub struct DoctypeWalk {
+    phase: Phase,
+    found: Doctype,
+    alloc: Global,
+}
+
+impl Model for DoctypeWalk {
+    ghost use Rattle.hmarkup.specs.DoctypeWalk.{Reading, text_of};
+
+    ghost Value = { Reading };
+
+    ghost view = { λ w. record { phase = w.phase; found = w.found } };
+}
+
+/// Hands over the errors of a character: its fault, and that of NUL.
+fn report<S: ErrorSink>(
+    fault: Option<ParseError>,
+    ch: char,
+    at: u64,
+    errors: &mut S,
+) -> Result<(), Refusal>
+    ensures { Hands S.gives errors.old (fault_errors fault ++ null_errors (record { ch = ch; at = at } ∷ [])) result errors.new }
+{
+    if let Some(fault) = fault {
+        errors.take_error(fault)?;
+    }
+    if ch == '\0' {
+        return tell(ErrorCode::UnexpectedNullCharacter, at, errors);
+    }
+    Ok(())
+}
+
+/// Adds a character to a text, which begins with it where there is none; NUL as U+FFFD.
+fn add(part: &mut Option<String>, ch: char, alloc: Global) -> Result<(), AllocError>
+    ensures { OnOk result (text_of part.new ≡ Some (longer (text_of part.old) (encode_utf8 (without_null ch)))) }
+{
+    match part {
+        Some(text) => push(text, ch),
+        None => {
+            let mut text = String::new(alloc);
+            push(&mut text, ch)?;
+            *part = Some(text);
+            Ok(())
+        }
+    }
+}
+
+/// Begins a text, unless there is one.
+fn begin(part: &mut Option<String>, alloc: Global)
+    ensures { text_of part.new ≡ Some (longer (text_of part.old) []) }
+{
+    if part.is_none() {
+        *part = Some(String::new(alloc));
+    }
+}
+
+impl Doctype {
+    /// Forces quirks.
+    fn force(&mut self)
+        ensures { self.new ≡ force self.old }
+    {
+        self.forced = true;
+    }
+
+    /// Keeps what a step says of a character.
+    fn keep(&mut self, keeps: Keeps, ch: char, alloc: Global) -> Result<(), AllocError>
+        ensures { (at : ℕ) → OnOk result (self.new ≡ kept keeps (record { ch = ch; at = at }) self.old) }
+    {
+        match keeps {
+            Keeps::Nothing => Ok(()),
+            Keeps::Name => add(&mut self.name, ch.to_ascii_lowercase(), alloc),
+            Keeps::Quote(Identifier::Public) => {
+                begin(&mut self.public_id, alloc);
+                Ok(())
+            }
+            Keeps::Quote(Identifier::System) => {
+                begin(&mut self.system_id, alloc);
+                Ok(())
+            }
+            Keeps::Inside(Identifier::Public) => add(&mut self.public_id, ch, alloc),
+            Keeps::Inside(Identifier::System) => add(&mut self.system_id, ch, alloc),
+        }
+    }
+
+    /// Takes a step's character, and forces quirks where the step says so.
+    fn take(&mut self, step: Step, ch: char, alloc: Global) -> Result<(), AllocError>
+        ensures { (at : ℕ) → OnOk result (self.new ≡ found_by step (record { ch = ch; at = at }) self.old) }
+    {
+        self.keep(step.keeps, ch, alloc)?;
+        if step.forces {
+            self.force();
+        }
+        Ok(())
+    }
+}
+
+impl DoctypeWalk {
+    /// Reads what follows `<!DOCTYPE`.
+    pub fn new(alloc: Global) -> DoctypeWalk
+        ensures { HasReadDoctype result [] [] }
+    {
+        DoctypeWalk {
+            phase: Phase::BeforeName(false),
+            found: Doctype {
+                name: None,
+                public_id: None,
+                system_id: None,
+                forced: false,
+            },
+            alloc,
+        }
+    }
+
+    /// Takes the next character, which stands at byte `at`, and tells whether the doctype has ended with it. An `Err` is
+    /// `Memory` or the sink's own.
+    pub fn take_char<S: ErrorSink>(
+        &mut self,
+        ch: char,
+        at: u64,
+        errors: &mut S,
+    ) -> Result<bool, Refusal>
+        ensures { (text : List Placed) (raised : List Error) → HasReadDoctype self.old text raised
+            → Takes S.gives HasReadDoctype IsDoctype text raised (record { ch = ch; at = at }) errors.old result self.new self.new.found errors.new }
+    {
+        let step = self.phase.step(ch, at);
+        report(step.fault, ch, at, errors)?;
+        let alloc = self.alloc;
+        self.found.take(step, ch, alloc)?;
+        match step.next {
+            Some(phase) => {
+                self.phase = phase;
+                Ok(false)
+            }
+            None => Ok(true),
+        }
+    }
+
+    /// Says that the input ends, and is `end` bytes long. An `Err` is the sink's own.
+    pub fn end<S: ErrorSink>(&mut self, end: u64, errors: &mut S) -> Result<(), Refusal>
+        ensures { (text : List Placed) (raised : List Error) → HasReadDoctype self.old text raised
+            → Ends S.gives IsDoctype text raised end self.new.found errors.old result errors.new }
+    {
+        match self.phase.end_fault(end) {
+            Some(fault) => {
+                self.found.force();
+                errors.take_error(fault)
+            }
+            None => Ok(()),
+        }
+    }
+
+    /// What the doctype holds, once it has ended.
+    pub fn into_doctype(self) -> Doctype
+        ensures { result ≡ self.found }
+    {
+        self.found
+    }
+}
+
+/// What a walk has read is the beginning of a doctype: each doctype at the front of a text that begins so begins so too, with
+/// the errors that were reported. It ends there only where the input does.
+pub fn goes_on_in_a_doctype()
+    ensures begins { (walk : Reading) (text : List Placed) (errors : List Error) → HasReadDoctype walk text errors → BeginsSpans IsDoctype text errors }
+    ensures is_open { (walk : Reading) (text : List Placed) (errors : List Error) → HasReadDoctype walk text errors → IsOpen IsDoctype text }
+{}
+
+/// One doctype at most stands at the front of a text.
+pub fn one_doctype()
+    ensures { IsOneSpan IsDoctype }
+{}
+
+#[cfg(test)]
+mod cases;
+#[cfg(test)]
+mod tests;

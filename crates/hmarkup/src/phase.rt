@@ -1,0 +1,301 @@
+//! Where in a doctype a walk is, and what a character does there.
+
+ghost use Rattle.std.specs.Prelude.{◌≡◌, ◌==◌};
+ghost use Rattle.std.specs.Char.{to_ascii_lowercase};
+ghost use Rattle.names.specs.Placed.{is_space, is_greater, is_quote};
+ghost use Rattle.hmarkup.specs.DoctypeSteps.{goes_to, ends, faulty, refuses, skips, step, before_name, in_name, after_name, in_keyword, after_keyword, in_quotes, after_public, after_system, in_skipped, first_letter, next_letter, end_fault};
+
+use crate::keyword::{Identifier, Letters};
+use names::{ErrorCode, ParseError};
+
+/// What was read last of a doctype. A `bool` says whether white space stands there.
+#[derive(Clone, Copy, Debug, PartialEq, Eq)]
+pub enum Phase {
+    BeforeName(bool),
+    Name,
+    AfterName,
+    /// Letters of a keyword, and the place of the first.
+    Keyword(Letters, u64),
+    AfterKeyword(Identifier, bool),
+    /// An identifier after this quote.
+    Quoted(Identifier, char),
+    AfterPublic(bool),
+    AfterSystem,
+    Skipped,
+}
+
+/// What is kept of a character.
+#[derive(Clone, Copy, Debug, PartialEq, Eq)]
+pub enum Keeps {
+    Nothing,
+    /// It is of the name.
+    Name,
+    /// It begins an identifier.
+    Quote(Identifier),
+    /// It is of an identifier.
+    Inside(Identifier),
+}
+
+/// What a character does.
+#[derive(Clone, Copy, Debug, PartialEq, Eq)]
+pub struct Step {
+    /// Its error, but for that of NUL.
+    pub fault: Option<ParseError>,
+    pub keeps: Keeps,
+    /// Whether it forces quirks.
+    pub forces: bool,
+    /// Where the doctype goes on; none where it ends.
+    pub next: Option<Phase>,
+}
+
+impl Step {
+    /// Nothing but that the doctype goes on there.
+    fn to(next: Phase) -> Step
+        ensures { result ≡ goes_to next }
+    {
+        Step {
+            fault: None,
+            keeps: Keeps::Nothing,
+            forces: false,
+            next: Some(next),
+        }
+    }
+
+    /// The doctype ends.
+    fn end() -> Step
+        ensures { result ≡ ends }
+    {
+        Step {
+            fault: None,
+            keeps: Keeps::Nothing,
+            forces: false,
+            next: None,
+        }
+    }
+
+    /// An error that forces quirks, and `>`, which ends the doctype.
+    fn refuse(code: ErrorCode, at: u64) -> Step
+        ensures { result ≡ refuses code at }
+    {
+        Step {
+            fault: Some(ParseError { code, at }),
+            forces: true,
+            ..Step::end()
+        }
+    }
+
+    /// An error, and the rest is skipped.
+    fn skip(code: ErrorCode, at: u64, forces: bool) -> Step
+        ensures { result ≡ skips code at forces }
+    {
+        Step {
+            fault: Some(ParseError { code, at }),
+            forces,
+            ..Step::to(Phase::Skipped)
+        }
+    }
+
+    /// What is kept, with an error where no white space stands before it.
+    fn keep(keeps: Keeps, spaced: bool, code: ErrorCode, at: u64, next: Phase) -> Step
+        ensures { result ≡ faulty keeps spaced code at next }
+    {
+        Step {
+            fault: if spaced {
+                None
+            } else {
+                Some(ParseError { code, at })
+            },
+            keeps,
+            ..Step::to(next)
+        }
+    }
+}
+
+impl Phase {
+    /// What a character at byte `at` does.
+    pub fn step(self, ch: char, at: u64) -> Step
+        ensures { result ≡ step self (record { ch = ch; at = at }) }
+    {
+        match self {
+            Phase::BeforeName(spaced) => Step::before_name(spaced, ch, at),
+            Phase::Name => Step::in_name(ch),
+            Phase::AfterName => Step::after_name(ch, at),
+            Phase::Keyword(letters, first) => Step::in_keyword(letters, first, ch),
+            Phase::AfterKeyword(which, spaced) => Step::after_keyword(which, spaced, ch, at),
+            Phase::Quoted(which, mark) => Step::in_quotes(which, mark, ch, at),
+            Phase::AfterPublic(spaced) => Step::after_public(spaced, ch, at),
+            Phase::AfterSystem => Step::after_system(ch, at),
+            Phase::Skipped => Step::in_skipped(ch),
+        }
+    }
+
+    /// The error at the input's end, which is at byte `end`.
+    pub fn end_fault(self, end: u64) -> Option<ParseError>
+        ensures { result ≡ end_fault self end }
+    {
+        match self {
+            Phase::Keyword(_, first) => Some(ParseError {
+                code: ErrorCode::InvalidCharacterSequenceAfterDoctypeName,
+                at: first,
+            }),
+            Phase::Skipped => None,
+            _ => Some(ParseError {
+                code: ErrorCode::EofInDoctype,
+                at: end,
+            }),
+        }
+    }
+}
+
+/// Whether the character is one of the two quotes.
+fn is_mark(ch: char) -> bool
+    ensures { result ≡ is_quote ch }
+{
+    ch == '"' || ch == '\''
+}
+
+/// The step of each phase.
+impl Step {
+    fn before_name(spaced: bool, ch: char, at: u64) -> Step
+        ensures { result ≡ before_name spaced (is_space ch) (is_greater ch) at }
+    {
+        if ch.is_ascii_whitespace() {
+            Step::to(Phase::BeforeName(true))
+        } else if ch == '>' {
+            Step::refuse(ErrorCode::MissingDoctypeName, at)
+        } else {
+            let code = ErrorCode::MissingWhitespaceBeforeDoctypeName;
+            Step::keep(Keeps::Name, spaced, code, at, Phase::Name)
+        }
+    }
+
+    fn in_name(ch: char) -> Step
+        ensures { result ≡ in_name (is_space ch) (is_greater ch) }
+    {
+        if ch.is_ascii_whitespace() {
+            Step::to(Phase::AfterName)
+        } else if ch == '>' {
+            Step::end()
+        } else {
+            Step {
+                keeps: Keeps::Name,
+                ..Step::to(Phase::Name)
+            }
+        }
+    }
+
+    fn after_name(ch: char, at: u64) -> Step
+        ensures { result ≡ after_name (is_space ch) (is_greater ch) (first_letter ch) at }
+    {
+        if ch.is_ascii_whitespace() {
+            return Step::to(Phase::AfterName);
+        }
+        if ch == '>' {
+            return Step::end();
+        }
+        match Letters::first(ch) {
+            Some(letters) => Step::to(Phase::Keyword(letters, at)),
+            None => Step::skip(
+                ErrorCode::InvalidCharacterSequenceAfterDoctypeName,
+                at,
+                true,
+            ),
+        }
+    }
+
+    fn in_keyword(letters: Letters, first: u64, ch: char) -> Step
+        ensures { result ≡ in_keyword letters first (to_ascii_lowercase ch == next_letter letters) (is_greater ch) }
+    {
+        if ch.to_ascii_lowercase() == letters.next() {
+            match letters.after() {
+                Some(letters) => Step::to(Phase::Keyword(letters, first)),
+                None => Step::to(Phase::AfterKeyword(letters.which(), false)),
+            }
+        } else if ch == '>' {
+            Step::refuse(ErrorCode::InvalidCharacterSequenceAfterDoctypeName, first)
+        } else {
+            Step::skip(
+                ErrorCode::InvalidCharacterSequenceAfterDoctypeName,
+                first,
+                true,
+            )
+        }
+    }
+
+    fn after_keyword(which: Identifier, spaced: bool, ch: char, at: u64) -> Step
+        ensures { result ≡ after_keyword which spaced (is_space ch) (is_greater ch) (is_quote ch) ch at }
+    {
+        if ch.is_ascii_whitespace() {
+            Step::to(Phase::AfterKeyword(which, true))
+        } else if ch == '>' {
+            Step::refuse(which.missing(), at)
+        } else if is_mark(ch) {
+            Step::keep(
+                Keeps::Quote(which),
+                spaced,
+                which.not_spaced(),
+                at,
+                Phase::Quoted(which, ch),
+            )
+        } else {
+            Step::skip(which.not_quoted(), at, true)
+        }
+    }
+
+    fn in_quotes(which: Identifier, mark: char, ch: char, at: u64) -> Step
+        ensures { result ≡ in_quotes which mark (ch == mark) (is_greater ch) at }
+    {
+        if ch == mark {
+            match which {
+                Identifier::Public => Step::to(Phase::AfterPublic(false)),
+                Identifier::System => Step::to(Phase::AfterSystem),
+            }
+        } else if ch == '>' {
+            Step::refuse(which.abrupt(), at)
+        } else {
+            Step {
+                keeps: Keeps::Inside(which),
+                ..Step::to(Phase::Quoted(which, mark))
+            }
+        }
+    }
+
+    fn after_public(spaced: bool, ch: char, at: u64) -> Step
+        ensures { result ≡ after_public spaced (is_space ch) (is_greater ch) (is_quote ch) ch at }
+    {
+        if ch.is_ascii_whitespace() {
+            Step::to(Phase::AfterPublic(true))
+        } else if ch == '>' {
+            Step::end()
+        } else if is_mark(ch) {
+            let code = ErrorCode::MissingWhitespaceBetweenDoctypePublicAndSystemIdentifiers;
+            let quoted = Phase::Quoted(Identifier::System, ch);
+            Step::keep(Keeps::Quote(Identifier::System), spaced, code, at, quoted)
+        } else {
+            Step::skip(Identifier::System.not_quoted(), at, true)
+        }
+    }
+
+    fn after_system(ch: char, at: u64) -> Step
+        ensures { result ≡ after_system (is_space ch) (is_greater ch) at }
+    {
+        if ch.is_ascii_whitespace() {
+            Step::to(Phase::AfterSystem)
+        } else if ch == '>' {
+            Step::end()
+        } else {
+            let code = ErrorCode::UnexpectedCharacterAfterDoctypeSystemIdentifier;
+            Step::skip(code, at, false)
+        }
+    }
+
+    fn in_skipped(ch: char) -> Step
+        ensures { result ≡ in_skipped (is_greater ch) }
+    {
+        if ch == '>' {
+            Step::end()
+        } else {
+            Step::to(Phase::Skipped)
+        }
+    }
+}

@@ -1,0 +1,187 @@
+//! The quirks list (HTML Standard, 13.2.6.4.1): the identifiers of doctypes whose documents are in quirks mode.
+
+ghost use Rattle.std.specs.Prelude.{◌≡◌, ◌∷◌, ◌<◌, ℕ, List, [], length, option_map, MatchOption};
+ghost use Rattle.std.specs.Int.{is_in_range};
+ghost use Rattle.std.specs.List.{list_all};
+ghost use Rattle.std.specs.Str.{IsUtf8};
+ghost use Rattle.hmarkup.specs.Quirks.{quirk_word, IsWordless, QuirkLine, IsQuirkLine, IsNoQuirkLine, lines, HasParts, Lacks, same_as, begins_as, line_matches, list_matches, ReadsQuirks};
+
+use names::Refusal;
+use std::alloc::Global;
+use std::marker::Model;
+
+/// What a line of the list matches.
+#[derive(Clone, Copy, Debug, PartialEq, Eq)]
+pub enum QuirkKind {
+    /// A public identifier that is the line's text.
+    PublicIs,
+    /// A public identifier that begins with it.
+    PublicBegins,
+    /// A system identifier that is it.
+    SystemIs,
+    /// A public identifier that begins with it, where the system identifier is missing.
+    PublicBeginsWithoutSystem,
+}
+
+impl QuirkKind {
+    /// The kind that a line names by its first word.
+    fn named(word: &str) -> Option<QuirkKind>
+        ensures { MatchOption result (IsWordless word.now) (λ kind. word.now ≡ quirk_word kind) }
+    {
+        match word {
+            "public-is" => Some(QuirkKind::PublicIs),
+            "public-begins" => Some(QuirkKind::PublicBegins),
+            "system-is" => Some(QuirkKind::SystemIs),
+            "public-begins-without-system" => Some(QuirkKind::PublicBeginsWithoutSystem),
+            _ => None,
+        }
+    }
+}
+
+/// A line of the list.
+#[derive(Drop)]
+struct Line {
+    kind: QuirkKind,
+    text: String,
+}
+
+impl Model for Line {
+    ghost use Rattle.std.specs.Prelude.{string_bytes};
+    ghost use Rattle.hmarkup.specs.Quirks.{QuirkLine};
+
+    ghost Value = { QuirkLine };
+
+    ghost view = { λ l. record { kind = l.kind; text = string_bytes l.text } };
+}
+
+/// The quirks list. Its text is lines, the last one with or without LF: `public-is`, `public-begins`, `system-is` or
+/// `public-begins-without-system`, one space, and a text of one or more bytes 20 to 7E.
+#[derive(Drop)]
+pub struct Quirks {
+    lines: Vec<Line>,
+}
+
+impl Model for Quirks {
+    ghost use Rattle.std.specs.Prelude.{List};
+    ghost use Rattle.hmarkup.specs.Quirks.{QuirkLine};
+
+    ghost Value = { List QuirkLine };
+
+    ghost view = { λ q. q.lines.items };
+}
+
+/// The text before the first mark, and the text after it.
+fn parts(text: &str, mark: char) -> Option<(&str, &str)>
+    requires { mark < 128 }
+    ensures { MatchOption result (Lacks mark text.now) (λ x. HasParts mark text.now x.0.now x.1.now) }
+{
+    text.split_once(mark)
+}
+
+/// The first line of a text that is not empty, and the text after it.
+fn first_line(text: &str) -> (&str, &str)
+    requires { 0 < length text.now }
+    ensures first { lines text.now ≡ result.0.now ∷ lines result.1.now }
+    ensures shorter { length result.1.now < length text.now }
+    ensures is_text { IsUtf8 result.1.now }
+{
+    match parts(text, '\n') {
+        Some((line, after)) => (line, after),
+        None => (text, ""),
+    }
+}
+
+/// Whether each byte is one of 20 to 7E.
+fn is_printable(text: &str) -> bool
+    ensures { result ≡ list_all (is_in_range 0x20 0x7E) text.now }
+{
+    text.as_bytes()
+        .iter()
+        .all(|byte| (b' '..=b'~').contains(byte))
+}
+
+/// The kind and the text of a line without its LF, if it is one of the list.
+fn read_line(line: &str) -> Option<(QuirkKind, &str)>
+    ensures { MatchOption result (IsNoQuirkLine line.now) (λ x. IsQuirkLine line.now (record { kind = x.0; text = x.1.now })) }
+{
+    let (word, text) = parts(line, ' ')?;
+    let kind = QuirkKind::named(word)?;
+    if text.is_empty() || !is_printable(text) {
+        return None;
+    }
+    Some((kind, text))
+}
+
+impl Line {
+    /// Whether it matches.
+    fn matches(&self, public: Option<&str>, system: Option<&str>) -> bool
+        ensures { result ≡ line_matches self.now (option_map (λ x. x.now) public.entry) (option_map (λ x. x.now) system.entry) }
+    {
+        let text = self.text.as_str();
+        match self.kind {
+            QuirkKind::PublicIs => is_same(public, text),
+            QuirkKind::PublicBegins => begins(public, text),
+            QuirkKind::SystemIs => is_same(system, text),
+            QuirkKind::PublicBeginsWithoutSystem => system.is_none() && begins(public, text),
+        }
+    }
+}
+
+/// Whether the identifier is there, and is the text but for ASCII case.
+fn is_same(id: Option<&str>, text: &str) -> bool
+    ensures { result ≡ same_as (option_map (λ x. x.now) id.entry) text.now }
+{
+    match id {
+        Some(id) => id.eq_ignore_ascii_case(text),
+        None => false,
+    }
+}
+
+/// Whether the identifier is there, and begins with the text but for ASCII case.
+fn begins(id: Option<&str>, text: &str) -> bool
+    ensures { result ≡ begins_as (option_map (λ x. x.now) id.entry) text.now }
+{
+    match id {
+        Some(id) => match id.as_bytes().get(..text.len()) {
+            Some(front) => front.eq_ignore_ascii_case(text.as_bytes()),
+            None => false,
+        },
+        None => false,
+    }
+}
+
+impl Quirks {
+    /// Reads a list. An `Err` is `Memory`, or `BadQuirks` with the first line that is not of these forms, from 1.
+    pub fn read(alloc: Global, text: &str) -> Result<Quirks, Refusal>
+        ensures { ReadsQuirks text.now result }
+    {
+        let mut lines = Vec::new(alloc);
+        let mut rest = text;
+        while !rest.is_empty() {
+            let (line, after) = first_line(rest);
+            match read_line(line) {
+                Some((kind, text)) => lines.push(Line {
+                    kind,
+                    text: String::from_str(alloc, text)?,
+                })?,
+                None => {
+                    return Err(Refusal::BadQuirks {
+                        line: lines.len() as u64 + 1,
+                    });
+                }
+            }
+            rest = after;
+        }
+        Ok(Quirks { lines })
+    }
+
+    /// Whether a line of the list matches a doctype with these identifiers, each missing or present though empty.
+    pub fn matches(&self, public: Option<&str>, system: Option<&str>) -> bool
+        ensures { result ≡ list_matches self.now (option_map (λ x. x.now) public.entry) (option_map (λ x. x.now) system.entry) }
+    {
+        self.lines.iter().any(|line| line.matches(public, system))
+    }
+}
+
+#[cfg(test)]
+mod tests;

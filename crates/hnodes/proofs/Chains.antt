@@ -1,0 +1,228 @@
+-- To move the first child of a node until none is left is to move them all.
+use Rattle.std.proofs.Common.{◌≡◌, ◌≢◌, ℕ, zero, suc, ◌+◌, ◌<◌, ◌≤◌, Bool, true, false, eqb, ltb, cond, Some, None, refl, sym, ◌∙◌, ap, subst, arith}
+use Rattle.std.proofs.lemmas.Bool.{eqb-true, eq-eqb, ne_eqb, le-leb}
+use Rattle.hnodes.specs.Forest.{What, document, Forest, none, tree, size, times, join, tree_at, cut, children_of, change_children, IsOutside}
+use Rattle.hnodes.specs.Spots.{first_or, first_child_of}
+use Rattle.hnodes.specs.Edits.{Nodes, AreNodes, graft_last, move_all}
+use Rattle.hnodes.proofs.Forests.{some_inj, join-none, join-assoc, times-join, tree_at-absent, children_of-absent, change_children-absent, times-changed, times-cut, children-apart, change-const}
+use Rattle.hnodes.proofs.Families.{Sited, at_root, in_kids, in_rest, sited, family, first-cut, first_child-is, children-among}
+
+module _ {N : Type 0} where
+  tree_at-front : (n : ℕ) (f g : Forest N) → times n g ≡ 0 → tree_at n (join f g) ≡ tree_at n f
+  tree_at-front n none g h = tree_at-absent n g h
+  tree_at-front n (tree b w kids rest) g h = rw (tree_at-front n rest g h) refl
+
+  -- what comes under p does not show in the tree of m, which p is not in
+  tree_at-elsewhere : (m p : ℕ) (T f : Forest N) → times m T ≡ 0 → times p (tree_at m f) ≡ 0 → tree_at m (change_children p (λ k. join k T) f) ≡ tree_at m f
+  tree_at-elsewhere m p T none t h = refl
+  tree_at-elsewhere m p T (tree b w kids rest) t h = go (tree_at-elsewhere m p T kids t) (tree_at-elsewhere m p T rest t) (eqb b m) (eqb b p) refl refl h
+    where
+      go : (times p (tree_at m kids) ≡ 0 → tree_at m (change_children p (λ k. join k T) kids) ≡ tree_at m kids) → (times p (tree_at m rest) ≡ 0 → tree_at m (change_children p (λ k. join k T) rest) ≡ tree_at m rest)
+          → (u v : Bool) → eqb b m ≡ u → eqb b p ≡ v → times p (cond u (tree b w kids none) (join (tree_at m kids) (tree_at m rest))) ≡ 0
+          → tree_at m (cond v (tree b w (join kids T) rest) (tree b w (change_children p (λ k. join k T) kids) (change_children p (λ k. join k T) rest))) ≡ cond u (tree b w kids none) (join (tree_at m kids) (tree_at m rest))
+      go l r true true e i z = let o : 1 + (times p kids + 0) ≡ 0 = subst (λ (x : Bool). cond x 1 0 + (times p kids + 0) ≡ 0) i z in absurd (omega arith)
+      go l r true false e i z = rw (e, change_children-absent p (λ k. join k T) kids (omega arith)) refl
+      go l r false true e i z = rw (e, tree_at-front m kids T t) refl
+      go l r false false e i z = rw (e, l (omega (arith, times-join p (tree_at m kids) (tree_at m rest))), r (omega (arith, times-join p (tree_at m kids) (tree_at m rest)))) refl
+
+  -- the tree of m has the new children of m
+  tree_at-changed : (m : ℕ) (R f : Forest N) → times m f ≡ 1 → (w : What N) × (tree_at m (change_children m (λ _. R) f) ≡ tree m w R none)
+  tree_at-changed m R none h = absurd (omega arith)
+  tree_at-changed m R (tree b w kids rest) h = go (tree_at-changed m R kids) (tree_at-changed m R rest) (sited m b kids rest h)
+    where
+      go : (times m kids ≡ 1 → (v : What N) × (tree_at m (change_children m (λ _. R) kids) ≡ tree m v R none)) → (times m rest ≡ 1 → (v : What N) × (tree_at m (change_children m (λ _. R) rest) ≡ tree m v R none))
+          → Sited m b kids rest → (v : What N) × (tree_at m (change_children m (λ _. R) (tree b w kids rest)) ≡ tree m v R none)
+      go l r (at_root e a z) = (w, rw (e, e, eqb-true b m e) refl)
+      go l r (in_kids e a z) = let i = l a in (i.0, rw (e, e, change_children-absent m (λ _. R) rest z, tree_at-absent m rest z, join-none (tree_at m (change_children m (λ _. R) kids))) i.1)
+      go l r (in_rest e a z) = let i = r z in (i.0, rw (e, e, change_children-absent m (λ _. R) kids a, tree_at-absent m kids a) i.1)
+
+  change-change : (p : ℕ) (a b : Forest N → Forest N) (f : Forest N) → change_children p a (change_children p b f) ≡ change_children p (λ k. a (b k)) f
+  change-change p a b none = refl
+  change-change p a b (tree d w kids rest) = go (change-change p a b kids) (change-change p a b rest) (eqb d p) refl
+    where
+      go : change_children p a (change_children p b kids) ≡ change_children p (λ k. a (b k)) kids → change_children p a (change_children p b rest) ≡ change_children p (λ k. a (b k)) rest → (v : Bool) → eqb d p ≡ v
+          → change_children p a (cond v (tree d w (b kids) rest) (tree d w (change_children p b kids) (change_children p b rest))) ≡ cond v (tree d w (a (b kids)) rest) (tree d w (change_children p (λ k. a (b k)) kids) (change_children p (λ k. a (b k)) rest))
+      go l r true e = rw e refl
+      go l r false e = rw e (λ i. tree d w (l i) (r i))
+
+  change-join : (m : ℕ) (g : Forest N → Forest N) (f T : Forest N) → times m T ≡ 0 → change_children m g (join f T) ≡ join (change_children m g f) T
+  change-join m g none T h = change_children-absent m g T h
+  change-join m g (tree b w kids rest) T h = go (change-join m g rest T h) (eqb b m)
+    where
+      go : change_children m g (join rest T) ≡ join (change_children m g rest) T → (v : Bool) → cond v (tree b w (g kids) (join rest T)) (tree b w (change_children m g kids) (change_children m g (join rest T))) ≡ join (cond v (tree b w (g kids) rest) (tree b w (change_children m g kids) (change_children m g rest))) T
+      go r true = refl
+      go r false = λ i. tree b w (change_children m g kids) (r i)
+
+  -- m is emptied before something comes under p, or after
+  empty-elsewhere : (m p : ℕ) (T f : Forest N) → m ≢ p → times m T ≡ 0 → change_children m (λ _. none) (change_children p (λ k. join k T) f) ≡ change_children p (λ k. join k T) (change_children m (λ _. none) f)
+  empty-elsewhere m p T none h t = refl
+  empty-elsewhere m p T (tree b w kids rest) h t = go (empty-elsewhere m p T kids h t) (empty-elsewhere m p T rest h t) (eqb b m) (eqb b p) refl refl
+    where
+      go : change_children m (λ _. none) (change_children p (λ k. join k T) kids) ≡ change_children p (λ k. join k T) (change_children m (λ _. none) kids)
+          → change_children m (λ _. none) (change_children p (λ k. join k T) rest) ≡ change_children p (λ k. join k T) (change_children m (λ _. none) rest)
+          → (u v : Bool) → eqb b m ≡ u → eqb b p ≡ v
+          → change_children m (λ _. none) (cond v (tree b w (join kids T) rest) (tree b w (change_children p (λ k. join k T) kids) (change_children p (λ k. join k T) rest)))
+          ≡ change_children p (λ k. join k T) (cond u (tree b w none rest) (tree b w (change_children m (λ _. none) kids) (change_children m (λ _. none) rest)))
+      go l r true true e i = absurd (h (sym (eqb-true b m e) ∙ eqb-true b p i))
+      go l r true false e i = rw (e, i) refl
+      go l r false true e i = rw (e, i, change-join m (λ _. none) kids T t) refl
+      go l r false false e i = rw (e, i) (λ j. tree b w (l j) (r j))
+
+  change-same : (m : ℕ) (X f : Forest N) → times m f ≡ 1 → children_of m f ≡ X → change_children m (λ _. X) f ≡ f
+  change-same m X none h e = refl
+  change-same m X (tree b w kids rest) h e = go (change-same m X kids) (change-same m X rest) (sited m b kids rest h)
+    where
+      go : (times m kids ≡ 1 → children_of m kids ≡ X → change_children m (λ _. X) kids ≡ kids) → (times m rest ≡ 1 → children_of m rest ≡ X → change_children m (λ _. X) rest ≡ rest)
+          → Sited m b kids rest → change_children m (λ _. X) (tree b w kids rest) ≡ tree b w kids rest
+      go l r (at_root i a z) =
+          let same : kids ≡ X = subst (λ (u : Bool). cond u kids (join (children_of m kids) (children_of m rest)) ≡ X) i e in
+          rw i (λ j. tree b w (sym same j) rest)
+      go l r (in_kids i a z) =
+          let same : children_of m kids ≡ X = sym (join-none (children_of m kids)) ∙ ap (join (children_of m kids)) (sym (children_of-absent m rest z)) ∙ subst (λ (u : Bool). cond u kids (join (children_of m kids) (children_of m rest)) ≡ X) i e in
+          rw (i, change_children-absent m (λ _. X) rest z) (λ j. tree b w (l a same j) rest)
+      go l r (in_rest i a z) =
+          let same : children_of m rest ≡ X = ap (λ g. join g (children_of m rest)) (sym (children_of-absent m kids a)) ∙ subst (λ (u : Bool). cond u kids (join (children_of m kids) (children_of m rest)) ≡ X) i e in
+          rw (i, change_children-absent m (λ _. X) kids a) (λ j. tree b w kids (r z same j))
+
+  change-id : (p : ℕ) (f : Forest N) → change_children p (λ k. k) f ≡ f
+  change-id p none = refl
+  change-id p (tree b w kids rest) = go (change-id p kids) (change-id p rest) (eqb b p)
+    where
+      go : change_children p (λ k. k) kids ≡ kids → change_children p (λ k. k) rest ≡ rest → (v : Bool) → cond v (tree b w kids rest) (tree b w (change_children p (λ k. k) kids) (change_children p (λ k. k) rest)) ≡ tree b w kids rest
+      go l r true = refl
+      go l r false = λ i. tree b w (l i) (r i)
+
+  one-there : (v : Nodes N) (n : ℕ) → AreNodes v → n < v.made → times n v.trees ≡ 1
+  one-there v n a h = a.once n ∙ rw (le-leb (suc n) v.made (omega arith)) refl
+
+  once-there : (v : Nodes N) (n : ℕ) → AreNodes v → times n v.trees ≤ 1
+  once-there v n a = rw (a.once n) (go (ltb n v.made))
+    where
+      go : (u : Bool) → cond u 1 0 ≤ 1
+      go true = omega arith
+      go false = omega arith
+
+  -- no children are left
+  pub none-left : (v : Nodes N) (m p : ℕ) → AreNodes v → m < v.made → first_child_of m v.trees ≡ None → move_all m p v.trees ≡ v.trees
+  none-left v m p a h e =
+      rw (empty, change-same m none v.trees (one-there v m a h) empty) ((λ i. change_children p (λ k. join-none k i) v.trees) ∙ change-id p v.trees)
+    where
+      go : (g : Forest N) → first_or g None ≡ None → g ≡ none
+      go none j = refl
+      go (tree b w kids rest) j = cc
+
+      empty : children_of m v.trees ≡ none
+      empty = go (children_of m v.trees) (sym (first_child-is m v.trees (one-there v m a h)) ∙ e)
+
+  -- the document is no child
+  not_zero : (v : Nodes N) (m : ℕ) → AreNodes v → times 0 (children_of m v.trees) ≡ 0
+  not_zero v m a =
+      let o : times 0 (tree 0 document a.begins.0 a.begins.1) ≤ 1 = subst (λ (f : Forest N). times 0 f ≤ 1) a.begins.2 (once-there v 0 a) in
+      let c : times 0 (children_of m (tree 0 document a.begins.0 a.begins.1)) ≡ 0 = go (eqb 0 m) (children-among 0 m a.begins.0) (children-among 0 m a.begins.1) o in
+      rw a.begins.2 c
+    where
+      go : (u : Bool) → times 0 (children_of m a.begins.0) ≤ times 0 a.begins.0 → times 0 (children_of m a.begins.1) ≤ times 0 a.begins.1 → 1 + (times 0 a.begins.0 + times 0 a.begins.1) ≤ 1
+          → times 0 (cond u a.begins.0 (join (children_of m a.begins.0) (children_of m a.begins.1))) ≡ 0
+      go true x y o = omega arith
+      go false x y o = omega (arith, times-join 0 (children_of m a.begins.0) (children_of m a.begins.1))
+
+  -- what there is to show of the move of a first child
+  pub record Moves (v : Nodes N) (m p c : ℕ) : Type 0 where
+    pub not_document : 0 < c
+    pub apart : IsOutside p c v.trees
+    pub outside : IsOutside p m (graft_last c p v.trees)
+    pub same : move_all m p (graft_last c p v.trees) ≡ move_all m p v.trees
+    pub fewer : size (children_of m (graft_last c p v.trees)) < size (children_of m v.trees)
+
+  pub moves : (v : Nodes N) (m p c : ℕ) → AreNodes v → m < v.made → p < v.made → IsOutside p m v.trees → first_child_of m v.trees ≡ Some c → Moves v m p c
+  moves v m p c a h hp out e = go (children_of m v.trees) refl (sym (first_child-is m v.trees (one-there v m a h)) ∙ e)
+    where
+      f : Forest N
+      f = v.trees
+
+      step : (w : What N) (k R : Forest N) → children_of m f ≡ tree c w k R → Moves v m p c
+      step w k R is = record { not_document = positive; apart = p_T; outside = out'; same = moved; fewer = less }
+        where
+          T : Forest N
+          T = tree c w k none
+
+          one_m : times m f ≡ 1
+          one_m = one-there v m a h
+
+          in_children : 0 < times c (children_of m f)
+          in_children = rw (is, eq-eqb c c refl) (omega arith)
+
+          one_c : times c f ≡ 1
+          one_c = let i = children-among c m f in let o = once-there v c a in let j = in_children in omega arith
+
+          positive : 0 < c
+          positive = pos c refl
+            where
+              pos : (n : ℕ) → c ≡ n → 0 < n
+              pos zero j = let z : 0 < times 0 (children_of m f) = subst (λ (x : ℕ). 0 < times x (children_of m f)) j in_children in let y = not_zero v m a in absurd (omega arith)
+              pos (suc n) j = omega arith
+
+          cuts : (cut c f ≡ change_children m (λ _. R) f) × (tree_at c f ≡ T)
+          cuts = first-cut m c w k R f one_m one_c is
+
+          g_is : graft_last c p f ≡ change_children p (λ x. join x T) (change_children m (λ _. R) f)
+          g_is = λ i. change_children p (λ x. join x (cuts.1 i)) (cuts.0 i)
+
+          p_tree : times p (tree m (family m f one_m).0 (tree c w k R) none) ≡ 0
+          p_tree = ap (times p) (sym ((family m f one_m).1 ∙ ap (λ x. tree m (family m f one_m).0 x none) is)) ∙ out
+
+          m_p : m ≢ p
+          m_p j = let o : 1 + (times p (tree c w k R) + 0) ≡ 0 = subst (λ (u : Bool). cond u 1 0 + (times p (tree c w k R) + 0) ≡ 0) (eq-eqb m p j) p_tree in omega arith
+
+          p_T : times p (tree_at c f) ≡ 0
+          p_T = ap (times p) cuts.1 ∙ omega (arith, p_tree)
+
+          m_T : times m T ≡ 0
+          m_T = let o : times m (tree c w k R) ≡ 0 = ap (times m) (sym is) ∙ children-apart m f one_m in omega arith
+
+          -- the tree of m has the children after c
+          changed : (u : What N) × (tree_at m (change_children m (λ _. R) f) ≡ tree m u R none)
+          changed = tree_at-changed m R f one_m
+
+          p_changed : times p (tree m changed.0 R none) ≡ 0
+          p_changed = rw (ne_eqb m p m_p) (omega (arith, p_tree))
+
+          tree_m : tree_at m (graft_last c p f) ≡ tree m changed.0 R none
+          tree_m = ap (tree_at m) g_is ∙ tree_at-elsewhere m p T (change_children m (λ _. R) f) m_T (ap (times p) changed.1 ∙ p_changed) ∙ changed.1
+
+          out' : times p (tree_at m (graft_last c p f)) ≡ 0
+          out' = ap (times p) tree_m ∙ p_changed
+
+          left_p : times p (cut c f) ≡ 1
+          left_p = omega (arith, times-cut p c f, p_T, one-there v p a hp)
+
+          one_m' : times m (graft_last c p f) ≡ 1
+          one_m' =
+              let K : Forest N = children_of p (cut c f) in
+              ap (times m) (change-const p (λ x. join x (tree_at c f)) (cut c f) left_p)
+              ∙ omega (arith, times-changed m p (join K (tree_at c f)) (cut c f) left_p, times-join m K (tree_at c f), times-cut m c f, one_m)
+
+          children' : children_of m (graft_last c p f) ≡ R
+          children' = kids_inj (sym (family m (graft_last c p f) one_m').1 ∙ tree_m)
+            where
+              kids_inj : {u u' : What N} {x y : Forest N} → tree m u x none ≡ tree m u' y none → x ≡ y
+              kids_inj j = cc
+
+          E : Forest N
+          E = change_children m (λ _. none) f
+
+          emptied : change_children m (λ _. none) (graft_last c p f) ≡ change_children p (λ x. join x T) E
+          emptied = ap (change_children m (λ _. none)) g_is ∙ empty-elsewhere m p T (change_children m (λ _. R) f) m_p m_T ∙ ap (change_children p (λ x. join x T)) (change-change m (λ _. none) (λ _. R) f)
+
+          moved : move_all m p (graft_last c p f) ≡ move_all m p f
+          moved = (λ i. change_children p (λ x. join x (children' i)) (emptied i)) ∙ change-change p (λ x. join x R) (λ x. join x T) E
+              ∙ (λ i. change_children p (λ x. join-assoc x T R i) E) ∙ (λ i. change_children p (λ x. join x (sym is i)) E)
+
+          less : size (children_of m (graft_last c p f)) < size (children_of m f)
+          less = rw (children', is) (omega arith)
+
+      go : (g : Forest N) → children_of m f ≡ g → first_or (children_of m f) None ≡ Some c → Moves v m p c
+      go none is j = let no : first_or {N = N} none None ≡ Some c = subst (λ (g : Forest N). first_or g None ≡ Some c) is j in cc
+      go (tree b w k R) is j =
+          let same : b ≡ c = some_inj (subst (λ (g : Forest N). first_or g None ≡ Some c) is j) in
+          step w k R (is ∙ ap (λ n. tree n w k R) same)

@@ -1,0 +1,71 @@
+-- From a node to its parent.
+use Rattle.std.proofs.Common.{◌≡◌, ◌≢◌, ℕ, Bool, true, false, not, eqb, ◌-◌, ◌<◌, Some, None, length, get_or, refl, sym, ◌∙◌, ap, arith}
+use Rattle.std.proofs.lemmas.Bool.{eqb-true, eq-eqb}
+use Rattle.hnodes.specs.Forest.{size, times, tree_at, IsOutside}
+use Rattle.hnodes.specs.Edits.{Nodes}
+use Rattle.hnodes.specs.Links.{parent_in}
+use Rattle.hnodes.specs.Rows.{look_in, row_of}
+use Rattle.hnodes.specs.View.{nodes_of, IsTree}
+use Rattle.hnodes.proofs.Forests.{some_inj}
+use Rattle.hnodes.proofs.Within.{one-of, once-of}
+use Rattle.hnodes.proofs.Rows.{row_seen}
+use Rattle.hnodes.proofs.Opened.{Opened, opened, linked}
+use Rattle.hnodes.proofs.Inside.{Up, at_end, higher, up, top-inside, tree_at-size}
+use Rattle.hnodes.specs.declared.node.Node.{Node}
+use Rattle.hnodes.specs.declared.tree.Tree.TheInside.{Inside}
+
+pub unlike : (a b : ℕ) → true ≡ not (eqb a b) → a ≢ b
+unlike a b e j = let z : true ≡ not true = e ∙ ap not (eq-eqb a b j) in cc
+
+pub alike : (a b : ℕ) → false ≡ not (eqb a b) → a ≡ b
+alike a b e = go (eqb a b) refl e
+  where
+    go : (u : Bool) → eqb a b ≡ u → false ≡ not u → a ≡ b
+    go true i j = eqb-true a b i
+    go false i j = cc
+
+-- what a step up does
+pub record Step (v : Nodes ℕ) (n q top : ℕ) : Type 0 where
+  pub within : q < v.made
+  pub same : times q (tree_at top v.trees) ≡ times n (tree_at top v.trees)
+  pub higher : size v.trees - size (tree_at q v.trees) < size v.trees - size (tree_at n v.trees)
+
+module _ (t : Inside) (v : Nodes ℕ) (n k top : ℕ) (x : Node) (e : nodes_of t ≡ v) (s : IsTree t) (h : n < v.made) (apart : n ≢ top) (at : k ≡ n) (read : x ≡ get_or t.nodes.items k x) where
+  o : Opened t v
+  o = opened t v e s
+
+  seen : look_in t.nodes.items n ≡ Some (row_of x)
+  seen = row_seen t.nodes.items n k x at (omega (arith, o.made)) read
+
+  above : Up (look_in t.nodes.items) v.trees n top
+  above = up (look_in t.nodes.items) v.trees n top o.stands.rows (once-of (length t.nodes.items) (look_in t.nodes.items) v.trees o.stands) (one-of (length t.nodes.items) (look_in t.nodes.items) v.trees n o.stands (omega (arith, o.made))) apart
+
+  pub stepped : (q : ℕ) → x.parent ≡ Some q → Step v n q top
+  stepped q is = go above
+    where
+      go : Up (look_in t.nodes.items) v.trees n top → Step v n q top
+      go (at_end a b) = absurd (no (sym is ∙ sym (ap parent_in seen) ∙ a))
+        where
+          no : Some q ≡ None → ⊥
+          no j = cc
+      go (higher p a b c) =
+          let same : p ≡ q = some_inj (sym a ∙ ap parent_in seen ∙ is) in
+          let there : q < length t.nodes.items = (linked t v n o h).0 q (ap parent_in seen ∙ is) in
+          record {
+            within = omega (arith, o.made);
+            same = ap (λ m. times m (tree_at top v.trees)) (sym same) ∙ sym b;
+            higher = rw (← same) (let z = tree_at-size p v.trees in omega arith);
+          }
+
+  pub ended : x.parent ≡ None → IsOutside n top v.trees
+  ended is = go above
+    where
+      go : Up (look_in t.nodes.items) v.trees n top → IsOutside n top v.trees
+      go (at_end a b) = b
+      go (higher p a b c) = absurd (no (sym a ∙ ap parent_in seen ∙ is))
+        where
+          no : Some p ≡ None → ⊥
+          no j = cc
+
+pub reached : (t : Inside) (v : Nodes ℕ) (top : ℕ) → nodes_of t ≡ v → IsTree t → top < v.made → times top (tree_at top v.trees) ≢ 0
+reached t v top e s h = let o = opened t v e s in top-inside top v.trees (one-of (length t.nodes.items) (look_in t.nodes.items) v.trees top o.stands (omega (arith, o.made)))

@@ -1,0 +1,35 @@
+-- What a node holds, and what is seen of it.
+use Rattle.std.proofs.Common.{◌≡◌, ℕ, ◌<◌, Bool, true, false, eqb, cond, List, Option, Some, None, length, get_or, set, refl, ◌∙◌, Vec, Global, String}
+use Rattle.std.specs.Option.{option_map}
+use Rattle.hnodes.specs.Forest.{Attribute}
+use Rattle.hnodes.specs.Edits.{with_char, with_attribute}
+use Rattle.hnodes.specs.Links.{Row}
+use Rattle.hnodes.specs.Rows.{content_is, row_of, look_in, IsChanged, IsUnchanged}
+use Rattle.hnodes.specs.declared.node.Node.{Node}
+use Rattle.hnodes.specs.declared.node.Content.{Content}
+use Rattle.hnodes.specs.declared.node.Content.TheVariants as content
+use Rattle.names.specs.declared.attr.Attr.{Attr}
+use Rattle.hnodes.proofs.Rows.{changed}
+
+-- a write that does not show
+pub unchanged : (xs : List Node) (j k : ℕ) (x y : Node) → j ≡ k → k < length xs → x ≡ get_or xs j x → row_of y ≡ row_of x → IsUnchanged xs (set xs j y)
+unchanged xs j k x y same h e r = let w : IsChanged k (λ m. m) xs (set xs j y) = changed xs j k x y (λ m. m) same h e r in (w.0, λ n. w.1 n ∙ go (eqb n k) (look_in xs n))
+  where
+    go : (v : Bool) (o : Option (Row ℕ)) → cond v (option_map (λ m. m) o) o ≡ o
+    go true None = refl
+    go true (Some m) = refl
+    go false o = refl
+
+pub not_text : (c : ℕ) (w : Content) → ((a : String Global) → w ≡ content.Text a → ⊥) → content_is w ≡ with_char c (content_is w)
+not_text c content.Document h = refl
+not_text c (content.Doctype d) h = refl
+not_text c (content.Element a b) h = refl
+not_text c (content.Comment a) h = refl
+not_text c (content.Text a) h = absurd (h a refl)
+
+pub not_element : (a : Attribute ℕ) (w : Content) → ((n : ℕ) (b : Vec Attr Global) → w ≡ content.Element n b → ⊥) → content_is w ≡ with_attribute a (content_is w)
+not_element a content.Document h = refl
+not_element a (content.Doctype d) h = refl
+not_element a (content.Element n b) h = absurd (h n b refl)
+not_element a (content.Comment t) h = refl
+not_element a (content.Text t) h = refl

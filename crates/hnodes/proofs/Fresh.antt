@@ -1,0 +1,63 @@
+-- A node that was just made is outside of every place.
+use Rattle.std.proofs.Common.{◌≡◌, ◌≢◌, ℕ, suc, ◌+◌, ◌<◌, Bool, true, false, eqb, cond, [], ◌∷◌, ◌++◌, length, Option, Some, None, refl, sym, ◌∙◌, ap, subst, arith, option_and_then, IsSome}
+use Rattle.std.proofs.lemmas.Bool.{eq-eqb, ne_eqb, lt-leb}
+use Rattle.hnodes.specs.Forest.{What, Forest, none, tree, times, join, tree_at, IsOutside}
+use Rattle.hnodes.specs.Spots.{spot_of, spot_below, either_of, parent_of}
+use Rattle.hnodes.specs.Edits.{Nodes, make, IsPlace, place_node}
+use Rattle.hnodes.specs.declared.node.Place.{Place}
+use Rattle.hnodes.specs.declared.node.Place.TheVariants.{LastIn, Before}
+use Rattle.hnodes.proofs.Forests.{tree_at-absent}
+use Rattle.hnodes.proofs.Spots.{either-none}
+use Rattle.hnodes.proofs.Opened.{Opened, opened}
+use Rattle.hnodes.proofs.Makes.{made_view}
+use Rattle.hnodes.specs.Links.{alone, whole}
+use Rattle.hnodes.specs.Rows.{row_of, look_in}
+use Rattle.hnodes.specs.View.{nodes_of, IsTree}
+use Rattle.hnodes.specs.declared.node.Node.{Node}
+use Rattle.hnodes.specs.declared.tree.Tree.TheInside.{Inside}
+
+either-assoc : {A : Type 0} (x y z : Option A) → either_of x (either_of y z) ≡ either_of (either_of x y) z
+either-assoc None y z = refl
+either-assoc (Some a) y z = refl
+
+module _ {N : Type 0} where
+  tree_at-join : (n : ℕ) (f g : Forest N) → times n f ≡ 0 → tree_at n (join f g) ≡ tree_at n g
+  tree_at-join n none g h = refl
+  tree_at-join n (tree b w kids rest) g h = go (tree_at-join n rest g) (eqb b n) h
+    where
+      go : (times n rest ≡ 0 → tree_at n (join rest g) ≡ tree_at n g) → (v : Bool) → cond v 1 0 + (times n kids + times n rest) ≡ 0 → cond v (tree b w kids none) (join (tree_at n kids) (tree_at n (join rest g))) ≡ tree_at n g
+      go r true h' = absurd (omega arith)
+      go r false h' = rw (tree_at-absent n kids (omega arith)) (r (omega arith))
+
+  spot_of-join : (n : ℕ) (f g : Forest N) → spot_of n (join f g) ≡ either_of (spot_of n f) (spot_of n g)
+  spot_of-join n none g = refl
+  spot_of-join n (tree b w kids rest) g =
+      ap (either_of (spot_below n None None (tree b w kids none))) (spot_of-join n rest g) ∙ either-assoc (spot_below n None None (tree b w kids none)) (spot_of n rest) (spot_of n g)
+
+  -- a node made later is no node's parent
+  parent-made : (n m : ℕ) (f : Forest N) (w : What N) → n ≢ m → parent_of n (join f (tree m w none none)) ≡ parent_of n f
+  parent-made n m f w h =
+      ap (option_and_then (λ s. s.parent)) (spot_of-join n f (tree m w none none) ∙ alone)
+    where
+      alone : either_of (spot_of n f) (spot_of n (tree m w none none)) ≡ spot_of n f
+      alone = rw (ne_eqb m n (λ e. h (sym e))) (either-none (spot_of n f))
+
+pub place-made : (place : Place) (v : Nodes ℕ) (w : What ℕ) → IsPlace place v → IsPlace place (make w v)
+place-made (LastIn p) v w h = omega arith
+place-made (Before s) v w h = (omega (arith, h.0), subst (λ (o : Option ℕ). IsSome o) (sym (parent-made s v.made v.trees w (λ e. let k = h.0 in omega arith))) h.1)
+
+pub place-under : (place : Place) (v : Nodes ℕ) → IsPlace place v → place_node place < v.made
+place-under (LastIn p) v h = h
+place-under (Before s) v h = h.0
+
+-- no node that was there is in the new one
+pub made-outside : (t : Inside) (v : Nodes ℕ) (w : What ℕ) → Opened t v → (k : ℕ) → k < v.made → IsOutside k v.made (make w v).trees
+made-outside t v w o k h =
+    let absent : times v.made v.trees ≡ 0 = o.stands.once v.made ∙ rw (o.made, lt-leb (suc v.made) v.made (omega arith)) refl in
+    ap (times k) (tree_at-join v.made v.trees (tree v.made w none none) absent) ∙ rw (eq-eqb v.made v.made refl, ne_eqb v.made k (λ e. omega arith)) refl
+
+pub add-outside : (t : Inside) (x : Node) (w : What ℕ) (n : ℕ) → row_of x ≡ alone w → IsTree t → n ≡ length t.nodes.items
+    → (k : ℕ) → k < n → IsOutside k n (whole (length (t.nodes.items ++ x ∷ [])) (look_in (t.nodes.items ++ x ∷ [])))
+add-outside t x w n r s same k h =
+    subst (λ (m : ℕ). IsOutside k m (whole (length (t.nodes.items ++ x ∷ [])) (look_in (t.nodes.items ++ x ∷ [])))) (sym same)
+    (subst (λ (u : Nodes ℕ). IsOutside k (length t.nodes.items) u.trees) (sym (made_view t x w r s)) (made-outside t (nodes_of t) w (opened t (nodes_of t) refl s) k (omega arith)))

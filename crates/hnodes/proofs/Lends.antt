@@ -1,0 +1,119 @@
+-- What the calls that lend answer.
+use Rattle.std.proofs.Common.{◌≡◌, ℕ, ◌<◌, Option, Some, None, length, get_or, refl, sym, ◌∙◌, ap, arith, option_and_then, IfSome, Vec, Global, String, Box}
+use Rattle.std.specs.Option.{option_map}
+use Rattle.hnodes.specs.Forest.{times}
+use Rattle.hnodes.specs.Spots.{Spot, spot_of, parent_of, what_of, name_in, attributes_in, text_in, doctype_in}
+use Rattle.hnodes.specs.Edits.{Nodes}
+use Rattle.hnodes.specs.Links.{Row, Look, row_at, parent_in, first_in, last_in, previous_in, next_in}
+use Rattle.hnodes.specs.Rows.{row_of, look_in, content_is}
+use Rattle.hnodes.specs.View.{nodes_of, IsTree}
+use Rattle.hnodes.proofs.Spots.{Loose-spot}
+use Rattle.hnodes.proofs.Forests.{some_inj}
+use Rattle.hnodes.proofs.Within.{one-of, once-of, there as is_there, links-among, ends-among}
+use Rattle.hnodes.proofs.Rows.{row_seen}
+use Rattle.hnodes.proofs.Opened.{Opened, opened}
+use Rattle.hnodes.specs.declared.node.Node.{Node}
+use Rattle.hnodes.specs.declared.node.Content.{Content}
+use Rattle.hnodes.specs.declared.node.Content.TheVariants as content
+use Rattle.hnodes.specs.declared.node.Doctype.{Doctype as DoctypeOf}
+use Rattle.names.specs.declared.attr.Attr.{Attr}
+use Rattle.hnodes.specs.declared.tree.Tree.TheInside.{Inside}
+
+-- the row of a node is that of its place
+pub place_seen : (t : Inside) (v : Nodes ℕ) (n : ℕ) → Opened t v → n < v.made → look_in t.nodes.items n ≡ option_map row_at (spot_of n v.trees)
+place_seen t v n o h = Loose-spot (look_in t.nodes.items) n v.trees (one-of (length t.nodes.items) (look_in t.nodes.items) v.trees n o.stands (omega (arith, o.made))) o.stands.rows
+
+-- what is asked of a row is asked of a place
+pub asked : {A : Type 0} (g : Row ℕ → Option A) (r : Row ℕ) (o : Option (Spot ℕ)) → Some r ≡ option_map row_at o → g r ≡ option_and_then (λ s. g (row_at s)) o
+asked g r None e = cc
+asked g r (Some s) e = ap g (some_inj e)
+
+pub what_asked : (r : Row ℕ) (o : Option (Spot ℕ)) → Some r ≡ option_map row_at o → Some r.what ≡ option_map (λ s. s.what) o
+what_asked r None e = cc
+what_asked r (Some s) e = ap (λ (m : Row ℕ). Some m.what) (some_inj e)
+
+pub parent_is : (t : Inside) (v : Nodes ℕ) (n : ℕ) → Opened t v → n < v.made → parent_in (look_in t.nodes.items n) ≡ parent_of n v.trees
+parent_is t v n o h = ap parent_in (place_seen t v n o h) ∙ go (spot_of n v.trees)
+  where
+    go : (o : Option (Spot ℕ)) → parent_in (option_map row_at o) ≡ option_and_then (λ s. s.parent) o
+    go None = refl
+    go (Some s) = refl
+
+-- the row of a node that was read
+pub lent : (t : Inside) (v : Nodes ℕ) (n k : ℕ) (x : Node) → nodes_of t ≡ v → IsTree t → n < v.made → k ≡ n → x ≡ get_or t.nodes.items k x → Some (row_of x) ≡ option_map row_at (spot_of n v.trees)
+lent t v n k x e s h same g = let o = opened t v e s in sym (row_seen t.nodes.items n k x same (omega (arith, o.made)) g) ∙ place_seen t v n o h
+
+-- what the node is
+pub lent_what : (t : Inside) (v : Nodes ℕ) (n k : ℕ) (x : Node) → nodes_of t ≡ v → IsTree t → n < v.made → k ≡ n → x ≡ get_or t.nodes.items k x → Some (content_is x.content) ≡ what_of n v.trees
+lent_what t v n k x e s h same g = what_asked (row_of x) (spot_of n v.trees) (lent t v n k x e s h same g)
+
+-- its links are to nodes that are there
+pub record Near (x : Node) (made : ℕ) : Type 0 where
+  pub parent : IfSome x.parent (λ n. n < made)
+  pub first : IfSome x.first (λ n. n < made)
+  pub last : IfSome x.last (λ n. n < made)
+  pub previous : IfSome x.previous (λ n. n < made)
+  pub next : IfSome x.next (λ n. n < made)
+
+if_some : (o : Option ℕ) (made : ℕ) → ((k : ℕ) → o ≡ Some k → k < made) → IfSome o (λ n. n < made)
+if_some None made h = tt
+if_some (Some k) made h = h k refl
+
+pub near : (t : Inside) (v : Nodes ℕ) (n k : ℕ) (x : Node) → nodes_of t ≡ v → IsTree t → n < v.made → k ≡ n → x ≡ get_or t.nodes.items k x → Near x v.made
+near t v n k x e s h same g = record {
+  parent = if_some x.parent v.made (λ j p. there j (around.0 j (ap parent_in seen ∙ p)));
+  first = if_some x.first v.made (λ j p. there j (ends.0 j (ap first_in seen ∙ p)));
+  last = if_some x.last v.made (λ j p. there j (ends.1 j (ap last_in seen ∙ p)));
+  previous = if_some x.previous v.made (λ j p. there j (around.1 j (ap previous_in seen ∙ p)));
+  next = if_some x.next v.made (λ j p. there j (around.2 j (ap next_in seen ∙ p)));
+}
+  where
+    o : Opened t v
+    o = opened t v e s
+
+    look : Look ℕ
+    look = look_in t.nodes.items
+
+    one : times n v.trees ≡ 1
+    one = one-of (length t.nodes.items) look v.trees n o.stands (omega (arith, o.made))
+
+    seen : look n ≡ Some (row_of x)
+    seen = row_seen t.nodes.items n k x same (omega (arith, o.made)) g
+
+    there : (j : ℕ) → 0 < times j v.trees → j < v.made
+    there j p = let q = is_there (length t.nodes.items) look v.trees j o.stands p in omega (arith, o.made)
+
+    ends : ((j : ℕ) → first_in (look n) ≡ Some j → 0 < times j v.trees) × ((j : ℕ) → last_in (look n) ≡ Some j → 0 < times j v.trees)
+    ends = ends-among look v.trees n one o.stands.rows
+
+    around : ((j : ℕ) → parent_in (look n) ≡ Some j → 0 < times j v.trees) × ((j : ℕ) → previous_in (look n) ≡ Some j → 0 < times j v.trees) × ((j : ℕ) → next_in (look n) ≡ Some j → 0 < times j v.trees)
+    around = links-among look v.trees n one (once-of (length t.nodes.items) look v.trees o.stands) o.stands.rows
+
+-- what is not of a kind answers nothing
+pub no_name : (w : Content) → ((a : ℕ) (b : Vec Attr Global) → w ≡ content.Element a b → ⊥) → None ≡ name_in (content_is w)
+no_name content.Document h = refl
+no_name (content.Doctype d) h = refl
+no_name (content.Element a b) h = absurd (h a b refl)
+no_name (content.Comment t) h = refl
+no_name (content.Text t) h = refl
+
+pub no_attributes : (w : Content) → ((a : ℕ) (b : Vec Attr Global) → w ≡ content.Element a b → ⊥) → None ≡ attributes_in (content_is w)
+no_attributes content.Document h = refl
+no_attributes (content.Doctype d) h = refl
+no_attributes (content.Element a b) h = absurd (h a b refl)
+no_attributes (content.Comment t) h = refl
+no_attributes (content.Text t) h = refl
+
+pub no_text : (w : Content) → ((a : String Global) → w ≡ content.Comment a → ⊥) → ((a : String Global) → w ≡ content.Text a → ⊥) → None ≡ text_in (content_is w)
+no_text content.Document h i = refl
+no_text (content.Doctype d) h i = refl
+no_text (content.Element a b) h i = refl
+no_text (content.Comment a) h i = absurd (h a refl)
+no_text (content.Text a) h i = absurd (i a refl)
+
+pub no_doctype : (w : Content) → ((a : Box DoctypeOf Global) → w ≡ content.Doctype a → ⊥) → None ≡ doctype_in (content_is w)
+no_doctype content.Document h = refl
+no_doctype (content.Doctype d) h = absurd (h d refl)
+no_doctype (content.Element a b) h = refl
+no_doctype (content.Comment a) h = refl
+no_doctype (content.Text a) h = refl

@@ -1,0 +1,150 @@
+-- Laws of linked nodes.
+use Rattle.std.proofs.Common.{◌≡◌, ◌≢◌, ℕ, zero, suc, ◌+◌, ◌<◌, ◌≤◌, Bool, true, false, eqb, cond, Option, Some, None, refl, sym, ◌∙◌, ap, subst, arith}
+use Rattle.std.proofs.lemmas.Bool.{eqb-true, eq-eqb, eqb-false}
+use Rattle.std.specs.Option.{option_map}
+use Rattle.hnodes.specs.Forest.{Forest, none, tree, roots, size, times, join, change_children}
+use Rattle.hnodes.specs.Spots.{first_or, last_or}
+use Rattle.hnodes.specs.Links.{Look, Linked, Loose, seen, seen_each, with_next, with_previous, with_ends}
+use Rattle.hnodes.proofs.Forests.{some_inj, first_or-join, change_children-absent}
+
+module _ {N : Type 0} where
+  -- with enough depth, the siblings that stand there are those that are seen
+  pub seen_linked : (look : Look N) (p x : Option ℕ) (f : Forest N) (k : ℕ) → Linked look p x f None → size f ≤ k → seen k look (first_or f None) ≡ f
+  seen_linked look p x none zero s h = refl
+  seen_linked look p x none (suc k) s h = refl
+  seen_linked look p x (tree b w kids rest) zero s h = absurd (omega arith)
+  seen_linked look p x (tree b w kids rest) (suc k) s h =
+      let left : seen k look (first_or kids None) ≡ kids = seen_linked look (Some b) None kids k s.1 (omega arith) in
+      let right : seen k look (first_or rest None) ≡ rest = seen_linked look p (Some b) rest k s.2 (omega arith) in
+      rw s.0 (λ i. tree b w (left i) (right i))
+
+  pub seen_loose : (look : Look N) (f : Forest N) (k : ℕ) → Loose look f → size f ≤ k → seen_each k look (roots f) ≡ f
+  seen_loose look none k s h = refl
+  seen_loose look (tree b w kids rest) k s h =
+      let left : seen k look (first_or kids None) ≡ kids = seen_linked look (Some b) None kids k s.0.1 (omega arith) in
+      let right : seen_each k look (roots rest) ≡ rest = seen_loose look rest k s.1 (omega arith) in
+      rw s.0.0 (λ i. tree b w (left i) (right i))
+
+  -- what stands in one look stands in another that agrees at its nodes
+  pub Linked-agree : (look new : Look N) (p x : Option ℕ) (f : Forest N) (y : Option ℕ) → ((b : ℕ) → 0 < times b f → new b ≡ look b) → Linked look p x f y → Linked new p x f y
+  Linked-agree look new p x none y same s = tt
+  Linked-agree look new p x (tree b w kids rest) y same s = (
+    same b (rw (eq-eqb b b refl) (omega arith)) ∙ s.0,
+    Linked-agree look new (Some b) None kids None (λ c h. same c (omega arith)) s.1,
+    Linked-agree look new p (Some b) rest y (λ c h. same c (omega arith)) s.2,
+  )
+
+  pub Loose-agree : (look new : Look N) (f : Forest N) → ((b : ℕ) → 0 < times b f → new b ≡ look b) → Loose look f → Loose new f
+  Loose-agree look new none same s = tt
+  Loose-agree look new (tree b w kids rest) same s =
+      (Linked-agree look new None None (tree b w kids none) None (λ c h. same c (omega arith)) s.0, Loose-agree look new rest (λ c h. same c (omega arith)) s.1)
+
+  -- two runs of siblings, and both in one
+  pub Linked-join : (look : Look N) (p x : Option ℕ) (f g : Forest N) (y : Option ℕ) → Linked look p x f (first_or g y) → Linked look p (last_or x f) g y → Linked look p x (join f g) y
+  Linked-join look p x none g y s t = t
+  Linked-join look p x (tree b w kids rest) g y s t = (s.0 ∙ ap (λ n. Some (record { what = w; parent = p; first = first_or kids None; last = last_or None kids; previous = x; next = n })) (sym (first_or-join rest g y)), s.1, Linked-join look p (Some b) rest g y s.2 t)
+
+  pub Linked-split : (look : Look N) (p x : Option ℕ) (f g : Forest N) (y : Option ℕ) → Linked look p x (join f g) y → Linked look p x f (first_or g y) × Linked look p (last_or x f) g y
+  Linked-split look p x none g y s = (tt, s)
+  Linked-split look p x (tree b w kids rest) g y s =
+      let both : Linked look p (Some b) rest (first_or g y) × Linked look p (last_or (Some b) rest) g y = Linked-split look p (Some b) rest g y s.2 in
+      ((s.0 ∙ ap (λ n. Some (record { what = w; parent = p; first = first_or kids None; last = last_or None kids; previous = x; next = n })) (first_or-join rest g y), s.1, both.0), both.1)
+
+  -- where the number is not among the trees
+  pub not-among : (q c : ℕ) (f : Forest N) → times q f ≡ 0 → 0 < times c f → c ≢ q
+  not-among q c f h k j = let z : 0 < times q f = subst (λ m. 0 < times m f) j k in omega arith
+
+  first_or-change : (q : ℕ) (g : Forest N → Forest N) (f : Forest N) (y : Option ℕ) → first_or (change_children q g f) y ≡ first_or f y
+  first_or-change q g none y = refl
+  first_or-change q g (tree b w kids rest) y = go (eqb b q)
+    where
+      go : (v : Bool) → first_or (cond v (tree b w (g kids) rest) (tree b w (change_children q g kids) (change_children q g rest))) y ≡ Some b
+      go true = refl
+      go false = refl
+
+  last_or-change : (q : ℕ) (g : Forest N → Forest N) (x : Option ℕ) (f : Forest N) → last_or x (change_children q g f) ≡ last_or x f
+  last_or-change q g x none = refl
+  last_or-change q g x (tree b w kids rest) = go (last_or-change q g (Some b) rest) (eqb b q)
+    where
+      go : last_or (Some b) (change_children q g rest) ≡ last_or (Some b) rest → (v : Bool) → last_or x (cond v (tree b w (g kids) rest) (tree b w (change_children q g kids) (change_children q g rest))) ≡ last_or (Some b) rest
+      go r true = refl
+      go r false = r
+
+  -- the children of q are others
+  pub Linked-children : (look new : Look N) (q : ℕ) (Y : Forest N) → Linked new (Some q) None Y None → new q ≡ option_map (with_ends (first_or Y None) (last_or None Y)) (look q)
+      → (p x : Option ℕ) (f : Forest N) (y : Option ℕ) → times q f ≡ 1 → ((b : ℕ) → b ≢ q → 0 < times b (change_children q (λ _. none) f) → new b ≡ look b) → Linked look p x f y → Linked new p x (change_children q (λ _. Y) f) y
+  Linked-children look new q Y t r p x none y h same s = absurd (omega arith)
+  Linked-children look new q Y t r p x (tree b w kids rest) y h same s =
+      go (Linked-children look new q Y t r (Some b) None kids None) (Linked-children look new q Y t r p (Some b) rest y) (eqb b q) refl h same s
+    where
+      go : (times q kids ≡ 1 → ((c : ℕ) → c ≢ q → 0 < times c (change_children q (λ _. none) kids) → new c ≡ look c) → Linked look (Some b) None kids None → Linked new (Some b) None (change_children q (λ _. Y) kids) None)
+          → (times q rest ≡ 1 → ((c : ℕ) → c ≢ q → 0 < times c (change_children q (λ _. none) rest) → new c ≡ look c) → Linked look p (Some b) rest y → Linked new p (Some b) (change_children q (λ _. Y) rest) y)
+          → (v : Bool) → eqb b q ≡ v → cond v 1 0 + (times q kids + times q rest) ≡ 1
+          → ((c : ℕ) → c ≢ q → 0 < times c (cond v (tree b w none rest) (tree b w (change_children q (λ _. none) kids) (change_children q (λ _. none) rest))) → new c ≡ look c)
+          → Linked look p x (tree b w kids rest) y → Linked new p x (cond v (tree b w Y rest) (tree b w (change_children q (λ _. Y) kids) (change_children q (λ _. Y) rest))) y
+      go l m true e h' same' s' =
+          let b_q : b ≡ q = eqb-true b q e in (
+            rw (b_q, r, ← b_q, s'.0) refl,
+            rw b_q t,
+            Linked-agree look new p (Some b) rest y (λ c k. same' c (not-among q c rest (omega arith) k) (omega arith)) s'.2,
+          )
+      go l m false e h' same' s' = under (times q kids) refl (omega arith)
+        where
+          here : new b ≡ look b
+          here = same' b (eqb-false b q e) (rw (eq-eqb b b refl) (omega arith))
+
+          row : new b ≡ Some (record { what = w; parent = p; first = first_or (change_children q (λ _. Y) kids) None; last = last_or None (change_children q (λ _. Y) kids); previous = x; next = first_or (change_children q (λ _. Y) rest) y })
+          row = rw (first_or-change q (λ _. Y) kids None, last_or-change q (λ _. Y) None kids, first_or-change q (λ _. Y) rest y) (here ∙ s'.0)
+
+          under : (j : ℕ) → times q kids ≡ j → j + times q rest ≡ 1 → Linked new p x (tree b w (change_children q (λ _. Y) kids) (change_children q (λ _. Y) rest)) y
+          under zero a z = (
+            row,
+            rw (change_children-absent q (λ _. Y) kids a) (Linked-agree look new (Some b) None kids None (λ c k. same' c (not-among q c kids a k) (rw (change_children-absent q (λ _. none) kids a) (omega arith))) s'.1),
+            m (omega arith) (λ c k z'. same' c k (omega arith)) s'.2,
+          )
+          under (suc j) a z =
+              let no : times q rest ≡ 0 = omega arith in (
+                row,
+                l (omega arith) (λ c k z'. same' c k (omega arith)) s'.1,
+                rw (change_children-absent q (λ _. Y) rest no) (Linked-agree look new p (Some b) rest y (λ c k. same' c (not-among q c rest no k) (rw (change_children-absent q (λ _. none) rest no) (omega arith))) s'.2),
+              )
+
+  -- the last of a run has another sibling after it
+  pub last-among : (f : Forest N) (c : ℕ) → last_or None f ≡ Some c → 0 < times c f
+  last-among none c e = cc
+  last-among (tree b w kids none) c e = let same : b ≡ c = some_inj e in rw (eq-eqb b c same) (omega arith)
+  last-among (tree b w kids (tree d v kk rr)) c e = let r : 0 < times c (tree d v kk rr) = last-among (tree d v kk rr) c e in omega arith
+
+  pub first-among : (f : Forest N) (c : ℕ) → first_or f None ≡ Some c → 0 < times c f
+  first-among none c e = cc
+  first-among (tree b w kids rest) c e = rw (eq-eqb b c (some_inj e)) (omega arith)
+
+  pub Linked-end : (look new : Look N) (y y' : Option ℕ) (p x : Option ℕ) (f : Forest N) → ((b : ℕ) → times b f ≤ 1)
+      → ((b : ℕ) → 0 < times b f → (last_or None f ≡ Some b → ⊥) → new b ≡ look b) → ((b : ℕ) → last_or None f ≡ Some b → new b ≡ option_map (with_next y') (look b)) → Linked look p x f y → Linked new p x f y'
+  Linked-end look new y y' p x none once same end s = tt
+  Linked-end look new y y' p x (tree b w kids none) once same end s = (
+    rw (end b refl, s.0) refl,
+    Linked-agree look new (Some b) None kids None (λ c k. same c (omega arith) (λ j. apart c k j)) s.1,
+    tt,
+  )
+    where
+      apart : (c : ℕ) → 0 < times c kids → Some b ≡ Some c → ⊥
+      apart c k j = let o : cond true 1 0 + (times c kids + 0) ≤ 1 = subst (λ (v : Bool). cond v 1 0 + (times c kids + 0) ≤ 1) (eq-eqb b c (some_inj j)) (once c) in omega arith
+  Linked-end look new y y' p x (tree b w kids (tree d v1 kk rr)) once same end s = (
+    same b (rw (eq-eqb b b refl) (omega arith)) (λ j. let i = last-among (tree d v1 kk rr) b j in let o = subst (λ (v : Bool). cond v 1 0 + (times b kids + times b (tree d v1 kk rr)) ≤ 1) (eq-eqb b b refl) (once b) in omega arith) ∙ s.0,
+    Linked-agree look new (Some b) None kids None (λ c k. same c (omega arith) (λ j. let i = last-among (tree d v1 kk rr) c j in let o = once c in omega arith)) s.1,
+    Linked-end look new y y' p (Some b) (tree d v1 kk rr) (λ c. let o = once c in omega arith) (λ c k i. same c (omega arith) i) end s.2,
+  )
+
+  -- the first of a run has another sibling before it
+  pub Linked-begin : (look new : Look N) (p x x' y : Option ℕ) (f : Forest N) → ((b : ℕ) → times b f ≤ 1)
+      → ((b : ℕ) → 0 < times b f → (first_or f None ≡ Some b → ⊥) → new b ≡ look b) → ((b : ℕ) → first_or f None ≡ Some b → new b ≡ option_map (with_previous x') (look b)) → Linked look p x f y → Linked new p x' f y
+  Linked-begin look new p x x' y none once same begin s = tt
+  Linked-begin look new p x x' y (tree b w kids rest) once same begin s = (
+    rw (begin b refl, s.0) refl,
+    Linked-agree look new (Some b) None kids None (λ c k. same c (omega arith) (λ j. apart c (omega arith) j)) s.1,
+    Linked-agree look new p (Some b) rest y (λ c k. same c (omega arith) (λ j. apart c (omega arith) j)) s.2,
+  )
+    where
+      apart : (c : ℕ) → 0 < times c kids + times c rest → Some b ≡ Some c → ⊥
+      apart c k j = let o : cond true 1 0 + (times c kids + times c rest) ≤ 1 = subst (λ (v : Bool). cond v 1 0 + (times c kids + times c rest) ≤ 1) (eq-eqb b c (some_inj j)) (once c) in omega arith

@@ -1,0 +1,107 @@
+-- What the vector says of the value of a tree, and what is left to show after an edit.
+use Rattle.std.proofs.Common.{◌≡◌, ℕ, zero, suc, true, ltb, cond, is_none, ◌++◌, ◌<◌, ◌≤◌, List, [], ◌∷◌, Option, Some, None, Result, Ok, Err, OnOk, OnErr, length, refl, sym, ◌∙◌, ap, subst, arith}
+use Rattle.hnodes.specs.Forest.{Forest, What, document, tree, none, roots, change_what}
+use Rattle.hnodes.specs.Edits.{Nodes, AreNodes}
+use Rattle.hnodes.specs.Links.{Row, Look, Loose, StandsIn, standing, loose, is_loose, whole, parent_in, previous_in, next_in, with_what}
+use Rattle.hnodes.specs.Rows.{look_in, IsWithin, IsChanged, IsUnchanged}
+use Rattle.hnodes.specs.View.{nodes_of, IsTree}
+use Rattle.hnodes.proofs.Forests.{some_inj}
+use Rattle.hnodes.proofs.Within.{one-of, once-of, there, links-among}
+use Rattle.hnodes.proofs.Whats.{StandsIn-same, StandsIn-what, document-what}
+use Rattle.hnodes.proofs.Makes.{whole-stands}
+use Rattle.hnodes.specs.declared.node.Node.{Node}
+use Rattle.hnodes.specs.declared.tree.Tree.TheInside.{Inside}
+
+-- what the fields of a tree say of its value
+pub record Opened (t : Inside) (v : Nodes ℕ) : Type 0 where
+  pub made : length t.nodes.items ≡ v.made
+  pub limit : t.limit ≡ v.limit
+  pub stands : StandsIn (length t.nodes.items) (look_in t.nodes.items) v.trees
+  pub begun : standing (look_in t.nodes.items 0) ≡ Some (document, None)
+  pub fits : length t.nodes.items ≤ t.limit
+
+pub opened : (t : Inside) (v : Nodes ℕ) → nodes_of t ≡ v → IsTree t → Opened t v
+opened t v e s = record {
+  made = ap (λ (u : Nodes ℕ). u.made) e;
+  limit = ap (λ (u : Nodes ℕ). u.limit) e;
+  stands = subst (λ (f : Forest ℕ). StandsIn (length t.nodes.items) (look_in t.nodes.items) f) (sym (whole-stands (length t.nodes.items) (look_in t.nodes.items) s.0.0 s.0.1) ∙ ap (λ (u : Nodes ℕ). u.trees) e) s.0.1;
+  begun = s.1;
+  fits = s.2;
+}
+
+-- a node's parent and siblings are there
+pub linked : (t : Inside) (v : Nodes ℕ) (n : ℕ) → Opened t v → n < v.made
+    → IsWithin (length t.nodes.items) (parent_in (look_in t.nodes.items n)) × IsWithin (length t.nodes.items) (previous_in (look_in t.nodes.items n)) × IsWithin (length t.nodes.items) (next_in (look_in t.nodes.items n))
+linked t v n o h =
+    let look = look_in t.nodes.items in
+    let count = length t.nodes.items in
+    let m = links-among look v.trees n (one-of count look v.trees n o.stands (omega (arith, o.made))) (once-of count look v.trees o.stands) o.stands.rows in
+    ((λ k e. there count look v.trees k o.stands (m.0 k e)), (λ k e. there count look v.trees k o.stands (m.1 k e)), (λ k e. there count look v.trees k o.stands (m.2 k e)))
+
+-- the document is made
+pub begun_made : (t : Inside) (v : Nodes ℕ) → Opened t v → 0 < v.made
+begun_made t v o = let h = go t.nodes.items o.begun in omega (arith, o.made)
+  where
+    go : (xs : List Node) → standing (look_in xs 0) ≡ Some (document, None) → 0 < length xs
+    go [] e = cc
+    go (x ∷ xs) e = omega arith
+
+module _ {N : Type 0} where
+  loose-begins : (look : Look N) (count : ℕ) → 0 < count → is_loose (look 0) ≡ true → (xs : List ℕ) × (loose count look ≡ 0 ∷ xs)
+  loose-begins look zero h e = absurd (omega arith)
+  loose-begins look (suc zero) h e = ([], rw e refl)
+  loose-begins look (suc (suc k)) h e =
+      let r : (xs : List ℕ) × (loose (suc k) look ≡ 0 ∷ xs) = loose-begins look (suc k) (omega arith) e in
+      (r.0 ++ cond (is_loose (look (suc k))) (suc k ∷ []) [], ap (λ xs. xs ++ cond (is_loose (look (suc k))) (suc k ∷ []) []) r.1)
+
+  document-loose : (o : Option (Row N)) → standing o ≡ Some (document, None) → is_loose o ≡ true
+  document-loose None e = cc
+  document-loose (Some r) e = ap is_none (ap (λ (m : What N × Option ℕ). m.1) (some_inj e))
+
+  begins : (look : Look N) (f : Forest N) (xs : List ℕ) → roots f ≡ 0 ∷ xs → Loose look f → standing (look 0) ≡ Some (document, None) → (kids : Forest N) × (rest : Forest N) × (f ≡ tree 0 document kids rest)
+  begins look none xs e s d = cc
+  begins look (tree b w kids rest) xs e s d =
+      let zeroth : b ≡ 0 = cons_inj e in
+      let same : w ≡ document = ap (λ (m : What N × Option ℕ). m.0) (some_inj (sym (ap standing s.0.0) ∙ ap (λ n. standing (look n)) zeroth ∙ d)) in
+      (kids, rest, λ i. tree (zeroth i) (same i) kids rest)
+    where
+      cons_inj : {x y : ℕ} {us vs : List ℕ} → x ∷ us ≡ y ∷ vs → x ≡ y
+      cons_inj j = cc
+
+pub are_nodes : (t : Inside) (v : Nodes ℕ) → Opened t v → AreNodes v
+are_nodes t v o =
+    let count = length t.nodes.items in
+    let first = loose-begins (look_in t.nodes.items) count (let h = begun_made t v o in omega (arith, o.made)) (document-loose (look_in t.nodes.items 0) o.begun) in
+    record {
+      once = λ n. (o.stands.once n ∙ ap (λ m. cond (ltb n m) 1 0) o.made);
+      begins = begins (look_in t.nodes.items) v.trees first.0 (o.stands.loose_ones ∙ first.1) o.stands.rows o.begun;
+      fits = omega (arith, o.made, o.limit, o.fits);
+    }
+
+-- another forest stands in as many nodes
+pub edited : (t : Inside) (v : Nodes ℕ) (new : List Node) (g : Forest ℕ) → Opened t v → length new ≡ length t.nodes.items → StandsIn (length t.nodes.items) (look_in new) g → standing (look_in new 0) ≡ standing (look_in t.nodes.items 0)
+    → ((f : Forest ℕ) × StandsIn (length new) (look_in new) f) × (standing (look_in new 0) ≡ Some (document, None)) × (length new ≤ t.limit)
+edited t v new g o same s d = ((g, rw same s), d ∙ o.begun, rw same o.fits)
+
+pub edited_view : (t : Inside) (v : Nodes ℕ) (new : List Node) (g : Forest ℕ) → Opened t v → length new ≡ length t.nodes.items → StandsIn (length t.nodes.items) (look_in new) g
+    → record { limit = t.limit; made = length new; trees = whole (length new) (look_in new) } ≡ record v { trees = g }
+edited_view t v new g o same s = rw (same, whole-stands (length t.nodes.items) (look_in new) g s, o.made, o.limit) refl
+
+-- A call that may change what node n is.
+module _ {E : Type 0} (t : Inside) (v : Nodes ℕ) (new : List Node) (n : ℕ) (g : What ℕ → What ℕ) (r : Result (Unit {0}) E) where
+  pub became : Opened t v → g document ≡ document → OnOk r (IsChanged n (with_what g) t.nodes.items new) → OnErr r (IsUnchanged t.nodes.items new)
+      → ((f : Forest ℕ) × StandsIn (length new) (look_in new) f) × (standing (look_in new 0) ≡ Some (document, None)) × (length new ≤ t.limit)
+  became o same = go r
+    where
+      go : (a : Result (Unit {0}) E) → OnOk a (IsChanged n (with_what g) t.nodes.items new) → OnErr a (IsUnchanged t.nodes.items new)
+          → ((f : Forest ℕ) × StandsIn (length new) (look_in new) f) × (standing (look_in new 0) ≡ Some (document, None)) × (length new ≤ t.limit)
+      go (Ok u) is _ = ((change_what n g v.trees, rw is.0 (StandsIn-what n g (length t.nodes.items) (look_in t.nodes.items) (look_in new) v.trees o.stands is.1)), document-what n g (look_in t.nodes.items) (look_in new) same is.1 0 o.begun, rw is.0 o.fits)
+      go (Err e) _ is = edited t v new v.trees o is.0 (StandsIn-same (length t.nodes.items) (look_in t.nodes.items) (look_in new) v.trees o.stands is.1) (ap standing (is.1 0))
+
+  pub became_view : Opened t v → OnOk r (IsChanged n (with_what g) t.nodes.items new)
+      → OnOk r (record { limit = t.limit; made = length new; trees = whole (length new) (look_in new) } ≡ record v { trees = change_what n g v.trees })
+  became_view o = go r
+    where
+      go : (a : Result (Unit {0}) E) → OnOk a (IsChanged n (with_what g) t.nodes.items new) → OnOk a (record { limit = t.limit; made = length new; trees = whole (length new) (look_in new) } ≡ record v { trees = change_what n g v.trees })
+      go (Ok u) is = edited_view t v new (change_what n g v.trees) o is.0 (StandsIn-what n g (length t.nodes.items) (look_in t.nodes.items) (look_in new) v.trees o.stands is.1)
+      go (Err e) is = tt

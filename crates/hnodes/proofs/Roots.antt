@@ -1,0 +1,113 @@
+-- Which nodes are loose.
+use Rattle.std.proofs.Common.{◌≡◌, ◌≢◌, ℕ, zero, suc, ◌<◌, ◌≤◌, Bool, true, false, eqb, cond, List, [], ◌∷◌, ◌++◌, Option, Some, None, is_none, refl, sym, ◌∙◌, ap, arith}
+use Rattle.std.proofs.lemmas.Bool.{eqb-true, eq-eqb, ne_eqb, eqb-false}
+use Rattle.std.specs.Option.{option_map}
+use Rattle.hnodes.specs.Forest.{What}
+use Rattle.hnodes.specs.Links.{Row, Look, standing, loose, is_loose, at_row, after_link, before_link, spliced, leave, hooked, with_place, with_last, with_first, with_next, with_previous}
+use Rattle.hnodes.proofs.Forests.{some_inj, without}
+
+assoc : (xs ys zs : List ℕ) → (xs ++ ys) ++ zs ≡ xs ++ (ys ++ zs)
+assoc [] ys zs = refl
+assoc (x ∷ xs) ys zs = ap (λ l. x ∷ l) (assoc xs ys zs)
+
+without-end : (n c : ℕ) (xs : List ℕ) → c ≢ n → without n (xs ++ c ∷ []) ≡ without n xs ++ c ∷ []
+without-end n c [] h = rw (ne_eqb c n h) refl
+without-end n c (x ∷ xs) h = go (without-end n c xs h) (eqb x n)
+  where
+    go : without n (xs ++ c ∷ []) ≡ without n xs ++ c ∷ [] → (v : Bool) → cond v (xs ++ c ∷ []) (x ∷ without n (xs ++ c ∷ [])) ≡ cond v xs (x ∷ without n xs) ++ c ∷ []
+    go r true = refl
+    go r false = ap (λ l. x ∷ l) r
+
+nil-right : (xs : List ℕ) → xs ++ [] ≡ xs
+nil-right [] = refl
+nil-right (x ∷ xs) = ap (λ l. x ∷ l) (nil-right xs)
+
+module _ {N : Type 0} where
+  standing-loose : (o u : Option (Row N)) → standing o ≡ standing u → is_loose o ≡ is_loose u
+  standing-loose None None e = refl
+  standing-loose None (Some r) e = cc
+  standing-loose (Some r) None e = cc
+  standing-loose (Some r) (Some s) e = ap is_none (same e)
+    where
+      same : standing (Some r) ≡ standing (Some s) → r.parent ≡ s.parent
+      same j = ap (λ (m : What N × Option ℕ). m.1) (some_inj j)
+
+  pub keeps : (f : Row N → Row N) → ((r : Row N) → standing (Some (f r)) ≡ standing (Some r)) → (k : ℕ) (look : Look N) (b : ℕ) → standing (at_row k f look b) ≡ standing (look b)
+  keeps f h k look b = go (eqb b k) (look b)
+    where
+      go : (v : Bool) (o : Option (Row N)) → standing (cond v (option_map f o) o) ≡ standing o
+      go true None = refl
+      go true (Some r) = h r
+      go false o = refl
+
+  keeps-after : (q : ℕ) (x y : Option ℕ) (look : Look N) (b : ℕ) → standing (after_link q x y look b) ≡ standing (look b)
+  keeps-after q None y look b = keeps (with_first y) (λ r. refl) q look b
+  keeps-after q (Some a) y look b = keeps (with_next y) (λ r. refl) a look b
+
+  keeps-before : (q : ℕ) (y x : Option ℕ) (look : Look N) (b : ℕ) → standing (before_link q y x look b) ≡ standing (look b)
+  keeps-before q None x look b = keeps (with_last x) (λ r. refl) q look b
+  keeps-before q (Some a) x look b = keeps (with_previous x) (λ r. refl) a look b
+
+  keeps-spliced : (q : ℕ) (a c x y : Option ℕ) (look : Look N) (b : ℕ) → standing (spliced q a c x y look b) ≡ standing (look b)
+  keeps-spliced q a c x y look b = keeps-before q c x (after_link q a y look) b ∙ keeps-after q a y look b
+
+  -- that a node leaves and comes changes what no other node is, nor its parent
+  pub keeps-leave : (n : ℕ) (p x y : Option ℕ) (look : Look N) (b : ℕ) → b ≢ n → standing (leave n p x y look b) ≡ standing (look b)
+  keeps-leave n None x y look b h = refl
+  keeps-leave n (Some q) x y look b h = rw (ne_eqb b n h) (keeps-spliced q x y x y look b)
+
+  keeps-hooked : (n q : ℕ) (x y : Option ℕ) (look : Look N) (b : ℕ) → b ≢ n → standing (hooked n q x y look b) ≡ standing (look b)
+  keeps-hooked n q x y look b h = rw (ne_eqb b n h) (keeps-spliced q x y (Some n) (Some n) look b)
+
+  hooked-bound : (n q : ℕ) (x y : Option ℕ) (look : Look N) → is_loose (hooked n q x y look n) ≡ false
+  hooked-bound n q x y look = rw (eq-eqb n n refl) (go (spliced q x y (Some n) (Some n) look n))
+    where
+      go : (o : Option (Row N)) → is_loose (option_map (with_place (Some q) x y) o) ≡ false
+      go None = refl
+      go (Some r) = refl
+
+  -- a number from c on is not among the loose ones before c
+  past : (n : ℕ) (look : Look N) (c : ℕ) (ys : List ℕ) → c ≤ n → without n (loose c look ++ ys) ≡ loose c look ++ without n ys
+  past n look zero ys h = refl
+  past n look (suc c) ys h =
+      ap (without n) (assoc (loose c look) (cond (is_loose (look c)) (c ∷ []) []) ys) ∙ past n look c (cond (is_loose (look c)) (c ∷ []) [] ++ ys) (omega arith)
+      ∙ ap (λ zs. loose c look ++ zs) (go (is_loose (look c))) ∙ sym (assoc (loose c look) (cond (is_loose (look c)) (c ∷ []) []) (without n ys))
+    where
+      go : (v : Bool) → without n (cond v (c ∷ []) [] ++ ys) ≡ cond v (c ∷ []) [] ++ without n ys
+      go true = rw (ne_eqb c n (λ j. absurd (omega arith))) refl
+      go false = refl
+
+  pub loose-same : (look new : Look N) (c : ℕ) → ((b : ℕ) → b < c → is_loose (new b) ≡ is_loose (look b)) → loose c new ≡ loose c look
+  loose-same look new zero same = refl
+  loose-same look new (suc c) same =
+      let here : is_loose (new c) ≡ is_loose (look c) = same c (omega arith) in
+      rw (here, loose-same look new c (λ b h. same b (omega arith))) refl
+
+  -- node n is bound, and the others are as before
+  loose-bound : (n : ℕ) (look new : Look N) (c : ℕ) → is_loose (new n) ≡ false → ((b : ℕ) → b ≢ n → is_loose (new b) ≡ is_loose (look b)) → loose c new ≡ without n (loose c look)
+  loose-bound n look new zero bound same = refl
+  loose-bound n look new (suc c) bound same = go (loose-bound n look new c bound same) (eqb c n) refl
+    where
+      other : (v : Bool) → c ≢ n → loose c new ≡ without n (loose c look) → loose c new ++ cond v (c ∷ []) [] ≡ without n (loose c look ++ cond v (c ∷ []) [])
+      other true h r = ap (λ xs. xs ++ c ∷ []) r ∙ sym (without-end n c (loose c look) h)
+      other false h r = nil-right (loose c new) ∙ r ∙ ap (without n) (sym (nil-right (loose c look)))
+
+      self : (v : Bool) → c ≡ n → loose c new ≡ loose c look → loose c new ++ [] ≡ without n (loose c look ++ cond v (c ∷ []) [])
+      self true j r = nil-right (loose c new) ∙ r ∙ sym (past n look c (c ∷ []) (omega arith) ∙ rw (eq-eqb c n j) (nil-right (loose c look)))
+      self false j r = nil-right (loose c new) ∙ r ∙ sym (past n look c [] (omega arith) ∙ nil-right (loose c look))
+
+      go : loose c new ≡ without n (loose c look) → (v : Bool) → eqb c n ≡ v → loose c new ++ cond (is_loose (new c)) (c ∷ []) [] ≡ without n (loose c look ++ cond (is_loose (look c)) (c ∷ []) [])
+      go r true e =
+          let j : c ≡ n = eqb-true c n e in
+          let no : is_loose (new c) ≡ false = rw j bound in
+          rw no (self (is_loose (look c)) j (loose-same look new c (λ b h. same b (λ i. absurd (omega arith)))))
+      go r false e = rw (same c (eqb-false c n e)) (other (is_loose (look c)) (eqb-false c n e) r)
+
+  pub standing-moved : (n q : ℕ) (p x y a c : Option ℕ) (look mid new : Look N) → ((b : ℕ) → mid b ≡ leave n p x y look b) → ((b : ℕ) → new b ≡ hooked n q a c mid b) → (b : ℕ) → b ≢ n → standing (new b) ≡ standing (look b)
+  standing-moved n q p x y a c look mid new is is' b i = ap standing (is' b) ∙ keeps-hooked n q a c mid b i ∙ ap standing (is b) ∙ keeps-leave n p x y look b i
+
+  -- a node leaves its place and comes below another
+  pub loose-moved : (n q count : ℕ) (p x y a c : Option ℕ) (look mid new : Look N) → ((b : ℕ) → mid b ≡ leave n p x y look b) → ((b : ℕ) → new b ≡ hooked n q a c mid b) → loose count new ≡ without n (loose count look)
+  loose-moved n q count p x y a c look mid new is is' =
+      loose-bound n look new count (ap is_loose (is' n) ∙ hooked-bound n q a c mid)
+      (λ b i. standing-loose (new b) (look b) (standing-moved n q p x y a c look mid new is is' b i))

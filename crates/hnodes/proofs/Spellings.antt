@@ -1,0 +1,262 @@
+-- A forest under other names.
+use Rattle.std.proofs.Common.{◌≡◌, ℕ, ◌+◌, Bool, true, false, eqb, cond, [], ◌∷◌, map, Option, Some, None, refl, sym, ◌∙◌, ap, option_and_then}
+use Rattle.std.proofs.lemmas.List.{map-append}
+use Rattle.std.specs.Option.{option_map}
+use Rattle.std.specs.Char.{encode_utf8}
+use Rattle.hnodes.specs.Forest.{Attribute, What, document, doctype, element, comment, text, Forest, none, tree, join, tree_at, cut, children_of, change_children, change_what, put_before}
+use Rattle.hnodes.specs.Spots.{Spot, first_or, last_or, spot_below, spot_of, either_of, parent_of, last_child_of, previous_of, what_of, kind_in, name_in, attributes_in, text_in, doctype_in}
+use Rattle.hnodes.specs.Edits.{Nodes, graft, graft_last, graft_before, move_all, with_attribute, with_char, before_place, if_text, text_before, char_into}
+use Rattle.hnodes.specs.Spelled.{spelled_attribute, spelled_what, spelled, spelled_nodes, spelled_spot, EditsKnowNoNames, QuestionsKnowNoNames}
+use Rattle.hnodes.specs.declared.node.Place.{Place}
+use Rattle.hnodes.specs.declared.node.Place.TheVariants.{LastIn, Before}
+
+module _ {N M : Type 0} (g : N → M) where
+  spelled-join : (f h : Forest N) → spelled g (join f h) ≡ join (spelled g f) (spelled g h)
+  spelled-join none h = refl
+  spelled-join (tree b w kids rest) h = ap (tree b (spelled_what g w) (spelled g kids)) (spelled-join rest h)
+
+  spelled-tree_at : (n : ℕ) (f : Forest N) → spelled g (tree_at n f) ≡ tree_at n (spelled g f)
+  spelled-tree_at n none = refl
+  spelled-tree_at n (tree b w kids rest) = go (eqb b n) (spelled-tree_at n kids) (spelled-tree_at n rest)
+    where
+      go : (v : Bool) → spelled g (tree_at n kids) ≡ tree_at n (spelled g kids) → spelled g (tree_at n rest) ≡ tree_at n (spelled g rest)
+          → spelled g (cond v (tree b w kids none) (join (tree_at n kids) (tree_at n rest))) ≡ cond v (tree b (spelled_what g w) (spelled g kids) none) (join (tree_at n (spelled g kids)) (tree_at n (spelled g rest)))
+      go true l r = refl
+      go false l r = spelled-join (tree_at n kids) (tree_at n rest) ∙ (λ i. join (l i) (r i))
+
+  spelled-children_of : (n : ℕ) (f : Forest N) → spelled g (children_of n f) ≡ children_of n (spelled g f)
+  spelled-children_of n none = refl
+  spelled-children_of n (tree b w kids rest) = go (eqb b n) (spelled-children_of n kids) (spelled-children_of n rest)
+    where
+      go : (v : Bool) → spelled g (children_of n kids) ≡ children_of n (spelled g kids) → spelled g (children_of n rest) ≡ children_of n (spelled g rest)
+          → spelled g (cond v kids (join (children_of n kids) (children_of n rest))) ≡ cond v (spelled g kids) (join (children_of n (spelled g kids)) (children_of n (spelled g rest)))
+      go true l r = refl
+      go false l r = spelled-join (children_of n kids) (children_of n rest) ∙ (λ i. join (l i) (r i))
+
+  spelled-cut : (n : ℕ) (f : Forest N) → spelled g (cut n f) ≡ cut n (spelled g f)
+  spelled-cut n none = refl
+  spelled-cut n (tree b w kids rest) = go (eqb b n) (spelled-cut n kids) (spelled-cut n rest)
+    where
+      go : (v : Bool) → spelled g (cut n kids) ≡ cut n (spelled g kids) → spelled g (cut n rest) ≡ cut n (spelled g rest)
+          → spelled g (cond v rest (tree b w (cut n kids) (cut n rest))) ≡ cond v (spelled g rest) (tree b (spelled_what g w) (cut n (spelled g kids)) (cut n (spelled g rest)))
+      go true l r = refl
+      go false l r = λ i. tree b (spelled_what g w) (l i) (r i)
+
+  spelled-change_children : (n : ℕ) (h : Forest N → Forest N) (h' : Forest M → Forest M) → ((k : Forest N) → spelled g (h k) ≡ h' (spelled g k)) → (f : Forest N) → spelled g (change_children n h f) ≡ change_children n h' (spelled g f)
+  spelled-change_children n h h' same none = refl
+  spelled-change_children n h h' same (tree b w kids rest) = go (eqb b n) (spelled-change_children n h h' same kids) (spelled-change_children n h h' same rest)
+    where
+      go : (v : Bool) → spelled g (change_children n h kids) ≡ change_children n h' (spelled g kids) → spelled g (change_children n h rest) ≡ change_children n h' (spelled g rest)
+          → spelled g (cond v (tree b w (h kids) rest) (tree b w (change_children n h kids) (change_children n h rest)))
+          ≡ cond v (tree b (spelled_what g w) (h' (spelled g kids)) (spelled g rest)) (tree b (spelled_what g w) (change_children n h' (spelled g kids)) (change_children n h' (spelled g rest)))
+      go true l r = λ i. tree b (spelled_what g w) (same kids i) (spelled g rest)
+      go false l r = λ i. tree b (spelled_what g w) (l i) (r i)
+
+  spelled-put_before : (n : ℕ) (t f : Forest N) → spelled g (put_before n t f) ≡ put_before n (spelled g t) (spelled g f)
+  spelled-put_before n t none = refl
+  spelled-put_before n t (tree b w kids rest) = go (eqb b n) (spelled-put_before n t kids) (spelled-put_before n t rest)
+    where
+      go : (v : Bool) → spelled g (put_before n t kids) ≡ put_before n (spelled g t) (spelled g kids) → spelled g (put_before n t rest) ≡ put_before n (spelled g t) (spelled g rest)
+          → spelled g (cond v (join t (tree b w kids rest)) (tree b w (put_before n t kids) (put_before n t rest)))
+          ≡ cond v (join (spelled g t) (tree b (spelled_what g w) (spelled g kids) (spelled g rest))) (tree b (spelled_what g w) (put_before n (spelled g t) (spelled g kids)) (put_before n (spelled g t) (spelled g rest)))
+      go true l r = spelled-join t (tree b w kids rest)
+      go false l r = λ i. tree b (spelled_what g w) (l i) (r i)
+
+  spelled-change_what : (n : ℕ) (h : What N → What N) (h' : What M → What M) → ((w : What N) → spelled_what g (h w) ≡ h' (spelled_what g w)) → (f : Forest N) → spelled g (change_what n h f) ≡ change_what n h' (spelled g f)
+  spelled-change_what n h h' same none = refl
+  spelled-change_what n h h' same (tree b w kids rest) =
+      let l = spelled-change_what n h h' same kids in
+      let r = spelled-change_what n h h' same rest in
+      λ i. tree b (go (eqb b n) i) (l i) (r i)
+    where
+      go : (v : Bool) → spelled_what g (cond v (h w) w) ≡ cond v (h' (spelled_what g w)) (spelled_what g w)
+      go true = same w
+      go false = refl
+
+  -- places
+  spelled-first_or : (f : Forest N) (y : Option ℕ) → first_or (spelled g f) y ≡ first_or f y
+  spelled-first_or none y = refl
+  spelled-first_or (tree b w kids rest) y = refl
+
+  spelled-last_or : (x : Option ℕ) (f : Forest N) → last_or x (spelled g f) ≡ last_or x f
+  spelled-last_or x none = refl
+  spelled-last_or x (tree b w kids rest) = spelled-last_or (Some b) rest
+
+  either-spelled : (x y : Option (Spot N)) → either_of (option_map (spelled_spot g) x) (option_map (spelled_spot g) y) ≡ option_map (spelled_spot g) (either_of x y)
+  either-spelled None y = refl
+  either-spelled (Some s) y = refl
+
+  spelled-below : (n : ℕ) (p x : Option ℕ) (f : Forest N) → spot_below n p x (spelled g f) ≡ option_map (spelled_spot g) (spot_below n p x f)
+  spelled-below n p x none = refl
+  spelled-below n p x (tree b w kids rest) = go (eqb b n) (spelled-below n (Some b) None kids) (spelled-below n p (Some b) rest)
+    where
+      go : (v : Bool) → spot_below n (Some b) None (spelled g kids) ≡ option_map (spelled_spot g) (spot_below n (Some b) None kids) → spot_below n p (Some b) (spelled g rest) ≡ option_map (spelled_spot g) (spot_below n p (Some b) rest)
+          → cond v (Some (record { parent = p; before = x; what = spelled_what g w; children = spelled g kids; after = spelled g rest })) (either_of (spot_below n (Some b) None (spelled g kids)) (spot_below n p (Some b) (spelled g rest)))
+          ≡ option_map (spelled_spot g) (cond v (Some (record { parent = p; before = x; what = w; children = kids; after = rest })) (either_of (spot_below n (Some b) None kids) (spot_below n p (Some b) rest)))
+      go true l r = refl
+      go false l r = (λ i. either_of (l i) (r i)) ∙ either-spelled (spot_below n (Some b) None kids) (spot_below n p (Some b) rest)
+
+  spelled-spot : (n : ℕ) (f : Forest N) → spot_of n (spelled g f) ≡ option_map (spelled_spot g) (spot_of n f)
+  spelled-spot n none = refl
+  spelled-spot n (tree b w kids rest) =
+      let l = spelled-below n None None (tree b w kids none) in
+      let r = spelled-spot n rest in
+      (λ i. either_of (l i) (r i)) ∙ either-spelled (spot_below n None None (tree b w kids none)) (spot_of n rest)
+
+  -- what is asked of a place
+  asked : {A : Type 0} (q : Spot M → Option A) (q' : Spot N → Option A) → ((s : Spot N) → q (spelled_spot g s) ≡ q' s) → (n : ℕ) (f : Forest N) → option_and_then q (spot_of n (spelled g f)) ≡ option_and_then q' (spot_of n f)
+  asked q q' same n f = ap (option_and_then q) (spelled-spot n f) ∙ go (spot_of n f)
+    where
+      go : (o : Option (Spot N)) → option_and_then q (option_map (spelled_spot g) o) ≡ option_and_then q' o
+      go None = refl
+      go (Some s) = same s
+
+  spelled-what_of : (n : ℕ) (f : Forest N) → what_of n (spelled g f) ≡ option_map (spelled_what g) (what_of n f)
+  spelled-what_of n f = ap (option_map (λ s. s.what)) (spelled-spot n f) ∙ go (spot_of n f)
+    where
+      go : (o : Option (Spot N)) → option_map (λ s. s.what) (option_map (spelled_spot g) o) ≡ option_map (spelled_what g) (option_map (λ s. s.what) o)
+      go None = refl
+      go (Some s) = refl
+
+  -- what is asked of what a node is
+  asked-what : {A B : Type 0} (q : What M → Option B) (q' : What N → Option A) (h : A → B) → ((w : What N) → q (spelled_what g w) ≡ option_map h (q' w)) → (n : ℕ) (f : Forest N)
+      → option_and_then q (what_of n (spelled g f)) ≡ option_map h (option_and_then q' (what_of n f))
+  asked-what q q' h same n f = ap (option_and_then q) (spelled-what_of n f) ∙ go (what_of n f)
+    where
+      go : (o : Option (What N)) → option_and_then q (option_map (spelled_what g) o) ≡ option_map h (option_and_then q' o)
+      go None = refl
+      go (Some w) = same w
+
+  option_map-id : {A : Type 0} (o : Option A) → option_map (λ a. a) o ≡ o
+  option_map-id None = refl
+  option_map-id (Some a) = refl
+
+  spelled-kind : (w : What N) → kind_in (spelled_what g w) ≡ kind_in w
+  spelled-kind document = refl
+  spelled-kind (doctype n p s) = refl
+  spelled-kind (element x attrs) = refl
+  spelled-kind (comment t) = refl
+  spelled-kind (text t) = refl
+
+  spelled-name : (w : What N) → name_in (spelled_what g w) ≡ option_map g (name_in w)
+  spelled-name document = refl
+  spelled-name (doctype n p s) = refl
+  spelled-name (element x attrs) = refl
+  spelled-name (comment t) = refl
+  spelled-name (text t) = refl
+
+  spelled-attributes : (w : What N) → attributes_in (spelled_what g w) ≡ option_map (map (spelled_attribute g)) (attributes_in w)
+  spelled-attributes document = refl
+  spelled-attributes (doctype n p s) = refl
+  spelled-attributes (element x attrs) = refl
+  spelled-attributes (comment t) = refl
+  spelled-attributes (text t) = refl
+
+  spelled-text : (w : What N) → text_in (spelled_what g w) ≡ option_map (λ a. a) (text_in w)
+  spelled-text document = refl
+  spelled-text (doctype n p s) = refl
+  spelled-text (element x attrs) = refl
+  spelled-text (comment t) = refl
+  spelled-text (text t) = refl
+
+  spelled-doctype : (w : What N) → doctype_in (spelled_what g w) ≡ option_map (λ a. a) (doctype_in w)
+  spelled-doctype document = refl
+  spelled-doctype (doctype n p s) = refl
+  spelled-doctype (element x attrs) = refl
+  spelled-doctype (comment t) = refl
+  spelled-doctype (text t) = refl
+
+  spelled-parent_of : (n : ℕ) (f : Forest N) → parent_of n (spelled g f) ≡ parent_of n f
+  spelled-parent_of n f = asked (λ s. s.parent) (λ s. s.parent) (λ s. refl) n f
+
+  spelled-last_child_of : (n : ℕ) (f : Forest N) → last_child_of n (spelled g f) ≡ last_child_of n f
+  spelled-last_child_of n f = asked (λ s. last_or None s.children) (λ s. last_or None s.children) (λ s. spelled-last_or None s.children) n f
+
+  spelled-previous_of : (n : ℕ) (f : Forest N) → previous_of n (spelled g f) ≡ previous_of n f
+  spelled-previous_of n f = asked (λ s. s.before) (λ s. s.before) (λ s. refl) n f
+
+  pub questions : QuestionsKnowNoNames g
+  questions = record {
+    parent = spelled-parent_of;
+    first_child = λ n f. asked (λ s. first_or s.children None) (λ s. first_or s.children None) (λ s. spelled-first_or s.children None) n f;
+    last_child = spelled-last_child_of;
+    next = λ n f. asked (λ s. first_or s.after None) (λ s. first_or s.after None) (λ s. spelled-first_or s.after None) n f;
+    previous = spelled-previous_of;
+    kind = λ n f. (ap (option_map kind_in) (spelled-what_of n f) ∙ kinds (what_of n f));
+    name = λ n f. asked-what name_in name_in g spelled-name n f;
+    attrs = λ n f. asked-what attributes_in attributes_in (map (spelled_attribute g)) spelled-attributes n f;
+    text = λ n f. (asked-what text_in text_in (λ a. a) spelled-text n f ∙ option_map-id (option_and_then text_in (what_of n f)));
+    doctype = λ n f. (asked-what doctype_in doctype_in (λ a. a) spelled-doctype n f ∙ option_map-id (option_and_then doctype_in (what_of n f)));
+  }
+    where
+      kinds : (o : Option (What N)) → option_map kind_in (option_map (spelled_what g) o) ≡ option_map kind_in o
+      kinds None = refl
+      kinds (Some w) = ap (λ k. Some k) (spelled-kind w)
+
+  -- edits
+  spelled-graft_last : (n p : ℕ) (f : Forest N) → spelled g (graft_last n p f) ≡ graft_last n p (spelled g f)
+  spelled-graft_last n p f =
+      spelled-change_children p (λ kids. join kids (tree_at n f)) (λ kids. join kids (tree_at n (spelled g f))) (λ k. spelled-join k (tree_at n f) ∙ ap (join (spelled g k)) (spelled-tree_at n f)) (cut n f)
+      ∙ ap (change_children p (λ kids. join kids (tree_at n (spelled g f)))) (spelled-cut n f)
+
+  spelled-graft_before : (n s : ℕ) (f : Forest N) → spelled g (graft_before n s f) ≡ graft_before n s (spelled g f)
+  spelled-graft_before n s f = spelled-put_before s (tree_at n f) (cut n f) ∙ (λ i. put_before s (spelled-tree_at n f i) (spelled-cut n f i))
+
+  spelled-graft : (n : ℕ) (place : Place) (f : Forest N) → spelled g (graft n place f) ≡ graft n place (spelled g f)
+  spelled-graft n (LastIn p) f = spelled-graft_last n p f
+  spelled-graft n (Before s) f = spelled-graft_before n s f
+
+  spelled-move_all : (m p : ℕ) (f : Forest N) → spelled g (move_all m p f) ≡ move_all m p (spelled g f)
+  spelled-move_all m p f =
+      spelled-change_children p (λ kids. join kids (children_of m f)) (λ kids. join kids (children_of m (spelled g f))) (λ k. spelled-join k (children_of m f) ∙ ap (join (spelled g k)) (spelled-children_of m f)) (change_children m (λ _. none) f)
+      ∙ ap (change_children p (λ kids. join kids (children_of m (spelled g f)))) (spelled-change_children m (λ _. none) (λ _. none) (λ k. refl) f)
+
+  spelled-with_attribute : (a : Attribute N) (w : What N) → spelled_what g (with_attribute a w) ≡ with_attribute (spelled_attribute g a) (spelled_what g w)
+  spelled-with_attribute a document = refl
+  spelled-with_attribute a (doctype n p s) = refl
+  spelled-with_attribute a (element x attrs) = ap (element (g x)) (map-append (spelled_attribute g) attrs (a ∷ []))
+  spelled-with_attribute a (comment t) = refl
+  spelled-with_attribute a (text t) = refl
+
+  spelled-with_char : (c : ℕ) (w : What N) → spelled_what g (with_char c w) ≡ with_char c (spelled_what g w)
+  spelled-with_char c document = refl
+  spelled-with_char c (doctype n p s) = refl
+  spelled-with_char c (element x attrs) = refl
+  spelled-with_char c (comment t) = refl
+  spelled-with_char c (text t) = refl
+
+  spelled-if_text : (n : ℕ) (o : Option (What N)) → if_text n (option_map (spelled_what g) o) ≡ if_text n o
+  spelled-if_text n None = refl
+  spelled-if_text n (Some document) = refl
+  spelled-if_text n (Some (doctype a p s)) = refl
+  spelled-if_text n (Some (element x attrs)) = refl
+  spelled-if_text n (Some (comment t)) = refl
+  spelled-if_text n (Some (text t)) = refl
+
+  spelled-text_before : (place : Place) (f : Forest N) → text_before place (spelled g f) ≡ text_before place f
+  spelled-text_before place f = ap (option_and_then (λ n. if_text n (what_of n (spelled g f)))) (here place) ∙ go (before_place place f)
+    where
+      here : (place : Place) → before_place place (spelled g f) ≡ before_place place f
+      here (LastIn p) = spelled-last_child_of p f
+      here (Before s) = spelled-previous_of s f
+
+      go : (o : Option ℕ) → option_and_then (λ n. if_text n (what_of n (spelled g f))) o ≡ option_and_then (λ n. if_text n (what_of n f)) o
+      go None = refl
+      go (Some n) = ap (if_text n) (spelled-what_of n f) ∙ spelled-if_text n (what_of n f)
+
+  spelled-char_into : (c : ℕ) (place : Place) (o : Option ℕ) (t : Nodes N) → spelled_nodes g (char_into c place o t) ≡ char_into c place o (spelled_nodes g t)
+  spelled-char_into c place None t = λ i. record { limit = t.limit; made = t.made + 1; trees = trees i }
+    where
+      trees : spelled g (graft t.made place (join t.trees (tree t.made (text (encode_utf8 c)) none none))) ≡ graft t.made place (join (spelled g t.trees) (tree t.made (text (encode_utf8 c)) none none))
+      trees = spelled-graft t.made place (join t.trees (tree t.made (text (encode_utf8 c)) none none)) ∙ ap (graft t.made place) (spelled-join t.trees (tree t.made (text (encode_utf8 c)) none none))
+  spelled-char_into c place (Some n) t = λ i. record { limit = t.limit; made = t.made; trees = spelled-change_what n (with_char c) (with_char c) (spelled-with_char c) t.trees i }
+
+  pub edits : EditsKnowNoNames g
+  edits = record {
+    make = λ w t. (λ i. record { limit = t.limit; made = t.made + 1; trees = spelled-join t.trees (tree t.made w none none) i });
+    append = spelled-graft_last;
+    insert_before = spelled-graft_before;
+    move_children = spelled-move_all;
+    add_attr = λ n a f. spelled-change_what n (with_attribute a) (with_attribute (spelled_attribute g a)) (spelled-with_attribute a) f;
+    put_char = λ c place t. (spelled-char_into c place (text_before place t.trees) t ∙ ap (λ o. char_into c place o (spelled_nodes g t)) (sym (spelled-text_before place t.trees)));
+  }

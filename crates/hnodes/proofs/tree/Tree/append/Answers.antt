@@ -1,0 +1,22 @@
+use Rattle.std.proofs.Common.{◌∙◌, None}
+use Rattle.hnodes.proofs.Opened.{opened, linked, edited, edited_view}
+use Rattle.hnodes.proofs.Moves.{gone, document_stays, last_within, appended}
+use Rattle.hnodes.proofs.tree.Tree.append.Goals as goal
+
+pub detach-requires-clause-parent_in : goal.detach-requires-clause-parent_in
+detach-requires-clause-parent_in c = (linked c.self.inside c.args.self.now c.args.child (opened c.self.inside c.args.self.now c.self.view_is c.self.invariant) c.requires.child_in).0
+
+pub detach-requires-clause-previous_in : goal.detach-requires-clause-previous_in
+detach-requires-clause-previous_in c = (linked c.self.inside c.args.self.now c.args.child (opened c.self.inside c.args.self.now c.self.view_is c.self.invariant) c.requires.child_in).1
+
+pub detach-requires-clause-next_in : goal.detach-requires-clause-next_in
+detach-requires-clause-next_in c = (linked c.self.inside c.args.self.now c.args.child (opened c.self.inside c.args.self.now c.self.view_is c.self.invariant) c.requires.child_in).2
+
+pub hook-requires-clause-previous_in : goal.hook-requires-clause-previous_in
+hook-requires-clause-previous_in c = last_within c.self.inside c.args.self.now c.detach.new.nodes.items c.detach.new.nodes.items c.args.child c.args.parent c.index.result.now (gone c.self.inside c.args.self.now c.detach.new.nodes.items c.args.child c.args.parent c.parent.inside.number c.index.result.now c.self.view_is c.self.invariant c.requires.child_in c.requires.parent_in c.requires.not_inside c.detach.ensures c.parent.view_is c.index.ensures)
+
+pub invariant_of-self : goal.invariant_of-self
+invariant_of-self c = edited c.self.inside c.args.self.now c.hook.new.nodes.items _ (opened c.self.inside c.args.self.now c.self.view_is c.self.invariant) (c.hook.ensures.0 ∙ c.detach.ensures.0) (appended c.self.inside c.args.self.now c.detach.new.nodes.items c.hook.new.nodes.items c.args.child c.args.parent c.index.result.now (gone c.self.inside c.args.self.now c.detach.new.nodes.items c.args.child c.args.parent c.parent.inside.number c.index.result.now c.self.view_is c.self.invariant c.requires.child_in c.requires.parent_in c.requires.not_inside c.detach.ensures c.parent.view_is c.index.ensures) c.hook.ensures) (document_stays c.self.inside c.args.self.now c.detach.new.nodes.items c.hook.new.nodes.items c.args.child c.args.parent c.index.result.now (gone c.self.inside c.args.self.now c.detach.new.nodes.items c.args.child c.args.parent c.parent.inside.number c.index.result.now c.self.view_is c.self.invariant c.requires.child_in c.requires.parent_in c.requires.not_inside c.detach.ensures c.parent.view_is c.index.ensures) c.requires.not_document c.args.parent c.index.result.now.last None c.hook.ensures)
+
+pub returns : goal.returns
+returns c = edited_view c.self.inside c.args.self.now c.hook.new.nodes.items _ (opened c.self.inside c.args.self.now c.self.view_is c.self.invariant) (c.hook.ensures.0 ∙ c.detach.ensures.0) (appended c.self.inside c.args.self.now c.detach.new.nodes.items c.hook.new.nodes.items c.args.child c.args.parent c.index.result.now (gone c.self.inside c.args.self.now c.detach.new.nodes.items c.args.child c.args.parent c.parent.inside.number c.index.result.now c.self.view_is c.self.invariant c.requires.child_in c.requires.parent_in c.requires.not_inside c.detach.ensures c.parent.view_is c.index.ensures) c.hook.ensures)

@@ -1,0 +1,11 @@
+use Rattle.std.proofs.Common.{ap, sym, ◌∙◌, Some, map, option_and_then}
+use Rattle.hnodes.specs.Spots.{attributes_in}
+use Rattle.hnodes.specs.Rows.{content_is, attribute_of}
+use Rattle.hnodes.proofs.Lends.{lent_what, no_attributes}
+use Rattle.hnodes.proofs.tree.Tree.attrs.Goals as goal
+
+pub returns-in-Element : goal.returns-in-Element
+returns-in-Element c = ap (λ xs. Some (map attribute_of xs)) c.deref.ensures.value ∙ ap (λ w. attributes_in (content_is w)) (sym c.in-Element.is) ∙ ap (option_and_then attributes_in) (lent_what c.self.inside c.args.self.now c.args.at c.at.inside.number c.index.result.now c.self.view_is c.self.invariant c.requires c.at.view_is c.index.ensures)
+
+pub returns-in_default : goal.returns-in_default
+returns-in_default c = no_attributes c.index.result.now.content c.in_default.not-Element ∙ ap (option_and_then attributes_in) (lent_what c.self.inside c.args.self.now c.args.at c.at.inside.number c.index.result.now c.self.view_is c.self.invariant c.requires c.at.view_is c.index.ensures)

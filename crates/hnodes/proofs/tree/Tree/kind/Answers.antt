@@ -1,0 +1,21 @@
+use Rattle.std.proofs.Common.{ap, sym, ◌∙◌, Some}
+use Rattle.std.specs.Option.{option_map}
+use Rattle.hnodes.specs.Spots.{kind_in}
+use Rattle.hnodes.specs.Rows.{content_is}
+use Rattle.hnodes.proofs.Lends.{lent_what}
+use Rattle.hnodes.proofs.tree.Tree.kind.Goals as goal
+
+pub returns-in-Document : goal.returns-in-Document
+returns-in-Document c = ap (λ w. Some (kind_in (content_is w))) (sym c.in-Document.is) ∙ ap (option_map kind_in) (lent_what c.self.inside c.args.self.now c.args.at c.at.inside.number c.index.result.now c.self.view_is c.self.invariant c.requires c.at.view_is c.index.ensures)
+
+pub returns-in-Doctype : goal.returns-in-Doctype
+returns-in-Doctype c = ap (λ w. Some (kind_in (content_is w))) (sym c.in-Doctype.is) ∙ ap (option_map kind_in) (lent_what c.self.inside c.args.self.now c.args.at c.at.inside.number c.index.result.now c.self.view_is c.self.invariant c.requires c.at.view_is c.index.ensures)
+
+pub returns-in-Element : goal.returns-in-Element
+returns-in-Element c = ap (λ w. Some (kind_in (content_is w))) (sym c.in-Element.is) ∙ ap (option_map kind_in) (lent_what c.self.inside c.args.self.now c.args.at c.at.inside.number c.index.result.now c.self.view_is c.self.invariant c.requires c.at.view_is c.index.ensures)
+
+pub returns-in-Comment : goal.returns-in-Comment
+returns-in-Comment c = ap (λ w. Some (kind_in (content_is w))) (sym c.in-Comment.is) ∙ ap (option_map kind_in) (lent_what c.self.inside c.args.self.now c.args.at c.at.inside.number c.index.result.now c.self.view_is c.self.invariant c.requires c.at.view_is c.index.ensures)
+
+pub returns-in-Text : goal.returns-in-Text
+returns-in-Text c = ap (λ w. Some (kind_in (content_is w))) (sym c.in-Text.is) ∙ ap (option_map kind_in) (lent_what c.self.inside c.args.self.now c.args.at c.at.inside.number c.index.result.now c.self.view_is c.self.invariant c.requires c.at.view_is c.index.ensures)

@@ -1,0 +1,11 @@
+use Rattle.std.proofs.Common.{ap, sym, ◌∙◌, option_and_then}
+use Rattle.hnodes.specs.Spots.{name_in}
+use Rattle.hnodes.specs.Rows.{content_is}
+use Rattle.hnodes.proofs.Lends.{lent_what, no_name}
+use Rattle.hnodes.proofs.tree.Tree.name.Goals as goal
+
+pub returns-in-Element : goal.returns-in-Element
+returns-in-Element c = ap (λ w. name_in (content_is w)) (sym c.in-Element.is) ∙ ap (option_and_then name_in) (lent_what c.self.inside c.args.self.now c.args.at c.at.inside.number c.index.result.now c.self.view_is c.self.invariant c.requires c.at.view_is c.index.ensures)
+
+pub returns-in_default : goal.returns-in_default
+returns-in_default c = no_name c.index.result.now.content c.in_default.not-Element ∙ ap (option_and_then name_in) (lent_what c.self.inside c.args.self.now c.args.at c.at.inside.number c.index.result.now c.self.view_is c.self.invariant c.requires c.at.view_is c.index.ensures)

@@ -1,0 +1,14 @@
+//! Laws of the definitions.
+
+ghost use Rattle.std.specs.Prelude.{ℕ, List};
+ghost use Rattle.hnodes.specs.Spelled.{EditsKnowNoNames, QuestionsKnowNoNames};
+
+/// Each edit is the same under any names that the numbers stand for.
+pub fn edits_know_no_names()
+    ensures { (texts : ℕ → List ℕ) → EditsKnowNoNames texts }
+{}
+
+/// What is asked of a node is the same under any names that the numbers stand for.
+pub fn questions_know_no_names()
+    ensures { (texts : ℕ → List ℕ) → QuestionsKnowNoNames texts }
+{}

@@ -1,0 +1,115 @@
+//! Nodes and their numbers.
+
+ghost use Rattle.std.specs.Prelude.{◌≡◌, ◌<◌, OnOk, OnErr, IfErr, length};
+ghost use Rattle.hnodes.specs.Edits.{with_char, with_attribute};
+ghost use Rattle.hnodes.specs.Links.{alone, with_what};
+ghost use Rattle.hnodes.specs.Rows.{attribute_of, content_is, row_of, IsChanged, IsUnchanged};
+
+use names::{Attr, NameId, Refusal};
+use std::marker::Model;
+
+/// The number of a node of one tree, in the order in which its nodes were made. The document is the first, 0.
+#[derive(Clone, Copy, Debug, PartialEq, Eq)]
+pub struct NodeId {
+    pub(crate) number: u32,
+}
+
+impl Model for NodeId {
+    ghost use Rattle.std.specs.Prelude.{ℕ};
+
+    ghost Value = { ℕ };
+
+    ghost view = { λ n. n.number };
+
+    ghost inverse = { λ n. record { number = n } };
+}
+
+/// What kind a node is of.
+#[derive(Clone, Copy, Debug, PartialEq, Eq)]
+pub enum Kind {
+    Document,
+    Doctype,
+    Element,
+    Comment,
+    Text,
+}
+
+/// A place for a node among the children of another (13.2.6.1).
+#[derive(Clone, Copy, Debug, PartialEq, Eq)]
+pub enum Place {
+    /// After the last child of a node.
+    LastIn(NodeId),
+    /// Right before a node.
+    Before(NodeId),
+}
+
+/// A doctype's name and identifiers; one that is missing is empty.
+#[derive(Debug, Drop)]
+pub struct Doctype {
+    pub name: String,
+    pub public_id: String,
+    pub system_id: String,
+}
+
+/// What a node is.
+#[derive(Drop)]
+pub(crate) enum Content {
+    Document,
+    Doctype(Box<Doctype>),
+    Element(NameId, Vec<Attr>),
+    Comment(String),
+    Text(String),
+}
+
+/// A node and its neighbours.
+#[derive(Drop)]
+pub(crate) struct Node {
+    pub(crate) content: Content,
+    pub(crate) parent: Option<NodeId>,
+    pub(crate) first: Option<NodeId>,
+    pub(crate) last: Option<NodeId>,
+    pub(crate) previous: Option<NodeId>,
+    pub(crate) next: Option<NodeId>,
+}
+
+impl Node {
+    /// A node that stands for itself.
+    pub(crate) fn loose(content: Content) -> Self
+        ensures { row_of result ≡ alone (content_is content) }
+    {
+        Node {
+            content,
+            parent: None,
+            first: None,
+            last: None,
+            previous: None,
+            next: None,
+        }
+    }
+}
+
+/// One character more at the end of a text.
+pub(crate) fn push_char(nodes: &mut Vec<Node>, at: NodeId, c: char) -> Result<(), Refusal>
+    requires { at < length nodes.old.items }
+    ensures ok { OnOk result (IsChanged at (with_what (with_char c)) nodes.old.items nodes.new.items) }
+    ensures err { OnErr result (IsUnchanged nodes.old.items nodes.new.items) }
+    ensures memory { IfErr result (λ e. e ≡ Refusal.Memory) }
+{
+    if let Content::Text(text) = &mut nodes[at.number as usize].content {
+        text.push(c)?;
+    }
+    Ok(())
+}
+
+/// One attribute more of an element.
+pub(crate) fn push_attr(nodes: &mut Vec<Node>, at: NodeId, attr: Attr) -> Result<(), Refusal>
+    requires { at < length nodes.old.items }
+    ensures ok { OnOk result (IsChanged at (with_what (with_attribute (attribute_of attr))) nodes.old.items nodes.new.items) }
+    ensures err { OnErr result (IsUnchanged nodes.old.items nodes.new.items) }
+    ensures memory { IfErr result (λ e. e ≡ Refusal.Memory) }
+{
+    if let Content::Element(_, attrs) = &mut nodes[at.number as usize].content {
+        attrs.push(attr)?;
+    }
+    Ok(())
+}

@@ -1,0 +1,401 @@
+//! A tree as one value.
+
+ghost use Rattle.std.specs.Prelude.{◌≡◌, ◌<◌, ◌≤◌, ◌↔◌, ◌⊎◌, ℕ, Some, None, OnOk, OnErr, IfOk, IfErr, IfSome, IsSome, IsFalse, map, string_bytes, leb, if◌then◌else◌};
+ghost use Rattle.std.specs.Option.{option_map};
+ghost use Rattle.hnodes.specs.Forest.{document, doctype, element, comment, text, tree, none, change_what, IsOutside};
+ghost use Rattle.hnodes.specs.Spots.{parent_of, first_child_of, last_child_of, next_of, previous_of, kind_of, name_of, attributes_of, text_of, doctype_of};
+ghost use Rattle.hnodes.specs.Edits.{make, graft, graft_last, graft_before, move_all, add_attribute, add_char, with_char, text_before, IsPlace, place_node, AreNodes};
+ghost use Rattle.hnodes.specs.Rows.{attribute_of, content_is, doctype_texts};
+ghost use Rattle.names.specs.declared.refusal.Refusal.TheVariants.{TooManyNodes, Memory};
+ghost use Rattle.std.specs.Char.{encode_utf8};
+
+use crate::links::{detach, hook};
+use crate::node::{Content, Doctype, Kind, Node, NodeId, Place, push_attr, push_char};
+use names::{Attr, NameId, Refusal};
+use std::alloc::{AllocError, Global};
+use std::marker::Model;
+
+/// The tree of a document, and the nodes that are not in it yet. Each node takes 80 bytes, beside what its texts and attributes
+/// hold. Making a node and moving one take the same time in a tree of any size, amortized. No call recurses, nor does the drop,
+/// and the moves and the calls that lend take no memory.
+#[derive(Drop)]
+pub struct Tree {
+    nodes: Vec<Node>,
+    limit: u32,
+    alloc: Global,
+}
+
+impl Model for Tree {
+    ghost use Rattle.std.specs.Prelude.{ℕ};
+    ghost use Rattle.hnodes.specs.Edits.{Nodes};
+    ghost use Rattle.hnodes.specs.Coding.{coded_nodes};
+
+    ghost Value = { Nodes ℕ };
+
+    ghost coded = { coded_nodes };
+
+    ghost use Rattle.hnodes.specs.View.{nodes_of, IsTree};
+
+    ghost view = { nodes_of };
+
+    ghost invariant = { IsTree };
+}
+
+impl Tree {
+    /// The document alone.
+    pub fn new(alloc: Global, limit: u32) -> Result<Self, AllocError>
+        requires { 0 < limit }
+        ensures { IfOk result (λ t. t ≡ record { limit = limit; made = 1; trees = tree 0 document none none }) }
+    {
+        let mut nodes = Vec::new(alloc);
+        nodes.push(Node::loose(Content::Document))?;
+        Ok(Tree {
+            nodes,
+            limit,
+            alloc,
+        })
+    }
+
+    /// The number of the document.
+    pub fn document(&self) -> NodeId
+        ensures number { result ≡ 0 }
+        ensures nodes { AreNodes self.now }
+    {
+        prove!(!self.nodes.is_empty());
+        NodeId { number: 0 }
+    }
+
+    /// How many nodes were made, the document among them.
+    pub fn made(&self) -> u32
+        ensures number { result ≡ self.now.made }
+        ensures begun { 0 < result }
+    {
+        let count = self.nodes.len();
+        prove!(count <= self.limit as usize);
+        count as u32
+    }
+
+    /// A new element, loose. `at` is the place of the token that it is made for, as in all calls that make a node.
+    pub fn create_element(
+        &mut self,
+        name: NameId,
+        attrs: Vec<Attr>,
+        at: u64,
+    ) -> Result<NodeId, Refusal>
+        ensures ok { OnOk result (self.new ≡ make (element name (map attribute_of attrs.items)) self.old) }
+        ensures number { IfOk result (λ n. (n ≡ self.old.made) × (0 < n)) }
+        ensures outside { IfOk result (λ n. (k : ℕ) → k < n → IsOutside k n self.new.trees) }
+        ensures full { (result ≡ Err (TooManyNodes at)) ↔ (self.old.limit ≤ self.old.made) }
+        ensures refused { IfErr result (λ e. (e ≡ TooManyNodes at) ⊎ (e ≡ Memory)) }
+        ensures err { OnErr result (self.new ≡ self.old) }
+    {
+        self.room(at)?;
+        self.add(Content::Element(name, attrs))
+    }
+
+    /// A new comment, loose.
+    pub fn create_comment(&mut self, text: String, at: u64) -> Result<NodeId, Refusal>
+        ensures ok { OnOk result (self.new ≡ make (comment (string_bytes text)) self.old) }
+        ensures number { IfOk result (λ n. (n ≡ self.old.made) × (0 < n)) }
+        ensures outside { IfOk result (λ n. (k : ℕ) → k < n → IsOutside k n self.new.trees) }
+        ensures full { (result ≡ Err (TooManyNodes at)) ↔ (self.old.limit ≤ self.old.made) }
+        ensures refused { IfErr result (λ e. (e ≡ TooManyNodes at) ⊎ (e ≡ Memory)) }
+        ensures err { OnErr result (self.new ≡ self.old) }
+    {
+        self.room(at)?;
+        self.add(Content::Comment(text))
+    }
+
+    /// A new doctype, loose.
+    pub fn create_doctype(&mut self, texts: Doctype, at: u64) -> Result<NodeId, Refusal>
+        ensures ok { OnOk result (self.new ≡ make (doctype (string_bytes texts.name) (string_bytes texts.public_id) (string_bytes texts.system_id)) self.old) }
+        ensures number { IfOk result (λ n. (n ≡ self.old.made) × (0 < n)) }
+        ensures outside { IfOk result (λ n. (k : ℕ) → k < n → IsOutside k n self.new.trees) }
+        ensures full { (result ≡ Err (TooManyNodes at)) ↔ (self.old.limit ≤ self.old.made) }
+        ensures refused { IfErr result (λ e. (e ≡ TooManyNodes at) ⊎ (e ≡ Memory)) }
+        ensures err { OnErr result (self.new ≡ self.old) }
+    {
+        self.room(at)?;
+        let texts = Box::new(self.alloc, texts)?;
+        self.add(Content::Doctype(texts))
+    }
+
+    /// A new text of one character, loose.
+    fn create_text(&mut self, c: char, at: u64) -> Result<NodeId, Refusal>
+        ensures ok { OnOk result (self.new ≡ make (text (encode_utf8 c)) self.old) }
+        ensures number { IfOk result (λ n. (n ≡ self.old.made) × (0 < n)) }
+        ensures outside { IfOk result (λ n. (k : ℕ) → k < n → IsOutside k n self.new.trees) }
+        ensures full { (result ≡ Err (TooManyNodes at)) ↔ (self.old.limit ≤ self.old.made) }
+        ensures refused { IfErr result (λ e. (e ≡ TooManyNodes at) ⊎ (e ≡ Memory)) }
+        ensures err { OnErr result (self.new ≡ self.old) }
+    {
+        self.room(at)?;
+        let mut text = String::new(self.alloc);
+        text.push(c)?;
+        self.add(Content::Text(text))
+    }
+
+    /// Whether one node more may be made.
+    fn room(&self, at: u64) -> Result<(), Refusal>
+        ensures { result ≡ (if leb self.now.limit self.now.made then Err (TooManyNodes at) else Ok tt) }
+    {
+        if self.nodes.len() >= self.limit as usize {
+            return Err(Refusal::TooManyNodes { at });
+        }
+        Ok(())
+    }
+
+    /// A new node, loose.
+    fn add(&mut self, content: Content) -> Result<NodeId, Refusal>
+        requires { self.old.made < self.old.limit }
+        ensures ok { OnOk result (self.new ≡ make (content_is content) self.old) }
+        ensures number { IfOk result (λ n. (n ≡ self.old.made) × (0 < n)) }
+        ensures outside { IfOk result (λ n. (k : ℕ) → k < n → IsOutside k n self.new.trees) }
+        ensures memory { IfErr result (λ e. e ≡ Memory) }
+        ensures err { OnErr result (self.new ≡ self.old) }
+    {
+        let number = self.nodes.len() as u32;
+        self.nodes.push(Node::loose(content))?;
+        Ok(NodeId { number })
+    }
+
+    /// A node leaves where it stands and becomes the last child of another.
+    pub fn append(&mut self, child: NodeId, parent: NodeId)
+        requires child_in { child < self.old.made }
+        requires parent_in { parent < self.old.made }
+        requires not_document { 0 < child }
+        requires not_inside { IsOutside parent child self.old.trees }
+        ensures { self.new ≡ record self.old { trees = graft_last child parent self.old.trees } }
+    {
+        detach(&mut self.nodes, child);
+        let last = self.nodes[parent.number as usize].last;
+        hook(&mut self.nodes, child, parent, last, None);
+    }
+
+    /// A node leaves where it stands and comes right before another, which has a parent.
+    pub fn insert_before(&mut self, child: NodeId, sibling: NodeId)
+        requires child_in { child < self.old.made }
+        requires sibling_in { sibling < self.old.made }
+        requires not_document { 0 < child }
+        requires has_parent { IsSome (parent_of sibling self.old.trees) }
+        requires not_inside { IsOutside sibling child self.old.trees }
+        ensures { self.new ≡ record self.old { trees = graft_before child sibling self.old.trees } }
+    {
+        detach(&mut self.nodes, child);
+        let node = &self.nodes[sibling.number as usize];
+        let (parent, previous) = (node.parent, node.previous);
+        if let Some(parent) = parent {
+            hook(&mut self.nodes, child, parent, previous, Some(sibling));
+        }
+    }
+
+    /// The children of a node leave it and become the last children of another, in their order. It takes as many steps as there
+    /// are children.
+    pub fn move_children(&mut self, from: NodeId, to: NodeId)
+        requires from_in { from < self.old.made }
+        requires to_in { to < self.old.made }
+        requires not_inside { IsOutside to from self.old.trees }
+        ensures { self.new ≡ record self.old { trees = move_all from to self.old.trees } }
+    {
+        while let Some(child) = self.first_child(from) {
+            self.append(child, to);
+        }
+    }
+
+    /// One character at a place (13.2.6.1): at the end of the text right before the place, or in a new text there.
+    pub fn put_char(&mut self, c: char, place: Place, at: u64) -> Result<(), Refusal>
+        requires { IsPlace place self.old }
+        ensures ok { OnOk result (self.new ≡ add_char c place self.old) }
+        ensures full { (result ≡ Err (TooManyNodes at)) ↔ ((text_before place self.old.trees ≡ None) × (self.old.limit ≤ self.old.made)) }
+        ensures refused { IfErr result (λ e. (e ≡ TooManyNodes at) ⊎ (e ≡ Memory)) }
+        ensures err { OnErr result (self.new ≡ self.old) }
+    {
+        // A copy for the first of two calls.
+        let here = place;
+        match self.text_before(here) {
+            Some(text) => self.lengthen(text, c),
+            None => {
+                let text = self.create_text(c, at)?;
+                self.graft(text, place);
+                Ok(())
+            }
+        }
+    }
+
+    /// One character more at the end of a text.
+    fn lengthen(&mut self, text: NodeId, c: char) -> Result<(), Refusal>
+        requires { text < self.old.made }
+        ensures ok { OnOk result (self.new ≡ record self.old { trees = change_what text (with_char c) self.old.trees }) }
+        ensures memory { IfErr result (λ e. e ≡ Memory) }
+        ensures err { OnErr result (self.new ≡ self.old) }
+    {
+        push_char(&mut self.nodes, text, c)
+    }
+
+    /// A node leaves where it stands and comes to a place.
+    fn graft(&mut self, child: NodeId, place: Place)
+        requires child_in { child < self.old.made }
+        requires place { IsPlace place self.old }
+        requires not_document { 0 < child }
+        requires not_inside { IsOutside (place_node place) child self.old.trees }
+        ensures { self.new ≡ record self.old { trees = graft child place self.old.trees } }
+    {
+        match place {
+            Place::LastIn(parent) => self.append(child, parent),
+            Place::Before(sibling) => self.insert_before(child, sibling),
+        }
+    }
+
+    /// The text right before a place.
+    fn text_before(&self, place: Place) -> Option<NodeId>
+        requires { IsPlace place self.now }
+        ensures text { result ≡ text_before place self.now.trees }
+        ensures within { IfSome result (λ n. n < self.now.made) }
+    {
+        let before = match place {
+            Place::LastIn(parent) => self.last_child(parent),
+            Place::Before(sibling) => self.previous(sibling),
+        };
+        match before {
+            Some(node) if self.kind(node) == Kind::Text => Some(node),
+            _ => None,
+        }
+    }
+
+    /// One attribute more of an element, after its others; of another node nothing. That the element has no attribute of this
+    /// name yet is for the caller to see to.
+    pub fn add_attr(&mut self, at: NodeId, attr: Attr) -> Result<(), Refusal>
+        requires { at < self.old.made }
+        ensures ok { OnOk result (self.new ≡ record self.old { trees = add_attribute at (attribute_of attr) self.old.trees }) }
+        ensures memory { IfErr result (λ e. e ≡ Memory) }
+        ensures err { OnErr result (self.new ≡ self.old) }
+    {
+        push_attr(&mut self.nodes, at, attr)
+    }
+
+    /// Whether a node is another one or inside it: what a caller may test before a node moves. It takes as many steps as the node
+    /// is deep.
+    pub fn is_inside(&self, node: NodeId, top: NodeId) -> bool
+        requires node_in { node < self.now.made }
+        requires top_in { top < self.now.made }
+        ensures { IsFalse result ↔ IsOutside node top self.now.trees }
+    {
+        let mut above = node;
+        while above != top {
+            match self.nodes[above.number as usize].parent {
+                Some(parent) => above = parent,
+                None => return false,
+            }
+        }
+        true
+    }
+
+    /// The node that a node is a child of.
+    pub fn parent(&self, at: NodeId) -> Option<NodeId>
+        requires { at < self.now.made }
+        ensures parent { result ≡ parent_of at self.now.trees }
+        ensures within { IfSome result (λ n. n < self.now.made) }
+        ensures nodes { AreNodes self.now }
+    {
+        self.nodes[at.number as usize].parent
+    }
+
+    /// The first child of a node.
+    pub fn first_child(&self, at: NodeId) -> Option<NodeId>
+        requires { at < self.now.made }
+        ensures child { result ≡ first_child_of at self.now.trees }
+        ensures within { IfSome result (λ n. n < self.now.made) }
+        ensures nodes { AreNodes self.now }
+    {
+        self.nodes[at.number as usize].first
+    }
+
+    /// The last child of a node.
+    pub fn last_child(&self, at: NodeId) -> Option<NodeId>
+        requires { at < self.now.made }
+        ensures child { result ≡ last_child_of at self.now.trees }
+        ensures within { IfSome result (λ n. n < self.now.made) }
+        ensures nodes { AreNodes self.now }
+    {
+        self.nodes[at.number as usize].last
+    }
+
+    /// The sibling after a node.
+    pub fn next(&self, at: NodeId) -> Option<NodeId>
+        requires { at < self.now.made }
+        ensures sibling { result ≡ next_of at self.now.trees }
+        ensures within { IfSome result (λ n. n < self.now.made) }
+        ensures nodes { AreNodes self.now }
+    {
+        self.nodes[at.number as usize].next
+    }
+
+    /// The sibling before a node.
+    pub fn previous(&self, at: NodeId) -> Option<NodeId>
+        requires { at < self.now.made }
+        ensures sibling { result ≡ previous_of at self.now.trees }
+        ensures within { IfSome result (λ n. n < self.now.made) }
+        ensures nodes { AreNodes self.now }
+    {
+        self.nodes[at.number as usize].previous
+    }
+
+    /// What kind a node is of.
+    pub fn kind(&self, at: NodeId) -> Kind
+        requires { at < self.now.made }
+        ensures { Some result ≡ kind_of at self.now.trees }
+    {
+        match &self.nodes[at.number as usize].content {
+            Content::Document => Kind::Document,
+            Content::Doctype(_) => Kind::Doctype,
+            Content::Element(_, _) => Kind::Element,
+            Content::Comment(_) => Kind::Comment,
+            Content::Text(_) => Kind::Text,
+        }
+    }
+
+    /// The name of an element.
+    pub fn name(&self, at: NodeId) -> Option<NameId>
+        requires { at < self.now.made }
+        ensures { result ≡ name_of at self.now.trees }
+    {
+        match &self.nodes[at.number as usize].content {
+            Content::Element(name, _) => Some(*name),
+            _ => None,
+        }
+    }
+
+    /// The attributes of an element.
+    pub fn attrs(&self, at: NodeId) -> Option<&[Attr]>
+        requires { at < self.now.made }
+        ensures { option_map (λ attrs. map attribute_of attrs.now) result ≡ attributes_of at self.now.trees }
+    {
+        match &self.nodes[at.number as usize].content {
+            Content::Element(_, attrs) => Some(attrs),
+            _ => None,
+        }
+    }
+
+    /// The characters of a text, or the data of a comment.
+    pub fn text(&self, at: NodeId) -> Option<&str>
+        requires { at < self.now.made }
+        ensures { option_map (λ text. text.now) result ≡ text_of at self.now.trees }
+    {
+        match &self.nodes[at.number as usize].content {
+            Content::Text(text) => Some(text),
+            Content::Comment(text) => Some(text),
+            _ => None,
+        }
+    }
+
+    /// The name and the identifiers of a doctype.
+    pub fn doctype(&self, at: NodeId) -> Option<&Doctype>
+        requires { at < self.now.made }
+        ensures { option_map (λ texts. doctype_texts texts.now) result ≡ doctype_of at self.now.trees }
+    {
+        match &self.nodes[at.number as usize].content {
+            Content::Doctype(texts) => Some(texts),
+            _ => None,
+        }
+    }
+}
