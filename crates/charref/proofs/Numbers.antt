@@ -1,5 +1,5 @@
 -- Numbers, digit by digit.
-use Rattle.std.proofs.Common.{arith, ◌≡◌, ◌⊎◌, inl, inr, ℕ, zero, suc, ◌+◌, ◌-◌, ◌*◌, ◌≤◌, ◌<◌, min, Bool, true, false, true≢false, not, ◌&&◌, ◌||◌, ◌==◌, nat_eq, nat_lt, nat_le, List, [], ◌∷◌, ◌++◌, map, length, take, drop, Some, None, option_to_list, refl, sym, ap, ◌∙◌, append_assoc, length-append}
+use Rattle.std.proofs.Common.{arith, ◌≡◌, ◌⊎◌, inl, inr, ℕ, zero, suc, ◌+◌, ◌-◌, ◌*◌, ◌≤◌, ◌<◌, min, Bool, true, false, not, ◌&&◌, ◌||◌, ◌==◌, nat_eq, nat_lt, nat_le, List, [], ◌∷◌, ◌++◌, map, length, take, drop, Some, None, option_to_list, refl, sym, ap, ◌∙◌, append_assoc, length-append}
 use Rattle.std.proofs.lemmas.List.{append-nil}
 use Rattle.std.proofs.lemmas.Bool.{and_parts, and_from}
 use Rattle.std.proofs.lemmas.Bool.Decides.{nat_tests}
@@ -16,7 +16,7 @@ use Rattle.charref.specs.Number.{is_digit_of, radix}
 use Rattle.charref.specs.Held.{IsSign, number_sign, small_x, capital_x, IsHeld, after_sign, after_x, in_number}
 use Rattle.charref.specs.Pieces.{IsRead, errors_of, number_of}
 use Rattle.charref.proofs.Naming.{drop-seam}
-use Rattle.charref.proofs.Telling.{read_text, drop-all}
+use Rattle.charref.proofs.Telling.{begins-append, read_text, drop-all}
 
 -- SIGNS
 
@@ -127,10 +127,6 @@ all-one : (test : ℕ → Bool) (xs : List Placed) (p : Placed) → all test xs 
 all-one test [] p h is = and_from _ _ is refl
 all-one test (q ∷ qs) p h is = and_from _ _ (and_parts _ _ h).0 (all-one test qs p (and_parts _ _ h).1 is)
 
-begins-one : (test : ℕ → Bool) (xs ys : List Placed) → begins test xs ≡ true → begins test (xs ++ ys) ≡ true
-begins-one test [] ys h = absurd (true≢false (sym h))
-begins-one test (q ∷ qs) ys h = h
-
 -- the first digit, and one more
 pub first_digit : (table : Entities) (in_value : Bool) (base : Base) (sign : List Placed) (p : Placed) (d : ℕ) → IsSign base sign → is_digit_of base p.ch ≡ true → d ≡ digit_value p.ch → d < 16
     → IsHeld table in_value (Number base d) (sign ++ p ∷ [])
@@ -146,7 +142,7 @@ pub next_digit : (table : Entities) (in_value : Bool) (base : Base) (value : ℕ
     → next ≡ min (value * radix base + d) 0x110000 → IsHeld table in_value (Number base next) (text ++ p ∷ [])
 next_digit table in_value _ _ _ p d next (in_number base value sign digits text text-is is opens run value-is) test d-is next-is =
     in_number base next sign (digits ++ p ∷ []) (text ++ p ∷ []) (ap (λ xs. xs ++ p ∷ []) text-is ∙ append_assoc sign digits (p ∷ [])) is
-    (begins-one (is_digit_of base) digits (p ∷ []) opens) (all-one (is_digit_of base) digits p run test)
+    (begins-append (is_digit_of base) digits (p ∷ []) opens) (all-one (is_digit_of base) digits p run test)
     (next-is ∙ ap (λ v. min (v * radix base + d) 0x110000) value-is ∙ min-more base (number_from 0 (radix base) digits) d ∙ ap (λ n. min (number_from 0 (radix base) digits * radix base + n) 0x110000) d-is
     ∙ ap (λ n. min n 0x110000) (sym (number_from-more 0 (radix base) digits p)))
 

@@ -24,7 +24,7 @@ begins_first : (test : ℕ → Bool) (name : List Placed) (c : ℕ) (cs : List �
 begins_first test [] c cs h = absurd (cc)
 begins_first test (p ∷ ps) c cs h = let first : p.ch ≡ c = cc in ap test first
 
-begins-append : (test : ℕ → Bool) (xs ys : List Placed) → begins test xs ≡ true → begins test (xs ++ ys) ≡ true
+pub begins-append : (test : ℕ → Bool) (xs ys : List Placed) → begins test xs ≡ true → begins test (xs ++ ys) ≡ true
 begins-append test [] ys h = absurd (true≢false (sym h))
 begins-append test (p ∷ ps) ys h = h
 

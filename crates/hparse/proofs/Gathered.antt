@@ -1,15 +1,13 @@
 -- Tokens that stand for others, and what a collection has taken.
-use Rattle.std.proofs.Common.{◌≡◌, ℕ, List, [], ◌∷◌, ◌++◌, sym, refl, ap, ◌∙◌, Result, Ok, Err, append-nil, append_assoc}
-use Rattle.names.specs.declared.attr.Attr.{Attr}
+use Rattle.std.proofs.Common.{◌≡◌, List, [], ◌∷◌, ◌++◌, sym, ap, ◌∙◌, Result, Ok, Err, append-nil, append_assoc}
 use Rattle.names.specs.declared.error.ParseError.{ParseError}
 use Rattle.names.specs.declared.refusal.Refusal.{Refusal}
 use Rattle.names.specs.declared.refusal.Refusal.TheVariants.{Memory}
 use Rattle.names.specs.Names.{Texts, Grows}
 use Rattle.names.specs.Sink.{Hands}
-use Rattle.names.proofs.Handing.{text_kept}
+use Rattle.htoken.proofs.Handing.{token_kept}
 use Rattle.htoken.specs.declared.token.Token.{Token}
-use Rattle.htoken.specs.declared.token.Token.TheVariants as code
-use Rattle.htoken.specs.Token.{Tok, Item, ItemToken, ItemError, Event, Gives, Reports, Mean, AttrsMean, TokenMeans, gives_item}
+use Rattle.htoken.specs.Token.{Tok, Item, ItemToken, ItemError, Event, Gives, Reports, Mean, gives_item}
 use Rattle.htoken.specs.Tokens.{tokens_in, errors_in}
 use Rattle.htoken.specs.Handing.{HandsEvents}
 use Rattle.hparse.specs.declared.collect.Collected.{Collected}
@@ -17,23 +15,10 @@ use Rattle.hparse.specs.Collecting.{KeepsError, KeepsToken}
 use Rattle.hparse.specs.TokenRun.{TokensMean}
 
 module _ (old new : Texts) (grows : Grows old new) where
-  attrs_kept : (xs : List Attr) (ts : List (List ℕ × List ℕ)) → AttrsMean old xs ts → AttrsMean new xs ts
-  attrs_kept [] [] h = tt
-  attrs_kept (a ∷ xs) (t ∷ ts) h = (text_kept old new a.name t.0 grows h.0, h.1, attrs_kept xs ts h.2)
-  attrs_kept [] (t ∷ ts) h = absurd h
-  attrs_kept (a ∷ xs) [] h = absurd h
-
-  token_kept : (t : Token) (k : Tok) → TokenMeans old t k → TokenMeans new t k
-  token_kept (code.Start name attrs closing at) k (text, texts, is, attrs_are, e) = (text, texts, text_kept old new name text grows is, attrs_kept attrs.items texts attrs_are, e)
-  token_kept (code.End name at) k (text, is, e) = (text, text_kept old new name text grows is, e)
-  token_kept (code.Comment text at) k h = h
-  token_kept (code.Char ch at) k h = h
-  token_kept (code.Eof at) k h = h
-
   -- tokens stand for the same ones when the table has grown
   pub tokens_kept : (ts : List Token) (ks : List Tok) → TokensMean old ts ks → TokensMean new ts ks
   tokens_kept [] [] h = tt
-  tokens_kept (t ∷ ts) (k ∷ ks) h = (token_kept t k h.0, tokens_kept ts ks h.1)
+  tokens_kept (t ∷ ts) (k ∷ ks) h = (token_kept old new grows t k h.0, tokens_kept ts ks h.1)
   tokens_kept [] (k ∷ ks) h = absurd h
   tokens_kept (t ∷ ts) [] h = absurd h
 
@@ -42,16 +27,6 @@ TokensMean-append names [] us [] ls h k = k
 TokensMean-append names (t ∷ ts) us (x ∷ ks) ls h k = (h.0, TokensMean-append names ts us ks ls h.1 k)
 TokensMean-append names [] us (x ∷ ks) ls h k = absurd h
 TokensMean-append names (t ∷ ts) us [] ls h k = absurd h
-
-pub tokens_in-append : (es fs : List Event) → tokens_in (es ++ fs) ≡ tokens_in es ++ tokens_in fs
-tokens_in-append [] fs = refl
-tokens_in-append (Gives k ∷ es) fs = ap (λ (x : List Tok). k ∷ x) (tokens_in-append es fs)
-tokens_in-append (Reports e ∷ es) fs = tokens_in-append es fs
-
-pub errors_in-append : (es fs : List Event) → errors_in (es ++ fs) ≡ errors_in es ++ errors_in fs
-errors_in-append [] fs = refl
-errors_in-append (Gives k ∷ es) fs = errors_in-append es fs
-errors_in-append (Reports e ∷ es) fs = ap (λ (x : List ParseError). e ∷ x) (errors_in-append es fs)
 
 -- a step of the collection
 abbrev pub collects : Collected → Item → Result (Unit {0}) Refusal → Collected → Type 0

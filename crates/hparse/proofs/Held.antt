@@ -16,7 +16,8 @@ use Rattle.hparse.specs.declared.feeding.Feeding.{Feeding}
 use Rattle.hparse.specs.Collecting.{KeepsError}
 use Rattle.hparse.specs.TokenRun.{TokensMean}
 use Rattle.hparse.specs.Holding.{HoldsItems, TakesItem, item_ran_out, item_refused, item_taken, EndsText, text_ran_out, text_refused, text_read}
-use Rattle.hparse.proofs.Gathered.{collects, Gathers, gathered, stopped, tokens_kept, TokensMean-append, tokens_in-append, errors_in-append}
+use Rattle.hparse.proofs.Gathered.{collects, Gathers, gathered, stopped, tokens_kept, TokensMean-append}
+use Rattle.htoken.proofs.Finishing.{tokens_in-append, errors_in-append}
 
 pub characters_among-append : (xs ys : List CharItem) → characters_among (xs ++ ys) ≡ characters_among xs ++ characters_among ys
 characters_among-append [] ys = refl

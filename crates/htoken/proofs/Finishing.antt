@@ -27,12 +27,12 @@ use Rattle.htoken.proofs.Handing.{HandsEvents-append, HandsEvents_kept, read_mea
 use Rattle.htoken.proofs.Whole.{HasRead, Cut-snoc, spans_text-snoc, standing-snoc, tokens-snoc, events-snoc, left_out-append, stays_data}
 
 -- the tokens and the errors among events
-tokens_in-append : (xs ys : List Event) → tokens_in (xs ++ ys) ≡ tokens_in xs ++ tokens_in ys
+pub tokens_in-append : (xs ys : List Event) → tokens_in (xs ++ ys) ≡ tokens_in xs ++ tokens_in ys
 tokens_in-append [] ys = refl
 tokens_in-append (Gives t ∷ xs) ys = ap (λ (x : List Tok). t ∷ x) (tokens_in-append xs ys)
 tokens_in-append (Reports e ∷ xs) ys = tokens_in-append xs ys
 
-errors_in-append : (xs ys : List Event) → errors_in (xs ++ ys) ≡ errors_in xs ++ errors_in ys
+pub errors_in-append : (xs ys : List Event) → errors_in (xs ++ ys) ≡ errors_in xs ++ errors_in ys
 errors_in-append [] ys = refl
 errors_in-append (Gives t ∷ xs) ys = errors_in-append xs ys
 errors_in-append (Reports e ∷ xs) ys = ap (λ (x : List ParseError). e ∷ x) (errors_in-append xs ys)

@@ -21,7 +21,7 @@ attrs_kept old new grows (a ∷ attrs) (t ∷ texts) h = (text_kept old new a.na
 attrs_kept old new grows [] (t ∷ texts) h = absurd h
 attrs_kept old new grows (a ∷ attrs) [] h = absurd h
 
-token_kept : (old new : Texts) → Grows old new → (token : Token) (tok : Tok) → TokenMeans old token tok → TokenMeans new token tok
+pub token_kept : (old new : Texts) → Grows old new → (token : Token) (tok : Tok) → TokenMeans old token tok → TokenMeans new token tok
 token_kept old new grows (code.Start name attrs closing at) tok (text, texts, is, are, e) = (text, texts, text_kept old new name text grows is, attrs_kept old new grows attrs.items texts are, e)
 token_kept old new grows (code.End name at) tok (text, is, e) = (text, text_kept old new name text grows is, e)
 token_kept old new grows (code.Comment text at) tok h = h
