@@ -1,5 +1,5 @@
 -- Words on texts: a text is a list of characters, each with the place of its first byte.
-use Rattle.std.specs.Prelude.{◌≡◌, ℕ, ◌+◌, Bool, true, false, not, ◌&&◌, ◌||◌, ◌==◌, if◌then◌else◌, List, [], ◌∷◌, ◌++◌, map, encode_utf8_all}
+use Rattle.std.specs.Prelude.{◌≡◌, ℕ, ◌+◌, ◌%◌, Bool, true, false, not, ◌&&◌, ◌||◌, ◌==◌, nat_le, if◌then◌else◌, List, [], ◌∷◌, ◌++◌, map, encode_utf8_all}
 use Rattle.std.specs.List.{flat_map}
 use Rattle.std.specs.Char.{to_ascii_lowercase, len_utf8, is_ascii_whitespace, is_ascii_digit, is_ascii_alphabetic, is_ascii_alphanumeric}
 use Rattle.names.specs.declared.error.ParseError.{ParseError}
@@ -14,6 +14,10 @@ placed at (c ∷ cs) = record { ch = c; at = at } ∷ placed (at + len_utf8 c) c
 
 abbrev pub characters : List Placed → List ℕ
 characters text = map (λ p. p.ch) text
+
+-- .. with the letters A to Z lowered
+abbrev pub lowered : List Placed → List ℕ
+lowered text = map (λ p. to_ascii_lowercase p.ch) text
 
 -- the place at which a text stands: of its first character, or the input's end
 abbrev pub place : ℕ → List Placed → ℕ
@@ -104,6 +108,10 @@ is_quote c = c == 34 || c == 39
 abbrev pub is_greater_or_end : List Placed → List Placed → Bool
 is_greater_or_end [] rest = is_empty rest
 is_greater_or_end (p ∷ ps) rest = p.ch == 62 && is_empty ps
+
+-- U+FDD0 to U+FDEF, and each code point that ends in FFFE or FFFF
+abbrev pub is_noncharacter : ℕ → Bool
+is_noncharacter c = (nat_le 0xFDD0 c && nat_le c 0xFDEF) || nat_le 0xFFFE (c % 0x10000)
 
 abbrev pub error : ErrorCode → ℕ → ParseError
 error code at = record { code = code; at = at }

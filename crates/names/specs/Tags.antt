@@ -1,5 +1,6 @@
 -- The known names: their texts, and their numbers, which are the same in every table.
-use Rattle.std.specs.Prelude.{ℕ, List, [], ◌∷◌, ◌++◌, map, codes, slice_index_or, bytes_eq, if◌then◌else◌}
+use Rattle.std.specs.Prelude.{ℕ, List, [], ◌∷◌, ◌++◌, map, length, codes, slice_index_or, unwrap_or, bytes_eq, if◌then◌else◌}
+use Rattle.std.specs.List.{position}
 use Rattle.names.specs.declared.tag.Tag.{Tag}
 use Rattle.names.specs.declared.tag.Tag.TheVariants.{A, Abbr, Address, Applet, Area, Article, Aside, B, Base, Basefont, Bdi, Bdo, Bgsound, Big, Blockquote, Body, Br, Button, Caption, Center, Cite, Code, Col, Colgroup, Data, Dd, Del, Details, Dfn, Dialog, Dir, Div, Dl, Dt, Em, Embed, Fieldset, Figcaption, Figure, Font, Footer, Form, Frame, Frameset, H1, H2, H3, H4, H5, H6, Head, Header, Hgroup, Hr, Html, I, Iframe, Image, Img, Input, Ins, Kbd, Keygen, Label, Li, Link, Listing, Main, Mark, Marquee, Math, Menu, Meta, Nav, Nobr, Noembed, Noframes, Noscript, Object, Ol, Optgroup, Option, Output, P, Param, Plaintext, Pre, Q, Rb, Rp, Rt, Rtc, Ruby, S, Samp, Script, Search, Section, Select, Small, Source, Span, Strike, Strong, Style, Sub, Summary, Sup, Svg, Table, Tbody, Td, Template, Textarea, Tfoot, Th, Thead, Time, Title, Tr, Track, Tt, U, Ul, Var, Wbr, Xmp, Other}
 
@@ -158,10 +159,15 @@ type_name = codes "type"
 abbrev pub known : List (List ℕ)
 known = map tag_text tags ++ type_name ∷ []
 
--- the known name that has this number, and the one that has this text
+-- the known name that has this number
 abbrev pub tag_of : ℕ → Tag
 tag_of number = slice_index_or tags number Other
 
+-- the number of a known name: where its text stands among the known texts
+abbrev pub number_of : Tag → ℕ
+number_of t = unwrap_or (position (bytes_eq (tag_text t)) known) (length known)
+
+-- the known name that has this text
 abbrev pub tag_among : List Tag → List ℕ → Tag
 tag_among [] text = Other
 tag_among (t ∷ ts) text = if bytes_eq (tag_text t) text then t else tag_among ts text

@@ -1,9 +1,9 @@
 //! Names as numbers.
 
-ghost use Rattle.std.specs.Prelude.{◌≡◌, ℕ, ◌<◌, List, [], IfOk, OnErr, map, slice_get, Some, true};
+ghost use Rattle.std.specs.Prelude.{◌≡◌, ◌≢◌, ℕ, ◌<◌, List, [], IfOk, OnErr, map, slice_get, Some, true};
 ghost use Rattle.names.specs.Names.{Texts, IsOf, Grows, AreNames};
 ghost use Rattle.names.specs.Table.{are_new, HoldsTexts};
-ghost use Rattle.names.specs.Tags.{known, tag_of, tag_named, tag_text};
+ghost use Rattle.names.specs.Tags.{known, tag_of, number_of, tag_named, tag_text};
 ghost use Rattle.names.specs.declared.tag.Tag.{Tag as KnownTag};
 
 use crate::tag::{TAGS, Tag};
@@ -36,6 +36,19 @@ impl NameId {
             TAGS[self.index]
         } else {
             Tag::Other
+        }
+    }
+}
+
+impl Tag {
+    /// The number of the known name, the same in every table.
+    pub fn number(self) -> NameId
+        requires known { self ≢ Tag.Other }
+        ensures number { result ≡ number_of self }
+        ensures tag { tag_of result ≡ self }
+    {
+        NameId {
+            index: self as usize,
         }
     }
 }
@@ -117,6 +130,13 @@ pub fn known_by_text()
     ensures { (names : Texts) (id : ℕ) (text : List ℕ) → AreNames names → slice_get names id ≡ Some text → tag_of id ≡ tag_named text }
 {}
 
+/// A known name and its number tell each other, and in every table the number has the name's text.
+pub fn one_number()
+    ensures tag { (t : KnownTag) → t ≢ Tag.Other → tag_of (number_of t) ≡ t }
+    ensures number { (n : ℕ) → tag_of n ≢ Tag.Other → number_of (tag_of n) ≡ n }
+    ensures text { (names : Texts) (t : KnownTag) → AreNames names → t ≢ Tag.Other → slice_get names (number_of t) ≡ Some (tag_text t) }
+{}
+
 #[cfg(test)]
 mod tests {
     use super::*;
@@ -129,6 +149,9 @@ mod tests {
         for tag in TAGS {
             let id = names.intern(rt.alloc(), tag.text())?;
             assert_eq!(rt; id.tag(), tag);
+            assert!(rt; !matches!(tag, Tag::Other));
+            assert_eq!(rt; id, tag.number());
+            assert_eq!(rt; tag.number().tag(), tag);
         }
         let kind = names.intern(rt.alloc(), "type")?;
         assert_eq!(rt; kind.tag(), Tag::Other);

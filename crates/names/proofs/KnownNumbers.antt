@@ -1,0 +1,33 @@
+-- A known name and its number tell each other.
+use Rattle.std.proofs.Common.{◌≡◌, ℕ, List, ◌++◌, drop, length, map, get_or, Some, sym, refl, ap, ◌∙◌, subst, zero-add, inl, inr}
+use Rattle.std.proofs.lemmas.List.{take-append-drop, get_or_past, get_or-map}
+use Rattle.std.proofs.lemmas.List.FromFn.{get_or-range_with_len}
+use Rattle.std.proofs.lemmas.Bool.{cases_lt}
+use Rattle.std.specs.Prelude.{slice_get}
+use Rattle.std.specs.List.{range_with_len}
+use Rattle.names.specs.declared.tag.Tag.{Tag}
+use Rattle.names.specs.declared.tag.Tag.TheVariants.{Other}
+use Rattle.names.specs.Tags.{tag_text, tags, known, tag_of, number_of}
+use Rattle.names.specs.Names.{Texts, AreNames}
+use Rattle.names.proofs.Handing.{slice_get-append}
+
+-- the known names stand in the order of their numbers
+number_of-tags : map number_of tags ≡ range_with_len 0 127
+number_of-tags = refl
+
+pub number_of-tag_of : (n : ℕ) → (tag_of n ≡ Other → ⊥) → number_of (tag_of n) ≡ n
+number_of-tag_of n known_name =
+    elim (cases_lt n 127) [
+      | inl less ↦ sym (get_or-map number_of tags n Other 0 less) ∙ ap (λ (x : List ℕ). get_or x n 0) number_of-tags ∙ get_or-range_with_len 0 127 n 0 less ∙ zero-add n
+      | inr past ↦ absurd (known_name (get_or_past tags n Other past))
+    ]
+
+-- a known text stands at its number
+known_text : (t : Tag) → (t ≡ Other → ⊥) → slice_get known (number_of t) ≡ Some (tag_text t)
+known_text Other h = absurd (h refl)
+known_text _ h = refl
+
+pub text_of_known : (names : Texts) (t : Tag) → AreNames names → (t ≡ Other → ⊥) → slice_get names (number_of t) ≡ Some (tag_text t)
+text_of_known names t h known_name =
+    let whole : names ≡ known ++ drop (length known) names = sym (take-append-drop (length known) names) ∙ ap (λ (x : Texts). x ++ drop (length known) names) h.known_first in
+    subst (λ (x : Texts). slice_get x (number_of t) ≡ Some (tag_text t)) (sym whole) (slice_get-append known (drop (length known) names) (number_of t) (tag_text t) (known_text t known_name))
