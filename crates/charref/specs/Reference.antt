@@ -1,12 +1,11 @@
 -- Character references (HTML Standard, 13.2.5.72 to 13.2.5.80): `&` and what it stands for.
-use Rattle.std.specs.Prelude.{◌≡◌, ℕ, ◌+◌, ◌-◌, ◌*◌, ◌%◌, Bool, true, false, not, ◌&&◌, ◌||◌, ◌==◌, nat_eq, nat_lt, nat_le, if◌then◌else◌, List, [], ◌∷◌, ◌++◌, map, length, drop, codes, Option, Some, None, option_to_list, bytes_eq, Contains}
+use Rattle.std.specs.Prelude.{◌≡◌, ℕ, ◌+◌, ◌-◌, ◌*◌, Bool, true, false, not, ◌&&◌, ◌||◌, ◌==◌, nat_eq, nat_lt, nat_le, if◌then◌else◌, List, [], ◌∷◌, ◌++◌, map, length, drop, codes, Option, Some, None, option_to_list, bytes_eq, Contains}
 use Rattle.std.specs.List.{starts_with, list_all, IsDistinct, AllByRecursion}
-use Rattle.std.specs.Char.{to_ascii_lowercase}
 use Rattle.names.specs.declared.error.ParseError.{ParseError}
 use Rattle.names.specs.declared.error.ErrorCode.{ErrorCode}
 use Rattle.names.specs.declared.error.ErrorCode.TheVariants.{AbsenceOfDigitsInNumericCharacterReference, CharacterReferenceOutsideUnicodeRange, ControlCharacterReference, MissingSemicolonAfterCharacterReference, NoncharacterCharacterReference, NullCharacterReference, SurrogateCharacterReference, UnknownNamedCharacterReference}
 use Rattle.names.specs.declared.placed.Placed.{Placed}
-use Rattle.names.specs.Placed.{characters, place, begins, spells, is_empty, RunsTo, past, is_space, is_digit, is_alphanumeric, is_equals, error, error_if}
+use Rattle.names.specs.Placed.{characters, lowered, place, begins, spells, is_empty, RunsTo, past, is_space, is_digit, is_alphanumeric, is_equals, is_noncharacter, error, error_if}
 
 abbrev pub is_empty_list : List ℕ → Bool
 is_empty_list [] = true
@@ -71,9 +70,6 @@ is_kept in_value key after = in_value && not (ends_in_semicolon key) && begins (
 
 -- NUMBERS
 
-abbrev pub lowered : List Placed → List ℕ
-lowered text = map (λ p. to_ascii_lowercase p.ch) text
-
 abbrev pub is_hex_digit : ℕ → Bool
 is_hex_digit c = is_digit c || (nat_le 65 c && nat_le c 70) || (nat_le 97 c && nat_le c 102)
 
@@ -103,9 +99,6 @@ replaced (pair ∷ pairs) value = if value == pair.0 then pair.1 else replaced p
 
 abbrev pub is_surrogate : ℕ → Bool
 is_surrogate c = nat_le 0xD800 c && nat_le c 0xDFFF
-
-abbrev pub is_noncharacter : ℕ → Bool
-is_noncharacter c = (nat_le 0xFDD0 c && nat_le c 0xFDEF) || nat_le 0xFFFE (c % 0x10000)
 
 abbrev pub is_control : ℕ → Bool
 is_control c = nat_lt c 32 || (nat_le 127 c && nat_le c 159)

@@ -1,8 +1,8 @@
 //! The characters of numeric references (HTML Standard, 13.2.5.75 to 13.2.5.80).
 
 ghost use Rattle.std.specs.Prelude.{◌≡◌, ◌+◌, ◌*◌, ◌≤◌, ◌<◌, true, false, min, MatchOption};
-ghost use Rattle.charref.specs.Reference.{numbered, number_fault, replaced, replacements, is_surrogate, is_noncharacter, is_control, digit_value};
-ghost use Rattle.names.specs.Placed.{is_space};
+ghost use Rattle.charref.specs.Reference.{numbered, number_fault, replaced, replacements, is_surrogate, is_control, digit_value};
+ghost use Rattle.names.specs.Placed.{is_noncharacter, is_space};
 ghost use Rattle.charref.specs.Number.{is_digit_of, radix};
 
 use names::ErrorCode;

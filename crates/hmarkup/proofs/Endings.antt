@@ -7,7 +7,7 @@ use Rattle.names.specs.declared.error.ErrorCode.TheVariants.{EofInDoctype}
 use Rattle.names.specs.declared.placed.Placed.{Placed}
 use Rattle.names.specs.Placed.{characters, begins, is_empty, all, is_space, is_greater, is_greater_or_end, error, null_errors}
 use Rattle.hmarkup.specs.Doctype.{Found, force, IsEnd, closed, cut_off, IsSkipped, Skips}
-use Rattle.hmarkup.proofs.Marks.{and_parts, and_both, neither, null_errors-append}
+use Rattle.hmarkup.proofs.Marks.{and_parts, and_both, neither, or_none, null_errors-append}
 use Rattle.hmarkup.proofs.Characters.{greater_not_space}
 
 -- a text that is one character
@@ -33,8 +33,7 @@ pub neither_of : (a b : Bool) → not (a || b) ≡ true → (a ≡ false) × (b 
 neither_of a b h = neither a b (not_true (a || b) h)
 
 pub not_either : (a b : Bool) → a ≡ false → b ≡ false → not (a || b) ≡ true
-not_either true b e f = absurd (false≢true (sym e))
-not_either false b e f = not_false b f
+not_either a b e f = not_false (a || b) (or_none a b e f)
 
 -- the end
 pub end_at : (known : Found) (end : ℕ) (rest : List Placed) (p : Placed) (ps : List Placed) (found : Found) (errors : List ParseError) → IsEnd known end rest (p ∷ ps) found errors

@@ -5,12 +5,12 @@ use Rattle.std.proofs.lemmas.Bool.{false≢true, eqb-true}
 use Rattle.names.specs.declared.error.ParseError.{ParseError}
 use Rattle.names.specs.declared.error.ErrorCode.TheVariants.{InvalidCharacterSequenceAfterDoctypeName}
 use Rattle.names.specs.declared.placed.Placed.{Placed}
-use Rattle.names.specs.Placed.{characters, begins, is_space, is_greater, is_greater_or_end, spells_in_any_case, error, null_errors}
+use Rattle.names.specs.Placed.{characters, lowered, begins, is_space, is_greater, is_greater_or_end, spells_in_any_case, error, null_errors}
 use Rattle.hmarkup.specs.declared.keyword.Identifier.{Identifier}
 use Rattle.hmarkup.specs.declared.keyword.Identifier.TheVariants.{Public, System}
 use Rattle.hmarkup.specs.declared.keyword.Letters.{Letters}
 use Rattle.hmarkup.specs.declared.keyword.Letters.TheVariants.{P, Pu, Pub, Publ, Publi, S, Sy, Sys, Syst, Syste}
-use Rattle.hmarkup.specs.Doctype.{Found, closed, force, IsSkipped, AfterName, name_ends, name_skips, names_identifier, is_keyword, keyword, lowered, FollowsKeyword, FollowsName}
+use Rattle.hmarkup.specs.Doctype.{Found, closed, force, IsSkipped, AfterName, name_ends, name_skips, names_identifier, is_keyword, keyword, FollowsKeyword, FollowsName}
 use Rattle.hmarkup.specs.DoctypeSteps.{after_name, begins_keyword, first_letter, goes_on_with, in_keyword, next_letter, letters_after, letters_of, step_errors, found_by}
 use Rattle.hmarkup.specs.DoctypeWalk.{left, IsInKeyword, whole, fails}
 use Rattle.hmarkup.proofs.Marks.{and_both, and_no, neither, or_none, eqb_self}

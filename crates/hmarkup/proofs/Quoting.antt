@@ -67,10 +67,6 @@ follows_goes : (which : Identifier) (known : Found) (end : ℕ) (rest text : Lis
 follows_goes Public known end rest text found errors h = h
 follows_goes System known end rest text found errors h = h
 
-both_no : (a b : Bool) → a ≡ false → b ≡ false → (a || b) ≡ false
-both_no true b e f = e
-both_no false b e f = f
-
 module _ (which : Identifier) (mark : ℕ) (known : Found) (end : ℕ) (rest : List Placed) (p : Placed) (ps : List Placed) (found : Found) where
   abbrev apart : ℕ → Bool
   apart c = not (eqb c mark || is_greater c)

@@ -1,12 +1,11 @@
 -- Doctypes (HTML Standard, 13.2.5.53 to 13.2.5.68): a text after `<!DOCTYPE`, what it holds, and its errors in the order of the
 -- text. A relation says what a text is from some place on, where `known` was found before it.
-use Rattle.std.specs.Prelude.{◌≡◌, ℕ, Bool, true, false, not, ◌||◌, ◌==◌, List, [], ◌∷◌, ◌++◌, map, codes, Option, Some, None}
-use Rattle.std.specs.Char.{to_ascii_lowercase}
+use Rattle.std.specs.Prelude.{◌≡◌, ℕ, Bool, true, false, not, ◌||◌, ◌==◌, List, [], ◌∷◌, ◌++◌, codes, Option, Some, None}
 use Rattle.names.specs.declared.error.ParseError.{ParseError}
 use Rattle.names.specs.declared.error.ErrorCode.{ErrorCode}
 use Rattle.names.specs.declared.error.ErrorCode.TheVariants.{AbruptDoctypePublicIdentifier, AbruptDoctypeSystemIdentifier, EofInDoctype, InvalidCharacterSequenceAfterDoctypeName, MissingDoctypeName, MissingDoctypePublicIdentifier, MissingDoctypeSystemIdentifier, MissingQuoteBeforeDoctypePublicIdentifier, MissingQuoteBeforeDoctypeSystemIdentifier, MissingWhitespaceAfterDoctypePublicKeyword, MissingWhitespaceAfterDoctypeSystemKeyword, MissingWhitespaceBeforeDoctypeName, MissingWhitespaceBetweenDoctypePublicAndSystemIdentifiers, UnexpectedCharacterAfterDoctypeSystemIdentifier}
 use Rattle.names.specs.declared.placed.Placed.{Placed}
-use Rattle.names.specs.Placed.{characters, place, begins, is_empty, spells_in_any_case, all, RunsTo, is_space, is_greater, is_quote, is_greater_or_end, error, error_if, null_errors, text_bytes, name_bytes}
+use Rattle.names.specs.Placed.{characters, lowered, place, begins, is_empty, spells_in_any_case, all, RunsTo, is_space, is_greater, is_quote, is_greater_or_end, error, error_if, null_errors, text_bytes, name_bytes}
 use Rattle.hmarkup.specs.declared.keyword.Identifier.{Identifier}
 use Rattle.hmarkup.specs.declared.keyword.Identifier.TheVariants.{Public, System}
 
@@ -144,9 +143,6 @@ FollowsKeyword which known = AfterSpace (AfterKeyword which known) false
 
 abbrev pub is_keyword : List Placed → Bool
 is_keyword text = spells_in_any_case (keyword Public) text || spells_in_any_case (keyword System) text
-
-abbrev pub lowered : List Placed → List ℕ
-lowered text = map (λ p. to_ascii_lowercase p.ch) text
 
 -- what stands after the name and white space (13.2.5.56)
 pub data AfterName (known : Found) (end : ℕ) (rest text : List Placed) (found : Found) (errors : List ParseError) : Type 0 where

@@ -3,14 +3,14 @@ use Rattle.std.specs.Prelude.{◌≡◌, ℕ, true, false, List, ◌∷◌, ◌+
 use Rattle.names.specs.declared.error.ParseError.{ParseError}
 use Rattle.names.specs.declared.error.ErrorCode.TheVariants.{InvalidCharacterSequenceAfterDoctypeName}
 use Rattle.names.specs.declared.placed.Placed.{Placed}
-use Rattle.names.specs.Placed.{spells_in_any_case, is_quote, error}
+use Rattle.names.specs.Placed.{lowered, spells_in_any_case, is_quote, error}
 use Rattle.hmarkup.specs.declared.keyword.Identifier.{Identifier}
 use Rattle.hmarkup.specs.declared.keyword.Identifier.TheVariants.{Public, System}
 use Rattle.hmarkup.specs.declared.keyword.Letters.{Letters}
 use Rattle.hmarkup.specs.declared.keyword.Letters.TheVariants.{P, Pu, Pub, Publ, Publi, S, Sy, Sys, Syst, Syste}
 use Rattle.hmarkup.specs.declared.phase.Phase.{Phase}
 use Rattle.hmarkup.specs.declared.phase.Phase.TheVariants as phase
-use Rattle.hmarkup.specs.Doctype.{Found, Stands, force, AfterSpace, IsSkipped, IsInside, AfterSystemIdentifier, AfterPublicIdentifier, Follows, AfterKeyword, FollowsKeyword, lowered, AfterName, IsName, AfterOpening, IsDoctype}
+use Rattle.hmarkup.specs.Doctype.{Found, Stands, force, AfterSpace, IsSkipped, IsInside, AfterSystemIdentifier, AfterPublicIdentifier, Follows, AfterKeyword, FollowsKeyword, AfterName, IsName, AfterOpening, IsDoctype}
 use Rattle.hmarkup.specs.DoctypeSteps.{letters_of}
 use Rattle.hmarkup.specs.Walk.{Begins}
 

@@ -1,8 +1,8 @@
 -- What a sink is handed: the characters of a text, and the errors of the input stream (HTML Standard, 13.2.3.5).
-use Rattle.std.specs.Prelude.{ℕ, ◌%◌, Bool, not, ◌&&◌, ◌||◌, ◌==◌, nat_le, List, [], ◌∷◌, ◌++◌, map}
+use Rattle.std.specs.Prelude.{ℕ, Bool, not, ◌&&◌, ◌||◌, ◌==◌, List, [], ◌∷◌, ◌++◌, map}
 use Rattle.std.specs.List.{flat_map}
 use Rattle.std.specs.Char.{is_control}
-use Rattle.names.specs.Placed.{is_space, error_if}
+use Rattle.names.specs.Placed.{is_space, is_noncharacter, error_if}
 use Rattle.names.specs.declared.placed.Placed.{Placed}
 use Rattle.names.specs.declared.error.ParseError.{ParseError}
 use Rattle.names.specs.declared.error.ErrorCode.TheVariants.{ControlCharacterInInputStream, NoncharacterInInputStream}
@@ -10,10 +10,6 @@ use Rattle.names.specs.declared.error.ErrorCode.TheVariants.{ControlCharacterInI
 -- a control that is neither white space nor NUL
 abbrev pub is_stray_control : ℕ → Bool
 is_stray_control c = is_control c && not (c == 0 || is_space c)
-
--- U+FDD0 to U+FDEF, and each code point that ends in FFFE or FFFF
-abbrev pub is_noncharacter : ℕ → Bool
-is_noncharacter c = (nat_le 0xFDD0 c && nat_le c 0xFDEF) || nat_le 0xFFFE (c % 0x10000)
 
 -- the errors of the input stream that a character of a text, and a text, raises
 abbrev pub errors_of : Placed → List ParseError

@@ -1,10 +1,11 @@
 //! How a character is handed over.
 
 ghost use Rattle.std.specs.Prelude.{◌≡◌, ◌<◌, Bool, ℕ, [], ◌∷◌, IsTrue};
+ghost use Rattle.names.specs.Placed.{is_noncharacter};
 ghost use Rattle.names.specs.Sink.{Hands};
 ghost use Rattle.htext.specs.declared.Bom.{Bom as Mark};
 ghost use Rattle.htext.specs.Text.{is_dropped_mark, read_as};
-ghost use Rattle.htext.specs.Items.{Character, items, items_of, is_stray_control, is_noncharacter};
+ghost use Rattle.htext.specs.Items.{Character, items, items_of, is_stray_control};
 
 use crate::Bom;
 use crate::decoder::MAX_INPUT;
