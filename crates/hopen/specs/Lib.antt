@@ -1,0 +1,5 @@
+pub mod Nearest
+pub mod Stack
+pub mod Scopes
+pub mod Formatting
+pub mod Rows

@@ -1,0 +1,12 @@
+//! The bookmark of the adoption agency (HTML Standard, 13.2.6.4.7).
+
+use hnodes::NodeId;
+
+/// A place in the list of active formatting elements.
+#[derive(Clone, Copy, Debug, PartialEq, Eq)]
+pub enum Bookmark {
+    /// Where the entry of the formatting element stands.
+    InPlace,
+    /// Right after the entry of a node.
+    After(NodeId),
+}
