@@ -3,3 +3,4 @@ pub mod Stack
 pub mod Scopes
 pub mod Formatting
 pub mod Rows
+pub mod Spelled

@@ -1,0 +1,266 @@
+-- The open nodes and the formatting list under other names.
+use Rattle.std.proofs.Common.{◌≡◌, ℕ, ◌+◌, zero, suc, Bool, true, false, cond, not, ◌&&◌, ◌||◌, List, [], ◌∷◌, map, length, Option, Some, None, refl, ◌∙◌, ap}
+use Rattle.std.specs.Prelude.{if◌then◌else◌, slice_get, filter, find, nat_le, nat_lt, bytes_eq, position, drop}
+use Rattle.std.specs.List.{list_any, list_all, prefix_len}
+use Rattle.std.specs.Option.{option_map, option_or, option_map_or}
+use Rattle.hopen.specs.Nearest.{before, after, without, changed, put_before, changed_at}
+use Rattle.hopen.specs.Stack.{OpenNode, is_node, current, below, in_scope, topmost_special, furthest_block}
+use Rattle.hopen.specs.Scopes.{stops, stops_in, is_named, is_of, is_of_group}
+use Rattle.hopen.specs.Formatting.{EntryOf, Item, marker, entry, entries, is_of_node, is_entry, entry_of, after_marker, cleared, for_node, with_node, booked, without_earliest, most_equal, same_attribute, are_among, is_equal, pushed, find_entry}
+use Rattle.hopen.specs.Spelled.{spelled_open, spelled_stack, spelled_entry, spelled_item, spelled_items, IsSpelling, StackKnowsNoNames, FormattingKnowsNoNames}
+use Rattle.hopen.specs.declared.bookmark.Bookmark.{Bookmark}
+use Rattle.hopen.specs.declared.bookmark.Bookmark.TheVariants.{InPlace, After}
+use Rattle.hopen.specs.declared.scope.Scope.{Scope}
+use Rattle.hopen.specs.declared.scope.Scope.TheVariants.{Default}
+use Rattle.hnodes.specs.Forest.{Attribute}
+use Rattle.hnodes.specs.Spelled.{spelled_attribute}
+use Rattle.names.specs.declared.tag.Tag.{Tag}
+use Rattle.names.specs.Sets.{is_special}
+
+-- A list and its image, where a test of the image is a test of the list.
+module _ {X Y : Type 0} (h : X → Y) (p : X → Bool) (q : Y → Bool) (e : (x : X) → q (h x) ≡ p x) where
+  before-map : (xs : List X) → before q (map h xs) ≡ map h (before p xs)
+  before-map [] = refl
+  before-map (x ∷ xs) = (λ i. cond (e x i) [] (h x ∷ before-map xs i)) ∙ go (p x)
+    where
+      go : (v : Bool) → cond v [] (h x ∷ map h (before p xs)) ≡ map h (cond v [] (x ∷ before p xs))
+      go true = refl
+      go false = refl
+
+  after-map : (xs : List X) → after q (map h xs) ≡ map h (after p xs)
+  after-map [] = refl
+  after-map (x ∷ xs) = (λ i. cond (e x i) (map h xs) (after-map xs i)) ∙ go (p x)
+    where
+      go : (v : Bool) → cond v (map h xs) (map h (after p xs)) ≡ map h (cond v xs (after p xs))
+      go true = refl
+      go false = refl
+
+  without-map : (xs : List X) → without q (map h xs) ≡ map h (without p xs)
+  without-map [] = refl
+  without-map (x ∷ xs) = (λ i. cond (e x i) (map h xs) (h x ∷ without-map xs i)) ∙ go (p x)
+    where
+      go : (v : Bool) → cond v (map h xs) (h x ∷ map h (without p xs)) ≡ map h (cond v xs (x ∷ without p xs))
+      go true = refl
+      go false = refl
+
+  changed-map : (f : X → X) (f' : Y → Y) → ((x : X) → f' (h x) ≡ h (f x)) → (xs : List X) → changed q f' (map h xs) ≡ map h (changed p f xs)
+  changed-map f f' c [] = refl
+  changed-map f f' c (x ∷ xs) = (λ i. cond (e x i) (c x i ∷ map h xs) (h x ∷ changed-map f f' c xs i)) ∙ go (p x)
+    where
+      go : (v : Bool) → cond v (h (f x) ∷ map h xs) (h x ∷ map h (changed p f xs)) ≡ map h (cond v (f x ∷ xs) (x ∷ changed p f xs))
+      go true = refl
+      go false = refl
+
+  put_before-map : (new : X) (xs : List X) → put_before q (h new) (map h xs) ≡ map h (put_before p new xs)
+  put_before-map new [] = refl
+  put_before-map new (x ∷ xs) = (λ i. cond (e x i) (h new ∷ h x ∷ map h xs) (h x ∷ put_before-map new xs i)) ∙ go (p x)
+    where
+      go : (v : Bool) → cond v (h new ∷ h x ∷ map h xs) (h x ∷ map h (put_before p new xs)) ≡ map h (cond v (new ∷ x ∷ xs) (x ∷ put_before p new xs))
+      go true = refl
+      go false = refl
+
+  filter-map : (xs : List X) → filter q (map h xs) ≡ map h (filter p xs)
+  filter-map [] = refl
+  filter-map (x ∷ xs) = (λ i. cond (e x i) (h x ∷ filter-map xs i) (filter-map xs i)) ∙ go (p x)
+    where
+      go : (v : Bool) → cond v (h x ∷ map h (filter p xs)) (map h (filter p xs)) ≡ map h (cond v (x ∷ filter p xs) (filter p xs))
+      go true = refl
+      go false = refl
+
+  find-map : (xs : List X) → find q (map h xs) ≡ option_map h (find p xs)
+  find-map [] = refl
+  find-map (x ∷ xs) = (λ i. cond (e x i) (Some (h x)) (find-map xs i)) ∙ go (p x)
+    where
+      go : (v : Bool) → cond v (Some (h x)) (option_map h (find p xs)) ≡ option_map h (cond v (Some x) (find p xs))
+      go true = refl
+      go false = refl
+
+  any-map : (xs : List X) → list_any q (map h xs) ≡ list_any p xs
+  any-map [] = refl
+  any-map (x ∷ xs) = λ i. e x i || any-map xs i
+
+  all-map : (xs : List X) → list_all q (map h xs) ≡ list_all p xs
+  all-map [] = refl
+  all-map (x ∷ xs) = λ i. e x i && all-map xs i
+
+  prefix-map : (xs : List X) → prefix_len q (map h xs) ≡ prefix_len p xs
+  prefix-map [] = refl
+  prefix-map (x ∷ xs) = λ i. cond (e x i) (1 + prefix-map xs i) 0
+
+module _ {X Y : Type 0} (h : X → Y) where
+  length-image : (xs : List X) → length (map h xs) ≡ length xs
+  length-image [] = refl
+  length-image (x ∷ xs) = ap suc (length-image xs)
+
+  get-map : (xs : List X) (n : ℕ) → slice_get (map h xs) n ≡ option_map h (slice_get xs n)
+  get-map [] n = refl
+  get-map (x ∷ xs) zero = refl
+  get-map (x ∷ xs) (suc n) = get-map xs n
+
+  changed_at-map : (f : X → X) (f' : Y → Y) → ((x : X) → f' (h x) ≡ h (f x)) → (n : ℕ) (xs : List X) → changed_at n f' (map h xs) ≡ map h (changed_at n f xs)
+  changed_at-map f f' c n [] = refl
+  changed_at-map f f' c zero (x ∷ xs) = λ i. c x i ∷ map h xs
+  changed_at-map f f' c (suc n) (x ∷ xs) = λ i. h x ∷ changed_at-map f f' c n xs i
+
+-- The words of the stack.
+module _ {N M : Type 0} (tag : N → Tag) (tag' : M → Tag) (same : N → N → Bool) (same' : M → M → Bool) (g : N → M) (s : IsSpelling tag tag' same same' g) where
+  scope-map : (scope : Scope) (p : OpenNode N → Bool) (q : OpenNode M → Bool) → ((x : OpenNode N) → q (spelled_open g x) ≡ p x) → (xs : List (OpenNode N))
+      → in_scope (stops tag' scope) q (spelled_stack g xs) ≡ in_scope (stops tag scope) p xs
+  scope-map scope p q e [] = refl
+  scope-map scope p q e (x ∷ xs) = λ i. e x i || (not (stops_in scope (s.tags x.name i)) && scope-map scope p q e xs i)
+
+  topmost-map : (xs : List (OpenNode N)) → topmost_special tag' (spelled_stack g xs) ≡ option_map (spelled_open g) (topmost_special tag xs)
+  topmost-map [] = refl
+  topmost-map (x ∷ xs) = (λ i. option_or (topmost-map xs i) (if is_special (s.tags x.name i) then Some (spelled_open g x) else None)) ∙ go (topmost_special tag xs) (is_special (tag x.name))
+    where
+      go : (o : Option (OpenNode N)) (v : Bool) → option_or (option_map (spelled_open g) o) (cond v (Some (spelled_open g x)) None) ≡ option_map (spelled_open g) (option_or o (cond v (Some x) None))
+      go None true = refl
+      go None false = refl
+      go (Some y) v = refl
+
+  furthest-map : (n : ℕ) (xs : List (OpenNode N)) → furthest_block tag' n (spelled_stack g xs) ≡ option_map (spelled_open g) (furthest_block tag n xs)
+  furthest-map n xs = ap (topmost_special tag') (before-map (spelled_open g) (is_node n) (is_node n) (λ _. refl) xs) ∙ topmost-map (below n xs)
+
+  current-map : (xs : List (OpenNode N)) → current (spelled_stack g xs) ≡ option_map (spelled_open g) (current xs)
+  current-map [] = refl
+  current-map (x ∷ xs) = refl
+
+  pop-map : (xs : List (OpenNode N)) → drop 1 (spelled_stack g xs) ≡ spelled_stack g (drop 1 xs)
+  pop-map [] = refl
+  pop-map (x ∷ xs) = refl
+
+  position-map : (n : ℕ) (xs : List (OpenNode N)) → position (is_node n) (spelled_stack g xs) ≡ position (is_node n) xs
+  position-map n xs = λ i. at (prefix-map (spelled_open g) (λ x. not (is_node n x)) (λ x. not (is_node n x)) (λ _. refl) xs i) (length-image (spelled_open g) xs i)
+    where
+      at : ℕ → ℕ → Option ℕ
+      at k len = if nat_lt k len then Some k else None
+
+  pub stack_spelled : StackKnowsNoNames tag tag' same same' g
+  stack_spelled = record {
+    contains = λ n. any-map (spelled_open g) (is_node n) (is_node n) (λ _. refl);
+    place = position-map;
+    get = λ up xs. get-map (spelled_open g) xs up;
+    current_node = current-map;
+    pop = pop-map;
+    pop_to = λ a. after-map (spelled_open g) (is_named same a) (is_named same' (g a)) (λ x. s.names x.name a);
+    pop_to_group = λ group. after-map (spelled_open g) (is_of tag group) (is_of tag' group) (λ x. ap (is_of_group group) (s.tags x.name));
+    nodes_above = λ n. after-map (spelled_open g) (is_node n) (is_node n) (λ _. refl);
+    nodes_below = λ n. before-map (spelled_open g) (is_node n) (is_node n) (λ _. refl);
+    remove = λ n. without-map (spelled_open g) (is_node n) (is_node n) (λ _. refl);
+    replace = λ n new. changed-map (spelled_open g) (is_node n) (is_node n) (λ _. refl) (λ _. new) (λ _. spelled_open g new) (λ _. refl);
+    insert_below = λ n new. put_before-map (spelled_open g) (is_node n) (is_node n) (λ _. refl) new;
+    is_in_scope = λ scope a. scope-map scope (is_named same a) (is_named same' (g a)) (λ x. s.names x.name a);
+    node_is_in_scope = λ n. scope-map Default (is_node n) (is_node n) (λ _. refl);
+    group_is_in_scope = λ scope group. scope-map scope (is_of tag group) (is_of tag' group) (λ x. ap (is_of_group group) (s.tags x.name));
+    furthest = furthest-map;
+  }
+
+-- The words of the formatting list.
+module _ {N M : Type 0} (tag : N → Tag) (tag' : M → Tag) (same : N → N → Bool) (same' : M → M → Bool) (g : N → M) (s : IsSpelling tag tag' same same' g) where
+  after_marker-map : (items : List (Item N)) → after_marker (spelled_items g items) ≡ map (spelled_entry g) (after_marker items)
+  after_marker-map [] = refl
+  after_marker-map (marker ∷ items) = refl
+  after_marker-map (entry e ∷ items) = ap (◌∷◌ (spelled_entry g e)) (after_marker-map items)
+
+  entries-map : (items : List (Item N)) → entries (spelled_items g items) ≡ map (spelled_entry g) (entries items)
+  entries-map [] = refl
+  entries-map (marker ∷ items) = entries-map items
+  entries-map (entry e ∷ items) = ap (◌∷◌ (spelled_entry g e)) (entries-map items)
+
+  cleared-map : (items : List (Item N)) → cleared (spelled_items g items) ≡ spelled_items g (cleared items)
+  cleared-map [] = refl
+  cleared-map (marker ∷ items) = refl
+  cleared-map (entry e ∷ items) = cleared-map items
+
+  same_attribute-map : (a b : Attribute N) → same_attribute same' (spelled_attribute g a) (spelled_attribute g b) ≡ same_attribute same a b
+  same_attribute-map a b = λ i. s.names a.0 b.0 i && bytes_eq a.1 b.1
+
+  are_among-map : (xs ys : List (Attribute N)) → are_among same' (map (spelled_attribute g) xs) (map (spelled_attribute g) ys) ≡ are_among same xs ys
+  are_among-map xs ys =
+      all-map (spelled_attribute g) (λ a. list_any (same_attribute same a) ys) (λ a. list_any (same_attribute same' a) (map (spelled_attribute g) ys))
+      (λ a. any-map (spelled_attribute g) (same_attribute same a) (same_attribute same' (spelled_attribute g a)) (same_attribute-map a) ys) xs
+
+  is_equal-map : (new e : EntryOf N) → is_equal same' (spelled_entry g new) (spelled_entry g e) ≡ is_equal same new e
+  is_equal-map new e = λ i. s.names new.name e.name i && (are_among-map new.attrs e.attrs i && are_among-map e.attrs new.attrs i)
+
+  without_earliest-map : (p : EntryOf N → Bool) (q : EntryOf M → Bool) → ((e : EntryOf N) → q (spelled_entry g e) ≡ p e) → (items : List (Item N))
+      → without_earliest q (spelled_items g items) ≡ spelled_items g (without_earliest p items)
+  without_earliest-map p q f [] = refl
+  without_earliest-map p q f (marker ∷ items) = refl
+  without_earliest-map p q f (entry e ∷ items) =
+      (λ i. if f e i && not (later i) then spelled_items g items else entry (spelled_entry g e) ∷ without_earliest-map p q f items i) ∙ go (p e && not (list_any p (after_marker items)))
+    where
+      later : list_any q (after_marker (spelled_items g items)) ≡ list_any p (after_marker items)
+      later = ap (list_any q) (after_marker-map items) ∙ any-map (spelled_entry g) p q f (after_marker items)
+
+      go : (v : Bool) → cond v (spelled_items g items) (entry (spelled_entry g e) ∷ spelled_items g (without_earliest p items)) ≡ spelled_items g (cond v items (entry e ∷ without_earliest p items))
+      go true = refl
+      go false = refl
+
+  equal-map : (new : EntryOf N) (items : List (Item N)) → length (filter (is_equal same' (spelled_entry g new)) (after_marker (spelled_items g items))) ≡ length (filter (is_equal same new) (after_marker items))
+  equal-map new items =
+      ap (λ es. length (filter (is_equal same' (spelled_entry g new)) es)) (after_marker-map items)
+      ∙ ap length (filter-map (spelled_entry g) (is_equal same new) (is_equal same' (spelled_entry g new)) (is_equal-map new) (after_marker items))
+      ∙ length-image (spelled_entry g) (filter (is_equal same new) (after_marker items))
+
+  pushed-map : (new : EntryOf N) (items : List (Item N)) → pushed same' (spelled_entry g new) (spelled_items g items) ≡ spelled_items g (pushed same new items)
+  pushed-map new items =
+      (λ i. entry (spelled_entry g new) ∷ (if nat_le most_equal (equal-map new items i) then without_earliest-map (is_equal same new) (is_equal same' (spelled_entry g new)) (is_equal-map new) items i else spelled_items g items))
+      ∙ go (nat_le most_equal (length (filter (is_equal same new) (after_marker items))))
+    where
+      go : (v : Bool) → entry (spelled_entry g new) ∷ cond v (spelled_items g (without_earliest (is_equal same new) items)) (spelled_items g items)
+          ≡ entry (spelled_entry g new) ∷ spelled_items g (cond v (without_earliest (is_equal same new) items) items)
+      go true = refl
+      go false = refl
+
+  find_entry-map : (a : N) (items : List (Item N)) → find_entry same' (g a) (spelled_items g items) ≡ option_map (spelled_entry g) (find_entry same a items)
+  find_entry-map a items =
+      ap (find (λ e. same' (g a) e.name)) (after_marker-map items)
+      ∙ find-map (spelled_entry g) (λ e. same a e.name) (λ e. same' (g a) e.name) (λ e. s.names a e.name) (after_marker items)
+
+  entry_of-map : (n : ℕ) (items : List (Item N)) → entry_of n (spelled_items g items) ≡ option_map (spelled_entry g) (entry_of n items)
+  entry_of-map n items = ap (find (is_of_node n)) (entries-map items) ∙ find-map (spelled_entry g) (is_of_node n) (is_of_node n) (λ _. refl) (entries items)
+
+  get_entry-map : (back : ℕ) (items : List (Item N)) → slice_get (after_marker (spelled_items g items)) back ≡ option_map (spelled_entry g) (slice_get (after_marker items) back)
+  get_entry-map back items = ap (λ es. slice_get es back) (after_marker-map items) ∙ get-map (spelled_entry g) (after_marker items) back
+
+  is_entry-map : (n : ℕ) (i : Item N) → is_entry n (spelled_item g i) ≡ is_entry n i
+  is_entry-map n marker = refl
+  is_entry-map n (entry e) = refl
+
+  for_node-map : (new : ℕ) (i : Item N) → for_node new (spelled_item g i) ≡ spelled_item g (for_node new i)
+  for_node-map new marker = refl
+  for_node-map new (entry e) = refl
+
+  with_node-map : (old new : ℕ) (items : List (Item N)) → with_node old new (spelled_items g items) ≡ spelled_items g (with_node old new items)
+  with_node-map old new items = changed-map (spelled_item g) (is_entry old) (is_entry old) (is_entry-map old) (for_node new) (for_node new) (for_node-map new) items
+
+  booked-map : (old new : ℕ) (bookmark : Bookmark) (items : List (Item N)) → booked old new bookmark (spelled_items g items) ≡ spelled_items g (booked old new bookmark items)
+  booked-map old new InPlace items = with_node-map old new items
+  booked-map old new (After n) items =
+      (λ i. option_map_or (λ x. put_before (is_entry n) (for_node new x) (left i)) (found i) (spelled_items g items)) ∙ go (find (is_entry old) items)
+    where
+      left : without (is_entry old) (spelled_items g items) ≡ spelled_items g (without (is_entry old) items)
+      left = without-map (spelled_item g) (is_entry old) (is_entry old) (is_entry-map old) items
+
+      found : find (is_entry old) (spelled_items g items) ≡ option_map (spelled_item g) (find (is_entry old) items)
+      found = find-map (spelled_item g) (is_entry old) (is_entry old) (is_entry-map old) items
+
+      go : (o : Option (Item N)) → option_map_or (λ x. put_before (is_entry n) (for_node new x) (spelled_items g (without (is_entry old) items))) (option_map (spelled_item g) o) (spelled_items g items)
+          ≡ spelled_items g (option_map_or (λ x. put_before (is_entry n) (for_node new x) (without (is_entry old) items)) o items)
+      go None = refl
+      go (Some x) = ap (λ y. put_before (is_entry n) y (spelled_items g (without (is_entry old) items))) (for_node-map new x)
+          ∙ put_before-map (spelled_item g) (is_entry n) (is_entry n) (is_entry-map n) (for_node new x) (without (is_entry old) items)
+
+  pub formatting_spelled : FormattingKnowsNoNames tag tag' same same' g
+  formatting_spelled = record {
+    push = pushed-map;
+    clear = cleared-map;
+    find = find_entry-map;
+    entry_of_node = entry_of-map;
+    get = get_entry-map;
+    remove = λ n. filter-map (spelled_item g) (λ i. not (is_entry n i)) (λ i. not (is_entry n i)) (λ i. ap not (is_entry-map n i));
+    replace = with_node-map;
+    renew = λ back new. changed_at-map (spelled_item g) (for_node new) (for_node new) (for_node-map new) back;
+    move_to_bookmark = booked-map;
+  }

@@ -1,0 +1,68 @@
+-- The same lists under other names, as a number of a name and its text.
+use Rattle.std.specs.Prelude.{◌≡◌, ℕ, Bool, List, map, drop, slice_get, position}
+use Rattle.std.specs.Option.{option_map}
+use Rattle.hnodes.specs.Spelled.{spelled_attribute}
+use Rattle.hopen.specs.Nearest.{after, without, changed, put_before, changed_at}
+use Rattle.hopen.specs.Stack.{OpenNode, is_node, is_open, current, above, below, in_scope, furthest_block}
+use Rattle.hopen.specs.Scopes.{stops, is_named, is_of}
+use Rattle.hopen.specs.Formatting.{EntryOf, Item, marker, entry, entry_of, after_marker, cleared, without_entry, for_node, with_node, booked, pushed, find_entry}
+use Rattle.hopen.specs.declared.bookmark.Bookmark.{Bookmark}
+use Rattle.hopen.specs.declared.scope.Group.{Group}
+use Rattle.hopen.specs.declared.scope.Scope.{Scope}
+use Rattle.hopen.specs.declared.scope.Scope.TheVariants.{Default}
+use Rattle.names.specs.declared.tag.Tag.{Tag}
+
+module _ {N M : Type 0} where
+  abbrev pub spelled_open : (N → M) → OpenNode N → OpenNode M
+  spelled_open g x = record { node = x.node; name = g x.name }
+
+  abbrev pub spelled_stack : (N → M) → List (OpenNode N) → List (OpenNode M)
+  spelled_stack g stack = map (spelled_open g) stack
+
+  abbrev pub spelled_entry : (N → M) → EntryOf N → EntryOf M
+  spelled_entry g e = record { node = e.node; name = g e.name; attrs = map (spelled_attribute g) e.attrs }
+
+  abbrev pub spelled_item : (N → M) → Item N → Item M
+  spelled_item g marker = marker
+  spelled_item g (entry e) = entry (spelled_entry g e)
+
+  abbrev pub spelled_items : (N → M) → List (Item N) → List (Item M)
+  spelled_items g items = map (spelled_item g) items
+
+module _ {N M : Type 0} (tag : N → Tag) (tag' : M → Tag) (same : N → N → Bool) (same' : M → M → Bool) where
+  -- two names are the same exactly where their spellings are, and a name is the known one that its spelling is
+  pub record IsSpelling (g : N → M) : Type 0 where
+    pub names : (a b : N) → same' (g a) (g b) ≡ same a b
+    pub tags : (a : N) → tag' (g a) ≡ tag a
+
+  -- What is done with the open nodes and then spelled is what is done with them as they are spelled, and what is asked of them has
+  -- the same answer.
+  pub record StackKnowsNoNames (g : N → M) : Type 0 where
+    pub contains : (n : ℕ) (s : List (OpenNode N)) → is_open n (spelled_stack g s) ≡ is_open n s
+    pub place : (n : ℕ) (s : List (OpenNode N)) → position (is_node n) (spelled_stack g s) ≡ position (is_node n) s
+    pub get : (up : ℕ) (s : List (OpenNode N)) → slice_get (spelled_stack g s) up ≡ option_map (spelled_open g) (slice_get s up)
+    pub current_node : (s : List (OpenNode N)) → current (spelled_stack g s) ≡ option_map (spelled_open g) (current s)
+    pub pop : (s : List (OpenNode N)) → drop 1 (spelled_stack g s) ≡ spelled_stack g (drop 1 s)
+    pub pop_to : (a : N) (s : List (OpenNode N)) → after (is_named same' (g a)) (spelled_stack g s) ≡ spelled_stack g (after (is_named same a) s)
+    pub pop_to_group : (group : Group) (s : List (OpenNode N)) → after (is_of tag' group) (spelled_stack g s) ≡ spelled_stack g (after (is_of tag group) s)
+    pub nodes_above : (n : ℕ) (s : List (OpenNode N)) → above n (spelled_stack g s) ≡ spelled_stack g (above n s)
+    pub nodes_below : (n : ℕ) (s : List (OpenNode N)) → below n (spelled_stack g s) ≡ spelled_stack g (below n s)
+    pub remove : (n : ℕ) (s : List (OpenNode N)) → without (is_node n) (spelled_stack g s) ≡ spelled_stack g (without (is_node n) s)
+    pub replace : (n : ℕ) (new : OpenNode N) (s : List (OpenNode N)) → changed (is_node n) (λ _. spelled_open g new) (spelled_stack g s) ≡ spelled_stack g (changed (is_node n) (λ _. new) s)
+    pub insert_below : (n : ℕ) (new : OpenNode N) (s : List (OpenNode N)) → put_before (is_node n) (spelled_open g new) (spelled_stack g s) ≡ spelled_stack g (put_before (is_node n) new s)
+    pub is_in_scope : (scope : Scope) (a : N) (s : List (OpenNode N)) → in_scope (stops tag' scope) (is_named same' (g a)) (spelled_stack g s) ≡ in_scope (stops tag scope) (is_named same a) s
+    pub node_is_in_scope : (n : ℕ) (s : List (OpenNode N)) → in_scope (stops tag' Default) (is_node n) (spelled_stack g s) ≡ in_scope (stops tag Default) (is_node n) s
+    pub group_is_in_scope : (scope : Scope) (group : Group) (s : List (OpenNode N)) → in_scope (stops tag' scope) (is_of tag' group) (spelled_stack g s) ≡ in_scope (stops tag scope) (is_of tag group) s
+    pub furthest : (n : ℕ) (s : List (OpenNode N)) → furthest_block tag' n (spelled_stack g s) ≡ option_map (spelled_open g) (furthest_block tag n s)
+
+  -- The same of the list of active formatting elements.
+  pub record FormattingKnowsNoNames (g : N → M) : Type 0 where
+    pub push : (e : EntryOf N) (items : List (Item N)) → pushed same' (spelled_entry g e) (spelled_items g items) ≡ spelled_items g (pushed same e items)
+    pub clear : (items : List (Item N)) → cleared (spelled_items g items) ≡ spelled_items g (cleared items)
+    pub find : (a : N) (items : List (Item N)) → find_entry same' (g a) (spelled_items g items) ≡ option_map (spelled_entry g) (find_entry same a items)
+    pub entry_of_node : (n : ℕ) (items : List (Item N)) → entry_of n (spelled_items g items) ≡ option_map (spelled_entry g) (entry_of n items)
+    pub get : (back : ℕ) (items : List (Item N)) → slice_get (after_marker (spelled_items g items)) back ≡ option_map (spelled_entry g) (slice_get (after_marker items) back)
+    pub remove : (n : ℕ) (items : List (Item N)) → without_entry n (spelled_items g items) ≡ spelled_items g (without_entry n items)
+    pub replace : (old new : ℕ) (items : List (Item N)) → with_node old new (spelled_items g items) ≡ spelled_items g (with_node old new items)
+    pub renew : (back new : ℕ) (items : List (Item N)) → changed_at back (for_node new) (spelled_items g items) ≡ spelled_items g (changed_at back (for_node new) items)
+    pub move_to_bookmark : (old new : ℕ) (bookmark : Bookmark) (items : List (Item N)) → booked old new bookmark (spelled_items g items) ≡ spelled_items g (booked old new bookmark items)
