@@ -7,7 +7,7 @@ use Rattle.hopen.specs.Nearest.{before, after, without, changed, put_before, cha
 use Rattle.hopen.specs.Stack.{OpenNode, is_node, current, below, in_scope, topmost_special, furthest_block}
 use Rattle.hopen.specs.Scopes.{stops, stops_in, is_named, is_of, is_of_group}
 use Rattle.hopen.specs.Formatting.{EntryOf, Item, marker, entry, entries, is_of_node, is_entry, entry_of, after_marker, cleared, for_node, with_node, booked, without_earliest, most_equal, same_attribute, are_among, is_equal, pushed, find_entry}
-use Rattle.hopen.specs.Spelled.{spelled_open, spelled_stack, spelled_entry, spelled_item, spelled_items, IsSpelling, StackKnowsNoNames, FormattingKnowsNoNames}
+use Rattle.hopen.specs.Spelled.{spelled_open, spelled_stack, spelled_entry, spelled_item, spelled_items, StackKnowsNoNames, FormattingKnowsNoNames}
 use Rattle.hopen.specs.declared.bookmark.Bookmark.{Bookmark}
 use Rattle.hopen.specs.declared.bookmark.Bookmark.TheVariants.{InPlace, After}
 use Rattle.hopen.specs.declared.scope.Scope.{Scope}
@@ -16,6 +16,7 @@ use Rattle.hnodes.specs.Forest.{Attribute}
 use Rattle.hnodes.specs.Spelled.{spelled_attribute}
 use Rattle.names.specs.declared.tag.Tag.{Tag}
 use Rattle.names.specs.Sets.{is_special}
+use Rattle.names.specs.Spelling.{IsSpelling}
 
 -- A list and its image, where a test of the image is a test of the list.
 module _ {X Y : Type 0} (h : X → Y) (p : X → Bool) (q : Y → Bool) (e : (x : X) → q (h x) ≡ p x) where

@@ -30,11 +30,6 @@ module _ {N M : Type 0} where
   spelled_items g items = map (spelled_item g) items
 
 module _ {N M : Type 0} (tag : N → Tag) (tag' : M → Tag) (same : N → N → Bool) (same' : M → M → Bool) where
-  -- two names are the same exactly where their spellings are, and a name is the known one that its spelling is
-  pub record IsSpelling (g : N → M) : Type 0 where
-    pub names : (a b : N) → same' (g a) (g b) ≡ same a b
-    pub tags : (a : N) → tag' (g a) ≡ tag a
-
   -- What is done with the open nodes and then spelled is what is done with them as they are spelled, and what is asked of them has
   -- the same answer.
   pub record StackKnowsNoNames (g : N → M) : Type 0 where

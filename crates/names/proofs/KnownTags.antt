@@ -9,7 +9,7 @@ use Rattle.names.specs.declared.tag.Tag.TheVariants.{Other}
 use Rattle.names.specs.Tags.{tag_text, tags, tag_of, tag_named, tag_among, type_name}
 use Rattle.names.specs.Names.{Texts, text_of, AreDistinct, AreNames}
 
-different : (a b : List ℕ) → (a ≡ b → ⊥) → bytes_eq a b ≡ false
+pub different : (a b : List ℕ) → (a ≡ b → ⊥) → bytes_eq a b ≡ false
 different a b h = elim (bytes_eq a b) as (λ v. bytes_eq a b ≡ v → v ≡ false) [ true ↦ λ e. absurd (h ((bytes_eq-Decides a b).0 e)) | false ↦ λ e. refl ] refl
 
 others_distinct : (x : List ℕ) (xs : Texts) → AreDistinct (x ∷ xs) → AreDistinct xs
@@ -26,7 +26,7 @@ named_at (t ∷ ts) others (suc j) text h less e =
     ∙ ap (λ (b : Bool). cond b t (tag_among ts text)) (sym no)
 
 -- what follows the tags' texts in a table
-after_tags : (first last names : Texts) → take (length (first ++ last)) names ≡ first ++ last → (others : Texts) × (names ≡ first ++ others)
+pub after_tags : (first last names : Texts) → take (length (first ++ last)) names ≡ first ++ last → (others : Texts) × (names ≡ first ++ others)
 after_tags first last names h = (
   last ++ drop (length (first ++ last)) names,
   sym (take-append-drop (length (first ++ last)) names) ∙ ap (λ (x : Texts). x ++ drop (length (first ++ last)) names) h

@@ -7,3 +7,4 @@ pub mod Table
 pub mod Sink
 pub mod Placed
 pub mod Rows
+pub mod Spelling

@@ -5,6 +5,7 @@
 pub mod attr;
 pub mod error;
 pub mod groups;
+pub mod laws;
 pub mod placed;
 pub mod raw;
 pub mod refusal;
@@ -15,6 +16,7 @@ pub mod tag;
 
 pub use attr::Attr;
 pub use error::{ErrorCode, ParseError};
+pub use laws::each_table_spells;
 pub use placed::Placed;
 pub use raw::{RawKind, RefusedName};
 pub use refusal::{Refusal, TableFault};

@@ -1,0 +1,99 @@
+-- Texts for all numbers.
+use Rattle.std.proofs.Common.{◌≡◌, ℕ, ◌+◌, ◌<◌, ◌≤◌, zero, suc, Bool, true, false, cond, List, [], ◌∷◌, length, map, sym, refl, ap, ◌∙◌, subst, arith, inl, inr}
+use Rattle.std.specs.Prelude.{bytes_eq, replicate, nat_eq, nat_le, ◌&&◌}
+use Rattle.std.specs.List.{list_all}
+use Rattle.std.proofs.lemmas.List.{length-replicate, length-append, get_or_past}
+use Rattle.std.proofs.lemmas.Bool.{cases_lt, leb-true, lt-ltb, le-ltb}
+use Rattle.std.proofs.lemmas.Bool.Decides.{eqb_tells}
+use Rattle.std.proofs.lemmas.Option.{slice_get-get_or, slice_get_within, get_or_from_slice_get}
+use Rattle.names.specs.declared.tag.Tag.{Tag}
+use Rattle.names.specs.declared.tag.Tag.TheVariants.{Other}
+use Rattle.names.specs.Tags.{tag_text, tags, tag_of, tag_named, tag_among, type_name}
+use Rattle.names.specs.Names.{Texts, text_of, AreDistinct, AreNames}
+use Rattle.names.specs.Spelling.{IsSpelled, total, spelling}
+use Rattle.names.proofs.KnownTags.{different, after_tags, tag_of-named}
+use Rattle.names.proofs.TableLemmas.{bytes_eq-same}
+
+abbrev beyond : Texts → ℕ → List ℕ
+beyond names id = replicate (1 + (total names + id)) 0
+
+-- no text of a table is longer than all of them
+length-text_of : (names : Texts) (id : ℕ) → id < length names → length (text_of names id) ≤ total names
+length-text_of [] id within = absurd (omega (arith, within))
+length-text_of (text ∷ names) zero within = omega arith
+length-text_of (text ∷ names) (suc id) within = omega (arith, length-text_of names id (omega (arith, within)))
+
+-- what the spelling is, within the table and beyond it
+spelled_within : (names : Texts) (id : ℕ) → id < length names → spelling names id ≡ text_of names id
+spelled_within names id within = ap (λ (v : Bool). cond v (text_of names id) (beyond names id)) (lt-ltb id (length names) within)
+
+spelled_beyond : (names : Texts) (id : ℕ) → length names ≤ id → spelling names id ≡ beyond names id
+spelled_beyond names id past = ap (λ (v : Bool). cond v (text_of names id) (beyond names id)) (le-ltb id (length names) past)
+
+-- so no two numbers have one text
+inside_and_beyond : (names : Texts) (a b : ℕ) → a < length names → length names ≤ b → spelling names a ≡ spelling names b → ⊥
+inside_and_beyond names a b within past e =
+    let same : length (text_of names a) ≡ 1 + (total names + b) =
+    ap length (sym (spelled_within names a within) ∙ e ∙ spelled_beyond names b past) ∙ length-replicate (1 + (total names + b)) 0 in
+    omega (arith, length-text_of names a within)
+
+one_to_one : (names : Texts) → AreDistinct names → (a b : ℕ) → spelling names a ≡ spelling names b → a ≡ b
+one_to_one names distinct a b e = elim (cases_lt a (length names)) [
+  | inl a_in ↦ elim (cases_lt b (length names)) [
+    | inl b_in ↦ distinct a b a_in b_in (sym (spelled_within names a a_in) ∙ e ∙ spelled_within names b b_in)
+    | inr b_past ↦ absurd (inside_and_beyond names a b a_in b_past e)
+  ]
+  | inr a_past ↦ elim (cases_lt b (length names)) [
+    | inl b_in ↦ absurd (inside_and_beyond names b a b_in a_past (sym e))
+    | inr b_past ↦
+        let same : 1 + (total names + a) ≡ 1 + (total names + b) =
+        sym (length-replicate (1 + (total names + a)) 0) ∙ ap length (sym (spelled_beyond names a a_past) ∙ e ∙ spelled_beyond names b b_past) ∙ length-replicate (1 + (total names + b)) 0 in
+        omega arith
+  ]
+]
+
+same_names : (names : Texts) → AreDistinct names → (a b : ℕ) → bytes_eq (spelling names a) (spelling names b) ≡ nat_eq a b
+same_names names distinct a b = elim (eqb_tells a b) [
+  | inl both ↦ subst (λ (n : ℕ). bytes_eq (spelling names a) (spelling names n) ≡ true) both.1 (bytes_eq-same (spelling names a)) ∙ sym both.0
+  | inr both ↦ different (spelling names a) (spelling names b) (λ e. both.1 (one_to_one names distinct a b e)) ∙ sym both.0
+]
+
+-- a text that is longer than all known names is none of them
+abbrev longest : ℕ
+longest = 16
+
+abbrev are_short : List Tag → Bool
+are_short ts = list_all (λ t. nat_le (length (tag_text t)) longest) ts
+
+both_true : (a b : Bool) → (a && b) ≡ true → (a ≡ true) × (b ≡ true)
+both_true true b e = (refl, e)
+both_true false b e = cc
+
+tag_among-long : (ts : List Tag) (text : List ℕ) → are_short ts ≡ true → longest < length text → tag_among ts text ≡ Other
+tag_among-long [] text short long = refl
+tag_among-long (t ∷ ts) text short long =
+    let (first, rest) = both_true (nat_le (length (tag_text t)) longest) (are_short ts) short in
+    let no : bytes_eq (tag_text t) text ≡ false = different (tag_text t) text (λ e. let k : length (tag_text t) ≡ length text = ap length e in let le : length (tag_text t) ≤ 16 = leb-true (length (tag_text t)) 16 first in omega (arith, le, k)) in
+    ap (λ (v : Bool). cond v t (tag_among ts text)) no ∙ tag_among-long ts text rest long
+
+known_are_first : (names : Texts) → AreNames names → length tags ≤ length names
+known_are_first names h =
+    let (others, e) = after_tags (map tag_text tags) (type_name ∷ []) names h.known_first in
+    let n : length names ≡ length (map tag_text tags) + length others = ap length e ∙ length-append (map tag_text tags) others in
+    omega (arith, n)
+
+same_tags : (names : Texts) → AreNames names → (a : ℕ) → tag_named (spelling names a) ≡ tag_of a
+same_tags names h a = elim (cases_lt a (length names)) [
+  | inl a_in ↦ ap tag_named (spelled_within names a a_in) ∙ sym (tag_of-named names a (text_of names a) h (slice_get-get_or names a [] a_in))
+  | inr a_past ↦
+      let many : length tags ≤ length names = known_are_first names h in
+      ap tag_named (spelled_beyond names a a_past)
+      ∙ tag_among-long tags (beyond names a) refl (subst (λ (n : ℕ). 16 < n) (sym (length-replicate (1 + (total names + a)) 0)) (omega (arith, many, a_past)))
+      ∙ sym (get_or_past tags a Other (omega (arith, many, a_past)))
+]
+
+pub spelled : (names : Texts) → AreNames names → IsSpelled names (spelling names)
+spelled names h = record {
+  spells = record { names = same_names names h.distinct; tags = same_tags names h };
+  table = λ id text at. spelled_within names id (slice_get_within names id text at) ∙ get_or_from_slice_get names id text [] at;
+}
