@@ -1,12 +1,12 @@
 -- The open nodes and the formatting list under other names.
 use Rattle.std.proofs.Common.{◌≡◌, ℕ, ◌+◌, zero, suc, Bool, true, false, cond, not, ◌&&◌, ◌||◌, List, [], ◌∷◌, map, length, Option, Some, None, refl, ◌∙◌, ap}
-use Rattle.std.specs.Prelude.{if◌then◌else◌, slice_get, filter, find, nat_le, nat_lt, bytes_eq, position, drop}
+use Rattle.std.specs.Prelude.{if◌then◌else◌, slice_get, option_and_then, filter, find, nat_le, nat_lt, bytes_eq, position, drop}
 use Rattle.std.specs.List.{list_any, list_all, prefix_len}
 use Rattle.std.specs.Option.{option_map, option_or, option_map_or}
 use Rattle.hopen.specs.Nearest.{before, after, without, changed, put_before, changed_at}
 use Rattle.hopen.specs.Stack.{OpenNode, is_node, current, below, in_scope, topmost_special, furthest_block}
 use Rattle.hopen.specs.Scopes.{stops, stops_in, is_named, is_of, is_of_group}
-use Rattle.hopen.specs.Formatting.{EntryOf, Item, marker, entry, entries, is_of_node, is_entry, entry_of, after_marker, cleared, for_node, with_node, booked, without_earliest, most_equal, same_attribute, are_among, is_equal, pushed, find_entry}
+use Rattle.hopen.specs.Formatting.{EntryOf, Item, marker, entry, entries, is_of_node, is_entry, as_entry, entry_at, entry_of, after_marker, cleared, for_node, with_node, booked, without_earliest, most_equal, same_attribute, are_among, is_equal, pushed, find_entry}
 use Rattle.hopen.specs.Spelled.{spelled_open, spelled_stack, spelled_entry, spelled_item, spelled_items, StackKnowsNoNames, FormattingKnowsNoNames}
 use Rattle.hopen.specs.declared.bookmark.Bookmark.{Bookmark}
 use Rattle.hopen.specs.declared.bookmark.Bookmark.TheVariants.{InPlace, After}
@@ -222,8 +222,13 @@ module _ {N M : Type 0} (tag : N → Tag) (tag' : M → Tag) (same : N → N →
   entry_of-map : (n : ℕ) (items : List (Item N)) → entry_of n (spelled_items g items) ≡ option_map (spelled_entry g) (entry_of n items)
   entry_of-map n items = ap (find (is_of_node n)) (entries-map items) ∙ find-map (spelled_entry g) (is_of_node n) (is_of_node n) (λ _. refl) (entries items)
 
-  get_entry-map : (back : ℕ) (items : List (Item N)) → slice_get (after_marker (spelled_items g items)) back ≡ option_map (spelled_entry g) (slice_get (after_marker items) back)
-  get_entry-map back items = ap (λ es. slice_get es back) (after_marker-map items) ∙ get-map (spelled_entry g) (after_marker items) back
+  get_entry-map : (back : ℕ) (items : List (Item N)) → entry_at back (spelled_items g items) ≡ option_map (spelled_entry g) (entry_at back items)
+  get_entry-map back items = ap (option_and_then as_entry) (get-map (spelled_item g) items back) ∙ go (slice_get items back)
+    where
+      go : (o : Option (Item N)) → option_and_then as_entry (option_map (spelled_item g) o) ≡ option_map (spelled_entry g) (option_and_then as_entry o)
+      go None = refl
+      go (Some marker) = refl
+      go (Some (entry e)) = refl
 
   is_entry-map : (n : ℕ) (i : Item N) → is_entry n (spelled_item g i) ≡ is_entry n i
   is_entry-map n marker = refl

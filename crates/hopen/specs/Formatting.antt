@@ -1,6 +1,6 @@
 -- The list of active formatting elements (13.2.4.3) as a list of markers and entries, the last one first: what comes after an entry
 -- in the Standard's order stands before it. Names are of any kind: texts in the rules of HTML, and numbers in the code.
-use Rattle.std.specs.Prelude.{ℕ, Bool, false, not, ◌&&◌, ◌==◌, nat_le, List, [], ◌∷◌, Option, length, filter, find, if◌then◌else◌, bytes_eq}
+use Rattle.std.specs.Prelude.{ℕ, Bool, true, false, not, ◌&&◌, ◌==◌, nat_le, List, [], ◌∷◌, Option, Some, None, option_and_then, slice_get, length, filter, find, if◌then◌else◌, bytes_eq}
 use Rattle.std.specs.List.{list_any, list_all}
 use Rattle.std.specs.Option.{option_map_or}
 use Rattle.hopen.specs.Nearest.{without, changed, put_before}
@@ -24,6 +24,14 @@ module _ {N : Type 0} where
   entries [] = []
   entries (marker ∷ items) = entries items
   entries (entry e ∷ items) = e ∷ entries items
+
+  -- an item where it is an entry, and the entry that has so many items after it
+  abbrev pub as_entry : Item N → Option (EntryOf N)
+  as_entry marker = None
+  as_entry (entry e) = Some e
+
+  abbrev pub entry_at : ℕ → List (Item N) → Option (EntryOf N)
+  entry_at n items = option_and_then as_entry (slice_get items n)
 
   -- the entries after the last marker, the last one first
   abbrev pub after_marker : List (Item N) → List (EntryOf N)
@@ -70,6 +78,11 @@ module _ {N : Type 0} where
       (λ i. put_before (is_entry n) (for_node new i) (without (is_entry old) items))
       (find (is_entry old) items)
       items
+
+  -- whether the bookmark is in the list, where the entry of a node is taken from it
+  abbrev pub has_bookmark : (old : ℕ) → Bookmark → List (Item N) → Bool
+  has_bookmark old InPlace items = true
+  has_bookmark old (After n) items = list_any (is_entry n) (without (is_entry old) items)
 
   -- without the earliest entry after the last marker that is sought
   abbrev pub without_earliest : (EntryOf N → Bool) → List (Item N) → List (Item N)

@@ -1,6 +1,11 @@
 pub mod Nearest
 pub mod Stack
 pub mod Scopes
+pub mod Opens
+pub mod StackView
+pub mod Coding
 pub mod Formatting
+pub mod Items
+pub mod ItemCoding
 pub mod Rows
 pub mod Spelled

@@ -5,7 +5,7 @@ use Rattle.hnodes.specs.Spelled.{spelled_attribute}
 use Rattle.hopen.specs.Nearest.{after, without, changed, put_before, changed_at}
 use Rattle.hopen.specs.Stack.{OpenNode, is_node, is_open, current, above, below, in_scope, furthest_block}
 use Rattle.hopen.specs.Scopes.{stops, is_named, is_of}
-use Rattle.hopen.specs.Formatting.{EntryOf, Item, marker, entry, entry_of, after_marker, cleared, without_entry, for_node, with_node, booked, pushed, find_entry}
+use Rattle.hopen.specs.Formatting.{EntryOf, Item, marker, entry, entry_at, entry_of, cleared, without_entry, for_node, with_node, booked, pushed, find_entry}
 use Rattle.hopen.specs.declared.bookmark.Bookmark.{Bookmark}
 use Rattle.hopen.specs.declared.scope.Group.{Group}
 use Rattle.hopen.specs.declared.scope.Scope.{Scope}
@@ -56,7 +56,7 @@ module _ {N M : Type 0} (tag : N → Tag) (tag' : M → Tag) (same : N → N →
     pub clear : (items : List (Item N)) → cleared (spelled_items g items) ≡ spelled_items g (cleared items)
     pub find : (a : N) (items : List (Item N)) → find_entry same' (g a) (spelled_items g items) ≡ option_map (spelled_entry g) (find_entry same a items)
     pub entry_of_node : (n : ℕ) (items : List (Item N)) → entry_of n (spelled_items g items) ≡ option_map (spelled_entry g) (entry_of n items)
-    pub get : (back : ℕ) (items : List (Item N)) → slice_get (after_marker (spelled_items g items)) back ≡ option_map (spelled_entry g) (slice_get (after_marker items) back)
+    pub get : (back : ℕ) (items : List (Item N)) → entry_at back (spelled_items g items) ≡ option_map (spelled_entry g) (entry_at back items)
     pub remove : (n : ℕ) (items : List (Item N)) → without_entry n (spelled_items g items) ≡ spelled_items g (without_entry n items)
     pub replace : (old new : ℕ) (items : List (Item N)) → with_node old new (spelled_items g items) ≡ spelled_items g (with_node old new items)
     pub renew : (back new : ℕ) (items : List (Item N)) → changed_at back (for_node new) (spelled_items g items) ≡ spelled_items g (changed_at back (for_node new) items)

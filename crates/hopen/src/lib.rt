@@ -1,10 +1,27 @@
-//! The stack of open elements and the list of active formatting elements.
+//! The stack of open elements and the list of active formatting elements (HTML Standard, 13.2.4.2 and 13.2.4.3).
 #![tactic(auto)]
 
+pub mod attributes;
 pub mod bookmark;
+pub mod entry;
+pub mod formatting;
+#[cfg(test)]
+mod formatting_plain;
+#[cfg(test)]
+mod formatting_tests;
 pub mod laws;
 pub mod scope;
+mod sought;
+pub mod stack;
+#[cfg(test)]
+mod stack_plain;
+#[cfg(test)]
+mod stack_tests;
 
+pub use attributes::copy_attrs;
 pub use bookmark::Bookmark;
+pub use entry::Entry;
+pub use formatting::Formatting;
 pub use laws::{formatting_knows_no_names, stack_knows_no_names};
 pub use scope::{Group, Scope};
+pub use stack::{Open, OpenStack};

@@ -1,5 +1,10 @@
 //! What stops a search among the open elements, and the groups of names that are sought there (HTML Standard, 13.2.4.2).
 
+ghost use Rattle.std.specs.Prelude.{◌≡◌};
+ghost use Rattle.hopen.specs.Scopes.{stops_in, is_of_group};
+
+use names::Tag;
+
 /// A scope: the names that stop the search for an element.
 #[derive(Clone, Copy, Debug, PartialEq, Eq)]
 pub enum Scope {
@@ -13,6 +18,20 @@ pub enum Scope {
     Table,
 }
 
+impl Scope {
+    /// Whether a name stops the search.
+    pub fn stops(self, tag: Tag) -> bool
+        ensures { result ≡ stops_in self tag }
+    {
+        match self {
+            Scope::Default => tag.stops_scope(),
+            Scope::ListItem => tag.stops_list_item_scope(),
+            Scope::Button => tag.stops_button_scope(),
+            Scope::Table => tag.stops_table_scope(),
+        }
+    }
+}
+
 /// Names that a rule seeks together.
 #[derive(Clone, Copy, Debug, PartialEq, Eq)]
 pub enum Group {
@@ -22,4 +41,17 @@ pub enum Group {
     TableSection,
     /// td and th.
     Cell,
+}
+
+impl Group {
+    /// Whether a name is of the group.
+    pub fn has(self, tag: Tag) -> bool
+        ensures { result ≡ is_of_group self tag }
+    {
+        match self {
+            Group::Heading => tag.is_heading(),
+            Group::TableSection => tag.is_table_section(),
+            Group::Cell => matches!(tag, Tag::Td | Tag::Th),
+        }
+    }
 }

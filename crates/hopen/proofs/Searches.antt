@@ -1,0 +1,88 @@
+-- Searches that go up the open nodes, in the words of the code.
+use Rattle.std.proofs.Common.{◌≡◌, ℕ, zero, suc, ◌<◌, ◌-◌, Bool, true, false, cond, not, ◌&&◌, ◌||◌, List, [], ◌∷◌, ◌++◌, Option, Some, None, length, drop, map, reverse, ◌+◌, subst, refl, sym, ◌∙◌, ap, arith}
+use Rattle.std.specs.List.{position, find, slice_get}
+use Rattle.std.specs.Option.{option_map, option_or, option_map_or, unwrap_or, IfSome}
+use Rattle.hopen.specs.Nearest.{before}
+use Rattle.hopen.proofs.Nearest.{reverse-map, words, no_words, take_nearest, slice_get_nearest, position_within}
+use Rattle.std.proofs.lemmas.List.{reverse-append, length-reverse, length-map}
+use Rattle.std.proofs.lemmas.Option.{slice_get-get_or}
+use Rattle.hopen.specs.Stack.{OpenNode, in_scope, current, topmost_special, furthest_block, is_node}
+use Rattle.names.specs.declared.tag.Tag.{Tag}
+use Rattle.names.specs.Sets.{is_special}
+
+option_or-none : {A : Type 0} (o : Option A) → o ≡ option_or o None
+option_or-none None = refl
+option_or-none (Some x) = refl
+
+option_or_assoc : {A : Type 0} (a b c : Option A) → option_or (option_or a b) c ≡ option_or a (option_or b c)
+option_or_assoc None b c = refl
+option_or_assoc (Some x) b c = refl
+
+pub find-map : {X Y : Type 0} (f : X → Y) (test : Y → Bool) (xs : List X) → find test (map f xs) ≡ option_map f (find (λ x. test (f x)) xs)
+find-map f test [] = refl
+find-map f test (x ∷ xs) = go (test (f x)) (find-map f test xs)
+  where
+    go : (v : Bool) → find test (map f xs) ≡ option_map f (find (λ y. test (f y)) xs) → cond v (Some (f x)) (find test (map f xs)) ≡ option_map f (cond v (Some x) (find (λ y. test (f y)) xs))
+    go true i = refl
+    go false i = i
+
+module _ {N : Type 0} where
+  -- the first that is sought or stops is sought
+  pub in_scope-find : (stops sought : OpenNode N → Bool) (ys : List (OpenNode N)) → in_scope stops sought ys ≡ option_map_or sought (find (λ x. sought x || stops x) ys) false
+  in_scope-find stops sought [] = refl
+  in_scope-find stops sought (y ∷ ys) = go (sought y) refl (stops y) (in_scope-find stops sought ys)
+    where
+      go : (v : Bool) → sought y ≡ v → (w : Bool) → in_scope stops sought ys ≡ option_map_or sought (find (λ x. sought x || stops x) ys) false → (v || (not w && in_scope stops sought ys)) ≡ option_map_or sought (cond (v || w) (Some y) (find (λ x. sought x || stops x) ys)) false
+      go true s w i = sym s
+      go false s true i = sym s
+      go false s false i = i
+
+  pub current-drop : (n : ℕ) (ys : List (OpenNode N)) → current (drop n ys) ≡ slice_get ys n
+  current-drop zero [] = refl
+  current-drop zero (y ∷ ys) = refl
+  current-drop (suc n) [] = refl
+  current-drop (suc n) (y ∷ ys) = current-drop n ys
+
+  -- the topmost of many stands in the upper part where there is one
+  topmost-append : (tag : N → Tag) (xs ys : List (OpenNode N)) → topmost_special tag (xs ++ ys) ≡ option_or (topmost_special tag ys) (topmost_special tag xs)
+  topmost-append tag [] ys = option_or-none (topmost_special tag ys)
+  topmost-append tag (x ∷ xs) ys =
+      rw (topmost-append tag xs ys) (option_or_assoc (topmost_special tag ys) (topmost_special tag xs) (cond (is_special (tag x.name)) (Some x) None))
+
+  pub topmost-reverse : (tag : N → Tag) (xs : List (OpenNode N)) → topmost_special tag (reverse xs) ≡ find (λ x. is_special (tag x.name)) xs
+  topmost-reverse tag [] = refl
+  topmost-reverse tag (x ∷ xs) =
+      ap (topmost_special tag) (reverse-append (x ∷ []) xs) ∙ topmost-append tag (reverse xs) (x ∷ []) ∙ rw (topmost-reverse tag xs) (go (is_special (tag x.name)))
+    where
+      go : (v : Bool) → option_or (cond v (Some x) None) (find (λ y. is_special (tag y.name)) xs) ≡ cond v (Some x) (find (λ y. is_special (tag y.name)) xs)
+      go true = refl
+      go false = refl
+
+-- the same over a vector, whose last member is the nearest
+module _ {X N : Type 0} (f : X → OpenNode N) where
+  pub in_scope-nearest : (stops sought : OpenNode N → Bool) (items : List X) → option_map_or (λ x. sought (f x)) (find (λ x. sought (f x) || stops (f x)) (reverse items)) false ≡ in_scope stops sought (reverse (map f items))
+  in_scope-nearest stops sought items =
+      go (find (λ x. sought (f x) || stops (f x)) (reverse items)) ∙ ap (λ o. option_map_or sought o false) (sym (find-map f (λ y. sought y || stops y) (reverse items)))
+      ∙ ap (λ l. option_map_or sought (find (λ y. sought y || stops y) l) false) (sym (reverse-map f items)) ∙ sym (in_scope-find stops sought (reverse (map f items)))
+    where
+      go : (o : Option X) → option_map_or (λ x. sought (f x)) o false ≡ option_map_or sought (option_map f o) false
+      go None = refl
+      go (Some x) = refl
+
+  pub current-nearest : (items : List X) → option_map f (slice_get items (length items - 1)) ≡ current (reverse (map f items))
+  current-nearest [] = refl
+  current-nearest (x ∷ xs) =
+      let first : length (x ∷ xs) - 1 + 1 ≡ length (x ∷ xs) = omega arith in
+      ap (option_map f) (slice_get-get_or (x ∷ xs) (length (x ∷ xs) - 1) x (omega arith)) ∙ sym (slice_get_nearest f (x ∷ xs) (length (x ∷ xs) - 1) 0 x first) ∙ sym (current-drop 0 (reverse (map f (x ∷ xs))))
+
+  -- the special nodes below one, from the topmost on
+  pub furthest-nearest : (tag : N → Tag) (n : ℕ) (items : List X) (o : Option ℕ) → o ≡ position (is_node n) (reverse (map f items))
+      → option_map f (find (λ x. is_special (tag (f x).name)) (drop (length items - unwrap_or o (length items)) items)) ≡ furthest_block tag n (reverse (map f items))
+  furthest-nearest tag n items o e =
+      sym (find-map f (λ y. is_special (tag y.name)) (drop (length items - unwrap_or o (length items)) items))
+      ∙ sym (topmost-reverse tag (map f (drop (length items - unwrap_or o (length items)) items)))
+      ∙ ap (topmost_special tag) (go o e (subst (λ (q : Option ℕ). IfSome q (λ up. up < length (reverse (map f items)))) (sym e) (position_within (is_node n) (reverse (map f items)))))
+    where
+      go : (o : Option ℕ) → o ≡ position (is_node n) (reverse (map f items)) → IfSome o (λ up. up < length (reverse (map f items))) → reverse (map f (drop (length items - unwrap_or o (length items)) items)) ≡ before (is_node n) (reverse (map f items))
+      go None e h = let z : length items - length items ≡ 0 = omega arith in ap (λ k. reverse (map f (drop k items))) z ∙ sym (no_words (is_node n) (reverse (map f items)) (sym e)).before_is
+      go (Some up) e h = sym ((words (is_node n) (reverse (map f items)) up (sym e)).before_is ∙ take_nearest f items (length items - up) up (omega (arith, length-reverse (map f items), length-map items f)))

@@ -1,0 +1,67 @@
+//! Entries of the list of active formatting elements, and markers (HTML Standard, 13.2.4.3).
+
+ghost use Rattle.std.specs.Prelude.{◌≡◌, map, nat_eq};
+ghost use Rattle.hnodes.specs.Rows.{attribute_of};
+ghost use Rattle.std.specs.Option.{option_map};
+ghost use Rattle.hopen.specs.Formatting.{as_entry, for_node, is_entry, is_equal};
+ghost use Rattle.hopen.specs.Items.{entry_is, item_of};
+
+use crate::attributes::are_same;
+use hnodes::NodeId;
+use names::{Attr, NameId};
+
+/// An entry: its node, and the name and the attributes of the token that the node was made for.
+#[derive(Debug, Drop)]
+pub struct Entry {
+    pub node: NodeId,
+    pub name: NameId,
+    pub attrs: Vec<Attr>,
+}
+
+impl Entry {
+    /// Whether it is made for an equal token.
+    pub(crate) fn is_equal(&self, name: NameId, attrs: &[Attr]) -> bool
+        // whatever the new entry's node
+        ensures { result ≡ is_equal nat_eq (record { node = 0; name = name; attrs = map attribute_of attrs.now }) (entry_is self.now) }
+    {
+        name == self.name && are_same(attrs, &self.attrs)
+    }
+}
+
+/// A marker or an entry.
+#[derive(Drop)]
+pub(crate) enum Item {
+    Marker,
+    Entry(Entry),
+}
+
+impl Item {
+    /// The entry, if it is one.
+    pub(crate) fn entry(&self) -> Option<&Entry>
+        ensures { option_map (λ e. entry_is e.now) result ≡ as_entry (item_of self.now) }
+    {
+        match self {
+            Item::Marker => None,
+            Item::Entry(entry) => Some(entry),
+        }
+    }
+
+    /// Whether it is the entry of a node.
+    pub(crate) fn is_of(&self, node: NodeId) -> bool
+        ensures { result ≡ is_entry node (item_of self.now) }
+    {
+        match self {
+            Item::Marker => false,
+            Item::Entry(entry) => entry.node == node,
+        }
+    }
+
+    /// An entry becomes that of another node.
+    pub(crate) fn set_node(&mut self, node: NodeId)
+        ensures { item_of self.new ≡ for_node node (item_of self.old) }
+    {
+        if let Item::Entry(entry) = self {
+            entry.node = node;
+        }
+    }
+}

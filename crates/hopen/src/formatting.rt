@@ -1,0 +1,231 @@
+//! The list of active formatting elements (HTML Standard, 13.2.4.3).
+
+ghost use Rattle.std.specs.Prelude.{◌≡◌, ℕ, ◌<◌, ◌∷◌, [], IsTrue, OnOk, OnErr, IfSome, find, map, length, nat_eq, position, remove, reverse, slice_get, vec_len, vec_capacity};
+ghost use Rattle.std.specs.List.{list_any};
+ghost use Rattle.std.specs.Option.{option_map, option_map_or};
+ghost use Rattle.hnodes.specs.Rows.{attribute_of};
+ghost use Rattle.hopen.specs.Formatting.{cleared, entry_at, entry_of, find_entry, is_entry, marker, pushed, with_node, with_room, without_entry, for_node, booked, has_bookmark};
+ghost use Rattle.hopen.specs.Items.{entry_is, item_of, items_of};
+ghost use Rattle.hopen.specs.Nearest.{changed_at, put_before, without};
+
+use crate::attributes::copy_attrs;
+use crate::bookmark::Bookmark;
+use crate::entry::{Entry, Item};
+use hnodes::NodeId;
+use names::{Attr, NameId};
+use std::alloc::{AllocError, Global};
+use std::marker::Model;
+
+/// How many equal entries there may be after the last marker.
+const MOST_EQUAL: usize = 3;
+
+/// The list of active formatting elements.
+#[derive(Drop)]
+pub struct Formatting {
+    items: Vec<Item>,
+    alloc: Global,
+}
+
+impl Model for Formatting {
+    ghost use Rattle.std.specs.Prelude.{ℕ, List};
+    ghost use Rattle.hopen.specs.Formatting.{Item};
+    ghost use Rattle.hopen.specs.ItemCoding.{coded_items};
+    ghost use Rattle.hopen.specs.Items.{items_of};
+
+    ghost Value = { List (Item ℕ) };
+
+    ghost coded = { coded_items };
+
+    ghost view = { λ f. items_of f.items.items };
+}
+
+/// The index of the earliest entry after the last marker that is equal to a new one, where there are as many as there may be.
+fn giving_way(items: &[Item], name: NameId, attrs: &[Attr]) -> Option<usize>
+    ensures within { IfSome result (λ i. i < length items.now) }
+    ensures room { items_of (option_map_or (λ i. remove items.now i) result items.now) ≡ with_room nat_eq (record { node = 0; name = name; attrs = map attribute_of attrs.now }) (items_of items.now) }
+{
+    let mut rest = items;
+    let mut equal = 0;
+    let mut earliest = None;
+    while let Some((Item::Entry(other), before)) = rest.split_last() {
+        if other.is_equal(name, attrs) {
+            equal += 1;
+            earliest = Some(before.len());
+        }
+        rest = before;
+    }
+    if equal < MOST_EQUAL { None } else { earliest }
+}
+
+/// How many items come after the entry of a node.
+fn back_of(items: &[Item], node: NodeId) -> Option<usize>
+    ensures { result ≡ position (λ i. is_entry node (item_of i)) (reverse items.now) }
+{
+    items.iter().rev().position(|item| item.is_of(node))
+}
+
+/// The item that has so many after it becomes that of another node.
+fn set_node(items: &mut [Item], back: usize, node: NodeId)
+    requires { back < length items.old }
+    ensures { items_of items.new ≡ changed_at back (for_node node) (items_of items.old) }
+{
+    let index = items.len() - 1 - back;
+    items[index].set_node(node);
+}
+
+/// Takes the entry of a node out of the list, which then has room for one item.
+fn take(items: &mut Vec<Item>, node: NodeId) -> Item
+    requires { IsTrue (list_any (is_entry node) (items_of items.old.items)) }
+    ensures item { Some (item_of result) ≡ find (is_entry node) (items_of items.old.items) }
+    ensures items { items_of items.new.items ≡ without (is_entry node) (items_of items.old.items) }
+    ensures room { vec_len items.new < vec_capacity items.new }
+{
+    let Some(back) = back_of(items, node) else {
+        unreachable!()
+    };
+    let index = items.len() - 1 - back;
+    items.remove(index)
+}
+
+/// Inserts an item right after the entry of a node.
+fn insert_after(items: &mut Vec<Item>, mark: NodeId, item: Item)
+    requires mark { IsTrue (list_any (is_entry mark) (items_of items.old.items)) }
+    requires room { vec_len items.old < vec_capacity items.old }
+    ensures { items_of items.new.items ≡ put_before (is_entry mark) (item_of item) (items_of items.old.items) }
+{
+    let Some(back) = back_of(items, mark) else {
+        unreachable!()
+    };
+    let index = items.len() - back;
+    if items.insert(index, item).is_err() {
+        unreachable!()
+    }
+}
+
+impl Formatting {
+    /// No items.
+    pub fn new(alloc: Global) -> Self
+        ensures { result ≡ [] }
+    {
+        Formatting {
+            items: Vec::new(alloc),
+            alloc,
+        }
+    }
+
+    /// One entry more, after the earliest of three equal ones after the last marker has given way.
+    pub fn push(&mut self, node: NodeId, name: NameId, attrs: &[Attr]) -> Result<(), AllocError>
+        ensures ok { OnOk result (self.new ≡ pushed nat_eq (record { node = node; name = name; attrs = map attribute_of attrs.now }) self.old) }
+        ensures err { OnErr result (self.new ≡ self.old) }
+    {
+        let attrs = copy_attrs(self.alloc, attrs)?;
+        let earliest = giving_way(&self.items, name, &attrs);
+        self.items.push(Item::Entry(Entry { node, name, attrs }))?;
+        if let Some(index) = earliest {
+            self.items.remove(index);
+        }
+        Ok(())
+    }
+
+    /// One marker more.
+    pub fn marker(&mut self) -> Result<(), AllocError>
+        ensures ok { OnOk result (self.new ≡ marker ∷ self.old) }
+        ensures err { OnErr result (self.new ≡ self.old) }
+    {
+        self.items.push(Item::Marker)?;
+        Ok(())
+    }
+
+    /// Removes the last marker and what comes after it, or all where there is none.
+    pub fn clear(&mut self)
+        ensures { self.new ≡ cleared self.old }
+    {
+        while let Some(item) = self.items.pop() {
+            if let Item::Marker = item {
+                return;
+            }
+        }
+    }
+
+    /// The last entry of a name after the last marker.
+    pub fn find(&self, name: NameId) -> Option<&Entry>
+        ensures { option_map (λ e. entry_is e.now) result ≡ find_entry nat_eq name self.now }
+    {
+        let mut rest = self.items.as_slice();
+        while let Some((Item::Entry(entry), before)) = rest.split_last() {
+            if entry.name == name {
+                return Some(entry);
+            }
+            rest = before;
+        }
+        None
+    }
+
+    /// The entry of a node.
+    pub fn entry_of(&self, node: NodeId) -> Option<&Entry>
+        ensures { option_map (λ e. entry_is e.now) result ≡ entry_of node self.now }
+    {
+        let mut rest = self.items.as_slice();
+        while let Some((item, before)) = rest.split_last() {
+            if let Item::Entry(entry) = item {
+                if entry.node == node {
+                    return Some(entry);
+                }
+            }
+            rest = before;
+        }
+        None
+    }
+
+    /// The entry that has so many items after it: 0 is the last one. None where a marker stands there, so that a loop that goes back
+    /// ends at the last marker, as that which reconstructs the formatting elements.
+    pub fn get(&self, back: usize) -> Option<&Entry>
+        ensures { option_map (λ e. entry_is e.now) result ≡ entry_at back self.now }
+    {
+        if back >= self.items.len() {
+            return None;
+        }
+        self.items[self.items.len() - 1 - back].entry()
+    }
+
+    /// Removes the entry of a node, where it has one.
+    pub fn remove(&mut self, node: NodeId)
+        ensures { self.new ≡ without_entry node self.old }
+    {
+        self.items.retain(|item| !item.is_of(node));
+    }
+
+    /// The entry of a node becomes that of another one, which is made for the same token.
+    pub fn replace(&mut self, from: NodeId, to: NodeId)
+        ensures { self.new ≡ with_node from to self.old }
+    {
+        if let Some(back) = back_of(&self.items, from) {
+            set_node(&mut self.items, back, to);
+        }
+    }
+
+    /// The same for the entry that `get` gives, by its number.
+    pub fn renew(&mut self, back: usize, node: NodeId)
+        ensures { self.new ≡ changed_at back (for_node node) self.old }
+    {
+        if back < self.items.len() {
+            set_node(&mut self.items, back, node);
+        }
+    }
+
+    /// The entry of a node becomes that of another one, and stands at the bookmark (13.2.6.4.7). Takes no memory.
+    pub fn move_to_bookmark(&mut self, from: NodeId, to: NodeId, bookmark: Bookmark)
+        requires entry { IsTrue (list_any (is_entry from) self.old) }
+        requires bookmark { IsTrue (has_bookmark from bookmark self.old) }
+        ensures { self.new ≡ booked from to bookmark self.old }
+    {
+        match bookmark {
+            Bookmark::InPlace => self.replace(from, to),
+            Bookmark::After(mark) => {
+                let mut item = take(&mut self.items, from);
+                item.set_node(to);
+                insert_after(&mut self.items, mark, item);
+            }
+        }
+    }
+}

@@ -1,0 +1,321 @@
+//! Tests of edits and questions against a plain list, and of worked ones.
+
+ghost use Rattle.std.specs.Prelude.{◌≡◌, ◌<◌, IfOk, length};
+
+use crate::scope::{Group, Scope};
+use crate::stack::{Open, OpenStack};
+use crate::stack_plain::{Plain, Wanted};
+use hnodes::{NodeId, Tree};
+use names::{NameId, Names, Refusal};
+use std::alloc::Global;
+use std::test::Fail;
+
+const PLACE: u64 = 7;
+
+const LIMIT: u32 = 12;
+
+const TEXTS: [&str; 18] = [
+    "html", "body", "table", "tbody", "tr", "td", "button", "ol", "li", "p", "h1", "h4", "b", "i",
+    "div", "thead", "marquee", "a",
+];
+
+/// The next of a fixed run of numbers below a bound.
+fn pick(seed: &mut u64, bound: u32) -> u32
+    requires { 0 < bound }
+    ensures { result < bound }
+{
+    *seed = seed
+        .wrapping_mul(6364136223846793005)
+        .wrapping_add(1442695040888963407);
+    ((*seed >> 33) % bound as u64) as u32
+}
+
+/// Nodes and names to pick from.
+#[derive(Drop)]
+struct Supply {
+    nodes: Vec<Open>,
+    spare: Open,
+    seed: u64,
+}
+
+impl Supply {
+    /// Two nodes of each name.
+    fn new(alloc: Global) -> Result<Self, Refusal> {
+        let mut names = Names::new(alloc)?;
+        let mut tree = Tree::new(alloc, 100)?;
+        let mut nodes = Vec::new(alloc);
+        for text in TEXTS {
+            let name = names.intern(alloc, text)?;
+            for _ in 0..2 {
+                let node = tree.create_element(name, Vec::new(alloc), PLACE)?;
+                nodes.push(Open { node, name })?;
+            }
+        }
+        let spare = Open {
+            node: tree.document(),
+            name: names.intern(alloc, "other")?,
+        };
+        Ok(Supply {
+            nodes,
+            spare,
+            seed: 1,
+        })
+    }
+
+    fn pick(&mut self, bound: u32) -> u32
+        requires { 0 < bound }
+        ensures { result < bound }
+    {
+        pick(&mut self.seed, bound)
+    }
+
+    fn open(&mut self) -> Open {
+        let index = self.pick(40) as usize;
+        self.nodes.get(index).copied().unwrap_or(self.spare)
+    }
+
+    fn node(&mut self) -> NodeId {
+        self.open().node
+    }
+
+    fn name(&mut self) -> NameId {
+        self.open().name
+    }
+
+    fn scope(&mut self) -> Scope {
+        match self.pick(4) {
+            0 => Scope::Default,
+            1 => Scope::ListItem,
+            2 => Scope::Button,
+            _ => Scope::Table,
+        }
+    }
+
+    fn group(&mut self) -> (Group, Wanted) {
+        match self.pick(3) {
+            0 => (Group::Heading, Wanted::Heading),
+            1 => (Group::TableSection, Wanted::TableSection),
+            _ => (Group::Cell, Wanted::Cell),
+        }
+    }
+}
+
+/// Whether a push or an insertion is answered as it must be where the stack is full, or else what it gives.
+fn is_answered(plain: &Plain, answer: Result<(), Refusal>) -> Result<Option<bool>, Refusal> {
+    if plain.len() >= LIMIT as usize {
+        return Ok(Some(answer == Err(Refusal::TooDeep { at: PLACE })));
+    }
+    answer?;
+    Ok(None)
+}
+
+fn push(stack: &mut OpenStack, plain: &mut Plain, supply: &mut Supply) -> Result<bool, Refusal> {
+    let open = supply.open();
+    let copy = open;
+    let answer = stack.push(copy, PLACE);
+    if let Some(refused) = is_answered(plain, answer)? {
+        return Ok(refused);
+    }
+    plain.push(open)?;
+    Ok(true)
+}
+
+fn insert(stack: &mut OpenStack, plain: &mut Plain, supply: &mut Supply) -> Result<bool, Refusal> {
+    let node = supply.node();
+    let open = supply.open();
+    let copy = open;
+    let answer = stack.insert_below(node, copy, PLACE);
+    if let Some(refused) = is_answered(plain, answer)? {
+        return Ok(refused);
+    }
+    plain.insert_below(node, open)?;
+    Ok(true)
+}
+
+/// One edit of both.
+fn edit(stack: &mut OpenStack, plain: &mut Plain, supply: &mut Supply) -> Result<bool, Refusal> {
+    match supply.pick(32) {
+        0 | 1 => return Ok(stack.pop() == plain.pop()),
+        2 => {
+            let name = supply.name();
+            stack.pop_to(name);
+            plain.pop_to(Wanted::Name(name));
+        }
+        3 => {
+            let node = supply.node();
+            stack.pop_to_node(node);
+            plain.pop_to(Wanted::Node(node));
+        }
+        4 => {
+            let (group, wanted) = supply.group();
+            stack.pop_to_group(group);
+            plain.pop_to(wanted);
+        }
+        5 | 6 | 7 => {
+            let node = supply.node();
+            stack.remove(node);
+            plain.remove(node);
+        }
+        8 | 9 | 10 => {
+            let node = supply.node();
+            let by = supply.open();
+            let copy = by;
+            stack.replace(node, copy);
+            plain.replace(node, by);
+        }
+        11 | 12 | 13 => return insert(stack, plain, supply),
+        _ => return push(stack, plain, supply),
+    }
+    Ok(true)
+}
+
+/// Whether both have the same open nodes.
+fn agree(stack: &OpenStack, plain: &Plain) -> bool {
+    for number in 0..LIMIT as usize + 1 {
+        if stack.get(number) != plain.get(number)
+            || stack.from_top(number) != plain.from_top(number)
+        {
+            return false;
+        }
+    }
+    stack.len() == plain.len() && stack.current() == plain.get(0)
+}
+
+/// Whether both answer the same of a node.
+fn answer_alike(stack: &OpenStack, plain: &Plain, node: NodeId) -> bool {
+    let place = plain.position(Wanted::Node(node));
+    stack.place(node) == place
+        && stack.contains(node) == place.is_some()
+        && stack.above(node) == plain.above(node)
+        && stack.furthest_block(node) == plain.furthest_block(node)
+        && stack.node_in_scope(node) == plain.is_in_scope(Scope::Default, Wanted::Node(node))
+}
+
+/// Whether both find the same in scope.
+fn find_alike(stack: &OpenStack, plain: &Plain, supply: &mut Supply) -> bool {
+    let scope = supply.scope();
+    let name = supply.name();
+    let (group, wanted) = supply.group();
+    stack.in_scope(scope, name) == plain.is_in_scope(scope, Wanted::Name(name))
+        && stack.group_in_scope(scope, group) == plain.is_in_scope(scope, wanted)
+}
+
+#[test]
+fn an_open_node_is_small(rt: HostRuntime) {
+    assert_eq!(rt; std::mem::size_of::<Open>(), 16);
+}
+
+#[test]
+fn ten_thousand_edits_are_those_of_a_plain_list(rt: HostRuntime) -> Result<(), Fail> {
+    let mut supply = Supply::new(rt.alloc())?;
+    let mut stack = OpenStack::new(rt.alloc(), LIMIT);
+    let mut plain = Plain::new(rt.alloc());
+    let mut full = 0u32;
+    for turn in 0..10_000 {
+        if stack.len() == LIMIT as usize {
+            full = full.wrapping_add(1);
+        }
+        assert!(rt; edit(&mut stack, &mut plain, &mut supply)?, "edit {turn}");
+        assert!(rt; agree(&stack, &plain), "after edit {turn}");
+        let node = supply.node();
+        assert!(rt;
+            answer_alike(&stack, &plain, node),
+            "a node after edit {turn}"
+        );
+        assert!(rt;
+            find_alike(&stack, &plain, &mut supply),
+            "a search after edit {turn}"
+        );
+    }
+    assert!(rt; full > 100, "{full}");
+    Ok(())
+}
+
+/// An element of each name, and a stack on which they are open.
+fn opened(alloc: Global, limit: u32, texts: &[&str]) -> Result<(OpenStack, Vec<Open>), Refusal>
+    ensures { IfOk result (λ r. length r.1.items ≡ length texts.now) }
+{
+    let mut names = Names::new(alloc)?;
+    let mut tree = Tree::new(alloc, 100)?;
+    let mut stack = OpenStack::new(alloc, limit);
+    let mut opens = Vec::new(alloc);
+    for text in texts {
+        let name = names.intern(alloc, text)?;
+        let node = tree.create_element(name, Vec::new(alloc), PLACE)?;
+        stack.push(Open { node, name }, PLACE)?;
+        opens.push(Open { node, name })?;
+    }
+    Ok((stack, opens))
+}
+
+#[test]
+fn the_adoption_agency_has_its_questions(rt: HostRuntime) -> Result<(), Fail> {
+    let texts = ["html", "body", "b", "div", "i", "p"];
+    let (stack, opens) = opened(rt.alloc(), 9, &texts)?;
+    assert_eq!(rt; stack.len(), 6);
+    assert_eq!(rt; stack.current(), Some(opens[5]));
+    assert_eq!(rt; stack.get(1), Some(opens[4]));
+    assert_eq!(rt; stack.from_top(1), Some(opens[1]));
+    assert_eq!(rt; stack.place(opens[2].node), Some(3));
+    assert_eq!(rt; stack.above(opens[2].node), Some(opens[1]));
+    assert_eq!(rt; stack.above(opens[0].node), None);
+    assert_eq!(rt; stack.furthest_block(opens[2].node), Some(opens[3]));
+    assert_eq!(rt; stack.furthest_block(opens[4].node), Some(opens[5]));
+    assert_eq!(rt; stack.furthest_block(opens[5].node), None);
+    Ok(())
+}
+
+#[test]
+fn the_adoption_agency_has_its_edits(rt: HostRuntime) -> Result<(), Fail> {
+    let texts = ["html", "body", "b", "div", "i", "p", "a"];
+    let (mut stack, opens) = opened(rt.alloc(), 9, &texts)?;
+    assert_eq!(rt; stack.pop(), Some(opens[6]));
+    stack.remove(opens[2].node);
+    assert!(rt; !stack.contains(opens[2].node));
+    stack.insert_below(opens[3].node, opens[6], PLACE)?;
+    assert_eq!(rt; stack.get(2), Some(opens[6]));
+    assert_eq!(rt; stack.get(3), Some(opens[3]));
+    stack.replace(opens[4].node, opens[2]);
+    assert_eq!(rt; stack.get(1), Some(opens[2]));
+    stack.pop_to_node(opens[6].node);
+    assert_eq!(rt; stack.pop(), Some(opens[3]));
+    assert_eq!(rt; stack.current(), Some(opens[1]));
+    stack.pop_to(opens[0].name);
+    assert_eq!(rt; stack.pop(), None);
+    Ok(())
+}
+
+#[test]
+fn a_cell_stops_a_search(rt: HostRuntime) -> Result<(), Fail> {
+    let texts = ["button", "table", "tbody", "td", "ol", "h2"];
+    let (mut stack, opens) = opened(rt.alloc(), 9, &texts)?;
+    assert!(rt; stack.in_scope(Scope::Default, opens[3].name));
+    assert!(rt; !stack.in_scope(Scope::ListItem, opens[3].name));
+    assert!(rt; stack.in_scope(Scope::ListItem, opens[4].name));
+    assert!(rt; !stack.in_scope(Scope::Button, opens[0].name));
+    assert!(rt; stack.in_scope(Scope::Table, opens[1].name));
+    assert!(rt; stack.node_in_scope(opens[3].node));
+    assert!(rt; !stack.node_in_scope(opens[1].node));
+    assert!(rt; stack.group_in_scope(Scope::Table, Group::TableSection));
+    assert!(rt; !stack.group_in_scope(Scope::Default, Group::TableSection));
+    assert!(rt; stack.group_in_scope(Scope::Default, Group::Heading));
+    stack.pop_to_group(Group::Cell);
+    assert_eq!(rt; stack.current(), Some(opens[2]));
+    Ok(())
+}
+
+#[test]
+fn one_more_than_the_limit_is_too_deep(rt: HostRuntime) -> Result<(), Fail> {
+    let (mut stack, opens) = opened(rt.alloc(), 3, &["html", "p"])?;
+    let too_deep = Err(Refusal::TooDeep { at: PLACE });
+    assert_eq!(rt; stack.insert_below(opens[1].node, opens[0], PLACE), Ok(()));
+    assert_eq!(rt; stack.push(opens[0], PLACE), too_deep);
+    assert_eq!(rt;
+        stack.insert_below(opens[1].node, opens[0], PLACE),
+        too_deep
+    );
+    assert_eq!(rt; stack.len(), 3);
+    assert_eq!(rt; stack.pop(), Some(opens[0]));
+    assert_eq!(rt; stack.push(opens[1], PLACE), Ok(()));
+    Ok(())
+}
