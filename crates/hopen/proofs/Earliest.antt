@@ -2,16 +2,16 @@
 use Rattle.std.proofs.Common.{◌≡◌, ℕ, suc, ◌<◌, Bool, true, false, not, ◌&&◌, ◌||◌, List, [], ◌∷◌, ◌++◌, Option, Some, None, length, map, refl, sym, ◌∙◌, ap, filter, nat_eq, leb, ◌≤◌, subst, arith, add-one, if◌then◌else◌, is_some, IfSome}
 use Rattle.std.specs.List.{list_any, remove}
 use Rattle.std.specs.Option.{option_or, option_map_or}
-use Rattle.hnodes.specs.Forest.{Attribute}
-use Rattle.hnodes.specs.Rows.{attribute_of}
-use Rattle.hopen.specs.declared.entry.Entry.{Entry}
-use Rattle.hopen.specs.declared.entry.Item.{Item as Stored}
-use Rattle.hopen.specs.Formatting.{EntryOf, Item, marker, entry, after_marker, without_earliest, most_equal, is_equal, with_room, pushed}
 use Rattle.std.proofs.Math.Seq.{take-append_seam, drop-append-add}
 use Rattle.std.proofs.lemmas.List.{append-nil}
 use Rattle.std.proofs.lemmas.Bool.{le-leb}
 use Rattle.std.proofs.lemmas.List.Edits.{remove-append_left}
+use Rattle.hnodes.specs.Forest.{Attribute}
+use Rattle.hnodes.specs.Rows.{attribute_of}
+use Rattle.hopen.specs.declared.entry.Entry.{Entry}
+use Rattle.hopen.specs.declared.entry.Item.{Item as Stored}
 use Rattle.hopen.specs.declared.entry.Item.TheVariants as stored
+use Rattle.hopen.specs.Formatting.{EntryOf, Item, marker, entry, after_marker, without_earliest, most_equal, is_equal, with_room, pushed}
 use Rattle.hopen.specs.Items.{items_of, item_of, entry_is}
 use Rattle.hopen.proofs.ItemLists.{along_last, items_of_more, length-items_of}
 
@@ -86,8 +86,14 @@ module _ (sought : EntryOf ℕ → Bool) where
           in rw (never, length-items_of front) (ap items_of (remove-last front (stored.Entry e)))
       go None first false before = items_of_more front (stored.Entry e) ∙ ap (λ seen. entry (entry_is e) ∷ seen) before
 
+  abbrev Removes : List Stored → Type 0
+  Removes items = IsRemoved (earliest sought (items_of items)) items (items_of items)
+
+  removes_one_more : (front : List Stored) (x : Stored) → Removes front → Removes (front ++ x ∷ [])
+  removes_one_more front x before = subst (λ (seen : List (Item ℕ)). IsRemoved (earliest sought seen) (front ++ x ∷ []) seen) (sym (items_of_more front x)) (with_one_more front x before)
+
   pub removed_earliest : (items : List Stored) (first : Option ℕ) → earliest sought (items_of items) ≡ first → IsRemoved first items (items_of items)
-  removed_earliest items first e = subst (λ (f : Option ℕ). IsRemoved f items (items_of items)) e (along_last (λ xs. IsRemoved (earliest sought (items_of xs)) xs (items_of xs)) refl (λ front x before. subst (λ (seen : List (Item ℕ)). IsRemoved (earliest sought seen) (front ++ x ∷ []) seen) (sym (items_of_more front x)) (with_one_more front x before)) items)
+  removed_earliest items first e = subst (λ (f : Option ℕ). IsRemoved f items (items_of items)) e (along_last Removes refl removes_one_more items)
 
 -- the vector without what gives way to a new entry
 pub room_made : (new : EntryOf ℕ) (items : List Stored) (first : Option ℕ)

@@ -8,4 +8,5 @@ pub mod Formatting
 pub mod Items
 pub mod ItemCoding
 pub mod Rows
+pub mod ItemRows
 pub mod Spelled

@@ -7,6 +7,7 @@ ghost use Rattle.hopen.specs.Formatting.{is_entry, has_bookmark};
 use crate::attributes::copy_attrs;
 use crate::bookmark::Bookmark;
 use crate::entry::Entry;
+use crate::fixed::pick;
 use crate::formatting::Formatting;
 use crate::formatting_plain::{Plain, Row};
 use hnodes::{NodeId, Tree};
@@ -15,17 +16,6 @@ use std::alloc::Global;
 use std::test::Fail;
 
 const NODES: u32 = 60;
-
-/// The next of a fixed run of numbers below a bound.
-fn pick(seed: &mut u64, bound: u32) -> u32
-    requires { 0 < bound }
-    ensures { result < bound }
-{
-    *seed = seed
-        .wrapping_mul(6364136223846793005)
-        .wrapping_add(1442695040888963407);
-    ((*seed >> 33) % bound as u64) as u32
-}
 
 /// Nodes, and names of elements and of attributes.
 #[derive(Drop)]

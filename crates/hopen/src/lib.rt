@@ -4,6 +4,8 @@
 pub mod attributes;
 pub mod bookmark;
 pub mod entry;
+#[cfg(test)]
+mod fixed;
 pub mod formatting;
 #[cfg(test)]
 mod formatting_plain;

@@ -2,6 +2,7 @@
 
 ghost use Rattle.std.specs.Prelude.{◌≡◌, ◌<◌, IfOk, length};
 
+use crate::fixed::pick;
 use crate::scope::{Group, Scope};
 use crate::stack::{Open, OpenStack};
 use crate::stack_plain::{Plain, Wanted};
@@ -18,17 +19,6 @@ const TEXTS: [&str; 18] = [
     "html", "body", "table", "tbody", "tr", "td", "button", "ol", "li", "p", "h1", "h4", "b", "i",
     "div", "thead", "marquee", "a",
 ];
-
-/// The next of a fixed run of numbers below a bound.
-fn pick(seed: &mut u64, bound: u32) -> u32
-    requires { 0 < bound }
-    ensures { result < bound }
-{
-    *seed = seed
-        .wrapping_mul(6364136223846793005)
-        .wrapping_add(1442695040888963407);
-    ((*seed >> 33) % bound as u64) as u32
-}
 
 /// Nodes and names to pick from.
 #[derive(Drop)]
