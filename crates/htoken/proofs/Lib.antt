@@ -1,4 +1,7 @@
 pub mod Runs
+pub mod Classes
+pub mod Stands
+pub mod OneSpan
 pub mod Tags
 pub mod Comments
 pub mod Bogus

@@ -1,11 +1,13 @@
 -- Runs of characters that pass a test.
 use Rattle.std.proofs.Common.{◌≡◌, ℕ, Bool, true, false, ◌&&◌, not, cond, List, [], ◌∷◌, ◌++◌, length, take, drop, map, filter, refl, ap, ◌∙◌, sym}
+use Rattle.std.proofs.lemmas.Bool.{false≢true}
 use Rattle.std.specs.List.{take_while}
 use Rattle.std.proofs.lemmas.List.Sums.{take_while-cons}
 use Rattle.names.specs.declared.error.ParseError.{ParseError}
 use Rattle.names.specs.declared.error.ErrorCode.{ErrorCode}
 use Rattle.names.specs.declared.placed.Placed.{Placed}
 use Rattle.names.specs.Placed.{all, begins, stops, error, errors_at}
+use Rattle.hmarkup.proofs.Marks.{and_parts}
 
 -- the characters that pass, from the first one on
 abbrev pub run : (ℕ → Bool) → List Placed → List Placed
@@ -40,3 +42,14 @@ found_here test code p ps false = refl
 pub errors_found : (test : ℕ → Bool) (code : ErrorCode) (text : List Placed) → map (λ (p : Placed). error code p.at) (filter (λ (p : Placed). test p.ch) text) ≡ errors_at code test text
 errors_found test code [] = refl
 errors_found test code (p ∷ ps) = found_here test code p ps (test p.ch) ∙ ap (λ (es : List ParseError). cond (test p.ch) (error code p.at ∷ []) [] ++ es) (errors_found test code ps)
+
+-- A text begins with one run of characters that pass, up to one that fails or the end.
+pub one_run : (test : ℕ → Bool) (xs after ys others : List Placed) → all test xs ≡ true → begins test after ≡ false → all test ys ≡ true → begins test others ≡ false → xs ++ after ≡ ys ++ others → (xs ≡ ys) × (after ≡ others)
+one_run test [] after [] others h i k l e = (refl, e)
+one_run test [] after (y ∷ ys) others h i k l e = absurd (false≢true (sym i ∙ ap (begins test) e ∙ (and_parts (test y.ch) (all test ys) k).0))
+one_run test (x ∷ xs) after [] others h i k l e = absurd (false≢true (sym l ∙ ap (begins test) (sym e) ∙ (and_parts (test x.ch) (all test xs) h).0))
+one_run test (x ∷ xs) after (y ∷ ys) others h i k l e =
+    let first : x ≡ y = cc in
+    let tail : xs ++ after ≡ ys ++ others = cc in
+    let same = one_run test xs after ys others (and_parts (test x.ch) (all test xs) h).1 i (and_parts (test y.ch) (all test ys) k).1 l tail in
+    (ap (λ (p : Placed). p ∷ xs) first ∙ ap (λ (ps : List Placed). y ∷ ps) same.0, same.1)

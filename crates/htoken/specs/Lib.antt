@@ -3,6 +3,7 @@ pub mod Standing
 pub mod Data
 pub mod NotYet
 pub mod Tokens
+pub mod OneCut
 pub mod Handing
 pub mod Tokenizing
 pub mod Reading

@@ -5,6 +5,7 @@
 
 mod comment;
 mod hand;
+pub mod laws;
 mod left_out;
 mod reading;
 mod scan;
