@@ -9,7 +9,7 @@ use Rattle.htoken.specs.declared.comment.CommentMark.TheVariants as mark
 use Rattle.htoken.specs.declared.tag.TagKind.{TagKind}
 use Rattle.htoken.specs.declared.tag.TagKind.TheVariants as tag
 use Rattle.htoken.specs.Data.{is_no_markup}
-use Rattle.htoken.specs.Reading.{comment_mark, tag_mark}
+use Rattle.htoken.specs.Reading.{tag_mark}
 
 pub data Class : Type 0 where
   -- another character than `<`

@@ -2,6 +2,8 @@ pub mod Runs
 pub mod Classes
 pub mod Stands
 pub mod OneSpan
+pub mod NotRead
+pub mod OneCut
 pub mod Tags
 pub mod Comments
 pub mod Bogus

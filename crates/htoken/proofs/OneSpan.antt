@@ -1,16 +1,15 @@
 -- One span of data at most stands at the front of a text.
-use Rattle.std.proofs.Common.{◌≡◌, ℕ, ◌<◌, Bool, true, false, not, eqb, List, [], ◌∷◌, ◌++◌, length, sym, refl, ap, ◌∙◌, subst, codes, arith, append_assoc, length-append}
-use Rattle.std.proofs.lemmas.List.{length-map, append_cancel_left}
+use Rattle.std.proofs.Common.{◌≡◌, ℕ, true, false, not, List, [], ◌∷◌, ◌++◌, length, sym, refl, ap, ◌∙◌, subst, codes}
+use Rattle.std.proofs.lemmas.List.{length-map}
 use Rattle.names.specs.declared.error.ParseError.{ParseError}
 use Rattle.names.specs.declared.placed.Placed.{Placed}
-use Rattle.names.specs.Placed.{characters, begins, stops, all, is_letter, is_space}
-use Rattle.hmarkup.proofs.Marks.{and_parts}
+use Rattle.names.specs.Placed.{characters, begins, stops, is_space}
 use Rattle.hmarkup.proofs.Fronts.{same_front}
 use Rattle.hmarkup.proofs.OneSpan.{one_of}
 use Rattle.htoken.specs.declared.comment.CommentMark.{CommentMark}
 use Rattle.htoken.specs.declared.tag.TagKind.{TagKind}
 use Rattle.htoken.specs.Token.{Span}
-use Rattle.htoken.specs.Data.{IsDataSpan, IsTagFront, ends_name}
+use Rattle.htoken.specs.Data.{IsTagFront, ends_name}
 use Rattle.htoken.specs.OneCut.{OneSpanOfData}
 use Rattle.htoken.specs.Reading.{comment_mark, comment_kind, tag_mark}
 use Rattle.htoken.proofs.Runs.{one_run}

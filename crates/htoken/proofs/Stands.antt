@@ -1,5 +1,5 @@
 -- What stands at the front of a text of a class: one production, or two that what follows tells apart.
-use Rattle.std.proofs.Common.{◌≡◌, ℕ, ◌<◌, Bool, true, false, ◌||◌, eqb, List, [], ◌∷◌, ◌++◌, length, sym, refl, ap, ◌∙◌, subst, codes, append_assoc}
+use Rattle.std.proofs.Common.{◌≡◌, ℕ, Bool, false, eqb, List, [], ◌∷◌, ◌++◌, sym, refl, ap, ◌∙◌, subst, codes, append_assoc}
 use Rattle.names.specs.declared.error.ParseError.{ParseError}
 use Rattle.names.specs.declared.error.ErrorCode.TheVariants.{EofBeforeTagName, InvalidFirstCharacterOfTagName, MissingEndTagName}
 use Rattle.names.specs.declared.placed.Placed.{Placed}
@@ -13,7 +13,7 @@ use Rattle.htoken.specs.declared.tag.TagKind.TheVariants as tag
 use Rattle.htoken.specs.Token.{Span, Comment}
 use Rattle.htoken.specs.Data.{IsDataSpan, IsTagFront, character_span, less_span, unfinished_span, character, less_than_last, less_than_solidus_last, less_than, nothing, start_tag, end_tag, unfinished_start_tag, unfinished_end_tag, comment, bogus_end_tag, bogus_question}
 use Rattle.htoken.specs.Reading.{comment_mark, comment_kind, mark_errors, tag_mark, tag_token}
-use Rattle.htoken.proofs.Classes.{Class, Alone, LessLast, Less, Nothing, ATag, AComment, class_of, class_less, class_solidus, class_first, past_less, opens_less, opens_solidus, opens_comment, begins-more, tag_class, greater_begins, greater_follows, question_follows, other_ends, no_markup_follows, end_follows, solidus_and_end_follow}
+use Rattle.htoken.proofs.Classes.{Class, Alone, LessLast, Less, Nothing, ATag, AComment, class_of, class_less, class_first, past_less, opens_less, opens_solidus, opens_comment, begins-more, tag_class, greater_begins, greater_follows, question_follows, other_ends, no_markup_follows, end_follows, solidus_and_end_follow}
 
 -- one character, and what `f` says of it and of what follows
 pub record IsOne (f : Placed → List Placed → Span) (rest : List Placed) (span : Span) : Type 0 where
