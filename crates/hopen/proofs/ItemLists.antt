@@ -1,5 +1,5 @@
 -- What a vector of items says, from its last item on.
-use Rattle.std.proofs.Common.{◌≡◌, ℕ, suc, ◌+◌, ◌<◌, ltb, get_or, Bool, true, false, filter, ◌≤◌, Option, Some, None, is_some, IsTrue, arith, List, [], ◌∷◌, ◌++◌, map, reverse, length, refl, ap, sym, ◌∙◌, subst}
+use Rattle.std.proofs.Common.{◌≡◌, ℕ, suc, ◌+◌, ◌<◌, ltb, get_or, Bool, true, false, filter, Option, Some, None, is_some, IsTrue, arith, List, [], ◌∷◌, ◌++◌, map, reverse, length, refl, ap, sym, ◌∙◌, subst}
 use Rattle.std.proofs.lemmas.List.{reverse-append, reverse-reverse, length-reverse, length-map, append-nil}
 use Rattle.hopen.specs.declared.entry.Item.{Item as Stored}
 use Rattle.std.proofs.lemmas.List.Elements.{filter-append}
@@ -7,7 +7,7 @@ use Rattle.std.specs.List.{list_any, position, position_or_len, find, slice_get}
 use Rattle.std.proofs.lemmas.List.Quantifiers.{position-Some}
 use Rattle.std.proofs.lemmas.List.Folds.{find_at}
 use Rattle.std.proofs.lemmas.Option.{cond_some}
-use Rattle.hopen.specs.Formatting.{Item, marker, entry, after_marker, is_entry}
+use Rattle.hopen.specs.Formatting.{Item, is_entry}
 use Rattle.hopen.specs.Items.{items_of, item_of}
 use Rattle.hopen.proofs.Nearest.{reverse_push, position_nearest, is_some-position, slice_get_nearest}
 
@@ -40,11 +40,6 @@ items_of-filter kept items = along_last (λ xs. items_of (filter (λ i. kept (it
 
     more : (front : List Stored) (x : Stored) → items_of (filter (λ i. kept (item_of i)) front) ≡ filter kept (items_of front) → items_of (filter (λ i. kept (item_of i)) (front ++ x ∷ [])) ≡ filter kept (items_of (front ++ x ∷ []))
     more front x before = rw (filter-append, items_of_more front x) (keep front x (kept (item_of x)) refl before)
-
-pub length-after_marker : (items : List (Item ℕ)) → length (after_marker items) ≤ length items
-length-after_marker [] = omega arith
-length-after_marker (marker ∷ items) = omega arith
-length-after_marker (entry e ∷ items) = omega (arith, length-after_marker items)
 
 -- how many items come after the entry of a node, as a search from the last item on finds it
 pub back_is : (node : ℕ) (items seen : List Stored) (back : Option ℕ) → seen ≡ items → back ≡ position (λ i. is_entry node (item_of i)) (reverse seen) → position (is_entry node) (items_of items) ≡ back

@@ -3,7 +3,7 @@ use Rattle.std.proofs.Common.{◌≡◌, ℕ, zero, suc, ◌+◌, ◌<◌, ◌�
 use Rattle.std.specs.List.{insert, remove, slice_get, position, position_or_len, list_any}
 use Rattle.std.specs.Option.{is_some, IfSome}
 use Rattle.std.proofs.lemmas.Bool.{ltb-true, ltb-false, lt-ltb, le-ltb, cases_lt}
-use Rattle.std.proofs.lemmas.List.{map-append, reverse-append, append_assoc, length-map, length-reverse, length-drop, take-append-drop, set_split, take_at, drop_at, take_more, get_or-map, get_or-reverse}
+use Rattle.std.proofs.lemmas.List.{map-append, reverse-append, append_assoc, length-map, length-reverse, length-drop, take-append-drop, set_split, take_at, drop_at, get_or-map, get_or-reverse}
 use Rattle.std.proofs.lemmas.Option.{slice_get-get_or, cond_some}
 use Rattle.hopen.specs.Nearest.{before, after, without, changed, put_before, changed_at}
 
@@ -100,10 +100,6 @@ module _ {X Y : Type 0} (f : X → Y) where
 
   pub reverse_push : (xs : List X) (x : X) → reverse (map f (xs ++ x ∷ [])) ≡ f x ∷ reverse (map f xs)
   reverse_push xs x = reverse_split xs (x ∷ [])
-
-  -- one more of a vector's members, as a loop over an index comes to it
-  pub reverse_more : (items : List X) (i : ℕ) (d : X) → i < length items → reverse (map f (take (i + 1) items)) ≡ f (get_or items i d) ∷ reverse (map f (take i items))
-  reverse_more items i d h = ap (λ l. reverse (map f l)) (take_more items i d h) ∙ reverse_push (take i items) (get_or items i d)
 
   -- a search from the last member on
   pub reverse-map : (xs : List X) → reverse (map f xs) ≡ map f (reverse xs)

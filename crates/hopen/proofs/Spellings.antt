@@ -3,6 +3,8 @@ use Rattle.std.proofs.Common.{◌≡◌, ℕ, ◌+◌, zero, suc, Bool, true, fa
 use Rattle.std.specs.Prelude.{if◌then◌else◌, slice_get, option_and_then, filter, find, nat_le, nat_lt, bytes_eq, position, drop}
 use Rattle.std.specs.List.{list_any, list_all, prefix_len}
 use Rattle.std.specs.Option.{option_map, option_or, option_map_or}
+use Rattle.std.proofs.lemmas.List.{length-map}
+use Rattle.std.proofs.lemmas.Option.{slice_get-map}
 use Rattle.hopen.specs.Nearest.{before, after, without, changed, put_before, changed_at}
 use Rattle.hopen.specs.Stack.{OpenNode, is_node, current, below, in_scope, topmost_special, furthest_block}
 use Rattle.hopen.specs.Scopes.{stops, stops_in, is_named, is_of, is_of_group}
@@ -89,15 +91,6 @@ module _ {X Y : Type 0} (h : X → Y) (p : X → Bool) (q : Y → Bool) (e : (x 
   prefix-map (x ∷ xs) = λ i. cond (e x i) (1 + prefix-map xs i) 0
 
 module _ {X Y : Type 0} (h : X → Y) where
-  length-image : (xs : List X) → length (map h xs) ≡ length xs
-  length-image [] = refl
-  length-image (x ∷ xs) = ap suc (length-image xs)
-
-  get-map : (xs : List X) (n : ℕ) → slice_get (map h xs) n ≡ option_map h (slice_get xs n)
-  get-map [] n = refl
-  get-map (x ∷ xs) zero = refl
-  get-map (x ∷ xs) (suc n) = get-map xs n
-
   changed_at-map : (f : X → X) (f' : Y → Y) → ((x : X) → f' (h x) ≡ h (f x)) → (n : ℕ) (xs : List X) → changed_at n f' (map h xs) ≡ map h (changed_at n f xs)
   changed_at-map f f' c n [] = refl
   changed_at-map f f' c zero (x ∷ xs) = λ i. c x i ∷ map h xs
@@ -131,7 +124,7 @@ module _ {N M : Type 0} (tag : N → Tag) (tag' : M → Tag) (same : N → N →
   pop-map (x ∷ xs) = refl
 
   position-map : (n : ℕ) (xs : List (OpenNode N)) → position (is_node n) (spelled_stack g xs) ≡ position (is_node n) xs
-  position-map n xs = λ i. at (prefix-map (spelled_open g) (λ x. not (is_node n x)) (λ x. not (is_node n x)) (λ _. refl) xs i) (length-image (spelled_open g) xs i)
+  position-map n xs = λ i. at (prefix-map (spelled_open g) (λ x. not (is_node n x)) (λ x. not (is_node n x)) (λ _. refl) xs i) (length-map xs (spelled_open g) i)
     where
       at : ℕ → ℕ → Option ℕ
       at k len = if nat_lt k len then Some k else None
@@ -140,7 +133,7 @@ module _ {N M : Type 0} (tag : N → Tag) (tag' : M → Tag) (same : N → N →
   stack_spelled = record {
     contains = λ n. any-map (spelled_open g) (is_node n) (is_node n) (λ _. refl);
     place = position-map;
-    get = λ up xs. get-map (spelled_open g) xs up;
+    get = λ up xs. slice_get-map (spelled_open g) xs up;
     current_node = current-map;
     pop = pop-map;
     pop_to = λ a. after-map (spelled_open g) (is_named same a) (is_named same' (g a)) (λ x. s.names x.name a);
@@ -202,7 +195,7 @@ module _ {N M : Type 0} (tag : N → Tag) (tag' : M → Tag) (same : N → N →
   equal-map new items =
       ap (λ es. length (filter (is_equal same' (spelled_entry g new)) es)) (after_marker-map items)
       ∙ ap length (filter-map (spelled_entry g) (is_equal same new) (is_equal same' (spelled_entry g new)) (is_equal-map new) (after_marker items))
-      ∙ length-image (spelled_entry g) (filter (is_equal same new) (after_marker items))
+      ∙ length-map (filter (is_equal same new) (after_marker items)) (spelled_entry g)
 
   pushed-map : (new : EntryOf N) (items : List (Item N)) → pushed same' (spelled_entry g new) (spelled_items g items) ≡ spelled_items g (pushed same new items)
   pushed-map new items =
@@ -223,7 +216,7 @@ module _ {N M : Type 0} (tag : N → Tag) (tag' : M → Tag) (same : N → N →
   entry_of-map n items = ap (find (is_of_node n)) (entries-map items) ∙ find-map (spelled_entry g) (is_of_node n) (is_of_node n) (λ _. refl) (entries items)
 
   get_entry-map : (back : ℕ) (items : List (Item N)) → entry_at back (spelled_items g items) ≡ option_map (spelled_entry g) (entry_at back items)
-  get_entry-map back items = ap (option_and_then as_entry) (get-map (spelled_item g) items back) ∙ go (slice_get items back)
+  get_entry-map back items = ap (option_and_then as_entry) (slice_get-map (spelled_item g) items back) ∙ go (slice_get items back)
     where
       go : (o : Option (Item N)) → option_and_then as_entry (option_map (spelled_item g) o) ≡ option_map (spelled_entry g) (option_and_then as_entry o)
       go None = refl

@@ -1,5 +1,5 @@
 -- Worked rows of bookmarks, and of the entries after the last marker, which the prover computes.
-use Rattle.std.specs.Prelude.{◌≡◌, refl, ℕ, true, false, List, [], ◌∷◌}
+use Rattle.std.specs.Prelude.{◌≡◌, refl, ℕ, true, false, [], ◌∷◌}
 use Rattle.hopen.specs.Nearest.{changed_at}
 use Rattle.hopen.specs.Formatting.{EntryOf, Item, marker, entry, after_marker, for_node, has_bookmark}
 use Rattle.hopen.specs.declared.bookmark.Bookmark.TheVariants.{InPlace, After}
