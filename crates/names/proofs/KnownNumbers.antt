@@ -27,7 +27,11 @@ known_text : (t : Tag) → (t ≡ Other → ⊥) → slice_get known (number_of 
 known_text Other h = absurd (h refl)
 known_text _ h = refl
 
-pub text_of_known : (names : Texts) (t : Tag) → AreNames names → (t ≡ Other → ⊥) → slice_get names (number_of t) ≡ Some (tag_text t)
-text_of_known names t h known_name =
+-- what stands among the known texts stands there in every table
+pub text_of_first : (names : Texts) (n : ℕ) (text : List ℕ) → AreNames names → slice_get known n ≡ Some text → slice_get names n ≡ Some text
+text_of_first names n text h first =
     let whole : names ≡ known ++ drop (length known) names = sym (take-append-drop (length known) names) ∙ ap (λ (x : Texts). x ++ drop (length known) names) h.known_first in
-    subst (λ (x : Texts). slice_get x (number_of t) ≡ Some (tag_text t)) (sym whole) (slice_get-append known (drop (length known) names) (number_of t) (tag_text t) (known_text t known_name))
+    subst (λ (x : Texts). slice_get x n ≡ Some text) (sym whole) (slice_get-append known (drop (length known) names) n text first)
+
+pub text_of_known : (names : Texts) (t : Tag) → AreNames names → (t ≡ Other → ⊥) → slice_get names (number_of t) ≡ Some (tag_text t)
+text_of_known names t h known_name = text_of_first names (number_of t) (tag_text t) h (known_text t known_name)

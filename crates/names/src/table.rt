@@ -1,9 +1,9 @@
 //! Names as numbers.
 
-ghost use Rattle.std.specs.Prelude.{◌≡◌, ◌≢◌, ℕ, ◌<◌, List, [], IfOk, OnErr, map, slice_get, Some, true};
+ghost use Rattle.std.specs.Prelude.{◌≡◌, ◌≢◌, ℕ, ◌<◌, List, [], IfOk, OnErr, length, map, slice_get, Some, true};
 ghost use Rattle.names.specs.Names.{Texts, IsOf, Grows, AreNames};
 ghost use Rattle.names.specs.Table.{are_new, HoldsTexts};
-ghost use Rattle.names.specs.Tags.{known, tag_of, number_of, tag_named, tag_text};
+ghost use Rattle.names.specs.Tags.{known, tags, type_name, tag_of, number_of, tag_named, tag_text};
 ghost use Rattle.names.specs.declared.tag.Tag.{Tag as KnownTag};
 
 use crate::tag::{TAGS, Tag};
@@ -28,6 +28,22 @@ impl Model for NameId {
 }
 
 impl NameId {
+    /// The number itself: its place in the table, from 0.
+    pub fn index(self) -> usize
+        ensures { result ≡ self }
+    {
+        self.index
+    }
+
+    /// The number of the attribute name `type`, the same in every table.
+    pub fn type_attribute() -> NameId
+        ensures number { result ≡ length tags }
+        ensures text { (names : Texts) → AreNames names → slice_get names result ≡ Some type_name }
+        ensures tag { tag_of result ≡ Tag.Other }
+    {
+        NameId { index: TAGS.len() }
+    }
+
     /// Which known name it is.
     pub fn tag(self) -> Tag
         ensures { result ≡ tag_of self }
@@ -154,6 +170,8 @@ mod tests {
             assert_eq!(rt; tag.number().tag(), tag);
         }
         let kind = names.intern(rt.alloc(), "type")?;
+        assert_eq!(rt; kind, NameId::type_attribute());
+        assert_eq!(rt; kind.index(), TAGS.len());
         assert_eq!(rt; kind.tag(), Tag::Other);
         assert_eq!(rt; names.text(kind), "type");
         Ok(())

@@ -1,0 +1,7 @@
+use Rattle.std.proofs.Common.{◌≡◌, refl}
+use Rattle.names.specs.Tags.{type_name}
+use Rattle.names.proofs.KnownNumbers.{text_of_first}
+use Rattle.names.proofs.table.NameId.type_attribute.Goals as goal
+
+pub returns-clause-text : goal.returns-clause-text
+returns-clause-text c names h = text_of_first names 127 type_name h refl
