@@ -4,11 +4,13 @@
 mod attribute;
 mod kind;
 mod phase;
+mod piece;
 mod push;
 mod reading;
 mod seen;
 mod stamp;
 mod step;
+mod value;
 mod walk;
 
 pub use kind::TagKind;
