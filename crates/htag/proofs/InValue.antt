@@ -128,9 +128,11 @@ module _ (table : Entities) (quoted : Bool) (old new : ValueWalk) (p : Placed) (
       text_is = text_so_far ∙ sym (pieces_text-one h.pieces (plain_piece p)) ∙ sym (append-nil (pieces_text (h.pieces ++ plain_piece p ∷ [])));
       begins_value = begins_piece table h.pieces (plain_piece p) [] begins_here (λ rest. IsPiece.plain p plain refl);
       errors_are = ap (λ (x : List ParseError). x ++ pieces_errors quoted (plain_piece p ∷ [])) h.errors_are ∙ sym (pieces_errors-append quoted h.pieces (plain_piece p ∷ []));
-      has_held = subst (λ (x : Reading). HasHeld x table new (h.pieces ++ plain_piece p ∷ []) []) (sym (same ∙ nothing))
-          (refl, bytes ∙ ap (λ (x : List ℕ). x ++ encode_utf8 (without_null p.ch)) (held_in reading.Nothing nothing).1
-          ∙ ap (λ (x : List ℕ). value_bytes h.pieces ++ x) (sym (append-nil (encode_utf8 (without_null p.ch)))) ∙ sym (value_bytes-one h.pieces (plain_piece p)));
+      has_held = subst (λ (x : Reading). HasHeld x table new (h.pieces ++ plain_piece p ∷ []) []) (sym (same ∙ nothing)) (
+        refl,
+        bytes ∙ ap (λ (x : List ℕ). x ++ encode_utf8 (without_null p.ch)) (held_in reading.Nothing nothing).1
+            ∙ ap (λ (x : List ℕ). value_bytes h.pieces ++ x) (sym (append-nil (encode_utf8 (without_null p.ch)))) ∙ sym (value_bytes-one h.pieces (plain_piece p)),
+      );
     }
 
     pub amp_step : (w : Walk) → new.reading ≡ reading.Reference w → p.ch ≡ 38 → IsTable table → HasTaken w table true [] → new.place ≡ p.at → new.held.items ≡ [] → new.text ≡ old.text → IsInValue table quoted new (text ++ p ∷ []) [] (own ++ [])

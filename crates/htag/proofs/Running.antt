@@ -71,7 +71,7 @@ known false at = refl
 
 fault_known : (at : ℕ) (a b c d e : Bool)
     → has_unknown (map (λ code. error code at) (option_to_list (if a then Some NullCharacterReference else (if b then Some CharacterReferenceOutsideUnicodeRange else (if c then Some SurrogateCharacterReference else (if d then Some NoncharacterCharacterReference
-        else (if e then Some ControlCharacterReference else None))))))) ≡ false
+    else (if e then Some ControlCharacterReference else None))))))) ≡ false
 unfolding is_unknown
 fault_known at true b c d e = refl
 fault_known at false true c d e = refl

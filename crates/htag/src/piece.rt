@@ -198,11 +198,7 @@ impl<'t> ValueWalk<'t> {
     }
 
     /// Adds the characters of a reference, and keeps its errors.
-    fn tell(
-        &mut self,
-        found: Reference<'t>,
-        errors: &mut Vec<ParseError>,
-    ) -> Result<(), AllocError>
+    fn tell(&mut self, found: Reference<'t>, errors: &mut Vec<ParseError>) -> Result<(), AllocError>
         ensures { OnOk result (TellsReference found.entry self.old errors.old.items self.new errors.new.items) }
     {
         keep_if(

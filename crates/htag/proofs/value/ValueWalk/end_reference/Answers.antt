@@ -1,3 +1,4 @@
+use Rattle.std.proofs.Common.{true}
 use Rattle.htag.proofs.InValue.{ends_reference, told_then_given}
 use Rattle.htag.proofs.value.ValueWalk.end_reference.Goals as goal
 
