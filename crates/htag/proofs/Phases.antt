@@ -22,6 +22,14 @@ use Rattle.htag.proofs.Parts.{begins-more, all-snoc, parts_text-snoc, AreParts-s
 abbrev pub space_part : Placed → Part
 space_part p = record { text = p ∷ []; attribute = None; errors = [] }
 
+-- the errors of a part more
+pub part_errors : (name : List Placed) (parts : List Part) (held errors : List ParseError) → errors ≡ tag_errors name parts ++ held → (part : Part) (e later : List ParseError) → part.errors ≡ held ++ e
+    → later ≡ (errors ++ e) ++ repeated (names_after [] parts) part.attribute → later ≡ tag_errors name (parts ++ part ∷ [])
+part_errors name parts held errors so_far part e later own is =
+    let r : List ParseError = repeated (names_after [] parts) part.attribute in
+    is ∙ ap (λ (x : List ParseError). (x ++ e) ++ r) so_far ∙ ap (λ (x : List ParseError). x ++ r) (append_assoc (tag_errors name parts) held e) ∙ ap (λ (x : List ParseError). (tag_errors name parts ++ x) ++ r) (sym own)
+    ∙ append_assoc (tag_errors name parts) part.errors r ∙ append_assoc (null_errors name) (errors_after [] parts) (part.errors ++ r) ∙ ap (λ (x : List ParseError). null_errors name ++ x) (sym (errors-snoc [] parts part))
+
 pub keeps_self : (walk : TagWalk) → KeepsTag walk walk
 keeps_self walk = record { kind_is = refl; name_is = refl; attrs_are = refl; seen_is = refl; any_is = refl }
 
@@ -59,11 +67,7 @@ module _ (table : Entities) (names : Texts) (walk : TagWalk) (body : List Placed
 
   -- a part has ended before the character
   pub errors_then : (part : Part) (e later : List ParseError) → part.errors ≡ h.own ++ e → later ≡ (errors ++ e) ++ repeated (names_after [] h.parts) part.attribute → later ≡ tag_errors h.name (h.parts ++ part ∷ []) ++ []
-  errors_then part e later own is =
-      let r : List ParseError = repeated (names_after [] h.parts) part.attribute in
-      is ∙ ap (λ (x : List ParseError). (x ++ e) ++ r) h.errors_are ∙ ap (λ (x : List ParseError). x ++ r) (append_assoc (tag_errors h.name h.parts) h.own e) ∙ ap (λ (x : List ParseError). (tag_errors h.name h.parts ++ x) ++ r) (sym own)
-      ∙ append_assoc (tag_errors h.name h.parts) part.errors r ∙ append_assoc (null_errors h.name) (errors_after [] h.parts) (part.errors ++ r)
-      ∙ ap (λ (x : List ParseError). null_errors h.name ++ x) (sym (errors-snoc [] h.parts part)) ∙ sym (append-nil (tag_errors h.name (h.parts ++ part ∷ [])))
+  errors_then part e later own is = part_errors h.name h.parts h.own errors h.errors_are part e later own is ∙ sym (append-nil (tag_errors h.name (h.parts ++ part ∷ [])))
 
   pub part_ends : (part : Part) → part.text ≡ h.held → ((end : ℕ) (more : List Placed) → IsPart table end (p ∷ more) part) → (after : Texts) (new : TagWalk) (e later : List ParseError) → part.errors ≡ h.own ++ e
       → later ≡ (errors ++ e) ++ repeated (names_after [] h.parts) part.attribute → new.name ≡ walk.name → new.phase ≡ phase.BeforeAttribute → HasAttributes after new (h.parts ++ part ∷ []) → Past ≡ true

@@ -1,5 +1,5 @@
 -- Pieces of a value, one after another.
-use Rattle.std.proofs.Common.{◌≡◌, ℕ, Bool, true, false, not, ◌||◌, eqb, List, [], ◌∷◌, ◌++◌, map, sym, refl, ap, ◌∙◌, subst, append_assoc, append-nil, arith}
+use Rattle.std.proofs.Common.{◌≡◌, ℕ, Bool, true, false, ◌||◌, eqb, List, [], ◌∷◌, ◌++◌, sym, refl, ap, ◌∙◌, subst, append_assoc, append-nil, arith}
 use Rattle.std.specs.Prelude.{encode_utf8_all}
 use Rattle.std.specs.Char.{encode_utf8}
 use Rattle.std.specs.List.{flat_map}
@@ -9,11 +9,11 @@ use Rattle.std.proofs.lemmas.Str.{encodes-append}
 use Rattle.names.specs.declared.error.ErrorCode.TheVariants.{UnexpectedCharacterInUnquotedAttributeValue}
 use Rattle.names.specs.declared.error.ParseError.{ParseError}
 use Rattle.names.specs.declared.placed.Placed.{Placed}
-use Rattle.names.specs.Placed.{characters, all, is_alphanumeric, error, errors_at, null_errors, without_null}
+use Rattle.names.specs.Placed.{characters, all, is_alphanumeric, errors_at, without_null}
 use Rattle.hmarkup.proofs.Marks.{and_parts, and_both}
 use Rattle.charref.specs.Reference.{Entities, Piece}
 use Rattle.htag.specs.Value.{IsPiece, AreValue, pieces_text, plain_piece, value_bytes}
-use Rattle.htag.specs.Tag.{is_odd, value_errors, unquoted_errors}
+use Rattle.htag.specs.Tag.{is_odd}
 use Rattle.htag.specs.ValueWalk.{Begins, pieces_errors, plain_pieces}
 
 pub pieces_text-append : (xs ys : List Piece) → pieces_text (xs ++ ys) ≡ pieces_text xs ++ pieces_text ys

@@ -1,8 +1,7 @@
 -- A reference of which no key is known when its walk ends: its run of alphanumerics goes on.
-use Rattle.std.proofs.Common.{◌≡◌, ℕ, zero, suc, ◌-◌, ◌≤◌, Bool, true, false, true≢false, not, ◌||◌, ◌&&◌, eqb, nat_eq, nat_lt, cond, List, [], ◌∷◌, ◌++◌, length, take, drop, map, slice_get, sym, refl, ap, ◌∙◌, subst, append-nil, append_assoc, arith, Option, Some, None}
+use Rattle.std.proofs.Common.{◌≡◌, ℕ, zero, suc, ◌-◌, ◌≤◌, Bool, true, false, true≢false, not, ◌||◌, ◌&&◌, eqb, nat_eq, nat_lt, cond, List, [], ◌∷◌, ◌++◌, length, take, drop, map, slice_get, sym, refl, ap, ◌∙◌, subst, append-nil, arith, Option, Some, None}
 use Rattle.std.specs.Prelude.{if◌then◌else◌, option_to_list, codes}
 use Rattle.std.specs.List.{starts_with}
-use Rattle.std.proofs.lemmas.Bool.Decides.{nat_tests}
 use Rattle.names.specs.declared.error.ErrorCode.{ErrorCode}
 use Rattle.names.specs.declared.error.ErrorCode.TheVariants.{CharacterReferenceOutsideUnicodeRange, ControlCharacterReference, MissingSemicolonAfterCharacterReference, NoncharacterCharacterReference, NullCharacterReference, SurrogateCharacterReference, UnknownNamedCharacterReference}
 use Rattle.names.specs.declared.error.ParseError.{ParseError}

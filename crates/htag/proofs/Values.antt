@@ -1,28 +1,23 @@
 -- What follows an attribute's name: `=` and a value.
 use Rattle.std.proofs.Common.{◌≡◌, ℕ, Bool, true, false, not, ◌||◌, ◌&&◌, eqb, List, [], ◌∷◌, ◌++◌, sym, refl, ap, ◌∙◌, subst, append_assoc, append-nil}
-use Rattle.std.specs.Prelude.{encode_utf8_all}
-use Rattle.std.specs.Char.{encode_utf8}
 use Rattle.std.specs.String.{string_bytes}
-use Rattle.std.specs.List.{flat_map}
 use Rattle.std.proofs.lemmas.Bool.{eqb-true}
-use Rattle.std.proofs.lemmas.Grind.{flat_map-append}
-use Rattle.names.specs.declared.error.ErrorCode.TheVariants.{MissingAttributeValue, MissingWhitespaceBetweenAttributes, UnexpectedCharacterInUnquotedAttributeValue}
+use Rattle.names.specs.declared.error.ErrorCode.TheVariants.{MissingAttributeValue, MissingWhitespaceBetweenAttributes}
 use Rattle.names.specs.declared.error.ParseError.{ParseError}
 use Rattle.names.specs.declared.placed.Placed.{Placed}
 use Rattle.names.specs.Names.{Texts}
-use Rattle.names.specs.Placed.{begins, stops, all, is_space, is_equals, is_greater, is_quote, error, error_if, errors_at, null_errors, without_null}
+use Rattle.names.specs.Placed.{begins, stops, all, is_space, is_equals, is_greater, is_quote, error, error_if}
 use Rattle.hmarkup.proofs.Marks.{and_parts, and_both}
-use Rattle.std.proofs.lemmas.Str.{encodes-append}
-use Rattle.charref.specs.Reference.{Entities, Piece}
+use Rattle.charref.specs.Reference.{Entities}
 use Rattle.htag.specs.declared.phase.Phase.{Phase}
 use Rattle.htag.specs.declared.phase.Phase.TheVariants as phase
 use Rattle.htag.specs.declared.walk.TagWalk.{TagWalk}
 use Rattle.htag.specs.declared.reading.Reading.{Reading}
 use Rattle.htag.specs.declared.value.ValueWalk.{ValueWalk}
 use Rattle.htag.specs.Value.{pieces_text, value_bytes}
-use Rattle.htag.specs.ValueWalk.{HasHeld, IsInValue, IsWholeValue, TakesInValue, EndsValue, pieces_errors}
+use Rattle.htag.specs.ValueWalk.{HasHeld, IsInValue, TakesInValue, EndsValue, pieces_errors}
 use Rattle.htag.proofs.InValue.{looks_ahead}
-use Rattle.htag.specs.Tag.{IsPart, is_sign, ends_name, ends_attribute_name, ends_unquoted, attribute_name_errors, value_errors, unquoted_errors, is_odd}
+use Rattle.htag.specs.Tag.{IsPart, is_sign, ends_name, ends_attribute_name, ends_unquoted, attribute_name_errors, value_errors, unquoted_errors}
 use Rattle.htag.specs.TagWalk.{NoValue, HasName, HasPhase, IsPast, IsInTag}
 use Rattle.htag.specs.Steps.{KeepsTag, EndsAttribute}
 use Rattle.htag.proofs.Parts.{begins-more, all-snoc}

@@ -2,16 +2,16 @@
 use Rattle.std.specs.Prelude.{◌≡◌, List, [], ◌∷◌, ◌++◌, Some, false}
 use Rattle.std.specs.Char.{encode_utf8, to_ascii_lowercase}
 use Rattle.std.specs.String.{string_bytes}
-use Rattle.names.specs.declared.error.ErrorCode.TheVariants.{UnexpectedCharacterInUnquotedAttributeValue, UnexpectedEqualsSignBeforeAttributeName}
+use Rattle.names.specs.declared.error.ErrorCode.TheVariants.{UnexpectedEqualsSignBeforeAttributeName}
 use Rattle.names.specs.declared.error.ParseError.{ParseError}
 use Rattle.names.specs.declared.placed.Placed.{Placed}
 use Rattle.names.specs.Names.{Texts}
-use Rattle.names.specs.Placed.{is_equals, error_if, errors_at, null_errors, without_null}
+use Rattle.names.specs.Placed.{is_equals, error_if, without_null}
 use Rattle.htag.specs.declared.kind.TagKind.{TagKind}
 use Rattle.htag.specs.declared.phase.Phase.TheVariants as phase
 use Rattle.htag.specs.declared.walk.TagWalk.{TagWalk}
 use Rattle.htag.specs.Seen.{HasSeen}
-use Rattle.htag.specs.Tag.{Attribute, Part, repeated, name_errors_here, is_odd}
+use Rattle.htag.specs.Tag.{Attribute, Part, repeated, name_errors_here}
 use Rattle.htag.specs.TagWalk.{NoValue, names_after, HasAttributes}
 
 -- A tag of this kind has begun; its name stands in the walk already.

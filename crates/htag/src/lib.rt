@@ -10,6 +10,8 @@ mod reading;
 mod seen;
 mod stamp;
 mod step;
+#[cfg(test)]
+mod tests;
 mod value;
 mod walk;
 

@@ -111,7 +111,37 @@ impl<'t> TagWalk<'t> {
             → MatchResult result (λ _. IsCutTag table body errors.new.items) (λ e. e ≡ Memory) }
         ensures grows { Grows names.old names.new }
     {
-        Err(Refusal::Memory)
+        match self.phase {
+            Phase::Name => Ok(()),
+            Phase::BeforeAttribute => Ok(()),
+            Phase::Solidus => Ok(()),
+            Phase::AttributeName => {
+                self.end_attribute(names, errors)?;
+                Ok(())
+            }
+            Phase::AfterAttributeName => {
+                self.end_attribute(names, errors)?;
+                Ok(())
+            }
+            Phase::BeforeValue => {
+                self.end_attribute(names, errors)?;
+                Ok(())
+            }
+            Phase::Quoted(_) => {
+                self.value.end(errors)?;
+                self.end_attribute(names, errors)?;
+                Ok(())
+            }
+            Phase::Unquoted => {
+                self.value.end(errors)?;
+                self.end_attribute(names, errors)?;
+                Ok(())
+            }
+            Phase::AfterQuoted => {
+                self.end_attribute(names, errors)?;
+                Ok(())
+            }
+        }
     }
 
     pub fn kind(&self) -> TagKind

@@ -1,4 +1,4 @@
-use Rattle.std.proofs.Common.{◌≡◌, true, false, not, ◌||◌, eqb, refl, arith}
+use Rattle.std.proofs.Common.{◌≡◌, true, not, ◌||◌, refl, arith}
 use Rattle.std.proofs.lemmas.Bool.Decides.{nat_tests}
 use Rattle.names.specs.Placed.{is_space, is_quote, is_greater}
 use Rattle.htag.specs.Tag.{ends_unquoted}
