@@ -2,17 +2,30 @@
 
 use crate::{TagKind, TagWalk};
 use charref::Table;
-use names::{Names, ParseError, Refusal};
+use names::{NameId, Names, ParseError, Refusal};
 use std::alloc::{AllocError, Global};
 use std::test::Fail;
 
 const NOT: &str =
     "{\"&notin;\":{\"codepoints\":[8713],\"characters\":\"∉\"},\"&not\":{\"codepoints\":[172],\"characters\":\"¬\"},\"&not;\":{\"codepoints\":[172],\"characters\":\"¬\"}}";
 
+/// The names of attributes that stand in the tests.
+const NAMES: [&str; 5] = ["a", "b", "=x", "href", "a\"b<"];
+
+/// The name of a number, one of those.
+fn name_of(alloc: Global, names: &mut Names, id: NameId) -> Result<&'static str, AllocError> {
+    for name in NAMES {
+        if names.intern(alloc, name)? == id {
+            return Ok(name);
+        }
+    }
+    Ok("?")
+}
+
 /// What a walk tells of the tag that it has read.
 fn line(
     alloc: Global,
-    names: &Names,
+    names: &mut Names,
     walk: &mut TagWalk<'_>,
     errors: &[ParseError],
 ) -> Result<String, AllocError> {
@@ -20,7 +33,7 @@ fn line(
     line.push_str(walk.name())?;
     for attr in &walk.take_attributes() {
         line.push_str(" ")?;
-        line.push_str(names.text(attr.name))?;
+        line.push_str(name_of(alloc, names, attr.name)?)?;
         line.push_str("=")?;
         line.push_str(&attr.value)?;
     }
@@ -52,7 +65,7 @@ fn read(alloc: Global, table: &Table, text: &str) -> Result<String, Refusal> {
     if !ended {
         walk.end(&mut names, &mut errors)?;
     }
-    let line = line(alloc, &names, &mut walk, &errors)?;
+    let line = line(alloc, &mut names, &mut walk, &errors)?;
     Ok(line)
 }
 
@@ -71,7 +84,7 @@ fn tags_are_read(rt: HostRuntime) -> Result<(), Fail> {
             ("<p a/>", "p a= /"),
             (
                 "<p a=&not;&notin;&#65>",
-                "p a=¬∉A 15 missing-semicolon-after-character-reference",
+                "p a=¬∉A 17 missing-semicolon-after-character-reference",
             ),
             (
                 "<p a='&not'>",
