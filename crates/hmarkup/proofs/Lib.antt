@@ -24,3 +24,4 @@ pub mod Outcomes
 pub mod Lines
 pub mod SomeSpan
 pub mod Closing
+pub mod Running

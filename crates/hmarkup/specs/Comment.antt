@@ -30,6 +30,10 @@ abbrev pub errors_after : List Placed → List Placed → List ParseError
 errors_after seen [] = []
 errors_after seen (p ∷ ps) = errors_here (ends_with_opening seen) p ++ errors_after (p ∷ seen) ps
 
+-- a character that is data in each comment, and only that: it may begin no mark and is no error
+abbrev pub is_only_data : ℕ → Bool
+is_only_data c = not ((c == 45 || c == 33) || (c == 60 || (c == 62 || c == 0)))
+
 -- The text after `<!--` is a comment, where `rest` follows it and the input ends at `end`.
 pub data IsComment (end : ℕ) (rest text : List Placed) («data» : List ℕ) (errors : List ParseError) : Type 0 where
   -- `>` or `->` right at the start (13.2.5.43, 13.2.5.44)

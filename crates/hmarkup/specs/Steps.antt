@@ -63,3 +63,7 @@ next_opening opening c = if c == 45 then opening_by_dash opening else (if c == 3
 
 abbrev pub next : Progress → ℕ → Progress
 next walk c = record { kind = walk.kind; ending = next_ending walk.ending c; opening = next_opening walk.opening c; «data» = walk.data ++ decided walk.ending c }
+
+-- a walk of a comment after characters that are only data, in UTF-8
+abbrev pub next_run : Progress → List ℕ → Progress
+next_run walk run = record { kind = walk.kind; ending = Plain; opening = Outside; «data» = walk.data ++ (ending_text walk.ending ++ run) }

@@ -60,6 +60,17 @@ pub data Takes {S W V : Type 0} (gives : S → ParseError → Result (Unit {0}) 
   ended : (reported : List ParseError) → answer ≡ Ok true → Hands gives old reported (Ok tt) new
       → ((end : ℕ) (rest : List Placed) → IsSpan end rest (text ++ p ∷ []) value (errors ++ reported)) → Takes gives HasRead IsSpan text errors p old answer walk value new
 
+-- What taking a run of characters does: the same as taking each in turn, where none of them ends the span.
+pub data TakesRun {S W V : Type 0} (gives : S → ParseError → Result (Unit {0}) Refusal → S → Type 0) (HasRead : W → List Placed → List ParseError → Type 0)
+    (IsSpan : ℕ → List Placed → List Placed → V → List ParseError → Type 0) (text : List Placed) (errors : List ParseError) (run : List Placed)
+    (old : S) (answer : Result (Unit {0}) Refusal) (walk : W) (new : S) : Type 0 where
+  run_ran_out : (reported : List ParseError) → answer ≡ Err Memory → Hands gives old reported (Ok tt) new
+      → BeginsSpans IsSpan (text ++ run) (errors ++ reported) → TakesRun gives HasRead IsSpan text errors run old answer walk new
+  run_refused : (e : Refusal) (reported : List ParseError) → answer ≡ Err e → Hands gives old reported (Err e) new
+      → BeginsSpans IsSpan (text ++ run) (errors ++ reported) → TakesRun gives HasRead IsSpan text errors run old answer walk new
+  run_goes_on : (reported : List ParseError) → answer ≡ Ok tt → Hands gives old reported (Ok tt) new
+      → HasRead walk (text ++ run) (errors ++ reported) → TakesRun gives HasRead IsSpan text errors run old answer walk new
+
 -- What the input's end does: the text is the span, and its last errors are handed over.
 pub record Ends {S V : Type 0} (gives : S → ParseError → Result (Unit {0}) Refusal → S → Type 0) (IsSpan : ℕ → List Placed → List Placed → V → List ParseError → Type 0)
     (text : List Placed) (errors : List ParseError) (end : ℕ) (value : V) (old : S) (answer : Result (Unit {0}) Refusal) (new : S) : Type 0 where

@@ -2,20 +2,22 @@
 
 ghost use Rattle.std.specs.Prelude.{◌≡◌, ◌++◌, ℕ, List, [], true, IfOk, OnOk, string_bytes};
 ghost use Rattle.std.specs.Char.{encode_utf8};
+ghost use Rattle.std.specs.List.{list_all};
+ghost use Rattle.std.specs.Str.{chars};
 ghost use Rattle.names.specs.declared.error.ParseError.{ParseError as Error};
 ghost use Rattle.names.specs.declared.placed.Placed.{Placed};
-ghost use Rattle.names.specs.Placed.{all, characters, error, without_null};
+ghost use Rattle.names.specs.Placed.{all, characters, placed, error, without_null};
 ghost use Rattle.names.specs.Sink.{Hands};
 ghost use Rattle.hmarkup.specs.declared.comment.CommentKind.{CommentKind as Kind};
 ghost use Rattle.hmarkup.specs.declared.comment.CommentKind.TheVariants.{Comment, Bogus};
-ghost use Rattle.hmarkup.specs.Comment.{errors_here, is_plain_in_bogus};
-ghost use Rattle.hmarkup.specs.Walk.{BeginsSpans, IsOpen, ClosedBy, HasSpan, IsOneSpan, Takes, Ends};
+ghost use Rattle.hmarkup.specs.Comment.{errors_here, is_only_data, is_plain_in_bogus};
+ghost use Rattle.hmarkup.specs.Walk.{BeginsSpans, IsOpen, ClosedBy, HasSpan, IsOneSpan, Takes, TakesRun, Ends};
 ghost use Rattle.hmarkup.specs.CommentWalk.{Progress, begun, HasReadOf, IsInComment, IsInBogus, IsSpan, closing_mark};
-ghost use Rattle.hmarkup.specs.Steps.{next};
+ghost use Rattle.hmarkup.specs.Steps.{next, next_run};
 
 use crate::sink::ErrorSink;
 use crate::tail::{Ending, Opening};
-use crate::taking::{push, tell, text_of};
+use crate::taking::{push, tell, tell_if, text_of};
 use names::{ErrorCode, Placed, Refusal};
 use std::alloc::{AllocError, Global};
 use std::marker::Model;
@@ -164,6 +166,39 @@ impl CommentWalk {
         Ok(false)
     }
 
+    /// Takes a run of a comment.
+    fn take_run_in_comment<S: ErrorSink>(
+        &mut self,
+        run: &str,
+        at: u64,
+        errors: &mut S,
+    ) -> Result<(), Refusal>
+        requires { list_all is_only_data run.now ≡ true }
+        ensures { (text : List Placed) (raised : List Error) → IsInComment self.old text raised
+            → TakesRun S.gives IsInComment (IsSpan Comment) text raised (placed at (chars run.now)) errors.old result self.new errors.new }
+    {
+        if run.is_empty() {
+            return Ok(());
+        }
+        let nested = self.opening.is_whole();
+        tell_if(nested, ErrorCode::NestedComment, at, errors)?;
+        self.keep_run(run)?;
+        Ok(())
+    }
+
+    /// Goes on after characters that are only data.
+    fn keep_run(&mut self, run: &str) -> Result<(), AllocError>
+        ensures { OnOk result (self.new ≡ next_run self.old run.now) }
+    {
+        if self.ending != Ending::Plain {
+            self.text.push_str(self.ending.text())?;
+        }
+        self.text.push_str(run)?;
+        self.ending = Ending::Plain;
+        self.opening = Opening::Outside;
+        Ok(())
+    }
+
     /// Goes on at a character that closes nothing.
     fn keep(&mut self, ch: char) -> Result<(), AllocError>
         ensures { OnOk result (self.new ≡ next self.old ch) }
@@ -178,6 +213,24 @@ impl CommentWalk {
         self.ending = self.ending.after(ch);
         self.opening = self.opening.after(ch);
         Ok(())
+    }
+
+    /// Takes the next characters, the first of which stands at byte `at`, as `take_char` takes each; none of them is `-`, `!`,
+    /// `<`, `>` or NUL. An `Err` is `Memory` or the sink's own.
+    pub fn take_run<S: ErrorSink>(
+        &mut self,
+        run: &str,
+        at: u64,
+        errors: &mut S,
+    ) -> Result<(), Refusal>
+        requires { list_all is_only_data run.now ≡ true }
+        ensures { (kind : Kind) (text : List Placed) (raised : List Error) → HasReadOf kind self.old text raised
+            → TakesRun S.gives (HasReadOf kind) (IsSpan kind) text raised (placed at (chars run.now)) errors.old result self.new errors.new }
+    {
+        match self.kind {
+            CommentKind::Comment => self.take_run_in_comment(run, at, errors),
+            CommentKind::Bogus => Ok(self.text.push_str(run)?),
+        }
     }
 
     /// Says that the input ends, and is `end` bytes long. An `Err` is the sink's own.

@@ -1,7 +1,7 @@
 //! How much of a mark ends the text that was read of a comment.
 
 ghost use Rattle.std.specs.Prelude.{◌≡◌};
-ghost use Rattle.hmarkup.specs.Steps.{next_opening, next_ending, decided_text};
+ghost use Rattle.hmarkup.specs.Steps.{next_opening, next_ending, decided_text, ending_text};
 ghost use Rattle.hmarkup.specs.CommentWalk.{is_whole};
 
 /// The beginning of a closing mark that ends the text: nothing, `-`, `--` or `--!`.
@@ -60,12 +60,19 @@ impl Ending {
                 Ending::Dashes => "",
                 Ending::Bang => "--!!",
             },
-            _ => match self {
-                Ending::Plain => "",
-                Ending::Dash => "-",
-                Ending::Dashes => "--",
-                Ending::Bang => "--!",
-            },
+            _ => self.text(),
+        }
+    }
+
+    /// Its characters.
+    pub fn text(self) -> &'static str
+        ensures { result.now ≡ ending_text self }
+    {
+        match self {
+            Ending::Plain => "",
+            Ending::Dash => "-",
+            Ending::Dashes => "--",
+            Ending::Bang => "--!",
         }
     }
 }

@@ -2,7 +2,8 @@
 
 ghost use Rattle.std.specs.Prelude.{◌≡◌, ◌++◌, IfOk, OnOk, string_bytes};
 ghost use Rattle.std.specs.Char.{encode_utf8};
-ghost use Rattle.names.specs.Placed.{error, text_bytes, without_null};
+ghost use Rattle.names.specs.Placed.{error, error_if, text_bytes, without_null};
+ghost use Rattle.names.specs.Sink.{Hands};
 
 use crate::sink::ErrorSink;
 use names::{ErrorCode, ParseError, Placed, Refusal};
@@ -13,6 +14,21 @@ pub fn tell<S: ErrorSink>(code: ErrorCode, at: u64, errors: &mut S) -> Result<()
     ensures { S.gives errors.old (error code at) result errors.new }
 {
     errors.take_error(ParseError { code, at })
+}
+
+/// Hands over an error if there is one.
+pub fn tell_if<S: ErrorSink>(
+    says: bool,
+    code: ErrorCode,
+    at: u64,
+    errors: &mut S,
+) -> Result<(), Refusal>
+    ensures { Hands S.gives errors.old (error_if says code at) result errors.new }
+{
+    if says {
+        return tell(code, at, errors);
+    }
+    Ok(())
 }
 
 /// The character as a text keeps it: U+FFFD for NUL.

@@ -113,3 +113,17 @@ fn goes_on_after_read_characters(rt: HostRuntime) -> Result<(), Fail> {
     assert_eq!(rt; errors.kept.as_slice(), [(Null, 5)].as_slice());
     Ok(())
 }
+
+#[test]
+fn takes_runs(rt: HostRuntime) -> Result<(), Fail> {
+    let mut errors = Errors::new(rt.alloc(), 9);
+    let mut walk = CommentWalk::comment(rt.alloc());
+    walk.take_run("", 4, &mut errors)?;
+    walk.take_char('-', 4, &mut errors)?;
+    walk.take_run("a é", 5, &mut errors)?;
+    let (data, after) = read(walk, "<!---->", 9, &mut errors)?;
+    assert_eq!(rt; data.as_str(), "-a é<!--");
+    assert_eq!(rt; after, 16);
+    assert_eq!(rt; errors.kept.as_slice(), [(Nested, 13)].as_slice());
+    Ok(())
+}
