@@ -25,3 +25,4 @@ pub mod Lines
 pub mod SomeSpan
 pub mod Closing
 pub mod Running
+pub mod DoctypeRows
