@@ -1,7 +1,7 @@
 -- What was read of a comment is a front of each comment at the front of the text, and its errors are a front of theirs.
 use Rattle.std.proofs.Common.{◌≡◌, ℕ, ◌≤◌, true, false, ◌&&◌, ◌||◌, eqb, List, [], ◌∷◌, ◌++◌, length, sym, refl, ap, ◌∙◌, subst, codes, arith, append_assoc, append-nil}
 use Rattle.std.proofs.lemmas.List.{map-append}
-use Rattle.std.proofs.lemmas.Bool.{false≢true, eqb-true}
+use Rattle.std.proofs.lemmas.Bool.{false≢true, eqb-true, and_parts, or_left, or_right}
 use Rattle.std.specs.Char.{encode_utf8}
 use Rattle.names.specs.declared.error.ParseError.{ParseError}
 use Rattle.names.specs.declared.error.ErrorCode.TheVariants.{AbruptClosingOfEmptyComment, EofInComment, IncorrectlyClosedComment}
@@ -12,7 +12,7 @@ use Rattle.hmarkup.specs.declared.comment.CommentKind.TheVariants.{Comment, Bogu
 use Rattle.hmarkup.specs.Comment.{closes_comment, closes_at_once, closes_bogus, errors_here, errors_after, IsComment, closed_at_once, closed, closed_with_bang, unclosed, IsBogus, closed_bogus, unclosed_bogus}
 use Rattle.hmarkup.specs.Walk.{Begins, BeginsSpans, IsOpen, IsOneSpan}
 use Rattle.hmarkup.specs.CommentWalk.{Progress, IsInComment, IsInBogus, HasReadOf, IsSpan, backwards}
-use Rattle.hmarkup.proofs.Marks.{and_parts, or_left, or_right, not_past, spells-characters, first_is, null_errors-append}
+use Rattle.hmarkup.proofs.Marks.{not_past, spells-characters, first_is, null_errors-append}
 use Rattle.hmarkup.proofs.Fronts.{IsFront, front_of, front_more}
 use Rattle.hmarkup.proofs.Walking.{before-text, errors-append}
 use Rattle.hmarkup.proofs.InBogus.{before-bogus, bogus_kept}

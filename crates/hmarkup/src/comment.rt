@@ -33,7 +33,7 @@ pub enum CommentKind {
 
 /// Reads a comment after its opening mark, a character at a time. It hands over each error as it comes, in the order of the
 /// text. After an `Ok(true)` it takes no more, and after an `Err` it is of no further use.
-#[derive(Drop)]
+#[derive(Drop, Debug)]
 pub struct CommentWalk {
     kind: CommentKind,
     ending: Ending,

@@ -20,7 +20,7 @@ use std::alloc::{AllocError, Global};
 use std::marker::Model;
 
 /// What a doctype holds. A name or an identifier that is there may be empty.
-#[derive(Drop)]
+#[derive(Drop, Debug)]
 pub struct Doctype {
     pub name: Option<String>,
     pub public_id: Option<String>,
@@ -40,7 +40,7 @@ impl Model for Doctype {
 
 /// Reads a doctype after its `<!DOCTYPE`, a character at a time. It hands over each error as it comes, in the order of the
 /// text. After an `Ok(true)` it takes no more, and after an `Err` it is of no further use.
-#[derive(Drop)]
+#[derive(Drop, Debug)]
 pub struct DoctypeWalk {
     phase: Phase,
     found: Doctype,

@@ -39,7 +39,7 @@ impl QuirkKind {
 }
 
 /// A line of the list.
-#[derive(Drop)]
+#[derive(Drop, Debug)]
 struct Line {
     kind: QuirkKind,
     text: String,
@@ -56,7 +56,7 @@ impl Model for Line {
 
 /// The quirks list. Its text is lines, the last one with or without LF: `public-is`, `public-begins`, `system-is` or
 /// `public-begins-without-system`, one space, and a text of one or more bytes 20 to 7E.
-#[derive(Drop)]
+#[derive(Drop, Debug)]
 pub struct Quirks {
     lines: Vec<Line>,
 }
