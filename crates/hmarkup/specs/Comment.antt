@@ -40,11 +40,13 @@ pub data IsComment (end : ℕ) (rest text : List Placed) («data» : List ℕ) (
   closed_at_once : (dash close : List Placed) → text ≡ dash ++ close → is_front dash (codes "-") ≡ true → characters close ≡ codes ">"
       → «data» ≡ [] → errors ≡ errors_after [] text ++ error AbruptClosingOfEmptyComment (place end close) ∷ [] → IsComment end rest text «data» errors
   -- up to the earliest closing mark (13.2.5.51, 13.2.5.52)
-  closed : (inner close : List Placed) → text ≡ inner ++ close → closes_at_once text ≡ false → inner ≡ before closes_comment text → characters close ≡ codes "-->"
+  closed : (inner close : List Placed) → text ≡ inner ++ close → closes_at_once text ≡ false → inner ≡ before closes_comment text
+      → characters close ≡ codes "-->"
       → «data» ≡ text_bytes inner → errors ≡ errors_after [] text → IsComment end rest text «data» errors
   closed_with_bang : (inner dashes close : List Placed) → text ≡ inner ++ dashes ++ close → closes_at_once text ≡ false → inner ≡ before closes_comment text
       → characters dashes ≡ codes "--!" → characters close ≡ codes ">"
-      → «data» ≡ text_bytes inner → errors ≡ errors_after [] text ++ error IncorrectlyClosedComment (place end close) ∷ [] → IsComment end rest text «data» errors
+      → «data» ≡ text_bytes inner → errors ≡ errors_after [] text ++ error IncorrectlyClosedComment (place end close) ∷ []
+      → IsComment end rest text «data» errors
   -- no closing mark up to the end: without the longest of the endings `--!`, `--`, `-` that it has
   unclosed : rest ≡ [] → closes_at_once text ≡ false → text ≡ before closes_comment text
       → «data» ≡ text_bytes (before is_ending text) → errors ≡ errors_after [] text ++ error EofInComment end ∷ [] → IsComment end rest text «data» errors

@@ -83,7 +83,8 @@ pub record IsSkipped (known : Found) (end : ℕ) (rest text : List Placed) (foun
   pub errors_are : errors ≡ null_errors skipped
 
 -- The rest is skipped, since it fails the test, and begins with neither white space nor `>`: its first character shows the fault.
-pub record Skips (test : List Placed → Bool) (fault : ErrorCode) (known : Found) (end : ℕ) (rest text : List Placed) (found : Found) (errors : List ParseError) : Type 0 where
+pub record Skips (test : List Placed → Bool) (fault : ErrorCode) (known : Found) (end : ℕ) (rest text : List Placed) (found : Found)
+    (errors : List ParseError) : Type 0 where
   pub later : List ParseError
   pub first : begins (λ c. not (is_space c || is_greater c)) text ≡ true
   pub fails : test text ≡ false
@@ -92,16 +93,22 @@ pub record Skips (test : List Placed → Bool) (fault : ErrorCode) (known : Foun
 
 -- The inside of an identifier after its quote, which the same quote ends, or `>` or the end of input, which both force quirks
 -- (13.2.5.59, 13.2.5.60, 13.2.5.65, 13.2.5.66).
-pub data IsInside (which : Identifier) (mark : ℕ) (After : Found → Stands) (known : Found) (end : ℕ) (rest text : List Placed) (found : Found) (errors : List ParseError) : Type 0 where
-  quoted : (inside close after : List Placed) (later : List ParseError) → text ≡ inside ++ (close ++ after) → all (λ c. not (c == mark || is_greater c)) inside ≡ true → characters close ≡ mark ∷ []
-      → After (identified which (text_bytes inside) known) end rest after found later → errors ≡ null_errors inside ++ later → IsInside which mark After known end rest text found errors
+pub data IsInside (which : Identifier) (mark : ℕ) (After : Found → Stands) (known : Found) (end : ℕ) (rest text : List Placed) (found : Found)
+    (errors : List ParseError) : Type 0 where
+  quoted : (inside close after : List Placed) (later : List ParseError) → text ≡ inside ++ (close ++ after)
+      → all (λ c. not (c == mark || is_greater c)) inside ≡ true → characters close ≡ mark ∷ []
+      → After (identified which (text_bytes inside) known) end rest after found later → errors ≡ null_errors inside ++ later
+      → IsInside which mark After known end rest text found errors
   abrupt : (inside close : List Placed) → text ≡ inside ++ close → all (λ c. not (c == mark || is_greater c)) inside ≡ true → characters close ≡ codes ">"
-      → found ≡ force (identified which (text_bytes inside) known) → errors ≡ null_errors inside ++ error (abrupt_identifier which) (place end close) ∷ [] → IsInside which mark After known end rest text found errors
+      → found ≡ force (identified which (text_bytes inside) known)
+      → errors ≡ null_errors inside ++ error (abrupt_identifier which) (place end close) ∷ [] → IsInside which mark After known end rest text found errors
   unclosed : rest ≡ [] → all (λ c. not (c == mark || is_greater c)) text ≡ true
-      → found ≡ force (identified which (text_bytes text) known) → errors ≡ null_errors text ++ error EofInDoctype end ∷ [] → IsInside which mark After known end rest text found errors
+      → found ≡ force (identified which (text_bytes text) known) → errors ≡ null_errors text ++ error EofInDoctype end ∷ []
+      → IsInside which mark After known end rest text found errors
 
 -- An identifier in quotes, which is present from its quote on, and `After` it; with an error where no white space stands before it.
-pub record IsIdentifier (which : Identifier) (at_once : ErrorCode) (After : Found → Stands) (known : Found) (spaced : Bool) (end : ℕ) (rest text : List Placed) (found : Found) (errors : List ParseError) : Type 0 where
+pub record IsIdentifier (which : Identifier) (at_once : ErrorCode) (After : Found → Stands) (known : Found) (spaced : Bool) (end : ℕ)
+    (rest text : List Placed) (found : Found) (errors : List ParseError) : Type 0 where
   pub quote : Placed
   pub more : List Placed
   pub later : List ParseError
@@ -113,7 +120,8 @@ pub record IsIdentifier (which : Identifier) (at_once : ErrorCode) (After : Foun
 -- what stands after the system identifier and white space (13.2.5.67)
 pub data AfterSystemIdentifier (known : Found) (end : ℕ) (rest text : List Placed) (found : Found) (errors : List ParseError) : Type 0 where
   system_ends : IsEnd known end rest text found errors → AfterSystemIdentifier known end rest text found errors
-  system_skips : Skips (λ text. false) UnexpectedCharacterAfterDoctypeSystemIdentifier known end rest text found errors → AfterSystemIdentifier known end rest text found errors
+  system_skips : Skips (λ text. false) UnexpectedCharacterAfterDoctypeSystemIdentifier known end rest text found errors
+      → AfterSystemIdentifier known end rest text found errors
 
 abbrev pub FollowsSystem : Found → Stands
 FollowsSystem known = AfterSpace (λ spaced. AfterSystemIdentifier known) false
@@ -121,8 +129,10 @@ FollowsSystem known = AfterSpace (λ spaced. AfterSystemIdentifier known) false
 -- what stands after the public identifier and white space (13.2.5.61, 13.2.5.62)
 pub data AfterPublicIdentifier (known : Found) (spaced : Bool) (end : ℕ) (rest text : List Placed) (found : Found) (errors : List ParseError) : Type 0 where
   public_ends : IsEnd known end rest text found errors → AfterPublicIdentifier known spaced end rest text found errors
-  public_skips : Skips (begins is_quote) (no_quote System) (force known) end rest text found errors → AfterPublicIdentifier known spaced end rest text found errors
-  second : IsIdentifier System MissingWhitespaceBetweenDoctypePublicAndSystemIdentifiers FollowsSystem known spaced end rest text found errors → AfterPublicIdentifier known spaced end rest text found errors
+  public_skips : Skips (begins is_quote) (no_quote System) (force known) end rest text found errors
+      → AfterPublicIdentifier known spaced end rest text found errors
+  second : IsIdentifier System MissingWhitespaceBetweenDoctypePublicAndSystemIdentifiers FollowsSystem known spaced end rest text found errors
+      → AfterPublicIdentifier known spaced end rest text found errors
 
 abbrev pub FollowsPublic : Found → Stands
 FollowsPublic known = AfterSpace (AfterPublicIdentifier known) false
@@ -132,11 +142,15 @@ Follows Public = FollowsPublic
 Follows System = FollowsSystem
 
 -- what stands after PUBLIC or SYSTEM and white space (13.2.5.57, 13.2.5.58, 13.2.5.63, 13.2.5.64)
-pub data AfterKeyword (which : Identifier) (known : Found) (spaced : Bool) (end : ℕ) (rest text : List Placed) (found : Found) (errors : List ParseError) : Type 0 where
-  identifier : IsIdentifier which (no_space_after_keyword which) (Follows which) known spaced end rest text found errors → AfterKeyword which known spaced end rest text found errors
-  missing : characters text ≡ codes ">" → found ≡ force known → errors ≡ error (no_identifier which) (place end text) ∷ [] → AfterKeyword which known spaced end rest text found errors
+pub data AfterKeyword (which : Identifier) (known : Found) (spaced : Bool) (end : ℕ) (rest text : List Placed) (found : Found)
+    (errors : List ParseError) : Type 0 where
+  identifier : IsIdentifier which (no_space_after_keyword which) (Follows which) known spaced end rest text found errors
+      → AfterKeyword which known spaced end rest text found errors
+  missing : characters text ≡ codes ">" → found ≡ force known → errors ≡ error (no_identifier which) (place end text) ∷ []
+      → AfterKeyword which known spaced end rest text found errors
   keyword_skips : Skips (begins is_quote) (no_quote which) (force known) end rest text found errors → AfterKeyword which known spaced end rest text found errors
-  keyword_cut_off : rest ≡ [] → text ≡ [] → found ≡ force known → errors ≡ error EofInDoctype end ∷ [] → AfterKeyword which known spaced end rest text found errors
+  keyword_cut_off : rest ≡ [] → text ≡ [] → found ≡ force known → errors ≡ error EofInDoctype end ∷ []
+      → AfterKeyword which known spaced end rest text found errors
 
 abbrev pub FollowsKeyword : Identifier → Found → Stands
 FollowsKeyword which known = AfterSpace (AfterKeyword which known) false
@@ -168,7 +182,8 @@ pub record IsName (known : Found) (end : ℕ) (rest text : List Placed) (found :
 pub data AfterOpening (known : Found) (spaced : Bool) (end : ℕ) (rest text : List Placed) (found : Found) (errors : List ParseError) : Type 0 where
   begins_name : (later : List ParseError) → begins (λ c. not (is_space c || is_greater c)) text ≡ true → IsName known end rest text found later
       → errors ≡ error_if (not spaced) MissingWhitespaceBeforeDoctypeName (place end text) ++ later → AfterOpening known spaced end rest text found errors
-  nameless : characters text ≡ codes ">" → found ≡ force known → errors ≡ error MissingDoctypeName (place end text) ∷ [] → AfterOpening known spaced end rest text found errors
+  nameless : characters text ≡ codes ">" → found ≡ force known → errors ≡ error MissingDoctypeName (place end text) ∷ []
+      → AfterOpening known spaced end rest text found errors
   unfinished : rest ≡ [] → text ≡ [] → found ≡ force known → errors ≡ error EofInDoctype end ∷ [] → AfterOpening known spaced end rest text found errors
 
 -- The text after `<!DOCTYPE` is a doctype, where `rest` follows it and the input ends at `end`.

@@ -38,8 +38,10 @@ left Syst = codes "em"
 left Syste = codes "m"
 
 -- After letters of a keyword, the first of which stands at `first`: the others, or a skipped rest.
-pub data IsInKeyword (letters : Letters) (first : ℕ) (known : Found) (end : ℕ) (rest text : List Placed) (found : Found) (errors : List ParseError) : Type 0 where
-  whole : (word after : List Placed) → text ≡ word ++ after → lowered word ≡ left letters → FollowsKeyword (letters_of letters) known end rest after found errors
+pub data IsInKeyword (letters : Letters) (first : ℕ) (known : Found) (end : ℕ) (rest text : List Placed) (found : Found)
+    (errors : List ParseError) : Type 0 where
+  whole : (word after : List Placed) → text ≡ word ++ after → lowered word ≡ left letters
+      → FollowsKeyword (letters_of letters) known end rest after found errors
       → IsInKeyword letters first known end rest text found errors
   fails : (later : List ParseError) → spells_in_any_case (left letters) text ≡ false → IsSkipped (force known) end rest text found later
       → errors ≡ error InvalidCharacterSequenceAfterDoctypeName first ∷ later → IsInKeyword letters first known end rest text found errors
@@ -67,7 +69,8 @@ Fits (phase.Quoted which mark) known = (is_quote mark ≡ true) × (is_some (ide
 Fits _ known = Unit {0}
 
 -- A doctype that begins with this text, and its errors with these, goes on from there as the walk's phase says.
-pub record GoesOnAfter (walk : Reading) (text : List Placed) (errors : List ParseError) (end : ℕ) (after rest span : List Placed) (found : Found) (all : List ParseError) : Type 0 where
+pub record GoesOnAfter (walk : Reading) (text : List Placed) (errors : List ParseError) (end : ℕ) (after rest span : List Placed) (found : Found)
+    (all : List ParseError) : Type 0 where
   pub begins : Begins text after rest span errors all
   pub goes_on : GoesOn walk.phase walk.found end rest begins.more found begins.later
 
@@ -77,5 +80,6 @@ pub record HasReadDoctype (walk : Reading) (text : List Placed) (errors : List P
   pub fits : Fits walk.phase walk.found
   pub goes_on : (end : ℕ) (rest more : List Placed) (found : Found) (later : List ParseError) → GoesOn walk.phase walk.found end rest more found later
       → IsDoctype end rest (text ++ more) found (errors ++ later)
-  pub no_other : (end : ℕ) (after rest span : List Placed) (found : Found) (all : List ParseError) → IsDoctype end rest span found all → span ++ rest ≡ text ++ after
+  pub no_other : (end : ℕ) (after rest span : List Placed) (found : Found) (all : List ParseError) → IsDoctype end rest span found all
+      → span ++ rest ≡ text ++ after
       → GoesOnAfter walk text errors end after rest span found all

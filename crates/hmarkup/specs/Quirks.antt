@@ -47,7 +47,8 @@ AreQuirkLines (line ∷ others) (quirk ∷ quirks) = IsQuirkLine line quirk × A
 -- What the reading of a list answers: memory ran out, the first line that is none has this number, from 1, or the list.
 pub data ReadsQuirks (text : List ℕ) (answer : Result (List QuirkLine) Refusal) : Type 0 where
   no_memory : answer ≡ Err Memory → ReadsQuirks text answer
-  bad_line : (before after : List (List ℕ)) (line : List ℕ) (quirks : List QuirkLine) → lines text ≡ before ++ line ∷ after → AreQuirkLines before quirks → IsNoQuirkLine line
+  bad_line : (before after : List (List ℕ)) (line : List ℕ) (quirks : List QuirkLine) → lines text ≡ before ++ line ∷ after
+      → AreQuirkLines before quirks → IsNoQuirkLine line
       → answer ≡ Err (BadQuirks (length before + 1)) → ReadsQuirks text answer
   read_all : (quirks : List QuirkLine) → AreQuirkLines (lines text) quirks → answer ≡ Ok quirks → ReadsQuirks text answer
 

@@ -58,7 +58,8 @@ pub data Takes {S W V : Type 0} (gives : S → ParseError → Result (Unit {0}) 
   goes_on : (reported : List ParseError) → answer ≡ Ok false → Hands gives old reported (Ok tt) new
       → HasRead walk (text ++ p ∷ []) (errors ++ reported) → Takes gives HasRead IsSpan text errors p old answer walk value new
   ended : (reported : List ParseError) → answer ≡ Ok true → Hands gives old reported (Ok tt) new
-      → ((end : ℕ) (rest : List Placed) → IsSpan end rest (text ++ p ∷ []) value (errors ++ reported)) → Takes gives HasRead IsSpan text errors p old answer walk value new
+      → ((end : ℕ) (rest : List Placed) → IsSpan end rest (text ++ p ∷ []) value (errors ++ reported))
+      → Takes gives HasRead IsSpan text errors p old answer walk value new
 
 -- What taking a run of characters does: the same as taking each in turn, where none of them ends the span.
 pub data TakesRun {S W V : Type 0} (gives : S → ParseError → Result (Unit {0}) Refusal → S → Type 0) (HasRead : W → List Placed → List ParseError → Type 0)
@@ -72,7 +73,8 @@ pub data TakesRun {S W V : Type 0} (gives : S → ParseError → Result (Unit {0
       → HasRead walk (text ++ run) (errors ++ reported) → TakesRun gives HasRead IsSpan text errors run old answer walk new
 
 -- What the input's end does: the text is the span, and its last errors are handed over.
-pub record Ends {S V : Type 0} (gives : S → ParseError → Result (Unit {0}) Refusal → S → Type 0) (IsSpan : ℕ → List Placed → List Placed → V → List ParseError → Type 0)
+pub record Ends {S V : Type 0} (gives : S → ParseError → Result (Unit {0}) Refusal → S → Type 0)
+    (IsSpan : ℕ → List Placed → List Placed → V → List ParseError → Type 0)
     (text : List Placed) (errors : List ParseError) (end : ℕ) (value : V) (old : S) (answer : Result (Unit {0}) Refusal) (new : S) : Type 0 where
   pub reported : List ParseError
   pub handed : Hands gives old reported answer new
