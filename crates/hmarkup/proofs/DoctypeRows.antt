@@ -1,4 +1,4 @@
--- Worked rows: what stands after `<!DOCTYPE` of the commented text.
+-- Worked rows: what follows `<!DOCTYPE` in the text shown above each.
 use Rattle.std.specs.Prelude.{true, false, [], ◌∷◌, ◌++◌, codes, Some, None}
 use lib.Utf8.{encode}
 use Rattle.names.specs.Placed.{placed, error}
@@ -41,14 +41,14 @@ public_there : IsDoctype 31 [] (placed 9 (codes " html PUBLIC " ++ (34 ∷ (code
 unfolding encode
 public_there = (some_doctype 31 (placed 9 (codes " html PUBLIC " ++ (34 ∷ (codes "-//X//" ++ (34 ∷ codes ">")))))).is_span
 
--- `<!DOCTYPE a public 'b' 'c'>`: each ends as it should
+-- `<!DOCTYPE a public 'b' 'c'>`: no error
 both_there : IsDoctype 27 [] (placed 9 (codes " a public 'b' 'c'>"))
     (record { name = Some (codes "a"); public = Some (codes "b"); system = Some (codes "c"); forced = false })
     []
 unfolding encode
 both_there = (some_doctype 27 (placed 9 (codes " a public 'b' 'c'>"))).is_span
 
--- `<!DOCTYPE a public '' ''>`: identifiers that are there, though empty
+-- `<!DOCTYPE a public '' ''>`: identifiers that are present but empty
 empty_identifiers : IsDoctype 25 [] (placed 9 (codes " a public '' ''>"))
     (record { name = Some (codes "a"); public = Some []; system = Some []; forced = false })
     []
@@ -139,14 +139,14 @@ part_of_keyword : IsDoctype 18 [] (placed 9 (codes " a publi>"))
 unfolding encode
 part_of_keyword = (some_doctype 18 (placed 9 (codes " a publi>"))).is_span
 
--- `<!DOCTYPE a syste`, and the input ends: no error but that of the skipped rest
+-- `<!DOCTYPE a syste`, and the input ends: the only error is that of the keyword
 keyword_cut : IsDoctype 17 [] (placed 9 (codes " a syste"))
     (record { name = Some (codes "a"); public = None; system = None; forced = true })
     (error InvalidCharacterSequenceAfterDoctypeName 12 ∷ [])
 unfolding encode
 keyword_cut = (some_doctype 17 (placed 9 (codes " a syste"))).is_span
 
--- a skipped rest that begins with NUL: both errors stand at one place
+-- a skipped rest that begins with NUL: both errors are at the same place
 null_skipped : IsDoctype 16 [] (placed 9 (codes " a " ++ (0 ∷ (codes "b" ++ (0 ∷ codes ">")))))
     (record { name = Some (codes "a"); public = None; system = None; forced = true })
     (error InvalidCharacterSequenceAfterDoctypeName 12 ∷ error UnexpectedNullCharacter 12 ∷ error UnexpectedNullCharacter 14 ∷ [])
@@ -210,7 +210,7 @@ cut_after_system : IsDoctype 23 [] (placed 9 (codes " a system 'b' "))
 unfolding encode
 cut_after_system = (some_doctype 23 (placed 9 (codes " a system 'b' "))).is_span
 
--- .. and in a skipped rest, where the end forces nothing
+-- .. and in a skipped rest, where the end does not force quirks mode
 cut_in_skipped : IsDoctype 24 [] (placed 9 (codes " a system 'b' c"))
     (record { name = Some (codes "a"); public = None; system = Some (codes "b"); forced = false })
     (error UnexpectedCharacterAfterDoctypeSystemIdentifier 23 ∷ [])

@@ -83,7 +83,7 @@ are_as_many [] (q ∷ qs) h = absurd h
 are_as_many (b ∷ bs) [] h = absurd h
 are_as_many (b ∷ bs) (q ∷ qs) h = let e = are_as_many bs qs h.1 in omega (arith, e)
 
--- what the reading of a list answers
+-- the outcomes of reading a list
 pub at_bad_line : (text rest line after : List ℕ) (before : List (List ℕ)) (quirks : List QuirkLine) (n : ℕ) → lines text ≡ before ++ lines rest → AreQuirkLines before quirks → lines rest ≡ line ∷ lines after → IsNoQuirkLine line
     → n ≡ length quirks → ReadsQuirks text (Err (BadQuirks (n + 1)))
 at_bad_line text rest line after before quirks n e h f none count =

@@ -69,7 +69,7 @@ first_data w text errs p h k =
     (subst (λ (x : List ParseError). IsInComment (next w p.ch) (text ++ p ∷ []) (errs ++ x)) (data_error (is_whole w.opening) p d)
     (kept_other w text errs p.ch p.at (is_whole w.opening) refl k d.greater))
 
--- .. and a run, where no mark has begun
+-- what a run does to a comment in which no mark has begun, and to any other
 more_data : (kind : CommentKind) («data» : List ℕ) (text : List Placed) (errs : List ParseError) (run : List Placed) → all is_only_data run ≡ true → IsInComment (begun kind «data») text errs
     → IsInComment (begun kind («data» ++ text_bytes run)) (text ++ run) errs
 more_data kind «data» text errs [] h k = rw (append-nil «data», append-nil text) k
@@ -106,7 +106,7 @@ run_bogus w text errs (p ∷ ps) h k =
     rw (← append_assoc text (p ∷ []) ps, ← append_assoc w.data first (text_bytes ps))
     (run_bogus (after_bogus w first) (text ++ p ∷ []) errs ps parts.1 one)
 
--- A run at byte `at` whose text is these bytes, which has a character at least.
+-- a run in UTF-8, whose first byte is at `at`
 module _ (at : ℕ) (run : List ℕ) (utf8 : IsUtf8 run) (plain : list_all is_only_data run ≡ true) where
   h : all is_only_data (placed at (chars run)) ≡ true
   h = run_characters at (chars run) (ap (list_all is_only_data) (encodes-chars run utf8) ∙ plain)

@@ -1,4 +1,4 @@
--- At the front of each text stands a comment, a bogus comment and a doctype.
+-- Every text begins with a comment, with a bogus comment and with a doctype.
 use Rattle.std.proofs.Common.{◌≡◌, ℕ, Bool, true, false, eqb, List, [], ◌∷◌, ◌++◌, length, sym, refl, ap, ◌∙◌, Option, Some, None, append_assoc}
 use Rattle.std.proofs.lemmas.Bool.{eqb-true, false≢true}
 use Rattle.std.specs.Char.{encode_utf8}

@@ -1,4 +1,4 @@
--- One comment at most stands at the front of a text.
+-- A text begins with at most one comment.
 use Rattle.std.proofs.Common.{◌≡◌, ℕ, ◌≤◌, ◌+◌, Bool, true, false, ◌&&◌, eqb, List, [], ◌∷◌, ◌++◌, length, sym, refl, ap, ◌∙◌, subst, codes, arith, length-append, append_assoc, append-nil, if◌then◌else◌, drop}
 use Rattle.std.proofs.lemmas.Bool.{false≢true, eqb-true, and_parts, and_right, or_from, or_left, or_parts, or_right}
 use Rattle.std.proofs.lemmas.List.{length-map, drop_at, drop_all, map-append}
@@ -11,7 +11,7 @@ use Rattle.hmarkup.specs.Walk.{IsOneSpan}
 use Rattle.hmarkup.proofs.Marks.{before-avoids, before-here, avoids-before, spells-long, spells-characters, first_is}
 use Rattle.hmarkup.proofs.Fronts.{same_front}
 
--- What a text tells of the comment at its front: its length, its data, and the error of its end.
+-- What a text determines of the comment at its front: its length, its data, and the error of its end.
 pub record Told : Type 0 where
   pub size : ℕ
   pub bytes : List ℕ

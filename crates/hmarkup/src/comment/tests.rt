@@ -1,4 +1,4 @@
-//! Whole texts, read by a walk.
+//! Comments, read character by character.
 
 use super::*;
 use crate::kept::Errors;
@@ -10,7 +10,7 @@ use names::ErrorCode::{
 use std::process::Abort;
 use std::test::Fail;
 
-/// A text after the opening mark, its data, the byte after it, and its errors.
+/// A text after the opening mark, the comment's data, the byte offset after it, and its errors.
 type Row = (&'static str, &'static str, u64, &'static [(ErrorCode, u64)]);
 
 /// What follows `<!--`, from byte 4 on.
@@ -44,7 +44,7 @@ const BOGUS: [Row; 4] = [
     (">", "", 2, &[]),
 ];
 
-/// Reads the text from byte `at` on: its data, and the byte after it.
+/// Reads the text, which begins at byte `at`; returns the comment's data and the byte offset after it.
 fn read(
     mut walk: CommentWalk,
     text: &str,
@@ -62,7 +62,7 @@ fn read(
     Ok((walk.into_data(), at))
 }
 
-/// Reads each row by a walk of this kind, from byte `at` on.
+/// Reads each row with a walk of this kind; its text begins at byte `at`.
 fn reads_rows(
     rt: &impl Abort,
     alloc: Global,
