@@ -9,6 +9,8 @@ use Rattle.names.specs.Placed.{characters, begins, is_empty, all, is_space, is_g
 use Rattle.hmarkup.specs.Doctype.{Found, force, IsEnd, closed, cut_off, IsSkipped, Skips}
 use Rattle.hmarkup.proofs.Marks.{null_errors-append}
 use Rattle.hmarkup.proofs.Characters.{greater_not_space}
+-- a lemma of the standard library, under the name by which the crates above cite it
+pub use Rattle.std.proofs.lemmas.Bool.{not-true as not_true}
 
 -- a text that is one character
 pub only : (p : Placed) (ps : List Placed) (c : ℕ) → characters (p ∷ ps) ≡ c ∷ [] → (p.ch ≡ c) × (ps ≡ [])

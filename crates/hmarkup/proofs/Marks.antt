@@ -9,6 +9,8 @@ use Rattle.std.specs.Prelude.{encode_utf8_all}
 use Rattle.names.specs.declared.error.ErrorCode.TheVariants.{UnexpectedNullCharacter}
 use Rattle.names.specs.declared.placed.Placed.{Placed}
 use Rattle.names.specs.Placed.{characters, spells, is_front, before, Avoids, error, null_errors, text_bytes, without_null}
+-- lemmas of the standard library, under the names by which the crates above cite them
+pub use Rattle.std.proofs.lemmas.Bool.{and_parts, and_from as and_both, and_right as and_no, or_parts as neither, or_from as or_none, or_left, or_right}
 
 -- the text before a mark, past a front that the mark avoids
 pub before-avoids : (mark : List Placed → Bool) (xs after : List Placed) → Avoids mark xs after → before mark (xs ++ after) ≡ xs ++ before mark after
