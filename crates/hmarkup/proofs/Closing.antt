@@ -31,7 +31,7 @@ two_dashes Dash = refl
 two_dashes Dashes = refl
 two_dashes Bang = refl
 
--- characters that are read before the closing text begin the longer closing text
+-- what completes a longer text completes the text, with the characters between them in front
 closed_sooner : {V : Type 0} (IsSpan : ℕ → List Placed → List Placed → V → List ParseError → Type 0) (text front closing : List Placed) → ClosedBy IsSpan (text ++ front) closing → ClosedBy IsSpan text (front ++ closing)
 closed_sooner IsSpan text front closing k = record {
   value = k.value;

@@ -1,6 +1,6 @@
 -- The last characters of a comment that has not ended, when one more comes.
 use Rattle.std.proofs.Common.{◌≡◌, ℕ, Bool, true, false, ◌⊎◌, eqb, List, [], ◌∷◌, ◌++◌, sym, refl, ◌∙◌, subst, append-nil, codes, arith, ◌≤◌, length}
-use Rattle.std.proofs.lemmas.Bool.{false≢true, eqb-true}
+use Rattle.std.proofs.lemmas.Bool.{false≢true, eqb-true, false_from_ne_true, or_from, or_parts}
 use mathlib.Core.Logic.{inl, inr}
 use lib.Utf8.{encode}
 use Rattle.names.specs.declared.placed.Placed.{Placed}
@@ -10,17 +10,17 @@ use Rattle.hmarkup.specs.declared.tail.Ending.TheVariants.{Plain, Dash, Dashes, 
 use Rattle.hmarkup.specs.Comment.{closes_comment, is_ending}
 use Rattle.hmarkup.specs.CommentWalk.{IsHeld, holds_nothing, holds_dash, holds_dashes, holds_bang}
 use Rattle.hmarkup.specs.Steps.{next_ending, decided}
-use Rattle.hmarkup.proofs.Marks.{front-less, front-longer, spells-more, neither, or_none, false_if}
+use Rattle.hmarkup.proofs.Marks.{front-less, front-longer, spells-more}
 
 -- one more character makes no mark within the data
 pub ending-more : (p q : Placed) (x : List Placed) → is_ending (q ∷ x) ≡ false → is_ending (q ∷ x) ≡ false → is_ending (q ∷ x ++ p ∷ []) ≡ false
-ending-more p q x h _ = false_if (is_ending (q ∷ x ++ p ∷ [])) (λ e. false≢true (sym h ∙ front-less (q ∷ x) p (codes "--!") e))
+ending-more p q x h _ = false_from_ne_true (is_ending (q ∷ x ++ p ∷ [])) (λ e. false≢true (sym h ∙ front-less (q ∷ x) p (codes "--!") e))
 
 pub closes-more : (p q : Placed) (x : List Placed) → is_ending (q ∷ x) ≡ false → closes_comment (q ∷ x) ≡ false → closes_comment (q ∷ x ++ p ∷ []) ≡ false
 closes-more p q x h k =
-    let parts = neither (spells (codes "-->") (q ∷ x)) (spells (codes "--!>") (q ∷ x)) k in
-    let short : is_front (q ∷ x) (codes "--") ≡ false = false_if (is_front (q ∷ x) (codes "--")) (λ e. false≢true (sym h ∙ front-longer (q ∷ x) (codes "--") (codes "!") e)) in
-    or_none (spells (codes "-->") (q ∷ x ++ p ∷ [])) (spells (codes "--!>") (q ∷ x ++ p ∷ []))
+    let parts = or_parts (spells (codes "-->") (q ∷ x)) (spells (codes "--!>") (q ∷ x)) k in
+    let short : is_front (q ∷ x) (codes "--") ≡ false = false_from_ne_true (is_front (q ∷ x) (codes "--")) (λ e. false≢true (sym h ∙ front-longer (q ∷ x) (codes "--") (codes "!") e)) in
+    or_from (spells (codes "-->") (q ∷ x ++ p ∷ [])) (spells (codes "--!>") (q ∷ x ++ p ∷ []))
     (spells-more (codes "--") 62 (q ∷ x) p short parts.0) (spells-more (codes "--!") 62 (q ∷ x) p h parts.1)
 
 -- The characters held, and one more: some are data now, and some are held.
