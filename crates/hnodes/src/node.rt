@@ -1,7 +1,7 @@
 //! Nodes and their numbers.
 
 ghost use Rattle.std.specs.Prelude.{◌≡◌, ◌<◌, OnOk, OnErr, IfErr, length};
-ghost use Rattle.hnodes.specs.Edits.{with_char, with_attribute};
+ghost use Rattle.hnodes.specs.Edits.{with_char, with_text, with_attribute};
 ghost use Rattle.hnodes.specs.Links.{alone, with_what};
 ghost use Rattle.hnodes.specs.Rows.{attribute_of, content_is, row_of, IsChanged, IsUnchanged};
 
@@ -97,6 +97,19 @@ pub(crate) fn push_char(nodes: &mut Vec<Node>, at: NodeId, c: char) -> Result<()
 {
     if let Content::Text(text) = &mut nodes[at.number as usize].content {
         text.push(c)?;
+    }
+    Ok(())
+}
+
+/// Adds a text at the end of a text.
+pub(crate) fn push_text(nodes: &mut Vec<Node>, at: NodeId, more: &str) -> Result<(), Refusal>
+    requires { at < length nodes.old.items }
+    ensures ok { OnOk result (IsChanged at (with_what (with_text more.now)) nodes.old.items nodes.new.items) }
+    ensures err { OnErr result (IsUnchanged nodes.old.items nodes.new.items) }
+    ensures memory { IfErr result (λ e. e ≡ Refusal.Memory) }
+{
+    if let Content::Text(text) = &mut nodes[at.number as usize].content {
+        text.push_str(more)?;
     }
     Ok(())
 }

@@ -1,17 +1,18 @@
 //! A tree as one value.
 
-ghost use Rattle.std.specs.Prelude.{◌≡◌, ◌<◌, ◌≤◌, ◌↔◌, ◌⊎◌, ℕ, Some, None, OnOk, OnErr, IfOk, IfErr, IfSome, IsSome, IsFalse, IsTrue, map, string_bytes, leb, if◌then◌else◌};
+ghost use Rattle.std.specs.Prelude.{◌≡◌, ◌<◌, ◌≤◌, ◌↔◌, ◌⊎◌, ℕ, Some, None, OnOk, OnErr, IfOk, IfErr, IfSome, IsSome, IsFalse, IsTrue, map, string_bytes, length, leb, if◌then◌else◌};
 ghost use Rattle.std.specs.Option.{option_map};
 ghost use Rattle.hnodes.specs.Forest.{document, doctype, element, comment, text, tree, none, change_what, IsOutside};
 ghost use Rattle.hnodes.specs.Spots.{parent_of, first_child_of, last_child_of, next_of, previous_of, kind_of, name_of, attributes_of, text_of, doctype_of};
-ghost use Rattle.hnodes.specs.Edits.{make, graft, graft_last, graft_before, move_all, add_attribute, add_char, with_char, text_before, IsPlace, place_node, AreNodes};
+ghost use Rattle.hnodes.specs.Edits.{make, graft, graft_last, graft_before, move_all, add_attribute, add_char, add_chars, with_char, with_text, text_before, IsPlace, place_node, AreNodes};
 ghost use Rattle.hnodes.specs.declared.node.Place.{Place};
 ghost use Rattle.hnodes.specs.Rows.{attribute_of, content_is, doctype_texts};
 ghost use Rattle.names.specs.declared.refusal.Refusal.TheVariants.{TooManyNodes, Memory};
 ghost use Rattle.std.specs.Char.{encode_utf8};
+ghost use Rattle.std.specs.Str.{chars};
 
 use crate::links::{detach, hook};
-use crate::node::{Content, Doctype, Kind, Node, NodeId, Place, push_attr, push_char};
+use crate::node::{Content, Doctype, Kind, Node, NodeId, Place, push_attr, push_char, push_text};
 use names::{Attr, NameId, Refusal};
 use std::alloc::{AllocError, Global};
 use std::marker::Model;
@@ -152,6 +153,20 @@ impl Tree {
         self.add(Content::Text(text))
     }
 
+    /// Makes a text, loose.
+    fn create_run(&mut self, run: &str, at: u64) -> Result<NodeId, Refusal>
+        ensures ok { OnOk result (self.new ≡ make (text run.now) self.old) }
+        ensures number { IfOk result (λ n. (n ≡ self.old.made) × (0 < n)) }
+        ensures outside { IfOk result (λ n. (k : ℕ) → k < n → IsOutside k n self.new.trees) }
+        ensures full { (result ≡ Err (TooManyNodes at)) ↔ (self.old.limit ≤ self.old.made) }
+        ensures refused { IfErr result (λ e. (e ≡ TooManyNodes at) ⊎ (e ≡ Memory)) }
+        ensures err { OnErr result (self.new ≡ self.old) }
+    {
+        self.room(at)?;
+        let run = String::from_str(self.alloc, run)?;
+        self.add(Content::Text(run))
+    }
+
     /// Whether one node more may be made.
     fn room(&self, at: u64) -> Result<(), Refusal>
         ensures { result ≡ (if leb self.now.limit self.now.made then Err (TooManyNodes at) else Ok tt) }
@@ -258,6 +273,40 @@ impl Tree {
         }
     }
 
+    /// Puts a text at a place, as `put_char` puts its characters one by one: at the end of the text right before the place, or
+    /// in a new text there. An empty text changes nothing.
+    pub fn put_text(&mut self, text: &str, place: Place, at: u64) -> Result<(), Refusal>
+        requires { IsPlace place self.old }
+        ensures ok { OnOk result (self.new ≡ add_chars (chars text.now) place self.old) }
+        ensures full { (result ≡ Err (TooManyNodes at)) ↔ ((0 < length text.now) × (text_before place self.old.trees ≡ None) × (self.old.limit ≤ self.old.made)) }
+        ensures refused { IfErr result (λ e. (e ≡ TooManyNodes at) ⊎ (e ≡ Memory)) }
+        ensures err { OnErr result (self.new ≡ self.old) }
+    {
+        if text.is_empty() {
+            return Ok(());
+        }
+        // A copy for the first of two calls.
+        let here = place;
+        match self.text_before(here) {
+            Some(before) => self.join(before, text),
+            None => {
+                let node = self.create_run(text, at)?;
+                self.insert(node, place);
+                Ok(())
+            }
+        }
+    }
+
+    /// Adds a text at the end of a text.
+    fn join(&mut self, before: NodeId, text: &str) -> Result<(), Refusal>
+        requires { before < self.old.made }
+        ensures ok { OnOk result (self.new ≡ record self.old { trees = change_what before (with_text text.now) self.old.trees }) }
+        ensures memory { IfErr result (λ e. e ≡ Memory) }
+        ensures err { OnErr result (self.new ≡ self.old) }
+    {
+        push_text(&mut self.nodes, before, text)
+    }
+
     /// One character more at the end of a text.
     fn lengthen(&mut self, text: NodeId, c: char) -> Result<(), Refusal>
         requires { text < self.old.made }
@@ -273,6 +322,7 @@ impl Tree {
         requires { IsPlace place self.now }
         ensures text { result ≡ text_before place self.now.trees }
         ensures within { IfSome result (λ n. n < self.now.made) }
+        ensures nodes { AreNodes self.now }
     {
         let before = match place {
             Place::LastIn(parent) => self.last_child(parent),
