@@ -5,6 +5,7 @@ ghost use Rattle.std.specs.Option.{option_map};
 ghost use Rattle.hnodes.specs.Forest.{document, doctype, element, comment, text, tree, none, change_what, IsOutside};
 ghost use Rattle.hnodes.specs.Spots.{parent_of, first_child_of, last_child_of, next_of, previous_of, kind_of, name_of, attributes_of, text_of, doctype_of};
 ghost use Rattle.hnodes.specs.Edits.{make, graft, graft_last, graft_before, move_all, add_attribute, add_char, add_chars, with_char, with_text, text_before, IsPlace, place_node, AreNodes};
+ghost use Rattle.hnodes.specs.Makes.{Makes};
 ghost use Rattle.hnodes.specs.declared.node.Place.{Place};
 ghost use Rattle.hnodes.specs.Rows.{attribute_of, content_is, doctype_texts};
 ghost use Rattle.names.specs.declared.refusal.Refusal.TheVariants.{TooManyNodes, Memory};
@@ -92,14 +93,7 @@ impl Tree {
         attrs: Vec<Attr>,
         at: u64,
     ) -> Result<NodeId, Refusal>
-        ensures ok { OnOk result (self.new ≡ make (element name (map attribute_of attrs.items)) self.old) }
-        ensures number { IfOk result (λ n. (n ≡ self.old.made) × (0 < n)) }
-        ensures outside { IfOk result (λ n. (k : ℕ) → k < n → IsOutside k n self.new.trees) }
-        ensures apart { IfOk result (λ n. (k : ℕ) → k < n → IsOutside n k self.new.trees) }
-        ensures places { IfOk result (λ n. (p : Place) → IsPlace p self.old → IsPlace p self.new) }
-        ensures full { (result ≡ Err (TooManyNodes at)) ↔ (self.old.limit ≤ self.old.made) }
-        ensures refused { IfErr result (λ e. (e ≡ TooManyNodes at) ⊎ (e ≡ Memory)) }
-        ensures err { OnErr result (self.new ≡ self.old) }
+        ensures { Makes (element name (map attribute_of attrs.items)) at self.old self.new result }
     {
         self.room(at)?;
         self.add(Content::Element(name, attrs))
@@ -107,14 +101,7 @@ impl Tree {
 
     /// A new comment, loose.
     pub fn create_comment(&mut self, text: String, at: u64) -> Result<NodeId, Refusal>
-        ensures ok { OnOk result (self.new ≡ make (comment (string_bytes text)) self.old) }
-        ensures number { IfOk result (λ n. (n ≡ self.old.made) × (0 < n)) }
-        ensures outside { IfOk result (λ n. (k : ℕ) → k < n → IsOutside k n self.new.trees) }
-        ensures apart { IfOk result (λ n. (k : ℕ) → k < n → IsOutside n k self.new.trees) }
-        ensures places { IfOk result (λ n. (p : Place) → IsPlace p self.old → IsPlace p self.new) }
-        ensures full { (result ≡ Err (TooManyNodes at)) ↔ (self.old.limit ≤ self.old.made) }
-        ensures refused { IfErr result (λ e. (e ≡ TooManyNodes at) ⊎ (e ≡ Memory)) }
-        ensures err { OnErr result (self.new ≡ self.old) }
+        ensures { Makes (comment (string_bytes text)) at self.old self.new result }
     {
         self.room(at)?;
         self.add(Content::Comment(text))
@@ -122,14 +109,7 @@ impl Tree {
 
     /// A new doctype, loose.
     pub fn create_doctype(&mut self, texts: Doctype, at: u64) -> Result<NodeId, Refusal>
-        ensures ok { OnOk result (self.new ≡ make (doctype (string_bytes texts.name) (string_bytes texts.public_id) (string_bytes texts.system_id)) self.old) }
-        ensures number { IfOk result (λ n. (n ≡ self.old.made) × (0 < n)) }
-        ensures outside { IfOk result (λ n. (k : ℕ) → k < n → IsOutside k n self.new.trees) }
-        ensures apart { IfOk result (λ n. (k : ℕ) → k < n → IsOutside n k self.new.trees) }
-        ensures places { IfOk result (λ n. (p : Place) → IsPlace p self.old → IsPlace p self.new) }
-        ensures full { (result ≡ Err (TooManyNodes at)) ↔ (self.old.limit ≤ self.old.made) }
-        ensures refused { IfErr result (λ e. (e ≡ TooManyNodes at) ⊎ (e ≡ Memory)) }
-        ensures err { OnErr result (self.new ≡ self.old) }
+        ensures { Makes (doctype (string_bytes texts.name) (string_bytes texts.public_id) (string_bytes texts.system_id)) at self.old self.new result }
     {
         self.room(at)?;
         let texts = Box::new(self.alloc, texts)?;
@@ -138,14 +118,7 @@ impl Tree {
 
     /// A new text of one character, loose.
     fn create_text(&mut self, c: char, at: u64) -> Result<NodeId, Refusal>
-        ensures ok { OnOk result (self.new ≡ make (text (encode_utf8 c)) self.old) }
-        ensures number { IfOk result (λ n. (n ≡ self.old.made) × (0 < n)) }
-        ensures outside { IfOk result (λ n. (k : ℕ) → k < n → IsOutside k n self.new.trees) }
-        ensures apart { IfOk result (λ n. (k : ℕ) → k < n → IsOutside n k self.new.trees) }
-        ensures places { IfOk result (λ n. (p : Place) → IsPlace p self.old → IsPlace p self.new) }
-        ensures full { (result ≡ Err (TooManyNodes at)) ↔ (self.old.limit ≤ self.old.made) }
-        ensures refused { IfErr result (λ e. (e ≡ TooManyNodes at) ⊎ (e ≡ Memory)) }
-        ensures err { OnErr result (self.new ≡ self.old) }
+        ensures { Makes (text (encode_utf8 c)) at self.old self.new result }
     {
         self.room(at)?;
         let mut text = String::new(self.alloc);
@@ -155,12 +128,7 @@ impl Tree {
 
     /// Makes a text, loose.
     fn create_run(&mut self, run: &str, at: u64) -> Result<NodeId, Refusal>
-        ensures ok { OnOk result (self.new ≡ make (text run.now) self.old) }
-        ensures number { IfOk result (λ n. (n ≡ self.old.made) × (0 < n)) }
-        ensures outside { IfOk result (λ n. (k : ℕ) → k < n → IsOutside k n self.new.trees) }
-        ensures full { (result ≡ Err (TooManyNodes at)) ↔ (self.old.limit ≤ self.old.made) }
-        ensures refused { IfErr result (λ e. (e ≡ TooManyNodes at) ⊎ (e ≡ Memory)) }
-        ensures err { OnErr result (self.new ≡ self.old) }
+        ensures { Makes (text run.now) at self.old self.new result }
     {
         self.room(at)?;
         let run = String::from_str(self.alloc, run)?;
