@@ -9,7 +9,7 @@ use names::{Attr, NameId, Refusal};
 use std::marker::Model;
 
 /// The number of a node of one tree, in the order in which its nodes were made. The document is the first, 0.
-#[derive(Clone, Copy, Debug, PartialEq, Eq)]
+#[derive(Clone, Copy, Debug, PartialEq, Eq, PartialOrd, Ord, Hash)]
 pub struct NodeId {
     pub(crate) number: u32,
 }
@@ -22,6 +22,15 @@ impl Model for NodeId {
     ghost view = { λ n. n.number };
 
     ghost inverse = { λ n. record { number = n } };
+}
+
+impl NodeId {
+    /// The number itself, to index a table with.
+    pub fn index(self) -> usize
+        ensures { result ≡ self }
+    {
+        self.number as usize
+    }
 }
 
 /// What kind a node is of.

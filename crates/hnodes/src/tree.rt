@@ -1,20 +1,21 @@
 //! A tree as one value.
 
-ghost use Rattle.std.specs.Prelude.{◌≡◌, ◌<◌, ◌≤◌, ◌↔◌, ◌⊎◌, ℕ, Some, None, OnOk, OnErr, IfOk, IfErr, IfSome, IsSome, IsFalse, IsTrue, map, string_bytes, length, leb, if◌then◌else◌};
+ghost use Rattle.std.specs.Prelude.{◌≡◌, ◌<◌, ◌≤◌, ◌↔◌, ◌⊎◌, ℕ, Some, None, OnOk, OnErr, IfOk, IfErr, IfSome, IsSome, IsFalse, IsTrue, map, string_bytes, length, leb, nat_eq, if◌then◌else◌};
 ghost use Rattle.std.specs.Option.{option_map};
 ghost use Rattle.hnodes.specs.Forest.{document, doctype, element, comment, text, tree, none, change_what, IsOutside};
-ghost use Rattle.hnodes.specs.Spots.{parent_of, first_child_of, last_child_of, next_of, previous_of, kind_of, name_of, attributes_of, text_of, doctype_of};
+ghost use Rattle.hnodes.specs.Spots.{parent_of, first_child_of, last_child_of, next_of, previous_of, kind_of, name_of, attributes_of, value_of, text_of, doctype_of};
 ghost use Rattle.hnodes.specs.Edits.{make, graft, graft_last, graft_before, move_all, add_attribute, add_char, add_chars, with_char, with_text, text_before, IsPlace, place_node, AreNodes};
 ghost use Rattle.hnodes.specs.Makes.{Makes};
 ghost use Rattle.hnodes.specs.declared.node.Place.{Place};
 ghost use Rattle.hnodes.specs.Rows.{attribute_of, content_is, doctype_texts};
+ghost use Rattle.names.specs.Tags.{tag_of};
 ghost use Rattle.names.specs.declared.refusal.Refusal.TheVariants.{TooManyNodes, Memory};
 ghost use Rattle.std.specs.Char.{encode_utf8};
 ghost use Rattle.std.specs.Str.{chars};
 
 use crate::links::{detach, hook};
 use crate::node::{Content, Doctype, Kind, Node, NodeId, Place, push_attr, push_char, push_text};
-use names::{Attr, NameId, Refusal};
+use names::{Attr, NameId, Refusal, Tag};
 use std::alloc::{AllocError, Global};
 use std::marker::Model;
 
@@ -413,6 +414,30 @@ impl Tree {
         match &self.nodes[at.number as usize].content {
             Content::Element(_, attrs) => Some(attrs),
             _ => None,
+        }
+    }
+
+    /// The value of an element's attribute.
+    pub fn attr(&self, at: NodeId, name: NameId) -> Option<&str>
+        requires { at < self.now.made }
+        ensures { option_map (λ value. value.now) result ≡ value_of (nat_eq name) at self.now.trees }
+    {
+        for attr in self.attrs(at)? {
+            if attr.name == name {
+                return Some(&attr.value);
+            }
+        }
+        None
+    }
+
+    /// Whether a node is an element of a known name; for `Tag::Other`, of a name that is not known.
+    pub fn is(&self, at: NodeId, tag: Tag) -> bool
+        requires { at < self.now.made }
+        ensures { IsTrue result ↔ (option_map tag_of (name_of at self.now.trees) ≡ Some tag) }
+    {
+        match self.name(at) {
+            Some(name) => name.tag() == tag,
+            None => false,
         }
     }
 
