@@ -14,7 +14,7 @@ use Rattle.hparse.specs.declared.token_run.TokenRun.{TokenRun}
 use Rattle.hparse.specs.Shown.{Shows, ran_out, refuses, accepts}
 use Rattle.hparse.specs.Fed.{HasRead, FeedsPiece, piece_ran_out, piece_refused, piece_read}
 use Rattle.hparse.specs.Calls.{counted}
-use Rattle.hparse.specs.Running.{Gave, IsRefusedFrom, ReadsDocument, reading_ran_out, reading_failed, reading_stopped, reading_refused, read_to_end}
+use Rattle.hparse.specs.Running.{Gave, IsRefusedFrom, IsUndecided, ReadsDocument, reading_ran_out, reading_failed, reading_stopped, reading_refused, read_to_end}
 use Rattle.hparse.proofs.Pieces.{has_read}
 
 -- The bytes that the reader gave have been read, at least one a turn, and no read has failed.
@@ -56,6 +56,9 @@ module _ {S : Type 0} (left : S → Option (List ℕ)) (failed : S → ℕ) (lim
       let each : turn ≤ length h.fed = h.each_turn in
       omega arith
 
+  undecided : IsUndecided limit h.fed
+  undecided = subst (λ (n : ℕ). IsUndecided n h.fed) h.has_read.limit_is h.has_read.fed.undecided
+
   module _ (piece : List ℕ) (given : Consumes (left now) (left new) piece) (count : failed new ≡ failed now) where
     given_more : Consumes (left old) (left new) (h.fed ++ piece)
     given_more = Consumes-trans (left old) (left now) (left new) h.fed piece h.given given
@@ -80,7 +83,7 @@ module _ {S : Type 0} (left : S → Option (List ℕ)) (failed : S → ℕ) (lim
     refused_turn most next e few (piece_ran_out is) = let why : e ≡ Memory = cc in reading_ran_out (ap (λ (x : Refusal). Err x) why) unfailed
     refused_turn most next e few (piece_refused refusal is refused) =
         let same : refusal ≡ e = cc in
-        reading_stopped e h.fed piece refl (record { given = given_more; unfailed = unfailed }) (subst (IsRefusedFrom limit (h.fed ++ piece)) same refused) few
+        reading_stopped e h.fed piece refl undecided (record { given = given_more; unfailed = unfailed }) (subst (IsRefusedFrom limit (h.fed ++ piece)) same refused) few
     refused_turn most next e few (piece_read is k) = absurd cc
 
     -- nothing was left
@@ -91,9 +94,9 @@ module _ {S : Type 0} (left : S → Option (List ℕ)) (failed : S → ℕ) (lim
 
       ended_by : Shows limit h.fed answer → ReadsDocument left failed most limit old new answer
       ended_by (ran_out e) = reading_ran_out e unfailed
-      ended_by (refuses refusal e refused) = reading_refused refusal h.fed e gave end refused
+      ended_by (refuses refusal e refused) = reading_refused refusal h.fed e undecided gave end refused
       ended_by (accepts run tokens e mean answers) = read_to_end run h.fed tokens e gave end answers mean
 
   -- the read failed
   pub failed_turn : (most : ℕ) → Keeps (left now) (left new) → failed new ≡ counted (failed now) → ReadsDocument left failed most limit old new (Err Read)
-  failed_turn most kept count = reading_failed h.fed refl (Consumes-kept (left old) (left now) (left new) h.fed h.given kept) (count ∙ ap counted h.unfailed)
+  failed_turn most kept count = reading_failed h.fed refl undecided (Consumes-kept (left old) (left now) (left new) h.fed h.given kept) (count ∙ ap counted h.unfailed)

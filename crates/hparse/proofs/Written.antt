@@ -29,29 +29,29 @@ module _ {W : Type 0} (written : W → Option (List ℕ)) (failed : W → ℕ) w
     -- there was nothing to write
     pub not_read : (target : W) (e : Refusal) → ReadsDocument left reads piece limit old new (Err e) → Runs left reads written failed piece limit old new target target (Err e)
     not_read target e (reading_ran_out is count) = run_ran_out (let why : e ≡ Memory = cc in ap (λ (x : Refusal). Err x) why) count (untouched target)
-    not_read target e (reading_failed bytes is given count) = read_failed bytes (let why : e ≡ Read = cc in ap (λ (x : Refusal). Err x) why) given count (untouched target)
-    not_read target e (reading_stopped refusal before last is gave from few) =
+    not_read target e (reading_failed bytes is undecided given count) = read_failed bytes (let why : e ≡ Read = cc in ap (λ (x : Refusal). Err x) why) undecided given count (untouched target)
+    not_read target e (reading_stopped refusal before last is undecided gave from few) =
         let same : refusal ≡ e = cc in
-        stopped refusal before last (ap (λ (x : Refusal). Err x) (sym same)) gave from few (untouched target)
-    not_read target e (reading_refused refusal bytes is gave end answers) =
+        stopped refusal before last (ap (λ (x : Refusal). Err x) (sym same)) undecided gave from few (untouched target)
+    not_read target e (reading_refused refusal bytes is undecided gave end answers) =
         let same : refusal ≡ e = cc in
-        refused refusal bytes (ap (λ (x : Refusal). Err x) (sym same)) gave end answers (untouched target)
+        refused refusal bytes (ap (λ (x : Refusal). Err x) (sym same)) undecided gave end answers (untouched target)
     not_read target e (read_to_end run bytes tokens is gave end answers mean) = absurd cc
 
     -- the tokens of a run that was read stand for some
     pub meant : (run : TokenRun) → ReadsDocument left reads piece limit old new (Ok run) → (tokens : List Tok) × TokensMean run.names run.tokens.items tokens
     meant run (reading_ran_out is count) = absurd cc
-    meant run (reading_failed bytes is given count) = absurd cc
-    meant run (reading_stopped refusal before last is gave from few) = absurd cc
-    meant run (reading_refused refusal bytes is gave end answers) = absurd cc
+    meant run (reading_failed bytes is undecided given count) = absurd cc
+    meant run (reading_stopped refusal before last is undecided gave from few) = absurd cc
+    meant run (reading_refused refusal bytes is undecided gave end answers) = absurd cc
     meant run (read_to_end other bytes tokens is gave end answers mean) =
         let same : other ≡ run = cc in (tokens, subst (λ (r : TokenRun). TokensMean r.names r.tokens.items tokens) same mean)
 
     unfailed_reads : (run : TokenRun) → ReadsDocument left reads piece limit old new (Ok run) → reads new ≡ reads old
     unfailed_reads run (reading_ran_out is count) = count
-    unfailed_reads run (reading_failed bytes is given count) = absurd cc
-    unfailed_reads run (reading_stopped refusal before last is gave from few) = gave.unfailed
-    unfailed_reads run (reading_refused refusal bytes is gave end answers) = gave.unfailed
+    unfailed_reads run (reading_failed bytes is undecided given count) = absurd cc
+    unfailed_reads run (reading_stopped refusal before last is undecided gave from few) = gave.unfailed
+    unfailed_reads run (reading_refused refusal bytes is undecided gave end answers) = gave.unfailed
     unfailed_reads run (read_to_end other bytes tokens is gave end answers mean) = gave.unfailed
 
     -- there was no memory for the lines
@@ -63,9 +63,9 @@ module _ {W : Type 0} (written : W → Option (List ℕ)) (failed : W → ℕ) w
         → ((tokens : List Tok) → TokensMean run.names run.tokens.items tokens → text ≡ token_lines tokens) → WritesText written failed text target target' answer
         → Runs left reads written failed piece limit old new target target' answer
     lines_written target target' run text answer (reading_ran_out is count) lines w = absurd cc
-    lines_written target target' run text answer (reading_failed bytes is given count) lines w = absurd cc
-    lines_written target target' run text answer (reading_stopped refusal before last is gave from few) lines w = absurd cc
-    lines_written target target' run text answer (reading_refused refusal bytes is gave end answers) lines w = absurd cc
+    lines_written target target' run text answer (reading_failed bytes is undecided given count) lines w = absurd cc
+    lines_written target target' run text answer (reading_stopped refusal before last is undecided gave from few) lines w = absurd cc
+    lines_written target target' run text answer (reading_refused refusal bytes is undecided gave end answers) lines w = absurd cc
     lines_written target target' run text answer (read_to_end other bytes tokens is gave end answers mean) lines w = ended w where
       same : other ≡ run
       same = cc

@@ -6,6 +6,7 @@ use Rattle.names.specs.declared.error.ParseError.{ParseError}
 use Rattle.names.specs.declared.refusal.Refusal.{Refusal}
 use Rattle.names.specs.declared.refusal.Refusal.TheVariants.{Memory, Read, Write}
 use Rattle.htoken.specs.Token.{Tok}
+use Rattle.htext.specs.Text.{StaysRefused}
 use Rattle.hparse.specs.declared.token_run.TokenRun.{TokenRun}
 use Rattle.hparse.specs.Answer.{Answers}
 use Rattle.hparse.specs.Calls.{counted}
@@ -21,18 +22,22 @@ pub record Gave {S : Type 0} (left : S → Option (List ℕ)) (failed : S → �
 abbrev pub IsRefusedFrom : ℕ → List ℕ → Refusal → Type 0
 IsRefusedFrom limit bytes refusal = (more : List ℕ) → Answers limit (bytes ++ more) (Err refusal)
 
+-- What follows these bytes decides whether and why they are refused.
+abbrev pub IsUndecided : ℕ → List ℕ → Type 0
+IsUndecided limit bytes = (refusal : Refusal) → StaysRefused limit bytes refusal → ⊥
+
 -- What reading a document in pieces of at most so many bytes does.
 pub data ReadsDocument {S : Type 0} (left : S → Option (List ℕ)) (failed : S → ℕ) (piece limit : ℕ) (old new : S) (answer : Result TokenRun Refusal) : Type 0 where
   -- memory ran out
   reading_ran_out : answer ≡ Err Memory → failed new ≡ failed old → ReadsDocument left failed piece limit old new answer
-  -- a read failed, and none was tried after it
-  reading_failed : (bytes : List ℕ) → answer ≡ Err Read → Consumes (left old) (left new) bytes → failed new ≡ counted (failed old)
+  -- a read failed, before any byte was refused, and none was tried after it
+  reading_failed : (bytes : List ℕ) → answer ≡ Err Read → IsUndecided limit bytes → Consumes (left old) (left new) bytes → failed new ≡ counted (failed old)
       → ReadsDocument left failed piece limit old new answer
   -- reading stopped after the piece that brought a refusal
-  reading_stopped : (refusal : Refusal) (before last : List ℕ) → answer ≡ Err refusal → Gave left failed old new (before ++ last)
+  reading_stopped : (refusal : Refusal) (before last : List ℕ) → answer ≡ Err refusal → IsUndecided limit before → Gave left failed old new (before ++ last)
       → IsRefusedFrom limit (before ++ last) refusal → length last ≤ piece → ReadsDocument left failed piece limit old new answer
   -- the document was read to its end, and is refused
-  reading_refused : (refusal : Refusal) (bytes : List ℕ) → answer ≡ Err refusal → Gave left failed old new bytes → IsAtEnd (left new)
+  reading_refused : (refusal : Refusal) (bytes : List ℕ) → answer ≡ Err refusal → IsUndecided limit bytes → Gave left failed old new bytes → IsAtEnd (left new)
       → Answers limit bytes (Err refusal) → ReadsDocument left failed piece limit old new answer
   -- the document was read to its end, and is accepted
   read_to_end : (run : TokenRun) (bytes : List ℕ) (tokens : List Tok) → answer ≡ Ok run → Gave left failed old new bytes → IsAtEnd (left new)
@@ -55,16 +60,16 @@ pub data Runs {S W : Type 0} (left : S → Option (List ℕ)) (failed_reads : S 
   -- memory ran out
   run_ran_out : answer ≡ Err Memory → failed_reads source' ≡ failed_reads source → WritesNothing written failed_writes target target'
       → Runs left failed_reads written failed_writes piece limit source source' target target' answer
-  -- a read failed, and none was tried after it
-  read_failed : (bytes : List ℕ) → answer ≡ Err Read → Consumes (left source) (left source') bytes
+  -- a read failed, before any byte was refused, and none was tried after it
+  read_failed : (bytes : List ℕ) → answer ≡ Err Read → IsUndecided limit bytes → Consumes (left source) (left source') bytes
       → failed_reads source' ≡ counted (failed_reads source) → WritesNothing written failed_writes target target'
       → Runs left failed_reads written failed_writes piece limit source source' target target' answer
   -- reading stopped after the piece that brought a refusal
-  stopped : (refusal : Refusal) (before last : List ℕ) → answer ≡ Err refusal → Gave left failed_reads source source' (before ++ last)
+  stopped : (refusal : Refusal) (before last : List ℕ) → answer ≡ Err refusal → IsUndecided limit before → Gave left failed_reads source source' (before ++ last)
       → IsRefusedFrom limit (before ++ last) refusal → length last ≤ piece → WritesNothing written failed_writes target target'
       → Runs left failed_reads written failed_writes piece limit source source' target target' answer
   -- the document was read to its end, and is refused
-  refused : (refusal : Refusal) (bytes : List ℕ) → answer ≡ Err refusal → Gave left failed_reads source source' bytes → IsAtEnd (left source')
+  refused : (refusal : Refusal) (bytes : List ℕ) → answer ≡ Err refusal → IsUndecided limit bytes → Gave left failed_reads source source' bytes → IsAtEnd (left source')
       → Answers limit bytes (Err refusal) → WritesNothing written failed_writes target target'
       → Runs left failed_reads written failed_writes piece limit source source' target target' answer
   -- a write failed, after the document was read to its end and a beginning of its lines was written

@@ -25,7 +25,7 @@ returns-in_err-feed-in-Some g c =
     let e = err_from_is_err_and c.from_residual-in_err-feed-in-Some.result c.from_residual-in_err-feed-in-Some.ensures.1 in
     let same = front_of_buffer c.in-Some.count c.loop-turn.buffer.len c.read.new.buffer (drop (length c.read.new.buffer) c.loop-turn.buffer.items) c.deref.result.now c.deref.ensures.value (c.read.auto.buffer ∙ c.deref_mut.ensures.len) in
     let few : length (take c.in-Some.count c.deref.result.now) ≤ c.args.piece =
-        subst (λ (bytes : List ℕ). length bytes ≤ c.args.piece) (sym same) (few_of_buffer c.in-Some.count c.args.piece c.read.new.buffer (c.read.auto.buffer ∙ c.deref_mut.ensures.len ∙ c.loop-turn.invariant.1) c.in-Some.ensures.bytes.0) in
+    subst (λ (bytes : List ℕ). length bytes ≤ c.args.piece) (sym same) (few_of_buffer c.in-Some.count c.args.piece c.read.new.buffer (c.read.auto.buffer ∙ c.deref_mut.ensures.len ∙ c.loop-turn.invariant.1) c.in-Some.ensures.bytes.0) in
     rw (e.1, e.2) (refused_turn g.S.Source.left g.S.Source.failed c.args.input_limit c.loop-turn._turn c.args.source.now c.loop-turn.source c.read.new.self c.loop-turn.reading h (take c.in-Some.count c.deref.result.now)
     (subst (Consumes (g.S.Source.left c.loop-turn.source) (g.S.Source.left c.read.new.self)) (sym same) c.in-Some.ensures.bytes.1) c.in-Some.ensures.count c.args.piece c.feed.new.self c.in_err-feed-in-Some.field-0.0 few
     (c.in_err-feed-in-Some.ensures c.args.input_limit h.fed h.has_read))
