@@ -111,5 +111,9 @@ closed_by_greater w text errs ch at is h = subst (λ (c : ℕ). (step w.phase (r
 
 pub closed_doctype : (w : Reading) (text closing : List Placed) (errs : List ParseError) → HasReadDoctype w text errs → characters closing ≡ codes ">" → ClosedBy IsDoctype text closing
 closed_doctype w text [] errs h is = absurd cc
-closed_doctype w text (p ∷ []) errs h is = record { value = _; errors = _; is_span = read_whole w text errs p h (closed_by_greater w text errs p.ch p.at (first_is p [] 62 [] is) h) }
+closed_doctype w text (p ∷ []) errs h is = record {
+  value = _;
+  errors = _;
+  is_span = read_whole w text errs p h (closed_by_greater w text errs p.ch p.at (first_is p [] 62 [] is) h);
+}
 closed_doctype w text (p ∷ q ∷ more) errs h is = absurd cc

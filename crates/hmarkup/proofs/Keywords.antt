@@ -257,7 +257,11 @@ module _ (known : Found) (end : ℕ) (rest : List Placed) (p : Placed) (ps : Lis
       → errors ≡ error InvalidCharacterSequenceAfterDoctypeName first ∷ later → null_errors (p ∷ []) ≡ [] → Stepped (goes_on_with (letters_of letters) next first) known end rest p ps found errors
   unfolding left_after
   keyword_fails letters first errors later None sp h e n = absurd (false≢true (sym sp))
-  keyword_fails letters first errors later (Some next) sp h e n = record { later = errors; errors_are = sym (plain_errors p n None errors); goes = fails later sp h e }
+  keyword_fails letters first errors later (Some next) sp h e n = record {
+    later = errors;
+    errors_are = sym (plain_errors p n None errors);
+    goes = fails later sp h e;
+  }
 
   pub from_keyword : (letters : Letters) (first : ℕ) (errors : List ParseError) (m g : Bool) → eqb (to_ascii_lowercase p.ch) (next_letter letters) ≡ m → is_greater p.ch ≡ g
       → IsInKeyword letters first known end rest (p ∷ ps) found errors → Stepped (in_keyword letters first m g) known end rest p ps found errors

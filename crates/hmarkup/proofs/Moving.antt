@@ -35,17 +35,81 @@ pub record Moves (ending : Ending) (held : List Placed) (p : Placed) : Type 0 wh
 
 pub moves_dash : (ending : Ending) (held : List Placed) (at : ℕ) → IsHeld ending held → Moves ending held (record { ch = 45; at = at })
 unfolding encode
-moves_dash ending held at holds_nothing = record { moved = []; left = record { ch = 45; at = at } ∷ []; split = refl; is_held = holds_dash at; no_close = tt; no_ending = tt; bytes_are = refl }
-moves_dash ending held at (holds_dash a) = record { moved = []; left = record { ch = 45; at = a } ∷ record { ch = 45; at = at } ∷ []; split = refl; is_held = holds_dashes a at; no_close = tt; no_ending = tt; bytes_are = refl }
-moves_dash ending held at (holds_dashes a b) = record { moved = record { ch = 45; at = a } ∷ []; left = record { ch = 45; at = b } ∷ record { ch = 45; at = at } ∷ []; split = refl; is_held = holds_dashes b at; no_close = (refl, tt); no_ending = (refl, tt); bytes_are = refl }
-moves_dash ending held at (holds_bang a b d) = record { moved = record { ch = 45; at = a } ∷ record { ch = 45; at = b } ∷ record { ch = 33; at = d } ∷ []; left = record { ch = 45; at = at } ∷ []; split = refl; is_held = holds_dash at; no_close = (refl, (refl, (refl, tt))); no_ending = (refl, (refl, (refl, tt))); bytes_are = refl }
+moves_dash ending held at holds_nothing = record {
+  moved = [];
+  left = record { ch = 45; at = at } ∷ [];
+  split = refl;
+  is_held = holds_dash at;
+  no_close = tt;
+  no_ending = tt;
+  bytes_are = refl;
+}
+moves_dash ending held at (holds_dash a) = record {
+  moved = [];
+  left = record { ch = 45; at = a } ∷ record { ch = 45; at = at } ∷ [];
+  split = refl;
+  is_held = holds_dashes a at;
+  no_close = tt;
+  no_ending = tt;
+  bytes_are = refl;
+}
+moves_dash ending held at (holds_dashes a b) = record {
+  moved = record { ch = 45; at = a } ∷ [];
+  left = record { ch = 45; at = b } ∷ record { ch = 45; at = at } ∷ [];
+  split = refl;
+  is_held = holds_dashes b at;
+  no_close = (refl, tt);
+  no_ending = (refl, tt);
+  bytes_are = refl;
+}
+moves_dash ending held at (holds_bang a b d) = record {
+  moved = record { ch = 45; at = a } ∷ record { ch = 45; at = b } ∷ record { ch = 33; at = d } ∷ [];
+  left = record { ch = 45; at = at } ∷ [];
+  split = refl;
+  is_held = holds_dash at;
+  no_close = (refl, (refl, (refl, tt)));
+  no_ending = (refl, (refl, (refl, tt)));
+  bytes_are = refl;
+}
 
 pub moves_bang : (ending : Ending) (held : List Placed) (at : ℕ) → IsHeld ending held → Moves ending held (record { ch = 33; at = at })
 unfolding encode
-moves_bang ending held at holds_nothing = record { moved = record { ch = 33; at = at } ∷ []; left = []; split = refl; is_held = holds_nothing; no_close = (refl, tt); no_ending = (refl, tt); bytes_are = refl }
-moves_bang ending held at (holds_dash a) = record { moved = record { ch = 45; at = a } ∷ record { ch = 33; at = at } ∷ []; left = []; split = refl; is_held = holds_nothing; no_close = (refl, (refl, tt)); no_ending = (refl, (refl, tt)); bytes_are = refl }
-moves_bang ending held at (holds_dashes a b) = record { moved = []; left = record { ch = 45; at = a } ∷ record { ch = 45; at = b } ∷ record { ch = 33; at = at } ∷ []; split = refl; is_held = holds_bang a b at; no_close = tt; no_ending = tt; bytes_are = refl }
-moves_bang ending held at (holds_bang a b d) = record { moved = record { ch = 45; at = a } ∷ record { ch = 45; at = b } ∷ record { ch = 33; at = d } ∷ record { ch = 33; at = at } ∷ []; left = []; split = refl; is_held = holds_nothing; no_close = (refl, (refl, (refl, (refl, tt)))); no_ending = (refl, (refl, (refl, (refl, tt)))); bytes_are = refl }
+moves_bang ending held at holds_nothing = record {
+  moved = record { ch = 33; at = at } ∷ [];
+  left = [];
+  split = refl;
+  is_held = holds_nothing;
+  no_close = (refl, tt);
+  no_ending = (refl, tt);
+  bytes_are = refl;
+}
+moves_bang ending held at (holds_dash a) = record {
+  moved = record { ch = 45; at = a } ∷ record { ch = 33; at = at } ∷ [];
+  left = [];
+  split = refl;
+  is_held = holds_nothing;
+  no_close = (refl, (refl, tt));
+  no_ending = (refl, (refl, tt));
+  bytes_are = refl;
+}
+moves_bang ending held at (holds_dashes a b) = record {
+  moved = [];
+  left = record { ch = 45; at = a } ∷ record { ch = 45; at = b } ∷ record { ch = 33; at = at } ∷ [];
+  split = refl;
+  is_held = holds_bang a b at;
+  no_close = tt;
+  no_ending = tt;
+  bytes_are = refl;
+}
+moves_bang ending held at (holds_bang a b d) = record {
+  moved = record { ch = 45; at = a } ∷ record { ch = 45; at = b } ∷ record { ch = 33; at = d } ∷ record { ch = 33; at = at } ∷ [];
+  left = [];
+  split = refl;
+  is_held = holds_nothing;
+  no_close = (refl, (refl, (refl, (refl, tt))));
+  no_ending = (refl, (refl, (refl, (refl, tt))));
+  bytes_are = refl;
+}
 
 -- whether a `>` right after it closes the comment
 abbrev pub closes : Ending → Bool
@@ -56,10 +120,46 @@ closes Bang = true
 
 pub moves_other : (ending : Ending) (held : List Placed) (p : Placed) → eqb p.ch 45 ≡ false → eqb p.ch 33 ≡ false → (closes ending ≡ true → eqb p.ch 62 ≡ false) → IsHeld ending held → Moves ending held p
 unfolding encode
-moves_other ending held p n45 n33 n62 holds_nothing = record { moved = p ∷ []; left = []; split = refl; is_held = simp (n45, n33) holds_nothing; no_close = (simp (n45), tt); no_ending = (simp (n45), tt); bytes_are = simp (n45, n33, append-nil) }
-moves_other ending held p n45 n33 n62 (holds_dash a) = record { moved = record { ch = 45; at = a } ∷ p ∷ []; left = []; split = refl; is_held = simp (n45, n33) holds_nothing; no_close = (simp (n45), (simp (n45), tt)); no_ending = (simp (n45), (simp (n45), tt)); bytes_are = simp (n45, n33, append-nil) }
-moves_other ending held p n45 n33 n62 (holds_dashes a b) = let n62 = n62 refl in record { moved = record { ch = 45; at = a } ∷ record { ch = 45; at = b } ∷ p ∷ []; left = []; split = refl; is_held = simp (n45, n33) holds_nothing; no_close = (simp (n33, n62), (simp (n45), (simp (n45), tt))); no_ending = (simp (n33), (simp (n45), (simp (n45), tt))); bytes_are = simp (n45, n33, append-nil) }
-moves_other ending held p n45 n33 n62 (holds_bang a b d) = let n62 = n62 refl in record { moved = record { ch = 45; at = a } ∷ record { ch = 45; at = b } ∷ record { ch = 33; at = d } ∷ p ∷ []; left = []; split = refl; is_held = simp (n45, n33) holds_nothing; no_close = (simp (n62), (refl, (refl, (simp (n45), tt)))); no_ending = (refl, (refl, (refl, (simp (n45), tt)))); bytes_are = simp (n45, n33, append-nil) }
+moves_other ending held p n45 n33 n62 holds_nothing = record {
+  moved = p ∷ [];
+  left = [];
+  split = refl;
+  is_held = simp (n45, n33) holds_nothing;
+  no_close = (simp (n45), tt);
+  no_ending = (simp (n45), tt);
+  bytes_are = simp (n45, n33, append-nil);
+}
+moves_other ending held p n45 n33 n62 (holds_dash a) = record {
+  moved = record { ch = 45; at = a } ∷ p ∷ [];
+  left = [];
+  split = refl;
+  is_held = simp (n45, n33) holds_nothing;
+  no_close = (simp (n45), (simp (n45), tt));
+  no_ending = (simp (n45), (simp (n45), tt));
+  bytes_are = simp (n45, n33, append-nil);
+}
+moves_other ending held p n45 n33 n62 (holds_dashes a b) =
+    let n62 = n62 refl in
+    record {
+      moved = record { ch = 45; at = a } ∷ record { ch = 45; at = b } ∷ p ∷ [];
+      left = [];
+      split = refl;
+      is_held = simp (n45, n33) holds_nothing;
+      no_close = (simp (n33, n62), (simp (n45), (simp (n45), tt)));
+      no_ending = (simp (n33), (simp (n45), (simp (n45), tt)));
+      bytes_are = simp (n45, n33, append-nil);
+    }
+moves_other ending held p n45 n33 n62 (holds_bang a b d) =
+    let n62 = n62 refl in
+    record {
+      moved = record { ch = 45; at = a } ∷ record { ch = 45; at = b } ∷ record { ch = 33; at = d } ∷ p ∷ [];
+      left = [];
+      split = refl;
+      is_held = simp (n45, n33) holds_nothing;
+      no_close = (simp (n62), (refl, (refl, (simp (n45), tt))));
+      no_ending = (refl, (refl, (refl, (simp (n45), tt))));
+      bytes_are = simp (n45, n33, append-nil);
+    }
 
 on_tests : (ending : Ending) (held : List Placed) (ch at : ℕ) → (closes ending ≡ true → eqb ch 62 ≡ false) → IsHeld ending held
     → (dash bang : Bool) → eqb ch 45 ≡ dash → eqb ch 33 ≡ bang → Moves ending held (record { ch = ch; at = at })

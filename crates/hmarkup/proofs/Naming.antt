@@ -127,7 +127,11 @@ module _ (known : Found) (end : ℕ) (rest : List Placed) (p : Placed) (ps : Lis
             ∙ sym (append_assoc (fault_errors fault) (null_errors (p ∷ [])) k.0);
         goes = k.2;
       }
-  from_opening errors spaced true es eg (nameless c f e) = record { later = []; errors_are = e ∙ sym (plain_errors p (greater_error p eg) (Some (error MissingDoctypeName p.at)) []); goes = ((only_greater p ps c).1, f, refl) }
+  from_opening errors spaced true es eg (nameless c f e) = record {
+    later = [];
+    errors_are = e ∙ sym (plain_errors p (greater_error p eg) (Some (error MissingDoctypeName p.at)) []);
+    goes = ((only_greater p ps c).1, f, refl);
+  }
   from_opening errors spaced false es eg (nameless c f e) = absurd (false≢true (sym eg ∙ (only_greater p ps c).0))
   from_opening errors spaced g es eg (unfinished r t f e) = absurd cc
 

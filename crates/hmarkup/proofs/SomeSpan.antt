@@ -24,10 +24,24 @@ use Rattle.hmarkup.proofs.Reading.{read_nothing, read_more, read_whole, read_to_
 module _ {V : Type 0} (Spans : ℕ → List Placed → List Placed → V → List ParseError → Type 0) (end : ℕ) (text : List Placed) (p : Placed) (ps : List Placed) where
   -- the span ends with `p`, or goes on after it
   abbrev pub ends_now : (value : V) (errors : List ParseError) → Spans end ps (text ++ p ∷ []) value errors → HasSpan Spans end (text ++ p ∷ ps)
-  ends_now value errors h = record { span = text ++ p ∷ []; rest = ps; value = value; errors = errors; text_is = sym (append_assoc text (p ∷ []) ps); is_span = h }
+  ends_now value errors h = record {
+    span = text ++ p ∷ [];
+    rest = ps;
+    value = value;
+    errors = errors;
+    text_is = sym (append_assoc text (p ∷ []) ps);
+    is_span = h;
+  }
 
   abbrev pub ends_later : HasSpan Spans end ((text ++ p ∷ []) ++ ps) → HasSpan Spans end (text ++ p ∷ ps)
-  ends_later k = record { span = k.span; rest = k.rest; value = k.value; errors = k.errors; text_is = sym (append_assoc text (p ∷ []) ps) ∙ k.text_is; is_span = k.is_span }
+  ends_later k = record {
+    span = k.span;
+    rest = k.rest;
+    value = k.value;
+    errors = k.errors;
+    text_is = sym (append_assoc text (p ∷ []) ps) ∙ k.text_is;
+    is_span = k.is_span;
+  }
 
 -- doctypes
 module _ (end : ℕ) where

@@ -19,7 +19,11 @@ pub record Told : Type 0 where
 
 abbrev pub told_by : Bool → Bool → ℕ → List Placed → List Placed → List Placed → Told
 told_by true bang end whole inner close = record { size = length inner + 3; bytes = text_bytes inner; last = [] }
-told_by false true end whole inner close = record { size = length inner + 4; bytes = text_bytes inner; last = error IncorrectlyClosedComment (place end (drop 3 close)) ∷ [] }
+told_by false true end whole inner close = record {
+  size = length inner + 4;
+  bytes = text_bytes inner;
+  last = error IncorrectlyClosedComment (place end (drop 3 close)) ∷ [];
+}
 told_by false false end whole inner close = record { size = length whole; bytes = text_bytes (before is_ending whole); last = error EofInComment end ∷ [] }
 
 abbrev pub told_at : ℕ → List Placed → List Placed → List Placed → Told

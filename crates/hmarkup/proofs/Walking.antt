@@ -52,7 +52,12 @@ opening_on_tests : (o : Opening) (seen : List Placed) (ch at : ℕ) → IsOpenin
 opening_on_tests o seen ch at h true bang less e f g = subst (λ (c : ℕ). IsOpening (next_opening o c) (record { ch = c; at = at } ∷ seen)) (sym (eqb-true ch 45 e)) (opening_dash o at seen h)
 opening_on_tests o seen ch at h false true less e f g = subst (λ (c : ℕ). IsOpening (next_opening o c) (record { ch = c; at = at } ∷ seen)) (sym (eqb-true ch 33 f)) (opening_bang o at seen h)
 opening_on_tests o seen ch at h false false true e f g = subst (λ (c : ℕ). IsOpening (next_opening o c) (record { ch = c; at = at } ∷ seen)) (sym (eqb-true ch 60 g)) (record { less = refl; less_bang = refl; less_bang_dash = refl; whole = refl })
-opening_on_tests o seen ch at h false false false e f g = record { less = simp (e, f, g); less_bang = simp (e, f, g); less_bang_dash = simp (e, f, g); whole = simp (e, f, g) }
+opening_on_tests o seen ch at h false false false e f g = record {
+  less = simp (e, f, g);
+  less_bang = simp (e, f, g);
+  less_bang_dash = simp (e, f, g);
+  whole = simp (e, f, g);
+}
 
 pub opening-next : (o : Opening) (seen : List Placed) (ch at : ℕ) → IsOpening o seen → IsOpening (next_opening o ch) (record { ch = ch; at = at } ∷ seen)
 opening-next o seen ch at h = opening_on_tests o seen ch at h (eqb ch 45) (eqb ch 33) (eqb ch 60) refl refl refl
