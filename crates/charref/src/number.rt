@@ -2,10 +2,10 @@
 
 ghost use Rattle.std.specs.Prelude.{◌≡◌, ◌+◌, ◌*◌, ◌≤◌, ◌<◌, true, false, min, MatchOption};
 ghost use Rattle.charref.specs.Reference.{numbered, number_fault, replaced, replacements, is_surrogate, is_control, digit_value};
-ghost use Rattle.names.specs.Placed.{is_noncharacter, is_space};
+ghost use Rattle.names.specs.Placed.{is_space};
 ghost use Rattle.charref.specs.Number.{is_digit_of, radix};
 
-use names::ErrorCode;
+use names::{ErrorCode, is_noncharacter};
 
 /// The base in which a number is written.
 #[derive(Clone, Copy, Debug)]
@@ -48,12 +48,6 @@ fn is_surrogate(value: u32) -> bool
     ensures { result ≡ is_surrogate value }
 {
     0xD800 <= value && value <= 0xDFFF
-}
-
-fn is_noncharacter(value: u32) -> bool
-    ensures { result ≡ is_noncharacter value }
-{
-    0xFDD0 <= value && value <= 0xFDEF || value % 0x1_0000 >= 0xFFFE
 }
 
 fn is_control(value: u32) -> bool

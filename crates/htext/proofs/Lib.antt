@@ -4,4 +4,5 @@ pub mod Refusals
 pub mod Deciding
 pub mod Texts
 pub mod Handing
+pub mod Runs
 pub mod Feeding

@@ -1,6 +1,7 @@
 //! How far an input has been read.
 
-ghost use Rattle.std.specs.Prelude.{◌≡◌, ℕ, ◌+◌, ◌-◌, ◌≤◌, ◌++◌, List, length, take, drop, Ok, Err, IfOk, OnOk, MatchResult};
+ghost use Rattle.std.specs.Prelude.{◌≡◌, ℕ, ◌+◌, ◌-◌, ◌<◌, ◌≤◌, ◌++◌, true, false, List, length, take, drop, Ok, Err, IfOk, OnOk, MatchResult};
+ghost use Rattle.std.specs.List.{list_all};
 ghost use Rattle.std.specs.Str.{chars};
 ghost use Rattle.std.specs.Str.Lossy.{utf8_valid_len};
 ghost use Rattle.names.specs.Placed.{placed};
@@ -9,11 +10,13 @@ ghost use Rattle.names.specs.declared.refusal.Refusal.{Refusal as Refused};
 ghost use Rattle.htext.specs.declared.decoder.TheConstants.{MAX_INPUT};
 ghost use Rattle.htext.specs.Text.{normalized, ends_in_return, settled_refusal, StaysRefused};
 ghost use Rattle.htext.specs.Items.{items};
+ghost use Rattle.htext.specs.Run.{is_plain_byte};
 ghost use Rattle.htext.specs.Decoding.{HasRead, Feeds, HandsNew};
 
 use crate::Bom;
 use crate::character::hand_char;
 use crate::decoder::MAX_INPUT;
+use crate::run::plain_run;
 use crate::sink::CharSink;
 use names::Refusal;
 use simdutf8::compat::from_utf8;
@@ -71,15 +74,39 @@ impl Reading {
         ensures bom { self.new.bom ≡ self.old.bom }
         ensures limit { self.new.limit ≡ self.old.limit }
     {
-        let base = self.read;
+        let mut rest = text;
+        let mut place = self.read;
         let mut after_return = self.after_return;
-        for (index, ch) in text.char_indices() {
-            hand_char(self.bom, after_return, ch, base + index as u64, sink)?;
+        while let Some(ch) = rest.chars().next() {
+            let run = run_at(rest, after_return);
+            if run > 0 {
+                sink.take_run(&rest.as_bytes()[..run], place)?;
+                place += run as u64;
+                rest = &rest[run..];
+                continue;
+            }
+            hand_char(self.bom, after_return, ch, place, sink)?;
             after_return = ch == '\r';
+            place += ch.len_utf8() as u64;
+            rest = &rest[ch.len_utf8()..];
         }
         self.after_return = after_return;
-        self.read += text.len() as u64;
+        self.read = place;
         Ok(())
+    }
+}
+
+/// How many plain characters stand at the front of a text; none after a CR, where an LF is not handed over.
+#[inline]
+fn run_at(text: &str, after_return: bool) -> usize
+    ensures within { result ≤ length text.now }
+    ensures plain { list_all is_plain_byte (take result text.now) ≡ true }
+    ensures after_return { 0 < result → after_return ≡ false }
+{
+    if after_return {
+        0
+    } else {
+        plain_run(text.as_bytes())
     }
 }
 

@@ -1,5 +1,5 @@
 // Worked rows, each read whole, cut at every byte, and byte by byte.
-use crate::{Bom, CharSink, Decoder, MAX_INPUT};
+use crate::{Bom, CharSink, Decoder, MAX_INPUT, plain_run};
 use names::{ErrorCode, ParseError, Refusal};
 use std::alloc::Global;
 use std::process::Abort;
@@ -264,4 +264,38 @@ fn a_sink_refuses(rt: HostRuntime) -> Result<(), Fail> {
         answer: Err(Refusal::TooDeep { at: 1 }),
     };
     check(&rt, rt.alloc(), &row)
+}
+
+// A byte that is not plain ends a run at each place, for lengths below and above those of a step.
+#[test]
+fn plain_runs_are_counted(rt: HostRuntime) -> Result<(), Fail> {
+    let alloc = rt.alloc();
+    let stops = [0, 8, 11, 13, 14, 31, b'&', b'<', 0x7F, 0x80, 0xC2, 0xFF];
+    let plain = [
+        b'\t', b'\n', 0x0C, b' ', b'%', b'\'', b';', b'=', b'~', b'a',
+    ];
+    let mut text: Vec<u8> = Vec::new(alloc);
+    for length in 0..101 {
+        assert_eq!(rt; plain_run(&text), length);
+        for place in 0..length {
+            let mut changed = Vec::from_slice(alloc, &text)?;
+            if let Some(byte) = changed.get_mut(place) {
+                *byte = stops[(length + place) % stops.len()];
+            }
+            assert_eq!(rt; plain_run(&changed), place);
+        }
+        text.push(plain[length % plain.len()])?;
+    }
+    for byte in 0..=255_u8 {
+        let is_plain = match byte {
+            b'<' | b'&' => false,
+            b'\t' | b'\n' | 0x0C => true,
+            _ => (0x20..=0x7E).contains(&byte),
+        };
+        assert_eq!(rt;
+            plain_run(&[byte, b'a', b'<']),
+            if is_plain { 2 } else { 0 }
+        );
+    }
+    Ok(())
 }
