@@ -1,10 +1,11 @@
 -- Where a child of a node stands.
-use Rattle.std.proofs.Common.{◌≡◌, ℕ, ◌+◌, ◌<◌, Bool, true, false, eqb, cond, Option, Some, None, refl, sym, ◌∙◌, ap, subst, arith}
+use Rattle.std.proofs.Common.{◌≡◌, ℕ, ◌+◌, ◌<◌, ◌≤◌, Bool, true, false, eqb, cond, Option, Some, None, refl, sym, ◌∙◌, ap, subst, arith}
 use Rattle.std.proofs.lemmas.Bool.{eqb-true, eq-eqb}
 use Rattle.hnodes.specs.Forest.{What, Forest, none, tree, times, join, children_of}
-use Rattle.hnodes.specs.Spots.{Spot, spot_below, spot_of, last_or}
+use Rattle.hnodes.specs.Spots.{Spot, spot_below, spot_of, either_of, last_or}
 use Rattle.hnodes.proofs.Forests.{times-join, join-none, children_of-absent}
 use Rattle.hnodes.proofs.Spots.{either-none, spot_below-absent, spot_of-absent}
+use Rattle.hnodes.proofs.Fresh.{spot_of-join}
 use Rattle.hnodes.proofs.Families.{Sited, at_root, in_kids, in_rest, sited, children-among}
 
 module _ {N : Type 0} (n q : ℕ) (w : What N) (L k R : Forest N) where
@@ -105,3 +106,13 @@ module _ {N : Type 0} (n q : ℕ) (w : What N) where
           under true e = absurd (let one' : 1 + (times q kids + times q rest) ≡ 1 = subst (λ (u : Bool). cond u 1 0 + (times q kids + times q rest) ≡ 1) e one in omega arith)
           under false e = join-none (children_of q kids) ∙ same
       go r (of_rest j o y a same) = rw (spot_below-absent n None None (tree b v kids none) (rw j (omega arith))) (r a y same)
+
+-- a root has neither parent nor siblings
+pub root-spot : {N : Type 0} (n : ℕ) (w : What N) (L k R f : Forest N) → times n f ≤ 1 → f ≡ join L (tree n w k R) → spot_of n f ≡ Some (record { parent = None; before = None; what = w; children = k; after = none })
+root-spot {N} n w L k R f few is = ap (spot_of n) is ∙ spot_of-join n L (tree n w k R) ∙ alone (left_out (ap (times n) is))
+  where
+    left_out : times n f ≡ times n (join L (tree n w k R)) → times n L ≡ 0
+    left_out e = let one : times n (tree n w k R) ≡ 1 + (times n k + times n R) = rw (eq-eqb n n refl) refl in omega (arith, times-join n L (tree n w k R))
+
+    alone : times n L ≡ 0 → either_of (spot_of n L) (spot_of n (tree n w k R)) ≡ Some (record { parent = None; before = None; what = w; children = k; after = none })
+    alone out = rw (spot_of-absent n L out, eq-eqb n n refl) refl

@@ -32,3 +32,4 @@ pub mod Children
 pub mod Respots
 pub mod Placed
 pub mod Runs
+pub mod Siblings

@@ -9,6 +9,7 @@ mod plain;
 #[cfg(test)]
 mod tests;
 mod tree;
+mod walks;
 
 pub use laws::{edits_know_no_names, questions_know_no_names};
 pub use node::{Doctype, Kind, NodeId, Place};

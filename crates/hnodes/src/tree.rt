@@ -17,6 +17,7 @@ use crate::links::{detach, hook};
 use crate::node::{Content, Doctype, Kind, Node, NodeId, Place, push_attr, push_char, push_text};
 use names::{Attr, NameId, Refusal, Tag};
 use std::alloc::{AllocError, Global};
+use std::fmt;
 use std::marker::Model;
 
 /// The tree of a document, and the nodes that are not in it yet. Each node takes 80 bytes, beside what its texts and attributes
@@ -462,5 +463,15 @@ impl Tree {
             Content::Doctype(texts) => Some(texts),
             _ => None,
         }
+    }
+}
+
+/// The counts alone: a tree may have millions of nodes.
+impl fmt::Debug for Tree {
+    fn fmt<W: fmt::Write>(&self, f: &mut fmt::Formatter<W>) -> fmt::Result {
+        f.debug_struct("Tree")
+            .field("made", &self.nodes.len())
+            .field("limit", &self.limit)
+            .finish_non_exhaustive()
     }
 }

@@ -1,0 +1,56 @@
+//! Walks over the nodes of a tree.
+
+ghost use Rattle.std.specs.Prelude.{◌≡◌, ◌<◌};
+ghost use Rattle.hnodes.specs.Forest.{roots, children_of};
+
+use crate::node::NodeId;
+use crate::tree::Tree;
+use std::marker::Model;
+
+/// The children of a node, in their order. From [`Tree::children`].
+#[derive(Drop)]
+pub struct Children<'a> {
+    tree: &'a Tree,
+    next: Option<NodeId>,
+}
+
+impl<'a> Model for Children<'a> {
+    ghost use Rattle.std.specs.Prelude.{ℕ, List, ◌<◌, IfSome};
+    ghost use Rattle.hnodes.specs.Passed.{siblings_from};
+
+    ghost Value = { List ℕ };
+
+    ghost view = { λ s. siblings_from s.next s.tree.now.trees };
+
+    ghost invariant = { λ s. IfSome s.next (λ n. n < s.tree.now.made) };
+}
+
+impl Tree {
+    /// The children of a node, in their order.
+    pub fn children(&self, at: NodeId) -> Children
+        requires { at < self.now.made }
+        ensures { result ≡ roots (children_of at self.now.trees) }
+    {
+        Children {
+            tree: self,
+            next: self.first_child(at),
+        }
+    }
+}
+
+impl<'a> Iterator for Children<'a> {
+    ghost use Rattle.std.specs.Prelude.{length};
+    ghost use Rattle.std.specs.Iterator.{YieldsFirst, at_most};
+
+    type Item = NodeId;
+
+    ghost next_gives = { YieldsFirst (λ s. s) };
+
+    ghost remaining = { λ s. at_most (length s) };
+
+    fn next(&mut self) -> Option<NodeId> {
+        let node = self.next?;
+        self.next = self.tree.next(node);
+        Some(node)
+    }
+}
