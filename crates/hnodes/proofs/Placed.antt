@@ -13,7 +13,7 @@ use Rattle.hnodes.proofs.Families.{Sited, at_root, in_kids, in_rest, sited, last
 use Rattle.hnodes.proofs.Counts.{hung, times-hung, times-put}
 use Rattle.hnodes.proofs.Counted.{at-most, is-there, not-there}
 use Rattle.hnodes.proofs.Fresh.{tree_at-join}
-use Rattle.hnodes.proofs.Children.{child-spot, root-spot}
+use Rattle.hnodes.proofs.ChildSpots.{child-spot, root-spot}
 use Rattle.hnodes.proofs.Respots.{IsTextBefore}
 
 module _ {N : Type 0} where

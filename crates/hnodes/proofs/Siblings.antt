@@ -9,7 +9,7 @@ use Rattle.hnodes.proofs.Forests.{times-join, join-assoc}
 use Rattle.hnodes.proofs.Levels.{level, Here, Below}
 use Rattle.hnodes.proofs.Families.{first_child-is, children-among}
 use Rattle.hnodes.proofs.Counted.{at-most, is-there, one-there, was-made}
-use Rattle.hnodes.proofs.Children.{child-spot, root-spot}
+use Rattle.hnodes.proofs.ChildSpots.{child-spot, root-spot}
 
 module _ {N : Type 0} (made : ℕ) (f : Forest N) (counted : AreCounted made f) where
   -- a child, and those after it

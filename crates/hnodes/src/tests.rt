@@ -310,7 +310,7 @@ fn text_tested(tree: &Tree, node: NodeId) -> Option<&str> {
 }
 
 #[test]
-fn children_come_in_their_order(rt: HostRuntime) -> Result<(), Fail> {
+fn children_and_ancestors_come_in_their_order(rt: HostRuntime) -> Result<(), Fail> {
     let tree = family(4, rt.alloc())?;
     let mut found = Vec::new(rt.alloc());
     let first = NodeId { number: 1 };
@@ -320,6 +320,13 @@ fn children_come_in_their_order(rt: HostRuntime) -> Result<(), Fail> {
         }
     }
     assert!(rt; found.as_slice() == [2, 3, 4].as_slice());
+    let last = NodeId { number: 4 };
+    if tree.has(last) {
+        for node in tree.ancestors(last) {
+            found.push(node.index())?;
+        }
+    }
+    assert!(rt; found.as_slice() == [2, 3, 4, 1, 0].as_slice());
     Ok(())
 }
 
