@@ -28,7 +28,9 @@ pub mod Deep
 pub mod DeepEdits
 pub mod Counted
 pub mod Outside
-pub mod Children
+pub mod ChildSpots
 pub mod Respots
 pub mod Placed
 pub mod Runs
+pub mod Siblings
+pub mod WaysUp

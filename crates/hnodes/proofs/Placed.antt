@@ -1,20 +1,19 @@
 -- A new node at a place: where it stands, and that a change of it changes what came there.
-use Rattle.std.proofs.Common.{◌≡◌, ◌≢◌, ℕ, ◌+◌, ◌<◌, ◌≤◌, Bool, true, false, eqb, cond, List, Option, Some, None, refl, sym, ◌∙◌, ap, subst, arith, option_and_then, IsSome, ◌⊎◌, inl, inr}
+use Rattle.std.proofs.Common.{◌≡◌, ◌≢◌, ℕ, ◌+◌, ◌<◌, Bool, true, false, eqb, cond, List, Option, Some, None, refl, sym, ◌∙◌, ap, subst, arith, option_and_then, IsSome, ◌⊎◌, inl, inr}
 use Rattle.std.proofs.lemmas.Bool.{eq-eqb, ne_eqb}
 use Rattle.std.specs.Option.{option_map}
 use Rattle.hnodes.specs.Forest.{What, text, Forest, none, tree, times, join, tree_at, cut, children_of, change_children, change_what, put_before}
-use Rattle.hnodes.specs.Spots.{Spot, spot_of, either_of, last_or, parent_of, last_child_of}
+use Rattle.hnodes.specs.Spots.{Spot, last_or, parent_of, last_child_of}
 use Rattle.hnodes.specs.Edits.{Nodes, AreCounted, graft, IsPlace}
 use Rattle.hnodes.specs.declared.node.Place.{Place}
 use Rattle.hnodes.specs.declared.node.Place.TheVariants.{LastIn, Before}
-use Rattle.hnodes.proofs.Forests.{join-none, join-assoc, times-join, cut-absent, children_of-absent, change_children-absent, last_or-join}
+use Rattle.hnodes.proofs.Forests.{join-none, join-assoc, cut-absent, children_of-absent, change_children-absent, last_or-join}
 use Rattle.hnodes.proofs.Levels.{level, Here, Below}
-use Rattle.hnodes.proofs.Spots.{spot_of-absent}
 use Rattle.hnodes.proofs.Families.{Sited, at_root, in_kids, in_rest, sited, last_child-is}
 use Rattle.hnodes.proofs.Counts.{hung, times-hung, times-put}
 use Rattle.hnodes.proofs.Counted.{at-most, is-there, not-there}
-use Rattle.hnodes.proofs.Fresh.{tree_at-join, spot_of-join}
-use Rattle.hnodes.proofs.Children.{child-spot}
+use Rattle.hnodes.proofs.Fresh.{tree_at-join}
+use Rattle.hnodes.proofs.ChildSpots.{child-spot, root-spot}
 use Rattle.hnodes.proofs.Respots.{IsTextBefore}
 
 module _ {N : Type 0} where
@@ -84,15 +83,7 @@ module _ {N : Type 0} where
         before = last_child-is p (hung p new f) still ∙ ap (last_or None) kids ∙ last_or-join None (children_of p f) new
 
     root-alone : (s : ℕ) → Here s f → parent_of s f ≡ None
-    root-alone s p =
-        let out : times s p.left ≡ 0 = left-out (ap (times s) p.is) (at-most made f counted s) in
-        ap (parent_of s) p.is ∙ ap (option_and_then (λ (t : Spot N). t.parent)) (spot_of-join s p.left (tree s p.what p.kids p.right)) ∙ alone out
-      where
-        alone : times s p.left ≡ 0 → option_and_then (λ (t : Spot N). t.parent) (either_of (spot_of s p.left) (spot_of s (tree s p.what p.kids p.right))) ≡ None
-        alone out = rw (spot_of-absent s p.left out, eq-eqb s s refl) refl
-
-        left-out : times s f ≡ times s (join p.left (tree s p.what p.kids p.right)) → times s f ≤ 1 → times s p.left ≡ 0
-        left-out e few = let one : times s (tree s p.what p.kids p.right) ≡ 1 + (times s p.kids + times s p.right) = rw (eq-eqb s s refl) refl in omega (arith, times-join s p.left (tree s p.what p.kids p.right))
+    root-alone s p = ap (option_and_then (λ (t : Spot N). t.parent)) (root-spot s p.what p.left p.kids p.right f (at-most made f counted s) p.is)
 
     text-before : (s : ℕ) → s < made → IsSome (parent_of s f) → IsTextBefore (Before s) (put_before s new f) made
     text-before s h up = go (level s f one (at-most made f counted))

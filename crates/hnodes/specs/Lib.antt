@@ -1,5 +1,6 @@
 pub mod Forest
 pub mod Spots
+pub mod Passed
 pub mod Edits
 pub mod Makes
 pub mod Spelled

@@ -2,8 +2,9 @@
 use Rattle.std.specs.Prelude.{◌≡◌, refl, ℕ, [], ◌∷◌, ◌++◌, Some, None}
 use Rattle.std.specs.Char.{encode_utf8}
 use Rattle.hnodes.specs.Forest.{Forest, none, tree, document, element, text}
-use Rattle.hnodes.specs.Spots.{parent_of, next_of, previous_of}
+use Rattle.hnodes.specs.Spots.{parent_of, first_child_of, next_of, previous_of}
 use Rattle.hnodes.specs.Edits.{Nodes, graft_last, graft_before, move_all, add_char, add_chars, text_before}
+use Rattle.hnodes.specs.Passed.{siblings_from, ancestors_of}
 use Rattle.hnodes.specs.declared.node.Place.TheVariants.{LastIn, Before}
 
 -- an element of one name, and a text of one byte
@@ -86,3 +87,13 @@ document_alone = refl
 
 text_joined : text_before (Before 3) forest ≡ Some 2
 text_joined = refl
+
+-- walks
+children_in_order : siblings_from (first_child_of 1 forest) forest ≡ 2 ∷ 3 ∷ 4 ∷ []
+children_in_order = refl
+
+nearest_first : ancestors_of 4 forest ≡ 1 ∷ 0 ∷ []
+nearest_first = refl
+
+root_in_none : ancestors_of 6 forest ≡ []
+root_in_none = refl

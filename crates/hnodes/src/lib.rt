@@ -9,7 +9,9 @@ mod plain;
 #[cfg(test)]
 mod tests;
 mod tree;
+mod walks;
 
 pub use laws::{edits_know_no_names, questions_know_no_names};
 pub use node::{Doctype, Kind, NodeId, Place};
 pub use tree::Tree;
+pub use walks::{Ancestors, Children};

@@ -25,7 +25,7 @@ impl Model for NodeId {
 }
 
 impl NodeId {
-    /// The number itself, to index a table with.
+    /// The number itself, as an index into a table of the nodes made.
     pub fn index(self) -> usize
         ensures { result ≡ self }
     {
@@ -33,7 +33,7 @@ impl NodeId {
     }
 }
 
-/// What kind a node is of.
+/// The kind of a node.
 #[derive(Clone, Copy, Debug, PartialEq, Eq)]
 pub enum Kind {
     Document,
@@ -43,7 +43,7 @@ pub enum Kind {
     Text,
 }
 
-/// A place for a node among the children of another (13.2.6.1).
+/// Where a node goes among the children of another (13.2.6.1).
 #[derive(Clone, Copy, Debug, PartialEq, Eq)]
 pub enum Place {
     /// After the last child of a node.
@@ -82,7 +82,7 @@ pub(crate) struct Node {
 }
 
 impl Node {
-    /// A node that stands for itself.
+    /// A loose node without children.
     pub(crate) fn loose(content: Content) -> Self
         ensures { row_of result ≡ alone (content_is content) }
     {
@@ -97,7 +97,7 @@ impl Node {
     }
 }
 
-/// One character more at the end of a text.
+/// Adds a character at the end of a text.
 pub(crate) fn push_char(nodes: &mut Vec<Node>, at: NodeId, c: char) -> Result<(), Refusal>
     requires { at < length nodes.old.items }
     ensures ok { OnOk result (IsChanged at (with_what (with_char c)) nodes.old.items nodes.new.items) }
@@ -123,7 +123,7 @@ pub(crate) fn push_text(nodes: &mut Vec<Node>, at: NodeId, more: &str) -> Result
     Ok(())
 }
 
-/// One attribute more of an element.
+/// Adds an attribute at the end of an element's.
 pub(crate) fn push_attr(nodes: &mut Vec<Node>, at: NodeId, attr: Attr) -> Result<(), Refusal>
     requires { at < length nodes.old.items }
     ensures ok { OnOk result (IsChanged at (with_what (with_attribute (attribute_of attr))) nodes.old.items nodes.new.items) }

@@ -309,6 +309,27 @@ fn text_tested(tree: &Tree, node: NodeId) -> Option<&str> {
     }
 }
 
+#[test]
+fn children_and_ancestors_come_in_their_order(rt: HostRuntime) -> Result<(), Fail> {
+    let tree = family(4, rt.alloc())?;
+    let mut found = Vec::new(rt.alloc());
+    let first = NodeId { number: 1 };
+    if tree.has(first) {
+        for child in tree.children(first) {
+            found.push(child.index())?;
+        }
+    }
+    assert!(rt; found.as_slice() == [2, 3, 4].as_slice());
+    let last = NodeId { number: 4 };
+    if tree.has(last) {
+        for node in tree.ancestors(last) {
+            found.push(node.index())?;
+        }
+    }
+    assert!(rt; found.as_slice() == [2, 3, 4, 1, 0].as_slice());
+    Ok(())
+}
+
 #[derive(Clone, Copy)]
 enum Move {
     Append,
