@@ -6,3 +6,5 @@ pub mod Earliest
 pub mod Sameness
 pub mod Bookmarks
 pub mod Spellings
+pub mod Places
+pub mod Standing
