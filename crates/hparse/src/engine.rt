@@ -24,7 +24,7 @@ pub fn run<S: Source, W: Target>(
 ) -> Result<(), Refusal>
     requires limit { input_limit ≤ MAX_INPUT }
     requires piece { 0 < command.piece }
-    ensures { Runs S.left S.failed W.written W.failed input_limit source.old source.new target.old target.new result }
+    ensures { Runs S.left S.failed W.written W.failed command.piece input_limit source.old source.new target.old target.new result }
 {
     match command.task {
         Task::Tokens => {
@@ -44,7 +44,7 @@ fn read_document<S: Source>(
 ) -> Result<TokenRun, Refusal>
     requires limit { input_limit ≤ MAX_INPUT }
     requires piece { 0 < piece }
-    ensures { ReadsDocument S.left S.failed input_limit source.old source.new result }
+    ensures { ReadsDocument S.left S.failed piece input_limit source.old source.new result }
 {
     let mut buffer = vec![in alloc; 0u8; piece]?;
     let mut reading = Reading::new(alloc, input_limit)?;

@@ -1,5 +1,7 @@
 pub mod Valid
+pub mod Beginnings
 pub mod Refusals
+pub mod Deciding
 pub mod Texts
 pub mod Handing
 pub mod Feeding

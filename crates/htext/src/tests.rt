@@ -210,6 +210,49 @@ fn bytes_are_refused_at_their_place(rt: HostRuntime) -> Result<(), Fail> {
     Ok(())
 }
 
+// The last byte of each row is refused in the call that feeds it, and none before it is.
+#[test]
+fn bytes_are_refused_at_once(rt: HostRuntime) -> Result<(), Fail> {
+    let alloc = rt.alloc();
+    let not_utf8 = |at| Refusal::NotUtf8 { at };
+    let too_large = |at| Refusal::TooLarge { at };
+    let rows: [(&[u8], u64, Refusal); 18] = [
+        (b"a\xFF", 40, not_utf8(1)),
+        (b"\x80", 40, not_utf8(0)),
+        (b"\xC0", 40, not_utf8(0)),
+        (b"\xC1", 40, not_utf8(0)),
+        (b"\xF5", 40, not_utf8(0)),
+        (b"\xC2a", 40, not_utf8(0)),
+        (b"\xE2\x28", 40, not_utf8(0)),
+        (b"\xE0\x9F", 40, not_utf8(0)),
+        (b"\xED\xA0", 40, not_utf8(0)),
+        (b"\xF0\x80", 40, not_utf8(0)),
+        (b"\xF4\x90", 40, not_utf8(0)),
+        (b"\xE2\x82\xC2", 40, not_utf8(0)),
+        (b"ab\xF0\x9F\x98\x28", 40, not_utf8(2)),
+        (b"a", 0, too_large(0)),
+        (b"abcde", 4, too_large(4)),
+        (b"abc\xC2\xA2", 4, too_large(3)),
+        (b"abc\xF4\x8F\xBF\xBF", 4, too_large(3)),
+        (b"abc\xE2\xFF", 4, not_utf8(3)),
+    ];
+    for (bytes, limit, refusal) in rows {
+        let (front, last) = bytes.split_at(bytes.len() - 1);
+        for size in [1, 40] {
+            let mut sink = Collected {
+                items: Vec::new(alloc),
+                room: usize::MAX,
+            };
+            let mut decoder = Decoder::new(alloc, Bom::Drop, limit);
+            for piece in front.chunks(size) {
+                assert_eq!(rt; decoder.feed(piece, &mut sink), Ok(()));
+            }
+            assert_eq!(rt; decoder.feed(last, &mut sink), Err(refusal));
+        }
+    }
+    Ok(())
+}
+
 #[test]
 fn a_sink_refuses(rt: HostRuntime) -> Result<(), Fail> {
     let row = Row {
