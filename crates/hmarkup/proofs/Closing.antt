@@ -31,7 +31,7 @@ two_dashes Dash = refl
 two_dashes Dashes = refl
 two_dashes Bang = refl
 
--- characters that are read before the closing text begin the longer closing text
+-- what completes a longer text completes the text, with the characters between them in front
 closed_sooner : {V : Type 0} (IsSpan : ℕ → List Placed → List Placed → V → List ParseError → Type 0) (text front closing : List Placed) → ClosedBy IsSpan (text ++ front) closing → ClosedBy IsSpan text (front ++ closing)
 closed_sooner IsSpan text front closing k = record {
   value = k.value;
@@ -111,5 +111,9 @@ closed_by_greater w text errs ch at is h = subst (λ (c : ℕ). (step w.phase (r
 
 pub closed_doctype : (w : Reading) (text closing : List Placed) (errs : List ParseError) → HasReadDoctype w text errs → characters closing ≡ codes ">" → ClosedBy IsDoctype text closing
 closed_doctype w text [] errs h is = absurd cc
-closed_doctype w text (p ∷ []) errs h is = record { value = _; errors = _; is_span = read_whole w text errs p h (closed_by_greater w text errs p.ch p.at (first_is p [] 62 [] is) h) }
+closed_doctype w text (p ∷ []) errs h is = record {
+  value = _;
+  errors = _;
+  is_span = read_whole w text errs p h (closed_by_greater w text errs p.ch p.at (first_is p [] 62 [] is) h);
+}
 closed_doctype w text (p ∷ q ∷ more) errs h is = absurd cc

@@ -24,3 +24,5 @@ pub mod Outcomes
 pub mod Lines
 pub mod SomeSpan
 pub mod Closing
+pub mod Running
+pub mod DoctypeRows

@@ -1,4 +1,4 @@
--- At the front of each text stands a comment, a bogus comment and a doctype.
+-- Every text begins with a comment, with a bogus comment and with a doctype.
 use Rattle.std.proofs.Common.{◌≡◌, ℕ, Bool, true, false, eqb, List, [], ◌∷◌, ◌++◌, length, sym, refl, ap, ◌∙◌, Option, Some, None, append_assoc}
 use Rattle.std.proofs.lemmas.Bool.{eqb-true, false≢true}
 use Rattle.std.specs.Char.{encode_utf8}
@@ -23,26 +23,40 @@ use Rattle.hmarkup.proofs.Reading.{read_nothing, read_more, read_whole, read_to_
 -- `text` was read, and `p ∷ ps` is left
 module _ {V : Type 0} (Spans : ℕ → List Placed → List Placed → V → List ParseError → Type 0) (end : ℕ) (text : List Placed) (p : Placed) (ps : List Placed) where
   -- the span ends with `p`, or goes on after it
-  ends_now : (value : V) (errors : List ParseError) → Spans end ps (text ++ p ∷ []) value errors → HasSpan Spans end (text ++ p ∷ ps)
-  ends_now value errors h = record { span = text ++ p ∷ []; rest = ps; value = value; errors = errors; text_is = sym (append_assoc text (p ∷ []) ps); is_span = h }
+  abbrev pub ends_now : (value : V) (errors : List ParseError) → Spans end ps (text ++ p ∷ []) value errors → HasSpan Spans end (text ++ p ∷ ps)
+  ends_now value errors h = record {
+    span = text ++ p ∷ [];
+    rest = ps;
+    value = value;
+    errors = errors;
+    text_is = sym (append_assoc text (p ∷ []) ps);
+    is_span = h;
+  }
 
-  ends_later : HasSpan Spans end ((text ++ p ∷ []) ++ ps) → HasSpan Spans end (text ++ p ∷ ps)
-  ends_later k = record { span = k.span; rest = k.rest; value = k.value; errors = k.errors; text_is = sym (append_assoc text (p ∷ []) ps) ∙ k.text_is; is_span = k.is_span }
+  abbrev pub ends_later : HasSpan Spans end ((text ++ p ∷ []) ++ ps) → HasSpan Spans end (text ++ p ∷ ps)
+  ends_later k = record {
+    span = k.span;
+    rest = k.rest;
+    value = k.value;
+    errors = k.errors;
+    text_is = sym (append_assoc text (p ∷ []) ps) ∙ k.text_is;
+    is_span = k.is_span;
+  }
 
 -- doctypes
 module _ (end : ℕ) where
-  doctype_by : (w : Reading) (text : List Placed) (errs : List ParseError) (p : Placed) (ps : List Placed) → HasReadDoctype w text errs
+  abbrev pub doctype_by : (w : Reading) (text : List Placed) (errs : List ParseError) (p : Placed) (ps : List Placed) → HasReadDoctype w text errs
       → ((w' : Reading) (errs' : List ParseError) → HasReadDoctype w' (text ++ p ∷ []) errs' → HasSpan IsDoctype end ((text ++ p ∷ []) ++ ps))
       → (goes : Option Phase) → (step w.phase p).next ≡ goes → HasSpan IsDoctype end (text ++ p ∷ ps)
   doctype_by w text errs p ps h from None is = ends_now IsDoctype end text p ps _ _ (read_whole w text errs p h is end ps)
   doctype_by w text errs p ps h from (Some phase) is =
       ends_later IsDoctype end text p ps (from (record { phase = phase; found = found_by (step w.phase p) p w.found }) _ (read_more w text errs p h phase is))
 
-  doctype_from : (w : Reading) (text : List Placed) (errs : List ParseError) (after : List Placed) → HasReadDoctype w text errs → HasSpan IsDoctype end (text ++ after)
+  abbrev pub doctype_from : (w : Reading) (text : List Placed) (errs : List ParseError) (after : List Placed) → HasReadDoctype w text errs → HasSpan IsDoctype end (text ++ after)
   doctype_from w text errs [] h = record { span = text; rest = []; value = _; errors = _; text_is = refl; is_span = read_to_end w text errs end h }
   doctype_from w text errs (p ∷ ps) h = doctype_by w text errs p ps h (λ w' errs' h'. doctype_from w' (text ++ p ∷ []) errs' ps h') (step w.phase p).next refl
 
-  pub some_doctype : (text : List Placed) → HasSpan IsDoctype end text
+  abbrev pub some_doctype : (text : List Placed) → HasSpan IsDoctype end text
   some_doctype text = doctype_from _ [] [] text read_nothing
 
 -- comments

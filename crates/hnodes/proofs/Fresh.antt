@@ -22,7 +22,7 @@ either-assoc None y z = refl
 either-assoc (Some a) y z = refl
 
 module _ {N : Type 0} where
-  tree_at-join : (n : ℕ) (f g : Forest N) → times n f ≡ 0 → tree_at n (join f g) ≡ tree_at n g
+  pub tree_at-join : (n : ℕ) (f g : Forest N) → times n f ≡ 0 → tree_at n (join f g) ≡ tree_at n g
   tree_at-join n none g h = refl
   tree_at-join n (tree b w kids rest) g h = go (tree_at-join n rest g) (eqb b n) h
     where
@@ -30,7 +30,7 @@ module _ {N : Type 0} where
       go r true h' = absurd (omega arith)
       go r false h' = rw (tree_at-absent n kids (omega arith)) (r (omega arith))
 
-  spot_of-join : (n : ℕ) (f g : Forest N) → spot_of n (join f g) ≡ either_of (spot_of n f) (spot_of n g)
+  pub spot_of-join : (n : ℕ) (f g : Forest N) → spot_of n (join f g) ≡ either_of (spot_of n f) (spot_of n g)
   spot_of-join n none g = refl
   spot_of-join n (tree b w kids rest) g =
       ap (either_of (spot_below n None None (tree b w kids none))) (spot_of-join n rest g) ∙ either-assoc (spot_below n None None (tree b w kids none)) (spot_of n rest) (spot_of n g)

@@ -28,3 +28,7 @@ pub mod Deep
 pub mod DeepEdits
 pub mod Counted
 pub mod Outside
+pub mod Children
+pub mod Respots
+pub mod Placed
+pub mod Runs

@@ -1,8 +1,10 @@
 pub mod Forest
 pub mod Spots
 pub mod Edits
+pub mod Makes
 pub mod Spelled
 pub mod Links
 pub mod Coding
 pub mod Rows
 pub mod View
+pub mod Worked

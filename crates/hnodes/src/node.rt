@@ -1,7 +1,7 @@
 //! Nodes and their numbers.
 
 ghost use Rattle.std.specs.Prelude.{◌≡◌, ◌<◌, OnOk, OnErr, IfErr, length};
-ghost use Rattle.hnodes.specs.Edits.{with_char, with_attribute};
+ghost use Rattle.hnodes.specs.Edits.{with_char, with_text, with_attribute};
 ghost use Rattle.hnodes.specs.Links.{alone, with_what};
 ghost use Rattle.hnodes.specs.Rows.{attribute_of, content_is, row_of, IsChanged, IsUnchanged};
 
@@ -9,7 +9,7 @@ use names::{Attr, NameId, Refusal};
 use std::marker::Model;
 
 /// The number of a node of one tree, in the order in which its nodes were made. The document is the first, 0.
-#[derive(Clone, Copy, Debug, PartialEq, Eq)]
+#[derive(Clone, Copy, Debug, PartialEq, Eq, PartialOrd, Ord, Hash)]
 pub struct NodeId {
     pub(crate) number: u32,
 }
@@ -22,6 +22,15 @@ impl Model for NodeId {
     ghost view = { λ n. n.number };
 
     ghost inverse = { λ n. record { number = n } };
+}
+
+impl NodeId {
+    /// The number itself, to index a table with.
+    pub fn index(self) -> usize
+        ensures { result ≡ self }
+    {
+        self.number as usize
+    }
 }
 
 /// What kind a node is of.
@@ -97,6 +106,19 @@ pub(crate) fn push_char(nodes: &mut Vec<Node>, at: NodeId, c: char) -> Result<()
 {
     if let Content::Text(text) = &mut nodes[at.number as usize].content {
         text.push(c)?;
+    }
+    Ok(())
+}
+
+/// Adds a text at the end of a text.
+pub(crate) fn push_text(nodes: &mut Vec<Node>, at: NodeId, more: &str) -> Result<(), Refusal>
+    requires { at < length nodes.old.items }
+    ensures ok { OnOk result (IsChanged at (with_what (with_text more.now)) nodes.old.items nodes.new.items) }
+    ensures err { OnErr result (IsUnchanged nodes.old.items nodes.new.items) }
+    ensures memory { IfErr result (λ e. e ≡ Refusal.Memory) }
+{
+    if let Content::Text(text) = &mut nodes[at.number as usize].content {
+        text.push_str(more)?;
     }
     Ok(())
 }

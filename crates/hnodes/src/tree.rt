@@ -1,18 +1,21 @@
 //! A tree as one value.
 
-ghost use Rattle.std.specs.Prelude.{◌≡◌, ◌<◌, ◌≤◌, ◌↔◌, ◌⊎◌, ℕ, Some, None, OnOk, OnErr, IfOk, IfErr, IfSome, IsSome, IsFalse, IsTrue, map, string_bytes, leb, if◌then◌else◌};
+ghost use Rattle.std.specs.Prelude.{◌≡◌, ◌<◌, ◌≤◌, ◌↔◌, ◌⊎◌, ℕ, Some, None, OnOk, OnErr, IfOk, IfErr, IfSome, IsSome, IsFalse, IsTrue, map, string_bytes, length, leb, nat_eq, if◌then◌else◌};
 ghost use Rattle.std.specs.Option.{option_map};
 ghost use Rattle.hnodes.specs.Forest.{document, doctype, element, comment, text, tree, none, change_what, IsOutside};
-ghost use Rattle.hnodes.specs.Spots.{parent_of, first_child_of, last_child_of, next_of, previous_of, kind_of, name_of, attributes_of, text_of, doctype_of};
-ghost use Rattle.hnodes.specs.Edits.{make, graft, graft_last, graft_before, move_all, add_attribute, add_char, with_char, text_before, IsPlace, place_node, AreNodes};
+ghost use Rattle.hnodes.specs.Spots.{parent_of, first_child_of, last_child_of, next_of, previous_of, kind_of, name_of, attributes_of, value_of, text_of, doctype_of};
+ghost use Rattle.hnodes.specs.Edits.{make, graft, graft_last, graft_before, move_all, add_attribute, add_char, add_chars, with_char, with_text, text_before, IsPlace, place_node, AreNodes};
+ghost use Rattle.hnodes.specs.Makes.{Makes};
 ghost use Rattle.hnodes.specs.declared.node.Place.{Place};
 ghost use Rattle.hnodes.specs.Rows.{attribute_of, content_is, doctype_texts};
+ghost use Rattle.names.specs.Tags.{tag_of};
 ghost use Rattle.names.specs.declared.refusal.Refusal.TheVariants.{TooManyNodes, Memory};
 ghost use Rattle.std.specs.Char.{encode_utf8};
+ghost use Rattle.std.specs.Str.{chars};
 
 use crate::links::{detach, hook};
-use crate::node::{Content, Doctype, Kind, Node, NodeId, Place, push_attr, push_char};
-use names::{Attr, NameId, Refusal};
+use crate::node::{Content, Doctype, Kind, Node, NodeId, Place, push_attr, push_char, push_text};
+use names::{Attr, NameId, Refusal, Tag};
 use std::alloc::{AllocError, Global};
 use std::marker::Model;
 
@@ -91,14 +94,7 @@ impl Tree {
         attrs: Vec<Attr>,
         at: u64,
     ) -> Result<NodeId, Refusal>
-        ensures ok { OnOk result (self.new ≡ make (element name (map attribute_of attrs.items)) self.old) }
-        ensures number { IfOk result (λ n. (n ≡ self.old.made) × (0 < n)) }
-        ensures outside { IfOk result (λ n. (k : ℕ) → k < n → IsOutside k n self.new.trees) }
-        ensures apart { IfOk result (λ n. (k : ℕ) → k < n → IsOutside n k self.new.trees) }
-        ensures places { IfOk result (λ n. (p : Place) → IsPlace p self.old → IsPlace p self.new) }
-        ensures full { (result ≡ Err (TooManyNodes at)) ↔ (self.old.limit ≤ self.old.made) }
-        ensures refused { IfErr result (λ e. (e ≡ TooManyNodes at) ⊎ (e ≡ Memory)) }
-        ensures err { OnErr result (self.new ≡ self.old) }
+        ensures { Makes (element name (map attribute_of attrs.items)) at self.old self.new result }
     {
         self.room(at)?;
         self.add(Content::Element(name, attrs))
@@ -106,14 +102,7 @@ impl Tree {
 
     /// A new comment, loose.
     pub fn create_comment(&mut self, text: String, at: u64) -> Result<NodeId, Refusal>
-        ensures ok { OnOk result (self.new ≡ make (comment (string_bytes text)) self.old) }
-        ensures number { IfOk result (λ n. (n ≡ self.old.made) × (0 < n)) }
-        ensures outside { IfOk result (λ n. (k : ℕ) → k < n → IsOutside k n self.new.trees) }
-        ensures apart { IfOk result (λ n. (k : ℕ) → k < n → IsOutside n k self.new.trees) }
-        ensures places { IfOk result (λ n. (p : Place) → IsPlace p self.old → IsPlace p self.new) }
-        ensures full { (result ≡ Err (TooManyNodes at)) ↔ (self.old.limit ≤ self.old.made) }
-        ensures refused { IfErr result (λ e. (e ≡ TooManyNodes at) ⊎ (e ≡ Memory)) }
-        ensures err { OnErr result (self.new ≡ self.old) }
+        ensures { Makes (comment (string_bytes text)) at self.old self.new result }
     {
         self.room(at)?;
         self.add(Content::Comment(text))
@@ -121,14 +110,7 @@ impl Tree {
 
     /// A new doctype, loose.
     pub fn create_doctype(&mut self, texts: Doctype, at: u64) -> Result<NodeId, Refusal>
-        ensures ok { OnOk result (self.new ≡ make (doctype (string_bytes texts.name) (string_bytes texts.public_id) (string_bytes texts.system_id)) self.old) }
-        ensures number { IfOk result (λ n. (n ≡ self.old.made) × (0 < n)) }
-        ensures outside { IfOk result (λ n. (k : ℕ) → k < n → IsOutside k n self.new.trees) }
-        ensures apart { IfOk result (λ n. (k : ℕ) → k < n → IsOutside n k self.new.trees) }
-        ensures places { IfOk result (λ n. (p : Place) → IsPlace p self.old → IsPlace p self.new) }
-        ensures full { (result ≡ Err (TooManyNodes at)) ↔ (self.old.limit ≤ self.old.made) }
-        ensures refused { IfErr result (λ e. (e ≡ TooManyNodes at) ⊎ (e ≡ Memory)) }
-        ensures err { OnErr result (self.new ≡ self.old) }
+        ensures { Makes (doctype (string_bytes texts.name) (string_bytes texts.public_id) (string_bytes texts.system_id)) at self.old self.new result }
     {
         self.room(at)?;
         let texts = Box::new(self.alloc, texts)?;
@@ -137,19 +119,21 @@ impl Tree {
 
     /// A new text of one character, loose.
     fn create_text(&mut self, c: char, at: u64) -> Result<NodeId, Refusal>
-        ensures ok { OnOk result (self.new ≡ make (text (encode_utf8 c)) self.old) }
-        ensures number { IfOk result (λ n. (n ≡ self.old.made) × (0 < n)) }
-        ensures outside { IfOk result (λ n. (k : ℕ) → k < n → IsOutside k n self.new.trees) }
-        ensures apart { IfOk result (λ n. (k : ℕ) → k < n → IsOutside n k self.new.trees) }
-        ensures places { IfOk result (λ n. (p : Place) → IsPlace p self.old → IsPlace p self.new) }
-        ensures full { (result ≡ Err (TooManyNodes at)) ↔ (self.old.limit ≤ self.old.made) }
-        ensures refused { IfErr result (λ e. (e ≡ TooManyNodes at) ⊎ (e ≡ Memory)) }
-        ensures err { OnErr result (self.new ≡ self.old) }
+        ensures { Makes (text (encode_utf8 c)) at self.old self.new result }
     {
         self.room(at)?;
         let mut text = String::new(self.alloc);
         text.push(c)?;
         self.add(Content::Text(text))
+    }
+
+    /// Makes a text, loose.
+    fn create_run(&mut self, run: &str, at: u64) -> Result<NodeId, Refusal>
+        ensures { Makes (text run.now) at self.old self.new result }
+    {
+        self.room(at)?;
+        let run = String::from_str(self.alloc, run)?;
+        self.add(Content::Text(run))
     }
 
     /// Whether one node more may be made.
@@ -258,6 +242,40 @@ impl Tree {
         }
     }
 
+    /// Puts a text at a place, as `put_char` puts its characters one by one: at the end of the text right before the place, or
+    /// in a new text there. An empty text changes nothing.
+    pub fn put_text(&mut self, text: &str, place: Place, at: u64) -> Result<(), Refusal>
+        requires { IsPlace place self.old }
+        ensures ok { OnOk result (self.new ≡ add_chars (chars text.now) place self.old) }
+        ensures full { (result ≡ Err (TooManyNodes at)) ↔ ((0 < length text.now) × (text_before place self.old.trees ≡ None) × (self.old.limit ≤ self.old.made)) }
+        ensures refused { IfErr result (λ e. (e ≡ TooManyNodes at) ⊎ (e ≡ Memory)) }
+        ensures err { OnErr result (self.new ≡ self.old) }
+    {
+        if text.is_empty() {
+            return Ok(());
+        }
+        // A copy for the first of two calls.
+        let here = place;
+        match self.text_before(here) {
+            Some(before) => self.join(before, text),
+            None => {
+                let node = self.create_run(text, at)?;
+                self.insert(node, place);
+                Ok(())
+            }
+        }
+    }
+
+    /// Adds a text at the end of a text.
+    fn join(&mut self, before: NodeId, text: &str) -> Result<(), Refusal>
+        requires { before < self.old.made }
+        ensures ok { OnOk result (self.new ≡ record self.old { trees = change_what before (with_text text.now) self.old.trees }) }
+        ensures memory { IfErr result (λ e. e ≡ Memory) }
+        ensures err { OnErr result (self.new ≡ self.old) }
+    {
+        push_text(&mut self.nodes, before, text)
+    }
+
     /// One character more at the end of a text.
     fn lengthen(&mut self, text: NodeId, c: char) -> Result<(), Refusal>
         requires { text < self.old.made }
@@ -273,6 +291,7 @@ impl Tree {
         requires { IsPlace place self.now }
         ensures text { result ≡ text_before place self.now.trees }
         ensures within { IfSome result (λ n. n < self.now.made) }
+        ensures nodes { AreNodes self.now }
     {
         let before = match place {
             Place::LastIn(parent) => self.last_child(parent),
@@ -395,6 +414,30 @@ impl Tree {
         match &self.nodes[at.number as usize].content {
             Content::Element(_, attrs) => Some(attrs),
             _ => None,
+        }
+    }
+
+    /// The value of an element's attribute.
+    pub fn attr(&self, at: NodeId, name: NameId) -> Option<&str>
+        requires { at < self.now.made }
+        ensures { option_map (λ value. value.now) result ≡ value_of (nat_eq name) at self.now.trees }
+    {
+        for attr in self.attrs(at)? {
+            if attr.name == name {
+                return Some(&attr.value);
+            }
+        }
+        None
+    }
+
+    /// Whether a node is an element of a known name; for `Tag::Other`, of a name that is not known.
+    pub fn is(&self, at: NodeId, tag: Tag) -> bool
+        requires { at < self.now.made }
+        ensures { IsTrue result ↔ (option_map tag_of (name_of at self.now.trees) ≡ Some tag) }
+    {
+        match self.name(at) {
+            Some(name) => name.tag() == tag,
+            None => false,
         }
     }
 
