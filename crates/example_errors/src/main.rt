@@ -2,7 +2,7 @@
 #![tactic(auto)]
 
 use anyhow::{Context, Result};
-use hparse::{RefusalText, tokens};
+use hparse::tokens;
 use htext::MAX_INPUT;
 use std::{env, fs};
 
@@ -16,7 +16,7 @@ fn main(rt: HostRuntime) -> Result<()> {
             }
             println!(rt; "{} tokens", run.tokens.len())?;
         }
-        Err(refusal) => println!(rt; "refused: {}", RefusalText(refusal))?,
+        Err(refusal) => println!(rt; "refused: {refusal}")?,
     }
     Ok(())
 }
