@@ -4,7 +4,7 @@ use Rattle.names.specs.declared.refusal.Refusal.{Refusal}
 use Rattle.names.specs.declared.refusal.Refusal.TheVariants as refusal
 use Rattle.hmain.specs.declared.fault.Fault.{Fault}
 use Rattle.hmain.specs.declared.fault.Fault.TheVariants as fault
-use Rattle.hparse.specs.Refusal.{refusal_text}
+use Rattle.names.specs.RefusalText.{refusal_text}
 
 -- A refusal ends with 2, but where the reader or the writer failed.
 abbrev pub refusal_status : Refusal → ℕ
@@ -33,7 +33,7 @@ fault_line fault.NotUtf8 = Some (codes "fault: the command line is not UTF-8" ++
 fault_line (fault.Refused refusal) = Some (refusal_line refusal)
 fault_line _ = None
 
--- what the program tells at its end
+-- what the program writes at its end
 abbrev pub ending_text : Result (Unit {0}) Fault → Option (List ℕ)
 ending_text (Ok _) = Some []
 ending_text (Err fault) = fault_line fault

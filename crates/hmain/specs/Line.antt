@@ -51,7 +51,7 @@ abbrev pub piece_of : Option Text → ℕ
 piece_of None = 65536
 piece_of (Some text) = number_of text
 
--- A fault of the words: want of memory, one of the kinds that `clap` defines for them, or a piece out of its range.
+-- A fault of the words: out of memory, one of the kinds that `clap` defines for them, or a piece out of its range.
 abbrev pub FaultOf : List Text → Fault → Type 0
 FaultOf words fault.Memory = ⊤
 FaultOf words (fault.Line error) = IsAmong (kind_of error) (fault_of program words)

@@ -1,5 +1,5 @@
--- What the program does in its surroundings. Of those `has_words`, `lacks_words`, `opens` and `cannot_open` say what their calls
--- gave; of a reader `left` says the bytes that it has left, where it tells, and of a writer `written` those that it has taken;
+-- What the program does in its surroundings. `has_words`, `lacks_words`, `opens` and `cannot_open` say what calls of the surroundings
+-- returned; of a reader `left` says the bytes that it has left, where it tells, and of a writer `written` those that it has taken;
 -- `failed` says how many of their calls have failed.
 use Rattle.std.specs.Prelude.{◌≡◌, ℕ, List, true, Option, None, Some, Result, Ok, Err, IfSome, codes}
 use Rattle.clap.specs.Words.{Text, takes}
@@ -56,7 +56,7 @@ module _ {R F S W : Type 0} (has_words : R → List Text → Type 0) (lacks_word
         → AnswersWords opens cannot_open left_in_file failed_in_file left reads written writes limit surroundings words input input' output output' outcome
         → Answers limit surroundings input input' output output' outcome
 
-  -- The program does what its command line says, tells its ending on the standard error, and answers its status.
+  -- The program does what its command line says, writes the line of its ending to standard error, and returns its status.
   pub record Ends {E : Type 0} (errors_written : E → Option (List ℕ)) (errors_failed : E → ℕ) (limit : ℕ) (surroundings : R) (input input' : S) (output output' : W)
       (errors errors' : E) (status : ℕ) : Type 0 where
     pub outcome : Result (Unit {0}) Fault

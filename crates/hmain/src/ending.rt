@@ -3,10 +3,10 @@
 ghost use Rattle.std.specs.Prelude.{◌≡◌, ◌∷◌, ◌++◌, [], IfSome, Some, codes, option_map};
 ghost use Rattle.hparse.specs.Calls.{EndsWith, WritesAll};
 ghost use Rattle.hmain.specs.Ending.{ending_text, fault_line, fault_status, refusal_line, status_of};
-ghost use Rattle.hparse.specs.Refusal.{detail_of, detail_text, number_of, number_text, refusal_text};
+ghost use Rattle.names.specs.RefusalText.{detail_of, detail_text, number_of, number_text, refusal_text};
 
 use crate::fault::Fault;
-use hparse::{RefusalText, Target, write_all};
+use hparse::{Target, write_all};
 use itoa::Buffer;
 use names::Refusal;
 use std::fmt;
@@ -22,8 +22,8 @@ const CANNOT_READ: &[u8] = b"fault: cannot read\n";
 
 const CANNOT_WRITE: &[u8] = b"fault: cannot write\n";
 
-/// Writes the line that tells why there is no answer, where one is due, and answers the status of the program: 0 for an
-/// answer, 2 for a refusal, 3 for a fault. A failed write of the line changes no status.
+/// Writes the line that says why there is no answer, if there is none, and returns the status of the program: 0 for an
+/// answer, 2 for a refusal, 3 for a fault. If the line cannot be written, the status stays the same.
 pub fn ending<W: Target>(outcome: &Result<(), Fault>, target: &mut W) -> u8
     ensures status { result ≡ status_of outcome.now }
     ensures text { IfSome (ending_text outcome.now)
@@ -69,19 +69,47 @@ fn write_refusal<W: Target>(target: &mut W, refusal: Refusal) -> Result<(), Refu
     match refusal {
         Refusal::Read => write_part(target, CANNOT_READ),
         Refusal::Write => write_part(target, CANNOT_WRITE),
-        _ => write_refused(target, RefusalText(refusal)),
+        _ => write_refused(target, refusal),
     }
 }
 
-fn write_refused<W: Target>(target: &mut W, text: RefusalText) -> Result<(), Refusal>
+// Part by part, since a formatter does not say what was written before a write that failed.
+fn write_refused<W: Target>(target: &mut W, refusal: Refusal) -> Result<(), Refusal>
     ensures { WritesAll (W.written target.old) (W.failed target.old) (W.written target.new) (W.failed target.new)
-        (codes "refused: " ++ refusal_text text.0 ++ 10 ∷ []) result }
+        (codes "refused: " ++ refusal_text refusal ++ 10 ∷ []) result }
 {
     write_part(target, b"refused: ")?;
-    write_part(target, text.name().as_bytes())?;
-    write_detail(target, text.detail())?;
-    write_count(target, text.number())?;
+    write_part(target, refusal.name().as_bytes())?;
+    write_detail(target, detail(refusal))?;
+    write_count(target, number(refusal))?;
     write_part(target, b"\n")
+}
+
+// The element or the cause that a refusal names, if it names one.
+fn detail(refusal: Refusal) -> Option<&'static str>
+    ensures { option_map (λ s. s.now) result ≡ detail_of refusal }
+{
+    match refusal {
+        Refusal::OutOfProfile { name, .. } => Some(name.text()),
+        Refusal::BadTable { cause } => Some(cause.name()),
+        _ => None,
+    }
+}
+
+// Its number, after the word that says what it counts: a byte of the input, or a line.
+fn number(refusal: Refusal) -> Option<(&'static str, u64)>
+    ensures { option_map (λ p. (p.0.now, p.1)) result ≡ number_of refusal }
+{
+    match refusal {
+        Refusal::NotUtf8 { at }
+        | Refusal::OutOfProfile { at, .. }
+        | Refusal::TooLarge { at }
+        | Refusal::TooManyNodes { at }
+        | Refusal::TooDeep { at }
+        | Refusal::NotYet { at } => Some(("at", at)),
+        Refusal::BadQuirks { line } => Some(("line", line)),
+        _ => None,
+    }
 }
 
 fn write_detail<W: Target>(target: &mut W, detail: Option<&str>) -> Result<(), Refusal>
@@ -128,7 +156,7 @@ fn write_part<W: Target>(target: &mut W, part: &[u8]) -> Result<(), Refusal>
     write_all(target, part)
 }
 
-/// A target that takes text.
+/// A target as a writer of text.
 #[derive(Drop)]
 struct Text<'a, W>(&'a mut W);
 

@@ -5,7 +5,6 @@ ghost use Rattle.hmain.specs.Fault.{fault_of_error};
 ghost use Rattle.hmain.specs.declared.fault.Fault.TheVariants as fault;
 
 use clap::error::ErrorKind;
-use hparse::RefusalText;
 use names::Refusal;
 use std::alloc::AllocError;
 use thiserror::Error;
@@ -33,7 +32,7 @@ pub enum Fault {
         most: u64,
     },
     /// The input, a list or a limit was refused.
-    #[error("{}", RefusalText(*.0))]
+    #[error("{0}")]
     Refused(Refusal),
 }
 

@@ -13,11 +13,11 @@ use clap::Arg;
 use hparse::{Command, Task};
 use std::alloc::{AllocError, Global};
 
-/// The most bytes that are fed at a time, which is also how many they are where no option says so.
+/// The most bytes that are fed at a time, and the number where no option gives one.
 const MOST_PIECE: u64 = 65_536;
 
-/// What the words say, of which the first is the program's own name. The fault tells what is wrong with them, shows the help
-/// that they ask for, or is want of memory.
+/// What the words say; the first one is the program's own name. The fault says what is wrong with them, shows the help that
+/// they ask for, or is out of memory.
 pub fn line<'a>(alloc: Global, words: &'a [&'a str]) -> Result<Line<'a>, Fault>
     ensures task { IfOk result (λ line. task_of (texts words.entry.now) ≡ Some line.command.task) }
     ensures piece { IfOk result (λ line. IsPiece (value_of (codes "piece") (texts words.entry.now))

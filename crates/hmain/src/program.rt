@@ -1,4 +1,4 @@
-//! The program: what the words of its command line say is done, and its ending is told.
+//! The program: does what the words of its command line say.
 
 ghost use Rattle.std.specs.Prelude.{◌≡◌, ◌<◌, ◌≤◌, map, IfOk, string_bytes};
 ghost use Rattle.clap.specs.Walk.{texts};
@@ -12,7 +12,7 @@ use hparse::{Command, Source, Target, run};
 use htext::MAX_INPUT;
 use std::alloc::{AllocError, Global};
 
-/// Does what the words of the command line say, writes the line that tells why there is no answer, where one is due, and
+/// Does what the words of the command line say, writes the line that says why there is no answer, if there is none, and
 /// returns the status of the program.
 pub fn run_program<R: Surroundings, S: Source, W: Target, E: Target>(
     surroundings: &R,

@@ -7,7 +7,7 @@ use crate::fault::Fault;
 use hparse::Source;
 use std::alloc::Global;
 
-/// The words of the program's command line, and its files. The streams are handed in beside them.
+/// The words of the program's command line, and its files. The streams are passed beside them.
 pub trait Surroundings {
     /// An open file.
     type File: Source + Drop;

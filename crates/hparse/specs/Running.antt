@@ -77,7 +77,7 @@ pub data Runs {S W : Type 0} (left : S → Option (List ℕ)) (failed_reads : S 
       → Gave left failed_reads source source' bytes → IsAtEnd (left source') → Answers limit bytes (Ok (tokens, errors))
       → token_lines tokens ≡ beginning ++ rest → Appends (written target) (written target') beginning → failed_writes target' ≡ counted (failed_writes target)
       → Runs left failed_reads written failed_writes piece limit source source' target target' answer
-  -- the document was read to its end, and its lines were written and handed on
+  -- the document was read to its end, and its lines were written and flushed
   wrote : (bytes : List ℕ) (tokens : List Tok) (errors : List ParseError) → answer ≡ Ok tt
       → Gave left failed_reads source source' bytes → IsAtEnd (left source') → Answers limit bytes (Ok (tokens, errors))
       → Appends (written target) (written target') (token_lines tokens) → failed_writes target' ≡ failed_writes target

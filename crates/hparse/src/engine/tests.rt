@@ -1,4 +1,4 @@
-//! Runs over readers and writers that take a byte a call, and that fail.
+//! Runs over readers and writers that move one byte a call, and that fail.
 
 ghost use Rattle.std.specs.Prelude.{◌<◌};
 
@@ -125,7 +125,7 @@ impl Target for Writer {
     }
 }
 
-/// Runs over an input, and asks for this answer; what was written is handed back.
+/// Runs over an input, and expects this answer.
 fn expect_answer(
     rt: &impl Abort,
     alloc: Global,
@@ -180,7 +180,7 @@ fn a_read_that_fails(rt: HostRuntime) -> Result<(), Fail> {
 
 #[test]
 fn a_write_that_fails(rt: HostRuntime) -> Result<(), Fail> {
-    // One call a byte, and one that hands on what is held back.
+    // One call a byte, and one that flushes.
     for call in 1..58 {
         let mut reader = Reader::new(INPUT, NEVER);
         let mut writer = Writer::new(rt.alloc(), call);

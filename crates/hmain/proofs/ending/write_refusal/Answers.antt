@@ -1,7 +1,7 @@
 use Rattle.std.proofs.Common.{[], ◌∷◌, ◌++◌, ◌≡◌, refl, subst, codes}
 use Rattle.hparse.specs.Calls.{WritesAll}
 use Rattle.hmain.specs.Ending.{refusal_line}
-use Rattle.hparse.specs.Refusal.{refusal_text}
+use Rattle.names.specs.RefusalText.{refusal_text}
 use Rattle.names.specs.declared.refusal.Refusal.{Refusal}
 use Rattle.names.specs.declared.refusal.Refusal.TheVariants.{Read, Write}
 use Rattle.hmain.proofs.ending.write_refusal.Goals as goal

@@ -1,7 +1,7 @@
 -- The parts of the line, one after another: what it begins with, the name, the detail, the count, and its end.
 use Rattle.std.proofs.Common.{ℕ, List, [], ◌∷◌, ◌++◌, ◌≡◌, ◌∙◌, refl, ap, Err, codes, append_assoc, option_map}
 use Rattle.std.specs.Borrow.{Bor}
-use Rattle.hparse.specs.Refusal.{detail_of, detail_text, name_of, number_of, number_text}
+use Rattle.names.specs.RefusalText.{detail_of, detail_text, name_of, number_of, number_text}
 use Rattle.hparse.proofs.CallLemmas.{WritesAll-stops, WritesAll-then}
 use Rattle.hmain.proofs.ending.write_refused.Goals as goal
 
@@ -34,17 +34,17 @@ whole a n d k e = simp append_assoc
 
 pub returns-in_err-write_part : goal.returns-in_err-write_part
 returns-in_err-write_part g c =
-    let name = name_of c.args.text.0 in
-    let detail = detail_text (detail_of c.args.text.0) in
-    let count = number_text (number_of c.args.text.0) in
+    let name = name_of c.args.refusal in
+    let detail = detail_text (detail_of c.args.refusal) in
+    let count = number_text (number_of c.args.refusal) in
     WritesAll-stops _ _ _ _ start (((name ++ detail) ++ count) ++ end) _ c.in_err-write_part.field-0.0 c.from_residual.result
     (after_start start name detail count end) c.from_residual.ensures.1 c.in_err-write_part.ensures
 
 pub returns-in_err-write_part-2 : goal.returns-in_err-write_part-2
 returns-in_err-write_part-2 g c =
     let name = c.as_bytes.result.now in
-    let detail = detail_text (detail_of c.args.text.0) in
-    let count = number_text (number_of c.args.text.0) in
+    let detail = detail_text (detail_of c.args.refusal) in
+    let count = number_text (number_of c.args.refusal) in
     let e = c.in_err-write_part-2.field-0.0 in
     WritesAll-stops _ _ _ _ (start ++ name) ((detail ++ count) ++ end) _ e c.from_residual-in_err-write_part-2.result
     (after_name start name detail count end ∙ line_at name _ detail _ count _ (c.as_bytes.ensures.value ∙ c.name.ensures) refl refl)
@@ -55,7 +55,7 @@ pub returns-in_err-write_detail : goal.returns-in_err-write_detail
 returns-in_err-write_detail g c =
     let name = c.as_bytes.result.now in
     let detail = detail_text (option_map (λ (s : Bor (List ℕ)). s.now) c.detail.result) in
-    let count = number_text (number_of c.args.text.0) in
+    let count = number_text (number_of c.args.refusal) in
     let e = c.in_err-write_detail.field-0.0 in
     WritesAll-stops _ _ _ _ (start ++ (name ++ detail)) (count ++ end) _ e c.from_residual-in_err-write_detail.result
     (after_detail start name detail count end ∙ line_at name _ detail _ count _ (c.as_bytes.ensures.value ∙ c.name.ensures) (ap detail_text c.detail.ensures) refl)
