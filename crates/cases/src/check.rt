@@ -4,7 +4,7 @@ ghost use Rattle.std.specs.Prelude.{◌<◌, ◌≤◌, vec_len};
 
 use crate::case::Case;
 use anyhow::Result;
-use hparse::{Command, Counted, RefusalText, Task, run, token_lines, tokens};
+use hparse::{Command, Counted, Task, run, token_lines, tokens};
 use htext::MAX_INPUT;
 use names::Refusal;
 use std::alloc::Global;
@@ -12,7 +12,7 @@ use std::alloc::Global;
 /// The sizes of the pieces that the input is read in.
 const PIECES: [usize; 5] = [1, 2, 3, 7, 65_536];
 
-/// Whether the engine answers what the case says, in pieces of each size, and cut in two at each byte.
+/// Whether the engine gives the case's answer, in pieces of each size, and cut in two at each byte.
 pub fn check(alloc: Global, case: &Case) -> Result<bool> {
     for piece in PIECES {
         if !runs(alloc, case, piece)? {
@@ -59,7 +59,7 @@ fn comes(alloc: Global, case: &Case, cut: usize) -> Result<bool>
 fn is_of(alloc: Global, case: &Case, refusal: Option<Refusal>, text: &[u8]) -> Result<bool> {
     let line = match refusal {
         None => String::new(alloc),
-        Some(refusal) => format!(in alloc; "refused: {}\n", RefusalText(refusal))?,
+        Some(refusal) => format!(in alloc; "refused: {refusal}\n")?,
     };
     Ok(line.as_str() == case.refusal.as_str() && text == case.text.as_bytes())
 }

@@ -1,4 +1,4 @@
-//! Runs the engine on the stored cases of a file, each in many cuts, and prints how many it answered as they say.
+//! Runs the engine on the stored cases of a file, each cut in many ways, and prints how many gave the expected answer.
 #![tactic(auto)]
 
 mod case;

@@ -1,7 +1,7 @@
--- What was read of a comment is a front of each comment at the front of the text, and its errors are a front of theirs.
+-- Each comment at the front of a text begins with what was read of it, and its errors begin with those reported.
 use Rattle.std.proofs.Common.{◌≡◌, ℕ, ◌≤◌, true, false, ◌&&◌, ◌||◌, eqb, List, [], ◌∷◌, ◌++◌, length, sym, refl, ap, ◌∙◌, subst, codes, arith, append_assoc, append-nil}
 use Rattle.std.proofs.lemmas.List.{map-append}
-use Rattle.std.proofs.lemmas.Bool.{false≢true, eqb-true}
+use Rattle.std.proofs.lemmas.Bool.{false≢true, eqb-true, and_parts, or_left, or_right}
 use Rattle.std.specs.Char.{encode_utf8}
 use Rattle.names.specs.declared.error.ParseError.{ParseError}
 use Rattle.names.specs.declared.error.ErrorCode.TheVariants.{AbruptClosingOfEmptyComment, EofInComment, IncorrectlyClosedComment}
@@ -12,12 +12,12 @@ use Rattle.hmarkup.specs.declared.comment.CommentKind.TheVariants.{Comment, Bogu
 use Rattle.hmarkup.specs.Comment.{closes_comment, closes_at_once, closes_bogus, errors_here, errors_after, IsComment, closed_at_once, closed, closed_with_bang, unclosed, IsBogus, closed_bogus, unclosed_bogus}
 use Rattle.hmarkup.specs.Walk.{Begins, BeginsSpans, IsOpen, IsOneSpan}
 use Rattle.hmarkup.specs.CommentWalk.{Progress, IsInComment, IsInBogus, HasReadOf, IsSpan, backwards}
-use Rattle.hmarkup.proofs.Marks.{and_parts, or_left, or_right, not_past, spells-characters, first_is, null_errors-append}
+use Rattle.hmarkup.proofs.Marks.{not_past, spells-characters, first_is, null_errors-append}
 use Rattle.hmarkup.proofs.Fronts.{IsFront, front_of, front_more}
 use Rattle.hmarkup.proofs.Walking.{before-text, errors-append}
 use Rattle.hmarkup.proofs.InBogus.{before-bogus, bogus_kept}
 
--- what a comment is closed by at its start
+-- a mark that closes a comment right at its start
 once_closed : (dash close more : List Placed) → is_front dash (codes "-") ≡ true → characters close ≡ codes ">" → closes_at_once ((dash ++ close) ++ more) ≡ true
 once_closed dash [] more f c = absurd cc
 once_closed [] (q ∷ qs) more f c = subst (λ (n : ℕ). ((eqb n 62 && true) || (eqb n 45 && spells (codes ">") (qs ++ more))) ≡ true) (sym (first_is q qs 62 [] c)) refl
@@ -76,7 +76,7 @@ bogus_errors rest span d es (closed_bogus inner close t b c data_is errors_are) 
     errors_are ∙ sym (append-nil (null_errors inner)) ∙ ap (λ (x : List ParseError). null_errors inner ++ x) (sym (no_null close c)) ∙ sym (null_errors-append inner close) ∙ ap null_errors (sym t)
 bogus_errors rest span d es (unclosed_bogus r b data_is errors_are) = errors_are
 
--- the errors of a text's characters are a front of the comment's
+-- the comment's errors begin with those of the characters read
 begins_with : (text after rest span : List Placed) (errs : List ParseError) (end : ℕ) (d : List ℕ) (es : List ParseError) → errs ≡ errors_after [] text → IsFront text after rest span → IsComment end rest span d es
     → Begins text after rest span errs es
 begins_with text after rest span errs end d es e front s =
@@ -90,7 +90,7 @@ begins_with text after rest span errs end d es e front s =
           ∙ append_assoc (errors_after [] text) (errors_after (backwards [] text) front.more) all.0 ∙ ap (λ (x : List ParseError). x ++ (errors_after (backwards [] text) front.more ++ all.0)) (sym e);
     }
 
--- up to here, and at one more character
+-- so far, and after one more character
 begins_comment : (w : Progress) (text : List Placed) (errs : List ParseError) → IsInComment w text errs → BeginsSpans IsComment text errs
 begins_comment w text errs h end after rest span d all s e =
     begins_with text after rest span errs end d all h.errors_are (front_of text after rest span e (not_ended w text errs h end rest span d all s)) s
@@ -121,7 +121,7 @@ begins_whole Spans one text value errs given end after rest span other all s e =
     let same = one end rest after span text other value all errs s (given end after) e in
     record { more = []; later = []; span_is = same.0 ∙ sym (append-nil text); after_is = sym same.1; all_are = same.3 ∙ sym (append-nil errs) }
 
--- a bogus comment, at one more character that doesn't end it
+-- a bogus comment, after one more character that does not end it
 pub bogus_more : (w : Progress) (text : List Placed) (errs : List ParseError) (ch at : ℕ) → IsInBogus w text errs → eqb ch 62 ≡ false
     → BeginsSpans (IsSpan Bogus) (text ++ record { ch = ch; at = at } ∷ []) (errs ++ errors_here false (record { ch = ch; at = at }))
 bogus_more w text errs ch at h other =

@@ -1,14 +1,16 @@
 -- How a doctype ends, and skipped rests, a character at a time.
 use Rattle.std.proofs.Common.{◌≡◌, ℕ, Bool, true, false, not, ◌||◌, eqb, List, [], ◌∷◌, ◌++◌, sym, refl, ap, ◌∙◌, subst, codes}
-use Rattle.std.proofs.lemmas.Bool.{false≢true, eqb-true}
+use Rattle.std.proofs.lemmas.Bool.{false≢true, eqb-true, and_from, and_parts, not-true, not_from_false, or_from, or_parts}
 use Rattle.names.specs.declared.error.ParseError.{ParseError}
 use Rattle.names.specs.declared.error.ErrorCode.{ErrorCode}
 use Rattle.names.specs.declared.error.ErrorCode.TheVariants.{EofInDoctype}
 use Rattle.names.specs.declared.placed.Placed.{Placed}
 use Rattle.names.specs.Placed.{characters, begins, is_empty, all, is_space, is_greater, is_greater_or_end, error, null_errors}
 use Rattle.hmarkup.specs.Doctype.{Found, force, IsEnd, closed, cut_off, IsSkipped, Skips}
-use Rattle.hmarkup.proofs.Marks.{and_parts, and_both, neither, or_none, null_errors-append}
+use Rattle.hmarkup.proofs.Marks.{null_errors-append}
 use Rattle.hmarkup.proofs.Characters.{greater_not_space}
+-- a lemma of the standard library, under the name by which the crates above cite it
+pub use Rattle.std.proofs.lemmas.Bool.{not-true as not_true}
 
 -- a text that is one character
 pub only : (p : Placed) (ps : List Placed) (c : ℕ) → characters (p ∷ ps) ≡ c ∷ [] → (p.ch ≡ c) × (ps ≡ [])
@@ -22,18 +24,11 @@ pub greater_spells : (p : Placed) → is_greater p.ch ≡ true → characters (p
 greater_spells p h = ap (λ (n : ℕ). n ∷ []) (eqb-true p.ch 62 h)
 
 -- neither white space nor `>`
-pub not_true : (b : Bool) → not b ≡ true → b ≡ false
-not_true true h = absurd (false≢true h)
-not_true false h = refl
-
-pub not_false : (b : Bool) → b ≡ false → not b ≡ true
-not_false b h = ap not h
-
 pub neither_of : (a b : Bool) → not (a || b) ≡ true → (a ≡ false) × (b ≡ false)
-neither_of a b h = neither a b (not_true (a || b) h)
+neither_of a b h = or_parts a b (not-true (a || b) h)
 
 pub not_either : (a b : Bool) → a ≡ false → b ≡ false → not (a || b) ≡ true
-not_either a b e f = not_false (a || b) (or_none a b e f)
+not_either a b e f = not_from_false (a || b) (or_from a b e f)
 
 -- the end
 pub end_at : (known : Found) (end : ℕ) (rest : List Placed) (p : Placed) (ps : List Placed) (found : Found) (errors : List ParseError) → IsEnd known end rest (p ∷ ps) found errors
@@ -56,7 +51,7 @@ module _ (known : Found) (end : ℕ) (rest : List Placed) (found : Found) where
     ends_there : (skipped close : List Placed) → p ∷ ps ≡ skipped ++ close → all (λ c. not (is_greater c)) skipped ≡ true → is_greater_or_end close rest ≡ true → errors ≡ null_errors skipped
         → is_greater p.ch ≡ true → (ps ≡ []) × (errors ≡ [])
     ends_there (s ∷ ss) close t w c e is =
-        absurd (false≢true (sym (not_true (is_greater s.ch) (and_parts (not (is_greater s.ch)) (all (λ c. not (is_greater c)) ss) w).0) ∙ ap (begins is_greater) (sym t) ∙ is))
+        absurd (false≢true (sym (not-true (is_greater s.ch) (and_parts (not (is_greater s.ch)) (all (λ c. not (is_greater c)) ss) w).0) ∙ ap (begins is_greater) (sym t) ∙ is))
     ends_there [] [] t w c e is = absurd cc
     ends_there [] (q ∷ r ∷ rs) t w c e is = absurd (false≢true (and_parts (eqb q.ch 62) false c).1)
     ends_there [] (q ∷ []) t w c e is = (cc, e)
@@ -84,7 +79,7 @@ module _ (known : Found) (end : ℕ) (rest : List Placed) (found : Found) where
       skipped = p ∷ h.skipped;
       close = h.close;
       text_is = ap (λ (x : List Placed). p ∷ x) h.text_is;
-      without = and_both (not (is_greater p.ch)) (all (λ c. not (is_greater c)) h.skipped) (not_false (is_greater p.ch) is) h.without;
+      without = and_from (not (is_greater p.ch)) (all (λ c. not (is_greater c)) h.skipped) (not_from_false (is_greater p.ch) is) h.without;
       closes = h.closes;
       found_is = h.found_is;
       errors_are = ap (λ (x : List ParseError). null_errors (p ∷ []) ++ x) h.errors_are ∙ sym (null_errors-append (p ∷ []) h.skipped);

@@ -1,4 +1,4 @@
--- Handing an error to a sink, whatever it answers.
+-- Handing an error to a sink, whatever it returns.
 use Rattle.std.proofs.Common.{List, [], ◌∷◌, ◌++◌, refl, Result, Ok, Err}
 use Rattle.names.specs.Sink.{Hands}
 use Rattle.names.proofs.Handing.{Hands-append}

@@ -1,7 +1,7 @@
 -- What stands after the name of a doctype, and letters of its keywords: each character.
 use Rattle.std.proofs.Common.{◌≡◌, ℕ, ◌≤◌, Bool, true, false, ◌&&◌, eqb, if◌then◌else◌, List, [], ◌∷◌, ◌++◌, sym, refl, ap, ◌∙◌, subst, codes, Option, Some, None, arith}
 use Rattle.std.specs.Char.{to_ascii_lowercase}
-use Rattle.std.proofs.lemmas.Bool.{false≢true, eqb-true}
+use Rattle.std.proofs.lemmas.Bool.{false≢true, eqb-true, and_from, and_left, and_right, or_from, or_parts}
 use Rattle.names.specs.declared.error.ParseError.{ParseError}
 use Rattle.names.specs.declared.error.ErrorCode.TheVariants.{InvalidCharacterSequenceAfterDoctypeName}
 use Rattle.names.specs.declared.placed.Placed.{Placed}
@@ -13,7 +13,7 @@ use Rattle.hmarkup.specs.declared.keyword.Letters.TheVariants.{P, Pu, Pub, Publ,
 use Rattle.hmarkup.specs.Doctype.{Found, closed, force, IsSkipped, AfterName, name_ends, name_skips, names_identifier, is_keyword, keyword, FollowsKeyword, FollowsName}
 use Rattle.hmarkup.specs.DoctypeSteps.{after_name, begins_keyword, first_letter, goes_on_with, in_keyword, next_letter, letters_after, letters_of, step_errors, found_by}
 use Rattle.hmarkup.specs.DoctypeWalk.{left, IsInKeyword, whole, fails}
-use Rattle.hmarkup.proofs.Marks.{and_both, and_no, neither, or_none, eqb_self}
+use Rattle.hmarkup.proofs.Marks.{eqb_self}
 use Rattle.hmarkup.proofs.Characters.{lower_is_far, far_not_space, far_not_greater, far_not_null, no_null_error}
 use Rattle.hmarkup.proofs.Spaces.{past_space, at_once, with_space, with_none, any_space}
 use Rattle.hmarkup.proofs.Endings.{greater_spells, end_at, end_not_space, skipped_ends, skipped_goes, skipped_more, skips_at, skips_from, skips_not_space}
@@ -79,10 +79,6 @@ pub rest_no : (a b : Bool) → a ≡ true → (a && b) ≡ false → b ≡ false
 rest_no true b e h = h
 rest_no false b e h = absurd (false≢true e)
 
-pub first_no : (a b : Bool) → a ≡ false → (a && b) ≡ false
-first_no true b e = absurd (false≢true (sym e))
-first_no false b e = refl
-
 -- the first letter of a keyword, if it is one
 abbrev pub first_by : Bool → Bool → Option Letters
 first_by a b = if a then Some P else (if b then Some S else None)
@@ -135,7 +131,7 @@ module _ (known : Found) (end : ℕ) (rest : List Placed) (p : Placed) (ps : Lis
       record {
         later = errors;
         errors_are = sym (plain_errors p n None errors);
-        goes = fails later (rest_no (eqb (to_ascii_lowercase p.ch) 112) (spells_in_any_case (codes "ublic") ps) ea (neither _ _ none).0) h (e ∙ plain_errors p n (Some (error InvalidCharacterSequenceAfterDoctypeName p.at)) later);
+        goes = fails later (rest_no (eqb (to_ascii_lowercase p.ch) 112) (spells_in_any_case (codes "ublic") ps) ea (or_parts _ _ none).0) h (e ∙ plain_errors p n (Some (error InvalidCharacterSequenceAfterDoctypeName p.at)) later);
       }
   skips_by errors false true ea eb none later e h =
       let c : to_ascii_lowercase p.ch ≡ 115 = eqb-true (to_ascii_lowercase p.ch) 115 eb in
@@ -143,7 +139,7 @@ module _ (known : Found) (end : ℕ) (rest : List Placed) (p : Placed) (ps : Lis
       record {
         later = errors;
         errors_are = sym (plain_errors p n None errors);
-        goes = fails later (rest_no (eqb (to_ascii_lowercase p.ch) 115) (spells_in_any_case (codes "ystem") ps) eb (neither _ _ none).1) h (e ∙ plain_errors p n (Some (error InvalidCharacterSequenceAfterDoctypeName p.at)) later);
+        goes = fails later (rest_no (eqb (to_ascii_lowercase p.ch) 115) (spells_in_any_case (codes "ystem") ps) eb (or_parts _ _ none).1) h (e ∙ plain_errors p n (Some (error InvalidCharacterSequenceAfterDoctypeName p.at)) later);
       }
   skips_by errors false false ea eb none later e h = record { later = later; errors_are = e; goes = h }
 
@@ -192,10 +188,10 @@ module _ (known : Found) (end : ℕ) (rest : List Placed) (p : Placed) (ps : Lis
 
   -- backwards
   other_letter : (c : ℕ) (cs : List ℕ) (text : List Placed) → to_ascii_lowercase p.ch ≡ c → (d : ℕ) → eqb c d ≡ false → spells_in_any_case (d ∷ cs) (p ∷ text) ≡ false
-  other_letter c cs text l d e = first_no (eqb (to_ascii_lowercase p.ch) d) (spells_in_any_case cs text) (ap (λ (n : ℕ). eqb n d) l ∙ e)
+  other_letter c cs text l d e = and_left (eqb (to_ascii_lowercase p.ch) d) (spells_in_any_case cs text) (ap (λ (n : ℕ). eqb n d) l ∙ e)
 
   same_letter : (c : ℕ) (cs : List ℕ) (text : List Placed) → spells_in_any_case cs text ≡ false → spells_in_any_case (c ∷ cs) (p ∷ text) ≡ false
-  same_letter c cs text e = and_no (eqb (to_ascii_lowercase p.ch) c) (spells_in_any_case cs text) e
+  same_letter c cs text e = and_right (eqb (to_ascii_lowercase p.ch) c) (spells_in_any_case cs text) e
 
   skips_letter : (later more : List ParseError) (c : ℕ) → to_ascii_lowercase p.ch ≡ c → 97 ≤ c → is_keyword (p ∷ ps) ≡ false → IsSkipped (force known) end rest ps found more
       → later ≡ error InvalidCharacterSequenceAfterDoctypeName p.at ∷ more → AfterName known end rest (p ∷ ps) found later
@@ -208,13 +204,13 @@ module _ (known : Found) (end : ℕ) (rest : List Placed) (p : Placed) (ps : Lis
   to_public later l (whole word after t w k) =
       names_identifier Public (p ∷ word) after (ap (λ (x : List Placed). p ∷ x) t) (ap (λ (c : ℕ). c ∷ lowered word) l ∙ ap (λ (x : List ℕ). 112 ∷ x) w) k
   to_public later l (fails more sp h e) =
-      skips_letter later more 112 l (omega arith) (or_none _ _ (same_letter 112 (codes "ublic") ps sp) (other_letter 112 (codes "ystem") ps l 115 refl)) h e
+      skips_letter later more 112 l (omega arith) (or_from _ _ (same_letter 112 (codes "ublic") ps sp) (other_letter 112 (codes "ystem") ps l 115 refl)) h e
 
   to_system : (later : List ParseError) → to_ascii_lowercase p.ch ≡ 115 → IsInKeyword S p.at known end rest ps found later → AfterName known end rest (p ∷ ps) found later
   to_system later l (whole word after t w k) =
       names_identifier System (p ∷ word) after (ap (λ (x : List Placed). p ∷ x) t) (ap (λ (c : ℕ). c ∷ lowered word) l ∙ ap (λ (x : List ℕ). 115 ∷ x) w) k
   to_system later l (fails more sp h e) =
-      skips_letter later more 115 l (omega arith) (or_none _ _ (other_letter 115 (codes "ublic") ps l 112 refl) (same_letter 115 (codes "ystem") ps sp)) h e
+      skips_letter later more 115 l (omega arith) (or_from _ _ (other_letter 115 (codes "ublic") ps l 112 refl) (same_letter 115 (codes "ystem") ps sp)) h e
 
   to_name_core : (later : List ParseError) (a b : Bool) → is_space p.ch ≡ false → is_greater p.ch ≡ false → eqb (to_ascii_lowercase p.ch) 112 ≡ a → eqb (to_ascii_lowercase p.ch) 115 ≡ b
       → Goes (begins_keyword (first_by a b) p.at).next (found_by (begins_keyword (first_by a b) p.at) p known) end rest ps found later
@@ -227,7 +223,7 @@ module _ (known : Found) (end : ℕ) (rest : List Placed) (p : Placed) (ps : Lis
       subst (λ (x : List ParseError). AfterName known end rest (p ∷ ps) found x) (sym (plain_errors p (letter_error p 115 l (omega arith)) None later)) (to_system later l h)
   to_name_core later false false es eg ea eb h =
       name_skips (skips_from (force known) end rest found p ps later is_keyword InvalidCharacterSequenceAfterDoctypeName es eg
-      (or_none _ _ (first_no (eqb (to_ascii_lowercase p.ch) 112) (spells_in_any_case (codes "ublic") ps) ea) (first_no (eqb (to_ascii_lowercase p.ch) 115) (spells_in_any_case (codes "ystem") ps) eb)) h)
+      (or_from _ _ (and_left (eqb (to_ascii_lowercase p.ch) 112) (spells_in_any_case (codes "ublic") ps) ea) (and_left (eqb (to_ascii_lowercase p.ch) 115) (spells_in_any_case (codes "ystem") ps) eb)) h)
 
   pub to_after_name : (later : List ParseError) (s g : Bool) → is_space p.ch ≡ s → is_greater p.ch ≡ g
       → Goes (after_name s g (first_letter p.ch) p.at).next (found_by (after_name s g (first_letter p.ch) p.at) p known) end rest ps found later
@@ -261,7 +257,11 @@ module _ (known : Found) (end : ℕ) (rest : List Placed) (p : Placed) (ps : Lis
       → errors ≡ error InvalidCharacterSequenceAfterDoctypeName first ∷ later → null_errors (p ∷ []) ≡ [] → Stepped (goes_on_with (letters_of letters) next first) known end rest p ps found errors
   unfolding left_after
   keyword_fails letters first errors later None sp h e n = absurd (false≢true (sym sp))
-  keyword_fails letters first errors later (Some next) sp h e n = record { later = errors; errors_are = sym (plain_errors p n None errors); goes = fails later sp h e }
+  keyword_fails letters first errors later (Some next) sp h e n = record {
+    later = errors;
+    errors_are = sym (plain_errors p n None errors);
+    goes = fails later sp h e;
+  }
 
   pub from_keyword : (letters : Letters) (first : ℕ) (errors : List ParseError) (m g : Bool) → eqb (to_ascii_lowercase p.ch) (next_letter letters) ≡ m → is_greater p.ch ≡ g
       → IsInKeyword letters first known end rest (p ∷ ps) found errors → Stepped (in_keyword letters first m g) known end rest p ps found errors
@@ -308,7 +308,7 @@ module _ (known : Found) (end : ℕ) (rest : List Placed) (p : Placed) (ps : Lis
       (subst (λ (x : List ParseError). IsSkipped (force known) end rest (p ∷ ps) found x) (ap (λ (x : List ParseError). x ++ more) n) (skipped_more (force known) end rest found p ps more h (letter_not_greater p _ l far))) e
 
   other_no : (letters : Letters) → eqb (to_ascii_lowercase p.ch) (next_letter letters) ≡ false → spells_in_any_case (left letters) (p ∷ ps) ≡ false
-  other_no letters em = ap (λ (x : List ℕ). spells_in_any_case x (p ∷ ps)) (left_is letters) ∙ first_no (eqb (to_ascii_lowercase p.ch) (next_letter letters)) (spells_in_any_case (left_after (letters_after letters)) ps) em
+  other_no letters em = ap (λ (x : List ℕ). spells_in_any_case x (p ∷ ps)) (left_is letters) ∙ and_left (eqb (to_ascii_lowercase p.ch) (next_letter letters)) (spells_in_any_case (left_after (letters_after letters)) ps) em
 
   pub to_keyword : (letters : Letters) (first : ℕ) (later : List ParseError) (m g : Bool) → eqb (to_ascii_lowercase p.ch) (next_letter letters) ≡ m → is_greater p.ch ≡ g
       → Goes (in_keyword letters first m g).next (found_by (in_keyword letters first m g) p known) end rest ps found later
@@ -323,7 +323,7 @@ module _ (known : Found) (end : ℕ) (rest : List Placed) (p : Placed) (ps : Lis
       no_errors letters first later (Some next) n = plain_errors p n None later
   to_keyword letters first later false true em eg (t, f, e) =
       fails [] (other_no letters em)
-      (record { skipped = []; close = p ∷ ps; text_is = refl; without = refl; closes = subst (λ (x : List Placed). is_greater_or_end (p ∷ x) rest ≡ true) (sym t) (and_both (is_greater p.ch) true eg refl); found_is = f; errors_are = refl })
+      (record { skipped = []; close = p ∷ ps; text_is = refl; without = refl; closes = subst (λ (x : List Placed). is_greater_or_end (p ∷ x) rest ≡ true) (sym t) (and_from (is_greater p.ch) true eg refl); found_is = f; errors_are = refl })
       (plain_errors p (greater_error p eg) (Some (error InvalidCharacterSequenceAfterDoctypeName first)) later ∙ ap (λ (x : List ParseError). error InvalidCharacterSequenceAfterDoctypeName first ∷ x) e)
   to_keyword letters first later false false em eg h =
       fails (null_errors (p ∷ []) ++ later) (other_no letters em) (skipped_more (force known) end rest found p ps later h eg) refl

@@ -22,3 +22,7 @@ pub mod Phases
 pub mod Reading
 pub mod Outcomes
 pub mod Lines
+pub mod SomeSpan
+pub mod Closing
+pub mod Running
+pub mod DoctypeRows

@@ -2,19 +2,19 @@
 use Rattle.std.proofs.Common.{◌≡◌, ◌≢◌, ℕ, ◌+◌, ◌<◌, suc, Bool, false, ◌||◌, eqb, cond, List, [], ◌∷◌, ◌++◌, length, get_or, Bor, sym, refl, ap, ◌∙◌, subst, Option, Some, None, Ok, Err, append-nil, arith}
 use Rattle.std.specs.Prelude.{MatchOption}
 use Rattle.std.specs.List.{list_any}
-use Rattle.std.proofs.lemmas.Bool.{false≢true, eqb-true}
+use Rattle.std.proofs.lemmas.Bool.{false≢true, eqb-true, false_from_ne_true, or_parts}
 use Rattle.std.proofs.lemmas.Str.Pattern.{IsSplitOnceResult, split_parts}
 use Rattle.hmarkup.specs.declared.quirks.QuirkKind.{QuirkKind}
 use Rattle.hmarkup.specs.declared.quirks.QuirkKind.TheVariants.{PublicIs, PublicBegins, SystemIs, PublicBeginsWithoutSystem}
 use Rattle.names.specs.declared.refusal.Refusal.TheVariants.{BadQuirks}
 use Rattle.hmarkup.specs.Quirks.{QuirkLine, quirk_word, IsQuirkLine, IsNoQuirkLine, in_line, lines, AreQuirkLines, ReadsQuirks, bad_line, read_all, IsWordless, Lacks, HasParts}
-use Rattle.hmarkup.proofs.Marks.{neither, false_if, eqb_self}
+use Rattle.hmarkup.proofs.Marks.{eqb_self}
 
 -- a text without a mark
 pub lacks_of : (c : ℕ) (bs : List ℕ) → ((i : ℕ) → i < length bs → get_or bs i 0 ≢ c) → Lacks c bs
 lacks_of c [] h = refl
 lacks_of c (b ∷ bs) h =
-    let first : eqb b c ≡ false = false_if (eqb b c) (λ e. h 0 (omega arith) (eqb-true b c e)) in
+    let first : eqb b c ≡ false = false_from_ne_true (eqb b c) (λ e. h 0 (omega arith) (eqb-true b c e)) in
     ap (λ (x : Bool). x || list_any (λ d. eqb d c) bs) first ∙ lacks_of c bs (λ i l. h (suc i) (omega (arith, l)))
 
 pub parts_of : (c : ℕ) (bs : List ℕ) (r : Option (Bor (List ℕ) × Bor (List ℕ))) → MatchOption r ((i : ℕ) → i < length bs → get_or bs i 0 ≢ c) (λ x. (bs ≡ x.0.now ++ (c ∷ x.1.now)) × ((i : ℕ) → i < length x.0.now → get_or x.0.now i 0 ≢ c))
@@ -29,7 +29,7 @@ parts_at c bs r h l = parts_of c bs r (split_parts c bs r h l)
 line_before : (line after : List ℕ) → Lacks 10 line → lines (line ++ 10 ∷ after) ≡ line ∷ lines after
 line_before [] after h = refl
 line_before (c ∷ cs) after h =
-    let k = neither (eqb c 10) (list_any (λ d. eqb d 10) cs) h in
+    let k = or_parts (eqb c 10) (list_any (λ d. eqb d 10) cs) h in
     ap (λ (b : Bool). cond b ([] ∷ lines (cs ++ 10 ∷ after)) (in_line c (lines (cs ++ 10 ∷ after)))) k.0 ∙ ap (in_line c) (line_before cs after k.1)
 
 pub first_of : (text line after : List ℕ) → HasParts 10 text line after → lines text ≡ line ∷ lines after
@@ -37,9 +37,9 @@ first_of text line after h = ap lines h.text_is ∙ line_before line after h.lac
 
 pub last_of : (text : List ℕ) → Lacks 10 text → 0 < length text → lines text ≡ text ∷ []
 last_of [] h l = absurd (omega (arith, l))
-last_of (c ∷ []) h l = let k = neither (eqb c 10) false h in ap (λ (b : Bool). cond b ([] ∷ []) ((c ∷ []) ∷ [])) k.0
+last_of (c ∷ []) h l = let k = or_parts (eqb c 10) false h in ap (λ (b : Bool). cond b ([] ∷ []) ((c ∷ []) ∷ [])) k.0
 last_of (c ∷ d ∷ cs) h l =
-    let k = neither (eqb c 10) (list_any (λ d. eqb d 10) (d ∷ cs)) h in
+    let k = or_parts (eqb c 10) (list_any (λ d. eqb d 10) (d ∷ cs)) h in
     ap (λ (b : Bool). cond b ([] ∷ lines (d ∷ cs)) (in_line c (lines (d ∷ cs)))) k.0 ∙ ap (in_line c) (last_of (d ∷ cs) k.1 (omega arith))
 
 -- a text is cut at its first mark in one way
@@ -47,14 +47,14 @@ one_cut : (c : ℕ) (xs ys zs ws : List ℕ) → Lacks c xs → Lacks c zs → x
 one_cut c [] ys [] ws h k e = (refl, cc)
 one_cut c [] ys (z ∷ zs) ws h k e =
     let head : z ≡ c = cc in
-    absurd (false≢true (sym (neither (eqb z c) (list_any (λ d. eqb d c) zs) k).0 ∙ ap (λ (n : ℕ). eqb n c) head ∙ eqb_self c))
+    absurd (false≢true (sym (or_parts (eqb z c) (list_any (λ d. eqb d c) zs) k).0 ∙ ap (λ (n : ℕ). eqb n c) head ∙ eqb_self c))
 one_cut c (x ∷ xs) ys [] ws h k e =
     let head : x ≡ c = cc in
-    absurd (false≢true (sym (neither (eqb x c) (list_any (λ d. eqb d c) xs) h).0 ∙ ap (λ (n : ℕ). eqb n c) head ∙ eqb_self c))
+    absurd (false≢true (sym (or_parts (eqb x c) (list_any (λ d. eqb d c) xs) h).0 ∙ ap (λ (n : ℕ). eqb n c) head ∙ eqb_self c))
 one_cut c (x ∷ xs) ys (z ∷ zs) ws h k e =
     let head : x ≡ z = cc in
     let tail : xs ++ c ∷ ys ≡ zs ++ c ∷ ws = cc in
-    let same = one_cut c xs ys zs ws (neither (eqb x c) (list_any (λ d. eqb d c) xs) h).1 (neither (eqb z c) (list_any (λ d. eqb d c) zs) k).1 tail in
+    let same = one_cut c xs ys zs ws (or_parts (eqb x c) (list_any (λ d. eqb d c) xs) h).1 (or_parts (eqb z c) (list_any (λ d. eqb d c) zs) k).1 tail in
     (ap (λ (n : ℕ). n ∷ xs) head ∙ ap (λ (l : List ℕ). z ∷ l) same.0, same.1)
 
 word_lacks : (kind : QuirkKind) → Lacks 32 (quirk_word kind)
@@ -83,7 +83,7 @@ are_as_many [] (q ∷ qs) h = absurd h
 are_as_many (b ∷ bs) [] h = absurd h
 are_as_many (b ∷ bs) (q ∷ qs) h = let e = are_as_many bs qs h.1 in omega (arith, e)
 
--- what the reading of a list answers
+-- the outcomes of reading a list
 pub at_bad_line : (text rest line after : List ℕ) (before : List (List ℕ)) (quirks : List QuirkLine) (n : ℕ) → lines text ≡ before ++ lines rest → AreQuirkLines before quirks → lines rest ≡ line ∷ lines after → IsNoQuirkLine line
     → n ≡ length quirks → ReadsQuirks text (Err (BadQuirks (n + 1)))
 at_bad_line text rest line after before quirks n e h f none count =

@@ -1,6 +1,6 @@
 -- Words on texts: marks that a text avoids, and texts that grow.
-use Rattle.std.proofs.Common.{◌≡◌, ℕ, ◌≤◌, Bool, true, false, cond, ◌&&◌, ◌||◌, eqb, List, [], ◌∷◌, ◌++◌, length, map, sym, refl, ap, ◌∙◌, subst, append_assoc, arith, length-append}
-use Rattle.std.proofs.lemmas.Bool.{false≢true}
+use Rattle.std.proofs.Common.{◌≡◌, ℕ, ◌≤◌, Bool, true, false, cond, ◌&&◌, eqb, List, [], ◌∷◌, ◌++◌, length, map, sym, refl, ap, ◌∙◌, subst, append_assoc, arith, length-append}
+use Rattle.std.proofs.lemmas.Bool.{false≢true, and_from, and_parts}
 use Rattle.std.proofs.lemmas.Bool.Decides.{nat_tests}
 use Rattle.std.proofs.lemmas.List.{map-append}
 use Rattle.std.proofs.lemmas.Str.{encodes-append}
@@ -9,39 +9,8 @@ use Rattle.std.specs.Prelude.{encode_utf8_all}
 use Rattle.names.specs.declared.error.ErrorCode.TheVariants.{UnexpectedNullCharacter}
 use Rattle.names.specs.declared.placed.Placed.{Placed}
 use Rattle.names.specs.Placed.{characters, spells, is_front, before, Avoids, error, null_errors, text_bytes, without_null}
-
--- tests
-pub and_parts : (a b : Bool) → (a && b) ≡ true → (a ≡ true) × (b ≡ true)
-and_parts true b h = (refl, h)
-and_parts false b h = absurd (false≢true h)
-
-pub and_both : (a b : Bool) → a ≡ true → b ≡ true → (a && b) ≡ true
-and_both true b e f = f
-and_both false b e f = e
-
-pub and_no : (a b : Bool) → b ≡ false → (a && b) ≡ false
-and_no true b h = h
-and_no false b h = refl
-
-pub false_if : (b : Bool) → (b ≡ true → ⊥) → b ≡ false
-false_if true h = absurd (h refl)
-false_if false h = refl
-
-pub neither : (a b : Bool) → (a || b) ≡ false → (a ≡ false) × (b ≡ false)
-neither true b h = absurd (false≢true (sym h))
-neither false b h = (refl, h)
-
-pub or_none : (a b : Bool) → a ≡ false → b ≡ false → (a || b) ≡ false
-or_none true b e f = e
-or_none false b e f = f
-
-pub or_left : (a b : Bool) → a ≡ true → (a || b) ≡ true
-or_left true b e = refl
-or_left false b e = absurd (false≢true e)
-
-pub or_right : (a b : Bool) → b ≡ true → (a || b) ≡ true
-or_right true b e = refl
-or_right false b e = e
+-- lemmas of the standard library, under the names by which the crates above cite them
+pub use Rattle.std.proofs.lemmas.Bool.{and_parts, and_from as and_both, and_right as and_no, or_parts as neither, or_from as or_none, or_left, or_right}
 
 -- the text before a mark, past a front that the mark avoids
 pub before-avoids : (mark : List Placed → Bool) (xs after : List Placed) → Avoids mark xs after → before mark (xs ++ after) ≡ xs ++ before mark after
@@ -91,14 +60,14 @@ front-less [] p m h = refl
 front-less (x ∷ xs) p [] h = h
 front-less (x ∷ xs) p (c ∷ cs) h =
     let k = and_parts (eqb x.ch c) (is_front (xs ++ p ∷ []) cs) h in
-    and_both (eqb x.ch c) (is_front xs cs) k.0 (front-less xs p cs k.1)
+    and_from (eqb x.ch c) (is_front xs cs) k.0 (front-less xs p cs k.1)
 
 pub front-longer : (xs : List Placed) (m n : List ℕ) → is_front xs m ≡ true → is_front xs (m ++ n) ≡ true
 front-longer [] m n h = refl
 front-longer (x ∷ xs) [] n h = absurd (false≢true h)
 front-longer (x ∷ xs) (c ∷ cs) n h =
     let k = and_parts (eqb x.ch c) (is_front xs cs) h in
-    and_both (eqb x.ch c) (is_front xs (cs ++ n)) k.0 (front-longer xs cs n k.1)
+    and_from (eqb x.ch c) (is_front xs (cs ++ n)) k.0 (front-longer xs cs n k.1)
 
 under : (b f s t : Bool) → (f ≡ false → s ≡ false → t ≡ false) → (b && f) ≡ false → (b && s) ≡ false → (b && t) ≡ false
 under true f s t go h k = go h k
@@ -127,7 +96,7 @@ eqb_self n = grind (arith, nat_tests)
 
 spells-own : (xs rest : List Placed) → spells (characters xs) (xs ++ rest) ≡ true
 spells-own [] rest = refl
-spells-own (x ∷ xs) rest = and_both (eqb x.ch x.ch) (spells (characters xs) (xs ++ rest)) (eqb_self x.ch) (spells-own xs rest)
+spells-own (x ∷ xs) rest = and_from (eqb x.ch x.ch) (spells (characters xs) (xs ++ rest)) (eqb_self x.ch) (spells-own xs rest)
 
 pub spells-characters : (cs : List ℕ) (xs rest : List Placed) → characters xs ≡ cs → spells cs (xs ++ rest) ≡ true
 spells-characters cs xs rest h = subst (λ (c : List ℕ). spells c (xs ++ rest) ≡ true) h (spells-own xs rest)

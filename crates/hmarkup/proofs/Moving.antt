@@ -1,6 +1,6 @@
 -- The last characters of a comment that has not ended, when one more comes.
 use Rattle.std.proofs.Common.{◌≡◌, ℕ, Bool, true, false, ◌⊎◌, eqb, List, [], ◌∷◌, ◌++◌, sym, refl, ◌∙◌, subst, append-nil, codes, arith, ◌≤◌, length}
-use Rattle.std.proofs.lemmas.Bool.{false≢true, eqb-true}
+use Rattle.std.proofs.lemmas.Bool.{false≢true, eqb-true, false_from_ne_true, or_from, or_parts}
 use mathlib.Core.Logic.{inl, inr}
 use lib.Utf8.{encode}
 use Rattle.names.specs.declared.placed.Placed.{Placed}
@@ -10,17 +10,17 @@ use Rattle.hmarkup.specs.declared.tail.Ending.TheVariants.{Plain, Dash, Dashes, 
 use Rattle.hmarkup.specs.Comment.{closes_comment, is_ending}
 use Rattle.hmarkup.specs.CommentWalk.{IsHeld, holds_nothing, holds_dash, holds_dashes, holds_bang}
 use Rattle.hmarkup.specs.Steps.{next_ending, decided}
-use Rattle.hmarkup.proofs.Marks.{front-less, front-longer, spells-more, neither, or_none, false_if}
+use Rattle.hmarkup.proofs.Marks.{front-less, front-longer, spells-more}
 
 -- one more character makes no mark within the data
 pub ending-more : (p q : Placed) (x : List Placed) → is_ending (q ∷ x) ≡ false → is_ending (q ∷ x) ≡ false → is_ending (q ∷ x ++ p ∷ []) ≡ false
-ending-more p q x h _ = false_if (is_ending (q ∷ x ++ p ∷ [])) (λ e. false≢true (sym h ∙ front-less (q ∷ x) p (codes "--!") e))
+ending-more p q x h _ = false_from_ne_true (is_ending (q ∷ x ++ p ∷ [])) (λ e. false≢true (sym h ∙ front-less (q ∷ x) p (codes "--!") e))
 
 pub closes-more : (p q : Placed) (x : List Placed) → is_ending (q ∷ x) ≡ false → closes_comment (q ∷ x) ≡ false → closes_comment (q ∷ x ++ p ∷ []) ≡ false
 closes-more p q x h k =
-    let parts = neither (spells (codes "-->") (q ∷ x)) (spells (codes "--!>") (q ∷ x)) k in
-    let short : is_front (q ∷ x) (codes "--") ≡ false = false_if (is_front (q ∷ x) (codes "--")) (λ e. false≢true (sym h ∙ front-longer (q ∷ x) (codes "--") (codes "!") e)) in
-    or_none (spells (codes "-->") (q ∷ x ++ p ∷ [])) (spells (codes "--!>") (q ∷ x ++ p ∷ []))
+    let parts = or_parts (spells (codes "-->") (q ∷ x)) (spells (codes "--!>") (q ∷ x)) k in
+    let short : is_front (q ∷ x) (codes "--") ≡ false = false_from_ne_true (is_front (q ∷ x) (codes "--")) (λ e. false≢true (sym h ∙ front-longer (q ∷ x) (codes "--") (codes "!") e)) in
+    or_from (spells (codes "-->") (q ∷ x ++ p ∷ [])) (spells (codes "--!>") (q ∷ x ++ p ∷ []))
     (spells-more (codes "--") 62 (q ∷ x) p short parts.0) (spells-more (codes "--!") 62 (q ∷ x) p h parts.1)
 
 -- The characters held, and one more: some are data now, and some are held.
@@ -35,17 +35,81 @@ pub record Moves (ending : Ending) (held : List Placed) (p : Placed) : Type 0 wh
 
 pub moves_dash : (ending : Ending) (held : List Placed) (at : ℕ) → IsHeld ending held → Moves ending held (record { ch = 45; at = at })
 unfolding encode
-moves_dash ending held at holds_nothing = record { moved = []; left = record { ch = 45; at = at } ∷ []; split = refl; is_held = holds_dash at; no_close = tt; no_ending = tt; bytes_are = refl }
-moves_dash ending held at (holds_dash a) = record { moved = []; left = record { ch = 45; at = a } ∷ record { ch = 45; at = at } ∷ []; split = refl; is_held = holds_dashes a at; no_close = tt; no_ending = tt; bytes_are = refl }
-moves_dash ending held at (holds_dashes a b) = record { moved = record { ch = 45; at = a } ∷ []; left = record { ch = 45; at = b } ∷ record { ch = 45; at = at } ∷ []; split = refl; is_held = holds_dashes b at; no_close = (refl, tt); no_ending = (refl, tt); bytes_are = refl }
-moves_dash ending held at (holds_bang a b d) = record { moved = record { ch = 45; at = a } ∷ record { ch = 45; at = b } ∷ record { ch = 33; at = d } ∷ []; left = record { ch = 45; at = at } ∷ []; split = refl; is_held = holds_dash at; no_close = (refl, (refl, (refl, tt))); no_ending = (refl, (refl, (refl, tt))); bytes_are = refl }
+moves_dash ending held at holds_nothing = record {
+  moved = [];
+  left = record { ch = 45; at = at } ∷ [];
+  split = refl;
+  is_held = holds_dash at;
+  no_close = tt;
+  no_ending = tt;
+  bytes_are = refl;
+}
+moves_dash ending held at (holds_dash a) = record {
+  moved = [];
+  left = record { ch = 45; at = a } ∷ record { ch = 45; at = at } ∷ [];
+  split = refl;
+  is_held = holds_dashes a at;
+  no_close = tt;
+  no_ending = tt;
+  bytes_are = refl;
+}
+moves_dash ending held at (holds_dashes a b) = record {
+  moved = record { ch = 45; at = a } ∷ [];
+  left = record { ch = 45; at = b } ∷ record { ch = 45; at = at } ∷ [];
+  split = refl;
+  is_held = holds_dashes b at;
+  no_close = (refl, tt);
+  no_ending = (refl, tt);
+  bytes_are = refl;
+}
+moves_dash ending held at (holds_bang a b d) = record {
+  moved = record { ch = 45; at = a } ∷ record { ch = 45; at = b } ∷ record { ch = 33; at = d } ∷ [];
+  left = record { ch = 45; at = at } ∷ [];
+  split = refl;
+  is_held = holds_dash at;
+  no_close = (refl, (refl, (refl, tt)));
+  no_ending = (refl, (refl, (refl, tt)));
+  bytes_are = refl;
+}
 
 pub moves_bang : (ending : Ending) (held : List Placed) (at : ℕ) → IsHeld ending held → Moves ending held (record { ch = 33; at = at })
 unfolding encode
-moves_bang ending held at holds_nothing = record { moved = record { ch = 33; at = at } ∷ []; left = []; split = refl; is_held = holds_nothing; no_close = (refl, tt); no_ending = (refl, tt); bytes_are = refl }
-moves_bang ending held at (holds_dash a) = record { moved = record { ch = 45; at = a } ∷ record { ch = 33; at = at } ∷ []; left = []; split = refl; is_held = holds_nothing; no_close = (refl, (refl, tt)); no_ending = (refl, (refl, tt)); bytes_are = refl }
-moves_bang ending held at (holds_dashes a b) = record { moved = []; left = record { ch = 45; at = a } ∷ record { ch = 45; at = b } ∷ record { ch = 33; at = at } ∷ []; split = refl; is_held = holds_bang a b at; no_close = tt; no_ending = tt; bytes_are = refl }
-moves_bang ending held at (holds_bang a b d) = record { moved = record { ch = 45; at = a } ∷ record { ch = 45; at = b } ∷ record { ch = 33; at = d } ∷ record { ch = 33; at = at } ∷ []; left = []; split = refl; is_held = holds_nothing; no_close = (refl, (refl, (refl, (refl, tt)))); no_ending = (refl, (refl, (refl, (refl, tt)))); bytes_are = refl }
+moves_bang ending held at holds_nothing = record {
+  moved = record { ch = 33; at = at } ∷ [];
+  left = [];
+  split = refl;
+  is_held = holds_nothing;
+  no_close = (refl, tt);
+  no_ending = (refl, tt);
+  bytes_are = refl;
+}
+moves_bang ending held at (holds_dash a) = record {
+  moved = record { ch = 45; at = a } ∷ record { ch = 33; at = at } ∷ [];
+  left = [];
+  split = refl;
+  is_held = holds_nothing;
+  no_close = (refl, (refl, tt));
+  no_ending = (refl, (refl, tt));
+  bytes_are = refl;
+}
+moves_bang ending held at (holds_dashes a b) = record {
+  moved = [];
+  left = record { ch = 45; at = a } ∷ record { ch = 45; at = b } ∷ record { ch = 33; at = at } ∷ [];
+  split = refl;
+  is_held = holds_bang a b at;
+  no_close = tt;
+  no_ending = tt;
+  bytes_are = refl;
+}
+moves_bang ending held at (holds_bang a b d) = record {
+  moved = record { ch = 45; at = a } ∷ record { ch = 45; at = b } ∷ record { ch = 33; at = d } ∷ record { ch = 33; at = at } ∷ [];
+  left = [];
+  split = refl;
+  is_held = holds_nothing;
+  no_close = (refl, (refl, (refl, (refl, tt))));
+  no_ending = (refl, (refl, (refl, (refl, tt))));
+  bytes_are = refl;
+}
 
 -- whether a `>` right after it closes the comment
 abbrev pub closes : Ending → Bool
@@ -56,10 +120,46 @@ closes Bang = true
 
 pub moves_other : (ending : Ending) (held : List Placed) (p : Placed) → eqb p.ch 45 ≡ false → eqb p.ch 33 ≡ false → (closes ending ≡ true → eqb p.ch 62 ≡ false) → IsHeld ending held → Moves ending held p
 unfolding encode
-moves_other ending held p n45 n33 n62 holds_nothing = record { moved = p ∷ []; left = []; split = refl; is_held = simp (n45, n33) holds_nothing; no_close = (simp (n45), tt); no_ending = (simp (n45), tt); bytes_are = simp (n45, n33, append-nil) }
-moves_other ending held p n45 n33 n62 (holds_dash a) = record { moved = record { ch = 45; at = a } ∷ p ∷ []; left = []; split = refl; is_held = simp (n45, n33) holds_nothing; no_close = (simp (n45), (simp (n45), tt)); no_ending = (simp (n45), (simp (n45), tt)); bytes_are = simp (n45, n33, append-nil) }
-moves_other ending held p n45 n33 n62 (holds_dashes a b) = let n62 = n62 refl in record { moved = record { ch = 45; at = a } ∷ record { ch = 45; at = b } ∷ p ∷ []; left = []; split = refl; is_held = simp (n45, n33) holds_nothing; no_close = (simp (n33, n62), (simp (n45), (simp (n45), tt))); no_ending = (simp (n33), (simp (n45), (simp (n45), tt))); bytes_are = simp (n45, n33, append-nil) }
-moves_other ending held p n45 n33 n62 (holds_bang a b d) = let n62 = n62 refl in record { moved = record { ch = 45; at = a } ∷ record { ch = 45; at = b } ∷ record { ch = 33; at = d } ∷ p ∷ []; left = []; split = refl; is_held = simp (n45, n33) holds_nothing; no_close = (simp (n62), (refl, (refl, (simp (n45), tt)))); no_ending = (refl, (refl, (refl, (simp (n45), tt)))); bytes_are = simp (n45, n33, append-nil) }
+moves_other ending held p n45 n33 n62 holds_nothing = record {
+  moved = p ∷ [];
+  left = [];
+  split = refl;
+  is_held = simp (n45, n33) holds_nothing;
+  no_close = (simp (n45), tt);
+  no_ending = (simp (n45), tt);
+  bytes_are = simp (n45, n33, append-nil);
+}
+moves_other ending held p n45 n33 n62 (holds_dash a) = record {
+  moved = record { ch = 45; at = a } ∷ p ∷ [];
+  left = [];
+  split = refl;
+  is_held = simp (n45, n33) holds_nothing;
+  no_close = (simp (n45), (simp (n45), tt));
+  no_ending = (simp (n45), (simp (n45), tt));
+  bytes_are = simp (n45, n33, append-nil);
+}
+moves_other ending held p n45 n33 n62 (holds_dashes a b) =
+    let n62 = n62 refl in
+    record {
+      moved = record { ch = 45; at = a } ∷ record { ch = 45; at = b } ∷ p ∷ [];
+      left = [];
+      split = refl;
+      is_held = simp (n45, n33) holds_nothing;
+      no_close = (simp (n33, n62), (simp (n45), (simp (n45), tt)));
+      no_ending = (simp (n33), (simp (n45), (simp (n45), tt)));
+      bytes_are = simp (n45, n33, append-nil);
+    }
+moves_other ending held p n45 n33 n62 (holds_bang a b d) =
+    let n62 = n62 refl in
+    record {
+      moved = record { ch = 45; at = a } ∷ record { ch = 45; at = b } ∷ record { ch = 33; at = d } ∷ p ∷ [];
+      left = [];
+      split = refl;
+      is_held = simp (n45, n33) holds_nothing;
+      no_close = (simp (n62), (refl, (refl, (simp (n45), tt))));
+      no_ending = (refl, (refl, (refl, (simp (n45), tt))));
+      bytes_are = simp (n45, n33, append-nil);
+    }
 
 on_tests : (ending : Ending) (held : List Placed) (ch at : ℕ) → (closes ending ≡ true → eqb ch 62 ≡ false) → IsHeld ending held
     → (dash bang : Bool) → eqb ch 45 ≡ dash → eqb ch 33 ≡ bang → Moves ending held (record { ch = ch; at = at })

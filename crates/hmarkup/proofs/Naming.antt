@@ -1,18 +1,18 @@
 -- The name of a doctype: each character.
 use Rattle.std.proofs.Common.{◌≡◌, ℕ, Bool, true, false, not, ◌||◌, if◌then◌else◌, List, [], ◌∷◌, ◌++◌, sym, refl, ap, ◌∙◌, subst, Option, Some, None, append_assoc}
 use Rattle.std.specs.Prelude.{is_some}
-use Rattle.std.proofs.lemmas.Bool.{false≢true}
+use Rattle.std.proofs.lemmas.Bool.{false≢true, and_from, and_parts, not-true, or_from, or_left, or_right}
 use Rattle.names.specs.declared.error.ParseError.{ParseError}
 use Rattle.names.specs.declared.error.ErrorCode.TheVariants.{MissingDoctypeName, MissingWhitespaceBeforeDoctypeName}
 use Rattle.names.specs.declared.placed.Placed.{Placed}
 use Rattle.names.specs.Placed.{characters, begins, stops, all, is_space, is_greater, error, null_errors, name_bytes}
 use Rattle.hmarkup.specs.Doctype.{Found, closed, name_ends, named, AfterSpace, AfterName, FollowsName, IsName, AfterOpening, begins_name, nameless, unfinished}
 use Rattle.hmarkup.specs.DoctypeSteps.{before_name, in_name, step_errors, fault_errors, found_by}
-use Rattle.hmarkup.proofs.Marks.{and_parts, and_both, or_none, or_left, or_right, null_errors-append}
+use Rattle.hmarkup.proofs.Marks.{null_errors-append}
 use Rattle.hmarkup.proofs.Characters.{greater_not_space}
 use Rattle.hmarkup.proofs.Parts.{named-cons, named_not}
 use Rattle.hmarkup.proofs.Spaces.{past_space, at_once, with_space, with_none, any_space}
-use Rattle.hmarkup.proofs.Endings.{only_greater, greater_spells, not_true, neither_of, not_either}
+use Rattle.hmarkup.proofs.Endings.{only_greater, greater_spells, neither_of, not_either}
 use Rattle.hmarkup.proofs.Stepping.{Goes, Stepped, plain_errors, space_error, greater_error, fault_if}
 use Rattle.hmarkup.proofs.Keywords.{name_not_space, name_ended}
 
@@ -51,7 +51,7 @@ module _ (known : Found) (end : ℕ) (rest : List Placed) (p : Placed) (ps : Lis
       subst (λ (x : List ParseError). FollowsName known end rest (p ∷ ps) found x) (sym e)
       (subst (λ (x : List Placed). FollowsName known end rest x found later) (sym t) (subst (λ (x : Found). FollowsName x end rest after found later) (named_not known begun) f))
   name_over errors (n ∷ ns) after later t a f e is begun =
-      absurd (false≢true (sym (not_true (is_space n.ch || is_greater n.ch) (and_parts (not (is_space n.ch || is_greater n.ch)) (all (λ c. not (is_space c || is_greater c)) ns) a).0)
+      absurd (false≢true (sym (not-true (is_space n.ch || is_greater n.ch) (and_parts (not (is_space n.ch || is_greater n.ch)) (all (λ c. not (is_space c || is_greater c)) ns) a).0)
       ∙ ap (begins (λ c. is_space c || is_greater c)) (sym t) ∙ is))
 
   name_stops : (errors : List ParseError) → IsName known end rest (p ∷ ps) found errors → (is_space p.ch || is_greater p.ch) ≡ true → is_some known.name ≡ true → FollowsName known end rest (p ∷ ps) found errors
@@ -71,7 +71,7 @@ module _ (known : Found) (end : ℕ) (rest : List Placed) (p : Placed) (ps : Lis
       let m = name_ended known end rest p ps found errors eg (at_once (λ spaced. AfterName known) false end rest found errors (p ∷ ps) k es) in
       record { later = []; errors_are = m.2 ∙ sym (plain_errors p (greater_error p eg) None []); goes = (m.0, m.1, refl) }
   from_name errors false false es eg begun h =
-      let k = name_goes errors h (or_none (is_space p.ch) (is_greater p.ch) es eg) in
+      let k = name_goes errors h (or_from (is_space p.ch) (is_greater p.ch) es eg) in
       record { later = k.0; errors_are = k.1; goes = k.2 }
 
   -- backwards
@@ -92,7 +92,7 @@ module _ (known : Found) (end : ℕ) (rest : List Placed) (p : Placed) (ps : Lis
     after = h.after;
     later = h.later;
     text_is = ap (λ (x : List Placed). p ∷ x) h.text_is;
-    runs = record { passes_none = and_both (not (is_space p.ch || is_greater p.ch)) _ (not_either (is_space p.ch) (is_greater p.ch) es eg) h.runs.passes_none; stops_after = h.runs.stops_after };
+    runs = record { passes_none = and_from (not (is_space p.ch || is_greater p.ch)) _ (not_either (is_space p.ch) (is_greater p.ch) es eg) h.runs.passes_none; stops_after = h.runs.stops_after };
     follows = subst (λ (x : Found). FollowsName x end rest h.after found h.later) (sym (named-cons p h.name known)) h.follows;
     errors_are = ap (λ (x : List ParseError). null_errors (p ∷ []) ++ x) h.errors_are ∙ sym (append_assoc (null_errors (p ∷ [])) (null_errors h.name) h.later)
         ∙ ap (λ (x : List ParseError). x ++ h.later) (sym (null_errors-append (p ∷ []) h.name));
@@ -119,7 +119,7 @@ module _ (known : Found) (end : ℕ) (rest : List Placed) (p : Placed) (ps : Lis
       → Stepped (before_name spaced false g p.at) known end rest p ps found errors
   from_opening errors spaced true es eg (begins_name later n h e) = absurd (false≢true (sym (neither_of (is_space p.ch) (is_greater p.ch) n).1 ∙ eg))
   from_opening errors spaced false es eg (begins_name later n h e) =
-      let k = name_goes later h (or_none (is_space p.ch) (is_greater p.ch) es eg) in
+      let k = name_goes later h (or_from (is_space p.ch) (is_greater p.ch) es eg) in
       let fault : Option ParseError = if spaced then None else Some (error MissingWhitespaceBeforeDoctypeName p.at) in
       record {
         later = k.0;
@@ -127,7 +127,11 @@ module _ (known : Found) (end : ℕ) (rest : List Placed) (p : Placed) (ps : Lis
             ∙ sym (append_assoc (fault_errors fault) (null_errors (p ∷ [])) k.0);
         goes = k.2;
       }
-  from_opening errors spaced true es eg (nameless c f e) = record { later = []; errors_are = e ∙ sym (plain_errors p (greater_error p eg) (Some (error MissingDoctypeName p.at)) []); goes = ((only_greater p ps c).1, f, refl) }
+  from_opening errors spaced true es eg (nameless c f e) = record {
+    later = [];
+    errors_are = e ∙ sym (plain_errors p (greater_error p eg) (Some (error MissingDoctypeName p.at)) []);
+    goes = ((only_greater p ps c).1, f, refl);
+  }
   from_opening errors spaced false es eg (nameless c f e) = absurd (false≢true (sym eg ∙ (only_greater p ps c).0))
   from_opening errors spaced g es eg (unfinished r t f e) = absurd cc
 

@@ -1,4 +1,4 @@
--- One bogus comment at most stands at the front of a text, and one span of either kind.
+-- A text begins with at most one bogus comment, and at most one span of each kind.
 use Rattle.std.proofs.Common.{◌≡◌, ℕ, List, [], ◌∷◌, ◌++◌, length, take, drop, sym, refl, ap, ◌∙◌, codes, append_assoc, append-nil, arith, length-append, ◌+◌}
 use Rattle.std.proofs.lemmas.List.{drop_at, drop_all}
 use Rattle.names.specs.declared.error.ParseError.{ParseError}

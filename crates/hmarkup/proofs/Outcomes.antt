@@ -1,4 +1,4 @@
--- What the calls of a doctype walk do, as its sink answers.
+-- The outcomes of a doctype walk's calls, by what the sink returns.
 use Rattle.std.proofs.Common.{◌≡◌, ℕ, true, false, List, [], ◌∷◌, ◌++◌, sym, refl, ap, ◌∙◌, subst, Option, Some, None, Result, Ok, Err}
 use Rattle.names.specs.declared.error.ParseError.{ParseError}
 use Rattle.names.specs.declared.placed.Placed.{Placed}

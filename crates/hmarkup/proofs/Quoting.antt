@@ -1,7 +1,7 @@
 -- The identifiers of a doctype, and what stands before them: each character.
 use Rattle.std.proofs.Common.{◌≡◌, ℕ, Bool, true, false, not, ◌||◌, eqb, if◌then◌else◌, List, [], ◌∷◌, ◌++◌, sym, refl, ap, ◌∙◌, subst, codes, Some, None, append_assoc}
 use Rattle.std.specs.Prelude.{is_some}
-use Rattle.std.proofs.lemmas.Bool.{false≢true, eqb-true}
+use Rattle.std.proofs.lemmas.Bool.{false≢true, eqb-true, and_from, and_parts}
 use Rattle.names.specs.declared.error.ParseError.{ParseError}
 use Rattle.names.specs.declared.error.ErrorCode.{ErrorCode}
 use Rattle.names.specs.declared.error.ErrorCode.TheVariants.{EofInDoctype, MissingWhitespaceBetweenDoctypePublicAndSystemIdentifiers}
@@ -12,7 +12,7 @@ use Rattle.hmarkup.specs.declared.keyword.Identifier.TheVariants.{Public, System
 use Rattle.hmarkup.specs.Doctype.{Found, Stands, closed, force, identified, no_space_after_keyword, no_identifier, no_quote, abrupt_identifier, AfterSpace, IsInside, quoted, abrupt, unclosed, IsIdentifier, FollowsSystem, AfterPublicIdentifier, public_ends, public_skips, second, Follows, AfterKeyword, identifier, missing, keyword_skips, keyword_cut_off}
 use Rattle.hmarkup.specs.DoctypeSteps.{after_keyword, after_public, follows, in_quotes, step_errors, fault_errors, found_by}
 use Rattle.hmarkup.specs.DoctypeWalk.{GoesOn, identifier_of}
-use Rattle.hmarkup.proofs.Marks.{and_parts, and_both, null_errors-append, eqb_self}
+use Rattle.hmarkup.proofs.Marks.{null_errors-append, eqb_self}
 use Rattle.hmarkup.proofs.Characters.{quote_not_space, quote_not_greater, greater_not_space}
 use Rattle.hmarkup.proofs.Parts.{identified-cons, identified_not}
 use Rattle.hmarkup.proofs.Spaces.{past_space, at_once, with_space, with_none}
@@ -148,13 +148,13 @@ module _ (which : Identifier) (mark : ℕ) (known : Found) (end : ℕ) (rest : L
     inside_more : (later : List ParseError) → eqb p.ch mark ≡ false → is_greater p.ch ≡ false → IsInside which mark (Follows which) (identified which (text_bytes (p ∷ [])) known) end rest ps found later
         → IsInside which mark (Follows which) known end rest (p ∷ ps) found (null_errors (p ∷ []) ++ later)
     inside_more later ec eg (quoted inside close after more t a m h e) =
-        quoted (p ∷ inside) close after more (ap (λ (x : List Placed). p ∷ x) t) (and_both (apart p.ch) (all apart inside) (not_either (eqb p.ch mark) (is_greater p.ch) ec eg) a) m
+        quoted (p ∷ inside) close after more (ap (λ (x : List Placed). p ∷ x) t) (and_from (apart p.ch) (all apart inside) (not_either (eqb p.ch mark) (is_greater p.ch) ec eg) a) m
         (subst (λ (y : Found). Follows which y end rest after found more) (sym (identified_split p inside refl)) h) (ap (λ (x : List ParseError). null_errors (p ∷ []) ++ x) e ∙ sym (null_split p inside more refl))
     inside_more later ec eg (abrupt inside close t a m f e) =
-        abrupt (p ∷ inside) close (ap (λ (x : List Placed). p ∷ x) t) (and_both (apart p.ch) (all apart inside) (not_either (eqb p.ch mark) (is_greater p.ch) ec eg) a) m
+        abrupt (p ∷ inside) close (ap (λ (x : List Placed). p ∷ x) t) (and_from (apart p.ch) (all apart inside) (not_either (eqb p.ch mark) (is_greater p.ch) ec eg) a) m
         (f ∙ ap force (sym (identified_split p inside refl))) (ap (λ (x : List ParseError). null_errors (p ∷ []) ++ x) e ∙ sym (null_split p inside (error (abrupt_identifier which) (place end close) ∷ []) refl))
     inside_more later ec eg (unclosed r a f e) =
-        unclosed r (and_both (apart p.ch) (all apart ps) (not_either (eqb p.ch mark) (is_greater p.ch) ec eg) a)
+        unclosed r (and_from (apart p.ch) (all apart ps) (not_either (eqb p.ch mark) (is_greater p.ch) ec eg) a)
         (f ∙ ap force (sym (identified_split p ps refl))) (ap (λ (x : List ParseError). null_errors (p ∷ []) ++ x) e ∙ sym (null_split p ps (error EofInDoctype end ∷ []) refl))
 
     pub to_inside : (later : List ParseError) (c g : Bool) → eqb p.ch mark ≡ c → is_greater p.ch ≡ g → Goes (in_quotes which mark c g p.at).next (found_by (in_quotes which mark c g p.at) p known) end rest ps found later

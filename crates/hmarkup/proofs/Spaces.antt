@@ -1,19 +1,11 @@
 -- White space before a production, a character at a time.
 use Rattle.std.proofs.Common.{◌≡◌, ℕ, Bool, true, false, not, ◌||◌, List, [], ◌∷◌, ◌++◌, sym, refl, ap, ◌∙◌, subst}
-use Rattle.std.proofs.lemmas.Bool.{false≢true}
+use Rattle.std.proofs.Math.Bool.{or-true, or-false}
+use Rattle.std.proofs.lemmas.Bool.{false≢true, and_from, and_parts}
 use Rattle.names.specs.declared.error.ParseError.{ParseError}
 use Rattle.names.specs.declared.placed.Placed.{Placed}
 use Rattle.names.specs.Placed.{begins, is_empty, all, is_space}
 use Rattle.hmarkup.specs.Doctype.{Found, Stands, AfterSpace}
-use Rattle.hmarkup.proofs.Marks.{and_parts, and_both}
-
-pub or-true : (b : Bool) → (b || true) ≡ true
-or-true true = refl
-or-true false = refl
-
-pub or-false : (b : Bool) → (b || false) ≡ b
-or-false true = refl
-or-false false = refl
 
 module _ (T : Bool → Stands) (spaced : Bool) (end : ℕ) (rest : List Placed) (found : Found) (errors : List ParseError) where
   -- white space leaves the production after it
@@ -47,7 +39,7 @@ module _ (T : Bool → Stands) (spaced : Bool) (end : ℕ) (rest : List Placed) 
     space = p ∷ h.space;
     after = h.after;
     text_is = ap (λ (x : List Placed). p ∷ x) h.text_is;
-    spaces = and_both (is_space p.ch) (all is_space h.space) is h.spaces;
+    spaces = and_from (is_space p.ch) (all is_space h.space) is h.spaces;
     then = subst (λ (b : Bool). T b end rest h.after found errors) (sym (or-true spaced)) h.then;
   }
 

@@ -1,6 +1,6 @@
--- One comment at most stands at the front of a text.
+-- A text begins with at most one comment.
 use Rattle.std.proofs.Common.{◌≡◌, ℕ, ◌≤◌, ◌+◌, Bool, true, false, ◌&&◌, eqb, List, [], ◌∷◌, ◌++◌, length, sym, refl, ap, ◌∙◌, subst, codes, arith, length-append, append_assoc, append-nil, if◌then◌else◌, drop}
-use Rattle.std.proofs.lemmas.Bool.{false≢true, eqb-true}
+use Rattle.std.proofs.lemmas.Bool.{false≢true, eqb-true, and_parts, and_right, or_from, or_left, or_parts, or_right}
 use Rattle.std.proofs.lemmas.List.{length-map, drop_at, drop_all, map-append}
 use Rattle.names.specs.declared.error.ParseError.{ParseError}
 use Rattle.names.specs.declared.error.ErrorCode.TheVariants.{AbruptClosingOfEmptyComment, EofInComment, IncorrectlyClosedComment}
@@ -8,10 +8,10 @@ use Rattle.names.specs.declared.placed.Placed.{Placed}
 use Rattle.names.specs.Placed.{characters, place, spells, is_front, before, Avoids, error, text_bytes}
 use Rattle.hmarkup.specs.Comment.{closes_comment, closes_at_once, is_ending, errors_after, IsComment, closed_at_once, closed, closed_with_bang, unclosed}
 use Rattle.hmarkup.specs.Walk.{IsOneSpan}
-use Rattle.hmarkup.proofs.Marks.{and_parts, and_no, neither, or_none, or_left, or_right, before-avoids, before-here, avoids-before, spells-long, spells-characters, first_is}
+use Rattle.hmarkup.proofs.Marks.{before-avoids, before-here, avoids-before, spells-long, spells-characters, first_is}
 use Rattle.hmarkup.proofs.Fronts.{same_front}
 
--- What a text tells of the comment at its front: its length, its data, and the error of its end.
+-- What a text determines of the comment at its front: its length, its data, and the error of its end.
 pub record Told : Type 0 where
   pub size : ℕ
   pub bytes : List ℕ
@@ -19,7 +19,11 @@ pub record Told : Type 0 where
 
 abbrev pub told_by : Bool → Bool → ℕ → List Placed → List Placed → List Placed → Told
 told_by true bang end whole inner close = record { size = length inner + 3; bytes = text_bytes inner; last = [] }
-told_by false true end whole inner close = record { size = length inner + 4; bytes = text_bytes inner; last = error IncorrectlyClosedComment (place end (drop 3 close)) ∷ [] }
+told_by false true end whole inner close = record {
+  size = length inner + 4;
+  bytes = text_bytes inner;
+  last = error IncorrectlyClosedComment (place end (drop 3 close)) ∷ [];
+}
 told_by false false end whole inner close = record { size = length whole; bytes = text_bytes (before is_ending whole); last = error EofInComment end ∷ [] }
 
 abbrev pub told_at : ℕ → List Placed → List Placed → List Placed → Told
@@ -43,8 +47,8 @@ pub record IsTold (end : ℕ) (rest text : List Placed) (bytes : List ℕ) (erro
 -- no mark comes into a text when more follows a closing mark
 closes-long : (xs ys : List Placed) → 4 ≤ length xs → closes_comment xs ≡ false → closes_comment (xs ++ ys) ≡ false
 closes-long xs ys l h =
-    let k = neither (spells (codes "-->") xs) (spells (codes "--!>") xs) h in
-    or_none (spells (codes "-->") (xs ++ ys)) (spells (codes "--!>") (xs ++ ys)) (spells-long (codes "-->") xs ys (omega (arith, l)) k.0) (spells-long (codes "--!>") xs ys (omega (arith, l)) k.1)
+    let k = or_parts (spells (codes "-->") xs) (spells (codes "--!>") xs) h in
+    or_from (spells (codes "-->") (xs ++ ys)) (spells (codes "--!>") (xs ++ ys)) (spells-long (codes "-->") xs ys (omega (arith, l)) k.0) (spells-long (codes "--!>") xs ys (omega (arith, l)) k.1)
 
 Avoids-long : (xs close rest : List Placed) → 3 ≤ length close → Avoids closes_comment xs close → Avoids closes_comment xs (close ++ rest)
 Avoids-long [] close rest l h = tt
@@ -67,7 +71,7 @@ no_arrow (x ∷ y ∷ []) rest h = absurd cc
 no_arrow (x ∷ y ∷ z ∷ xs) rest h =
     let third : z.ch ≡ 33 = cc in
     let not : eqb z.ch 62 ≡ false = rw third refl in
-    and_no (eqb x.ch 45) (eqb y.ch 45 && (eqb z.ch 62 && true)) (and_no (eqb y.ch 45) (eqb z.ch 62 && true) (ap (λ (b : Bool). b && true) not))
+    and_right (eqb x.ch 45) (eqb y.ch 45 && (eqb z.ch 62 && true)) (and_right (eqb y.ch 45) (eqb z.ch 62 && true) (ap (λ (b : Bool). b && true) not))
 
 -- a comment that a mark closes
 told_closed : (end : ℕ) (inner close rest : List Placed) → 3 ≤ length close → closes_at_once (inner ++ close) ≡ false → inner ≡ before closes_comment (inner ++ close) → closes_comment (close ++ rest) ≡ true

@@ -1,19 +1,36 @@
 -- A comment that has not ended, and one more character or the end.
 use Rattle.std.proofs.Common.{◌≡◌, ℕ, ◌≤◌, Bool, true, false, ◌&&◌, eqb, List, [], ◌∷◌, ◌++◌, map, length, sym, refl, ap, ◌∙◌, subst, append_assoc, append-nil, codes, arith, length-append}
-use Rattle.std.proofs.lemmas.Bool.{false≢true, eqb-true}
+use Rattle.std.proofs.lemmas.Bool.{false≢true, eqb-true, and_right, or_from, or_parts}
 use Rattle.std.proofs.lemmas.Str.{length-le-encodes}
 use Rattle.names.specs.declared.error.ParseError.{ParseError}
 use Rattle.names.specs.declared.error.ErrorCode.TheVariants.{AbruptClosingOfEmptyComment, EofInComment, IncorrectlyClosedComment}
 use Rattle.names.specs.declared.placed.Placed.{Placed}
 use Rattle.names.specs.Placed.{characters, error, before, Avoids, text_bytes, without_null}
+use Rattle.hmarkup.specs.declared.comment.CommentKind.TheVariants.{Comment}
 use Rattle.hmarkup.specs.declared.tail.Opening.{Opening}
 use Rattle.hmarkup.specs.declared.tail.Opening.TheVariants.{Outside, Less, LessBang, LessBangDash, Whole}
 use Rattle.hmarkup.specs.declared.tail.Ending.TheVariants.{Dashes, Bang}
 use Rattle.hmarkup.specs.Comment.{closes_comment, closes_at_once, is_ending, errors_here, errors_after, ends_with_opening, IsComment, closed_at_once, closed, closed_with_bang, unclosed}
-use Rattle.hmarkup.specs.CommentWalk.{Progress, IsOpening, IsInComment, backwards, is_whole}
+use Rattle.hmarkup.specs.CommentWalk.{Progress, begun, holds_nothing, IsOpening, IsInComment, backwards, is_whole}
 use Rattle.hmarkup.specs.Steps.{next, next_opening, opening_by_dash, opening_by_bang, decided}
-use Rattle.hmarkup.proofs.Marks.{Avoids-more, Avoids-append, before-avoids, neither, or_none, and_no, text_bytes-append}
+use Rattle.hmarkup.proofs.Marks.{Avoids-more, Avoids-append, before-avoids, text_bytes-append}
 use Rattle.hmarkup.proofs.Moving.{moves, closes, closes-more, ending-more, dashes_close, bang_closes, dash_held, held_at_end, held_long}
+
+-- nothing was read
+pub comment_begins : IsInComment (begun Comment []) [] []
+comment_begins = record {
+  kind_is = refl;
+  inner = [];
+  held = [];
+  text_is = refl;
+  is_held = holds_nothing;
+  not_at_once = refl;
+  no_close = tt;
+  no_ending = tt;
+  opening = record { less = refl; less_bang = refl; less_bang_dash = refl; whole = refl };
+  data_is = refl;
+  errors_are = refl;
+}
 
 -- how much of an inner `<!--` was read
 opening_dash : (o : Opening) (at : ℕ) (seen : List Placed) → IsOpening o seen → IsOpening (opening_by_dash o) (record { ch = 45; at = at } ∷ seen)
@@ -35,7 +52,12 @@ opening_on_tests : (o : Opening) (seen : List Placed) (ch at : ℕ) → IsOpenin
 opening_on_tests o seen ch at h true bang less e f g = subst (λ (c : ℕ). IsOpening (next_opening o c) (record { ch = c; at = at } ∷ seen)) (sym (eqb-true ch 45 e)) (opening_dash o at seen h)
 opening_on_tests o seen ch at h false true less e f g = subst (λ (c : ℕ). IsOpening (next_opening o c) (record { ch = c; at = at } ∷ seen)) (sym (eqb-true ch 33 f)) (opening_bang o at seen h)
 opening_on_tests o seen ch at h false false true e f g = subst (λ (c : ℕ). IsOpening (next_opening o c) (record { ch = c; at = at } ∷ seen)) (sym (eqb-true ch 60 g)) (record { less = refl; less_bang = refl; less_bang_dash = refl; whole = refl })
-opening_on_tests o seen ch at h false false false e f g = record { less = simp (e, f, g); less_bang = simp (e, f, g); less_bang_dash = simp (e, f, g); whole = simp (e, f, g) }
+opening_on_tests o seen ch at h false false false e f g = record {
+  less = simp (e, f, g);
+  less_bang = simp (e, f, g);
+  less_bang_dash = simp (e, f, g);
+  whole = simp (e, f, g);
+}
 
 pub opening-next : (o : Opening) (seen : List Placed) (ch at : ℕ) → IsOpening o seen → IsOpening (next_opening o ch) (record { ch = ch; at = at } ∷ seen)
 opening-next o seen ch at h = opening_on_tests o seen ch at h (eqb ch 45) (eqb ch 33) (eqb ch 60) refl refl refl
@@ -70,13 +92,13 @@ once-long (q ∷ []) p l h = absurd (omega (arith, l))
 once-long (q ∷ r ∷ more) p l h = h
 
 once-other : (text : List Placed) (p : Placed) → eqb p.ch 62 ≡ false → closes_at_once text ≡ false → closes_at_once (text ++ p ∷ []) ≡ false
-once-other [] p e h = or_none (eqb p.ch 62 && true) (eqb p.ch 45 && false) (ap (λ (b : Bool). b && true) e) (and_no (eqb p.ch 45) false refl)
-once-other (q ∷ []) p e h = or_none (eqb q.ch 62 && true) (eqb q.ch 45 && (eqb p.ch 62 && true)) (neither (eqb q.ch 62 && true) (eqb q.ch 45 && false) h).0 (and_no (eqb q.ch 45) (eqb p.ch 62 && true) (ap (λ (b : Bool). b && true) e))
+once-other [] p e h = or_from (eqb p.ch 62 && true) (eqb p.ch 45 && false) (ap (λ (b : Bool). b && true) e) (and_right (eqb p.ch 45) false refl)
+once-other (q ∷ []) p e h = or_from (eqb q.ch 62 && true) (eqb q.ch 45 && (eqb p.ch 62 && true)) (or_parts (eqb q.ch 62 && true) (eqb q.ch 45 && false) h).0 (and_right (eqb q.ch 45) (eqb p.ch 62 && true) (ap (λ (b : Bool). b && true) e))
 once-other (q ∷ r ∷ more) p e h = h
 
 once-past : (inner held : List Placed) (p : Placed) → (length inner ≡ 0 → ⊥) → Avoids is_ending inner held → closes_at_once (inner ++ held) ≡ false → closes_at_once ((inner ++ held) ++ p ∷ []) ≡ false
 once-past [] held p some k h = absurd (some refl)
-once-past (q ∷ []) [] p some k h = or_none (eqb q.ch 62 && true) (eqb q.ch 45 && (eqb p.ch 62 && true)) (neither (eqb q.ch 62 && true) (eqb q.ch 45 && false) h).0 (not_first (eqb q.ch 45) (eqb p.ch 62 && true) k.0)
+once-past (q ∷ []) [] p some k h = or_from (eqb q.ch 62 && true) (eqb q.ch 45 && (eqb p.ch 62 && true)) (or_parts (eqb q.ch 62 && true) (eqb q.ch 45 && false) h).0 (not_first (eqb q.ch 45) (eqb p.ch 62 && true) k.0)
 once-past (q ∷ []) (r ∷ rs) p some k h = h
 once-past (q ∷ r ∷ more) held p some k h = h
 

@@ -8,24 +8,28 @@ use Rattle.hmarkup.specs.declared.comment.CommentKind.TheVariants.{Comment, Bogu
 use Rattle.hmarkup.specs.declared.tail.Ending.{Ending}
 use Rattle.hmarkup.specs.declared.tail.Ending.TheVariants.{Plain, Dash, Dashes, Bang}
 use Rattle.hmarkup.specs.declared.tail.Opening.{Opening}
-use Rattle.hmarkup.specs.declared.tail.Opening.TheVariants.{Less, LessBang, LessBangDash, Whole}
+use Rattle.hmarkup.specs.declared.tail.Opening.TheVariants.{Outside, Less, LessBang, LessBangDash, Whole}
 use Rattle.hmarkup.specs.Comment.{closes_comment, closes_at_once, closes_bogus, is_ending, errors_after, IsComment, IsBogus}
 
--- what contracts see of a walk
+-- a walk as contracts see it
 pub record Progress : Type 0 where
   pub kind : CommentKind
   pub ending : Ending
   pub opening : Opening
   pub «data» : List ℕ
 
--- the last characters, which may begin a closing mark
+-- a walk with this data, none of which may begin a closing mark
+abbrev pub begun : CommentKind → List ℕ → Progress
+begun kind «data» = record { kind = kind; ending = Plain; opening = Outside; «data» = «data» }
+
+-- the last characters of the text: those that may begin a closing mark
 pub data IsHeld : Ending → List Placed → Type 0 where
   holds_nothing : IsHeld Plain []
   holds_dash : (a : ℕ) → IsHeld Dash (record { ch = 45; at = a } ∷ [])
   holds_dashes : (a b : ℕ) → IsHeld Dashes (record { ch = 45; at = a } ∷ record { ch = 45; at = b } ∷ [])
   holds_bang : (a b c : ℕ) → IsHeld Bang (record { ch = 45; at = a } ∷ record { ch = 45; at = b } ∷ record { ch = 33; at = c } ∷ [])
 
--- the characters of a text after those of `seen`, the last one first
+-- the characters of `seen` and then of a text, the last one first
 abbrev pub backwards : List Placed → List Placed → List Placed
 backwards seen [] = seen
 backwards seen (p ∷ ps) = backwards (p ∷ seen) ps
@@ -46,15 +50,15 @@ abbrev pub is_whole : Opening → Bool
 is_whole Whole = true
 is_whole _ = false
 
--- how much of an inner `<!--` ends a text, whose characters these are, the last one first
+-- how much of an inner `<!--` a text ends with; `seen` is its characters, the last one first
 pub record IsOpening (opening : Opening) (seen : List Placed) : Type 0 where
   pub less : spells (codes "<") seen ≡ is_less opening
   pub less_bang : spells (codes "!<") seen ≡ is_less_bang opening
   pub less_bang_dash : spells (codes "-!<") seen ≡ is_less_bang_dash opening
   pub whole : spells (codes "--!<") seen ≡ is_whole opening
 
--- The text was read of a comment, which has not ended in it, with these errors.
--- It is data up to the last characters, which may begin a closing mark.
+-- The walk is in a comment: it has read this text, which does not end the comment, and reported these errors.
+-- All of the text is data but for the last characters, which may begin a closing mark.
 pub record IsInComment (walk : Progress) (text : List Placed) (errors : List ParseError) : Type 0 where
   pub kind_is : walk.kind ≡ Comment
   pub inner : List Placed
@@ -68,19 +72,24 @@ pub record IsInComment (walk : Progress) (text : List Placed) (errors : List Par
   pub data_is : walk.data ≡ text_bytes inner
   pub errors_are : errors ≡ errors_after [] text
 
--- The same of a bogus comment.
+-- The same for a bogus comment.
 pub record IsInBogus (walk : Progress) (text : List Placed) (errors : List ParseError) : Type 0 where
   pub kind_is : walk.kind ≡ Bogus
   pub no_close : Avoids closes_bogus text []
   pub data_is : walk.data ≡ text_bytes text
   pub errors_are : errors ≡ null_errors text
 
--- The walk is of this kind, it has read this text after the opening mark, its comment has not ended, and these errors were reported.
+-- A walk of this kind has read this text after the opening mark, its comment has not ended, and it has reported these errors.
 abbrev pub HasReadOf : CommentKind → Progress → List Placed → List ParseError → Type 0
 HasReadOf Comment = IsInComment
 HasReadOf Bogus = IsInBogus
 
--- the text of a comment of this kind
+-- what a comment of this kind is
 abbrev pub IsSpan : CommentKind → ℕ → List Placed → List Placed → List ℕ → List ParseError → Type 0
 IsSpan Comment = IsComment
 IsSpan Bogus = λ end. IsBogus
+
+-- characters that complete a comment of this kind, whatever was read of it
+abbrev pub closing_mark : CommentKind → List ℕ
+closing_mark Comment = codes "-->"
+closing_mark Bogus = codes ">"

@@ -1,5 +1,5 @@
--- Doctypes (HTML Standard, 13.2.5.53 to 13.2.5.68): a text after `<!DOCTYPE`, what it holds, and its errors in the order of the
--- text. A relation says what a text is from some place on, where `known` was found before it.
+-- Doctypes (HTML Standard, 13.2.5.53 to 13.2.5.68): the text after `<!DOCTYPE`, its contents, and its errors in the order of the
+-- text. Each relation describes the text from some point on; `known` is what was found before that point.
 use Rattle.std.specs.Prelude.{◌≡◌, ℕ, Bool, true, false, not, ◌||◌, ◌==◌, List, [], ◌∷◌, ◌++◌, codes, Option, Some, None}
 use Rattle.names.specs.declared.error.ParseError.{ParseError}
 use Rattle.names.specs.declared.error.ErrorCode.{ErrorCode}
@@ -9,7 +9,7 @@ use Rattle.names.specs.Placed.{characters, lowered, place, begins, is_empty, spe
 use Rattle.hmarkup.specs.declared.keyword.Identifier.{Identifier}
 use Rattle.hmarkup.specs.declared.keyword.Identifier.TheVariants.{Public, System}
 
--- what a doctype holds: its name and identifiers, each missing or present though empty, and whether it forces quirks
+-- the contents of a doctype: its name and identifiers, each missing or present (even if empty), and whether it forces quirks mode
 pub record Found : Type 0 where
   pub name : Option (List ℕ)
   pub public : Option (List ℕ)
@@ -19,11 +19,11 @@ pub record Found : Type 0 where
 abbrev pub nothing : Found
 nothing = record { name = None; public = None; system = None; forced = false }
 
--- A text that stands before `rest` in an input that ends at `end`, what is found in all, and the errors of the text.
+-- A relation between the input's end, the rest after a text, the text, the contents of the whole doctype, and the text's errors.
 abbrev pub Stands : Type 1
 Stands = ℕ → List Placed → List Placed → Found → List ParseError → Type 0
 
--- the bytes, after those that are there
+-- bytes appended to those that are there
 abbrev pub longer : Option (List ℕ) → List ℕ → List ℕ
 longer None bytes = bytes
 longer (Some before) bytes = before ++ bytes
@@ -59,7 +59,7 @@ abbrev pub abrupt_identifier : Identifier → ErrorCode
 abrupt_identifier Public = AbruptDoctypePublicIdentifier
 abrupt_identifier System = AbruptDoctypeSystemIdentifier
 
--- White space, and then what `Then` says, which is told whether white space stands before it.
+-- White space, and then `Then`, which is given whether there was any.
 pub record AfterSpace (Then : Bool → Stands) (spaced : Bool) (end : ℕ) (rest text : List Placed) (found : Found) (errors : List ParseError) : Type 0 where
   pub space : List Placed
   pub after : List Placed
@@ -67,12 +67,12 @@ pub record AfterSpace (Then : Bool → Stands) (spaced : Bool) (end : ℕ) (rest
   pub spaces : all is_space space ≡ true
   pub then : Then (spaced || not (is_empty space)) end rest after found errors
 
--- The doctype ends: by `>`, or by the end of input, which forces quirks.
+-- The doctype ends, by `>` or by the end of input, which forces quirks mode.
 pub data IsEnd (known : Found) (end : ℕ) (rest text : List Placed) (found : Found) (errors : List ParseError) : Type 0 where
   closed : characters text ≡ codes ">" → found ≡ known → errors ≡ [] → IsEnd known end rest text found errors
   cut_off : rest ≡ [] → text ≡ [] → found ≡ force known → errors ≡ error EofInDoctype end ∷ [] → IsEnd known end rest text found errors
 
--- A skipped rest: all up to `>` or the end (13.2.5.68).
+-- A skipped rest: everything up to `>` or the end (13.2.5.68).
 pub record IsSkipped (known : Found) (end : ℕ) (rest text : List Placed) (found : Found) (errors : List ParseError) : Type 0 where
   pub skipped : List Placed
   pub close : List Placed
@@ -82,26 +82,33 @@ pub record IsSkipped (known : Found) (end : ℕ) (rest text : List Placed) (foun
   pub found_is : found ≡ known
   pub errors_are : errors ≡ null_errors skipped
 
--- The rest is skipped, since it fails the test, and begins with neither white space nor `>`: its first character shows the fault.
-pub record Skips (test : List Placed → Bool) (fault : ErrorCode) (known : Found) (end : ℕ) (rest text : List Placed) (found : Found) (errors : List ParseError) : Type 0 where
+-- The rest is skipped because it fails the test and begins with neither white space nor `>`; the error is at its first character.
+pub record Skips (test : List Placed → Bool) (fault : ErrorCode) (known : Found) (end : ℕ) (rest text : List Placed) (found : Found)
+    (errors : List ParseError) : Type 0 where
   pub later : List ParseError
   pub first : begins (λ c. not (is_space c || is_greater c)) text ≡ true
   pub fails : test text ≡ false
   pub skips : IsSkipped known end rest text found later
   pub errors_are : errors ≡ error fault (place end text) ∷ later
 
--- The inside of an identifier after its quote, which the same quote ends, or `>` or the end of input, which both force quirks
--- (13.2.5.59, 13.2.5.60, 13.2.5.65, 13.2.5.66).
-pub data IsInside (which : Identifier) (mark : ℕ) (After : Found → Stands) (known : Found) (end : ℕ) (rest text : List Placed) (found : Found) (errors : List ParseError) : Type 0 where
-  quoted : (inside close after : List Placed) (later : List ParseError) → text ≡ inside ++ (close ++ after) → all (λ c. not (c == mark || is_greater c)) inside ≡ true → characters close ≡ mark ∷ []
-      → After (identified which (text_bytes inside) known) end rest after found later → errors ≡ null_errors inside ++ later → IsInside which mark After known end rest text found errors
+-- The inside of an identifier, after its opening quote. It ends at the same quote, or at `>` or the end of input, which force
+-- quirks mode (13.2.5.59, 13.2.5.60, 13.2.5.65, 13.2.5.66).
+pub data IsInside (which : Identifier) (mark : ℕ) (After : Found → Stands) (known : Found) (end : ℕ) (rest text : List Placed) (found : Found)
+    (errors : List ParseError) : Type 0 where
+  quoted : (inside close after : List Placed) (later : List ParseError) → text ≡ inside ++ (close ++ after)
+      → all (λ c. not (c == mark || is_greater c)) inside ≡ true → characters close ≡ mark ∷ []
+      → After (identified which (text_bytes inside) known) end rest after found later → errors ≡ null_errors inside ++ later
+      → IsInside which mark After known end rest text found errors
   abrupt : (inside close : List Placed) → text ≡ inside ++ close → all (λ c. not (c == mark || is_greater c)) inside ≡ true → characters close ≡ codes ">"
-      → found ≡ force (identified which (text_bytes inside) known) → errors ≡ null_errors inside ++ error (abrupt_identifier which) (place end close) ∷ [] → IsInside which mark After known end rest text found errors
+      → found ≡ force (identified which (text_bytes inside) known)
+      → errors ≡ null_errors inside ++ error (abrupt_identifier which) (place end close) ∷ [] → IsInside which mark After known end rest text found errors
   unclosed : rest ≡ [] → all (λ c. not (c == mark || is_greater c)) text ≡ true
-      → found ≡ force (identified which (text_bytes text) known) → errors ≡ null_errors text ++ error EofInDoctype end ∷ [] → IsInside which mark After known end rest text found errors
+      → found ≡ force (identified which (text_bytes text) known) → errors ≡ null_errors text ++ error EofInDoctype end ∷ []
+      → IsInside which mark After known end rest text found errors
 
--- An identifier in quotes, which is present from its quote on, and `After` it; with an error where no white space stands before it.
-pub record IsIdentifier (which : Identifier) (at_once : ErrorCode) (After : Found → Stands) (known : Found) (spaced : Bool) (end : ℕ) (rest text : List Placed) (found : Found) (errors : List ParseError) : Type 0 where
+-- An identifier in quotes and what follows it, with an error if no white space precedes it. From its opening quote on it is present.
+pub record IsIdentifier (which : Identifier) (at_once : ErrorCode) (After : Found → Stands) (known : Found) (spaced : Bool) (end : ℕ)
+    (rest text : List Placed) (found : Found) (errors : List ParseError) : Type 0 where
   pub quote : Placed
   pub more : List Placed
   pub later : List ParseError
@@ -110,19 +117,22 @@ pub record IsIdentifier (which : Identifier) (at_once : ErrorCode) (After : Foun
   pub inside : IsInside which quote.ch After (identified which [] known) end rest more found later
   pub errors_are : errors ≡ error_if (not spaced) at_once quote.at ++ later
 
--- what stands after the system identifier and white space (13.2.5.67)
+-- what follows the system identifier and white space (13.2.5.67)
 pub data AfterSystemIdentifier (known : Found) (end : ℕ) (rest text : List Placed) (found : Found) (errors : List ParseError) : Type 0 where
   system_ends : IsEnd known end rest text found errors → AfterSystemIdentifier known end rest text found errors
-  system_skips : Skips (λ text. false) UnexpectedCharacterAfterDoctypeSystemIdentifier known end rest text found errors → AfterSystemIdentifier known end rest text found errors
+  system_skips : Skips (λ text. false) UnexpectedCharacterAfterDoctypeSystemIdentifier known end rest text found errors
+      → AfterSystemIdentifier known end rest text found errors
 
 abbrev pub FollowsSystem : Found → Stands
 FollowsSystem known = AfterSpace (λ spaced. AfterSystemIdentifier known) false
 
--- what stands after the public identifier and white space (13.2.5.61, 13.2.5.62)
+-- what follows the public identifier and white space (13.2.5.61, 13.2.5.62)
 pub data AfterPublicIdentifier (known : Found) (spaced : Bool) (end : ℕ) (rest text : List Placed) (found : Found) (errors : List ParseError) : Type 0 where
   public_ends : IsEnd known end rest text found errors → AfterPublicIdentifier known spaced end rest text found errors
-  public_skips : Skips (begins is_quote) (no_quote System) (force known) end rest text found errors → AfterPublicIdentifier known spaced end rest text found errors
-  second : IsIdentifier System MissingWhitespaceBetweenDoctypePublicAndSystemIdentifiers FollowsSystem known spaced end rest text found errors → AfterPublicIdentifier known spaced end rest text found errors
+  public_skips : Skips (begins is_quote) (no_quote System) (force known) end rest text found errors
+      → AfterPublicIdentifier known spaced end rest text found errors
+  second : IsIdentifier System MissingWhitespaceBetweenDoctypePublicAndSystemIdentifiers FollowsSystem known spaced end rest text found errors
+      → AfterPublicIdentifier known spaced end rest text found errors
 
 abbrev pub FollowsPublic : Found → Stands
 FollowsPublic known = AfterSpace (AfterPublicIdentifier known) false
@@ -131,12 +141,16 @@ abbrev pub Follows : Identifier → Found → Stands
 Follows Public = FollowsPublic
 Follows System = FollowsSystem
 
--- what stands after PUBLIC or SYSTEM and white space (13.2.5.57, 13.2.5.58, 13.2.5.63, 13.2.5.64)
-pub data AfterKeyword (which : Identifier) (known : Found) (spaced : Bool) (end : ℕ) (rest text : List Placed) (found : Found) (errors : List ParseError) : Type 0 where
-  identifier : IsIdentifier which (no_space_after_keyword which) (Follows which) known spaced end rest text found errors → AfterKeyword which known spaced end rest text found errors
-  missing : characters text ≡ codes ">" → found ≡ force known → errors ≡ error (no_identifier which) (place end text) ∷ [] → AfterKeyword which known spaced end rest text found errors
+-- what follows PUBLIC or SYSTEM and white space (13.2.5.57, 13.2.5.58, 13.2.5.63, 13.2.5.64)
+pub data AfterKeyword (which : Identifier) (known : Found) (spaced : Bool) (end : ℕ) (rest text : List Placed) (found : Found)
+    (errors : List ParseError) : Type 0 where
+  identifier : IsIdentifier which (no_space_after_keyword which) (Follows which) known spaced end rest text found errors
+      → AfterKeyword which known spaced end rest text found errors
+  missing : characters text ≡ codes ">" → found ≡ force known → errors ≡ error (no_identifier which) (place end text) ∷ []
+      → AfterKeyword which known spaced end rest text found errors
   keyword_skips : Skips (begins is_quote) (no_quote which) (force known) end rest text found errors → AfterKeyword which known spaced end rest text found errors
-  keyword_cut_off : rest ≡ [] → text ≡ [] → found ≡ force known → errors ≡ error EofInDoctype end ∷ [] → AfterKeyword which known spaced end rest text found errors
+  keyword_cut_off : rest ≡ [] → text ≡ [] → found ≡ force known → errors ≡ error EofInDoctype end ∷ []
+      → AfterKeyword which known spaced end rest text found errors
 
 abbrev pub FollowsKeyword : Identifier → Found → Stands
 FollowsKeyword which known = AfterSpace (AfterKeyword which known) false
@@ -144,7 +158,7 @@ FollowsKeyword which known = AfterSpace (AfterKeyword which known) false
 abbrev pub is_keyword : List Placed → Bool
 is_keyword text = spells_in_any_case (keyword Public) text || spells_in_any_case (keyword System) text
 
--- what stands after the name and white space (13.2.5.56)
+-- what follows the name and white space (13.2.5.56)
 pub data AfterName (known : Found) (end : ℕ) (rest text : List Placed) (found : Found) (errors : List ParseError) : Type 0 where
   name_ends : IsEnd known end rest text found errors → AfterName known end rest text found errors
   name_skips : Skips is_keyword InvalidCharacterSequenceAfterDoctypeName (force known) end rest text found errors → AfterName known end rest text found errors
@@ -164,13 +178,14 @@ pub record IsName (known : Found) (end : ℕ) (rest text : List Placed) (found :
   pub follows : FollowsName (named (name_bytes name) known) end rest after found later
   pub errors_are : errors ≡ null_errors name ++ later
 
--- what stands after `<!DOCTYPE` and white space (13.2.5.53, 13.2.5.54)
+-- what follows `<!DOCTYPE` and white space (13.2.5.53, 13.2.5.54)
 pub data AfterOpening (known : Found) (spaced : Bool) (end : ℕ) (rest text : List Placed) (found : Found) (errors : List ParseError) : Type 0 where
   begins_name : (later : List ParseError) → begins (λ c. not (is_space c || is_greater c)) text ≡ true → IsName known end rest text found later
       → errors ≡ error_if (not spaced) MissingWhitespaceBeforeDoctypeName (place end text) ++ later → AfterOpening known spaced end rest text found errors
-  nameless : characters text ≡ codes ">" → found ≡ force known → errors ≡ error MissingDoctypeName (place end text) ∷ [] → AfterOpening known spaced end rest text found errors
+  nameless : characters text ≡ codes ">" → found ≡ force known → errors ≡ error MissingDoctypeName (place end text) ∷ []
+      → AfterOpening known spaced end rest text found errors
   unfinished : rest ≡ [] → text ≡ [] → found ≡ force known → errors ≡ error EofInDoctype end ∷ [] → AfterOpening known spaced end rest text found errors
 
--- The text after `<!DOCTYPE` is a doctype, where `rest` follows it and the input ends at `end`.
+-- The text after `<!DOCTYPE` is a doctype; `rest` follows it, and the input ends at `end`.
 abbrev pub IsDoctype : ℕ → List Placed → List Placed → Found → List ParseError → Type 0
 IsDoctype = AfterSpace (AfterOpening nothing) false

@@ -1,4 +1,4 @@
--- What a character does to a doctype walk: the contracts of its own functions, and no public clause's.
+-- What a character does to a doctype walk. Only contracts of private functions cite this.
 use Rattle.std.specs.Prelude.{ℕ, Bool, true, false, ◌==◌, if◌then◌else◌, List, [], ◌∷◌, ◌++◌, Option, Some, None}
 use Rattle.std.specs.Char.{to_ascii_lowercase}
 use Rattle.names.specs.declared.error.ParseError.{ParseError}
@@ -73,7 +73,7 @@ skips code at forced = record { fault = Some (error code at); keeps = keeps.Noth
 abbrev pub faulty : Keeps → Bool → ErrorCode → ℕ → Phase → Step
 faulty kept spaced code at next = record { fault = if spaced then None else Some (error code at); keeps = kept; forces = false; next = Some next }
 
--- The step of each phase, by what the character is.
+-- The step of each phase, by the character's class.
 abbrev pub before_name : Bool → Bool → Bool → ℕ → Step
 before_name spaced space greater at =
     if space then goes_to (phase.BeforeName true)
@@ -147,7 +147,7 @@ step (phase.AfterPublic spaced) p = after_public spaced (is_space p.ch) (is_grea
 step phase.AfterSystem p = after_system (is_space p.ch) (is_greater p.ch) p.at
 step phase.Skipped p = in_skipped (is_greater p.ch)
 
--- what is found then
+-- the contents after the character
 abbrev pub kept : Keeps → Placed → Found → Found
 kept keeps.Nothing p known = known
 kept keeps.Name p known = named (name_bytes (p ∷ [])) known
@@ -165,7 +165,7 @@ fault_errors (Some fault) = fault ∷ []
 abbrev pub step_errors : Step → Placed → List ParseError
 step_errors step p = fault_errors step.fault ++ null_errors (p ∷ [])
 
--- what the input's end does: its error, and whether it forces quirks
+-- what the input's end does: its error, and the contents after it
 abbrev pub end_fault : Phase → ℕ → Option ParseError
 end_fault (phase.Keyword letters first) end = Some (error InvalidCharacterSequenceAfterDoctypeName first)
 end_fault phase.Skipped end = None

@@ -19,12 +19,12 @@ abbrev pub text_of : {A : Type 0} → Option (String A) → Option (List ℕ)
 text_of None = None
 text_of (Some text) = Some (string_bytes text)
 
--- what contracts see of a walk
+-- a walk as contracts see it
 pub record Reading : Type 0 where
   pub phase : Phase
   pub found : Found
 
--- the letters that a keyword goes on with
+-- the letters of the keyword that are still to come
 abbrev pub left : Letters → List ℕ
 left P = codes "ublic"
 left Pu = codes "blic"
@@ -37,14 +37,16 @@ left Sys = codes "tem"
 left Syst = codes "em"
 left Syste = codes "m"
 
--- After letters of a keyword, the first of which stands at `first`: the others, or a skipped rest.
-pub data IsInKeyword (letters : Letters) (first : ℕ) (known : Found) (end : ℕ) (rest text : List Placed) (found : Found) (errors : List ParseError) : Type 0 where
-  whole : (word after : List Placed) → text ≡ word ++ after → lowered word ≡ left letters → FollowsKeyword (letters_of letters) known end rest after found errors
+-- After letters of a keyword, the first of which is at `first`: the other letters, or a skipped rest.
+pub data IsInKeyword (letters : Letters) (first : ℕ) (known : Found) (end : ℕ) (rest text : List Placed) (found : Found)
+    (errors : List ParseError) : Type 0 where
+  whole : (word after : List Placed) → text ≡ word ++ after → lowered word ≡ left letters
+      → FollowsKeyword (letters_of letters) known end rest after found errors
       → IsInKeyword letters first known end rest text found errors
   fails : (later : List ParseError) → spells_in_any_case (left letters) text ≡ false → IsSkipped (force known) end rest text found later
       → errors ≡ error InvalidCharacterSequenceAfterDoctypeName first ∷ later → IsInKeyword letters first known end rest text found errors
 
--- how a doctype goes on in each phase, where `known` was found
+-- how a doctype goes on in each phase; `known` is what was found before
 abbrev pub GoesOn : Phase → Found → Stands
 GoesOn (phase.BeforeName spaced) known = AfterSpace (AfterOpening known) spaced
 GoesOn phase.Name known = IsName known
@@ -60,22 +62,24 @@ abbrev pub identifier_of : Identifier → Found → Option (List ℕ)
 identifier_of Public known = known.public
 identifier_of System known = known.system
 
--- in a name or an identifier, it was begun
+-- in a name or an identifier, that part is present
 abbrev pub Fits : Phase → Found → Type 0
 Fits phase.Name known = is_some known.name ≡ true
 Fits (phase.Quoted which mark) known = (is_quote mark ≡ true) × (is_some (identifier_of which known) ≡ true)
 Fits _ known = Unit {0}
 
--- A doctype that begins with this text, and its errors with these, goes on from there as the walk's phase says.
-pub record GoesOnAfter (walk : Reading) (text : List Placed) (errors : List ParseError) (end : ℕ) (after rest span : List Placed) (found : Found) (all : List ParseError) : Type 0 where
+-- A doctype begins with this text, and its errors with these, and from there it goes on as the walk's phase says.
+pub record GoesOnAfter (walk : Reading) (text : List Placed) (errors : List ParseError) (end : ℕ) (after rest span : List Placed) (found : Found)
+    (all : List ParseError) : Type 0 where
   pub begins : Begins text after rest span errors all
   pub goes_on : GoesOn walk.phase walk.found end rest begins.more found begins.later
 
--- The walk has read this text after `<!DOCTYPE`, its doctype has not ended, and these errors were reported: what goes on as its
--- phase says is a doctype with the text before it, and no other doctype begins with the text.
+-- The walk has read this text after `<!DOCTYPE`, its doctype has not ended, and it has reported these errors: the text and
+-- anything that goes on as the walk's phase says make a doctype, and no other doctype begins with the text.
 pub record HasReadDoctype (walk : Reading) (text : List Placed) (errors : List ParseError) : Type 0 where
   pub fits : Fits walk.phase walk.found
   pub goes_on : (end : ℕ) (rest more : List Placed) (found : Found) (later : List ParseError) → GoesOn walk.phase walk.found end rest more found later
       → IsDoctype end rest (text ++ more) found (errors ++ later)
-  pub no_other : (end : ℕ) (after rest span : List Placed) (found : Found) (all : List ParseError) → IsDoctype end rest span found all → span ++ rest ≡ text ++ after
+  pub no_other : (end : ℕ) (after rest span : List Placed) (found : Found) (all : List ParseError) → IsDoctype end rest span found all
+      → span ++ rest ≡ text ++ after
       → GoesOnAfter walk text errors end after rest span found all

@@ -7,5 +7,4 @@ pub mod Doctype
 pub mod DoctypeSteps
 pub mod DoctypeWalk
 pub mod Quirks
-pub mod DoctypeRows
 pub mod QuirksRows

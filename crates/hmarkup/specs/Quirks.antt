@@ -8,7 +8,7 @@ use Rattle.names.specs.declared.refusal.Refusal.TheVariants.{Memory, BadQuirks}
 use Rattle.hmarkup.specs.declared.quirks.QuirkKind.{QuirkKind}
 use Rattle.hmarkup.specs.declared.quirks.QuirkKind.TheVariants.{PublicIs, PublicBegins, SystemIs, PublicBeginsWithoutSystem}
 
--- a line of the list: what it matches, and the bytes of its text
+-- a line of the list: its kind, and the bytes of its text
 pub record QuirkLine : Type 0 where
   pub kind : QuirkKind
   pub text : List ℕ
@@ -19,7 +19,7 @@ quirk_word PublicBegins = codes "public-begins"
 quirk_word SystemIs = codes "system-is"
 quirk_word PublicBeginsWithoutSystem = codes "public-begins-without-system"
 
--- a word, one space, and a text of one or more bytes 20 to 7E
+-- a word, one space, and a text of one or more bytes from 20 to 7E (hexadecimal)
 pub record IsQuirkLine (line : List ℕ) (quirk : QuirkLine) : Type 0 where
   pub line_is : line ≡ quirk_word quirk.kind ++ 32 ∷ quirk.text
   pub has_text : (length quirk.text == 0) ≡ false
@@ -28,7 +28,7 @@ pub record IsQuirkLine (line : List ℕ) (quirk : QuirkLine) : Type 0 where
 abbrev pub IsNoQuirkLine : List ℕ → Type 0
 IsNoQuirkLine line = (quirk : QuirkLine) → IsQuirkLine line quirk → ⊥
 
--- the lines of a text: each ends with LF, which the last one may lack
+-- the lines of a text; each ends with LF, which the last one may lack
 abbrev pub in_line : ℕ → List (List ℕ) → List (List ℕ)
 in_line c [] = (c ∷ []) ∷ []
 in_line c (line ∷ others) = (c ∷ line) ∷ others
@@ -37,21 +37,22 @@ abbrev pub lines : List ℕ → List (List ℕ)
 lines [] = []
 lines (c ∷ cs) = if c == 10 then [] ∷ lines cs else in_line c (lines cs)
 
--- each line is one of the list, in order
+-- the lines are those of the list, in order
 abbrev pub AreQuirkLines : List (List ℕ) → List QuirkLine → Type 0
 AreQuirkLines [] [] = Unit {0}
 AreQuirkLines [] (quirk ∷ quirks) = ⊥
 AreQuirkLines (line ∷ others) [] = ⊥
 AreQuirkLines (line ∷ others) (quirk ∷ quirks) = IsQuirkLine line quirk × AreQuirkLines others quirks
 
--- What the reading of a list answers: memory ran out, the first line that is none has this number, from 1, or the list.
+-- The outcome of reading a list: out of memory, the number (from 1) of the first line of another form, or the list.
 pub data ReadsQuirks (text : List ℕ) (answer : Result (List QuirkLine) Refusal) : Type 0 where
   no_memory : answer ≡ Err Memory → ReadsQuirks text answer
-  bad_line : (before after : List (List ℕ)) (line : List ℕ) (quirks : List QuirkLine) → lines text ≡ before ++ line ∷ after → AreQuirkLines before quirks → IsNoQuirkLine line
+  bad_line : (before after : List (List ℕ)) (line : List ℕ) (quirks : List QuirkLine) → lines text ≡ before ++ line ∷ after
+      → AreQuirkLines before quirks → IsNoQuirkLine line
       → answer ≡ Err (BadQuirks (length before + 1)) → ReadsQuirks text answer
   read_all : (quirks : List QuirkLine) → AreQuirkLines (lines text) quirks → answer ≡ Ok quirks → ReadsQuirks text answer
 
--- an identifier that is a text, or begins with it, without ASCII case
+-- whether an identifier equals a text, or begins with it, ignoring ASCII case
 abbrev pub same_as : Option (List ℕ) → List ℕ → Bool
 same_as None text = false
 same_as (Some id) text = str_eq_ignore_ascii_case id text
@@ -64,7 +65,7 @@ abbrev pub is_missing : Option (List ℕ) → Bool
 is_missing None = true
 is_missing (Some id) = false
 
--- whether a line, and the list, matches the identifiers of a doctype
+-- whether a line, and whether the list, matches the identifiers of a doctype
 abbrev pub matches_by : QuirkKind → List ℕ → Option (List ℕ) → Option (List ℕ) → Bool
 matches_by PublicIs text public system = same_as public text
 matches_by PublicBegins text public system = begins_as public text
@@ -77,7 +78,7 @@ line_matches quirk public system = matches_by quirk.kind quirk.text public syste
 abbrev pub list_matches : List QuirkLine → Option (List ℕ) → Option (List ℕ) → Bool
 list_matches quirks public system = list_any (λ quirk. line_matches quirk public system) quirks
 
--- the private functions' words: no word of the list, and a text cut at its first mark
+-- for private functions: a word that names no kind, and a text split at its first mark
 abbrev pub IsWordless : List ℕ → Type 0
 IsWordless word = (kind : QuirkKind) → word ≡ quirk_word kind → ⊥
 

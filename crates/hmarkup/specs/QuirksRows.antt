@@ -3,7 +3,7 @@ use Rattle.std.specs.Prelude.{◌≡◌, true, false, [], ◌∷◌, ◌++◌, r
 use Rattle.hmarkup.specs.declared.quirks.QuirkKind.TheVariants.{PublicIs, PublicBegins, SystemIs, PublicBeginsWithoutSystem}
 use Rattle.hmarkup.specs.Quirks.{lines, ReadsQuirks, read_all, list_matches}
 
--- the last line ends with LF or without, and LF alone is a line
+-- the last LF may be missing, and an LF alone is an empty line
 one_line : lines (codes "public-is a") ≡ codes "public-is a" ∷ []
 one_line = refl
 

@@ -1,4 +1,4 @@
--- Worked rows: what stands after `<!--` of the commented text, and after the `<` of a bogus comment.
+-- Worked rows: what follows `<!--`, or the `<` of a bogus comment, in the text shown above each.
 use Rattle.std.specs.Prelude.{[], ◌∷◌, refl, codes}
 use lib.Utf8.{encode}
 use Rattle.names.specs.Placed.{placed, error}
@@ -26,7 +26,7 @@ by_bang : IsComment 10 (placed 9 (codes "b")) (placed 4 (codes "a--!>")) (codes 
 unfolding encode
 by_bang = closed_with_bang (placed 4 (codes "a")) (placed 5 (codes "--!")) (placed 8 (codes ">")) refl refl refl refl refl refl refl
 
--- `<!--<!--a-->`: the error stands after the inner `<!--`
+-- `<!--<!--a-->`: the error is at the character after the inner `<!--`
 nested : IsComment 12 [] (placed 4 (codes "<!--a-->")) (codes "<!--a") (error NestedComment 8 ∷ [])
 unfolding encode
 nested = closed (placed 4 (codes "<!--a")) (placed 9 (codes "-->")) refl refl refl refl refl refl
@@ -36,7 +36,7 @@ not_nested : IsComment 10 [] (placed 4 (codes "a<!-->")) (codes "a<!") []
 unfolding encode
 not_nested = closed (placed 4 (codes "a<!")) (placed 7 (codes "-->")) refl refl refl refl refl refl
 
--- `<!--<!--!>`: the error stands at a character of the closing mark
+-- `<!--<!--!>`: the error is at a character of the closing mark
 nested_by_bang : IsComment 10 [] (placed 4 (codes "<!--!>")) (codes "<!") (error NestedComment 8 ∷ error IncorrectlyClosedComment 9 ∷ [])
 unfolding encode
 nested_by_bang = closed_with_bang (placed 4 (codes "<!")) (placed 6 (codes "--!")) (placed 9 (codes ">")) refl refl refl refl refl refl refl

@@ -1,4 +1,4 @@
--- What the walk's own functions do at a character that closes nothing: their contracts, and no public clause's.
+-- What a comment walk does at a character that does not end the comment. Only contracts of private functions cite this.
 use Rattle.std.specs.Prelude.{ℕ, ◌==◌, if◌then◌else◌, List, [], ◌++◌, codes}
 use Rattle.std.specs.Char.{encode_utf8}
 use Rattle.names.specs.Placed.{without_null}
@@ -8,7 +8,7 @@ use Rattle.hmarkup.specs.declared.tail.Opening.{Opening}
 use Rattle.hmarkup.specs.declared.tail.Opening.TheVariants.{Outside, Less, LessBang, LessBangDash, Whole}
 use Rattle.hmarkup.specs.CommentWalk.{Progress}
 
--- the ending then, after a `-`, a `!` and any character
+-- the ending after a `-`, after a `!`, and after any character
 abbrev pub dash_after : Ending → Ending
 dash_after Plain = Dash
 dash_after Dash = Dashes
@@ -28,7 +28,7 @@ ending_text Dash = codes "-"
 ending_text Dashes = codes "--"
 ending_text Bang = codes "--!"
 
--- the bytes that are known to be data then
+-- the bytes that the character shows to be data
 abbrev pub decided_by_dash : Ending → List ℕ
 decided_by_dash Plain = []
 decided_by_dash Dash = []
@@ -41,14 +41,14 @@ decided_by_bang Dash = codes "-!"
 decided_by_bang Dashes = []
 decided_by_bang Bang = codes "--!!"
 
--- ..but for the character itself, where it is neither `-` nor `!`
+-- .. without the character itself, unless it is `-` or `!`
 abbrev pub decided_text : Ending → ℕ → List ℕ
 decided_text ending c = if c == 45 then decided_by_dash ending else (if c == 33 then decided_by_bang ending else ending_text ending)
 
 abbrev pub decided : Ending → ℕ → List ℕ
 decided ending c = if c == 45 then decided_by_dash ending else (if c == 33 then decided_by_bang ending else ending_text ending ++ encode_utf8 (without_null c))
 
--- how much of an inner `<!--` was read then
+-- how much of an inner `<!--` the text then ends with
 abbrev pub opening_by_bang : Opening → Opening
 opening_by_bang Less = LessBang
 opening_by_bang _ = Outside
@@ -62,4 +62,13 @@ abbrev pub next_opening : Opening → ℕ → Opening
 next_opening opening c = if c == 45 then opening_by_dash opening else (if c == 33 then opening_by_bang opening else (if c == 60 then Less else Outside))
 
 abbrev pub next : Progress → ℕ → Progress
-next walk c = record { kind = walk.kind; ending = next_ending walk.ending c; opening = next_opening walk.opening c; «data» = walk.data ++ decided walk.ending c }
+next walk c = record {
+  kind = walk.kind;
+  ending = next_ending walk.ending c;
+  opening = next_opening walk.opening c;
+  «data» = walk.data ++ decided walk.ending c;
+}
+
+-- the walk after a run of plain data, given in UTF-8
+abbrev pub next_run : Progress → List ℕ → Progress
+next_run walk run = record { kind = walk.kind; ending = Plain; opening = Outside; «data» = walk.data ++ (ending_text walk.ending ++ run) }

@@ -1,37 +1,39 @@
-//! A comment or a bogus comment, a character at a time.
+//! Reads a comment or a bogus comment, one character at a time.
 
-ghost use Rattle.std.specs.Prelude.{◌≡◌, ◌++◌, ℕ, List, [], OnOk, string_bytes};
+ghost use Rattle.std.specs.Prelude.{◌≡◌, ◌++◌, ℕ, List, [], true, IfOk, OnOk, string_bytes};
 ghost use Rattle.std.specs.Char.{encode_utf8};
+ghost use Rattle.std.specs.List.{list_all};
+ghost use Rattle.std.specs.Str.{chars};
 ghost use Rattle.names.specs.declared.error.ParseError.{ParseError as Error};
 ghost use Rattle.names.specs.declared.placed.Placed.{Placed};
-ghost use Rattle.names.specs.Placed.{error, without_null};
+ghost use Rattle.names.specs.Placed.{all, characters, placed, error, without_null};
 ghost use Rattle.names.specs.Sink.{Hands};
 ghost use Rattle.hmarkup.specs.declared.comment.CommentKind.{CommentKind as Kind};
 ghost use Rattle.hmarkup.specs.declared.comment.CommentKind.TheVariants.{Comment, Bogus};
-ghost use Rattle.hmarkup.specs.Comment.{errors_here};
-ghost use Rattle.hmarkup.specs.Walk.{BeginsSpans, IsOpen, IsOneSpan, Takes, Ends};
-ghost use Rattle.hmarkup.specs.CommentWalk.{Progress, HasReadOf, IsInComment, IsInBogus, IsSpan};
-ghost use Rattle.hmarkup.specs.Steps.{next};
+ghost use Rattle.hmarkup.specs.Comment.{errors_here, is_only_data, is_plain_in_bogus};
+ghost use Rattle.hmarkup.specs.Walk.{BeginsSpans, IsOpen, ClosedBy, HasSpan, IsOneSpan, Takes, TakesRun, Ends};
+ghost use Rattle.hmarkup.specs.CommentWalk.{Progress, begun, HasReadOf, IsInComment, IsInBogus, IsSpan, closing_mark};
+ghost use Rattle.hmarkup.specs.Steps.{next, next_run};
 
 use crate::sink::ErrorSink;
 use crate::tail::{Ending, Opening};
-use crate::taking::{push, tell};
-use names::{ErrorCode, Refusal};
+use crate::taking::{push, tell, tell_if, text_of};
+use names::{ErrorCode, Placed, Refusal};
 use std::alloc::{AllocError, Global};
 use std::marker::Model;
 
-/// What is read.
+/// The two kinds of comment.
 #[derive(Clone, Copy, Debug, PartialEq, Eq)]
 pub enum CommentKind {
-    /// A comment, after its `<!--`.
+    /// A comment that begins with `<!--`.
     Comment,
-    /// What is read as a comment up to the first `>`.
+    /// A bogus comment (HTML Standard, 13.2.5.41): everything up to the first `>`.
     Bogus,
 }
 
-/// Reads a comment after its opening mark, a character at a time. It hands over each error as it comes, in the order of the
-/// text. After an `Ok(true)` it takes no more, and after an `Err` it is of no further use.
-#[derive(Drop)]
+/// Reads a comment after its opening mark, one character at a time. Errors go to the sink as they are found, in the order of
+/// the text. After an `Ok(true)` only `into_data` may be called; after an `Err` the walk is of no further use.
+#[derive(Drop, Debug)]
 pub struct CommentWalk {
     kind: CommentKind,
     ending: Ending,
@@ -48,7 +50,7 @@ impl Model for CommentWalk {
     ghost view = { λ w. record { kind = w.kind; ending = w.ending; opening = w.opening; «data» = string_bytes w.text } };
 }
 
-/// Hands over the errors of a character.
+/// Reports the errors of a character of a comment.
 fn report<S: ErrorSink>(nested: bool, ch: char, at: u64, errors: &mut S) -> Result<(), Refusal>
     ensures { Hands S.gives errors.old (errors_here nested (record { ch = ch; at = at })) result errors.new }
 {
@@ -62,32 +64,43 @@ fn report<S: ErrorSink>(nested: bool, ch: char, at: u64, errors: &mut S) -> Resu
 }
 
 impl CommentWalk {
-    /// Reads what follows `<!--`.
+    /// A walk with this data so far, none of which may begin a closing mark.
+    fn with(kind: CommentKind, text: String) -> CommentWalk
+        ensures { result ≡ begun kind (string_bytes text) }
+    {
+        CommentWalk {
+            kind,
+            ending: Ending::Plain,
+            opening: Opening::Outside,
+            text,
+        }
+    }
+
+    /// A walk for what follows `<!--`.
     pub fn comment(alloc: Global) -> CommentWalk
         ensures { HasReadOf Comment result [] [] }
     {
-        CommentWalk {
-            kind: CommentKind::Comment,
-            ending: Ending::Plain,
-            opening: Opening::Outside,
-            text: String::new(alloc),
-        }
+        CommentWalk::with(CommentKind::Comment, String::new(alloc))
     }
 
-    /// Reads what is a comment up to the first `>`.
+    /// A walk for a bogus comment, which ends at the first `>`.
     pub fn bogus(alloc: Global) -> CommentWalk
         ensures { HasReadOf Bogus result [] [] }
     {
-        CommentWalk {
-            kind: CommentKind::Bogus,
-            ending: Ending::Plain,
-            opening: Opening::Outside,
-            text: String::new(alloc),
-        }
+        CommentWalk::with(CommentKind::Bogus, String::new(alloc))
     }
 
-    /// Takes the next character, which stands at byte `at`, and tells whether the comment has ended with it. An `Err` is
-    /// `Memory` or the sink's own.
+    /// A walk for a bogus comment whose first characters were read before it was known to be one, such as letters after `<!`.
+    pub fn bogus_after(alloc: Global, read: &[Placed]) -> Result<CommentWalk, AllocError>
+        requires { all is_plain_in_bogus read.now ≡ true }
+        ensures { IfOk result (λ walk. HasReadOf Bogus walk read.now []) }
+    {
+        let text = text_of(alloc, read)?;
+        Ok(CommentWalk::with(CommentKind::Bogus, text))
+    }
+
+    /// Reads the next character, whose first byte is at offset `at`, and returns whether it ends the comment. An error is
+    /// `Memory` or the sink's refusal.
     pub fn take_char<S: ErrorSink>(
         &mut self,
         ch: char,
@@ -103,7 +116,7 @@ impl CommentWalk {
         }
     }
 
-    /// Takes a character of a bogus comment.
+    /// Reads a character of a bogus comment.
     fn take_in_bogus<S: ErrorSink>(
         &mut self,
         ch: char,
@@ -123,7 +136,7 @@ impl CommentWalk {
         }
     }
 
-    /// Takes a character of a comment.
+    /// Reads a character of a comment.
     fn take_in_comment<S: ErrorSink>(
         &mut self,
         ch: char,
@@ -153,7 +166,40 @@ impl CommentWalk {
         Ok(false)
     }
 
-    /// Goes on at a character that closes nothing.
+    /// Reads a run of characters of a comment.
+    fn take_run_in_comment<S: ErrorSink>(
+        &mut self,
+        run: &str,
+        at: u64,
+        errors: &mut S,
+    ) -> Result<(), Refusal>
+        requires { list_all is_only_data run.now ≡ true }
+        ensures { (text : List Placed) (raised : List Error) → IsInComment self.old text raised
+            → TakesRun S.gives IsInComment (IsSpan Comment) text raised (placed at (chars run.now)) errors.old result self.new errors.new }
+    {
+        if run.is_empty() {
+            return Ok(());
+        }
+        let nested = self.opening.is_whole();
+        tell_if(nested, ErrorCode::NestedComment, at, errors)?;
+        self.keep_run(run)?;
+        Ok(())
+    }
+
+    /// Keeps characters that are only data.
+    fn keep_run(&mut self, run: &str) -> Result<(), AllocError>
+        ensures { OnOk result (self.new ≡ next_run self.old run.now) }
+    {
+        if self.ending != Ending::Plain {
+            self.text.push_str(self.ending.text())?;
+        }
+        self.text.push_str(run)?;
+        self.ending = Ending::Plain;
+        self.opening = Opening::Outside;
+        Ok(())
+    }
+
+    /// Keeps a character that does not end the comment.
     fn keep(&mut self, ch: char) -> Result<(), AllocError>
         ensures { OnOk result (self.new ≡ next self.old ch) }
     {
@@ -169,7 +215,25 @@ impl CommentWalk {
         Ok(())
     }
 
-    /// Says that the input ends, and is `end` bytes long. An `Err` is the sink's own.
+    /// Reads a run of characters, the first of which is at byte offset `at`, as `take_char` would one by one. None of them may
+    /// be `-`, `!`, `<`, `>` or NUL. An error is `Memory` or the sink's refusal.
+    pub fn take_run<S: ErrorSink>(
+        &mut self,
+        run: &str,
+        at: u64,
+        errors: &mut S,
+    ) -> Result<(), Refusal>
+        requires { list_all is_only_data run.now ≡ true }
+        ensures { (kind : Kind) (text : List Placed) (raised : List Error) → HasReadOf kind self.old text raised
+            → TakesRun S.gives (HasReadOf kind) (IsSpan kind) text raised (placed at (chars run.now)) errors.old result self.new errors.new }
+    {
+        match self.kind {
+            CommentKind::Comment => self.take_run_in_comment(run, at, errors),
+            CommentKind::Bogus => Ok(self.text.push_str(run)?),
+        }
+    }
+
+    /// Tells the walk that the input ends here, at byte offset `end`. An error is the sink's refusal.
     pub fn end<S: ErrorSink>(&self, end: u64, errors: &mut S) -> Result<(), Refusal>
         ensures { (kind : Kind) (text : List Placed) (raised : List Error) → HasReadOf kind self.now text raised
             → Ends S.gives (IsSpan kind) text raised end self.now.data errors.old result errors.new }
@@ -188,14 +252,26 @@ impl CommentWalk {
     }
 }
 
-/// What a walk has read is the beginning of a comment: each comment at the front of a text that begins so begins so too, with
-/// the errors that were reported. It ends there only where the input does.
+/// If a text begins with what a walk has read, then the comment at its front does too, and that comment's errors begin with
+/// those reported so far. The comment cannot end there unless the input does.
 pub fn goes_on_in_a_span()
-    ensures begins { (kind : Kind) (walk : Progress) (text : List Placed) (errors : List Error) → HasReadOf kind walk text errors → BeginsSpans (IsSpan kind) text errors }
+    ensures begins { (kind : Kind) (walk : Progress) (text : List Placed) (errors : List Error) → HasReadOf kind walk text errors
+        → BeginsSpans (IsSpan kind) text errors }
     ensures is_open { (kind : Kind) (walk : Progress) (text : List Placed) (errors : List Error) → HasReadOf kind walk text errors → IsOpen (IsSpan kind) text }
 {}
 
-/// One comment at most stands at the front of a text.
+/// What a walk has read can always be completed: with `-->` after it, or `>` for a bogus comment, it is a whole comment.
+pub fn closing_mark_ends_a_span()
+    ensures { (kind : Kind) (walk : Progress) (text closing : List Placed) (errors : List Error) → HasReadOf kind walk text errors
+        → characters closing ≡ closing_mark kind → ClosedBy (IsSpan kind) text closing }
+{}
+
+/// Every text begins with a comment, which may extend to the end of the text.
+pub fn some_span()
+    ensures { (kind : Kind) (end : ℕ) (text : List Placed) → HasSpan (IsSpan kind) end text }
+{}
+
+/// A text begins with at most one comment.
 pub fn one_span()
     ensures { (kind : Kind) → IsOneSpan (IsSpan kind) }
 {}

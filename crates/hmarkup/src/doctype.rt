@@ -1,15 +1,15 @@
-//! A doctype, a character at a time.
+//! Reads a doctype, one character at a time.
 
-ghost use Rattle.std.specs.Prelude.{◌≡◌, ◌++◌, ◌∷◌, ℕ, [], List, Option, Some, OnOk};
+ghost use Rattle.std.specs.Prelude.{◌≡◌, ◌++◌, ◌∷◌, ℕ, [], List, Option, Some, OnOk, codes};
 ghost use Rattle.std.specs.Char.{encode_utf8};
 ghost use Rattle.names.specs.declared.error.ParseError.{ParseError as Error};
 ghost use Rattle.names.specs.declared.placed.Placed.{Placed};
-ghost use Rattle.names.specs.Placed.{null_errors, without_null};
+ghost use Rattle.names.specs.Placed.{characters, null_errors, without_null};
 ghost use Rattle.names.specs.Sink.{Hands};
 ghost use Rattle.hmarkup.specs.Doctype.{IsDoctype, force, longer};
 ghost use Rattle.hmarkup.specs.DoctypeSteps.{fault_errors, kept, found_by};
 ghost use Rattle.hmarkup.specs.DoctypeWalk.{Reading, HasReadDoctype, text_of};
-ghost use Rattle.hmarkup.specs.Walk.{BeginsSpans, IsOpen, IsOneSpan, Takes, Ends};
+ghost use Rattle.hmarkup.specs.Walk.{BeginsSpans, IsOpen, ClosedBy, HasSpan, IsOneSpan, Takes, Ends};
 
 use crate::keyword::Identifier;
 use crate::phase::{Keeps, Phase, Step};
@@ -19,13 +19,13 @@ use names::{ErrorCode, ParseError, Refusal};
 use std::alloc::{AllocError, Global};
 use std::marker::Model;
 
-/// What a doctype holds. A name or an identifier that is there may be empty.
-#[derive(Drop)]
+/// The contents of a doctype. A name or an identifier that is present may be empty.
+#[derive(Drop, Debug)]
 pub struct Doctype {
     pub name: Option<String>,
     pub public_id: Option<String>,
     pub system_id: Option<String>,
-    /// Whether it forces quirks.
+    /// Whether the doctype forces quirks mode.
     pub forced: bool,
 }
 
@@ -38,9 +38,9 @@ impl Model for Doctype {
     ghost view = { λ d. record { name = text_of d.name; public = text_of d.public_id; system = text_of d.system_id; forced = d.forced } };
 }
 
-/// Reads a doctype after its `<!DOCTYPE`, a character at a time. It hands over each error as it comes, in the order of the
-/// text. After an `Ok(true)` it takes no more, and after an `Err` it is of no further use.
-#[derive(Drop)]
+/// Reads a doctype after its `<!DOCTYPE`, one character at a time. Errors go to the sink as they are found, in the order of
+/// the text. After an `Ok(true)` only `into_doctype` may be called; after an `Err` the walk is of no further use.
+#[derive(Drop, Debug)]
 pub struct DoctypeWalk {
     phase: Phase,
     found: Doctype,
@@ -55,7 +55,7 @@ impl Model for DoctypeWalk {
     ghost view = { λ w. record { phase = w.phase; found = w.found } };
 }
 
-/// Hands over the errors of a character: its fault, and that of NUL.
+/// Reports the errors of a character: its fault, and the one for NUL.
 fn report<S: ErrorSink>(
     fault: Option<ParseError>,
     ch: char,
@@ -73,7 +73,7 @@ fn report<S: ErrorSink>(
     Ok(())
 }
 
-/// Adds a character to a text, which begins with it where there is none; NUL as U+FFFD.
+/// Appends a character, with U+FFFD in place of NUL; a missing text begins with it.
 fn add(part: &mut Option<String>, ch: char, alloc: Global) -> Result<(), AllocError>
     ensures { OnOk result (text_of part.new ≡ Some (longer (text_of part.old) (encode_utf8 (without_null ch)))) }
 {
@@ -88,7 +88,7 @@ fn add(part: &mut Option<String>, ch: char, alloc: Global) -> Result<(), AllocEr
     }
 }
 
-/// Begins a text, unless there is one.
+/// Makes a missing text empty.
 fn begin(part: &mut Option<String>, alloc: Global)
     ensures { text_of part.new ≡ Some (longer (text_of part.old) []) }
 {
@@ -98,14 +98,14 @@ fn begin(part: &mut Option<String>, alloc: Global)
 }
 
 impl Doctype {
-    /// Forces quirks.
+    /// Forces quirks mode.
     fn force(&mut self)
         ensures { self.new ≡ force self.old }
     {
         self.forced = true;
     }
 
-    /// Keeps what a step says of a character.
+    /// Keeps the part of a character that a step names.
     fn keep(&mut self, keeps: Keeps, ch: char, alloc: Global) -> Result<(), AllocError>
         ensures { (at : ℕ) → OnOk result (self.new ≡ kept keeps (record { ch = ch; at = at }) self.old) }
     {
@@ -125,7 +125,7 @@ impl Doctype {
         }
     }
 
-    /// Takes a step's character, and forces quirks where the step says so.
+    /// Keeps a step's character, and forces quirks mode if the step does.
     fn take(&mut self, step: Step, ch: char, alloc: Global) -> Result<(), AllocError>
         ensures { (at : ℕ) → OnOk result (self.new ≡ found_by step (record { ch = ch; at = at }) self.old) }
     {
@@ -138,7 +138,7 @@ impl Doctype {
 }
 
 impl DoctypeWalk {
-    /// Reads what follows `<!DOCTYPE`.
+    /// A walk for what follows `<!DOCTYPE`.
     pub fn new(alloc: Global) -> DoctypeWalk
         ensures { HasReadDoctype result [] [] }
     {
@@ -154,8 +154,8 @@ impl DoctypeWalk {
         }
     }
 
-    /// Takes the next character, which stands at byte `at`, and tells whether the doctype has ended with it. An `Err` is
-    /// `Memory` or the sink's own.
+    /// Reads the next character, whose first byte is at offset `at`, and returns whether it ends the doctype. An error is
+    /// `Memory` or the sink's refusal.
     pub fn take_char<S: ErrorSink>(
         &mut self,
         ch: char,
@@ -178,7 +178,7 @@ impl DoctypeWalk {
         }
     }
 
-    /// Says that the input ends, and is `end` bytes long. An `Err` is the sink's own.
+    /// Tells the walk that the input ends here, at byte offset `end`. An error is the sink's refusal.
     pub fn end<S: ErrorSink>(&mut self, end: u64, errors: &mut S) -> Result<(), Refusal>
         ensures { (text : List Placed) (raised : List Error) → HasReadDoctype self.old text raised
             → Ends S.gives IsDoctype text raised end self.new.found errors.old result errors.new }
@@ -192,7 +192,7 @@ impl DoctypeWalk {
         }
     }
 
-    /// What the doctype holds, once it has ended.
+    /// The contents of the doctype, once it has ended.
     pub fn into_doctype(self) -> Doctype
         ensures { result ≡ self.found }
     {
@@ -200,14 +200,25 @@ impl DoctypeWalk {
     }
 }
 
-/// What a walk has read is the beginning of a doctype: each doctype at the front of a text that begins so begins so too, with
-/// the errors that were reported. It ends there only where the input does.
+/// If a text begins with what a walk has read, then the doctype at its front does too, and that doctype's errors begin with
+/// those reported so far. The doctype cannot end there unless the input does.
 pub fn goes_on_in_a_doctype()
     ensures begins { (walk : Reading) (text : List Placed) (errors : List Error) → HasReadDoctype walk text errors → BeginsSpans IsDoctype text errors }
     ensures is_open { (walk : Reading) (text : List Placed) (errors : List Error) → HasReadDoctype walk text errors → IsOpen IsDoctype text }
 {}
 
-/// One doctype at most stands at the front of a text.
+/// What a walk has read can always be completed: with `>` after it, it is a whole doctype, even inside quotes.
+pub fn greater_ends_a_doctype()
+    ensures { (walk : Reading) (text closing : List Placed) (errors : List Error) → HasReadDoctype walk text errors → characters closing ≡ codes ">"
+        → ClosedBy IsDoctype text closing }
+{}
+
+/// Every text begins with a doctype, which may extend to the end of the text.
+pub fn some_doctype()
+    ensures { (end : ℕ) (text : List Placed) → HasSpan IsDoctype end text }
+{}
+
+/// A text begins with at most one doctype.
 pub fn one_doctype()
     ensures { IsOneSpan IsDoctype }
 {}

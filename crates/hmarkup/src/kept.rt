@@ -1,10 +1,10 @@
-//! A sink of the tests.
+//! The error sink of the tests.
 
 use crate::sink::ErrorSink;
 use names::{ErrorCode, ParseError, Refusal};
 use std::alloc::Global;
 
-/// Keeps errors, as many as it has room for.
+/// Keeps up to `room` errors, and refuses the next.
 #[derive(Drop)]
 pub struct Errors {
     pub room: usize,

@@ -1,4 +1,4 @@
-//! The keywords of a doctype, and what they name.
+//! The keywords of a doctype, and the identifiers they announce.
 
 ghost use Rattle.std.specs.Prelude.{◌≡◌};
 ghost use Rattle.hmarkup.specs.DoctypeSteps.{first_letter, next_letter, letters_after, letters_of};
@@ -14,7 +14,7 @@ pub enum Identifier {
 }
 
 impl Identifier {
-    /// The error where no white space stands between the keyword and the identifier.
+    /// The error when no white space separates the keyword from the identifier.
     pub fn not_spaced(self) -> ErrorCode
         ensures { result ≡ no_space_after_keyword self }
     {
@@ -24,7 +24,7 @@ impl Identifier {
         }
     }
 
-    /// The error where `>` stands in its place.
+    /// The error for a `>` in place of the identifier.
     pub fn missing(self) -> ErrorCode
         ensures { result ≡ no_identifier self }
     {
@@ -34,7 +34,7 @@ impl Identifier {
         }
     }
 
-    /// The error where something else stands in its place.
+    /// The error for any other character in its place.
     pub fn not_quoted(self) -> ErrorCode
         ensures { result ≡ no_quote self }
     {
@@ -44,7 +44,7 @@ impl Identifier {
         }
     }
 
-    /// The error where `>` stands inside.
+    /// The error for a `>` inside the identifier.
     pub fn abrupt(self) -> ErrorCode
         ensures { result ≡ abrupt_identifier self }
     {
@@ -55,7 +55,7 @@ impl Identifier {
     }
 }
 
-/// The letters that were read of `PUBLIC` or `SYSTEM`: one at least, and not all.
+/// The letters read so far of `PUBLIC` or `SYSTEM`: at least one, and not all.
 #[derive(Clone, Copy, Debug, PartialEq, Eq)]
 pub enum Letters {
     P,
@@ -71,7 +71,7 @@ pub enum Letters {
 }
 
 impl Letters {
-    /// The letter that begins a keyword, if this is one in either case.
+    /// The first letter of a keyword, if `ch` is one in either case.
     pub fn first(ch: char) -> Option<Letters>
         ensures { result ≡ first_letter ch }
     {
@@ -82,7 +82,7 @@ impl Letters {
         }
     }
 
-    /// The letter that the keyword goes on with, in lower case.
+    /// The next letter of the keyword, in lower case.
     pub fn next(self) -> char
         ensures { result ≡ next_letter self }
     {
@@ -100,7 +100,7 @@ impl Letters {
         }
     }
 
-    /// The letters with the next one, unless the keyword is whole then.
+    /// The letters with the next one added, unless it completes the keyword.
     pub fn after(self) -> Option<Letters>
         ensures { result ≡ letters_after self }
     {
@@ -117,7 +117,7 @@ impl Letters {
         }
     }
 
-    /// The identifier that the keyword names.
+    /// The identifier that the keyword announces.
     pub fn which(self) -> Identifier
         ensures { result ≡ letters_of self }
     {

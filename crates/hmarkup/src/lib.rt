@@ -1,4 +1,5 @@
-//! Comments, what is read as one, and doctypes, a character at a time (HTML Standard, 13.2.5.41 and 13.2.5.43 to 13.2.5.68).
+//! Comments, bogus comments and doctypes, read one character at a time (HTML Standard, 13.2.5.41 and 13.2.5.43 to 13.2.5.68),
+//! and the quirks list.
 #![tactic(auto)]
 
 pub mod comment;

@@ -1,4 +1,4 @@
-//! Where in a doctype a walk is, and what a character does there.
+//! The phases of reading a doctype, and what a character does in each.
 
 ghost use Rattle.std.specs.Prelude.{◌≡◌, ◌==◌};
 ghost use Rattle.std.specs.Char.{to_ascii_lowercase};
@@ -8,48 +8,48 @@ ghost use Rattle.hmarkup.specs.DoctypeSteps.{goes_to, ends, faulty, refuses, ski
 use crate::keyword::{Identifier, Letters};
 use names::{ErrorCode, ParseError};
 
-/// What was read last of a doctype. A `bool` says whether white space stands there.
+/// Where in a doctype the walk is. A `bool` says whether white space was read there.
 #[derive(Clone, Copy, Debug, PartialEq, Eq)]
 pub enum Phase {
     BeforeName(bool),
     Name,
     AfterName,
-    /// Letters of a keyword, and the place of the first.
+    /// In a keyword: its letters so far, and the byte offset of the first.
     Keyword(Letters, u64),
     AfterKeyword(Identifier, bool),
-    /// An identifier after this quote.
+    /// Inside an identifier that this quote opened.
     Quoted(Identifier, char),
     AfterPublic(bool),
     AfterSystem,
     Skipped,
 }
 
-/// What is kept of a character.
+/// Which part of the doctype a character belongs to.
 #[derive(Clone, Copy, Debug, PartialEq, Eq)]
 pub enum Keeps {
     Nothing,
-    /// It is of the name.
+    /// It is part of the name.
     Name,
-    /// It begins an identifier.
+    /// It is the quote that opens an identifier.
     Quote(Identifier),
-    /// It is of an identifier.
+    /// It is part of an identifier.
     Inside(Identifier),
 }
 
 /// What a character does.
 #[derive(Clone, Copy, Debug, PartialEq, Eq)]
 pub struct Step {
-    /// Its error, but for that of NUL.
+    /// Its error, other than the one for NUL.
     pub fault: Option<ParseError>,
     pub keeps: Keeps,
-    /// Whether it forces quirks.
+    /// Whether it forces quirks mode.
     pub forces: bool,
-    /// Where the doctype goes on; none where it ends.
+    /// The next phase, or none if the character ends the doctype.
     pub next: Option<Phase>,
 }
 
 impl Step {
-    /// Nothing but that the doctype goes on there.
+    /// Only the phase changes.
     fn to(next: Phase) -> Step
         ensures { result ≡ goes_to next }
     {
@@ -73,7 +73,7 @@ impl Step {
         }
     }
 
-    /// An error that forces quirks, and `>`, which ends the doctype.
+    /// A `>` that is an error, forces quirks mode and ends the doctype.
     fn refuse(code: ErrorCode, at: u64) -> Step
         ensures { result ≡ refuses code at }
     {
@@ -84,7 +84,7 @@ impl Step {
         }
     }
 
-    /// An error, and the rest is skipped.
+    /// An error after which the rest is skipped.
     fn skip(code: ErrorCode, at: u64, forces: bool) -> Step
         ensures { result ≡ skips code at forces }
     {
@@ -95,7 +95,7 @@ impl Step {
         }
     }
 
-    /// What is kept, with an error where no white space stands before it.
+    /// A character that is kept, with an error if no white space precedes it.
     fn keep(keeps: Keeps, spaced: bool, code: ErrorCode, at: u64, next: Phase) -> Step
         ensures { result ≡ faulty keeps spaced code at next }
     {
@@ -112,7 +112,7 @@ impl Step {
 }
 
 impl Phase {
-    /// What a character at byte `at` does.
+    /// What a character does whose first byte is at offset `at`.
     pub fn step(self, ch: char, at: u64) -> Step
         ensures { result ≡ step self (record { ch = ch; at = at }) }
     {
@@ -129,7 +129,7 @@ impl Phase {
         }
     }
 
-    /// The error at the input's end, which is at byte `end`.
+    /// The error, if any, when the input ends here, at byte offset `end`.
     pub fn end_fault(self, end: u64) -> Option<ParseError>
         ensures { result ≡ end_fault self end }
     {
@@ -147,14 +147,14 @@ impl Phase {
     }
 }
 
-/// Whether the character is one of the two quotes.
+/// Whether the character is a quote.
 fn is_mark(ch: char) -> bool
     ensures { result ≡ is_quote ch }
 {
     ch == '"' || ch == '\''
 }
 
-/// The step of each phase.
+/// What a character does in each phase.
 impl Step {
     fn before_name(spaced: bool, ch: char, at: u64) -> Step
         ensures { result ≡ before_name spaced (is_space ch) (is_greater ch) at }

@@ -1,4 +1,4 @@
-//! The quirks list (HTML Standard, 13.2.6.4.1): the identifiers of doctypes whose documents are in quirks mode.
+//! The quirks list (HTML Standard, 13.2.6.4.1): the doctype identifiers that put a document into quirks mode.
 
 ghost use Rattle.std.specs.Prelude.{◌≡◌, ◌∷◌, ◌<◌, ℕ, List, [], length, option_map, MatchOption};
 ghost use Rattle.std.specs.Int.{is_in_range};
@@ -10,21 +10,21 @@ use names::Refusal;
 use std::alloc::Global;
 use std::marker::Model;
 
-/// What a line of the list matches.
+/// What a line of the list is matched against.
 #[derive(Clone, Copy, Debug, PartialEq, Eq)]
 pub enum QuirkKind {
-    /// A public identifier that is the line's text.
+    /// The public identifier equals the line's text.
     PublicIs,
-    /// A public identifier that begins with it.
+    /// The public identifier begins with it.
     PublicBegins,
-    /// A system identifier that is it.
+    /// The system identifier equals it.
     SystemIs,
-    /// A public identifier that begins with it, where the system identifier is missing.
+    /// The public identifier begins with it, and the system identifier is missing.
     PublicBeginsWithoutSystem,
 }
 
 impl QuirkKind {
-    /// The kind that a line names by its first word.
+    /// The kind that a line's first word names.
     fn named(word: &str) -> Option<QuirkKind>
         ensures { MatchOption result (IsWordless word.now) (λ kind. word.now ≡ quirk_word kind) }
     {
@@ -39,7 +39,7 @@ impl QuirkKind {
 }
 
 /// A line of the list.
-#[derive(Drop)]
+#[derive(Drop, Debug)]
 struct Line {
     kind: QuirkKind,
     text: String,
@@ -54,9 +54,9 @@ impl Model for Line {
     ghost view = { λ l. record { kind = l.kind; text = string_bytes l.text } };
 }
 
-/// The quirks list. Its text is lines, the last one with or without LF: `public-is`, `public-begins`, `system-is` or
-/// `public-begins-without-system`, one space, and a text of one or more bytes 20 to 7E.
-#[derive(Drop)]
+/// The quirks list. Each line of its text is `public-is`, `public-begins`, `system-is` or `public-begins-without-system`, one
+/// space, and a text of one or more bytes from 20 to 7E (hexadecimal). The last LF may be missing.
+#[derive(Drop, Debug)]
 pub struct Quirks {
     lines: Vec<Line>,
 }
@@ -70,7 +70,7 @@ impl Model for Quirks {
     ghost view = { λ q. q.lines.items };
 }
 
-/// The text before the first mark, and the text after it.
+/// The text before the first `mark` and the text after it, if there is one.
 fn parts(text: &str, mark: char) -> Option<(&str, &str)>
     requires { mark < 128 }
     ensures { MatchOption result (Lacks mark text.now) (λ x. HasParts mark text.now x.0.now x.1.now) }
@@ -78,7 +78,7 @@ fn parts(text: &str, mark: char) -> Option<(&str, &str)>
     text.split_once(mark)
 }
 
-/// The first line of a text that is not empty, and the text after it.
+/// The first line, and the text after it.
 fn first_line(text: &str) -> (&str, &str)
     requires { 0 < length text.now }
     ensures first { lines text.now ≡ result.0.now ∷ lines result.1.now }
@@ -91,7 +91,7 @@ fn first_line(text: &str) -> (&str, &str)
     }
 }
 
-/// Whether each byte is one of 20 to 7E.
+/// Whether each byte is from 20 to 7E (hexadecimal).
 fn is_printable(text: &str) -> bool
     ensures { result ≡ list_all (is_in_range 0x20 0x7E) text.now }
 {
@@ -100,7 +100,7 @@ fn is_printable(text: &str) -> bool
         .all(|byte| (b' '..=b'~').contains(byte))
 }
 
-/// The kind and the text of a line without its LF, if it is one of the list.
+/// The kind and the text of a line, without its LF, if it has one of the four forms.
 fn read_line(line: &str) -> Option<(QuirkKind, &str)>
     ensures { MatchOption result (IsNoQuirkLine line.now) (λ x. IsQuirkLine line.now (record { kind = x.0; text = x.1.now })) }
 {
@@ -113,7 +113,7 @@ fn read_line(line: &str) -> Option<(QuirkKind, &str)>
 }
 
 impl Line {
-    /// Whether it matches.
+    /// Whether the line matches these identifiers.
     fn matches(&self, public: Option<&str>, system: Option<&str>) -> bool
         ensures { result ≡ line_matches self.now (option_map (λ x. x.now) public.entry) (option_map (λ x. x.now) system.entry) }
     {
@@ -127,7 +127,7 @@ impl Line {
     }
 }
 
-/// Whether the identifier is there, and is the text but for ASCII case.
+/// Whether the identifier is present and equals the text, ignoring ASCII case.
 fn is_same(id: Option<&str>, text: &str) -> bool
     ensures { result ≡ same_as (option_map (λ x. x.now) id.entry) text.now }
 {
@@ -137,7 +137,7 @@ fn is_same(id: Option<&str>, text: &str) -> bool
     }
 }
 
-/// Whether the identifier is there, and begins with the text but for ASCII case.
+/// Whether the identifier is present and begins with the text, ignoring ASCII case.
 fn begins(id: Option<&str>, text: &str) -> bool
     ensures { result ≡ begins_as (option_map (λ x. x.now) id.entry) text.now }
 {
@@ -151,7 +151,7 @@ fn begins(id: Option<&str>, text: &str) -> bool
 }
 
 impl Quirks {
-    /// Reads a list. An `Err` is `Memory`, or `BadQuirks` with the first line that is not of these forms, from 1.
+    /// Parses a list. An error is `Memory`, or `BadQuirks` with the number, from 1, of the first line that has none of these forms.
     pub fn read(alloc: Global, text: &str) -> Result<Quirks, Refusal>
         ensures { ReadsQuirks text.now result }
     {
@@ -175,7 +175,7 @@ impl Quirks {
         Ok(Quirks { lines })
     }
 
-    /// Whether a line of the list matches a doctype with these identifiers, each missing or present though empty.
+    /// Whether some line matches a doctype with these identifiers; `Some("")` is an identifier that is present but empty.
     pub fn matches(&self, public: Option<&str>, system: Option<&str>) -> bool
         ensures { result ≡ list_matches self.now (option_map (λ x. x.now) public.entry) (option_map (λ x. x.now) system.entry) }
     {

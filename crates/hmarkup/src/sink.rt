@@ -1,14 +1,14 @@
-//! What takes parse errors.
+//! Where parse errors go.
 
 use names::{ParseError, Refusal};
 
-/// Takes parse errors. It may refuse one.
+/// Receives parse errors, and may refuse one.
 pub trait ErrorSink {
     ghost use Rattle.std.specs.Prelude.{Result};
     ghost use Rattle.names.specs.declared.error.ParseError.{ParseError as Error};
     ghost use Rattle.names.specs.declared.refusal.Refusal.{Refusal as Refused};
 
-    /// A step of the sink: as it was, the error, its answer, and as it is then.
+    /// One call of the sink: its state before, the error, what it returns, and its state after.
     ghost gives: { Self → Error → Result (Unit {0}) Refused → Self → Type 0 };
 
     fn take_error(&mut self, error: ParseError) -> Result<(), Refusal>

@@ -1,10 +1,10 @@
-//! How much of a mark ends the text that was read of a comment.
+//! How much of a closing mark, and of an inner `<!--`, the text read so far ends with.
 
 ghost use Rattle.std.specs.Prelude.{◌≡◌};
-ghost use Rattle.hmarkup.specs.Steps.{next_opening, next_ending, decided_text};
+ghost use Rattle.hmarkup.specs.Steps.{next_opening, next_ending, decided_text, ending_text};
 ghost use Rattle.hmarkup.specs.CommentWalk.{is_whole};
 
-/// The beginning of a closing mark that ends the text: nothing, `-`, `--` or `--!`.
+/// The part of a closing mark that the text ends with: nothing, `-`, `--` or `--!`.
 #[derive(Clone, Copy, Debug, PartialEq, Eq)]
 pub enum Ending {
     Plain,
@@ -13,7 +13,7 @@ pub enum Ending {
     Bang,
 }
 
-/// The beginning of an inner `<!--` that ends the text: nothing, `<`, `<!`, `<!-` or all of it.
+/// The part of an inner `<!--` that the text ends with: nothing, `<`, `<!`, `<!-` or all of it.
 #[derive(Clone, Copy, Debug, PartialEq, Eq)]
 pub enum Opening {
     Outside,
@@ -24,7 +24,7 @@ pub enum Opening {
 }
 
 impl Ending {
-    /// The ending after one more character, which closes nothing.
+    /// The ending after one more character that does not end the comment.
     pub fn after(self, ch: char) -> Ending
         ensures { result ≡ next_ending self ch }
     {
@@ -43,7 +43,7 @@ impl Ending {
         }
     }
 
-    /// What is known to be data then, but for the character itself where it is neither `-` nor `!`.
+    /// What that character shows to be data: held characters, and the character itself only if it is `-` or `!`.
     pub fn decided(self, ch: char) -> &'static str
         ensures { result.now ≡ decided_text self ch }
     {
@@ -60,18 +60,25 @@ impl Ending {
                 Ending::Dashes => "",
                 Ending::Bang => "--!!",
             },
-            _ => match self {
-                Ending::Plain => "",
-                Ending::Dash => "-",
-                Ending::Dashes => "--",
-                Ending::Bang => "--!",
-            },
+            _ => self.text(),
+        }
+    }
+
+    /// The characters of the ending.
+    pub fn text(self) -> &'static str
+        ensures { result.now ≡ ending_text self }
+    {
+        match self {
+            Ending::Plain => "",
+            Ending::Dash => "-",
+            Ending::Dashes => "--",
+            Ending::Bang => "--!",
         }
     }
 }
 
 impl Opening {
-    /// Whether all of it was read.
+    /// Whether the text ends with a whole `<!--`.
     pub fn is_whole(self) -> bool
         ensures { result ≡ is_whole self }
     {

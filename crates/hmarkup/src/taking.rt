@@ -1,26 +1,53 @@
-//! What each walk does with a character.
+//! What both walks do with an error and with a character.
 
-ghost use Rattle.std.specs.Prelude.{◌≡◌, ◌++◌, OnOk, string_bytes};
+ghost use Rattle.std.specs.Prelude.{◌≡◌, ◌++◌, IfOk, OnOk, string_bytes};
 ghost use Rattle.std.specs.Char.{encode_utf8};
-ghost use Rattle.names.specs.Placed.{error, without_null};
+ghost use Rattle.names.specs.Placed.{error, error_if, text_bytes, without_null};
+ghost use Rattle.names.specs.Sink.{Hands};
 
 use crate::sink::ErrorSink;
-use names::{ErrorCode, ParseError, Refusal};
-use std::alloc::AllocError;
+use names::{ErrorCode, ParseError, Placed, Refusal};
+use std::alloc::{AllocError, Global};
 
-/// Hands over an error.
+/// Reports an error.
 pub fn tell<S: ErrorSink>(code: ErrorCode, at: u64, errors: &mut S) -> Result<(), Refusal>
     ensures { S.gives errors.old (error code at) result errors.new }
 {
     errors.take_error(ParseError { code, at })
 }
 
-/// Adds a character to a text; NUL as U+FFFD.
+/// Reports an error if `says` is true.
+pub fn tell_if<S: ErrorSink>(
+    says: bool,
+    code: ErrorCode,
+    at: u64,
+    errors: &mut S,
+) -> Result<(), Refusal>
+    ensures { Hands S.gives errors.old (error_if says code at) result errors.new }
+{
+    if says {
+        return tell(code, at, errors);
+    }
+    Ok(())
+}
+
+/// The character to keep: U+FFFD in place of NUL.
+fn kept(ch: char) -> char
+    ensures { result ≡ without_null ch }
+{
+    if ch == '\0' { '\u{FFFD}' } else { ch }
+}
+
+/// Appends a character, with U+FFFD in place of NUL.
 pub fn push(text: &mut String, ch: char) -> Result<(), AllocError>
     ensures { OnOk result (string_bytes text.new ≡ string_bytes text.old ++ encode_utf8 (without_null ch)) }
 {
-    if ch == '\0' {
-        return text.push('\u{FFFD}');
-    }
-    text.push(ch)
+    text.push(kept(ch))
+}
+
+/// The characters as a string, with U+FFFD in place of NUL.
+pub fn text_of(alloc: Global, characters: &[Placed]) -> Result<String, AllocError>
+    ensures { IfOk result (λ text. string_bytes text ≡ text_bytes characters.now) }
+{
+    characters.iter().map(|p| kept(p.ch)).collect(alloc)
 }

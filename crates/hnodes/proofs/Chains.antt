@@ -1,10 +1,11 @@
 -- To move the first child of a node until none is left is to move them all.
-use Rattle.std.proofs.Common.{◌≡◌, ◌≢◌, ℕ, zero, suc, ◌+◌, ◌<◌, ◌≤◌, Bool, true, false, eqb, ltb, cond, Some, None, refl, sym, ◌∙◌, ap, subst, arith}
-use Rattle.std.proofs.lemmas.Bool.{eqb-true, eq-eqb, ne_eqb, le-leb}
+use Rattle.std.proofs.Common.{◌≡◌, ◌≢◌, ℕ, zero, suc, ◌+◌, ◌<◌, ◌≤◌, Bool, true, false, eqb, cond, Some, None, refl, sym, ◌∙◌, ap, subst, arith}
+use Rattle.std.proofs.lemmas.Bool.{eqb-true, eq-eqb, ne_eqb}
 use Rattle.hnodes.specs.Forest.{What, document, Forest, none, tree, size, times, join, tree_at, cut, children_of, change_children, IsOutside}
 use Rattle.hnodes.specs.Spots.{first_or, first_child_of}
 use Rattle.hnodes.specs.Edits.{Nodes, AreNodes, graft_last, move_all}
 use Rattle.hnodes.proofs.Forests.{some_inj, join-none, join-assoc, times-join, tree_at-absent, children_of-absent, change_children-absent, times-changed, times-cut, children-apart, change-const}
+use Rattle.hnodes.proofs.Counted.{at-most, is-there}
 use Rattle.hnodes.proofs.Families.{Sited, at_root, in_kids, in_rest, sited, family, first-cut, first_child-is, children-among}
 
 module _ {N : Type 0} where
@@ -92,39 +93,29 @@ module _ {N : Type 0} where
       go l r true = refl
       go l r false = λ i. tree b w (l i) (r i)
 
-  one-there : (v : Nodes N) (n : ℕ) → AreNodes v → n < v.made → times n v.trees ≡ 1
-  one-there v n a h = a.once n ∙ rw (le-leb (suc n) v.made (omega arith)) refl
-
-  once-there : (v : Nodes N) (n : ℕ) → AreNodes v → times n v.trees ≤ 1
-  once-there v n a = rw (a.once n) (go (ltb n v.made))
-    where
-      go : (u : Bool) → cond u 1 0 ≤ 1
-      go true = omega arith
-      go false = omega arith
-
   -- no children are left
   pub none-left : (v : Nodes N) (m p : ℕ) → AreNodes v → m < v.made → first_child_of m v.trees ≡ None → move_all m p v.trees ≡ v.trees
   none-left v m p a h e =
-      rw (empty, change-same m none v.trees (one-there v m a h) empty) ((λ i. change_children p (λ k. join-none k i) v.trees) ∙ change-id p v.trees)
+      rw (empty, change-same m none v.trees (is-there v.made v.trees a.counted m h) empty) ((λ i. change_children p (λ k. join-none k i) v.trees) ∙ change-id p v.trees)
     where
       go : (g : Forest N) → first_or g None ≡ None → g ≡ none
       go none j = refl
       go (tree b w kids rest) j = cc
 
       empty : children_of m v.trees ≡ none
-      empty = go (children_of m v.trees) (sym (first_child-is m v.trees (one-there v m a h)) ∙ e)
+      empty = go (children_of m v.trees) (sym (first_child-is m v.trees (is-there v.made v.trees a.counted m h)) ∙ e)
 
   -- the document is no child
   not_zero : (v : Nodes N) (m : ℕ) → AreNodes v → times 0 (children_of m v.trees) ≡ 0
   not_zero v m a =
-      let o : times 0 (tree 0 document a.begins.0 a.begins.1) ≤ 1 = subst (λ (f : Forest N). times 0 f ≤ 1) a.begins.2 (once-there v 0 a) in
-      let c : times 0 (children_of m (tree 0 document a.begins.0 a.begins.1)) ≡ 0 = go (eqb 0 m) (children-among 0 m a.begins.0) (children-among 0 m a.begins.1) o in
-      rw a.begins.2 c
+      let o : times 0 (tree 0 document a.counted.begins.0 a.counted.begins.1) ≤ 1 = subst (λ (f : Forest N). times 0 f ≤ 1) a.counted.begins.2 (at-most v.made v.trees a.counted 0) in
+      let c : times 0 (children_of m (tree 0 document a.counted.begins.0 a.counted.begins.1)) ≡ 0 = go (eqb 0 m) (children-among 0 m a.counted.begins.0) (children-among 0 m a.counted.begins.1) o in
+      rw a.counted.begins.2 c
     where
-      go : (u : Bool) → times 0 (children_of m a.begins.0) ≤ times 0 a.begins.0 → times 0 (children_of m a.begins.1) ≤ times 0 a.begins.1 → 1 + (times 0 a.begins.0 + times 0 a.begins.1) ≤ 1
-          → times 0 (cond u a.begins.0 (join (children_of m a.begins.0) (children_of m a.begins.1))) ≡ 0
+      go : (u : Bool) → times 0 (children_of m a.counted.begins.0) ≤ times 0 a.counted.begins.0 → times 0 (children_of m a.counted.begins.1) ≤ times 0 a.counted.begins.1 → 1 + (times 0 a.counted.begins.0 + times 0 a.counted.begins.1) ≤ 1
+          → times 0 (cond u a.counted.begins.0 (join (children_of m a.counted.begins.0) (children_of m a.counted.begins.1))) ≡ 0
       go true x y o = omega arith
-      go false x y o = omega (arith, times-join 0 (children_of m a.begins.0) (children_of m a.begins.1))
+      go false x y o = omega (arith, times-join 0 (children_of m a.counted.begins.0) (children_of m a.counted.begins.1))
 
   -- what there is to show of the move of a first child
   pub record Moves (v : Nodes N) (m p c : ℕ) : Type 0 where
@@ -135,7 +126,7 @@ module _ {N : Type 0} where
     pub fewer : size (children_of m (graft_last c p v.trees)) < size (children_of m v.trees)
 
   pub moves : (v : Nodes N) (m p c : ℕ) → AreNodes v → m < v.made → p < v.made → IsOutside p m v.trees → first_child_of m v.trees ≡ Some c → Moves v m p c
-  moves v m p c a h hp out e = go (children_of m v.trees) refl (sym (first_child-is m v.trees (one-there v m a h)) ∙ e)
+  moves v m p c a h hp out e = go (children_of m v.trees) refl (sym (first_child-is m v.trees (is-there v.made v.trees a.counted m h)) ∙ e)
     where
       f : Forest N
       f = v.trees
@@ -147,13 +138,13 @@ module _ {N : Type 0} where
           T = tree c w k none
 
           one_m : times m f ≡ 1
-          one_m = one-there v m a h
+          one_m = is-there v.made v.trees a.counted m h
 
           in_children : 0 < times c (children_of m f)
           in_children = rw (is, eq-eqb c c refl) (omega arith)
 
           one_c : times c f ≡ 1
-          one_c = let i = children-among c m f in let o = once-there v c a in let j = in_children in omega arith
+          one_c = let i = children-among c m f in let o = at-most v.made v.trees a.counted c in let j = in_children in omega arith
 
           positive : 0 < c
           positive = pos c refl
@@ -194,7 +185,7 @@ module _ {N : Type 0} where
           out' = ap (times p) tree_m ∙ p_changed
 
           left_p : times p (cut c f) ≡ 1
-          left_p = omega (arith, times-cut p c f, p_T, one-there v p a hp)
+          left_p = omega (arith, times-cut p c f, p_T, is-there v.made v.trees a.counted p hp)
 
           one_m' : times m (graft_last c p f) ≡ 1
           one_m' =

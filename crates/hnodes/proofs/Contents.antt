@@ -2,7 +2,7 @@
 use Rattle.std.proofs.Common.{◌≡◌, ℕ, ◌<◌, Bool, true, false, eqb, cond, List, Option, Some, None, length, get_or, set, refl, ◌∙◌, Vec, Global, String}
 use Rattle.std.specs.Option.{option_map}
 use Rattle.hnodes.specs.Forest.{Attribute}
-use Rattle.hnodes.specs.Edits.{with_char, with_attribute}
+use Rattle.hnodes.specs.Edits.{with_text, with_attribute}
 use Rattle.hnodes.specs.Links.{Row}
 use Rattle.hnodes.specs.Rows.{content_is, row_of, look_in, IsChanged, IsUnchanged}
 use Rattle.hnodes.specs.declared.node.Node.{Node}
@@ -20,12 +20,12 @@ unchanged xs j k x y same h e r = let w : IsChanged k (λ m. m) xs (set xs j y) 
     go true (Some m) = refl
     go false o = refl
 
-pub not_text : (c : ℕ) (w : Content) → ((a : String Global) → w ≡ content.Text a → ⊥) → content_is w ≡ with_char c (content_is w)
-not_text c content.Document h = refl
-not_text c (content.Doctype d) h = refl
-not_text c (content.Element a b) h = refl
-not_text c (content.Comment a) h = refl
-not_text c (content.Text a) h = absurd (h a refl)
+pub not_text : (more : List ℕ) (w : Content) → ((a : String Global) → w ≡ content.Text a → ⊥) → content_is w ≡ with_text more (content_is w)
+not_text more content.Document h = refl
+not_text more (content.Doctype d) h = refl
+not_text more (content.Element a b) h = refl
+not_text more (content.Comment a) h = refl
+not_text more (content.Text a) h = absurd (h a refl)
 
 pub not_element : (a : Attribute ℕ) (w : Content) → ((n : ℕ) (b : Vec Attr Global) → w ≡ content.Element n b → ⊥) → content_is w ≡ with_attribute a (content_is w)
 not_element a content.Document h = refl

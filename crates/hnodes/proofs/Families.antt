@@ -3,7 +3,7 @@ use Rattle.std.proofs.Common.{◌≡◌, ℕ, zero, suc, ◌+◌, ◌<◌, ◌�
 use Rattle.std.proofs.lemmas.Bool.{eqb-true, eq-eqb}
 use Rattle.std.specs.Option.{option_map}
 use Rattle.hnodes.specs.Forest.{What, Forest, none, tree, times, join, tree_at, cut, children_of, change_children}
-use Rattle.hnodes.specs.Spots.{Spot, spot_below, spot_of, first_or, first_child_of}
+use Rattle.hnodes.specs.Spots.{Spot, spot_below, spot_of, first_or, last_or, first_child_of, last_child_of}
 use Rattle.hnodes.proofs.Forests.{some_inj, times-join, join-none, cut-absent, tree_at-absent, children_of-absent, change_children-absent}
 use Rattle.hnodes.proofs.Spots.{spot_below-absent, spot_of-absent, either-none}
 
@@ -116,3 +116,10 @@ module _ {N : Type 0} where
       go : (o : Option (Spot N)) → option_map (λ s. s.children) o ≡ Some (children_of m f) → option_and_then (λ s. first_or s.children None) o ≡ first_or (children_of m f) None
       go None e = cc
       go (Some s) e = ap (λ g. first_or g None) (some_inj e)
+
+  pub last_child-is : (m : ℕ) (f : Forest N) → times m f ≡ 1 → last_child_of m f ≡ last_or None (children_of m f)
+  last_child-is m f h = go (spot_of m f) (spot-children m f h)
+    where
+      go : (o : Option (Spot N)) → option_map (λ s. s.children) o ≡ Some (children_of m f) → option_and_then (λ s. last_or None s.children) o ≡ last_or None (children_of m f)
+      go None e = cc
+      go (Some s) e = ap (last_or None) (some_inj e)

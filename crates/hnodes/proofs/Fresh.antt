@@ -8,6 +8,7 @@ use Rattle.hnodes.specs.declared.node.Place.{Place}
 use Rattle.hnodes.specs.declared.node.Place.TheVariants.{LastIn, Before}
 use Rattle.hnodes.proofs.Forests.{tree_at-absent}
 use Rattle.hnodes.proofs.Spots.{either-none}
+use Rattle.hnodes.proofs.Inside.{tree_at-joined, tree_at-among}
 use Rattle.hnodes.proofs.Opened.{Opened, opened}
 use Rattle.hnodes.proofs.Makes.{made_view}
 use Rattle.hnodes.specs.Links.{alone, whole}
@@ -21,7 +22,7 @@ either-assoc None y z = refl
 either-assoc (Some a) y z = refl
 
 module _ {N : Type 0} where
-  tree_at-join : (n : ℕ) (f g : Forest N) → times n f ≡ 0 → tree_at n (join f g) ≡ tree_at n g
+  pub tree_at-join : (n : ℕ) (f g : Forest N) → times n f ≡ 0 → tree_at n (join f g) ≡ tree_at n g
   tree_at-join n none g h = refl
   tree_at-join n (tree b w kids rest) g h = go (tree_at-join n rest g) (eqb b n) h
     where
@@ -29,7 +30,7 @@ module _ {N : Type 0} where
       go r true h' = absurd (omega arith)
       go r false h' = rw (tree_at-absent n kids (omega arith)) (r (omega arith))
 
-  spot_of-join : (n : ℕ) (f g : Forest N) → spot_of n (join f g) ≡ either_of (spot_of n f) (spot_of n g)
+  pub spot_of-join : (n : ℕ) (f g : Forest N) → spot_of n (join f g) ≡ either_of (spot_of n f) (spot_of n g)
   spot_of-join n none g = refl
   spot_of-join n (tree b w kids rest) g =
       ap (either_of (spot_below n None None (tree b w kids none))) (spot_of-join n rest g) ∙ either-assoc (spot_below n None None (tree b w kids none)) (spot_of n rest) (spot_of n g)
@@ -61,3 +62,16 @@ pub add-outside : (t : Inside) (x : Node) (w : What ℕ) (n : ℕ) → row_of x 
 add-outside t x w n r s same k h =
     subst (λ (m : ℕ). IsOutside k m (whole (length (t.nodes.items ++ x ∷ [])) (look_in (t.nodes.items ++ x ∷ [])))) (sym same)
     (subst (λ (u : Nodes ℕ). IsOutside k (length t.nodes.items) u.trees) (sym (made_view t x w r s)) (made-outside t (nodes_of t) w (opened t (nodes_of t) refl s) k (omega arith)))
+
+-- the new one is in no node that was there
+pub made-apart : (t : Inside) (v : Nodes ℕ) (w : What ℕ) → Opened t v → (k : ℕ) → k < v.made → IsOutside v.made k (make w v).trees
+made-apart t v w o k h =
+    let absent : times v.made v.trees ≡ 0 = o.stands.once v.made ∙ rw (o.made, lt-leb (suc v.made) v.made (omega arith)) refl in
+    let alone : times v.made (tree_at k (tree v.made w none none)) ≡ 0 = rw (ne_eqb v.made k (λ e. omega arith)) refl in
+    omega (arith, tree_at-joined v.made k v.trees (tree v.made w none none), tree_at-among v.made k v.trees)
+
+pub add-apart : (t : Inside) (x : Node) (w : What ℕ) (n : ℕ) → row_of x ≡ alone w → IsTree t → n ≡ length t.nodes.items
+    → (k : ℕ) → k < n → IsOutside n k (whole (length (t.nodes.items ++ x ∷ [])) (look_in (t.nodes.items ++ x ∷ [])))
+add-apart t x w n r s same k h =
+    subst (λ (m : ℕ). IsOutside m k (whole (length (t.nodes.items ++ x ∷ [])) (look_in (t.nodes.items ++ x ∷ [])))) (sym same)
+    (subst (λ (u : Nodes ℕ). IsOutside (length t.nodes.items) k u.trees) (sym (made_view t x w r s)) (made-apart t (nodes_of t) w (opened t (nodes_of t) refl s) k (omega arith)))

@@ -23,3 +23,14 @@ pub mod Chains
 pub mod Spellings
 pub mod Inside
 pub mod Climbs
+pub mod Counts
+pub mod Deep
+pub mod DeepEdits
+pub mod Counted
+pub mod Outside
+pub mod ChildSpots
+pub mod Respots
+pub mod Placed
+pub mod Runs
+pub mod Siblings
+pub mod WaysUp

@@ -16,11 +16,11 @@ StandsIn-same count look new f s same = record {
 }
 
 module _ {N : Type 0} (n : ℕ) (g : What N → What N) where
-  first_or-what : (f : Forest N) (y : Option ℕ) → first_or (change_what n g f) y ≡ first_or f y
+  pub first_or-what : (f : Forest N) (y : Option ℕ) → first_or (change_what n g f) y ≡ first_or f y
   first_or-what none y = refl
   first_or-what (tree b w kids rest) y = refl
 
-  last_or-what : (x : Option ℕ) (f : Forest N) → last_or x (change_what n g f) ≡ last_or x f
+  pub last_or-what : (x : Option ℕ) (f : Forest N) → last_or x (change_what n g f) ≡ last_or x f
   last_or-what x none = refl
   last_or-what x (tree b w kids rest) = last_or-what (Some b) rest
 
@@ -32,7 +32,7 @@ module _ {N : Type 0} (n : ℕ) (g : What N → What N) where
   size-what none = refl
   size-what (tree b w kids rest) = omega (arith, size-what kids, size-what rest)
 
-  times-what : (m : ℕ) (f : Forest N) → times m (change_what n g f) ≡ times m f
+  pub times-what : (m : ℕ) (f : Forest N) → times m (change_what n g f) ≡ times m f
   times-what m none = refl
   times-what m (tree b w kids rest) = omega (arith, times-what m kids, times-what m rest)
 

@@ -1,5 +1,5 @@
 -- The edits of a forest. A node never loses its number, and numbers count the nodes that were made.
-use Rattle.std.specs.Prelude.{◌≡◌, ℕ, ◌+◌, ◌<◌, ◌≤◌, ltb, if◌then◌else◌, [], ◌∷◌, ◌++◌, Option, Some, None, option_and_then, IsSome}
+use Rattle.std.specs.Prelude.{◌≡◌, ℕ, ◌+◌, ◌<◌, ◌≤◌, ltb, if◌then◌else◌, List, [], ◌∷◌, ◌++◌, Option, Some, None, option_and_then, IsSome}
 use Rattle.std.specs.Char.{encode_utf8}
 use Rattle.hnodes.specs.Forest.{Attribute, What, document, element, text, Forest, none, tree, times, join, tree_at, cut, children_of, change_children, change_what, put_before}
 use Rattle.hnodes.specs.Spots.{parent_of, last_child_of, previous_of, what_of}
@@ -17,10 +17,14 @@ abbrev pub place_node : Place → ℕ
 place_node (LastIn p) = p
 place_node (Before s) = s
 
--- what the nodes of a tree always are: each number below the count is there once, and no other; the document's tree comes first
+-- nodes that are counted: each number below the count is there once, and no other; the document's tree comes first
+pub record AreCounted {N : Type 0} (made : ℕ) (f : Forest N) : Type 0 where
+  pub once : (n : ℕ) → times n f ≡ (if ltb n made then 1 else 0)
+  pub begins : (kids : Forest N) × (rest : Forest N) × (f ≡ tree 0 document kids rest)
+
+-- what the nodes of a tree always are
 pub record AreNodes {N : Type 0} (t : Nodes N) : Type 0 where
-  pub once : (n : ℕ) → times n t.trees ≡ (if ltb n t.made then 1 else 0)
-  pub begins : (kids : Forest N) × (rest : Forest N) × (t.trees ≡ tree 0 document kids rest)
+  pub counted : AreCounted t.made t.trees
   pub fits : t.made ≤ t.limit
 
 module _ {N : Type 0} where
@@ -50,10 +54,14 @@ module _ {N : Type 0} where
   abbrev pub add_attribute : ℕ → Attribute N → Forest N → Forest N
   add_attribute n a = change_what n (with_attribute a)
 
+  -- a text goes on with these bytes
+  abbrev pub with_text : List ℕ → What N → What N
+  with_text more (text t) = text (t ++ more)
+  with_text more w = w
+
   -- a text gets one character more
   abbrev pub with_char : ℕ → What N → What N
-  with_char c (text t) = text (t ++ encode_utf8 c)
-  with_char c w = w
+  with_char c = with_text (encode_utf8 c)
 
   -- the node right before a place
   abbrev pub before_place : Place → Forest N → Option ℕ
@@ -87,3 +95,8 @@ module _ {N : Type 0} where
 
   abbrev pub add_char : ℕ → Place → Nodes N → Nodes N
   add_char c place t = char_into c place (text_before place t.trees) t
+
+  -- characters, one after another at the same place
+  abbrev pub add_chars : List ℕ → Place → Nodes N → Nodes N
+  add_chars [] place t = t
+  add_chars (c ∷ cs) place t = add_chars cs place (add_char c place t)

@@ -1,8 +1,11 @@
 pub mod Forest
 pub mod Spots
+pub mod Passed
 pub mod Edits
+pub mod Makes
 pub mod Spelled
 pub mod Links
 pub mod Coding
 pub mod Rows
 pub mod View
+pub mod Worked

@@ -1,5 +1,5 @@
 -- Where a node stands, and what can be asked of it.
-use Rattle.std.specs.Prelude.{ℕ, eqb, List, Option, Some, None, if◌then◌else◌, option_and_then}
+use Rattle.std.specs.Prelude.{ℕ, Bool, eqb, List, [], ◌∷◌, Option, Some, None, if◌then◌else◌, option_and_then}
 use Rattle.std.specs.Option.{option_map}
 use Rattle.hnodes.specs.Forest.{Attribute, What, document, doctype, element, comment, text, Forest, none, tree}
 use Rattle.hnodes.specs.declared.node.Kind.{Kind}
@@ -100,3 +100,11 @@ module _ {N : Type 0} where
 
   abbrev pub doctype_of : ℕ → Forest N → Option (List ℕ × List ℕ × List ℕ)
   doctype_of n f = option_and_then doctype_in (what_of n f)
+
+  -- the value of an attribute whose name passes a test, the first where there are more
+  abbrev pub value_in : (N → Bool) → List (Attribute N) → Option (List ℕ)
+  value_in is [] = None
+  value_in is (a ∷ attrs) = if is a.0 then Some a.1 else value_in is attrs
+
+  abbrev pub value_of : (N → Bool) → ℕ → Forest N → Option (List ℕ)
+  value_of is n f = option_and_then (value_in is) (attributes_of n f)

@@ -1,15 +1,17 @@
 //! The tree of a document, and the nodes that are not in it yet, in one vector of linked nodes.
 #![tactic(auto)]
 
-pub mod laws;
+mod laws;
 mod links;
-pub mod node;
+mod node;
 #[cfg(test)]
 mod plain;
 #[cfg(test)]
 mod tests;
-pub mod tree;
+mod tree;
+mod walks;
 
 pub use laws::{edits_know_no_names, questions_know_no_names};
 pub use node::{Doctype, Kind, NodeId, Place};
 pub use tree::Tree;
+pub use walks::{Ancestors, Children};

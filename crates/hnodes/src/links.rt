@@ -34,7 +34,7 @@ fn set_last(nodes: &mut Vec<Node>, at: NodeId, to: Option<NodeId>)
     nodes[at.number as usize].last = to;
 }
 
-/// Where a node stands among its siblings.
+/// Sets the parent of a node, and the siblings beside it.
 fn set_place(
     nodes: &mut Vec<Node>,
     at: NodeId,
@@ -51,7 +51,7 @@ fn set_place(
     node.next = next;
 }
 
-/// What comes after a sibling, or first below a parent.
+/// Sets what comes after a sibling, or first below a parent.
 fn link_after(nodes: &mut Vec<Node>, parent: NodeId, before: Option<NodeId>, to: Option<NodeId>)
     requires parent_in { parent < length nodes.old.items }
     requires before_in { IsWithin (length nodes.old.items) before }
@@ -63,7 +63,7 @@ fn link_after(nodes: &mut Vec<Node>, parent: NodeId, before: Option<NodeId>, to:
     }
 }
 
-/// What comes before a sibling, or last below a parent.
+/// Sets what comes before a sibling, or last below a parent.
 fn link_before(nodes: &mut Vec<Node>, parent: NodeId, after: Option<NodeId>, to: Option<NodeId>)
     requires parent_in { parent < length nodes.old.items }
     requires after_in { IsWithin (length nodes.old.items) after }
@@ -75,7 +75,7 @@ fn link_before(nodes: &mut Vec<Node>, parent: NodeId, after: Option<NodeId>, to:
     }
 }
 
-/// A node leaves its parent and its siblings.
+/// Takes a node from its parent and its siblings.
 pub(crate) fn detach(nodes: &mut Vec<Node>, child: NodeId)
     requires child_in { child < length nodes.old.items }
     requires parent_in { IsWithin (length nodes.old.items) (parent_in (look_in nodes.old.items child)) }
@@ -95,7 +95,7 @@ pub(crate) fn detach(nodes: &mut Vec<Node>, child: NodeId)
     }
 }
 
-/// A node that stands for itself comes below a parent, between two siblings.
+/// Puts a loose node below a parent, between two siblings.
 pub(crate) fn hook(
     nodes: &mut Vec<Node>,
     child: NodeId,

@@ -1,7 +1,7 @@
 //! Nodes and their numbers.
 
 ghost use Rattle.std.specs.Prelude.{◌≡◌, ◌<◌, OnOk, OnErr, IfErr, length};
-ghost use Rattle.hnodes.specs.Edits.{with_char, with_attribute};
+ghost use Rattle.hnodes.specs.Edits.{with_char, with_text, with_attribute};
 ghost use Rattle.hnodes.specs.Links.{alone, with_what};
 ghost use Rattle.hnodes.specs.Rows.{attribute_of, content_is, row_of, IsChanged, IsUnchanged};
 
@@ -9,7 +9,7 @@ use names::{Attr, NameId, Refusal};
 use std::marker::Model;
 
 /// The number of a node of one tree, in the order in which its nodes were made. The document is the first, 0.
-#[derive(Clone, Copy, Debug, PartialEq, Eq)]
+#[derive(Clone, Copy, Debug, PartialEq, Eq, PartialOrd, Ord, Hash)]
 pub struct NodeId {
     pub(crate) number: u32,
 }
@@ -24,7 +24,16 @@ impl Model for NodeId {
     ghost inverse = { λ n. record { number = n } };
 }
 
-/// What kind a node is of.
+impl NodeId {
+    /// The number itself, as an index into a table of the nodes made.
+    pub fn index(self) -> usize
+        ensures { result ≡ self }
+    {
+        self.number as usize
+    }
+}
+
+/// The kind of a node.
 #[derive(Clone, Copy, Debug, PartialEq, Eq)]
 pub enum Kind {
     Document,
@@ -34,7 +43,7 @@ pub enum Kind {
     Text,
 }
 
-/// A place for a node among the children of another (13.2.6.1).
+/// Where a node goes among the children of another (13.2.6.1).
 #[derive(Clone, Copy, Debug, PartialEq, Eq)]
 pub enum Place {
     /// After the last child of a node.
@@ -73,7 +82,7 @@ pub(crate) struct Node {
 }
 
 impl Node {
-    /// A node that stands for itself.
+    /// A loose node without children.
     pub(crate) fn loose(content: Content) -> Self
         ensures { row_of result ≡ alone (content_is content) }
     {
@@ -88,7 +97,7 @@ impl Node {
     }
 }
 
-/// One character more at the end of a text.
+/// Adds a character at the end of a text.
 pub(crate) fn push_char(nodes: &mut Vec<Node>, at: NodeId, c: char) -> Result<(), Refusal>
     requires { at < length nodes.old.items }
     ensures ok { OnOk result (IsChanged at (with_what (with_char c)) nodes.old.items nodes.new.items) }
@@ -101,7 +110,20 @@ pub(crate) fn push_char(nodes: &mut Vec<Node>, at: NodeId, c: char) -> Result<()
     Ok(())
 }
 
-/// One attribute more of an element.
+/// Adds a text at the end of a text.
+pub(crate) fn push_text(nodes: &mut Vec<Node>, at: NodeId, more: &str) -> Result<(), Refusal>
+    requires { at < length nodes.old.items }
+    ensures ok { OnOk result (IsChanged at (with_what (with_text more.now)) nodes.old.items nodes.new.items) }
+    ensures err { OnErr result (IsUnchanged nodes.old.items nodes.new.items) }
+    ensures memory { IfErr result (λ e. e ≡ Refusal.Memory) }
+{
+    if let Content::Text(text) = &mut nodes[at.number as usize].content {
+        text.push_str(more)?;
+    }
+    Ok(())
+}
+
+/// Adds an attribute at the end of an element's.
 pub(crate) fn push_attr(nodes: &mut Vec<Node>, at: NodeId, attr: Attr) -> Result<(), Refusal>
     requires { at < length nodes.old.items }
     ensures ok { OnOk result (IsChanged at (with_what (with_attribute (attribute_of attr))) nodes.old.items nodes.new.items) }

@@ -199,7 +199,7 @@ fn a_million_nodes_deep_are_built_and_dropped(rt: HostRuntime) -> Result<(), Fai
     let mut tree = Tree::new(alloc, 1_000_001)?;
     let mut last = tree.document();
     for _ in 0..1_000_000 {
-        if is_made(&tree, last) {
+        if tree.has(last) {
             let node = tree.create_comment(String::new(alloc), PLACE)?;
             tree.append(node, last);
             last = node;
@@ -233,15 +233,9 @@ fn a_million_nodes_wide_are_built_moved_and_dropped(rt: HostRuntime) -> Result<(
     Ok(())
 }
 
-fn is_made(tree: &Tree, node: NodeId) -> bool
-    ensures { IsTrue result → node < tree.now.made }
-{
-    node.number < tree.made()
-}
-
 fn append_tested(tree: &mut Tree, child: NodeId, parent: NodeId) -> bool {
-    let fits = is_made(tree, child)
-        && is_made(tree, parent)
+    let fits = tree.has(child)
+        && tree.has(parent)
         && child != tree.document()
         && !tree.is_inside(parent, child);
     if fits {
@@ -251,8 +245,8 @@ fn append_tested(tree: &mut Tree, child: NodeId, parent: NodeId) -> bool {
 }
 
 fn insert_tested(tree: &mut Tree, child: NodeId, sibling: NodeId) -> bool {
-    let fits = is_made(tree, child)
-        && is_made(tree, sibling)
+    let fits = tree.has(child)
+        && tree.has(sibling)
         && child != tree.document()
         && tree.parent(sibling).is_some()
         && !tree.is_inside(sibling, child);
@@ -263,7 +257,7 @@ fn insert_tested(tree: &mut Tree, child: NodeId, sibling: NodeId) -> bool {
 }
 
 fn move_tested(tree: &mut Tree, from: NodeId, to: NodeId) -> bool {
-    let fits = is_made(tree, from) && is_made(tree, to) && !tree.is_inside(to, from);
+    let fits = tree.has(from) && tree.has(to) && !tree.is_inside(to, from);
     if fits {
         tree.move_children(from, to);
     }
@@ -271,7 +265,7 @@ fn move_tested(tree: &mut Tree, from: NodeId, to: NodeId) -> bool {
 }
 
 fn next_tested(tree: &Tree, node: NodeId) -> Option<NodeId> {
-    if is_made(tree, node) {
+    if tree.has(node) {
         tree.next(node)
     } else {
         None
@@ -279,7 +273,7 @@ fn next_tested(tree: &Tree, node: NodeId) -> Option<NodeId> {
 }
 
 fn previous_tested(tree: &Tree, node: NodeId) -> Option<NodeId> {
-    if is_made(tree, node) {
+    if tree.has(node) {
         tree.previous(node)
     } else {
         None
@@ -290,7 +284,7 @@ fn previous_tested(tree: &Tree, node: NodeId) -> Option<NodeId> {
 fn children(tree: &Tree, parent: NodeId, alloc: Global) -> Result<(Vec<u32>, bool), Refusal> {
     let mut there = Vec::new(alloc);
     let mut back = Vec::new(alloc);
-    if is_made(tree, parent) {
+    if tree.has(parent) {
         let mut at = tree.first_child(parent);
         let mut end = tree.last_child(parent);
         for _ in 0..tree.made() {
@@ -308,11 +302,32 @@ fn children(tree: &Tree, parent: NodeId, alloc: Global) -> Result<(Vec<u32>, boo
 }
 
 fn text_tested(tree: &Tree, node: NodeId) -> Option<&str> {
-    if is_made(tree, node) {
+    if tree.has(node) {
         tree.text(node)
     } else {
         None
     }
+}
+
+#[test]
+fn children_and_ancestors_come_in_their_order(rt: HostRuntime) -> Result<(), Fail> {
+    let tree = family(4, rt.alloc())?;
+    let mut found = Vec::new(rt.alloc());
+    let first = NodeId { number: 1 };
+    if tree.has(first) {
+        for child in tree.children(first) {
+            found.push(child.index())?;
+        }
+    }
+    assert!(rt; found.as_slice() == [2, 3, 4].as_slice());
+    let last = NodeId { number: 4 };
+    if tree.has(last) {
+        for node in tree.ancestors(last) {
+            found.push(node.index())?;
+        }
+    }
+    assert!(rt; found.as_slice() == [2, 3, 4, 1, 0].as_slice());
+    Ok(())
 }
 
 #[derive(Clone, Copy)]
@@ -374,8 +389,8 @@ fn moves_keep_the_order(rt: HostRuntime) -> Result<(), Fail> {
 fn put_tested(tree: &mut Tree, c: char, place: Place) -> Result<(), Refusal> {
     let here = place;
     match here {
-        Place::LastIn(node) if is_made(tree, node) => tree.put_char(c, place, PLACE),
-        Place::Before(node) if is_made(tree, node) && tree.parent(node).is_some() => tree.put_char(
+        Place::LastIn(node) if tree.has(node) => tree.put_char(c, place, PLACE),
+        Place::Before(node) if tree.has(node) && tree.parent(node).is_some() => tree.put_char(
             c, place, PLACE,
         ),
         _ => Err(Refusal::BadLimits),
@@ -411,6 +426,67 @@ fn characters_join_the_text_before_them(rt: HostRuntime) -> Result<(), Fail> {
     }
     let (found, same) = children(&tree, NodeId { number: 1 }, rt.alloc())?;
     assert!(rt; same && found.as_slice() == [2, 5, 3, 6, 4].as_slice());
+    Ok(())
+}
+
+/// A text last in a node, or right before one that has a parent.
+fn put_run(tree: &mut Tree, text: &str, place: Place) -> Result<(), Refusal> {
+    let here = place;
+    match here {
+        Place::LastIn(node) if tree.has(node) => tree.put_text(text, place, PLACE),
+        Place::Before(node) if tree.has(node) && tree.parent(node).is_some() => tree.put_text(
+            text, place, PLACE,
+        ),
+        _ => Err(Refusal::BadLimits),
+    }
+}
+
+/// Each row is a text, whether it comes before a node or last in it, the node, and the text that then holds it.
+static RUNS: [(&str, bool, u32, u32, Option<&str>); 6] = [
+    ("", false, 1, 4, None),
+    ("hé", false, 1, 4, Some("hé")),
+    ("\u{1F600}z", false, 1, 4, Some("hé\u{1F600}z")),
+    ("ab", true, 3, 5, Some("ab")),
+    ("", true, 3, 5, Some("ab")),
+    ("c", true, 3, 5, Some("abc")),
+];
+
+#[test]
+fn texts_join_the_text_before_them(rt: HostRuntime) -> Result<(), Fail> {
+    let mut tree = family(3, rt.alloc())?;
+    for (run, before, node, text, want) in &RUNS {
+        let node = NodeId { number: *node };
+        let place = if *before {
+            Place::Before(node)
+        } else {
+            Place::LastIn(node)
+        };
+        put_run(&mut tree, run, place)?;
+        assert_eq!(rt;
+            text_tested(&tree, NodeId { number: *text }),
+            *want,
+            "{run}"
+        );
+    }
+    assert_eq!(rt; tree.made(), 6);
+    Ok(())
+}
+
+#[test]
+fn a_text_is_refused_where_its_first_character_is(rt: HostRuntime) -> Result<(), Fail> {
+    let mut tree = Tree::new(rt.alloc(), 2)?;
+    let document = tree.document();
+    for run in ["ab", "", "cd"] {
+        assert_eq!(rt; put_run(&mut tree, run, Place::LastIn(document)), Ok(()));
+    }
+    let text = NodeId { number: 1 };
+    assert_eq!(rt; text_tested(&tree, text), Some("abcd"));
+    assert_eq!(rt;
+        put_run(&mut tree, "e", Place::LastIn(text)),
+        Err(Refusal::TooManyNodes { at: PLACE })
+    );
+    assert_eq!(rt; put_run(&mut tree, "", Place::LastIn(text)), Ok(()));
+    assert_eq!(rt; tree.made(), 2);
     Ok(())
 }
 
@@ -468,7 +544,7 @@ fn make_again(tree: &mut Tree, name: NameId, alloc: Global) -> Result<NodeId, Re
 }
 
 fn add_again(tree: &mut Tree, node: NodeId, name: NameId, alloc: Global) -> Result<(), Refusal> {
-    if !is_made(tree, node) {
+    if !tree.has(node) {
         return Err(Refusal::BadLimits);
     }
     let value = String::new(alloc);

@@ -1,23 +1,31 @@
 //! A tree as one value.
 
-ghost use Rattle.std.specs.Prelude.{◌≡◌, ◌<◌, ◌≤◌, ◌↔◌, ◌⊎◌, ℕ, Some, None, OnOk, OnErr, IfOk, IfErr, IfSome, IsSome, IsFalse, map, string_bytes, leb, if◌then◌else◌};
+ghost use Rattle.std.specs.Prelude.{◌≡◌, ◌<◌, ◌≤◌, ◌↔◌, ◌⊎◌, ℕ, Some, None, OnOk, OnErr, IfOk, IfErr, IfSome, IsSome, IsFalse, IsTrue, map, string_bytes, length, leb, nat_eq, if◌then◌else◌};
 ghost use Rattle.std.specs.Option.{option_map};
 ghost use Rattle.hnodes.specs.Forest.{document, doctype, element, comment, text, tree, none, change_what, IsOutside};
-ghost use Rattle.hnodes.specs.Spots.{parent_of, first_child_of, last_child_of, next_of, previous_of, kind_of, name_of, attributes_of, text_of, doctype_of};
-ghost use Rattle.hnodes.specs.Edits.{make, graft, graft_last, graft_before, move_all, add_attribute, add_char, with_char, text_before, IsPlace, place_node, AreNodes};
+ghost use Rattle.hnodes.specs.Spots.{parent_of, first_child_of, last_child_of, next_of, previous_of, kind_of, name_of, attributes_of, value_of, text_of, doctype_of};
+ghost use Rattle.hnodes.specs.Edits.{make, graft, graft_last, graft_before, move_all, add_attribute, add_char, add_chars, with_char, with_text, text_before, IsPlace, place_node, AreNodes};
+ghost use Rattle.hnodes.specs.Makes.{Makes};
+ghost use Rattle.hnodes.specs.declared.node.Place.{Place};
 ghost use Rattle.hnodes.specs.Rows.{attribute_of, content_is, doctype_texts};
+ghost use Rattle.names.specs.Tags.{tag_of};
 ghost use Rattle.names.specs.declared.refusal.Refusal.TheVariants.{TooManyNodes, Memory};
 ghost use Rattle.std.specs.Char.{encode_utf8};
+ghost use Rattle.std.specs.Str.{chars};
 
 use crate::links::{detach, hook};
-use crate::node::{Content, Doctype, Kind, Node, NodeId, Place, push_attr, push_char};
-use names::{Attr, NameId, Refusal};
+use crate::node::{Content, Doctype, Kind, Node, NodeId, Place, push_attr, push_char, push_text};
+use names::{Attr, NameId, Refusal, Tag};
 use std::alloc::{AllocError, Global};
+use std::fmt;
 use std::marker::Model;
 
-/// The tree of a document, and the nodes that are not in it yet. Each node takes 80 bytes, beside what its texts and attributes
-/// hold. Making a node and moving one take the same time in a tree of any size, amortized. No call recurses, nor does the drop,
-/// and the moves and the calls that lend take no memory.
+/// The tree of a document, and the loose nodes: those that were made and are not in it yet. Each node takes 80 bytes, beside what
+/// its texts and attributes hold. Making a node and moving one take the same time in a tree of any size, amortized. No call
+/// recurses, nor does the drop, and the moves and the questions allocate nothing.
+///
+/// Three things are told apart. A [`Place`] is where a node goes in the tree. `at`, in a call that can be refused, is the byte
+/// offset from 0 of the token that the call is made for, which the refusal reports. A [`NodeId`] is a node, wherever it stands.
 #[derive(Drop)]
 pub struct Tree {
     nodes: Vec<Node>,
@@ -42,7 +50,7 @@ impl Model for Tree {
 }
 
 impl Tree {
-    /// The document alone.
+    /// A tree of the document alone, in which `limit` nodes may be made, the document among them.
     pub fn new(alloc: Global, limit: u32) -> Result<Self, AllocError>
         requires { 0 < limit }
         ensures { IfOk result (λ t. t ≡ record { limit = limit; made = 1; trees = tree 0 document none none }) }
@@ -56,13 +64,21 @@ impl Tree {
         })
     }
 
-    /// The number of the document.
+    /// The document.
     pub fn document(&self) -> NodeId
         ensures number { result ≡ 0 }
+        ensures within { result < self.now.made }
         ensures nodes { AreNodes self.now }
     {
         prove!(!self.nodes.is_empty());
         NodeId { number: 0 }
+    }
+
+    /// Whether a node was made in this tree, as each call asks of the nodes it is given.
+    pub fn has(&self, node: NodeId) -> bool
+        ensures { IsTrue result ↔ (node < self.now.made) }
+    {
+        node.number < self.made()
     }
 
     /// How many nodes were made, the document among them.
@@ -75,59 +91,40 @@ impl Tree {
         count as u32
     }
 
-    /// A new element, loose. `at` is the place of the token that it is made for, as in all calls that make a node.
+    /// Makes an element, loose. It is refused with `TooManyNodes` at the limit, and with `Memory` where memory runs out; either
+    /// leaves the tree as it was. So it is with all calls that make a node.
     pub fn create_element(
         &mut self,
         name: NameId,
         attrs: Vec<Attr>,
         at: u64,
     ) -> Result<NodeId, Refusal>
-        ensures ok { OnOk result (self.new ≡ make (element name (map attribute_of attrs.items)) self.old) }
-        ensures number { IfOk result (λ n. (n ≡ self.old.made) × (0 < n)) }
-        ensures outside { IfOk result (λ n. (k : ℕ) → k < n → IsOutside k n self.new.trees) }
-        ensures full { (result ≡ Err (TooManyNodes at)) ↔ (self.old.limit ≤ self.old.made) }
-        ensures refused { IfErr result (λ e. (e ≡ TooManyNodes at) ⊎ (e ≡ Memory)) }
-        ensures err { OnErr result (self.new ≡ self.old) }
+        ensures { Makes (element name (map attribute_of attrs.items)) at self.old self.new result }
     {
         self.room(at)?;
         self.add(Content::Element(name, attrs))
     }
 
-    /// A new comment, loose.
+    /// Makes a comment, loose.
     pub fn create_comment(&mut self, text: String, at: u64) -> Result<NodeId, Refusal>
-        ensures ok { OnOk result (self.new ≡ make (comment (string_bytes text)) self.old) }
-        ensures number { IfOk result (λ n. (n ≡ self.old.made) × (0 < n)) }
-        ensures outside { IfOk result (λ n. (k : ℕ) → k < n → IsOutside k n self.new.trees) }
-        ensures full { (result ≡ Err (TooManyNodes at)) ↔ (self.old.limit ≤ self.old.made) }
-        ensures refused { IfErr result (λ e. (e ≡ TooManyNodes at) ⊎ (e ≡ Memory)) }
-        ensures err { OnErr result (self.new ≡ self.old) }
+        ensures { Makes (comment (string_bytes text)) at self.old self.new result }
     {
         self.room(at)?;
         self.add(Content::Comment(text))
     }
 
-    /// A new doctype, loose.
+    /// Makes a doctype, loose.
     pub fn create_doctype(&mut self, texts: Doctype, at: u64) -> Result<NodeId, Refusal>
-        ensures ok { OnOk result (self.new ≡ make (doctype (string_bytes texts.name) (string_bytes texts.public_id) (string_bytes texts.system_id)) self.old) }
-        ensures number { IfOk result (λ n. (n ≡ self.old.made) × (0 < n)) }
-        ensures outside { IfOk result (λ n. (k : ℕ) → k < n → IsOutside k n self.new.trees) }
-        ensures full { (result ≡ Err (TooManyNodes at)) ↔ (self.old.limit ≤ self.old.made) }
-        ensures refused { IfErr result (λ e. (e ≡ TooManyNodes at) ⊎ (e ≡ Memory)) }
-        ensures err { OnErr result (self.new ≡ self.old) }
+        ensures { Makes (doctype (string_bytes texts.name) (string_bytes texts.public_id) (string_bytes texts.system_id)) at self.old self.new result }
     {
         self.room(at)?;
         let texts = Box::new(self.alloc, texts)?;
         self.add(Content::Doctype(texts))
     }
 
-    /// A new text of one character, loose.
+    /// Makes a text of one character, loose.
     fn create_text(&mut self, c: char, at: u64) -> Result<NodeId, Refusal>
-        ensures ok { OnOk result (self.new ≡ make (text (encode_utf8 c)) self.old) }
-        ensures number { IfOk result (λ n. (n ≡ self.old.made) × (0 < n)) }
-        ensures outside { IfOk result (λ n. (k : ℕ) → k < n → IsOutside k n self.new.trees) }
-        ensures full { (result ≡ Err (TooManyNodes at)) ↔ (self.old.limit ≤ self.old.made) }
-        ensures refused { IfErr result (λ e. (e ≡ TooManyNodes at) ⊎ (e ≡ Memory)) }
-        ensures err { OnErr result (self.new ≡ self.old) }
+        ensures { Makes (text (encode_utf8 c)) at self.old self.new result }
     {
         self.room(at)?;
         let mut text = String::new(self.alloc);
@@ -135,7 +132,16 @@ impl Tree {
         self.add(Content::Text(text))
     }
 
-    /// Whether one node more may be made.
+    /// Makes a text, loose.
+    fn create_run(&mut self, run: &str, at: u64) -> Result<NodeId, Refusal>
+        ensures { Makes (text run.now) at self.old self.new result }
+    {
+        self.room(at)?;
+        let run = String::from_str(self.alloc, run)?;
+        self.add(Content::Text(run))
+    }
+
+    /// Refuses where no further node may be made.
     fn room(&self, at: u64) -> Result<(), Refusal>
         ensures { result ≡ (if leb self.now.limit self.now.made then Err (TooManyNodes at) else Ok tt) }
     {
@@ -145,12 +151,14 @@ impl Tree {
         Ok(())
     }
 
-    /// A new node, loose.
+    /// Makes a node, loose.
     fn add(&mut self, content: Content) -> Result<NodeId, Refusal>
         requires { self.old.made < self.old.limit }
         ensures ok { OnOk result (self.new ≡ make (content_is content) self.old) }
         ensures number { IfOk result (λ n. (n ≡ self.old.made) × (0 < n)) }
         ensures outside { IfOk result (λ n. (k : ℕ) → k < n → IsOutside k n self.new.trees) }
+        ensures apart { IfOk result (λ n. (k : ℕ) → k < n → IsOutside n k self.new.trees) }
+        ensures places { IfOk result (λ n. (p : Place) → IsPlace p self.old → IsPlace p self.new) }
         ensures memory { IfErr result (λ e. e ≡ Memory) }
         ensures err { OnErr result (self.new ≡ self.old) }
     {
@@ -159,7 +167,7 @@ impl Tree {
         Ok(NodeId { number })
     }
 
-    /// A node leaves where it stands and becomes the last child of another.
+    /// Moves a node from where it stands to the end of another's children.
     pub fn append(&mut self, child: NodeId, parent: NodeId)
         requires child_in { child < self.old.made }
         requires parent_in { parent < self.old.made }
@@ -172,7 +180,7 @@ impl Tree {
         hook(&mut self.nodes, child, parent, last, None);
     }
 
-    /// A node leaves where it stands and comes right before another, which has a parent.
+    /// Moves a node from where it stands to right before another, which has a parent.
     pub fn insert_before(&mut self, child: NodeId, sibling: NodeId)
         requires child_in { child < self.old.made }
         requires sibling_in { sibling < self.old.made }
@@ -189,20 +197,36 @@ impl Tree {
         }
     }
 
-    /// The children of a node leave it and become the last children of another, in their order. It takes as many steps as there
-    /// are children.
+    /// Moves a node from where it stands to a place.
+    pub fn insert(&mut self, child: NodeId, place: Place)
+        requires child_in { child < self.old.made }
+        requires place { IsPlace place self.old }
+        requires not_document { 0 < child }
+        requires not_inside { IsOutside (place_node place) child self.old.trees }
+        ensures { self.new ≡ record self.old { trees = graft child place self.old.trees } }
+    {
+        match place {
+            Place::LastIn(parent) => self.append(child, parent),
+            Place::Before(sibling) => self.insert_before(child, sibling),
+        }
+    }
+
+    /// Moves the children of a node to the end of another's children, in their order. Takes as many steps as there are children.
     pub fn move_children(&mut self, from: NodeId, to: NodeId)
         requires from_in { from < self.old.made }
         requires to_in { to < self.old.made }
         requires not_inside { IsOutside to from self.old.trees }
-        ensures { self.new ≡ record self.old { trees = move_all from to self.old.trees } }
+        ensures moved { self.new ≡ record self.old { trees = move_all from to self.old.trees } }
+        ensures outside { IsOutside from to self.old.trees → IsOutside from to self.new.trees }
     {
+        // The document is there, so the nodes are counted before the first of them moves.
+        prove!(!self.nodes.is_empty());
         while let Some(child) = self.first_child(from) {
             self.append(child, to);
         }
     }
 
-    /// One character at a place (13.2.6.1): at the end of the text right before the place, or in a new text there.
+    /// Inserts a character at a place (13.2.6.1): at the end of the text right before the place, or in a new text there.
     pub fn put_char(&mut self, c: char, place: Place, at: u64) -> Result<(), Refusal>
         requires { IsPlace place self.old }
         ensures ok { OnOk result (self.new ≡ add_char c place self.old) }
@@ -216,13 +240,47 @@ impl Tree {
             Some(text) => self.lengthen(text, c),
             None => {
                 let text = self.create_text(c, at)?;
-                self.graft(text, place);
+                self.insert(text, place);
                 Ok(())
             }
         }
     }
 
-    /// One character more at the end of a text.
+    /// Inserts a text at a place, as `put_char` inserts its characters one by one: at the end of the text right before the place,
+    /// or in a new text there. An empty text changes nothing.
+    pub fn put_text(&mut self, text: &str, place: Place, at: u64) -> Result<(), Refusal>
+        requires { IsPlace place self.old }
+        ensures ok { OnOk result (self.new ≡ add_chars (chars text.now) place self.old) }
+        ensures full { (result ≡ Err (TooManyNodes at)) ↔ ((0 < length text.now) × (text_before place self.old.trees ≡ None) × (self.old.limit ≤ self.old.made)) }
+        ensures refused { IfErr result (λ e. (e ≡ TooManyNodes at) ⊎ (e ≡ Memory)) }
+        ensures err { OnErr result (self.new ≡ self.old) }
+    {
+        if text.is_empty() {
+            return Ok(());
+        }
+        // A copy for the first of two calls.
+        let here = place;
+        match self.text_before(here) {
+            Some(before) => self.join(before, text),
+            None => {
+                let node = self.create_run(text, at)?;
+                self.insert(node, place);
+                Ok(())
+            }
+        }
+    }
+
+    /// Adds a text at the end of a text.
+    fn join(&mut self, before: NodeId, text: &str) -> Result<(), Refusal>
+        requires { before < self.old.made }
+        ensures ok { OnOk result (self.new ≡ record self.old { trees = change_what before (with_text text.now) self.old.trees }) }
+        ensures memory { IfErr result (λ e. e ≡ Memory) }
+        ensures err { OnErr result (self.new ≡ self.old) }
+    {
+        push_text(&mut self.nodes, before, text)
+    }
+
+    /// Adds a character at the end of a text.
     fn lengthen(&mut self, text: NodeId, c: char) -> Result<(), Refusal>
         requires { text < self.old.made }
         ensures ok { OnOk result (self.new ≡ record self.old { trees = change_what text (with_char c) self.old.trees }) }
@@ -232,25 +290,12 @@ impl Tree {
         push_char(&mut self.nodes, text, c)
     }
 
-    /// A node leaves where it stands and comes to a place.
-    fn graft(&mut self, child: NodeId, place: Place)
-        requires child_in { child < self.old.made }
-        requires place { IsPlace place self.old }
-        requires not_document { 0 < child }
-        requires not_inside { IsOutside (place_node place) child self.old.trees }
-        ensures { self.new ≡ record self.old { trees = graft child place self.old.trees } }
-    {
-        match place {
-            Place::LastIn(parent) => self.append(child, parent),
-            Place::Before(sibling) => self.insert_before(child, sibling),
-        }
-    }
-
     /// The text right before a place.
     fn text_before(&self, place: Place) -> Option<NodeId>
         requires { IsPlace place self.now }
         ensures text { result ≡ text_before place self.now.trees }
         ensures within { IfSome result (λ n. n < self.now.made) }
+        ensures nodes { AreNodes self.now }
     {
         let before = match place {
             Place::LastIn(parent) => self.last_child(parent),
@@ -262,8 +307,8 @@ impl Tree {
         }
     }
 
-    /// One attribute more of an element, after its others; of another node nothing. That the element has no attribute of this
-    /// name yet is for the caller to see to.
+    /// Adds an attribute after an element's others; does nothing to another node. The caller sees to it that the element has no
+    /// attribute of this name yet.
     pub fn add_attr(&mut self, at: NodeId, attr: Attr) -> Result<(), Refusal>
         requires { at < self.old.made }
         ensures ok { OnOk result (self.new ≡ record self.old { trees = add_attribute at (attribute_of attr) self.old.trees }) }
@@ -273,8 +318,7 @@ impl Tree {
         push_attr(&mut self.nodes, at, attr)
     }
 
-    /// Whether a node is another one or inside it: what a caller may test before a node moves. It takes as many steps as the node
-    /// is deep.
+    /// Whether a node is another one or inside it, to be tested before a node moves. Takes as many steps as the node is deep.
     pub fn is_inside(&self, node: NodeId, top: NodeId) -> bool
         requires node_in { node < self.now.made }
         requires top_in { top < self.now.made }
@@ -290,7 +334,7 @@ impl Tree {
         true
     }
 
-    /// The node that a node is a child of.
+    /// The parent of a node.
     pub fn parent(&self, at: NodeId) -> Option<NodeId>
         requires { at < self.now.made }
         ensures parent { result ≡ parent_of at self.now.trees }
@@ -340,7 +384,7 @@ impl Tree {
         self.nodes[at.number as usize].previous
     }
 
-    /// What kind a node is of.
+    /// The kind of a node.
     pub fn kind(&self, at: NodeId) -> Kind
         requires { at < self.now.made }
         ensures { Some result ≡ kind_of at self.now.trees }
@@ -376,6 +420,30 @@ impl Tree {
         }
     }
 
+    /// The value of an element's attribute of this name.
+    pub fn attr(&self, at: NodeId, name: NameId) -> Option<&str>
+        requires { at < self.now.made }
+        ensures { option_map (λ value. value.now) result ≡ value_of (nat_eq name) at self.now.trees }
+    {
+        for attr in self.attrs(at)? {
+            if attr.name == name {
+                return Some(&attr.value);
+            }
+        }
+        None
+    }
+
+    /// Whether a node is an element of this known name; for `Tag::Other`, of any name that is not known.
+    pub fn is(&self, at: NodeId, tag: Tag) -> bool
+        requires { at < self.now.made }
+        ensures { IsTrue result ↔ (option_map tag_of (name_of at self.now.trees) ≡ Some tag) }
+    {
+        match self.name(at) {
+            Some(name) => name.tag() == tag,
+            None => false,
+        }
+    }
+
     /// The characters of a text, or the data of a comment.
     pub fn text(&self, at: NodeId) -> Option<&str>
         requires { at < self.now.made }
@@ -397,5 +465,15 @@ impl Tree {
             Content::Doctype(texts) => Some(texts),
             _ => None,
         }
+    }
+}
+
+/// The counts alone: a tree may have millions of nodes.
+impl fmt::Debug for Tree {
+    fn fmt<W: fmt::Write>(&self, f: &mut fmt::Formatter<W>) -> fmt::Result {
+        f.debug_struct("Tree")
+            .field("made", &self.nodes.len())
+            .field("limit", &self.limit)
+            .finish_non_exhaustive()
     }
 }

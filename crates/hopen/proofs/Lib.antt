@@ -5,4 +5,6 @@ pub mod ItemLists
 pub mod Earliest
 pub mod Sameness
 pub mod Bookmarks
-mod Spellings
+pub mod Spellings
+pub mod Places
+pub mod Standing

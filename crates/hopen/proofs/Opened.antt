@@ -1,39 +1,40 @@
 -- What is seen of the open nodes after an edit of their vector.
-use Rattle.std.proofs.Common.{◌≡◌, ℕ, suc, ◌+◌, ◌-◌, ◌<◌, Bool, List, Option, Some, None, length, take, map, reverse, refl, sym, ap, subst, arith, MatchOption}
+use Rattle.std.proofs.Common.{◌≡◌, ℕ, suc, ◌+◌, ◌-◌, ◌<◌, ◌≤◌, Bool, List, Option, Some, None, length, drop, map, reverse, refl, sym, ◌∙◌, ap, subst, arith, MatchOption}
 use Rattle.std.specs.List.{position}
-use Rattle.std.proofs.lemmas.List.{length-map, length-reverse}
+use Rattle.std.proofs.lemmas.List.{length-drop, length-map, length-reverse}
+use Rattle.std.proofs.Math.Seq.{drop-length}
 use Rattle.std.specs.Option.{unwrap_or, IfSome}
 use Rattle.hopen.specs.Nearest.{after}
-use Rattle.hopen.proofs.Nearest.{no_words, take_to_nearest}
+use Rattle.hopen.proofs.Nearest.{words, no_words}
 use Rattle.hopen.specs.Stack.{OpenNode, OpenNodes}
-use Rattle.hopen.specs.Opens.{open_of}
+use Rattle.hopen.specs.Kept.{opened_by}
 use Rattle.hopen.specs.StackView.{open_nodes_of}
-use Rattle.hopen.specs.declared.stack.Open.{Open}
+use Rattle.hopen.specs.declared.kept.Item.{Item}
 use Rattle.hopen.specs.declared.stack.OpenStack.TheInside.{Inside}
 
-pub seen : (s : Inside) (n : OpenNodes ℕ) (word : List (OpenNode ℕ) → List (OpenNode ℕ)) (items : List Open) → open_nodes_of s ≡ n → reverse (map open_of items) ≡ word (reverse (map open_of s.items.items))
-    → ◌≡◌ {A = OpenNodes ℕ} (record { limit = s.limit; stack = reverse (map open_of items) }) (record { limit = n.limit; stack = word n.stack })
+pub seen : (s : Inside) (n : OpenNodes ℕ) (word : List (OpenNode ℕ) → List (OpenNode ℕ)) (items : List Item) → open_nodes_of s ≡ n → reverse (map opened_by items) ≡ word (reverse (map opened_by s.items.items))
+    → ◌≡◌ {A = OpenNodes ℕ} (record { limit = s.limit; stack = reverse (map opened_by items) }) (record { limit = n.limit; stack = word n.stack })
 seen s n word items e h =
-    let P : OpenNodes ℕ → Type 0 = λ m. ◌≡◌ {A = OpenNodes ℕ} (record { limit = s.limit; stack = reverse (map open_of items) }) (record { limit = m.limit; stack = word m.stack }) in
+    let P : OpenNodes ℕ → Type 0 = λ m. ◌≡◌ {A = OpenNodes ℕ} (record { limit = s.limit; stack = reverse (map opened_by items) }) (record { limit = m.limit; stack = word m.stack }) in
     subst P e (ap (λ (l : List (OpenNode ℕ)). record { limit = s.limit; stack = l }) h)
 
 -- an index of the vector that is found, and how many nodes are nearer
-pub record Found (items : List Open) (sought : OpenNode ℕ → Bool) (i : ℕ) : Type 0 where
+pub record Found (items : List Item) (sought : OpenNode ℕ → Bool) (i : ℕ) : Type 0 where
   pub up : ℕ
-  pub place : position sought (reverse (map open_of items)) ≡ Some up
+  pub place : position sought (reverse (map opened_by items)) ≡ Some up
   pub sum : i + suc up ≡ length items
 
 pub found : (s : Inside) (n : OpenNodes ℕ) (sought : OpenNode ℕ → Bool) (i : ℕ) → open_nodes_of s ≡ n → position sought n.stack ≡ Some (length n.stack - 1 - i) → i < length n.stack → Found s.items.items sought i
 found s n sought i e =
     let P : OpenNodes ℕ → Type 0 = λ m. position sought m.stack ≡ Some (length m.stack - 1 - i) → i < length m.stack → Found s.items.items sought i in
     subst P e (λ p h. record {
-      up = length (reverse (map open_of s.items.items)) - 1 - i;
+      up = length (reverse (map opened_by s.items.items)) - 1 - i;
       place = p;
-      sum = omega (arith, length-reverse (map open_of s.items.items), length-map s.items.items open_of);
+      sum = omega (arith, length-reverse (map opened_by s.items.items), length-map s.items.items opened_by);
     })
 
-pub not_found : (s : Inside) (n : OpenNodes ℕ) (sought : OpenNode ℕ → Bool) → open_nodes_of s ≡ n → position sought n.stack ≡ None → position sought (reverse (map open_of s.items.items)) ≡ None
-not_found s n sought e h = let P : OpenNodes ℕ → Type 0 = λ m. position sought m.stack ≡ None → position sought (reverse (map open_of s.items.items)) ≡ None in subst P e (λ p. p) h
+pub not_found : (s : Inside) (n : OpenNodes ℕ) (sought : OpenNode ℕ → Bool) → open_nodes_of s ≡ n → position sought n.stack ≡ None → position sought (reverse (map opened_by s.items.items)) ≡ None
+not_found s n sought e h = let P : OpenNodes ℕ → Type 0 = λ m. position sought m.stack ≡ None → position sought (reverse (map opened_by s.items.items)) ≡ None in subst P e (λ p. p) h
 
 -- no index is found
 pub none_found : (o : Option ℕ) (P : Type 0) (Q : ℕ → Type 0) → ((i : ℕ) → o ≡ Some i → ⊥) → MatchOption o P Q → P
@@ -45,8 +46,16 @@ pub kept : (n : OpenNodes ℕ) (word : List (OpenNode ℕ) → List (OpenNode �
 kept n word e = ap (λ (l : List (OpenNode ℕ)). record { limit = n.limit; stack = l }) (sym e)
 
 -- what is left above an index, or nothing where none is found
-pub left_above : (s : Inside) (n : OpenNodes ℕ) (sought : OpenNode ℕ → Bool) (o : Option ℕ) → open_nodes_of s ≡ n
-    → MatchOption o (position sought n.stack ≡ None) (λ i. position sought n.stack ≡ Some (length n.stack - 1 - i)) → IfSome o (λ i. i < length n.stack)
-    → reverse (map open_of (take (unwrap_or o 0) s.items.items)) ≡ after sought (reverse (map open_of s.items.items))
-left_above s n sought None e p h = sym (no_words sought (reverse (map open_of s.items.items)) (not_found s n sought e p)).after_is
-left_above s n sought (Some i) e p h = let f = found s n sought i e p h in take_to_nearest open_of sought s.items.items i f.up f.place f.sum
+pub left_is : {X : Type 0} (sought : X → Bool) (ys : List X) (o : Option ℕ) → MatchOption o (position sought ys ≡ None) (λ i. position sought ys ≡ Some (length ys - 1 - i)) → IfSome o (λ i. i < length ys)
+    → drop (length ys - unwrap_or o 0) ys ≡ after sought ys
+left_is sought ys None p h = ap (λ n. drop n ys) (let all : length ys - 0 ≡ length ys = omega arith in all) ∙ drop-length ys ∙ sym (no_words sought ys p).after_is
+left_is sought ys (Some i) p h = ap (λ n. drop n ys) (let n : length ys - i ≡ suc (length ys - 1 - i) = omega arith in n) ∙ sym (words sought ys (length ys - 1 - i) p).after_is
+
+-- how many nodes are above an index, or none where none is found
+pub depth_is : {X : Type 0} (sought : X → Bool) (ys : List X) (o : Option ℕ) → MatchOption o (position sought ys ≡ None) (λ i. position sought ys ≡ Some (length ys - 1 - i)) → IfSome o (λ i. i < length ys)
+    → unwrap_or o 0 ≡ length (after sought ys)
+depth_is sought ys o p h = let n : unwrap_or o 0 ≤ length ys = most o h in omega (arith, ap length (left_is sought ys o p h), length-drop (length ys - unwrap_or o 0) ys)
+  where
+    most : (o : Option ℕ) → IfSome o (λ i. i < length ys) → unwrap_or o 0 ≤ length ys
+    most None h = omega arith
+    most (Some i) h = omega arith

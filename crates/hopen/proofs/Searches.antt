@@ -27,16 +27,6 @@ find-map f test (x ∷ xs) = go (test (f x)) (find-map f test xs)
     go false i = i
 
 module _ {N : Type 0} where
-  -- the first that is sought or stops is sought
-  pub in_scope-find : (stops sought : OpenNode N → Bool) (ys : List (OpenNode N)) → in_scope stops sought ys ≡ option_map_or sought (find (λ x. sought x || stops x) ys) false
-  in_scope-find stops sought [] = refl
-  in_scope-find stops sought (y ∷ ys) = go (sought y) refl (stops y) (in_scope-find stops sought ys)
-    where
-      go : (v : Bool) → sought y ≡ v → (w : Bool) → in_scope stops sought ys ≡ option_map_or sought (find (λ x. sought x || stops x) ys) false → (v || (not w && in_scope stops sought ys)) ≡ option_map_or sought (cond (v || w) (Some y) (find (λ x. sought x || stops x) ys)) false
-      go true s w i = sym s
-      go false s true i = sym s
-      go false s false i = i
-
   pub current-drop : (n : ℕ) (ys : List (OpenNode N)) → current (drop n ys) ≡ slice_get ys n
   current-drop zero [] = refl
   current-drop zero (y ∷ ys) = refl
@@ -60,27 +50,11 @@ module _ {N : Type 0} where
 
 -- the same over a vector, whose last member is the nearest
 module _ {X N : Type 0} (f : X → OpenNode N) where
-  pub in_scope-nearest : (stops sought : OpenNode N → Bool) (items : List X) → option_map_or (λ x. sought (f x)) (find (λ x. sought (f x) || stops (f x)) (reverse items)) false ≡ in_scope stops sought (reverse (map f items))
-  in_scope-nearest stops sought items =
-      go (find (λ x. sought (f x) || stops (f x)) (reverse items)) ∙ ap (λ o. option_map_or sought o false) (sym (find-map f (λ y. sought y || stops y) (reverse items)))
-      ∙ ap (λ l. option_map_or sought (find (λ y. sought y || stops y) l) false) (sym (reverse-map f items)) ∙ sym (in_scope-find stops sought (reverse (map f items)))
-    where
-      go : (o : Option X) → option_map_or (λ x. sought (f x)) o false ≡ option_map_or sought (option_map f o) false
-      go None = refl
-      go (Some x) = refl
-
-  pub current-nearest : (items : List X) → option_map f (slice_get items (length items - 1)) ≡ current (reverse (map f items))
-  current-nearest [] = refl
-  current-nearest (x ∷ xs) =
-      let first : length (x ∷ xs) - 1 + 1 ≡ length (x ∷ xs) = omega arith in
-      ap (option_map f) (slice_get-get_or (x ∷ xs) (length (x ∷ xs) - 1) x (omega arith)) ∙ sym (slice_get_nearest f (x ∷ xs) (length (x ∷ xs) - 1) 0 x first) ∙ sym (current-drop 0 (reverse (map f (x ∷ xs))))
-
   -- the special nodes below one, from the topmost on
   pub furthest-nearest : (tag : N → Tag) (n : ℕ) (items : List X) (o : Option ℕ) → o ≡ position (is_node n) (reverse (map f items))
-      → option_map f (find (λ x. is_special (tag (f x).name)) (drop (length items - unwrap_or o (length items)) items)) ≡ furthest_block tag n (reverse (map f items))
+      → find (λ x. is_special (tag x.name)) (map f (drop (length items - unwrap_or o (length items)) items)) ≡ furthest_block tag n (reverse (map f items))
   furthest-nearest tag n items o e =
-      sym (find-map f (λ y. is_special (tag y.name)) (drop (length items - unwrap_or o (length items)) items))
-      ∙ sym (topmost-reverse tag (map f (drop (length items - unwrap_or o (length items)) items)))
+      sym (topmost-reverse tag (map f (drop (length items - unwrap_or o (length items)) items)))
       ∙ ap (topmost_special tag) (go o e (subst (λ (q : Option ℕ). IfSome q (λ up. up < length (reverse (map f items)))) (sym e) (position_within (is_node n) (reverse (map f items)))))
     where
       go : (o : Option ℕ) → o ≡ position (is_node n) (reverse (map f items)) → IfSome o (λ up. up < length (reverse (map f items))) → reverse (map f (drop (length items - unwrap_or o (length items)) items)) ≡ before (is_node n) (reverse (map f items))

@@ -10,3 +10,6 @@ pub mod ItemCoding
 pub mod Rows
 pub mod ItemRows
 pub mod Spelled
+pub mod Places
+pub mod NameSets
+pub mod Kept

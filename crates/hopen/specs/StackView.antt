@@ -1,12 +1,13 @@
 -- The open nodes that a vector stands for: its last one is the current node.
-use Rattle.std.specs.Prelude.{ℕ, ◌≤◌, map, reverse, length}
+use Rattle.std.specs.Prelude.{ℕ, ◌≤◌, length}
 use Rattle.hopen.specs.Stack.{OpenNodes}
-use Rattle.hopen.specs.Opens.{open_of}
+use Rattle.hopen.specs.Kept.{stack_of, Stands}
 use Rattle.hopen.specs.declared.stack.OpenStack.TheInside.{Inside}
 
 abbrev pub open_nodes_of : Inside → OpenNodes ℕ
-open_nodes_of s = record { limit = s.limit; stack = reverse (map open_of s.items.items) }
+open_nodes_of s = record { limit = s.limit; stack = stack_of s.items.items }
 
--- no more nodes are open than may be
-abbrev pub IsWithin : Inside → Type 0
-IsWithin s = length s.items.items ≤ s.limit
+-- no more nodes are open than may be, and the kept places are theirs
+pub record IsStanding (s : Inside) : Type 0 where
+  pub within : length s.items.items ≤ s.limit
+  pub stands : Stands s.last s.items.items

@@ -13,6 +13,8 @@ mod formatting_plain;
 mod formatting_tests;
 pub mod laws;
 pub mod scope;
+mod kept;
+mod name_sets;
 mod sought;
 pub mod stack;
 #[cfg(test)]

@@ -1,14 +1,12 @@
-//! Searches that go up from the current node, the last of a vector.
+//! What is sought among the open nodes.
 
-ghost use Rattle.std.specs.Prelude.{◌≡◌, ◌||◌, map, reverse};
-ghost use Rattle.std.specs.List.{find, position};
-ghost use Rattle.hopen.specs.Stack.{in_scope as stack_in_scope};
-ghost use Rattle.hopen.specs.Scopes.{stops as stops_node};
-ghost use Rattle.hopen.specs.Opens.{open_of, is_sought};
+ghost use Rattle.std.specs.Prelude.{◌≡◌, map};
+ghost use Rattle.std.specs.List.{find};
 ghost use Rattle.names.specs.Tags.{tag_of};
 ghost use Rattle.names.specs.Sets.{is_special};
 
-use crate::scope::{Group, Scope};
+use crate::kept::Item;
+use crate::scope::Group;
 use crate::stack::Open;
 use hnodes::NodeId;
 use names::NameId;
@@ -21,52 +19,12 @@ pub(crate) enum Sought {
     Group(Group),
 }
 
-impl Sought {
-    /// Whether an open node is one that is sought.
-    pub(crate) fn is(self, opened: Open) -> bool
-        ensures { result ≡ is_sought self (open_of opened) }
-    {
-        match self {
-            Sought::Node(node) => opened.node == node,
-            Sought::Name(name) => opened.name == name,
-            Sought::Group(group) => group.has(opened.name.tag()),
-        }
-    }
-}
-
-/// How many nodes come after the last that is sought.
-pub(crate) fn nearest(items: &[Open], sought: Sought) -> Option<usize>
-    ensures { result ≡ position (λ x. is_sought sought (open_of x)) (reverse items.now) }
-{
-    items.iter().rev().position(|open| sought.is(*open))
-}
-
-/// From the last node on, the first that is sought or stops the search.
-fn end_of_search(items: &[Open], scope: Scope, sought: Sought) -> Option<Open>
-    ensures { result ≡ find (λ x. is_sought sought (open_of x) || stops_node tag_of scope (open_of x)) (reverse items.now) }
-{
-    items
-        .iter()
-        .rev()
-        .copied()
-        .find(|open| sought.is(*open) || scope.stops(open.name.tag()))
-}
-
-/// Whether one that is sought comes, from the last node on, before any other that stops the search.
-pub(crate) fn is_in_scope(items: &[Open], scope: Scope, sought: Sought) -> bool
-    ensures { result ≡ stack_in_scope (stops_node tag_of scope) (is_sought sought) (reverse (map open_of items.now)) }
-{
-    // A copy for the first of two calls.
-    let wanted = sought;
-    end_of_search(items, scope, wanted).is_some_and(|open| sought.is(open))
-}
-
 /// The first node that is special.
-pub(crate) fn first_special(items: &[Open]) -> Option<Open>
-    ensures { result ≡ find (λ x. is_special (tag_of x.name)) items.now }
+pub(crate) fn first_special(items: &[Item]) -> Option<Open>
+    ensures { result ≡ find (λ x. is_special (tag_of x.name)) (map (λ x. x.opened) items.now) }
 {
     items
         .iter()
-        .copied()
+        .map(|item| item.opened)
         .find(|open| open.name.tag().is_special())
 }

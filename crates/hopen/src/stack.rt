@@ -1,21 +1,26 @@
 //! The stack of open elements (HTML Standard, 13.2.4.2).
 
 ghost use Rattle.std.specs.Prelude.{◌≡◌, ◌≤◌, ◌↔◌, ◌⊎◌, [], ◌∷◌, OnOk, OnErr, IfErr, IfSome, MatchOption, ◌<◌, ◌-◌, length, drop, reverse, nat_eq, leb, if◌then◌else◌};
-ghost use Rattle.std.specs.List.{position, slice_get};
+ghost use Rattle.std.specs.List.{find, position, slice_get};
 ghost use Rattle.std.specs.Option.{option_map};
 ghost use Rattle.hopen.specs.Nearest.{after, without, changed, put_before};
 ghost use Rattle.hopen.specs.Stack.{is_node, is_open, current as current_of, above as above_of, in_scope as is_in_scope, furthest_block as furthest_block_of};
 ghost use Rattle.hopen.specs.Scopes.{stops as stops_node, is_named, is_of};
 ghost use Rattle.hopen.specs.Opens.{open_of, is_sought};
+ghost use Rattle.hopen.specs.Places.{last_place};
+ghost use Rattle.hopen.specs.NameSets.{is_in};
 ghost use Rattle.names.specs.Tags.{tag_of};
+ghost use Rattle.names.specs.Sets.{is_special};
 ghost use Rattle.names.specs.declared.refusal.Refusal.TheVariants.{TooDeep, Memory};
 ghost use Rattle.hopen.specs.declared.scope.Scope.TheVariants.{Default};
 
 use crate::scope::{Group, Scope};
-use crate::sought::{Sought, first_special, is_in_scope, nearest};
+use crate::kept::{Item, LastPlaces, insert, nearest_of_sets, pop, push, remove, replace};
+use crate::name_sets::NameSet;
+use crate::sought::{Sought, first_special};
 use hnodes::NodeId;
 use names::{NameId, Refusal};
-use std::alloc::Global;
+use std::alloc::{AllocError, Global};
 use std::marker::Model;
 
 /// An open node and its name.
@@ -30,7 +35,8 @@ pub struct Open {
 /// `push` and `insert_below` takes memory, and none recurses.
 #[derive(Drop)]
 pub struct OpenStack {
-    items: Vec<Open>,
+    items: Vec<Item>,
+    last: LastPlaces,
     limit: u32,
 }
 
@@ -43,11 +49,11 @@ impl Model for OpenStack {
 
     ghost coded = { coded_open_nodes };
 
-    ghost use Rattle.hopen.specs.StackView.{open_nodes_of, IsWithin};
+    ghost use Rattle.hopen.specs.StackView.{open_nodes_of, IsStanding};
 
     ghost view = { open_nodes_of };
 
-    ghost invariant = { IsWithin };
+    ghost invariant = { IsStanding };
 }
 
 impl OpenStack {
@@ -57,6 +63,7 @@ impl OpenStack {
     {
         OpenStack {
             items: Vec::new(alloc),
+            last: LastPlaces::new(alloc),
             limit,
         }
     }
@@ -77,7 +84,7 @@ impl OpenStack {
         ensures err { OnErr result (self.new ≡ self.old) }
     {
         self.room(at)?;
-        self.items.push(opened)?;
+        push(&mut self.last, &mut self.items, opened)?;
         Ok(())
     }
 
@@ -86,7 +93,7 @@ impl OpenStack {
         ensures popped { option_map open_of result ≡ current_of self.old.stack }
         ensures rest { self.new ≡ record self.old { stack = drop 1 self.old.stack } }
     {
-        self.items.pop()
+        pop(&mut self.last, &mut self.items)
     }
 
     /// Closes nodes up to and with the nearest of a name; all where there is none.
@@ -115,17 +122,21 @@ impl OpenStack {
         ensures { self.new ≡ record self.old { stack = without (is_node node) self.old.stack } }
     {
         if let Some(index) = self.index(Sought::Node(node)) {
-            self.items.remove(index);
+            remove(&mut self.last, &mut self.items, index);
         }
     }
 
     /// Another node in the place of one that is open.
-    pub fn replace(&mut self, node: NodeId, by: Open)
-        ensures { self.new ≡ record self.old { stack = changed (is_node node) (λ _. open_of by) self.old.stack } }
+    pub fn replace(&mut self, node: NodeId, by: Open) -> Result<(), AllocError>
+        ensures ok { OnOk result (self.new ≡ record self.old { stack = changed (is_node node) (λ _. open_of by) self.old.stack }) }
+        ensures err { OnErr result (self.new ≡ self.old) }
     {
         if let Some(index) = self.index(Sought::Node(node)) {
-            self.items[index] = by;
+            let wanted = by;
+            self.last.make_room(wanted)?;
+            replace(&mut self.last, &mut self.items, index, Item::new(by));
         }
+        Ok(())
     }
 
     /// One more node right below one that is open; none where it is not open. `at` is the place of the token.
@@ -137,7 +148,10 @@ impl OpenStack {
     {
         self.room(at)?;
         if let Some(index) = self.index(Sought::Node(node)) {
-            self.items.insert(index + 1, opened)?;
+            let wanted = opened;
+            self.last.make_room(wanted)?;
+            self.items.reserve(1)?;
+            insert(&mut self.last, &mut self.items, index + 1, Item::new(opened));
         }
         Ok(())
     }
@@ -153,28 +167,36 @@ impl OpenStack {
     pub fn in_scope(&self, scope: Scope, name: NameId) -> bool
         ensures { result ≡ is_in_scope (stops_node tag_of scope) (is_named nat_eq name) self.now.stack }
     {
-        self.is_in_scope(scope, Sought::Name(name))
+        self.is_nearer(Sought::Name(name), NameSet::Stops(scope))
+    }
+
+    /// Whether, going up from the current node, an element of a name is met before a special element that does not have it: the search
+    /// of "any other end tag" (13.2.6.4.7).
+    pub fn before_special(&self, name: NameId) -> bool
+        ensures { result ≡ is_in_scope (λ x. is_special (tag_of x.name)) (is_named nat_eq name) self.now.stack }
+    {
+        self.is_nearer(Sought::Name(name), NameSet::Special)
     }
 
     /// Whether a node is in scope, without further words.
     pub fn node_in_scope(&self, node: NodeId) -> bool
         ensures { result ≡ is_in_scope (stops_node tag_of Default) (is_node node) self.now.stack }
     {
-        self.is_in_scope(Scope::Default, Sought::Node(node))
+        self.is_nearer(Sought::Node(node), NameSet::Stops(Scope::Default))
     }
 
     /// Whether an element of a group is in a scope.
     pub fn group_in_scope(&self, scope: Scope, group: Group) -> bool
         ensures { result ≡ is_in_scope (stops_node tag_of scope) (is_of tag_of group) self.now.stack }
     {
-        self.is_in_scope(scope, Sought::Group(group))
+        self.is_nearer(Sought::Group(group), NameSet::Stops(scope))
     }
 
     /// The current node.
     pub fn current(&self) -> Option<Open>
         ensures { option_map open_of result ≡ current_of self.now.stack }
     {
-        self.items.last().copied()
+        Some(self.items.last()?.opened)
     }
 
     /// The node with so many open nodes below it: 0 is the current one.
@@ -182,7 +204,7 @@ impl OpenStack {
         ensures { option_map open_of result ≡ slice_get self.now.stack up }
     {
         if up < self.items.len() {
-            Some(self.items[self.items.len() - 1 - up])
+            Some(self.items[self.items.len() - 1 - up].opened)
         } else {
             None
         }
@@ -192,7 +214,11 @@ impl OpenStack {
     pub fn from_top(&self, down: usize) -> Option<Open>
         ensures { option_map open_of result ≡ slice_get (reverse self.now.stack) down }
     {
-        self.items.get(down).copied()
+        if down < self.items.len() {
+            Some(self.items[down].opened)
+        } else {
+            None
+        }
     }
 
     /// How many open nodes are below a node, where it is open.
@@ -200,7 +226,21 @@ impl OpenStack {
         ensures place { result ≡ position (is_node node) self.now.stack }
         ensures within { IfSome result (λ up. up < length self.now.stack) }
     {
-        self.nearest(Sought::Node(node))
+        self.place_of(Sought::Node(node))
+    }
+
+    /// How many open nodes are above a node, 0 where it is not open.
+    pub fn depth(&self, node: NodeId) -> usize
+        ensures { result ≡ length (above_of node self.now.stack) }
+    {
+        self.index(Sought::Node(node)).unwrap_or(0)
+    }
+
+    /// The nearest open node of a name.
+    pub fn nearest(&self, name: NameId) -> Option<Open>
+        ensures { option_map open_of result ≡ find (is_named nat_eq name) self.now.stack }
+    {
+        self.get(self.place_of(Sought::Name(name))?)
     }
 
     /// The open node right above a node.
@@ -208,7 +248,10 @@ impl OpenStack {
         ensures { option_map open_of result ≡ current_of (above_of node self.now.stack) }
     {
         let index = self.index(Sought::Node(node))?;
-        self.items[..index].last().copied()
+        if index == 0 {
+            return None;
+        }
+        Some(self.items[index - 1].opened)
     }
 
     /// The topmost special node below a formatting element (13.2.6.4.7), or of all open nodes where that is not one of them.
@@ -229,12 +272,31 @@ impl OpenStack {
         Ok(())
     }
 
+    /// The place of the nearest node that is sought, from 1, the topmost; 0 if none is open.
+    fn last_place(&self, sought: Sought) -> u32
+        ensures { result ≡ last_place (is_sought sought) self.now.stack }
+    {
+        match sought {
+            Sought::Node(node) => self.last.of_node(node),
+            Sought::Name(name) => self.last.of_name(name),
+            Sought::Group(group) => self.set_place(NameSet::Group(group)),
+        }
+    }
+
+    /// The place of the nearest node whose name is in a set; 0 if none is open.
+    fn set_place(&self, set: NameSet) -> u32
+        ensures { result ≡ last_place (is_in set) self.now.stack }
+    {
+        nearest_of_sets(&self.items).of(set)
+    }
+
     /// How many open nodes are below the nearest that is sought.
-    fn nearest(&self, sought: Sought) -> Option<usize>
+    fn place_of(&self, sought: Sought) -> Option<usize>
         ensures place { result ≡ position (is_sought sought) self.now.stack }
         ensures within { IfSome result (λ up. up < length self.now.stack) }
     {
-        nearest(&self.items, sought)
+        let index = self.index(sought)?;
+        Some(self.items.len() - 1 - index)
     }
 
     /// How many open nodes are above the nearest that is sought.
@@ -242,8 +304,11 @@ impl OpenStack {
         ensures found { MatchOption result (position (is_sought sought) self.now.stack ≡ None) (λ i. position (is_sought sought) self.now.stack ≡ Some (length self.now.stack - 1 - i)) }
         ensures within { IfSome result (λ i. i < length self.now.stack) }
     {
-        let up = self.nearest(sought)?;
-        Some(self.items.len() - 1 - up)
+        let place = self.last_place(sought) as usize;
+        if place == 0 {
+            return None;
+        }
+        Some(place - 1)
     }
 
     /// Closes nodes up to and with the nearest that is sought; all where there is none.
@@ -251,13 +316,16 @@ impl OpenStack {
         ensures { self.new ≡ record self.old { stack = after (is_sought sought) self.old.stack } }
     {
         let index = self.index(sought).unwrap_or(0);
-        self.items.truncate(index);
+        while self.len() > index {
+            self.pop();
+        }
     }
 
-    /// Going up, whether one that is sought comes before any other that stops the search.
-    fn is_in_scope(&self, scope: Scope, sought: Sought) -> bool
-        ensures { result ≡ is_in_scope (stops_node tag_of scope) (is_sought sought) self.now.stack }
+    /// Going up from the current node, whether one that is sought is met before any other of a set.
+    fn is_nearer(&self, sought: Sought, stops: NameSet) -> bool
+        ensures { result ≡ is_in_scope (is_in stops) (is_sought sought) self.now.stack }
     {
-        is_in_scope(&self.items, scope, sought)
+        let place = self.last_place(sought);
+        place > 0 && place >= self.set_place(stops)
     }
 }

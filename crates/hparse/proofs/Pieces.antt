@@ -120,7 +120,7 @@ module _ (limit : ℕ) (bytes piece : List ℕ) (old : Reading) (h : HasRead lim
       (subst (λ (b : Bom). Feeds Steps b old.decoder.limit bytes piece old.feeding answer feeding) h.bom_is f)
 
   took : (feeding : Feeding) → Feeds Steps Drop limit bytes piece old.feeding (Ok tt) feeding → HoldsItems feeding (items (document_text limit (bytes ++ piece)))
-  took feeding (ran_out e) = absurd cc
+  took feeding (ran_out front rest e split handed) = absurd cc
   took feeding (sink_refused e is handed) = absurd cc
   took feeding (took_all handed answered) = took_new limit bytes (bytes ++ piece) old.feeding feeding handed h.holds
 
@@ -155,7 +155,7 @@ module _ (limit : ℕ) (bytes piece : List ℕ) (old : Reading) (h : HasRead lim
         ])
 
     refused_by : Feeds Steps Drop limit bytes piece old.feeding (Err e) feeding → FeedsPiece limit (bytes ++ piece) (Err answer) new
-    refused_by (ran_out is) = out_of_memory cc
+    refused_by (ran_out front rest is split handed) = out_of_memory cc
     refused_by (sink_refused x is handed) =
         let same : x ≡ e = cc in
         let stop : (more : List ℕ) → StopsAt more = λ more. refused_new limit bytes ((bytes ++ piece) ++ more) old.feeding feeding e (subst (λ (y : Refusal). HandsNew Steps Drop limit bytes ((bytes ++ piece) ++ more) old.feeding (Err y) feeding) same (handed more)) h.holds in

@@ -1,20 +1,20 @@
 -- What a reader's document has come to, turn by turn.
-use Rattle.std.proofs.Common.{◌≡◌, ℕ, ◌+◌, ◌-◌, ◌<◌, ◌≤◌, List, [], ◌++◌, length, take, refl, sym, ap, subst, ◌∙◌, append-nil, arith, length-append, length-drop, Option, None, Some, Result, Ok, Err}
-use Rattle.std.specs.Io.KnownBytes.{Consumes, IsAtEnd}
+use Rattle.std.proofs.Common.{◌≡◌, ℕ, ◌+◌, ◌-◌, ◌<◌, ◌≤◌, List, [], ◌++◌, length, take, refl, sym, ap, subst, ◌∙◌, append-nil, arith, length-append, length-drop, Option, Result, Ok, Err}
+use Rattle.std.specs.Io.KnownBytes.{Consumes, IsAtEnd, Keeps}
 use Rattle.std.proofs.Math.Seq.{take-append_seam}
 use Rattle.std.proofs.lemmas.List.{length-take-le}
-use Rattle.std.proofs.KnownBytes.{Consumes-trans, Consumes-whole}
+use Rattle.std.proofs.KnownBytes.{Consumes-trans, Consumes-kept}
 use Rattle.names.specs.declared.refusal.Refusal.{Refusal}
-use Rattle.names.specs.declared.refusal.Refusal.TheVariants.{Memory}
+use Rattle.names.specs.declared.refusal.Refusal.TheVariants.{Memory, Read}
 use Rattle.htext.specs.Text.{valid_len}
 use Rattle.htext.specs.Decoding.{Progress, HasFed}
 use Rattle.htext.proofs.Valid.{valid_len_le}
 use Rattle.hparse.specs.declared.reading.Reading.{Reading}
 use Rattle.hparse.specs.declared.token_run.TokenRun.{TokenRun}
-use Rattle.hparse.specs.Answer.{Answers}
 use Rattle.hparse.specs.Shown.{Shows, ran_out, refuses, accepts}
 use Rattle.hparse.specs.Fed.{HasRead, FeedsPiece, piece_ran_out, piece_refused, piece_read}
-use Rattle.hparse.specs.Running.{HadBytes, ReadsDocument, reading_ran_out, reading_refused, read_to_end}
+use Rattle.hparse.specs.Calls.{counted}
+use Rattle.hparse.specs.Running.{Gave, IsRefusedFrom, IsUndecided, ReadsDocument, reading_ran_out, reading_failed, reading_stopped, reading_refused, read_to_end}
 use Rattle.hparse.proofs.Pieces.{has_read}
 
 -- The bytes that the reader gave have been read, at least one a turn, and no read has failed.
@@ -35,15 +35,9 @@ some_bytes count xs some fits = omega (arith, length-take-le count xs fits)
 pub some_of_buffer : (count : ℕ) (xs zs : List ℕ) → take count zs ≡ take count xs → (count ≡ 0 → ⊥) → count ≤ length xs → 0 < length (take count zs)
 some_of_buffer count xs zs same some fits = subst (λ (bytes : List ℕ). 0 < length bytes) (sym same) (some_bytes count xs some fits)
 
--- the bytes that a reader had begin with those that it gave
-had_bytes : (old new : Option (List ℕ)) (given : List ℕ) → Consumes old new given → (more : List ℕ) × HadBytes old (given ++ more)
-had_bytes None new given h = ([], tt)
-had_bytes (Some all) None given h = absurd h
-had_bytes (Some all) (Some rest) given h = (rest, h)
-
--- they are those that it gave, at its end
-had_all : (old new : Option (List ℕ)) (given : List ℕ) → Consumes old new given → IsAtEnd new → HadBytes old given
-had_all old new given h end = Consumes-whole old new given (λ all. all ≡ given) h end refl
+-- no more is read than the buffer holds
+pub few_of_buffer : (count most : ℕ) (xs : List ℕ) → length xs ≡ most → count ≤ length xs → length (take count xs) ≤ most
+few_of_buffer count most xs is fits = omega (arith, length-take-le count xs fits)
 
 -- a document of which no more than three bytes are held back is at most this long
 long : (decoder : Progress) (fed : List ℕ) → HasFed decoder fed → length fed ≤ decoder.limit + 3
@@ -61,6 +55,9 @@ module _ {S : Type 0} (left : S → Option (List ℕ)) (failed : S → ℕ) (lim
       let limit_is : reading.decoder.limit ≡ limit = h.has_read.limit_is in
       let each : turn ≤ length h.fed = h.each_turn in
       omega arith
+
+  undecided : IsUndecided limit h.fed
+  undecided = subst (λ (n : ℕ). IsUndecided n h.fed) h.has_read.limit_is h.has_read.fed.undecided
 
   module _ (piece : List ℕ) (given : Consumes (left now) (left new) piece) (count : failed new ≡ failed now) where
     given_more : Consumes (left old) (left new) (h.fed ++ piece)
@@ -81,21 +78,25 @@ module _ {S : Type 0} (left : S → Option (List ℕ)) (failed : S → ℕ) (lim
         }
 
     -- it was refused
-    pub refused_turn : (next : Reading) (e : Refusal) → FeedsPiece limit (h.fed ++ piece) (Err e) next → ReadsDocument left failed limit old new (Err e)
-    refused_turn next e (piece_ran_out is) = let why : e ≡ Memory = cc in reading_ran_out (ap (λ (x : Refusal). Err x) why) unfailed
-    refused_turn next e (piece_refused refusal is refused) =
+    pub refused_turn : (most : ℕ) (next : Reading) (e : Refusal) → length piece ≤ most → FeedsPiece limit (h.fed ++ piece) (Err e) next
+        → ReadsDocument left failed most limit old new (Err e)
+    refused_turn most next e few (piece_ran_out is) = let why : e ≡ Memory = cc in reading_ran_out (ap (λ (x : Refusal). Err x) why) unfailed
+    refused_turn most next e few (piece_refused refusal is refused) =
         let same : refusal ≡ e = cc in
-        let (more, had) = had_bytes (left old) (left new) (h.fed ++ piece) given_more in
-        reading_refused e ((h.fed ++ piece) ++ more) refl had (subst (λ (x : Refusal). Answers limit ((h.fed ++ piece) ++ more) (Err x)) same (refused more)) unfailed
-    refused_turn next e (piece_read is k) = absurd cc
+        reading_stopped e h.fed piece refl undecided (record { given = given_more; unfailed = unfailed }) (subst (IsRefusedFrom limit (h.fed ++ piece)) same refused) few
+    refused_turn most next e few (piece_read is k) = absurd cc
 
     -- nothing was left
-    pub ended : (answer : Result TokenRun Refusal) → piece ≡ [] → IsAtEnd (left new) → Shows limit h.fed answer → ReadsDocument left failed limit old new answer
-    ended answer none end shows = ended_by shows where
-      had : HadBytes (left old) h.fed
-      had = had_all (left old) (left new) h.fed (subst (Consumes (left old) (left new)) (ap (λ (x : List ℕ). h.fed ++ x) none ∙ append-nil h.fed) given_more) end
+    pub ended : (most : ℕ) (answer : Result TokenRun Refusal) → piece ≡ [] → IsAtEnd (left new) → Shows limit h.fed answer → ReadsDocument left failed most limit old new answer
+    ended most answer none end shows = ended_by shows where
+      gave : Gave left failed old new h.fed
+      gave = record { given = subst (Consumes (left old) (left new)) (ap (λ (x : List ℕ). h.fed ++ x) none ∙ append-nil h.fed) given_more; unfailed = unfailed }
 
-      ended_by : Shows limit h.fed answer → ReadsDocument left failed limit old new answer
+      ended_by : Shows limit h.fed answer → ReadsDocument left failed most limit old new answer
       ended_by (ran_out e) = reading_ran_out e unfailed
-      ended_by (refuses refusal e refused) = reading_refused refusal h.fed e had refused unfailed
-      ended_by (accepts run tokens e mean answers) = read_to_end run h.fed tokens e had end answers mean unfailed
+      ended_by (refuses refusal e refused) = reading_refused refusal h.fed e undecided gave end refused
+      ended_by (accepts run tokens e mean answers) = read_to_end run h.fed tokens e gave end answers mean
+
+  -- the read failed
+  pub failed_turn : (most : ℕ) → Keeps (left now) (left new) → failed new ≡ counted (failed now) → ReadsDocument left failed most limit old new (Err Read)
+  failed_turn most kept count = reading_failed h.fed refl undecided (Consumes-kept (left old) (left now) (left new) h.fed h.given kept) (count ∙ ap counted h.unfailed)

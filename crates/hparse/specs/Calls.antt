@@ -13,7 +13,7 @@ abbrev pub counted_by : {A : Type 0} → ℕ → Option A → ℕ
 counted_by failures (Some _) = failures
 counted_by failures None = counted failures
 
--- the count after a call that tells whether it went well
+-- the count after a call that returns whether it succeeded
 abbrev pub counted_unless : ℕ → Bool → ℕ
 counted_unless failures true = failures
 counted_unless failures false = counted failures
@@ -42,6 +42,6 @@ abbrev pub WritesAll : Option (List ℕ) → ℕ → Option (List ℕ) → ℕ �
 WritesAll old before new after bytes (Ok _) = Appends old new bytes × (after ≡ before)
 WritesAll old before new after bytes (Err refusal) = (refusal ≡ Write) × AppendsBeginning old new bytes × (after ≡ counted before)
 
--- the same of calls whose answer is let go
+-- the same of calls whose result is dropped
 abbrev pub EndsWith : Option (List ℕ) → ℕ → Option (List ℕ) → ℕ → List ℕ → Type 0
 EndsWith old before new after bytes = (answer : Result (Unit {0}) Refusal) × WritesAll old before new after bytes answer

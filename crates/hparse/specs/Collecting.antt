@@ -1,4 +1,4 @@
--- What handing over an error or a token does to what has been collected; it is refused for want of memory alone.
+-- What handing over an error or a token does to what has been collected; it is refused only if memory ran out.
 use Rattle.std.specs.Prelude.{◌≡◌, List, [], ◌∷◌, ◌++◌, Result, MatchResult}
 use Rattle.names.specs.declared.error.ParseError.{ParseError}
 use Rattle.names.specs.declared.refusal.Refusal.{Refusal}

@@ -51,7 +51,7 @@ is_of_bytes (refusal.NotUtf8 at) = true
 is_of_bytes (refusal.TooLarge at) = true
 is_of_bytes other = false
 
--- What is answered where a decoder has refused bytes of which these items were read: memory ran out, or it is their answer.
+-- The answer once a decoder has refused bytes of which these items were read: memory ran out, or it is the answer of the bytes.
 pub data Refuses (held : List CharItem) (refused answer : Refusal) : Type 0 where
   refusing_ran_out : answer ≡ refusal.Memory → Refuses held refused answer
   refusing : ((limit : ℕ) (bytes : List ℕ) → held ≡ items (document_text limit bytes) → refusal_of limit bytes ≡ Some refused → Answers limit bytes (Err answer)) → Refuses held refused answer

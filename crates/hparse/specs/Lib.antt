@@ -6,7 +6,6 @@ pub mod Counted
 pub mod Fed
 pub mod Holding
 pub mod Quoted
-pub mod Refusal
 pub mod Running
 pub mod Shown
 pub mod TokenLineRows

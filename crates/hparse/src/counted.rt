@@ -1,4 +1,4 @@
-//! A reader or a writer with a count of its failed calls.
+//! Readers and writers that count their failed calls.
 
 ghost use Rattle.std.specs.Prelude.{◌≡◌};
 ghost use Rattle.hparse.specs.Calls.{counted};
@@ -8,7 +8,7 @@ use crate::source::Source;
 use crate::target::Target;
 use std::io::{Read, Write};
 
-/// Any reader or writer, with a count of its failed calls. No call is tried again, one that was interrupted neither.
+/// Any reader or writer, with a count of its failed calls. No call is tried again, not even an interrupted one.
 #[derive(Drop)]
 pub struct Counted<T> {
     inner: T,

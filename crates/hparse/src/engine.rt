@@ -13,8 +13,9 @@ use htext::MAX_INPUT;
 use names::Refusal;
 use std::alloc::Global;
 
-/// Reads a document, and writes what the command makes of it. The limit is in bytes, and the size of a piece decides nothing.
-/// Reading stops at a refusal that stands whatever follows, and goes on to the end otherwise; nothing is written before.
+/// Reads a document, and writes what the command makes of it. The limit is in bytes. The size of a piece has no influence on
+/// what is written. Reading stops after the piece that brings a refused byte, and goes on to the end otherwise; nothing is
+/// written before.
 pub fn run<S: Source, W: Target>(
     alloc: Global,
     command: Command,
@@ -24,7 +25,7 @@ pub fn run<S: Source, W: Target>(
 ) -> Result<(), Refusal>
     requires limit { input_limit ≤ MAX_INPUT }
     requires piece { 0 < command.piece }
-    ensures { Runs S.left S.failed W.written W.failed input_limit source.old source.new target.old target.new result }
+    ensures { Runs S.left S.failed W.written W.failed command.piece input_limit source.old source.new target.old target.new result }
 {
     match command.task {
         Task::Tokens => {
@@ -44,11 +45,11 @@ fn read_document<S: Source>(
 ) -> Result<TokenRun, Refusal>
     requires limit { input_limit ≤ MAX_INPUT }
     requires piece { 0 < piece }
-    ensures { ReadsDocument S.left S.failed input_limit source.old source.new result }
+    ensures { ReadsDocument S.left S.failed piece input_limit source.old source.new result }
 {
     let mut buffer = vec![in alloc; 0u8; piece]?;
     let mut reading = Reading::new(alloc, input_limit)?;
-    // A piece has a byte at least, and a document that is too long is refused long before the last turn.
+    // A piece has at least one byte, and a document that is too long is refused long before the last turn.
     for _turn in 0..u64::MAX {
         match source.read(&mut buffer) {
             None => return Err(Refusal::Read),
@@ -59,7 +60,7 @@ fn read_document<S: Source>(
     unreachable!()
 }
 
-// Writes a text, and has the writer hand on what it holds back.
+// Writes a text, and flushes.
 fn write_text<W: Target>(target: &mut W, text: &[u8]) -> Result<(), Refusal>
     ensures { WritesText W.written W.failed text.now target.old target.new result }
 {

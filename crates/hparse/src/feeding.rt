@@ -35,7 +35,7 @@ impl Feeding {
         })
     }
 
-    /// Says that the text ends, at the input's byte `end`.
+    /// Ends the text, at the input's byte `end`.
     pub fn finish(&mut self, end: u64) -> Result<(), Refusal>
         ensures { (items : List CharItem) → HoldsItems self.old items → EndsText items end result self.new }
     {
@@ -43,8 +43,8 @@ impl Feeding {
             .finish(&mut self.names, end, &mut self.collected)
     }
 
-    /// What is answered where a decoder, after this text, has answered a refusal: the text's own comes first, where it ends
-    /// at the byte that is refused.
+    /// The answer once the decoder has refused: the refusal of the text itself, ended at the refused byte, if it has one;
+    /// otherwise the decoder's.
     pub fn refuse(&mut self, refusal: Refusal) -> Refusal
         ensures answer { (held : List CharItem) → HoldsItems self.old held → Refuses held refusal result }
         ensures other { is_of_bytes refusal ≡ false → result ≡ refusal }

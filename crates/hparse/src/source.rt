@@ -11,12 +11,12 @@ pub trait Source {
     // How many calls have failed.
     ghost failed: { Self → ℕ };
 
-    /// Reads into the first bytes of the buffer, and answers how many. None where the call failed.
+    /// Reads into the beginning of the buffer, and returns the number of bytes. None if the call failed.
     fn read(&mut self, buffer: &mut [u8]) -> Option<usize>
         ensures bytes { Reads (left self.old) (left self.new) result buffer.new }
         ensures count { failed self.new ≡ counted_by (failed self.old) result };
 
-    /// How many calls have failed; a count that has come to the greatest value stays there.
+    /// The number of failed calls. It stays at the greatest value.
     fn failures(&self) -> u64
         ensures { result ≡ failed self.now };
 }

@@ -15,23 +15,23 @@ pub trait Target {
     // How many calls have failed.
     ghost failed: { Self → ℕ };
 
-    /// Writes the first of the bytes, and answers how many. None where the call failed; a call that takes none of one or
+    /// Writes a beginning of the bytes, and returns its length. None if the call failed; a call that writes none of one or
     /// more bytes has failed.
     fn write(&mut self, bytes: &[u8]) -> Option<usize>
         ensures bytes { Writes (written self.old) (written self.new) result bytes.now }
         ensures count { failed self.new ≡ counted_by (failed self.old) result };
 
-    /// Hands on what is held back, and answers whether the call went well.
+    /// Flushes, and returns whether the call succeeded.
     fn flush(&mut self) -> bool
         ensures bytes { Keeps (written self.old) (written self.new) }
         ensures count { failed self.new ≡ counted_unless (failed self.old) result };
 
-    /// How many calls have failed; a count that has come to the greatest value stays there.
+    /// The number of failed calls. It stays at the greatest value.
     fn failures(&self) -> u64
         ensures { result ≡ failed self.now };
 }
 
-/// Writes all of the bytes, in as many calls as it takes. No call is made after a failed one.
+/// Writes all of the bytes, in as many calls as needed. No call follows a failed one.
 pub fn write_all<W: Target>(target: &mut W, bytes: &[u8]) -> Result<(), Refusal>
     ensures count { W.failed target.new ≡ counted_by_result (W.failed target.old) result }
     ensures all { OnOk result (Appends (W.written target.old) (W.written target.new) bytes.now) }

@@ -9,6 +9,7 @@ use Rattle.names.proofs.Handing.{Hands-append}
 use Rattle.names.specs.Sink.{Hands, Continues}
 use Rattle.names.specs.declared.placed.Placed.{Placed}
 use Rattle.names.specs.declared.refusal.Refusal.{Refusal}
+use Rattle.names.specs.declared.refusal.Refusal.TheVariants.{Memory}
 use Rattle.htext.specs.declared.Bom.{Bom}
 use Rattle.htext.specs.Text.{read_as, normalized, refusal_of, decoded}
 use Rattle.htext.specs.Items.{CharItem, items}
@@ -24,6 +25,14 @@ Hands-front gives old (x ∷ xs) ys e new (Err d, next, given, rest) = (Err d, n
 module _ {S : Type 0} (gives : S → CharItem → Result (Unit {0}) Refusal → S → Type 0) (bom : Bom) (limit : ℕ) where
   pub HandsNew-none : (bytes : List ℕ) (sink : S) → HandsNew gives bom limit bytes bytes sink (Ok tt) sink
   HandsNew-none bytes sink = ([], sym (append-nil (decoded bom limit bytes)), (refl, refl))
+
+  -- nothing of a piece was read
+  pub ran_out_before : (fed piece : List ℕ) (sink : S) → Feeds gives bom limit fed piece sink (Err Memory) sink
+  ran_out_before fed piece sink = ran_out [] piece refl refl (subst (λ (x : List ℕ). HandsNew gives bom limit fed x sink (Ok tt) sink) (sym (append-nil fed)) (HandsNew-none fed sink))
+
+  -- all of it was
+  pub ran_out_after : (fed piece : List ℕ) (old new : S) → HandsNew gives bom limit fed (fed ++ piece) old (Ok tt) new → Feeds gives bom limit fed piece old (Err Memory) new
+  ran_out_after fed piece old new took = ran_out piece [] refl (sym (append-nil piece)) took
 
   -- one piece after another
   pub HandsNew-append : (before middle after : List ℕ) (old between : S) (answer : Result (Unit {0}) Refusal) (new : S) → HandsNew gives bom limit before middle old (Ok tt) between → HandsNew gives bom limit middle after between answer new → HandsNew gives bom limit before after old answer new
@@ -43,7 +52,9 @@ module _ {S : Type 0} (gives : S → CharItem → Result (Unit {0}) Refusal → 
       )
 
   pub Feeds-append : (fed first second : List ℕ) (old between : S) (answer : Result (Unit {0}) Refusal) (new : S) → HandsNew gives bom limit fed (fed ++ first) old (Ok tt) between → Feeds gives bom limit (fed ++ first) second between answer new → Feeds gives bom limit fed (first ++ second) old answer new
-  Feeds-append fed first second old between answer new handed (ran_out is) = ran_out is
+  Feeds-append fed first second old between answer new handed (ran_out front rest is split took) =
+      ran_out (first ++ front) rest is (ap (λ (x : List ℕ). first ++ x) split ∙ sym (append_assoc first front rest))
+      (subst (λ (x : List ℕ). HandsNew gives bom limit fed x old (Ok tt) new) (append_assoc fed first front) (HandsNew-append fed (fed ++ first) ((fed ++ first) ++ front) old between (Ok tt) new handed took))
   Feeds-append fed first second old between answer new handed (sink_refused e is refused) =
       sink_refused e is (λ more. subst (λ (x : List ℕ). HandsNew gives bom limit fed (x ++ more) old (Err e) new) (append_assoc fed first second)
       (HandsNew-append fed (fed ++ first) (((fed ++ first) ++ second) ++ more) old between (Err e) new handed (refused more)))
@@ -53,7 +64,7 @@ module _ {S : Type 0} (gives : S → CharItem → Result (Unit {0}) Refusal → 
 
   -- what is refused stays so
   pub Feeds-more : (fed piece : List ℕ) (old : S) (e : Refusal) (new : S) → Feeds gives bom limit fed piece old (Err e) new → (rest : List ℕ) → Feeds gives bom limit fed (piece ++ rest) old (Err e) new
-  Feeds-more fed piece old e new (ran_out is) rest = ran_out is
+  Feeds-more fed piece old e new (ran_out front others is split took) rest = ran_out front (others ++ rest) is (ap (λ (x : List ℕ). x ++ rest) split ∙ append_assoc front others rest) took
   Feeds-more fed piece old e new (sink_refused d is refused) rest =
       sink_refused d is (λ more. subst (λ (x : List ℕ). HandsNew gives bom limit fed x old (Err d) new)
       (sym (append_assoc (fed ++ piece) rest more) ∙ ap (λ (x : List ℕ). x ++ more) (append_assoc fed piece rest)) (refused (rest ++ more)))
@@ -68,7 +79,7 @@ module _ {S : Type 0} (gives : S → CharItem → Result (Unit {0}) Refusal → 
 
   -- what is accepted was handed over
   pub handed_all : (fed piece : List ℕ) (old new : S) → Feeds gives bom limit fed piece old (Ok tt) new → HandsNew gives bom limit fed (fed ++ piece) old (Ok tt) new
-  handed_all fed piece old new (ran_out is) = absurd cc
+  handed_all fed piece old new (ran_out front rest is split took) = absurd cc
   handed_all fed piece old new (sink_refused e is refused) = absurd cc
   handed_all fed piece old new (took_all took answered) = took
 

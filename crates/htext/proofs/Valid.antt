@@ -130,38 +130,11 @@ pub starts_back : (bs more : List ℕ) (c : ℕ) → IsScalar c → bs ≡ encod
 starts_back bs more c s e =
     omega (arith, ap utf8_valid_len e, utf8_valid_len-append (encode_utf8 c) more (IsUtf8-encode c s), length-encode c, (len_utf8_bounds c).0)
 
-decided_by : (n : ℕ) (rest more : List ℕ) → 4 ≤ length rest → (c : ℕ) × (r : List ℕ) × IsScalar c × (take n (rest ++ more) ≡ encode_utf8 c ++ r) → 0 < utf8_valid_len (take n rest)
-decided_by n rest more four (c, r, s, e) =
-    let k : ℕ = length (encode_utf8 c) in
-    let k-four : k ≤ 4 = omega (arith, length-encode c, (len_utf8_bounds c).1) in
-    let k-n : k ≤ n = omega (arith, ap length e, length-append (encode_utf8 c) r, length-take n (rest ++ more)) in
-    let front : take k (take n rest) ≡ encode_utf8 c =
-    take-take k n rest k-n ∙ sym (take-append-le k rest more (omega arith)) ∙ sym (take-take k n (rest ++ more) k-n)
-    ∙ ap (take k) e ∙ take_at (encode_utf8 c) r k refl in
-    starts_back (take n rest) (drop k (take n rest)) c s (sym (take-append-drop k (take n rest)) ∙ ap (λ (x : List ℕ). x ++ drop k (take n rest)) front)
-
--- four bytes tell whether a character begins there, under a limit and under none
-decided : (n : ℕ) (rest more : List ℕ) → 4 ≤ length rest → 0 < utf8_valid_len (take n (rest ++ more)) → 0 < utf8_valid_len (take n rest)
-decided n rest more four h = decided_by n rest more four (starts (take n (rest ++ more)) h)
-
-pub stays_stuck : (limit : ℕ) (rest more : List ℕ) → 4 ≤ length rest → valid_len limit rest ≡ 0 → valid_len limit (rest ++ more) ≡ 0
-stays_stuck limit rest more four none =
-    elim (cases_lt 0 (valid_len limit (rest ++ more))) [
-      | inl some ↦ absurd (omega (arith, decided limit rest more four some))
-      | inr none_more ↦ omega arith
-    ]
-
-decided_unlimited : (rest more : List ℕ) → 4 ≤ length rest → 0 < utf8_valid_len (rest ++ more) → 0 < utf8_valid_len rest
-decided_unlimited rest more four h =
-    let n : ℕ = length (rest ++ more) in
-    let a : take n (rest ++ more) ≡ rest ++ more = take_all n (rest ++ more) (omega arith) in
-    let b : take n rest ≡ rest = take_all n rest (omega (arith, length-append rest more)) in
-    subst (λ (x : List ℕ). 0 < utf8_valid_len x) b (decided n rest more four (subst (λ (x : List ℕ). 0 < utf8_valid_len x) (sym a) h))
-
 going_on_by : (rest more : List ℕ) → (c : ℕ) × (r : List ℕ) × IsScalar c × (rest ≡ encode_utf8 c ++ r) → 0 < utf8_valid_len (rest ++ more)
 going_on_by rest more (c, r, s, e) = starts_back (rest ++ more) (r ++ more) c s (ap (λ (x : List ℕ). x ++ more) e ∙ append_assoc (encode_utf8 c) r more)
 
-going_on : (rest more : List ℕ) → 0 < utf8_valid_len rest → 0 < utf8_valid_len (rest ++ more)
+-- what begins with a character does so whatever comes after
+pub going_on : (rest more : List ℕ) → 0 < utf8_valid_len rest → 0 < utf8_valid_len (rest ++ more)
 going_on rest more h = going_on_by rest more (starts rest h)
 
 -- the refusal depends on whether a character follows, and not on how many do
@@ -189,9 +162,3 @@ pub refusal_past : (limit : ℕ) (front rest : List ℕ) → IsUtf8 front → le
 refusal_past limit front rest u within stuck some =
     refusal_value (valid_len limit (front ++ rest)) (length (front ++ rest)) (utf8_valid_len (front ++ rest)) (length front) (length rest) (utf8_valid_len rest)
     (omega (arith, valid_len-append limit front rest u within)) (length-append front rest) some (utf8_valid_len-append front rest u)
-
--- the same, whatever comes after four bytes or more
-pub refusal_stays : (limit : ℕ) (front rest more : List ℕ) → IsUtf8 front → length front ≤ limit → valid_len (limit - length front) rest ≡ 0 → 4 ≤ length rest → refusal_of limit (front ++ (rest ++ more)) ≡ Some (refusal_with (utf8_valid_len rest) (length front))
-refusal_stays limit front rest more u within stuck four =
-    refusal_past limit front (rest ++ more) u within (stays_stuck (limit - length front) rest more four stuck) (omega (arith, length-append rest more))
-    ∙ ap Some (refusal_same (utf8_valid_len (rest ++ more)) (utf8_valid_len rest) (length front) (decided_unlimited rest more four) (going_on rest more))

@@ -6,7 +6,7 @@ use Rattle.names.specs.declared.placed.Placed.{Placed}
 use Rattle.names.specs.declared.refusal.Refusal.{Refusal}
 use Rattle.names.specs.declared.refusal.Refusal.TheVariants.{Memory}
 use Rattle.htext.specs.declared.Bom.{Bom}
-use Rattle.htext.specs.Text.{valid_len, valid_front, ends_in_return, refusal_of, decoded}
+use Rattle.htext.specs.Text.{valid_len, valid_front, ends_in_return, refusal_of, StaysRefused, decoded}
 use Rattle.htext.specs.Items.{CharItem, items}
 
 -- what contracts see of a decoder
@@ -23,11 +23,13 @@ pub record HasRead (limit read : ℕ) (after_return : Bool) (bytes : List ℕ) :
   pub length_is : read ≡ valid_len limit bytes
   pub end_is : after_return ≡ ends_in_return false (chars (valid_front limit bytes))
 
--- The decoder was fed these bytes, in any pieces: it has read their valid front, and holds the at most three bytes after it.
+-- The decoder was fed these bytes, in any pieces, and has refused nothing: it has read their valid front, and holds the at most
+-- three bytes after it. What follows decides whether and why the bytes are refused.
 pub record HasFed (decoder : Progress) (bytes : List ℕ) : Type 0 where
   pub front : HasRead decoder.limit decoder.read decoder.after_return bytes
   pub undecoded : decoder.undecoded ≡ drop decoder.read bytes
   pub few : length decoder.undecoded ≤ 3
+  pub undecided : (refusal : Refusal) → StaysRefused decoder.limit bytes refusal → ⊥
   pub accepts : decoder.refused ≡ None
 
 -- The bytes are refused, whatever comes after them, and no more of them is read then.
@@ -41,11 +43,14 @@ abbrev pub HandsNew : {S : Type 0} → (S → CharItem → Result (Unit {0}) Ref
 HandsNew gives bom limit before bytes old answer new = (more : List Placed)
     × (decoded bom limit bytes ≡ decoded bom limit before ++ more) × Hands gives old (items more) answer new
 
--- What a call that feeds the piece does: memory ran out; or the sink refused an item, after a front of the new ones whatever
--- comes after, and that is the answer; or it took them all, and the answer is Ok or a refusal that stands whatever comes after.
+-- What a call that feeds the piece does. Memory ran out, and the sink had taken what is read of a front of the piece; or the sink
+-- refused an item, whatever comes after the piece, and that is the answer; or the sink took all that is read, and the answer is Ok
+-- or a refusal that stands whatever comes after.
 pub data Feeds {S : Type 0} (gives : S → CharItem → Result (Unit {0}) Refusal → S → Type 0) (bom : Bom) (limit : ℕ)
     (fed piece : List ℕ) (old : S) (answer : Result (Unit {0}) Refusal) (new : S) : Type 0 where
-  ran_out : answer ≡ Err Memory → Feeds gives bom limit fed piece old answer new
+  ran_out : (front rest : List ℕ) → answer ≡ Err Memory → piece ≡ front ++ rest
+      → HandsNew gives bom limit fed (fed ++ front) old (Ok tt) new
+      → Feeds gives bom limit fed piece old answer new
   sink_refused : (e : Refusal) → answer ≡ Err e
       → ((more : List ℕ) → HandsNew gives bom limit fed ((fed ++ piece) ++ more) old (Err e) new)
       → Feeds gives bom limit fed piece old answer new

@@ -2,3 +2,4 @@ pub mod Text
 pub mod Items
 pub mod Decoding
 pub mod Rows
+pub mod Run

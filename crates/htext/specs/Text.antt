@@ -1,8 +1,8 @@
 -- The text of an input: its characters, each with the place of its first byte (HTML Standard, 13.2.3.5).
-use Rattle.std.specs.Prelude.{◌≡◌, ℕ, ◌+◌, ◌-◌, ◌≤◌, Bool, false, ◌&&◌, ◌||◌, ◌==◌, if◌then◌else◌, List, [], ◌∷◌, ◌++◌, length, take, Option, Some, None}
+use Rattle.std.specs.Prelude.{◌≡◌, ℕ, ◌+◌, ◌-◌, ◌≤◌, Bool, false, ◌&&◌, ◌||◌, ◌==◌, nat_lt, if◌then◌else◌, List, [], ◌∷◌, ◌++◌, length, take, Option, Some, None, option_map}
 use Rattle.std.specs.Char.{IsScalar, encode_utf8}
 use Rattle.std.specs.Str.{chars}
-use Rattle.std.specs.Str.Lossy.{utf8_valid_len}
+use Rattle.std.specs.Str.Lossy.{utf8_valid_len, utf8_error_len}
 use Rattle.names.specs.Placed.{placed}
 use Rattle.names.specs.declared.placed.Placed.{Placed}
 use Rattle.names.specs.declared.refusal.Refusal.{Refusal}
@@ -52,6 +52,17 @@ abbrev pub refusal_of : ℕ → List ℕ → Option Refusal
 refusal_of limit bytes =
     if valid_len limit bytes == length bytes then None
     else Some (refusal_with (utf8_valid_len bytes - valid_len limit bytes) (valid_len limit bytes))
+
+-- the bytes are refused for this, whatever comes after them
+abbrev pub StaysRefused : ℕ → List ℕ → Refusal → Type 0
+StaysRefused limit bytes refusal = (more : List ℕ) → refusal_of limit (bytes ++ more) ≡ Some refusal
+
+-- Why bytes whose first character, if one begins them, doesn't fit are refused whatever comes after them:
+-- a whole character begins them, or none can any more.
+abbrev pub settled_refusal : List ℕ → ℕ → Option Refusal
+settled_refusal rest at =
+    if nat_lt 0 (utf8_valid_len rest) then Some (TooLarge at)
+    else option_map (λ _. NotUtf8 at) (utf8_error_len rest)
 
 -- no character stands at the front of the bytes
 abbrev pub BeginsNoCharacter : List ℕ → Type 0

@@ -1,7 +1,6 @@
 //! How a character is handed over.
 
 ghost use Rattle.std.specs.Prelude.{◌≡◌, ◌<◌, Bool, ℕ, [], ◌∷◌, IsTrue};
-ghost use Rattle.names.specs.Placed.{is_noncharacter};
 ghost use Rattle.names.specs.Sink.{Hands};
 ghost use Rattle.htext.specs.declared.Bom.{Bom as Mark};
 ghost use Rattle.htext.specs.Text.{is_dropped_mark, read_as};
@@ -10,14 +9,9 @@ ghost use Rattle.htext.specs.Items.{Character, items, items_of, is_stray_control
 use crate::Bom;
 use crate::decoder::MAX_INPUT;
 use crate::sink::CharSink;
-use names::{ErrorCode, ParseError, Refusal};
+use names::{ErrorCode, ParseError, Refusal, is_noncharacter};
 
 const BYTE_ORDER_MARK: char = '\u{FEFF}';
-
-/// How many code points a plane has; the last two of each are noncharacters.
-const PLANE: u32 = 0x1_0000;
-
-const FIRST_OF_LAST_TWO: u32 = 0xFFFE;
 
 /// Hands over what a character is in the text, after its errors.
 #[inline]
@@ -89,7 +83,7 @@ fn hand_read<S: CharSink>(ch: char, at: u64, sink: &mut S) -> Result<(), Refusal
             at,
         })?;
     }
-    if is_noncharacter(ch) {
+    if is_noncharacter(ch as u32) {
         sink.take_error(ParseError {
             code: ErrorCode::NoncharacterInInputStream,
             at,
@@ -102,10 +96,4 @@ fn is_stray_control(ch: char) -> bool
     ensures { result ≡ is_stray_control ch }
 {
     ch.is_control() && !(ch == '\0' || ch.is_ascii_whitespace())
-}
-
-fn is_noncharacter(ch: char) -> bool
-    ensures { result ≡ is_noncharacter ch }
-{
-    matches!(ch, '\u{FDD0}'..='\u{FDEF}') || ch as u32 % PLANE >= FIRST_OF_LAST_TWO
 }

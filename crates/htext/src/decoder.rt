@@ -6,7 +6,7 @@ ghost use Rattle.htext.specs.Text.{refusal_of, decoded, valid_len};
 ghost use Rattle.htext.specs.Decoding.{HasFed, Feeds, answer_at_end};
 
 use crate::Bom;
-use crate::reading::{Reading, refusal_at};
+use crate::reading::Reading;
 use crate::sink::CharSink;
 use names::Refusal;
 use std::alloc::Global;
@@ -19,7 +19,7 @@ pub const MAX_INPUT: u64 = 1_073_741_824;
 #[derive(Drop)]
 pub struct Decoder {
     reading: Reading,
-    /// What has been fed and not been read: the beginning of a character that a piece has cut.
+    /// The bytes that have been fed and not read: the beginning of a character.
     undecoded: Vec<u8>,
     refused: Option<Refusal>,
 }
@@ -40,7 +40,7 @@ impl Model for Decoder {
 }
 
 impl Decoder {
-    /// A decoder that takes at most `limit` bytes.
+    /// A decoder that accepts at most `limit` bytes.
     pub fn new(alloc: Global, bom: Bom, limit: u64) -> Decoder
         requires { limit ≤ MAX_INPUT }
         ensures fed { HasFed result [] }
@@ -60,7 +60,9 @@ impl Decoder {
         }
     }
 
-    /// Reads the next piece of the input, and hands its text to the sink. After an error each call answers that error.
+    /// Reads the next piece of the input, and hands its text to the sink. The input is refused as soon as the refusal no
+    /// longer depends on what follows: at a byte that no character can have there, and at the end of the first character
+    /// past the limit. After an error, each call returns that error.
     pub fn feed<S: CharSink>(&mut self, bytes: &[u8], sink: &mut S) -> Result<(), Refusal>
         ensures feeds { (fed : List ℕ) → HasFed self.old fed
             → Feeds S.gives self.old.bom self.old.limit fed bytes.now sink.old result sink.new }
@@ -83,8 +85,8 @@ impl Decoder {
         answer
     }
 
-    // The same for a decoder that has refused nothing yet, which doesn't keep its refusal. A character that the last piece
-    // has cut is joined byte by byte; what follows is read in its place.
+    // The same for a decoder that has refused nothing yet, which doesn't keep its refusal. A character that a piece has cut is
+    // completed byte by byte; the rest is read without a copy.
     fn read_on<S: CharSink>(&mut self, bytes: &[u8], sink: &mut S) -> Result<(), Refusal>
         ensures feeds { (fed : List ℕ) → HasFed self.old fed
             → Feeds S.gives self.old.bom self.old.limit fed bytes.now sink.old result sink.new }
@@ -101,7 +103,7 @@ impl Decoder {
         Ok(())
     }
 
-    // The same for one byte, after bytes that are not decoded.
+    // The same for one byte, after undecoded ones.
     fn read_byte<S: CharSink>(&mut self, byte: u8, sink: &mut S) -> Result<(), Refusal>
         ensures feeds { (fed : List ℕ) → HasFed self.old fed
             → Feeds S.gives self.old.bom self.old.limit fed (byte ∷ []) sink.old result sink.new }
@@ -115,7 +117,7 @@ impl Decoder {
         Ok(())
     }
 
-    // The same for a piece, where all bytes before it are decoded.
+    // The same for a piece, where no undecoded byte comes before it.
     fn read_piece<S: CharSink>(&mut self, bytes: &[u8], sink: &mut S) -> Result<(), Refusal>
         requires { self.old.undecoded ≡ [] }
         ensures feeds { (fed : List ℕ) → HasFed self.old fed
@@ -129,14 +131,14 @@ impl Decoder {
         Ok(())
     }
 
-    /// How many bytes have been read: those of the valid front.
+    /// The number of bytes that have been read: those of the longest front that is UTF-8 and fits.
     pub fn read(&self) -> u64
         ensures { result ≡ self.now.read }
     {
         self.reading.read
     }
 
-    /// Says that the input has ended. After an error each call answers that error.
+    /// Ends the input, which must not end inside a character. After an error, each call returns that error.
     pub fn finish<S: CharSink>(&mut self, sink: &mut S) -> Result<(), Refusal>
         ensures answer { (fed : List ℕ) → HasFed self.old fed
             → result ≡ answer_at_end (refusal_of self.old.limit fed) }
@@ -153,17 +155,16 @@ impl Decoder {
         if let Some(refusal) = self.refused {
             return Err(refusal);
         }
-        let rest = self.undecoded.as_slice();
-        if rest.is_empty() {
+        if self.undecoded.is_empty() {
             return Ok(());
         }
-        let refusal = refusal_at(rest, self.read());
+        let refusal = Refusal::NotUtf8 { at: self.read() };
         self.refused = Some(refusal);
         Err(refusal)
     }
 }
 
-/// Takes the first bytes away.
+/// Removes the first bytes.
 fn remove_front(bytes: &mut Vec<u8>, count: usize)
     requires { count ≤ vec_len bytes.old }
     ensures { bytes.new.items ≡ drop count bytes.old.items }

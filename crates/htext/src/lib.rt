@@ -6,11 +6,13 @@ mod character;
 pub mod decoder;
 pub mod laws;
 mod reading;
+pub mod run;
 pub mod sink;
 #[cfg(test)]
 mod tests;
 
 pub use decoder::{Decoder, MAX_INPUT};
+pub use run::plain_run;
 pub use sink::CharSink;
 
 /// What becomes of a byte order mark (EF BB BF) at the front of an input.

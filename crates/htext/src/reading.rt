@@ -1,24 +1,25 @@
 //! How far an input has been read.
 
-ghost use Rattle.std.specs.Prelude.{◌≡◌, ℕ, ◌+◌, ◌-◌, ◌≤◌, ◌++◌, List, length, take, drop, Ok, Err, IfOk, OnOk, MatchResult};
+ghost use Rattle.std.specs.Prelude.{◌≡◌, ℕ, ◌+◌, ◌-◌, ◌<◌, ◌≤◌, ◌++◌, true, false, List, length, take, drop, Ok, Err, IfOk, OnOk, MatchResult};
+ghost use Rattle.std.specs.List.{list_all};
 ghost use Rattle.std.specs.Str.{chars};
 ghost use Rattle.std.specs.Str.Lossy.{utf8_valid_len};
 ghost use Rattle.names.specs.Placed.{placed};
 ghost use Rattle.names.specs.Sink.{Hands};
+ghost use Rattle.names.specs.declared.refusal.Refusal.{Refusal as Refused};
 ghost use Rattle.htext.specs.declared.decoder.TheConstants.{MAX_INPUT};
-ghost use Rattle.htext.specs.Text.{normalized, ends_in_return, refusal_with};
+ghost use Rattle.htext.specs.Text.{normalized, ends_in_return, settled_refusal, StaysRefused};
 ghost use Rattle.htext.specs.Items.{items};
+ghost use Rattle.htext.specs.Run.{is_plain_byte};
 ghost use Rattle.htext.specs.Decoding.{HasRead, Feeds, HandsNew};
 
 use crate::Bom;
 use crate::character::hand_char;
 use crate::decoder::MAX_INPUT;
+use crate::run::plain_run;
 use crate::sink::CharSink;
 use names::Refusal;
 use simdutf8::compat::from_utf8;
-
-/// No character has more bytes.
-const LONGEST_CHARACTER: usize = 4;
 
 /// How far an input has been read.
 #[derive(Drop)]
@@ -34,8 +35,8 @@ pub(crate) struct Reading {
 }
 
 impl Reading {
-    /// Reads the longest front of the bytes that is UTF-8 and fits, hands its text to the sink, and answers its length. Where
-    /// no fewer bytes are left than the longest character has, no character begins there, and the bytes are refused.
+    /// Reads the longest front of the bytes that is UTF-8 and fits, hands its text to the sink, and returns its length. The
+    /// bytes are refused as soon as what is left can't become a character that fits.
     pub(crate) fn advance<S: CharSink>(
         &mut self,
         bytes: &[u8],
@@ -46,7 +47,8 @@ impl Reading {
             → MatchResult result
             (λ count. HandsNew S.gives self.old.bom self.old.limit fed (fed ++ piece) sink.old (Ok tt) sink.new
             × HasRead self.new.limit self.new.read self.new.after_return (fed ++ piece)
-            × (drop count bytes.now ≡ drop self.new.read (fed ++ piece)))
+            × (drop count bytes.now ≡ drop self.new.read (fed ++ piece))
+            × ((refusal : Refused) → StaysRefused self.old.limit (fed ++ piece) refusal → ⊥))
             (λ e. Feeds S.gives self.old.bom self.old.limit fed piece sink.old (Err e) sink.new) }
         ensures few { IfOk result (λ count. (count ≤ length bytes.now) × (length bytes.now ≤ count + 3)) }
         ensures bom { self.new.bom ≡ self.old.bom }
@@ -56,13 +58,13 @@ impl Reading {
         let text = valid_text(&bytes[..room]);
         self.hand_text(text, sink)?;
         let rest = &bytes[text.len()..];
-        if rest.len() < LONGEST_CHARACTER {
-            return Ok(text.len());
+        match settled_refusal(rest, self.read) {
+            Some(refusal) => Err(refusal),
+            None => Ok(text.len()),
         }
-        Err(refusal_at(rest, self.read))
     }
 
-    // Reads a text, and hands it to the sink.
+    // Hands a text to the sink, as the next of the input.
     fn hand_text<S: CharSink>(&mut self, text: &str, sink: &mut S) -> Result<(), Refusal>
         requires { self.old.read + length text.now ≤ self.old.limit }
         ensures handed { Hands S.gives sink.old
@@ -72,15 +74,39 @@ impl Reading {
         ensures bom { self.new.bom ≡ self.old.bom }
         ensures limit { self.new.limit ≡ self.old.limit }
     {
-        let base = self.read;
+        let mut rest = text;
+        let mut place = self.read;
         let mut after_return = self.after_return;
-        for (index, ch) in text.char_indices() {
-            hand_char(self.bom, after_return, ch, base + index as u64, sink)?;
+        while let Some(ch) = rest.chars().next() {
+            let run = run_at(rest, after_return);
+            if run > 0 {
+                sink.take_run(&rest.as_bytes()[..run], place)?;
+                place += run as u64;
+                rest = &rest[run..];
+                continue;
+            }
+            hand_char(self.bom, after_return, ch, place, sink)?;
             after_return = ch == '\r';
+            place += ch.len_utf8() as u64;
+            rest = &rest[ch.len_utf8()..];
         }
         self.after_return = after_return;
-        self.read += text.len() as u64;
+        self.read = place;
         Ok(())
+    }
+}
+
+/// How many plain characters stand at the front of a text; none after a CR, where an LF is not handed over.
+#[inline]
+fn run_at(text: &str, after_return: bool) -> usize
+    ensures within { result ≤ length text.now }
+    ensures plain { list_all is_plain_byte (take result text.now) ≡ true }
+    ensures after_return { 0 < result → after_return ≡ false }
+{
+    if after_return {
+        0
+    } else {
+        plain_run(text.as_bytes())
     }
 }
 
@@ -94,13 +120,14 @@ fn valid_text(bytes: &[u8]) -> &str
     }
 }
 
-/// Why bytes that begin with no character that fits are refused.
-pub(crate) fn refusal_at(bytes: &[u8], at: u64) -> Refusal
-    ensures { result ≡ refusal_with (utf8_valid_len bytes.now) at }
+/// Why the bytes after the valid front, which ends at `at`, are refused whatever follows them, if they are.
+fn settled_refusal(rest: &[u8], at: u64) -> Option<Refusal>
+    ensures { result ≡ settled_refusal rest.now at }
 {
-    if valid_text(bytes).is_empty() {
-        Refusal::NotUtf8 { at }
-    } else {
-        Refusal::TooLarge { at }
+    match from_utf8(rest) {
+        Ok("") => None,
+        Ok(_) => Some(Refusal::TooLarge { at }),
+        Err(error) if error.valid_up_to() > 0 => Some(Refusal::TooLarge { at }),
+        Err(error) => error.error_len().map(|_| Refusal::NotUtf8 { at }),
     }
 }

@@ -4,10 +4,13 @@ use names::{ParseError, Refusal};
 
 /// Takes the characters of a text, and the errors of the input stream, each right before its character. It may refuse one.
 pub trait CharSink {
-    ghost use Rattle.std.specs.Prelude.{◌<◌, Result};
+    ghost use Rattle.std.specs.Prelude.{◌≡◌, ◌+◌, ◌<◌, ◌≤◌, Result, length, true};
+    ghost use Rattle.std.specs.List.{list_all};
+    ghost use Rattle.names.specs.Sink.{Hands};
     ghost use Rattle.names.specs.declared.refusal.Refusal.{Refusal as Refused};
     ghost use Rattle.htext.specs.declared.decoder.TheConstants.{MAX_INPUT};
     ghost use Rattle.htext.specs.Items.{CharItem, Character, InputError};
+    ghost use Rattle.htext.specs.Run.{is_plain_byte, run_items};
 
     /// A step of the sink: as it was, what it was handed, its answer, and as it is then.
     ghost gives: { Self → CharItem → Result (Unit {0}) Refused → Self → Type 0 };
@@ -20,4 +23,17 @@ pub trait CharSink {
     /// Takes an error of the input stream, at the place of the character that is handed over next.
     fn take_error(&mut self, error: ParseError) -> Result<(), Refusal>
         ensures { gives self.old (InputError error) result self.new };
+
+    /// Takes a run of plain characters, each a byte, the first of which is at `at`. It is the same as taking them one by one,
+    /// up to the first that is refused.
+    fn take_run(&mut self, run: &[u8], at: u64) -> Result<(), Refusal>
+        requires plain { list_all is_plain_byte run.now ≡ true }
+        requires within { at + length run.now ≤ MAX_INPUT }
+        ensures { Hands gives self.old (run_items at run.now) result self.new }
+    {
+        for (index, byte) in run.iter().enumerate() {
+            self.take_char(char::from(*byte), at + index as u64)?;
+        }
+        Ok(())
+    }
 }

@@ -1,5 +1,5 @@
 // Worked rows, each read whole, cut at every byte, and byte by byte.
-use crate::{Bom, CharSink, Decoder, MAX_INPUT};
+use crate::{Bom, CharSink, Decoder, MAX_INPUT, plain_run};
 use names::{ErrorCode, ParseError, Refusal};
 use std::alloc::Global;
 use std::process::Abort;
@@ -210,6 +210,49 @@ fn bytes_are_refused_at_their_place(rt: HostRuntime) -> Result<(), Fail> {
     Ok(())
 }
 
+// The last byte of each row is refused in the call that feeds it, and none before it is.
+#[test]
+fn bytes_are_refused_at_once(rt: HostRuntime) -> Result<(), Fail> {
+    let alloc = rt.alloc();
+    let not_utf8 = |at| Refusal::NotUtf8 { at };
+    let too_large = |at| Refusal::TooLarge { at };
+    let rows: [(&[u8], u64, Refusal); 18] = [
+        (b"a\xFF", 40, not_utf8(1)),
+        (b"\x80", 40, not_utf8(0)),
+        (b"\xC0", 40, not_utf8(0)),
+        (b"\xC1", 40, not_utf8(0)),
+        (b"\xF5", 40, not_utf8(0)),
+        (b"\xC2a", 40, not_utf8(0)),
+        (b"\xE2\x28", 40, not_utf8(0)),
+        (b"\xE0\x9F", 40, not_utf8(0)),
+        (b"\xED\xA0", 40, not_utf8(0)),
+        (b"\xF0\x80", 40, not_utf8(0)),
+        (b"\xF4\x90", 40, not_utf8(0)),
+        (b"\xE2\x82\xC2", 40, not_utf8(0)),
+        (b"ab\xF0\x9F\x98\x28", 40, not_utf8(2)),
+        (b"a", 0, too_large(0)),
+        (b"abcde", 4, too_large(4)),
+        (b"abc\xC2\xA2", 4, too_large(3)),
+        (b"abc\xF4\x8F\xBF\xBF", 4, too_large(3)),
+        (b"abc\xE2\xFF", 4, not_utf8(3)),
+    ];
+    for (bytes, limit, refusal) in rows {
+        let (front, last) = bytes.split_at(bytes.len() - 1);
+        for size in [1, 40] {
+            let mut sink = Collected {
+                items: Vec::new(alloc),
+                room: usize::MAX,
+            };
+            let mut decoder = Decoder::new(alloc, Bom::Drop, limit);
+            for piece in front.chunks(size) {
+                assert_eq!(rt; decoder.feed(piece, &mut sink), Ok(()));
+            }
+            assert_eq!(rt; decoder.feed(last, &mut sink), Err(refusal));
+        }
+    }
+    Ok(())
+}
+
 #[test]
 fn a_sink_refuses(rt: HostRuntime) -> Result<(), Fail> {
     let row = Row {
@@ -221,4 +264,38 @@ fn a_sink_refuses(rt: HostRuntime) -> Result<(), Fail> {
         answer: Err(Refusal::TooDeep { at: 1 }),
     };
     check(&rt, rt.alloc(), &row)
+}
+
+// A byte that is not plain ends a run at each place, for lengths below and above those of a step.
+#[test]
+fn plain_runs_are_counted(rt: HostRuntime) -> Result<(), Fail> {
+    let alloc = rt.alloc();
+    let stops = [0, 8, 11, 13, 14, 31, b'&', b'<', 0x7F, 0x80, 0xC2, 0xFF];
+    let plain = [
+        b'\t', b'\n', 0x0C, b' ', b'%', b'\'', b';', b'=', b'~', b'a',
+    ];
+    let mut text: Vec<u8> = Vec::new(alloc);
+    for length in 0..101 {
+        assert_eq!(rt; plain_run(&text), length);
+        for place in 0..length {
+            let mut changed = Vec::from_slice(alloc, &text)?;
+            if let Some(byte) = changed.get_mut(place) {
+                *byte = stops[(length + place) % stops.len()];
+            }
+            assert_eq!(rt; plain_run(&changed), place);
+        }
+        text.push(plain[length % plain.len()])?;
+    }
+    for byte in 0..=255_u8 {
+        let is_plain = match byte {
+            b'<' | b'&' => false,
+            b'\t' | b'\n' | 0x0C => true,
+            _ => (0x20..=0x7E).contains(&byte),
+        };
+        assert_eq!(rt;
+            plain_run(&[byte, b'a', b'<']),
+            if is_plain { 2 } else { 0 }
+        );
+    }
+    Ok(())
 }

@@ -1,9 +1,9 @@
 -- Texts for all numbers.
 use Rattle.std.proofs.Common.{◌≡◌, ℕ, ◌+◌, ◌<◌, ◌≤◌, zero, suc, Bool, true, false, cond, List, [], ◌∷◌, length, map, sym, refl, ap, ◌∙◌, subst, arith, inl, inr}
-use Rattle.std.specs.Prelude.{bytes_eq, replicate, nat_eq, nat_le, ◌&&◌}
+use Rattle.std.specs.Prelude.{bytes_eq, replicate, nat_eq, nat_le}
 use Rattle.std.specs.List.{list_all}
 use Rattle.std.proofs.lemmas.List.{length-replicate, length-append, get_or_past}
-use Rattle.std.proofs.lemmas.Bool.{cases_lt, leb-true, lt-ltb, le-ltb}
+use Rattle.std.proofs.lemmas.Bool.{cases_lt, leb-true, lt-ltb, le-ltb, and_parts}
 use Rattle.std.proofs.lemmas.Bool.Decides.{eqb_tells}
 use Rattle.std.proofs.lemmas.Option.{slice_get-get_or, slice_get_within, get_or_from_slice_get}
 use Rattle.names.specs.declared.tag.Tag.{Tag}
@@ -65,14 +65,10 @@ longest = 16
 abbrev are_short : List Tag → Bool
 are_short ts = list_all (λ t. nat_le (length (tag_text t)) longest) ts
 
-both_true : (a b : Bool) → (a && b) ≡ true → (a ≡ true) × (b ≡ true)
-both_true true b e = (refl, e)
-both_true false b e = cc
-
 tag_among-long : (ts : List Tag) (text : List ℕ) → are_short ts ≡ true → longest < length text → tag_among ts text ≡ Other
 tag_among-long [] text short long = refl
 tag_among-long (t ∷ ts) text short long =
-    let (first, rest) = both_true (nat_le (length (tag_text t)) longest) (are_short ts) short in
+    let (first, rest) = and_parts (nat_le (length (tag_text t)) longest) (are_short ts) short in
     let no : bytes_eq (tag_text t) text ≡ false = different (tag_text t) text (λ e. let k : length (tag_text t) ≡ length text = ap length e in let le : length (tag_text t) ≤ 16 = leb-true (length (tag_text t)) 16 first in omega (arith, le, k)) in
     ap (λ (v : Bool). cond v t (tag_among ts text)) no ∙ tag_among-long ts text rest long
 

@@ -8,3 +8,5 @@ pub mod Sink
 pub mod Placed
 pub mod Rows
 pub mod Spelling
+pub mod RefusalText
+pub mod CodeRows

@@ -14,7 +14,7 @@ pub struct Attr {
 }
 
 impl Attr {
-    /// An equal one.
+    /// A copy of the attribute.
     pub fn copy(&self, alloc: Global) -> Result<Attr, AllocError>
         ensures name { IfOk result (λ copy. copy.name ≡ self.now.name) }
         ensures value { IfOk result (λ copy. string_bytes copy.value ≡ string_bytes self.now.value) }

@@ -73,7 +73,7 @@ pub enum ErrorCode {
     TreeText,
 }
 
-/// A parse error, and the byte of the input at which it stands (from 0).
+/// A parse error, and its place: a byte of the input (from 0).
 #[derive(Clone, Copy, Debug, PartialEq, Eq)]
 pub struct ParseError {
     pub code: ErrorCode,
@@ -81,7 +81,7 @@ pub struct ParseError {
 }
 
 impl ErrorCode {
-    /// The code as it is printed.
+    /// The code as the HTML Standard spells it, and as it is printed. A code of the tree rules is `tree-` and the mode.
     pub fn text(self) -> &'static str
         ensures { result.now ≡ code_text self }
     {
@@ -187,75 +187,11 @@ impl ErrorCode {
         }
     }
 
-    /// Its place among the errors at one byte.
+    /// The order of the errors at one byte: those of the input stream, of the tokenizer and of the tree rules, each group
+    /// sorted by the bytes of its texts.
     pub fn rank(self) -> u8
         ensures { result ≡ code_rank self }
     {
-        match self {
-            ErrorCode::ControlCharacterInInputStream => 0,
-            ErrorCode::NoncharacterInInputStream => 1,
-            ErrorCode::AbruptClosingOfEmptyComment => 2,
-            ErrorCode::AbruptDoctypePublicIdentifier => 3,
-            ErrorCode::AbruptDoctypeSystemIdentifier => 4,
-            ErrorCode::AbsenceOfDigitsInNumericCharacterReference => 5,
-            ErrorCode::CdataInHtmlContent => 6,
-            ErrorCode::CharacterReferenceOutsideUnicodeRange => 7,
-            ErrorCode::ControlCharacterReference => 8,
-            ErrorCode::DuplicateAttribute => 9,
-            ErrorCode::EndTagWithAttributes => 10,
-            ErrorCode::EndTagWithTrailingSolidus => 11,
-            ErrorCode::EofBeforeTagName => 12,
-            ErrorCode::EofInComment => 13,
-            ErrorCode::EofInDoctype => 14,
-            ErrorCode::EofInScriptHtmlCommentLikeText => 15,
-            ErrorCode::EofInTag => 16,
-            ErrorCode::IncorrectlyClosedComment => 17,
-            ErrorCode::IncorrectlyOpenedComment => 18,
-            ErrorCode::InvalidCharacterSequenceAfterDoctypeName => 19,
-            ErrorCode::InvalidFirstCharacterOfTagName => 20,
-            ErrorCode::MissingAttributeValue => 21,
-            ErrorCode::MissingDoctypeName => 22,
-            ErrorCode::MissingDoctypePublicIdentifier => 23,
-            ErrorCode::MissingDoctypeSystemIdentifier => 24,
-            ErrorCode::MissingEndTagName => 25,
-            ErrorCode::MissingQuoteBeforeDoctypePublicIdentifier => 26,
-            ErrorCode::MissingQuoteBeforeDoctypeSystemIdentifier => 27,
-            ErrorCode::MissingSemicolonAfterCharacterReference => 28,
-            ErrorCode::MissingWhitespaceAfterDoctypePublicKeyword => 29,
-            ErrorCode::MissingWhitespaceAfterDoctypeSystemKeyword => 30,
-            ErrorCode::MissingWhitespaceBeforeDoctypeName => 31,
-            ErrorCode::MissingWhitespaceBetweenAttributes => 32,
-            ErrorCode::MissingWhitespaceBetweenDoctypePublicAndSystemIdentifiers => 33,
-            ErrorCode::NestedComment => 34,
-            ErrorCode::NoncharacterCharacterReference => 35,
-            ErrorCode::NullCharacterReference => 36,
-            ErrorCode::SurrogateCharacterReference => 37,
-            ErrorCode::UnexpectedCharacterAfterDoctypeSystemIdentifier => 38,
-            ErrorCode::UnexpectedCharacterInAttributeName => 39,
-            ErrorCode::UnexpectedCharacterInUnquotedAttributeValue => 40,
-            ErrorCode::UnexpectedEqualsSignBeforeAttributeName => 41,
-            ErrorCode::UnexpectedNullCharacter => 42,
-            ErrorCode::UnexpectedQuestionMarkInsteadOfTagName => 43,
-            ErrorCode::UnexpectedSolidusInTag => 44,
-            ErrorCode::UnknownNamedCharacterReference => 45,
-            ErrorCode::NonVoidHtmlElementStartTagWithTrailingSolidus => 46,
-            ErrorCode::TreeAfterAfterBody => 47,
-            ErrorCode::TreeAfterBody => 48,
-            ErrorCode::TreeAfterHead => 49,
-            ErrorCode::TreeBeforeHead => 50,
-            ErrorCode::TreeBeforeHtml => 51,
-            ErrorCode::TreeInBody => 52,
-            ErrorCode::TreeInCaption => 53,
-            ErrorCode::TreeInCell => 54,
-            ErrorCode::TreeInColumnGroup => 55,
-            ErrorCode::TreeInHead => 56,
-            ErrorCode::TreeInHeadNoscript => 57,
-            ErrorCode::TreeInRow => 58,
-            ErrorCode::TreeInTable => 59,
-            ErrorCode::TreeInTableBody => 60,
-            ErrorCode::TreeInTableText => 61,
-            ErrorCode::TreeInitial => 62,
-            ErrorCode::TreeText => 63,
-        }
+        self as u8
     }
 }

@@ -1,4 +1,4 @@
-//! The sets of names that the rules of the body and the serializer speak of (HTML Standard, 13.2.6.4.7 and 13.3).
+//! The sets of names that the rules of the body and the serializer use (HTML Standard, 13.2.6.4.7 and 13.3).
 
 ghost use Rattle.std.specs.Prelude.{◌≡◌};
 ghost use Rattle.names.specs.Sets.{is_block, may_stay_open, is_heading, is_table_section, belongs_in_head, is_void};
@@ -6,7 +6,7 @@ ghost use Rattle.names.specs.Sets.{is_block, may_stay_open, is_heading, is_table
 use crate::tag::Tag;
 
 impl Tag {
-    /// Whether the start tag of the name closes a p and its end tag is looked for in scope (13.2.6.4.7).
+    /// Whether a start tag of the name closes a p, and its end tag closes an element in scope (13.2.6.4.7).
     pub fn is_block(self) -> bool
         ensures { result ≡ is_block self }
     {
@@ -81,7 +81,7 @@ impl Tag {
         matches!(self, Tag::Tbody | Tag::Tfoot | Tag::Thead)
     }
 
-    /// Whether the start tag of the name is read by the rules of the head wherever it stands (13.2.6.4.7).
+    /// Whether a start tag of the name in the body is processed by the rules of the head (13.2.6.4.7).
     pub fn belongs_in_head(self) -> bool
         ensures { result ≡ belongs_in_head self }
     {

@@ -3,8 +3,8 @@
 ghost use Rattle.names.specs.Names.{Texts, AreNames};
 ghost use Rattle.names.specs.Spelling.{IsSpelled, spelling};
 
-/// There are texts for all numbers, each another one, that are those of a table for its own numbers. So what holds under any names
-/// that numbers are of says something of each table.
+/// A table's texts extend to distinct texts for all numbers. So what holds for every assignment of distinct texts to numbers
+/// holds for each table.
 pub fn each_table_spells()
     ensures { (names : Texts) → AreNames names → IsSpelled names (spelling names) }
 {}

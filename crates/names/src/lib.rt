@@ -1,4 +1,4 @@
-//! The vocabulary of the parser: names as numbers, the sets of names that the rules speak of, refusals, parse errors, and
+//! The vocabulary of the parser: names as numbers, the sets of names that its rules use, refusals, parse errors, and
 //! characters with their places.
 #![tactic(auto)]
 
@@ -17,7 +17,7 @@ pub mod tag;
 pub use attr::Attr;
 pub use error::{ErrorCode, ParseError};
 pub use laws::each_table_spells;
-pub use placed::Placed;
+pub use placed::{Placed, is_noncharacter};
 pub use raw::{RawKind, RefusedName};
 pub use refusal::{Refusal, TableFault};
 pub use table::{NameId, Names};

@@ -50,7 +50,7 @@ impl RefusedName {
 }
 
 impl Tag {
-    /// Which of the refused names it is.
+    /// The refused name, if it is one.
     pub fn refused_name(self) -> Option<RefusedName>
         ensures { result ≡ refused_name self }
     {

@@ -1,17 +1,19 @@
-//! What an input, a list or a limit is refused for.
+//! Why an input, a list or a limit is refused.
 
-ghost use Rattle.std.specs.Prelude.{◌≡◌};
+ghost use Rattle.std.specs.Prelude.{◌≡◌, Some, option_map};
+ghost use Rattle.names.specs.RefusalText.{cause_text, detail_of, name_of, number_of, refusal_text};
 ghost use Rattle.names.specs.declared.refusal.Refusal.TheVariants.{Memory};
 
 use crate::raw::RefusedName;
 use std::alloc::{AllocError, AllocFailed};
+use std::fmt;
 
 /// Why an entity table is refused.
 #[derive(Clone, Copy, Debug, PartialEq, Eq)]
 pub enum TableFault {
     /// The text is not JSON.
     Json,
-    /// The whole or the value of a key is not an object of the form that is wanted.
+    /// The whole, or the value of a key, is not an object with the required fields.
     Shape,
     /// A key is not `&`, then letters and digits, then at most one `;`.
     Key,
@@ -21,12 +23,13 @@ pub enum TableFault {
     Characters,
 }
 
-/// Why there is no answer. Places are bytes of the input, from 0.
+/// Why there is no result. Places are bytes of the input, from 0. It is displayed as its name, what it names, and its place or
+/// line: `NotUtf8 at 1`, `OutOfProfile svg at 4`, `BadTable Codepoints`, `BadQuirks line 2`, `Memory`.
 #[derive(Clone, Copy, Debug, PartialEq, Eq)]
 pub enum Refusal {
     /// The first byte of the first sequence that is not UTF-8, or that the input cuts off.
     NotUtf8 { at: u64 },
-    /// The `<` of a finished start tag that is left out of the profile.
+    /// The `<` of a complete start tag that is left out of the profile.
     OutOfProfile { name: RefusedName, at: u64 },
     /// The first character past the input limit.
     TooLarge { at: u64 },
@@ -34,21 +37,21 @@ pub enum Refusal {
     TooManyNodes { at: u64 },
     /// The token that would open one element more than the limit.
     TooDeep { at: u64 },
-    /// A growth was refused.
+    /// Out of memory.
     Memory,
     /// The reader failed.
     Read,
-    /// A context element that no fragment may have.
+    /// The name is no context element of a fragment.
     BadContext,
-    /// The entity table.
+    /// The entity table is refused.
     BadTable { cause: TableFault },
-    /// The first line of the quirks list that is not one of its forms, from 1.
+    /// The first line of the quirks list that has none of its forms, from 1.
     BadQuirks { line: u64 },
-    /// A limit out of its range.
+    /// A limit is out of its range.
     BadLimits,
-    /// The writer failed; a beginning of the text has gone out.
+    /// The writer failed; a beginning of the text may have been written.
     Write,
-    /// The first byte of what this version does not read yet.
+    /// The first byte of markup that this version does not read yet.
     NotYet { at: u64 },
 }
 
@@ -65,5 +68,117 @@ impl<T: Drop> From<AllocFailed<T>> for Refusal {
 
     fn from(_: AllocFailed<T>) -> Refusal {
         Refusal::Memory
+    }
+}
+
+impl TableFault {
+    /// The name of the fault.
+    pub fn name(self) -> &'static str
+        ensures { result.now ≡ cause_text self }
+    {
+        match self {
+            TableFault::Json => "Json",
+            TableFault::Shape => "Shape",
+            TableFault::Key => "Key",
+            TableFault::Codepoints => "Codepoints",
+            TableFault::Characters => "Characters",
+        }
+    }
+}
+
+impl Refusal {
+    /// The name of the refusal.
+    pub fn name(self) -> &'static str
+        ensures { result.now ≡ name_of self }
+    {
+        match self {
+            Refusal::NotUtf8 { .. } => "NotUtf8",
+            Refusal::OutOfProfile { .. } => "OutOfProfile",
+            Refusal::TooLarge { .. } => "TooLarge",
+            Refusal::TooManyNodes { .. } => "TooManyNodes",
+            Refusal::TooDeep { .. } => "TooDeep",
+            Refusal::Memory => "Memory",
+            Refusal::Read => "Read",
+            Refusal::BadContext => "BadContext",
+            Refusal::BadTable { .. } => "BadTable",
+            Refusal::BadQuirks { .. } => "BadQuirks",
+            Refusal::BadLimits => "BadLimits",
+            Refusal::Write => "Write",
+            Refusal::NotYet { .. } => "NotYet",
+        }
+    }
+
+    /// The element or the cause that it names, if it names one.
+    fn detail(self) -> Option<&'static str>
+        ensures { option_map (λ s. s.now) result ≡ detail_of self }
+    {
+        match self {
+            Refusal::OutOfProfile { name, .. } => Some(name.text()),
+            Refusal::BadTable { cause } => Some(cause.name()),
+            _ => None,
+        }
+    }
+
+    /// Its number, after the word that says what it counts: a byte of the input, or a line.
+    fn number(self) -> Option<(&'static str, u64)>
+        ensures { option_map (λ p. (p.0.now, p.1)) result ≡ number_of self }
+    {
+        match self {
+            Refusal::NotUtf8 { at }
+            | Refusal::OutOfProfile { at, .. }
+            | Refusal::TooLarge { at }
+            | Refusal::TooManyNodes { at }
+            | Refusal::TooDeep { at }
+            | Refusal::NotYet { at } => Some(("at", at)),
+            Refusal::BadQuirks { line } => Some(("line", line)),
+            _ => None,
+        }
+    }
+}
+
+impl fmt::Display for Refusal {
+    ghost output = { λ refusal. Some (refusal_text refusal) };
+
+    fn fmt<W: fmt::Write>(&self, f: &mut fmt::Formatter<W>) -> fmt::Result {
+        f.write_str(self.name())?;
+        if let Some(detail) = self.detail() {
+            write!(f, " {detail}")?;
+        }
+        if let Some((word, number)) = self.number() {
+            write!(f, " {word} {number}")?;
+        }
+        Ok(())
+    }
+}
+
+#[cfg(test)]
+mod tests {
+    use super::*;
+    use std::test::Fail;
+
+    #[test]
+    fn refusals_are_displayed(rt: HostRuntime) -> Result<(), Fail> {
+        for (refusal, text) in [
+            (Refusal::NotUtf8 { at: 1 }, "NotUtf8 at 1"),
+            (
+                Refusal::OutOfProfile {
+                    name: RefusedName::Svg,
+                    at: 4,
+                },
+                "OutOfProfile svg at 4",
+            ),
+            (
+                Refusal::BadTable {
+                    cause: TableFault::Codepoints,
+                },
+                "BadTable Codepoints",
+            ),
+            (Refusal::BadQuirks { line: 2 }, "BadQuirks line 2"),
+            (Refusal::BadLimits, "BadLimits"),
+            (Refusal::Memory, "Memory"),
+        ] {
+            assert_eq!(rt; format!(in rt.alloc(); "{refusal}")?.as_str(), text);
+        }
+        Ok(())
     }
 }

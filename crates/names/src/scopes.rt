@@ -1,4 +1,4 @@
-//! The sets of names that element scopes and implied end tags speak of (HTML Standard, 13.2.4.2 and 13.2.6.3).
+//! The sets of names of element scopes and implied end tags (HTML Standard, 13.2.4.2 and 13.2.6.3).
 
 ghost use Rattle.std.specs.Prelude.{◌≡◌};
 ghost use Rattle.names.specs.Sets.{has_implied_end, is_button, is_list, stops_scope, stops_list_item_scope, stops_button_scope, stops_table_scope};
@@ -6,7 +6,7 @@ ghost use Rattle.names.specs.Sets.{has_implied_end, is_button, is_list, stops_sc
 use crate::tag::Tag;
 
 impl Tag {
-    /// Whether the end tag of the name is implied where another end stands (13.2.6.3).
+    /// Whether an end tag of the name is generated where end tags are implied (13.2.6.3).
     pub fn has_implied_end(self) -> bool
         ensures { result ≡ has_implied_end self }
     {

@@ -28,7 +28,7 @@ impl Model for NameId {
 }
 
 impl NameId {
-    /// The number itself: its place in the table, from 0.
+    /// The number itself: the place of the name in the table, from 0.
     pub fn index(self) -> usize
         ensures { result ≡ self }
     {
@@ -44,7 +44,7 @@ impl NameId {
         NameId { index: TAGS.len() }
     }
 
-    /// Which known name it is.
+    /// The known name with this number, or `Tag::Other`.
     pub fn tag(self) -> Tag
         ensures { result ≡ tag_of self }
     {
@@ -69,10 +69,10 @@ impl Tag {
     }
 }
 
-/// The name of the attribute that tells whether an input is hidden.
+/// The name of the attribute that says whether an input is hidden.
 const TYPE: &str = "type";
 
-/// The texts of tags, no two of which are equal, in their order.
+/// The texts of tags in their order, no two of which are equal.
 fn tag_texts(alloc: Global, tags: &[Tag]) -> Result<IndexSet<String>, AllocError>
     requires { are_new [] (map tag_text tags.now) ≡ true }
     ensures { IfOk result (λ texts. HoldsTexts texts.keys (map tag_text tags.now)) }
@@ -84,8 +84,8 @@ fn tag_texts(alloc: Global, tags: &[Tag]) -> Result<IndexSet<String>, AllocError
     Ok(texts)
 }
 
-/// Texts in the order in which they came. The known names come first.
-#[derive(Drop)]
+/// A table of names: texts in the order in which they were added, the known names first.
+#[derive(Debug, Drop)]
 pub struct Names {
     texts: IndexSet<String>,
 }
@@ -114,7 +114,7 @@ impl Names {
         Ok(Names { texts })
     }
 
-    /// The number of a text, which a new text gets.
+    /// The number of a text. A new text is added to the table.
     pub fn intern(&mut self, alloc: Global, text: &str) -> Result<NameId, AllocError>
         ensures number { IfOk result (λ id. slice_get self.new id ≡ Some text.now) }
         ensures tag { IfOk result (λ id. tag_of id ≡ tag_named text.now) }
@@ -131,7 +131,7 @@ impl Names {
         }
     }
 
-    /// The text of a number.
+    /// The text of a name.
     pub fn text(&self, id: NameId) -> &str
         requires { IsOf self.now id }
         ensures text { slice_get self.now id ≡ Some result.now }
@@ -146,7 +146,7 @@ pub fn known_by_text()
     ensures { (names : Texts) (id : ℕ) (text : List ℕ) → AreNames names → slice_get names id ≡ Some text → tag_of id ≡ tag_named text }
 {}
 
-/// A known name and its number tell each other, and in every table the number has the name's text.
+/// A known name and its number determine each other, and in every table the number has the name's text.
 pub fn one_number()
     ensures tag { (t : KnownTag) → t ≢ Tag.Other → tag_of (number_of t) ≡ t }
     ensures number { (n : ℕ) → tag_of n ≢ Tag.Other → number_of (tag_of n) ≡ n }

@@ -1,9 +1,9 @@
-//! The names of tags that the rules speak of.
+//! The names of tags that the rules mention.
 
 ghost use Rattle.std.specs.Prelude.{◌≡◌};
 ghost use Rattle.names.specs.Tags.{tag_text};
 
-/// A tag's name that a rule, a set or the table of plain content speaks of, or another one.
+/// The name of a tag: one that a rule, a set or the table of plain content mentions, or another.
 #[derive(Clone, Copy, Debug, PartialEq, Eq)]
 pub enum Tag {
     A,
@@ -136,7 +136,7 @@ pub enum Tag {
     Other,
 }
 
-/// Every known tag, at the place that is the number of its name.
+/// The known tags, each at the index that is its name's number.
 pub(crate) static TAGS: [Tag; 127] = [
     Tag::A,
     Tag::Abbr,
@@ -268,7 +268,7 @@ pub(crate) static TAGS: [Tag; 127] = [
 ];
 
 impl Tag {
-    /// The name as it is written; nothing for another name than the known ones.
+    /// The name as it is written; empty for `Other`.
     pub fn text(self) -> &'static str
         ensures { result.now ≡ tag_text self }
     {

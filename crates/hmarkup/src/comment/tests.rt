@@ -1,4 +1,4 @@
-//! Whole texts, read by a walk.
+//! Comments, read character by character.
 
 use super::*;
 use crate::kept::Errors;
@@ -10,7 +10,7 @@ use names::ErrorCode::{
 use std::process::Abort;
 use std::test::Fail;
 
-/// A text after the opening mark, its data, the byte after it, and its errors.
+/// A text after the opening mark, the comment's data, the byte offset after it, and its errors.
 type Row = (&'static str, &'static str, u64, &'static [(ErrorCode, u64)]);
 
 /// What follows `<!--`, from byte 4 on.
@@ -44,7 +44,7 @@ const BOGUS: [Row; 4] = [
     (">", "", 2, &[]),
 ];
 
-/// Reads the text from byte `at` on: its data, and the byte after it.
+/// Reads the text, which begins at byte `at`; returns the comment's data and the byte offset after it.
 fn read(
     mut walk: CommentWalk,
     text: &str,
@@ -62,7 +62,7 @@ fn read(
     Ok((walk.into_data(), at))
 }
 
-/// Reads each row by a walk of this kind, from byte `at` on.
+/// Reads each row with a walk of this kind; its text begins at byte `at`.
 fn reads_rows(
     rt: &impl Abort,
     alloc: Global,
@@ -100,4 +100,31 @@ fn stops_where_the_sink_refuses(rt: HostRuntime) {
     let answer = read(CommentWalk::comment(rt.alloc()), "<!--!>", 4, &mut errors);
     assert_eq!(rt; answer.err(), Some(Refusal::Write));
     assert_eq!(rt; errors.kept.as_slice(), [(Nested, 8)].as_slice());
+}
+
+#[test]
+fn goes_on_after_read_characters(rt: HostRuntime) -> Result<(), Fail> {
+    let mut errors = Errors::new(rt.alloc(), 9);
+    let held = [Placed { ch: 'd', at: 2 }, Placed { ch: 'O', at: 3 }];
+    let mut walk = CommentWalk::bogus_after(rt.alloc(), &held)?;
+    walk.take_run("xé", 4, &mut errors)?;
+    let (data, after) = read(walk, "\0->b", 7, &mut errors)?;
+    assert_eq!(rt; data.as_str(), "dOxé\u{FFFD}-");
+    assert_eq!(rt; after, 10);
+    assert_eq!(rt; errors.kept.as_slice(), [(Null, 7)].as_slice());
+    Ok(())
+}
+
+#[test]
+fn takes_runs(rt: HostRuntime) -> Result<(), Fail> {
+    let mut errors = Errors::new(rt.alloc(), 9);
+    let mut walk = CommentWalk::comment(rt.alloc());
+    walk.take_run("", 4, &mut errors)?;
+    walk.take_char('-', 4, &mut errors)?;
+    walk.take_run("a é", 5, &mut errors)?;
+    let (data, after) = read(walk, "<!---->", 9, &mut errors)?;
+    assert_eq!(rt; data.as_str(), "-a é<!--");
+    assert_eq!(rt; after, 16);
+    assert_eq!(rt; errors.kept.as_slice(), [(Nested, 13)].as_slice());
+    Ok(())
 }

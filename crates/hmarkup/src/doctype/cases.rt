@@ -1,7 +1,7 @@
-//! Texts after `<!DOCTYPE`, each cut by the end of input at every character, and what is found: the byte after the doctype, its
-//! name, public and system identifier, whether it forces quirks, and the errors with their places.
+//! Texts after `<!DOCTYPE`, each cut off at every character, and the result: the byte offset after the doctype, its name,
+//! public and system identifier, whether it forces quirks mode, and the errors with their offsets.
 
-/// A line a text: it, `|`, and what is found.
+/// One case a line: the text, `|`, and the result.
 pub const CASES: &str = "|9 - - - quirks; 9 eof-in-doctype
 h|10 (h) - - quirks; 9 missing-whitespace-before-doctype-name; 10 eof-in-doctype
 ht|11 (ht) - - quirks; 9 missing-whitespace-before-doctype-name; 11 eof-in-doctype

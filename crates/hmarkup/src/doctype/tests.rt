@@ -1,4 +1,4 @@
-//! Whole texts, read by a walk.
+//! Doctypes, read character by character.
 
 use super::cases::CASES;
 use super::*;
@@ -6,7 +6,7 @@ use crate::kept::Errors;
 use std::process::Abort;
 use std::test::Fail;
 
-/// Reads the text from byte 9 on, and shows what is found as the cases do.
+/// Reads the text, which begins at byte 9, and prints the result in the form of the cases.
 fn shown(alloc: Global, text: &str) -> Result<String, Fail> {
     let mut errors = Errors::new(alloc, 9);
     let (doctype, after) = read(DoctypeWalk::new(alloc), text, &mut errors)?;
@@ -27,7 +27,7 @@ fn shown(alloc: Global, text: &str) -> Result<String, Fail> {
     Ok(shown)
 }
 
-/// Reads the text from byte 9 on: what it holds, and the byte after it.
+/// Reads the text, which begins at byte 9; returns the doctype and the byte offset after it.
 fn read(mut walk: DoctypeWalk, text: &str, errors: &mut Errors) -> Result<(Doctype, u64), Refusal> {
     let mut at = 9u64;
     for ch in text.chars() {

@@ -1,10 +1,10 @@
-//! Lists, and what they match.
+//! Quirks lists, and the identifiers they match.
 
 use super::*;
 use std::process::Abort;
 use std::test::Fail;
 
-/// A text that is no list, and its first bad line.
+/// A text that is not a list, and the number of its first bad line.
 const REFUSED: [(&str, u64); 12] = [
     ("public-is ", 1),
     ("public-is", 1),

@@ -5,7 +5,7 @@ use crate::target::write_all;
 use names::Refusal;
 use std::io;
 
-/// Gives or takes a byte a call, but for the one that fails.
+/// Moves one byte a call, except for the call that fails.
 #[derive(Drop)]
 pub struct Faulty {
     calls: u64,

@@ -1,4 +1,4 @@
-//! Runs over readers and writers that take a byte a call, and that fail.
+//! Runs over readers and writers that move one byte a call, and that fail.
 
 ghost use Rattle.std.specs.Prelude.{◌<◌};
 
@@ -125,7 +125,7 @@ impl Target for Writer {
     }
 }
 
-/// Runs over an input, and asks for this answer; what was written is handed back.
+/// Runs over an input, and expects this answer.
 fn expect_answer(
     rt: &impl Abort,
     alloc: Global,
@@ -180,7 +180,7 @@ fn a_read_that_fails(rt: HostRuntime) -> Result<(), Fail> {
 
 #[test]
 fn a_write_that_fails(rt: HostRuntime) -> Result<(), Fail> {
-    // One call a byte, and one that hands on what is held back.
+    // One call a byte, and one that flushes.
     for call in 1..58 {
         let mut reader = Reader::new(INPUT, NEVER);
         let mut writer = Writer::new(rt.alloc(), call);
@@ -213,11 +213,26 @@ fn a_refusal_writes_nothing(rt: HostRuntime) -> Result<(), Fail> {
 
 #[test]
 fn reading_stops_where_bytes_are_refused(rt: HostRuntime) -> Result<(), Fail> {
-    let mut reader = Reader::new(b"a\xFFbcdefghij", NEVER);
+    for piece in 1..6 {
+        // The call after the one that gives the refused byte fails, and is not made.
+        let mut reader = Reader::new(b"a\xFFbcdefghij", 3);
+        let mut writer = Writer::new(rt.alloc(), NEVER);
+        let refusal = Err(Refusal::NotUtf8 { at: 1 });
+        expect_answer(&rt, rt.alloc(), &mut reader, &mut writer, piece, refusal);
+        assert_eq!(rt; reader.calls, 2);
+        assert_eq!(rt; reader.failures(), 0);
+        assert_eq!(rt; writer.calls, 0);
+    }
+    Ok(())
+}
+
+#[test]
+fn reading_goes_on_while_a_character_may_come(rt: HostRuntime) -> Result<(), Fail> {
+    // The first bytes of U+1F600, and a read that fails before the last one.
+    let mut reader = Reader::new(b"a\xF0\x9F\x98\x80", 5);
     let mut writer = Writer::new(rt.alloc(), NEVER);
-    let refusal = Err(Refusal::NotUtf8 { at: 1 });
-    expect_answer(&rt, rt.alloc(), &mut reader, &mut writer, 4, refusal);
-    assert_eq!(rt; writer.calls, 0);
-    assert!(rt; reader.rest.len() > 4);
+    let failed = Err(Refusal::Read);
+    expect_answer(&rt, rt.alloc(), &mut reader, &mut writer, 1, failed);
+    assert_eq!(rt; reader.calls, 5);
     Ok(())
 }

@@ -1,5 +1,6 @@
 use Rattle.std.proofs.lemmas.Result.{err_from_is_err_and}
 use Rattle.std.proofs.Common.{ap, refl}
+use Rattle.std.specs.Char.{encode_utf8}
 use Rattle.hnodes.specs.Edits.{with_char}
 use Rattle.hnodes.specs.Links.{with_what}
 use Rattle.hnodes.specs.Rows.{row_of}
@@ -12,7 +13,7 @@ returns-in_ok-push-clause-ok c = changed _ _ _ _ _ (with_what (with_char c.args.
 
 pub returns-in_default : goal.returns-in_default
 returns-in_default c = record {
-  ok = changed _ _ _ _ _ (with_what (with_char c.args.c)) c.at.view_is c.requires c.index_mut.ensures.value (ap (λ w. record (row_of c.index_mut.result.now) { what = w }) (not_text c.args.c c.index_mut.result.now.content c.in_default.not-Text));
+  ok = changed _ _ _ _ _ (with_what (with_char c.args.c)) c.at.view_is c.requires c.index_mut.ensures.value (ap (λ w. record (row_of c.index_mut.result.now) { what = w }) (not_text (encode_utf8 c.args.c) c.index_mut.result.now.content c.in_default.not-Text));
   err = tt;
   memory = tt;
 }

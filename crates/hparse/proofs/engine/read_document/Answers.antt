@@ -1,7 +1,7 @@
-use Rattle.std.proofs.Common.{◌≡◌, ℕ, ◌<◌, List, [], length, take, drop, ap, subst, ◌∙◌, sym, arith}
+use Rattle.std.proofs.Common.{◌≡◌, ℕ, ◌<◌, ◌≤◌, List, [], length, take, drop, ap, subst, ◌∙◌, sym, arith}
 use Rattle.std.proofs.lemmas.Result.{err_from_is_err_and}
 use Rattle.std.specs.Io.KnownBytes.{Consumes}
-use Rattle.hparse.proofs.Turns.{few_turns, turned, refused_turn, ended, front_of_buffer, some_of_buffer}
+use Rattle.hparse.proofs.Turns.{few_turns, turned, refused_turn, failed_turn, ended, front_of_buffer, some_of_buffer, few_of_buffer}
 use Rattle.hparse.proofs.engine.read_document.Goals as goal
 
 pub returns-in-Some-eq0 : goal.returns-in-Some-eq0
@@ -11,15 +11,23 @@ returns-in-Some-eq0 g c =
     let some : 0 < length buffer = omega arith in
     let none : take c.in-Some-eq0.field-0 buffer ≡ [] = ap (λ (n : ℕ). take n buffer) c.in-Some-eq0.field-0-test in
     ended g.S.Source.left g.S.Source.failed c.args.input_limit c.loop-turn._turn c.args.source.now c.loop-turn.source c.read.new.self c.loop-turn.reading h (take c.in-Some-eq0.field-0 buffer)
-    c.in-Some-eq0.ensures.bytes.1 c.in-Some-eq0.ensures.count c.finish.result none (c.in-Some-eq0.ensures.bytes.2 c.in-Some-eq0.field-0-test some) (c.finish.ensures c.args.input_limit h.fed h.has_read)
+    c.in-Some-eq0.ensures.bytes.1 c.in-Some-eq0.ensures.count c.args.piece c.finish.result none (c.in-Some-eq0.ensures.bytes.2 c.in-Some-eq0.field-0-test some) (c.finish.ensures c.args.input_limit h.fed h.has_read)
+
+pub returns-in-None : goal.returns-in-None
+returns-in-None g c =
+    let h = c.loop-turn.invariant.0 in
+    failed_turn g.S.Source.left g.S.Source.failed c.args.input_limit c.loop-turn._turn c.args.source.now c.loop-turn.source c.read.new.self c.loop-turn.reading h c.args.piece
+    c.in-None.ensures.bytes c.in-None.ensures.count
 
 pub returns-in_err-feed-in-Some : goal.returns-in_err-feed-in-Some
 returns-in_err-feed-in-Some g c =
     let h = c.loop-turn.invariant.0 in
     let e = err_from_is_err_and c.from_residual-in_err-feed-in-Some.result c.from_residual-in_err-feed-in-Some.ensures.1 in
     let same = front_of_buffer c.in-Some.count c.loop-turn.buffer.len c.read.new.buffer (drop (length c.read.new.buffer) c.loop-turn.buffer.items) c.deref.result.now c.deref.ensures.value (c.read.auto.buffer ∙ c.deref_mut.ensures.len) in
+    let few : length (take c.in-Some.count c.deref.result.now) ≤ c.args.piece =
+    subst (λ (bytes : List ℕ). length bytes ≤ c.args.piece) (sym same) (few_of_buffer c.in-Some.count c.args.piece c.read.new.buffer (c.read.auto.buffer ∙ c.deref_mut.ensures.len ∙ c.loop-turn.invariant.1) c.in-Some.ensures.bytes.0) in
     rw (e.1, e.2) (refused_turn g.S.Source.left g.S.Source.failed c.args.input_limit c.loop-turn._turn c.args.source.now c.loop-turn.source c.read.new.self c.loop-turn.reading h (take c.in-Some.count c.deref.result.now)
-    (subst (Consumes (g.S.Source.left c.loop-turn.source) (g.S.Source.left c.read.new.self)) (sym same) c.in-Some.ensures.bytes.1) c.in-Some.ensures.count c.feed.new.self c.in_err-feed-in-Some.field-0.0
+    (subst (Consumes (g.S.Source.left c.loop-turn.source) (g.S.Source.left c.read.new.self)) (sym same) c.in-Some.ensures.bytes.1) c.in-Some.ensures.count c.args.piece c.feed.new.self c.in_err-feed-in-Some.field-0.0 few
     (c.in_err-feed-in-Some.ensures c.args.input_limit h.fed h.has_read))
 
 pub loop-turn-preserved : goal.loop-turn-preserved

@@ -1,20 +1,30 @@
-use Rattle.hopen.proofs.Opened.{found}
-use Rattle.hopen.proofs.Nearest.{take_to_nearest, no_words}
-use Rattle.hopen.specs.Stack.{is_node, current, above, OpenNodes}
-use Rattle.hopen.specs.Opens.{open_of}
-use Rattle.std.proofs.Common.{ℕ, ◌∙◌, ap, sym, map, reverse, take}
+use Rattle.std.proofs.Common.{◌≡◌, ℕ, Some, suc, ◌+◌, ◌-◌, ◌≤◌, length, drop, ◌∙◌, ap, sym, arith}
 use Rattle.std.specs.Option.{option_map}
-use Rattle.hopen.proofs.Searches.{current-nearest}
+use Rattle.std.proofs.Math.Seq.{drop-length}
+use Rattle.hopen.specs.Kept.{opened_by, stack_of}
+use Rattle.hopen.specs.declared.kept.Item.{Item}
+use Rattle.hopen.specs.Opens.{open_of}
+use Rattle.hopen.specs.Stack.{OpenNodes, is_node, current, above}
+use Rattle.hopen.proofs.Nearest.{words, no_words, slice_get_nearest}
+use Rattle.hopen.proofs.Searches.{current-drop}
+use Rattle.hopen.proofs.Opened.{found}
 use Rattle.hopen.proofs.stack.OpenStack.above.Goals as goal
 
 pub returns-in_err-index : goal.returns-in_err-index
 returns-in_err-index c = ap (option_map open_of) c.from_residual.ensures ∙ ap current (sym (no_words (is_node c.args.node) c.args.self.now.stack c.in_err-index.ensures.found).after_is)
 
+pub returns-then-index-eq0 : goal.returns-then-index-eq0
+returns-then-index-eq0 c =
+    let stack = c.args.self.now.stack in
+    let up = length stack - 1 - c.in_ok-index.index in
+    let all : suc up ≡ length stack = omega (arith, c.in_ok-index.ensures.within) in
+    sym (ap current ((words (is_node c.args.node) stack up c.in_ok-index.ensures.found).after_is ∙ ap (λ n. drop n stack) all ∙ drop-length stack))
+
 pub returns : goal.returns
 returns c =
+    let items = c.self.inside.items.items in
     let f = found c.self.inside c.args.self.now (is_node c.args.node) c.in_ok-index.index c.self.view_is c.in_ok-index.ensures.found c.in_ok-index.ensures.within in
-    ap (option_map open_of) (c.copied.ensures ∙ c.last.ensures.value)
-    ∙ current-nearest open_of (take c.in_ok-index.index c.deref.result.now)
-    ∙ ap (λ l. current (reverse (map open_of l))) (ap (take c.in_ok-index.index) c.deref.ensures.value)
-    ∙ ap current (take_to_nearest open_of (is_node c.args.node) c.self.inside.items.items c.in_ok-index.index f.up f.place f.sum)
+    let sum : c.in_ok-index.index - 1 + suc (suc f.up) ≡ length items = omega (arith, f.sum) in
+    ap (λ (x : Item). Some (opened_by x)) c.index-2.ensures
+    ∙ sym (ap current (words (is_node c.args.node) (stack_of items) f.up f.place).after_is ∙ current-drop (suc f.up) (stack_of items) ∙ slice_get_nearest opened_by items (c.in_ok-index.index - 1) (suc f.up) c.index-2.result.now sum)
     ∙ ap (λ (n : OpenNodes ℕ). current (above c.args.node n.stack)) c.self.view_is

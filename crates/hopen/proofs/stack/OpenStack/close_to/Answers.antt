@@ -1,9 +1,29 @@
-use Rattle.std.proofs.Common.{◌∙◌, ap, map, reverse, take}
+use Rattle.std.proofs.Common.{◌≡◌, ℕ, ◌-◌, ◌+◌, List, length, drop, ap, sym, ◌∙◌, arith}
+use Rattle.std.proofs.lemmas.List.{length-drop, drop-drop}
+use Rattle.hopen.specs.Stack.{OpenNodes}
 use Rattle.hopen.specs.Nearest.{after}
-use Rattle.hopen.specs.Opens.{open_of, is_sought}
-use Rattle.hopen.proofs.Opened.{seen, left_above}
+use Rattle.hopen.specs.Opens.{is_sought}
+use Rattle.hopen.proofs.Opened.{left_is}
 use Rattle.hopen.proofs.stack.OpenStack.close_to.Goals as goal
+
+pub loop-self-preserved : goal.loop-self-preserved
+loop-self-preserved c =
+    let s = c.loop-self.self.stack in
+    let popped : c.pop.new.self.stack ≡ drop 1 s = ap (λ (n : OpenNodes ℕ). n.stack) c.pop.ensures.rest in
+    let many : length c.pop.new.self.stack ≡ length s - 1 = ap length popped ∙ length-drop 1 s in
+    let left : 1 + (length c.pop.new.self.stack - c.unwrap_or-index.result) ≡ length s - c.unwrap_or-index.result = omega arith in
+    record {
+      within = omega arith;
+      limit = ap (λ (n : OpenNodes ℕ). n.limit) c.pop.ensures.rest ∙ c.loop-self.invariant.limit;
+      rest = ap (drop (length c.pop.new.self.stack - c.unwrap_or-index.result)) popped ∙ drop-drop (length c.pop.new.self.stack - c.unwrap_or-index.result) 1 s ∙ ap (λ n. drop n s) left ∙ c.loop-self.invariant.rest;
+    }
 
 pub returns : goal.returns
 returns c =
-    seen c.self.inside c.args.self.now (after (is_sought c.args.sought)) c.truncate.new.self.items c.self.view_is (ap (λ l. reverse (map open_of l)) (c.truncate.ensures.items ∙ ap (λ k. take k c.self.inside.items.items) c.unwrap_or-index.ensures) ∙ left_above c.self.inside c.args.self.now (is_sought c.args.sought) c.index.result c.self.view_is c.index.ensures.found c.index.ensures.within)
+    let s = c.loop-self.self.stack in
+    let now = c.args.self.now in
+    let none : length s - c.unwrap_or-index.result ≡ 0 = omega arith in
+    let stack : s ≡ after (is_sought c.args.sought) now.stack =
+        sym (ap (λ n. drop n s) none) ∙ c.loop-self.invariant.rest ∙ ap (λ n. drop (length now.stack - n) now.stack) c.unwrap_or-index.ensures
+        ∙ left_is (is_sought c.args.sought) now.stack c.index.result c.index.ensures.found c.index.ensures.within in
+    λ i. record { limit = c.loop-self.invariant.limit i; stack = stack i }

@@ -1,13 +1,18 @@
-use Rattle.hopen.specs.Opens.{open_of}
-use Rattle.std.proofs.Common.{◌≡◌, ◌∙◌, ap, sym, map, arith}
-use Rattle.std.proofs.lemmas.Grind.{common_steps}
+use Rattle.std.proofs.Common.{◌≡◌, ◌≤◌, Some, refl, map, length, ap, sym, ◌∙◌, arith}
 use Rattle.std.specs.List.{slice_get}
 use Rattle.std.specs.Option.{option_map}
-use Rattle.std.proofs.lemmas.List.{reverse-reverse}
-use Rattle.std.proofs.lemmas.Option.{slice_get-map, gets}
+use Rattle.std.proofs.lemmas.List.{reverse-reverse, length-map}
+use Rattle.std.proofs.lemmas.Option.{slice_get-map, slice_get_read, slice_get_past}
+use Rattle.hopen.specs.Kept.{opened_by}
 use Rattle.hopen.proofs.stack.OpenStack.from_top.Goals as goal
 
-pub returns : goal.returns
-returns c =
-    let h : c.copied.result ≡ slice_get c.self.inside.items.items c.args.down = grind (arith, common_steps, gets) in
-    rw (← c.self.view_is, reverse-reverse (map open_of c.self.inside.items.items)) (ap (option_map open_of) h ∙ sym (slice_get-map open_of c.self.inside.items.items c.args.down))
+pub returns-then-down-len : goal.returns-then-down-len
+returns-then-down-len c =
+    let items = c.self.inside.items.items in
+    let here : slice_get items c.args.down ≡ Some c.index.result.now = slice_get_read items (length items) c.args.down c.index.result.now refl (omega arith) c.index.ensures in
+    rw (← c.self.view_is, reverse-reverse (map opened_by items)) (sym (slice_get-map opened_by items c.args.down ∙ ap (option_map opened_by) here))
+
+pub returns-else-down-len : goal.returns-else-down-len
+returns-else-down-len c =
+    let past : length (map opened_by c.self.inside.items.items) ≤ c.args.down = omega (arith, length-map c.self.inside.items.items opened_by) in
+    rw (← c.self.view_is, reverse-reverse (map opened_by c.self.inside.items.items)) (sym (slice_get_past (map opened_by c.self.inside.items.items) c.args.down past))

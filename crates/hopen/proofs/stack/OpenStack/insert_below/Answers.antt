@@ -1,15 +1,23 @@
+use Rattle.std.proofs.Common.{◌+◌, List, ◌∙◌, ap, map, reverse}
 use Rattle.hopen.proofs.Opened.{seen, found, none_found, kept}
 use Rattle.hopen.proofs.Nearest.{insert_nearest, no_words}
 use Rattle.hopen.specs.Nearest.{put_before}
 use Rattle.hopen.specs.Stack.{is_node}
 use Rattle.hopen.specs.Opens.{open_of}
-use Rattle.std.proofs.Common.{◌∙◌, ap, map, reverse}
+use Rattle.hopen.specs.Kept.{opened_by, stack_of}
+use Rattle.hopen.specs.declared.kept.Item.{Item}
+use Rattle.hopen.specs.declared.stack.Open.{Open}
+use Rattle.std.specs.List.{insert}
 use Rattle.hopen.proofs.stack.OpenStack.insert_below.Goals as goal
 
-pub returns-in_ok-insert-clause-ok : goal.returns-in_ok-insert-clause-ok
-returns-in_ok-insert-clause-ok c =
+pub returns-in_ok-reserve-clause-ok : goal.returns-in_ok-reserve-clause-ok
+returns-in_ok-reserve-clause-ok c =
     let f = found c.self.inside c.args.self.now (is_node c.args.node) c.in-Some.index c.self.view_is c.in-Some.ensures.found c.in-Some.ensures.within in
-    seen c.self.inside c.args.self.now (put_before (is_node c.args.node) (open_of c.args.opened)) c.insert.new.self.items c.self.view_is (ap (λ l. reverse (map open_of l)) c.in_ok-insert.ensures.items ∙ insert_nearest open_of (is_node c.args.node) c.self.inside.items.items c.in-Some.index f.up c.args.opened f.place f.sum)
+    let word = put_before (is_node c.args.node) (open_of c.args.opened) in
+    seen c.self.inside c.args.self.now word c.insert.new.items.items c.self.view_is
+    (ap reverse (c.insert.ensures.items ∙ ap (λ (xs : List Item). map opened_by (insert xs (c.in-Some.index + 1) c.new.result)) c.in_ok-reserve.ensures.items)
+    ∙ insert_nearest opened_by (is_node c.args.node) c.self.inside.items.items c.in-Some.index f.up c.new.result f.place f.sum
+    ∙ ap (λ (x : Open). put_before (is_node c.args.node) (open_of x) (stack_of c.self.inside.items.items)) c.new.ensures)
 
 pub returns-in_default-clause-ok : goal.returns-in_default-clause-ok
 returns-in_default-clause-ok c =

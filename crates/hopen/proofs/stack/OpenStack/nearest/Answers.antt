@@ -1,11 +1,12 @@
-use Rattle.hopen.proofs.Nearest.{position_nearest, position_within}
-use Rattle.hopen.specs.Opens.{open_of, is_sought}
-use Rattle.std.proofs.Common.{subst, Option, ℕ, ◌<◌, length, sym, rules}
-use Rattle.std.specs.Option.{IfSome}
+use Rattle.std.proofs.Common.{nat_eq, ◌∙◌, ap, sym}
+use Rattle.std.specs.Option.{option_map}
+use Rattle.hopen.specs.Opens.{open_of}
+use Rattle.hopen.specs.Scopes.{is_named}
+use Rattle.hopen.proofs.Nearest.{words, no_words}
 use Rattle.hopen.proofs.stack.OpenStack.nearest.Goals as goal
 
-pub returns-clause-place : goal.returns-clause-place
-returns-clause-place c = rw (← c.self.view_is, position_nearest open_of (is_sought c.args.sought) c.self.inside.items.items) (search rules)
+pub returns-in_err-place_of : goal.returns-in_err-place_of
+returns-in_err-place_of c = ap (option_map open_of) c.from_residual.ensures ∙ sym (no_words (is_named nat_eq c.args.name) c.args.self.now.stack (sym c.in_err-place_of.ensures.place)).find_is
 
-pub returns-clause-within : goal.returns-clause-within
-returns-clause-within c = subst (λ (o : Option ℕ). IfSome o (λ up. up < length c.args.self.now.stack)) (sym (returns-clause-place c)) (position_within (is_sought c.args.sought) c.args.self.now.stack)
+pub returns : goal.returns
+returns c = c.get.ensures ∙ sym (words (is_named nat_eq c.args.name) c.args.self.now.stack c.in_ok-place_of.field-0 (sym c.in_ok-place_of.ensures.place)).find_is

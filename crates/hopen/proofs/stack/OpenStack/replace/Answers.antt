@@ -1,16 +1,23 @@
+use Rattle.std.proofs.Common.{◌∙◌, ap, map, reverse, arith}
+use Rattle.std.proofs.lemmas.List.{with_items_is}
+use Rattle.std.specs.Vec.{with_items}
 use Rattle.hopen.proofs.Opened.{seen, found, none_found, kept}
-use Rattle.hopen.proofs.Nearest.{replace_nearest, no_words}
+use Rattle.hopen.proofs.Nearest.{change_nearest, no_words}
 use Rattle.hopen.specs.Nearest.{changed}
 use Rattle.hopen.specs.Stack.{is_node}
 use Rattle.hopen.specs.Opens.{open_of}
-use Rattle.std.specs.List.{slice_set}
+use Rattle.hopen.specs.Kept.{opened_by, stack_of}
 use Rattle.hopen.proofs.stack.OpenStack.replace.Goals as goal
 
-pub returns-in-Some : goal.returns-in-Some
-returns-in-Some c =
+pub returns-in_ok-make_room-clause-ok : goal.returns-in_ok-make_room-clause-ok
+returns-in_ok-make_room-clause-ok c =
     let f = found c.self.inside c.args.self.now (is_node c.args.node) c.in-Some.index c.self.view_is c.in-Some.ensures.found c.in-Some.ensures.within in
-    seen c.self.inside c.args.self.now (changed (is_node c.args.node) (λ _. open_of c.args.by)) (slice_set c.self.inside.items.items c.in-Some.index c.args.by) c.self.view_is (replace_nearest open_of (is_node c.args.node) c.self.inside.items.items c.in-Some.index f.up c.args.by f.place f.sum)
+    let items = c.self.inside.items.items in
+    seen c.self.inside c.args.self.now (changed (is_node c.args.node) (λ _. open_of c.args.by)) (with_items c.self.inside.items c.replace.new.items).items c.self.view_is
+    (ap stack_of (with_items_is c.self.inside.items c.replace.new.items (omega arith))
+    ∙ ap reverse (rw c.deref_mut.ensures.value at c.replace.ensures.items)
+    ∙ change_nearest opened_by (is_node c.args.node) (λ _. open_of c.args.by) items c.in-Some.index f.up c.new.result c.new.result f.place f.sum (ap open_of c.new.ensures))
 
-pub returns-in_default : goal.returns-in_default
-returns-in_default c =
+pub returns-in_default-clause-ok : goal.returns-in_default-clause-ok
+returns-in_default-clause-ok c =
     kept c.args.self.now (changed (is_node c.args.node) (λ _. open_of c.args.by)) ((no_words (is_node c.args.node) c.args.self.now.stack (none_found c.index.result _ _ c.in_default.not-Some c.index.ensures.found)).changed_is (λ _. open_of c.args.by))

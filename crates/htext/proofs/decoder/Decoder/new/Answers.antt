@@ -4,6 +4,7 @@ use Rattle.std.specs.Str.{chars}
 use Rattle.names.specs.Placed.{placed}
 use Rattle.htext.specs.Text.{ends_in_return, normalized}
 use Rattle.htext.proofs.Valid.{valid_len-nil}
+use Rattle.htext.proofs.Deciding.{nothing_decided}
 use Rattle.htext.proofs.decoder.Decoder.new.Goals as goal
 
 pub returns-clause-fed : goal.returns-clause-fed
@@ -13,6 +14,7 @@ returns-clause-fed c =
       front = record { length_is = sym (valid_len-nil c.args.limit); end_is = sym (ap (ends_in_return false) none) };
       undecoded = c.new.ensures.items;
       few = omega (arith, ap length c.new.ensures.items);
+      undecided = λ refusal stays. nothing_decided c.args.limit refusal stays;
       accepts = refl;
     }
 

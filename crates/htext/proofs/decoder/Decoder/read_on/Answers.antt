@@ -1,6 +1,6 @@
 use Rattle.std.proofs.Common.{◌≡◌, ℕ, ◌+◌, ◌-◌, ◌++◌, ◌∷◌, [], List, length, take, drop, get_or, Ok, Err, sym, ap, ◌∙◌, subst, arith, append_assoc}
 use Rattle.std.proofs.lemmas.List.{take_all, take_more, take-append-drop, length-drop}
-use Rattle.std.proofs.lemmas.Result.{err_from_is_err_and}
+use Rattle.std.proofs.lemmas.Result.{err_from_is_err_and, on_ok_weaker}
 use Rattle.htext.specs.Decoding.{HasFed, Feeds, HandsNew}
 use Rattle.htext.proofs.Handing.{HandsNew-append, Feeds-append, Feeds-more, handed_all}
 use Rattle.htext.proofs.decoder.Decoder.read_on.Goals as goal
@@ -13,6 +13,18 @@ returns-then-is_empty-clause-feeds g c = λ fed h.
     let piece = rw (c.loop-index.invariant.bom, c.loop-index.invariant.limit, take_all (length bytes - i) (drop i bytes) (omega arith)) at (c.read_piece.ensures.feeds (fed ++ take i bytes) (c.loop-index.invariant.fed fed h)) in
     subst (λ (x : List ℕ). Feeds g.S.CharSink.gives c.args.self.now.bom c.args.self.now.limit fed x c.args.sink.now c.read_piece.result c.read_piece.new.sink) (take-append-drop i bytes)
     (Feeds-append g.S.CharSink.gives _ _ fed (take i bytes) (drop i bytes) _ _ _ _ (c.loop-index.invariant.handed fed h) piece)
+
+pub returns-then-is_empty-clause-fed : goal.returns-then-is_empty-clause-fed
+returns-then-is_empty-clause-fed g c =
+    let bytes = c.args.bytes.now in
+    let i = c.loop-index.index in
+    let left : length (drop i bytes) ≡ length bytes - i = length-drop i bytes in
+    let whole : (fed : List ℕ) → (fed ++ take i bytes) ++ take (length bytes - i) (drop i bytes) ≡ fed ++ bytes =
+    λ fed. append_assoc fed (take i bytes) (take (length bytes - i) (drop i bytes))
+    ∙ ap (λ (x : List ℕ). fed ++ (take i bytes ++ x)) (take_all (length bytes - i) (drop i bytes) (omega arith)) ∙ ap (λ (x : List ℕ). fed ++ x) (take-append-drop i bytes) in
+    on_ok_weaker c.read_piece.result
+    (λ then fed h. subst (HasFed c.read_piece.new.self) (whole fed) (then (fed ++ take i bytes) (c.loop-index.invariant.fed fed h)))
+    c.read_piece.ensures.fed
 
 pub returns-in_err-read_byte-clause-feeds : goal.returns-in_err-read_byte-clause-feeds
 returns-in_err-read_byte-clause-feeds g c = λ fed h.

@@ -1,40 +1,76 @@
-use Rattle.std.proofs.Common.{◌≡◌, ℕ, ◌+◌, List, length, refl, sym, ap, ◌∙◌, arith, add-zero}
+use Rattle.std.proofs.Common.{◌≡◌, ℕ, List, length, drop, sym, ap, ◌∙◌, arith}
 use Rattle.std.proofs.lemmas.Result.{err_from_is_err_and}
-use Rattle.std.proofs.lemmas.Str.{IsUtf8-past_char, chars_past_char, length-encode, chars-nil}
-use Rattle.std.proofs.lemmas.List.{length-append, nil_from_length}
-use Rattle.std.specs.Char.{encode_utf8, len_utf8}
+use Rattle.std.proofs.lemmas.Str.{IsCharBoundary-from_drop, IsUtf8-past_char, chars_past_char, length-encode, chars-nil}
+use Rattle.std.proofs.lemmas.List.{length-append, length-drop, drop_at, nil_from_length}
+use Rattle.std.specs.Char.{encode_utf8}
 use Rattle.std.specs.Str.{chars}
 use Rattle.htext.specs.Text.{ends_in_return}
 use Rattle.htext.proofs.Handing.{hand_more, hand_refused, hand_all}
+use Rattle.htext.proofs.Runs.{run_utf8, run_more, run_refused, ends_after}
 use Rattle.htext.proofs.reading.Reading.hand_text.Goals as goal
 
-pub loop-index-init : goal.loop-index-init
-loop-index-init g c =
-    let bytes = ap (λ x. x.rest.now) c.into_iter-index-iterator.ensures.into_iter_gives ∙ c.char_indices-index-items.ensures.rest in
-    let start = ap (λ x. x.at) c.into_iter-index-iterator.ensures.into_iter_gives ∙ c.char_indices-index-items.ensures.offset in
-    rw (bytes, start, add-zero) (record { handed = λ answer new h. h; reached = omega arith; utf8 = c.utf8.text; ends = refl })
+pub returns-in_err-take_run-clause-handed : goal.returns-in_err-take_run-clause-handed
+returns-in_err-take_run-clause-handed g c =
+    let e = err_from_is_err_and c.from_residual.result c.from_residual.ensures.1 in
+    let here = rw (c.run_at-run.ensures.after_return c.if-run-gt0.true) at c.loop-ch.invariant.handed in
+    let taken = rw (c.as_bytes.ensures.value) at c.in_err-take_run.ensures in
+    rw (e.1, e.2) (run_refused g.S.CharSink.gives _ _ _ c.loop-ch.sink _ c.run_at-run.result c.loop-ch.rest.now here c.loop-ch.invariant.utf8 c.run_at-run.ensures.within c.run_at-run.ensures.plain _ c.in_err-take_run.field-0.0 taken)
+
+pub range_from-rest-requires : goal.range_from-rest-requires
+range_from-rest-requires g c = λ _.
+    IsCharBoundary-from_drop c.loop-ch.rest.now c.run_at-run.result c.run_at-run.ensures.within (run_utf8 c.run_at-run.result c.loop-ch.rest.now c.loop-ch.invariant.utf8 c.run_at-run.ensures.plain)
+
+pub loop-ch-preserved-then-run-gt0 : goal.loop-ch-preserved-then-run-gt0
+loop-ch-preserved-then-run-gt0 g c =
+    let free = c.run_at-run.ensures.after_return c.if-run-gt0.true in
+    let here = rw free at c.loop-ch.invariant.handed in
+    let ended = rw free at c.loop-ch.invariant.ends in
+    let taken = rw (c.as_bytes.ensures.value) at c.in_ok-take_run.ensures in
+    let n = c.run_at-run.result in
+    let bytes = c.loop-ch.rest.now in
+    let left = c.range_from-rest.ensures.value in
+    record {
+      handed = rw (free, left) (run_more g.S.CharSink.gives _ _ _ c.loop-ch.sink _ n bytes here c.loop-ch.invariant.utf8 c.run_at-run.ensures.within c.run_at-run.ensures.plain _ taken);
+      reached = omega (arith, c.loop-ch.invariant.reached, ap length left, length-drop n bytes, c.run_at-run.ensures.within);
+      utf8 = rw left (run_utf8 n bytes c.loop-ch.invariant.utf8 c.run_at-run.ensures.plain);
+      ends = rw (free, left) (sym (ends_after n bytes c.loop-ch.invariant.utf8 c.run_at-run.ensures.plain) ∙ ended);
+    }
 
 pub returns-in_err-hand_char-clause-handed : goal.returns-in_err-hand_char-clause-handed
 returns-in_err-hand_char-clause-handed g c =
-    let steps = c.in-Some.ensures.steps in
-    let e = err_from_is_err_and c.from_residual.result c.from_residual.ensures.1 in
-    rw (e.1, e.2) (hand_refused g.S.CharSink.gives _ _ _ c.loop-index.sink _ _ _ c.loop-index.invariant.handed c.in-Some.ch _ _ c.in_err-hand_char.field-0.0 c.loop-index.invariant.utf8 steps.1 (rw (← steps.0) c.in_err-hand_char.ensures))
+    let is = sym c.chars.ensures.rest ∙ c.in-Some.ensures.steps.0 in
+    let e = err_from_is_err_and c.from_residual-in_err-hand_char.result c.from_residual-in_err-hand_char.ensures.1 in
+    rw (e.1, e.2) (hand_refused g.S.CharSink.gives _ _ _ c.loop-ch.sink _ _ _ c.loop-ch.invariant.handed c.in-Some.ch _ _ c.in_err-hand_char.field-0.0 c.loop-ch.invariant.utf8 is c.in_err-hand_char.ensures)
 
-pub loop-index-preserved : goal.loop-index-preserved
-loop-index-preserved g c =
-    let steps = c.in-Some.ensures.steps in
-    let next : c.args.self.now.read + c.next.new.self.at ≡ (c.args.self.now.read + c.loop-index.index-iterator.at) + len_utf8 c.in-Some.ch = omega (arith, steps.2, length-encode c.in-Some.ch) in
+pub range_from-rest-requires-in-Some : goal.range_from-rest-requires-in-Some
+range_from-rest-requires-in-Some g c = λ _.
+    let is = sym c.chars.ensures.rest ∙ c.in-Some.ensures.steps.0 in
+    let bytes = c.loop-ch.rest.now in
+    let n = c.len_utf8-in-Some.result in
+    let past : drop n bytes ≡ c.next.new.self.rest.now = ap (drop n) is ∙ drop_at (encode_utf8 c.in-Some.ch) c.next.new.self.rest.now n (length-encode c.in-Some.ch ∙ sym c.len_utf8-in-Some.ensures.value) in
+    IsCharBoundary-from_drop bytes n (omega (arith, ap length is, length-append (encode_utf8 c.in-Some.ch) c.next.new.self.rest.now, length-encode c.in-Some.ch, c.len_utf8-in-Some.ensures.value))
+    (rw past (IsUtf8-past_char bytes c.next.new.self.rest.now c.in-Some.ch c.loop-ch.invariant.utf8 is))
+
+pub loop-ch-preserved : goal.loop-ch-preserved
+loop-ch-preserved g c =
+    let is = sym c.chars.ensures.rest ∙ c.in-Some.ensures.steps.0 in
+    let bytes = c.loop-ch.rest.now in
+    let n = c.len_utf8-in-Some.result in
+    let past : drop n bytes ≡ c.next.new.self.rest.now = ap (drop n) is ∙ drop_at (encode_utf8 c.in-Some.ch) c.next.new.self.rest.now n (length-encode c.in-Some.ch ∙ sym c.len_utf8-in-Some.ensures.value) in
+    let left = c.range_from-rest-in-Some.ensures.value ∙ past in
     record {
-      handed = rw next (hand_more g.S.CharSink.gives _ _ _ c.loop-index.sink _ _ _ c.loop-index.invariant.handed c.in-Some.ch _ _ c.loop-index.invariant.utf8 steps.1 (rw (← steps.0) c.in_ok-hand_char.ensures));
-      reached = omega (arith, c.loop-index.invariant.reached, steps.2, ap length steps.1, length-append (encode_utf8 c.in-Some.ch) c.next.new.self.rest.now);
-      utf8 = IsUtf8-past_char _ _ _ c.loop-index.invariant.utf8 steps.1;
-      ends = sym (ap (ends_in_return c.loop-index.after_return) (chars_past_char _ _ _ c.loop-index.invariant.utf8 steps.1)) ∙ c.loop-index.invariant.ends;
+      handed = rw (c.len_utf8.ensures.value, left) (hand_more g.S.CharSink.gives _ _ _ c.loop-ch.sink _ _ _ c.loop-ch.invariant.handed c.in-Some.ch _ _ c.loop-ch.invariant.utf8 is c.in_ok-hand_char.ensures);
+      reached = omega (arith, c.loop-ch.invariant.reached, ap length left, ap length is, length-append (encode_utf8 c.in-Some.ch) c.next.new.self.rest.now, length-encode c.in-Some.ch, c.len_utf8.ensures.value);
+      utf8 = rw left (IsUtf8-past_char bytes c.next.new.self.rest.now c.in-Some.ch c.loop-ch.invariant.utf8 is);
+      ends = rw left (sym (ap (ends_in_return c.loop-ch.after_return) (chars_past_char _ _ _ c.loop-ch.invariant.utf8 is)) ∙ c.loop-ch.invariant.ends);
     }
 
 pub returns-clause-handed : goal.returns-clause-handed
 returns-clause-handed g c =
-    hand_all g.S.CharSink.gives _ _ _ c.loop-index.sink _ _ _ c.loop-index.invariant.handed (nil_from_length c.loop-index.index-iterator.rest.now c.in-None.ensures.steps.0)
+    let none = nil_from_length c.loop-ch.rest.now (ap length (sym c.chars.ensures.rest) ∙ c.in_default.ensures.steps.0.0) in
+    hand_all g.S.CharSink.gives _ _ _ c.loop-ch.sink _ _ _ c.loop-ch.invariant.handed none
 
 pub returns-clause-end : goal.returns-clause-end
 returns-clause-end g c =
-    sym (ap (λ (x : List ℕ). ends_in_return c.loop-index.after_return x) (ap chars (nil_from_length c.loop-index.index-iterator.rest.now c.in-None.ensures.steps.0) ∙ chars-nil)) ∙ c.loop-index.invariant.ends
+    let none = nil_from_length c.loop-ch.rest.now (ap length (sym c.chars.ensures.rest) ∙ c.in_default.ensures.steps.0.0) in
+    sym (ap (λ (x : List ℕ). ends_in_return c.loop-ch.after_return x) (ap chars none ∙ chars-nil)) ∙ c.loop-ch.invariant.ends

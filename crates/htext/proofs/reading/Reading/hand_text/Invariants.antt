@@ -7,13 +7,14 @@ use Rattle.htext.specs.Items.{items}
 use Rattle.htext.proofs.reading.Reading.hand_text.Given as goal
 
 -- The sink is given the rest as it was given all, and the rest stands after a CR as all does.
-abbrev pub invariant-loop-index : goal.invariant-loop-index
-invariant-loop-index g l =
-    let rest = l.index-iterator.rest.now in
-    record {
-      handed : Continues g.S.CharSink.gives l.fn.sink (items (normalized l.fn.self.bom l.fn.self.after_return (placed l.fn.self.read (chars l.fn.text))))
-          l.sink (items (normalized l.fn.self.bom l.after_return (placed (l.fn.self.read + l.index-iterator.at) (chars rest))));
-      reached : l.index-iterator.at + length rest ≡ length l.fn.text;
-      utf8 : IsUtf8 rest;
-      ends : ends_in_return l.after_return (chars rest) ≡ ends_in_return l.fn.self.after_return (chars l.fn.text);
-    }
+abbrev pub invariant-loop-ch : goal.invariant-loop-ch
+invariant-loop-ch g l = record {
+  handed : Continues g.S.CharSink.gives l.fn.sink (items (normalized l.fn.self.bom l.fn.self.after_return (placed l.fn.self.read (chars l.fn.text))))
+      l.sink (items (normalized l.fn.self.bom l.after_return (placed l.place (chars l.rest))));
+  reached : l.place + length l.rest ≡ l.fn.self.read + length l.fn.text;
+  utf8 : IsUtf8 l.rest;
+  ends : ends_in_return l.after_return (chars l.rest) ≡ ends_in_return l.fn.self.after_return (chars l.fn.text);
+}
+
+abbrev pub decreases-loop-ch : goal.decreases-loop-ch
+decreases-loop-ch g l = length l.rest

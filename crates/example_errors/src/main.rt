@@ -1,0 +1,22 @@
+//! An example of the crates as a library: prints the parse errors of a page, each with its byte.
+#![tactic(auto)]
+
+use anyhow::{Context, Result};
+use hparse::tokens;
+use htext::MAX_INPUT;
+use std::{env, fs};
+
+fn main(rt: HostRuntime) -> Result<()> {
+    let name = env::args(&rt)?.nth(1).context("name a page")?;
+    let page = fs::read(&rt, name.as_str())?;
+    match tokens(rt.alloc(), &[&page], MAX_INPUT) {
+        Ok(run) => {
+            for error in &run.errors {
+                println!(rt; "{} {}", error.at, error.code.text())?;
+            }
+            println!(rt; "{} tokens", run.tokens.len())?;
+        }
+        Err(refusal) => println!(rt; "refused: {refusal}")?,
+    }
+    Ok(())
+}

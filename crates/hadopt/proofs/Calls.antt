@@ -1,0 +1,106 @@
+-- What the operations keep, and what the calls that do them keep so.
+use Rattle.std.proofs.Common.{◌≡◌, ℕ, Bool, true, false, cond, List, [], ◌∷◌, subst, Ok, Err, length, leb}
+use Rattle.std.specs.Char.{encode_utf8}
+use Rattle.std.specs.Prelude.{Result, IfOk}
+use Rattle.hnodes.specs.Forest.{Attribute, What, element, text}
+use Rattle.hnodes.specs.declared.node.Place.{Place}
+use Rattle.hopen.specs.Formatting.{Item, marker, entry, entries, cleared, without_entry}
+use Rattle.hopen.specs.Stack.{OpenNode, current}
+use Rattle.names.specs.declared.tag.Tag.TheVariants.{Table}
+use Rattle.names.specs.declared.error.ErrorCode.{ErrorCode}
+use Rattle.names.specs.declared.placed.Placed.{Placed}
+use Rattle.names.specs.declared.refusal.Refusal.{Refusal}
+use Rattle.names.specs.declared.refusal.Refusal.TheVariants.{TooDeep}
+use Rattle.hadopt.specs.Closes.{closed, other_end}
+use Rattle.hadopt.specs.Gives.{Gives}
+use Rattle.hadopt.specs.Inserts.{added, pushed, inserted, listed, put, put_each, with_missing}
+use Rattle.hadopt.specs.Kept.{OpenStands, PlaceStands, Kept}
+use Rattle.hadopt.specs.Naming.{Naming}
+use Rattle.hadopt.specs.Reconstructs.{reconstructed}
+use Rattle.hadopt.specs.Site.{Outcome, Goes, Refused, and_then, SiteOf, stack, trees, with_trees, with_stack, with_items, with_error, node_of}
+use Rattle.hadopt.proofs.Climbing.{OnGoes, goes-then, Plain, PlainEntries, plain-without}
+use Rattle.hadopt.proofs.Inserting.{standing-fits, added-well, inserted-well, put-well, missing-well, reconstructed-well}
+use Rattle.hadopt.proofs.Keeping.{goes-map, to-well, from-well}
+use Rattle.hadopt.proofs.Entering.{among-room}
+use Rattle.hadopt.proofs.Lists.{Among, each-among, pairs-among}
+use Rattle.hadopt.proofs.Settling.{Well}
+use Rattle.hadopt.proofs.Turning.{closed-well, other-well}
+
+module _ {N : Type 0} (n : Naming N) where
+  -- Where an operation keeps it, so does the call that does it.
+  pub gives-kept : {A : Type 0} (r : Result A Refusal) (new : SiteOf N) (o : Outcome (SiteOf N)) → Gives r new o → OnGoes (Kept n) o → IfOk r (λ _. Kept n new)
+  gives-kept (Ok a) new o is h = subst (OnGoes (Kept n)) is h
+  gives-kept (Err e) new o is h = tt
+
+  pub fewer-kept : (s : SiteOf N) (open_now : List (OpenNode N)) → Among open_now (stack s) → Kept n s → Kept n (with_stack open_now s)
+  fewer-kept s open_now a k = record {
+    counted = k.counted;
+    open_stands = record {
+      stand = each-among _ open_now (stack s) a k.open_stands.stand;
+      order = pairs-among _ open_now (stack s) a k.open_stands.order;
+    };
+    plain = k.plain;
+  }
+
+  pub listed-kept : (s : SiteOf N) (items : List (Item N)) → PlainEntries n items → Kept n s → Kept n (with_items items s)
+  listed-kept s items p k = record { counted = k.counted; open_stands = k.open_stands; plain = p }
+
+  pub error-kept : (s : SiteOf N) (code : ErrorCode) (at : ℕ) → Kept n s → Kept n (with_error code at s)
+  error-kept s code at k = record { counted = k.counted; open_stands = k.open_stands; plain = k.plain }
+
+  pub foster-kept : (s : SiteOf N) (on : Bool) → Kept n s → Kept n (record s { foster = on })
+  foster-kept s on k = record { counted = k.counted; open_stands = k.open_stands; plain = k.plain }
+
+  plain-cleared : (items : List (Item N)) → PlainEntries n items → PlainEntries n (cleared items)
+  plain-cleared [] p = p
+  plain-cleared (marker ∷ items) p = p
+  plain-cleared (entry e ∷ items) p = plain-cleared items p.1
+
+  pub cleared-kept : (s : SiteOf N) → Kept n s → Kept n (with_items (cleared s.items) s)
+  cleared-kept s k = listed-kept s (cleared s.items) (plain-cleared s.items k.plain) k
+
+  pub removed-kept : (node : ℕ) (s : SiteOf N) → Kept n s → Kept n (with_items (without_entry node s.items) s)
+  removed-kept node s k = listed-kept s (without_entry node s.items) (plain-without n node s.items k.plain) k
+
+  pub pushed-kept : (at : ℕ) (x : OpenNode N) (s : SiteOf N) → OpenStands (trees s) (x ∷ stack s) → Kept n s → OnGoes (Kept n) (pushed at x s)
+  pushed-kept at x s stands k = go (leb s.open_nodes.limit (length (stack s)))
+    where
+      go : (v : Bool) → OnGoes (Kept n) (cond v (Refused (TooDeep at)) (Goes (with_stack (x ∷ stack s) s)))
+      go true = tt
+      go false = record { counted = k.counted; open_stands = stands; plain = k.plain }
+
+  pub added-kept : (at : ℕ) (w : What N) (p : Place) (s : SiteOf N) → PlaceStands p (trees s) → Kept n s → OnGoes (Kept n) (added at w p s)
+  added-kept at w p s stands k =
+      let h = to-well n s k in
+      goes-map n (Well n) (Kept n) (from-well n) (added at w p s) (added-well n w s h p (standing-fits n w s h p stands) at)
+
+  pub inserted-kept : (at : ℕ) (name : N) (attrs : List (Attribute N)) (p : Place) (s : SiteOf N) → PlaceStands p (trees s) → Kept n s → OnGoes (Kept n) (inserted at name attrs p s)
+  inserted-kept at name attrs p s stands k =
+      let h = to-well n s k in
+      goes-map n (Well n) (Kept n) (from-well n) (inserted at name attrs p s) (inserted-well n at name attrs p s h (standing-fits n (element name attrs) s h p stands))
+
+  plain-listed : (name : N) (attrs : List (Attribute N)) (s : SiteOf N) → n.same name (n.known Table) ≡ false → PlainEntries n s.items → PlainEntries n (listed n name attrs s).items
+  plain-listed name attrs s apart p = (apart, each-among (λ e. Plain n e.name) _ (entries s.items) (among-room n.same (record { node = node_of (current (stack s)); name = name; attrs = attrs }) s.items) p)
+
+  pub formatting-kept : (at : ℕ) (name : N) (attrs : List (Attribute N)) (p : Place) (s : SiteOf N) → PlaceStands p (trees s) → n.same name (n.known Table) ≡ false → Kept n s
+      → OnGoes (Kept n) (and_then (inserted at name attrs p s) (λ t. Goes (listed n name attrs t)))
+  formatting-kept at name attrs p s stands apart k =
+      goes-then (Kept n) (Kept n) (inserted at name attrs p s) _ (inserted-kept at name attrs p s stands k)
+      (λ t h. listed-kept t (listed n name attrs t).items (plain-listed name attrs t apart h.plain) h)
+
+  pub put-kept : (at c : ℕ) (p : Place) (s : SiteOf N) → PlaceStands p (trees s) → Kept n s → OnGoes (Kept n) (put at c p s)
+  put-kept at c p s stands k =
+      let h = to-well n s k in
+      goes-map n (Well n) (Kept n) (from-well n) (put at c p s) (put-well n at c p s h (standing-fits n (text (encode_utf8 c)) s h p stands))
+
+  pub missing-kept : (node : ℕ) (attrs : List (Attribute N)) (s : SiteOf N) → Kept n s → Kept n (with_trees (with_missing n node attrs (trees s)) s)
+  missing-kept node attrs s k = from-well n (with_trees (with_missing n node attrs (trees s)) s) (missing-well n node attrs s (to-well n s k))
+
+  pub closed-kept : (at : ℕ) (sought : OpenNode N → Bool) (s : SiteOf N) → Kept n s → Kept n (closed n at sought s)
+  closed-kept at sought s k = from-well n (closed n at sought s) (closed-well n at sought s (to-well n s k))
+
+  pub other-kept : (at : ℕ) (name : N) (s : SiteOf N) → Kept n s → Kept n (other_end n at name s)
+  other-kept at name s k = from-well n (other_end n at name s) (other-well n at name s (to-well n s k))
+
+  pub reconstructed-kept : (at : ℕ) (s : SiteOf N) → Kept n s → OnGoes (Kept n) (reconstructed n at s)
+  reconstructed-kept at s k = goes-map n (Well n) (Kept n) (from-well n) (reconstructed n at s) (reconstructed-well n at s (to-well n s k))

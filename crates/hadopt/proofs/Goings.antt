@@ -1,0 +1,36 @@
+-- Going up the stack, and going back over the list.
+use Rattle.std.proofs.Common.{◌≡◌, ℕ, zero, suc, ◌+◌, Bool, true, false, not, ◌&&◌, ◌||◌, List, [], ◌∷◌, refl, arith, drop, length, Some, slice_get}
+use Rattle.std.specs.List.{list_all}
+use Rattle.std.specs.Option.{option_map_or}
+use Rattle.hopen.specs.Nearest.{before}
+use Rattle.hopen.specs.Stack.{OpenNode, in_scope, is_open}
+use Rattle.hopen.specs.Formatting.{Item, marker, entry, entry_at}
+use Rattle.hadopt.specs.Site.{SiteOf, stack}
+use Rattle.hadopt.specs.Reconstructs.{stops_going_back}
+
+pub in_scope-further : (stops sought : OpenNode ℕ → Bool) (stack : List (OpenNode ℕ)) (i : ℕ) (x : OpenNode ℕ) → slice_get stack i ≡ Some x → in_scope stops sought (drop i stack) ≡ (sought x || (not (stops x) && in_scope stops sought (drop (i + 1) stack)))
+in_scope-further stops sought [] i x is = cc
+in_scope-further stops sought (y ∷ up) zero x is = let same : y ≡ x = cc in rw (same) refl
+in_scope-further stops sought (y ∷ up) (suc i) x is = let e : suc i + 1 ≡ suc (i + 1) = omega arith in rw (e) (in_scope-further stops sought up i x is)
+
+pub all-further : (test : OpenNode ℕ → Bool) (stack : List (OpenNode ℕ)) (i : ℕ) (x : OpenNode ℕ) → slice_get stack i ≡ Some x → list_all test (drop i stack) ≡ (test x && list_all test (drop (i + 1) stack))
+all-further test [] i x is = cc
+all-further test (y ∷ up) zero x is = let same : y ≡ x = cc in rw (same) refl
+all-further test (y ∷ up) (suc i) x is = let e : suc i + 1 ≡ suc (i + 1) = omega arith in rw (e) (all-further test up i x is)
+
+-- whether going back stops at the item with so many after it
+abbrev pub stops_at : SiteOf ℕ → ℕ → List (Item ℕ) → Bool
+stops_at s back items = option_map_or (λ e. is_open e.node (stack s)) (entry_at back items) true
+
+pub stopped : (s : SiteOf ℕ) (items : List (Item ℕ)) (back : ℕ) → stops_at s back items ≡ true → length (before (stops_going_back s) (drop back items)) ≡ 0
+stopped s [] zero stops = refl
+stopped s [] (suc back) stops = refl
+stopped s (marker ∷ items) zero stops = refl
+stopped s (entry e ∷ items) zero stops = rw (stops) refl
+stopped s (x ∷ items) (suc back) stops = stopped s items back stops
+
+pub goes_on : (s : SiteOf ℕ) (items : List (Item ℕ)) (back : ℕ) → stops_at s back items ≡ false → length (before (stops_going_back s) (drop back items)) ≡ length (before (stops_going_back s) (drop (back + 1) items)) + 1
+goes_on s [] back goes = cc
+goes_on s (marker ∷ items) zero goes = cc
+goes_on s (entry e ∷ items) zero goes = rw (goes) (omega arith)
+goes_on s (x ∷ items) (suc back) goes = let e : suc back + 1 ≡ suc (back + 1) = omega arith in rw (e) (goes_on s items back goes)

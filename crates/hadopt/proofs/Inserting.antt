@@ -1,0 +1,223 @@
+-- What is inserted keeps what the open nodes need.
+use Rattle.std.proofs.Common.{◌≡◌, ◌≢◌, ℕ, zero, suc, ◌+◌, ◌<◌, Bool, true, false, eqb, leb, cond, List, [], ◌∷◌, Option, Some, None, refl, sym, ◌∙◌, subst, arith, inl, inr, find, reverse, is_some, is_none, length}
+use Rattle.std.specs.Prelude.{◌&&◌, slice_get}
+use Rattle.std.specs.Char.{encode_utf8}
+use Rattle.std.specs.Option.{option_map_or}
+use Rattle.hnodes.specs.Forest.{Attribute, What, document, element, text, Forest, none, tree, times, change_what}
+use Rattle.hnodes.specs.Spots.{parent_of, attributes_of}
+use Rattle.hnodes.specs.Edits.{AreCounted, place_node, graft, make, char_into, with_char, with_attribute, add_attribute, text_before}
+use Rattle.hnodes.proofs.Inside.{tree_at-among}
+use Rattle.hnodes.specs.declared.node.Place.{Place}
+use Rattle.hnodes.specs.declared.node.Place.TheVariants.{LastIn, Before}
+use Rattle.hopen.specs.Nearest.{before, changed_at}
+use Rattle.hopen.specs.Stack.{OpenNode, current, above}
+use Rattle.hopen.specs.Scopes.{is_named}
+use Rattle.hopen.specs.declared.bookmark.Bookmark.TheVariants.{InPlace}
+use Rattle.hopen.specs.Formatting.{EntryOf, Item, marker, entry, for_node, entry_at}
+use Rattle.names.specs.declared.tag.Tag.TheVariants.{Table}
+use Rattle.names.specs.declared.refusal.Refusal.TheVariants.{TooManyNodes, TooDeep}
+use Rattle.hnodes.proofs.Counted.{counted-what, Begins, NotBefore, below-document, in-document, at-most, not-there, deep-there, times-new, counted-new}
+use Rattle.hnodes.proofs.Deep.{deep, deep-is, deep-self}
+use Rattle.hnodes.proofs.Outside.{deep-what, deep-new, deep-newest, graft-apart}
+use Rattle.hadopt.specs.Naming.{Naming}
+use Rattle.hadopt.specs.Site.{Goes, Refused, and_then, SiteOf, stack, trees, with_trees, with_stack, from_top, node_of}
+use Rattle.hadopt.specs.Places.{is_fostering, beside, foster_place, place}
+use Rattle.hadopt.specs.Inserts.{added, pushed, inserted, put, has_attribute, with_missing}
+use Rattle.hadopt.specs.Reconstructs.{stops_going_back, renewed, renewed_each, reconstructed}
+use Rattle.hadopt.specs.Adopts.{Climb}
+use Rattle.hadopt.specs.Kept.{PlaceStands}
+use Rattle.hadopt.proofs.Lists.{each-map, pairs-map, among-all, among-after, here}
+use Rattle.hadopt.proofs.Climbing.{OnGoes, goes-then, PlainEntries, Climbing}
+use Rattle.hadopt.proofs.Searching.{Member, last-behind, found-member}
+use Rattle.hadopt.proofs.Settling.{Well, Fits, document-fits, before-fits, current-fits, under-fits, placed-well, block-stands}
+
+module _ {N : Type 0} (n : Naming N) where
+  -- what a node is has changed
+  pub what-well : (k : ℕ) (g : What N → What N) (s : SiteOf N) → g document ≡ document → Well n s → Well n (with_trees (change_what k g (trees s)) s)
+  what-well k g s same h = record {
+    counted = counted-what s.nodes.made k g (trees s) same h.counted;
+    each = each-map _ _ (λ x p. (rw (deep-what x.node 0 k g (trees s)) p.0, p.1)) (stack s) h.each;
+    order = pairs-map (λ x. Unit {0}) _ _ (λ a b p q r. deep-what b.node a.node k g (trees s) ∙ r) (stack s) (each-map _ _ (λ x p. tt) (stack s) h.each) h.order;
+    plain = h.plain;
+  }
+
+  pub missing-well : (k : ℕ) (attrs : List (Attribute N)) (s : SiteOf N) → Well n s → Well n (with_trees (with_missing n k attrs (trees s)) s)
+  missing-well k [] s h = h
+  missing-well k (a ∷ attrs) s h = go (λ f m. missing-well k attrs (with_trees f s) m) (has_attribute n a.0 (attributes_of k (trees s)))
+    where
+      go : ((f : Forest N) → Well n (with_trees f s) → Well n (with_trees (with_missing n k attrs f) s)) → (v : Bool) → Well n (with_trees (with_missing n k attrs (cond v (trees s) (add_attribute k a (trees s)))) s)
+      go rest true = rest (trees s) h
+      go rest false = rest (add_attribute k a (trees s)) (what-well k (with_attribute a) s refl h)
+
+  module _ (w : What N) (s : SiteOf N) (h : Well n s) where
+    abbrev count : ℕ
+    count = s.nodes.made
+
+    abbrev new_site : SiteOf N
+    new_site = record s { nodes = make w s.nodes }
+
+    -- a new node, as a last one on the way
+    abbrev pub loose : Climb N
+    loose = record { last = count; bookmark = InPlace; site = new_site }
+
+    old : (x : ℕ) → 0 < deep x 0 (trees s) → x ≢ count
+    old x a e = omega (arith, (deep-there count (trees s) h.counted x 0 a).0)
+
+    pos : 0 < count
+    pos = go (count) refl
+      where
+        go : (j : ℕ) → count ≡ j → 0 < count
+        go zero e = absurd (let z = not-there count (trees s) h.counted 0 (omega arith) in one h.counted.begins z)
+          where
+            one : Begins (trees s) → times 0 (trees s) ≡ 0 → ⊥
+            one (kids, rest, is) z = let z' : 1 + (times 0 kids + times 0 rest) ≡ 0 = subst (λ (g : Forest N). times 0 g ≡ 0) is z in omega arith
+        go (suc j) e = omega arith
+
+    not0 : 0 ≢ count
+    not0 e = omega (arith, pos)
+
+    absent : times count (trees s) ≡ 0
+    absent = not-there count (trees s) h.counted count (omega arith)
+
+    behind : (x : OpenNode N) → (0 < deep x.node 0 (trees s)) × (0 < x.node) → (0 < deep x.node 0 (trees new_site)) × (deep x.node count (trees new_site) ≡ 0)
+    behind x p = (rw (deep-new x.node 0 count w (trees s) not0) p.0, deep-newest x.node count w (trees s) absent (old x.node p.0))
+
+    pub loose-climbs : Climbing n count (stack s) loose
+    loose-climbs = record {
+      counted = counted-new count w (trees s) h.counted;
+      low = omega arith;
+      pos = pos;
+      each = each-map _ _ (λ x p. (inl (behind x p).0, p.1)) (stack s) h.each;
+      behind = each-map _ _ behind (stack s) h.each;
+      order = pairs-map (λ x. x.node ≢ count) _ _ (λ a b p q r. deep-new b.node a.node count w (trees s) p ∙ r) (stack s) (each-map _ _ (λ x p. old x.node p.0) (stack s) h.each) h.order;
+      front = here;
+      block_in = (inr (omega (arith, deep-self count (trees new_site), times-new count w (trees s) absent)), pos);
+      plain = h.plain;
+    }
+
+    abbrev pub FitsHere : Place → Type 0
+    FitsHere p = Fits n (stack s) loose p
+
+    pub first-fits : FitsHere (LastIn (node_of (from_top 0 s)))
+    first-fits = go (stack s) refl
+      where
+        go : (l : List (OpenNode N)) → stack s ≡ l → FitsHere (LastIn (node_of (slice_get (reverse l) 0)))
+        go [] e = document-fits n count (stack s) loose loose-climbs
+        go (x ∷ xs) e = let l = last-behind (λ y. Unit {0}) x xs (x ∷ xs) here in rw (l.1) (under-fits n count (stack s) loose loose-climbs l.0 (rw e l.2))
+
+    pub here-fits : FitsHere (LastIn (node_of (current (stack s))))
+    here-fits = current-fits n count (stack s) loose loose-climbs (stack s) (among-all (stack s))
+
+    pub root-fits : FitsHere (LastIn 0)
+    root-fits = document-fits n count (stack s) loose loose-climbs
+
+    beside-fits : (z : OpenNode N) → Member z (stack s) → FitsHere (beside s z)
+    beside-fits z m = go (is_some (parent_of z.node (trees s)))
+      where
+        go : (v : Bool) → FitsHere (cond v (Before z.node) (LastIn (node_of (current (above z.node (stack s))))))
+        go true = before-fits n count (stack s) loose loose-climbs z m
+        go false = current-fits n count (stack s) loose loose-climbs (above z.node (stack s)) (among-after _ (stack s))
+
+    foster-fits : FitsHere (foster_place n s)
+    foster-fits = go (find (is_named n.same (n.known Table)) (stack s)) refl
+      where
+        go : (o : Option (OpenNode N)) → find (is_named n.same (n.known Table)) (stack s) ≡ o → FitsHere (option_map_or (beside s) o (LastIn (node_of (from_top 0 s))))
+        go None e = first-fits
+        go (Some z) e = beside-fits z (found-member (is_named n.same (n.known Table)) (stack s) z e)
+
+    -- the appropriate place
+    pub place-fits : FitsHere (place n s)
+    place-fits = go (s.foster && option_map_or (λ x. is_fostering (n.tag x.name)) (current (stack s)) false)
+      where
+        go : (v : Bool) → FitsHere (cond v (foster_place n s) (LastIn (node_of (current (stack s)))))
+        go true = foster-fits
+        go false = here-fits
+
+    -- a place in the document's tree is as good as any
+    fits : (p : Place) → 0 < deep (place_node p) 0 (trees s) → NotBefore 0 p → FitsHere p
+    fits p a under = record {
+      to_document = rw (deep-new (place_node p) 0 count w (trees s) not0) a;
+      outside = deep-newest (place_node p) count w (trees s) absent (old (place_node p) a);
+      under = under;
+      front = here;
+    }
+
+    pub standing-fits : (p : Place) → PlaceStands p (trees s) → FitsHere p
+    standing-fits (LastIn p) is = fits (LastIn p) (omega (arith, deep-is p 0 (trees s) (at-most count (trees s) h.counted 0), is)) tt
+    standing-fits (Before z) is = let b = below-document count (trees s) h.counted z is in fits (Before z) b.0 (λ e. omega (arith, b.1, e))
+
+    pub fits-standing : (p : Place) → FitsHere p → PlaceStands p (trees s)
+    fits-standing (LastIn p) f =
+        let a : 0 < deep p 0 (trees s) = rw (← deep-new p 0 count w (trees s) not0) f.to_document in
+        omega (arith, a, deep-is p 0 (trees s) (at-most count (trees s) h.counted 0), tree_at-among p 0 (trees s), at-most count (trees s) h.counted p)
+    fits-standing (Before z) f =
+        let a : 0 < deep z 0 (trees s) = rw (← deep-new z 0 count w (trees s) not0) f.to_document in
+        in-document count (trees s) h.counted z a (go z f.under)
+      where
+        go : (z : ℕ) → z ≢ 0 → 0 < z
+        go zero apart = absurd (apart refl)
+        go (suc j) apart = omega arith
+
+    module _ (p : Place) (fits : FitsHere p) where
+      abbrev there_site : SiteOf N
+      there_site = with_trees (graft count p (trees new_site)) new_site
+
+      pub there-well : Well n there_site
+      there-well = placed-well n count (stack s) loose loose-climbs p fits
+
+      pub pushed-well : (name : N) → Well n (with_stack (record { node = count; name = name } ∷ stack s) there_site)
+      pushed-well name = record {
+        counted = there-well.counted;
+        each = (block-stands n count (stack s) loose loose-climbs p fits, there-well.each);
+        order = (each-map _ _ (λ x q. graft-apart x.node count count p (trees new_site) (sym (deep-is x.node count (trees new_site) (at-most (count + 1) (trees new_site) loose-climbs.counted count)) ∙ q.1) ∙ q.1) (stack s) loose-climbs.behind, there-well.order);
+        plain = h.plain;
+      }
+
+      pub added-well : (at : ℕ) → OnGoes (Well n) (added at w p s)
+      added-well at = go (leb s.nodes.limit s.nodes.made)
+        where
+          go : (v : Bool) → OnGoes (Well n) (and_then (cond v (Refused (TooManyNodes at)) (Goes new_site)) (λ t. Goes (with_trees (graft s.nodes.made p (trees t)) t)))
+          go true = tt
+          go false = there-well
+
+  pub inserted-well : (at : ℕ) (name : N) (attrs : List (Attribute N)) (p : Place) (s : SiteOf N) (h : Well n s) → FitsHere (element name attrs) s h p → OnGoes (Well n) (inserted at name attrs p s)
+  inserted-well at name attrs p s h fits = go (leb s.nodes.limit s.nodes.made)
+    where
+      deepens : (v : Bool) → OnGoes (Well n) (cond v (Refused (TooDeep at)) (Goes (with_stack (record { node = s.nodes.made; name = name } ∷ stack s) (there_site (element name attrs) s h p fits))))
+      deepens true = tt
+      deepens false = pushed-well (element name attrs) s h p fits name
+
+      go : (u : Bool) → OnGoes (Well n) (and_then (and_then (cond u (Refused (TooManyNodes at)) (Goes (record s { nodes = make (element name attrs) s.nodes }))) (λ t. Goes (with_trees (graft s.nodes.made p (trees t)) t))) (pushed at (record { node = s.nodes.made; name = name })))
+      go true = tt
+      go false = deepens (leb s.open_nodes.limit (length (stack s)))
+
+  pub put-well : (at c : ℕ) (p : Place) (s : SiteOf N) (h : Well n s) → FitsHere (text (encode_utf8 c)) s h p → OnGoes (Well n) (put at c p s)
+  put-well at c p s h fits = go (text_before p (trees s)) (is_none (text_before p (trees s)) && leb s.nodes.limit s.nodes.made)
+    where
+      go : (o : Option ℕ) (v : Bool) → OnGoes (Well n) (cond v (Refused (TooManyNodes at)) (Goes (record s { nodes = char_into c p o s.nodes })))
+      go o true = tt
+      go None false = there-well (text (encode_utf8 c)) s h p fits
+      go (Some k) false = what-well k (with_char c) s refl h
+
+  plain-at : (back new : ℕ) (items : List (Item N)) → PlainEntries n items → PlainEntries n (changed_at back (for_node new) items)
+  plain-at back new [] h = tt
+  plain-at zero new (marker ∷ items) h = h
+  plain-at zero new (entry e ∷ items) h = h
+  plain-at (suc k) new (marker ∷ items) h = plain-at k new items h
+  plain-at (suc k) new (entry e ∷ items) h = (h.0, plain-at k new items h.1)
+
+  module _ (at : ℕ) where
+    renewed-well : (back : ℕ) (e : EntryOf N) (s : SiteOf N) → Well n s → OnGoes (Well n) (renewed n at back e s)
+    renewed-well back e s h = goes-then (Well n) (Well n) (inserted at e.name e.attrs (place n s) s) _ (inserted-well at e.name e.attrs (place n s) s h (place-fits (element e.name e.attrs) s h))
+        (λ t k. record { counted = k.counted; each = k.each; order = k.order; plain = plain-at back s.nodes.made t.items k.plain })
+
+    each-well : (back : ℕ) (s : SiteOf N) → Well n s → OnGoes (Well n) (renewed_each n at back s)
+    each-well zero s h = h
+    each-well (suc back) s h = goes-then (Well n) (Well n) (option_map_or (λ e. renewed n at back e s) (entry_at back s.items) (Goes s)) (renewed_each n at back) (go (entry_at back s.items)) (λ t k. each-well back t k)
+      where
+        go : (o : Option (EntryOf N)) → OnGoes (Well n) (option_map_or (λ e. renewed n at back e s) o (Goes s))
+        go None = h
+        go (Some e) = renewed-well back e s h
+
+    pub reconstructed-well : (s : SiteOf N) → Well n s → OnGoes (Well n) (reconstructed n at s)
+    reconstructed-well s h = each-well (length (before (stops_going_back s) s.items)) s h

@@ -1,0 +1,53 @@
+-- What is kept, as it is told and as the proofs use it.
+use Rattle.std.proofs.Common.{◌≡◌, ℕ, ◌<◌, ◌≤◌, List, refl, sym, ◌∙◌, arith}
+use Rattle.hnodes.specs.Forest.{Forest, times, tree_at}
+use Rattle.hopen.specs.Stack.{OpenNode}
+use Rattle.hnodes.specs.Edits.{AreCounted}
+use Rattle.hnodes.proofs.Counted.{at-most, below-document, in-document}
+use Rattle.hnodes.proofs.Deep.{deep, deep-is}
+use Rattle.hadopt.specs.Naming.{Naming, numbers, texts}
+use Rattle.names.specs.Tags.{number_of, tag_text}
+use Rattle.names.specs.declared.tag.Tag.TheVariants.{Table}
+use Rattle.std.proofs.lemmas.Bool.{eqb-true}
+use Rattle.std.proofs.lemmas.Slice.Eq.{bytes_eq-Decides}
+use Rattle.hadopt.specs.Site.{Outcome, Goes, Refused, SiteOf, stack, trees}
+use Rattle.hadopt.specs.Adopts.{adopted}
+use Rattle.hadopt.specs.Kept.{TellsTables, Kept}
+use Rattle.hadopt.proofs.Lists.{each-map, pairs-map}
+use Rattle.hadopt.proofs.Climbing.{OnGoes}
+use Rattle.hadopt.proofs.Settling.{Well}
+use Rattle.hadopt.proofs.Turning.{adopted-well}
+
+module _ {N : Type 0} (n : Naming N) where
+  pub to-well : (s : SiteOf N) → Kept n s → Well n s
+  to-well s h = record {
+    counted = h.counted;
+    each = each-map _ _ (λ x p. below-document s.nodes.made (trees s) h.counted x.node p) (stack s) h.open_stands.stand;
+    order = pairs-map (λ x. Unit {0}) _ _ (λ a b p q r. deep-is b.node a.node (trees s) (at-most s.nodes.made (trees s) h.counted a.node) ∙ r) (stack s) (each-map _ _ (λ x p. tt) (stack s) h.open_stands.stand) h.open_stands.order;
+    plain = h.plain;
+  }
+
+  pub from-well : (s : SiteOf N) → Well n s → Kept n s
+  from-well s h = record {
+    counted = h.counted;
+    open_stands = record {
+      stand = each-map _ _ (λ x p. in-document s.nodes.made (trees s) h.counted x.node p.0 p.1) (stack s) h.each;
+      order = pairs-map (λ x. Unit {0}) _ _ (λ a b p q r. sym (deep-is b.node a.node (trees s) (at-most s.nodes.made (trees s) h.counted a.node)) ∙ r) (stack s) (each-map _ _ (λ x p. tt) (stack s) h.each) h.order;
+    };
+    plain = h.plain;
+  }
+
+  pub goes-map : {S : Type 0} (P Q : S → Type 0) → ((s : S) → P s → Q s) → (o : Outcome S) → OnGoes P o → OnGoes Q o
+  goes-map P Q f (Goes s) h = f s h
+  goes-map P Q f (Refused r) h = tt
+
+  -- the adoption agency, in the words of the specs
+  pub adopted-keeps : TellsTables n → (at : ℕ) (name : N) (s : SiteOf N) → Kept n s → OnGoes (Kept n) (adopted n at name s)
+  adopted-keeps tells at name s h = goes-map (Well n) (Kept n) from-well (adopted n at name s) (adopted-well n tells at name s (to-well s h))
+
+-- both kinds of names tell tables
+pub numbers-tell : TellsTables numbers
+numbers-tell a h = let is : a ≡ number_of Table = eqb-true a (number_of Table) h in rw is refl
+
+pub texts-tell : TellsTables texts
+texts-tell a h = let is : a ≡ tag_text Table = (bytes_eq-Decides a (tag_text Table)).0 h in rw is refl

@@ -1,0 +1,209 @@
+-- What a turn of the adoption agency keeps, and what its parts ask.
+use Rattle.std.proofs.Common.{◌≡◌, ℕ, ◌<◌, Bool, true, false, List, [], ◌∷◌, Some, find, nat_eq, cond, ◌||◌, refl, subst, zero, suc, ◌-◌, ◌≤◌, arith, Ok, Err, drop, ◌⊎◌, inl, inr, sym, ◌∙◌, ap}
+use Rattle.std.specs.Prelude.{Result, IfOk, IfSome}
+use Rattle.names.specs.declared.refusal.Refusal.{Refusal}
+use Rattle.std.specs.List.{list_any}
+use Rattle.std.proofs.lemmas.Bool.{eq-eqb, eqb-true}
+use Rattle.hopen.specs.Stack.{OpenNode, is_node, is_open, in_scope, furthest_block, above, below, current}
+use Rattle.hopen.specs.Nearest.{before}
+use Rattle.hopen.specs.declared.bookmark.Bookmark.TheVariants.{InPlace}
+use Rattle.hnodes.specs.Forest.{Forest}
+use Rattle.hnodes.specs.Edits.{AreCounted, place_node}
+use Rattle.hnodes.proofs.Counted.{at-most, deep-there}
+use Rattle.hnodes.proofs.Deep.{deep, deep-is}
+use Rattle.hadopt.specs.Places.{place_in}
+use Rattle.hadopt.proofs.Lists.{each-map, each-both, Among, skip, keep, among-after, each-among, front-among}
+use Rattle.hadopt.proofs.Climbing.{OnGoes, Plain, Climbing, climbed-climbs}
+use Rattle.hadopt.proofs.Searching.{any-after, any-each, pairs-after, scope-front, at-nearest, special-there}
+use Rattle.hadopt.proofs.Settling.{Well, place-fits}
+use Rattle.hadopt.proofs.Turning.{not-table, WellAfter, turned-well}
+use Rattle.hadopt.proofs.Keeping.{to-well, from-well, numbers-tell}
+use Rattle.hadopt.proofs.Booked.{Booked, climbed-booked, bookmark-there, way-others}
+use Rattle.hopen.specs.Scopes.{stops}
+use Rattle.hopen.specs.declared.scope.Scope.TheVariants.{Default}
+use Rattle.hopen.specs.Formatting.{EntryOf, Item, marker, entry, is_entry, after_marker, find_entry}
+use Rattle.names.specs.Tags.{tag_of, number_of}
+use Rattle.names.specs.declared.tag.Tag.{Tag}
+use Rattle.names.specs.declared.tag.Tag.TheVariants.{Other}
+use Rattle.names.specs.declared.error.ErrorCode.{ErrorCode}
+use Rattle.hadopt.specs.Naming.{numbers}
+use Rattle.hadopt.specs.Site.{Outcome, Goes, Refused, SiteOf, stack, trees, with_stack, error_unless}
+use Rattle.hadopt.specs.Adopts.{Climb, climbed, Next, Ended, turned, turns, is_unlisted, adopted, most_turns}
+use Rattle.hadopt.specs.Gives.{Gives}
+use Rattle.hadopt.specs.declared.adopting.Turn as code
+use Rattle.hadopt.specs.declared.adopting.Turn.TheVariants as turn
+use Rattle.hadopt.specs.Meets.{turn_of, TurnGives}
+use Rattle.hadopt.specs.Kept.{Each, Kept}
+use Rattle.hadopt.specs.Settles.{Settles, TurnsBy}
+
+before-each : {X : Type 0} (P : X → Type 0) (p : X → Bool) (xs : List X) → Each P xs → Each P (before p xs)
+before-each P p [] e = tt
+before-each P p (x ∷ xs) e = go (p x) (before-each P p xs e.1)
+  where
+    go : (v : Bool) → Each P (before p xs) → Each P (cond v [] (x ∷ before p xs))
+    go true r = tt
+    go false r = (e.0, r)
+
+there-low : (made : ℕ) (g : Forest ℕ) (counted : AreCounted made g) (x last : ℕ) → (0 < deep x 0 g) ⊎ (0 < deep x last g) → x < made
+there-low made g counted x last (inl a) = (deep-there made g counted x 0 a).0
+there-low made g counted x last (inr a) = (deep-there made g counted x last a).0
+
+current-low : (made : ℕ) (g : Forest ℕ) (counted : AreCounted made g) (last : ℕ) (up : List (OpenNode ℕ)) → Each (λ x. (0 < deep x.node 0 g) × (deep x.node last g ≡ 0)) up → IfSome (current up) (λ x. x.node < made)
+current-low made g counted last [] e = tt
+current-low made g counted last (x ∷ up) e = (deep-there made g counted x.node 0 e.0.0).0
+
+any-among : {X : Type 0} (p : X → Bool) (x : X) (xs ys : List X) → p x ≡ true → Among (x ∷ xs) ys → list_any p ys ≡ true
+any-among p x xs [] is a = elim a [ ]
+any-among p x xs (y ∷ ys) is (skip a) = later (p y) (any-among p x xs ys is a)
+  where
+    later : (v : Bool) → list_any p ys ≡ true → (v || list_any p ys) ≡ true
+    later true r = refl
+    later false r = r
+any-among p x xs (y ∷ ys) is (keep a) = rw (is) refl
+
+-- an entry that is found is in the list
+pub found-entry : (name : ℕ) (items : List (Item ℕ)) (e : EntryOf ℕ) → find_entry nat_eq name items ≡ Some e → list_any (is_entry e.node) items ≡ true
+found-entry name [] e is = cc
+found-entry name (marker ∷ items) e is = cc
+found-entry name (entry d ∷ items) e is = go (nat_eq name d.name) is (found-entry name items e)
+  where
+    here : d ≡ e → list_any (is_entry e.node) (entry d ∷ items) ≡ true
+    here same = rw (same, eq-eqb e.node e.node refl) refl
+
+    later : (v : Bool) → list_any (is_entry e.node) items ≡ true → (v || list_any (is_entry e.node) items) ≡ true
+    later true h = refl
+    later false h = h
+
+    go : (v : Bool) → cond v (Some d) (find (λ (x : EntryOf ℕ). nat_eq name x.name) (after_marker items)) ≡ Some e → (find_entry nat_eq name items ≡ Some e → list_any (is_entry e.node) items ≡ true) → list_any (is_entry e.node) (entry d ∷ items) ≡ true
+    go true e' ih = here (cc)
+    go false e' ih = later (is_entry e.node (entry d)) (ih e')
+
+pub kept-error : (v : Bool) (code : ErrorCode) (at : ℕ) (s : SiteOf ℕ) → Kept numbers s → Kept numbers (error_unless v code at s)
+kept-error true code at s k = k
+kept-error false code at s k = record { counted = k.counted; open_stands = k.open_stands; plain = k.plain }
+
+pub unless-stack : (v : Bool) (code : ErrorCode) (at : ℕ) (s : SiteOf ℕ) → stack (error_unless v code at s) ≡ stack s
+unless-stack true code at s = refl
+unless-stack false code at s = refl
+
+pub unless-items : (v : Bool) (code : ErrorCode) (at : ℕ) (s : SiteOf ℕ) → (error_unless v code at s).items ≡ s.items
+unless-items true code at s = refl
+unless-items false code at s = refl
+
+-- where the furthest block is found, the way up can begin, and where it goes on, it can be settled
+module _ (s : SiteOf ℕ) (f : ℕ) (b : OpenNode ℕ) (h : Well numbers s) (is_open_now : is_open f (stack s) ≡ true) (scope : in_scope (stops tag_of Default) (is_node f) (stack s) ≡ true)
+    (has : list_any (is_entry f) s.items ≡ true) (under : list_any (is_node b.node) (before (is_node f) (stack s)) ≡ true) where
+  abbrev start : Climb ℕ
+  start = record { last = b.node; bookmark = InPlace; site = s }
+
+  abbrev way : List (OpenNode ℕ)
+  way = before (is_node f) (above b.node (stack s))
+
+  all : (list_any (is_node f) (above b.node (stack s)) ≡ true) × (above f (above b.node (stack s)) ≡ above f (stack s)) × (list_any (is_node b.node) (stack s) ≡ true)
+  all = any-after (is_node f) (is_node b.node) (stack s) under is_open_now
+
+  b-stands : (0 < deep b.node 0 (trees s)) × (0 < b.node)
+  b-stands =
+      let bs = any-each _ (is_node b.node) (stack s) h.each all.2 in
+      let same : bs.0.node ≡ b.node = eqb-true bs.0.node b.node bs.2 in
+      subst (λ (k : ℕ). (0 < deep k 0 (trees s)) × (0 < k)) same bs.1
+
+  f-stands : (0 < deep f 0 (trees s)) × (0 < f)
+  f-stands =
+      let fs = any-each _ (is_node f) (stack s) h.each is_open_now in
+      let same : fs.0.node ≡ f = eqb-true fs.0.node f fs.2 in
+      subst (λ (k : ℕ). (0 < deep k 0 (trees s)) × (0 < k)) same fs.1
+
+  begins : Climbing numbers b.node (above b.node (stack s)) start
+  begins =
+      let out = pairs-after _ (is_node b.node) (stack s) h.order all.2 in
+      let out_is : out.0.node ≡ b.node = eqb-true out.0.node b.node out.1 in
+      record {
+        counted = h.counted;
+        low = (deep-there s.nodes.made (trees s) h.counted b.node 0 b-stands.0).0;
+        pos = b-stands.1;
+        each = each-map _ _ (λ x p. (inl p.0, p.1)) (stack s) h.each;
+        behind = each-both _ _ _ (λ x p q. (p.0, subst (λ (k : ℕ). deep x.node k (trees s) ≡ 0) out_is q)) (above b.node (stack s)) (each-among _ (above b.node (stack s)) (stack s) (among-after (is_node b.node) (stack s)) h.each) out.2;
+        order = h.order;
+        front = scope-front (λ x. Plain numbers x.name) (stops tag_of Default) (is_node f) (is_node b.node) (in_scope (stops tag_of Default) (is_node f)) (stack s) (λ x ys. refl) (not-table numbers numbers-tell 0) scope under;
+        block_in = (inl b-stands.0, b-stands.1);
+        plain = h.plain;
+      }
+
+  way-low : Each (λ x. x.node < s.nodes.made) way
+  way-low =
+      let up = each-among _ (above b.node (stack s)) (stack s) (among-after (is_node b.node) (stack s)) h.each in
+      before-each _ (is_node f) (above b.node (stack s)) (each-map _ _ (λ x p. (deep-there s.nodes.made (trees s) h.counted x.node 0 p.0).0) (above b.node (stack s)) up)
+
+  booked-start : Booked f way start
+  booked-start = record {
+    low = (deep-there s.nodes.made (trees s) h.counted f 0 f-stands.0).0;
+    has = has;
+    others = each-both _ _ _ (λ x p q. (p, q)) way (way-others f (above b.node (stack s))) way-low;
+    marked = tt;
+  }
+
+  pub settles-there : (at : ℕ) (c : Climb ℕ) → climbed numbers at b.node 0 way start ≡ Goes c → Settles f b.node (current (above f (stack s))) c
+  settles-there at c e =
+      let a = at-nearest (is_node f) (above b.node (stack s)) all.0 in
+      let k : Climbing numbers b.node (a.at ∷ a.up) c = subst (OnGoes (Climbing numbers b.node (a.at ∷ a.up))) e (climbed-climbs numbers at b.node way (a.at ∷ a.up) 0 start (subst (λ (l : List (OpenNode ℕ)). Climbing numbers b.node l start) a.is begins)) in
+      let m : Booked f [] c = subst (OnGoes (Booked f [])) e (climbed-booked at f b.node 0 way start booked-start) in
+      let fits = place-fits numbers b.node (a.at ∷ a.up) c k a.at a.up refl in
+      let ancestor : current (above f (stack s)) ≡ current a.up = ap current (sym all.1 ∙ a.up_is) in
+      record {
+        begun = k.pos;
+        last_in = k.low;
+        block_begun = k.block_in.1;
+        block_in = there-low c.site.nodes.made (trees c.site) k.counted b.node c.last k.block_in.0;
+        ancestor_in = rw (ancestor) (current-low c.site.nodes.made (trees c.site) k.counted c.last a.up k.behind.1);
+        place_outside = rw (ancestor) (sym (deep-is (place_node (place_in numbers (current a.up) c.site)) c.last (trees c.site) (at-most c.site.nodes.made (trees c.site) k.counted c.last)) ∙ fits.outside);
+        formatting_open = any-among (is_node f) a.at a.up (stack c.site) a.sought (front-among _ (a.at ∷ a.up) (stack c.site) k.front);
+        entry = m.has;
+        bookmark = bookmark-there f c.bookmark c.site.items m.marked;
+      }
+
+  pub turns-there : TurnsBy f b.node s
+  turns-there = record { begun = b-stands.1; block_in = (deep-there s.nodes.made (trees s) h.counted b.node 0 b-stands.0).0; settles = settles-there }
+
+pub kept-turns-by : (s : SiteOf ℕ) (f : ℕ) (block : OpenNode ℕ) → Kept numbers s → is_open f (stack s) ≡ true → in_scope (stops tag_of Default) (is_node f) (stack s) ≡ true → list_any (is_entry f) s.items ≡ true → furthest_block tag_of f (stack s) ≡ Some block → TurnsBy f block.node s
+kept-turns-by s f block k o scope e b = turns-there s f block (to-well numbers s k) o scope e (special-there tag_of (below f (stack s)) block b)
+
+pub turned-keeps : (at name : ℕ) (s t : SiteOf ℕ) (turn : code.Turn) → Kept numbers s → turned numbers at name s ≡ Goes (turn_of turn t) → Kept numbers t
+turned-keeps at name s t turn.Next k is = from-well numbers t (subst (OnGoes (WellAfter numbers numbers-tell at)) is (turned-well numbers numbers-tell at name s (to-well numbers s k)))
+turned-keeps at name s t turn.Ended k is = from-well numbers t (subst (OnGoes (WellAfter numbers numbers-tell at)) is (turned-well numbers numbers-tell at name s (to-well numbers s k)))
+
+pub unless-turns-by : (v : Bool) (code : ErrorCode) (at : ℕ) (s t : SiteOf ℕ) (f : ℕ) (block : OpenNode ℕ) → Goes (error_unless v code at s) ≡ Goes t → Kept numbers s → is_open f (stack s) ≡ true → in_scope (stops tag_of Default) (is_node f) (stack s) ≡ true → list_any (is_entry f) s.items ≡ true → furthest_block tag_of f (stack t) ≡ Some block → TurnsBy f block.node t
+unless-turns-by v code at s t f block is k o scope e b =
+    let same : error_unless v code at s ≡ t = cc in
+    subst (λ (u : SiteOf ℕ). TurnsBy f block.node u) same
+    (kept-turns-by (error_unless v code at s) f block (kept-error v code at s k) (rw (unless-stack v code at s) o) (rw (unless-stack v code at s) scope) (rw (unless-items v code at s) e) (rw (same) b))
+
+pub turn-keeps : (at name : ℕ) (s new : SiteOf ℕ) (r : Result code.Turn Refusal) → Kept numbers s → TurnGives r new (turned numbers at name s) → IfOk r (λ t. Kept numbers new)
+turn-keeps at name s new (Ok t) k is = turned-keeps at name s new t k is
+turn-keeps at name s new (Err e) k is = tt
+
+-- turns, so many
+pub turns-next : (at left name : ℕ) (s d : SiteOf ℕ) → 0 < left → turned numbers at name s ≡ Goes (Next d) → turns numbers at left name s ≡ turns numbers at (left - 1) name d
+turns-next at zero name s d some e = absurd (omega arith)
+turns-next at (suc k) name s d some e = let less : suc k - 1 ≡ k = omega arith in rw (e, less) refl
+
+pub turns-ended : (at left name : ℕ) (s d : SiteOf ℕ) → 0 < left → turned numbers at name s ≡ Goes (Ended d) → turns numbers at left name s ≡ Goes d
+turns-ended at zero name s d some e = absurd (omega arith)
+turns-ended at (suc k) name s d some e = rw (e) refl
+
+pub turns-refused : (at left name : ℕ) (s : SiteOf ℕ) (r : Refusal) → 0 < left → turned numbers at name s ≡ Refused r → turns numbers at left name s ≡ Refused r
+turns-refused at zero name s r some e = absurd (omega arith)
+turns-refused at (suc k) name s r some e = rw (e) refl
+
+pub turns-none : (at left name : ℕ) (s : SiteOf ℕ) → left ≤ 0 → turns numbers at left name s ≡ Goes s
+turns-none at zero name s none = refl
+turns-none at (suc k) name s none = absurd (omega arith)
+
+pub adopted-turns : (at name : ℕ) (s : SiteOf ℕ) (o : Outcome (SiteOf ℕ)) → is_unlisted numbers at name s ≡ false → turns numbers at most_turns name s ≡ o → adopted numbers at name s ≡ o
+adopted-turns at name s o e is = rw (e) is
+
+pub adopted-pops : (at name : ℕ) (s : SiteOf ℕ) → is_unlisted numbers at name s ≡ true → adopted numbers at name s ≡ Goes (with_stack (drop 1 (stack s)) s)
+adopted-pops at name s e = rw (e) refl
+
+pub adopted-gives : {A : Type 0} (at name : ℕ) (s new : SiteOf ℕ) (r : Result A Refusal) → is_unlisted numbers at name s ≡ false → Gives r new (turns numbers at most_turns name s) → Gives r new (adopted numbers at name s)
+adopted-gives at name s new r e g = rw (e) g

@@ -1,0 +1,281 @@
+-- The adoption agency keeps what the open nodes need: a turn, and all turns.
+use Rattle.std.proofs.Common.{◌≡◌, ◌≢◌, ℕ, zero, suc, ◌<◌, Bool, true, false, not, leb, cond, List, [], ◌∷◌, Option, Some, None, refl, sym, ◌∙◌, ap, subst, arith, inl, find, drop}
+use Rattle.std.proofs.lemmas.Bool.{eqb-true}
+use Rattle.std.specs.Prelude.{◌&&◌, ◌||◌}
+use Rattle.std.specs.List.{list_any}
+use Rattle.std.specs.Option.{option_map_or}
+use Rattle.hnodes.specs.Forest.{What, element, Forest}
+use Rattle.hnodes.specs.Edits.{graft, make}
+use Rattle.hopen.specs.Nearest.{before, without, put_before}
+use Rattle.hopen.specs.Stack.{OpenNode, is_node, is_open, current, above, below, in_scope, furthest_block}
+use Rattle.hopen.specs.Scopes.{is_named, stops}
+use Rattle.hopen.specs.declared.scope.Scope.TheVariants.{Default}
+use Rattle.hopen.specs.declared.bookmark.Bookmark.{Bookmark}
+use Rattle.hopen.specs.declared.bookmark.Bookmark.TheVariants.{InPlace, After}
+use Rattle.hopen.specs.Formatting.{EntryOf, Item, marker, entry, is_entry, find_entry, without_entry, for_node, booked}
+use Rattle.names.specs.declared.tag.Tag.TheVariants.{Table}
+use Rattle.names.specs.declared.error.ErrorCode.{ErrorCode}
+use Rattle.names.specs.declared.error.ErrorCode.TheVariants.{TreeInBody}
+use Rattle.names.specs.declared.refusal.Refusal.TheVariants.{TooManyNodes}
+use Rattle.names.specs.Sets.{is_special, stops_scope, has_implied_end}
+use Rattle.hnodes.proofs.Counted.{deep-there}
+use Rattle.hnodes.proofs.Deep.{deep}
+use Rattle.hadopt.specs.Naming.{Naming}
+use Rattle.hadopt.specs.Site.{Goes, Refused, and_then, SiteOf, stack, trees, with_trees, with_items, with_stack, with_error, error_unless, current_is}
+use Rattle.hadopt.specs.Places.{place_in}
+use Rattle.hadopt.specs.Closes.{past, popped_to, without_implied, closed, other_end}
+use Rattle.hadopt.specs.Adopts.{Turn, Next, Ended, next_turn, Climb, most_turns, settled, popped_with, climbed, ended_climb, adopted_by, turned_with, turned, turns, is_unlisted, adopted}
+use Rattle.hadopt.specs.Kept.{Each, Pairs, TellsTables}
+use Rattle.hadopt.proofs.Lists.{each-map, each-both, pairs-map, Among, empty, skip, keep, among-all, among-after, each-among, pairs-among, among-without, Front, front-among, front-pairs, front-each, pairs-put}
+use Rattle.hadopt.proofs.Climbing.{OnGoes, goes-then, find-each, Plain, PlainEntries, plain-without, plain-with_node, Climbing, climbed-climbs}
+use Rattle.hadopt.proofs.Searching.{any-after, any-each, pairs-after, scope-front, at-nearest, special-there}
+use Rattle.hadopt.proofs.Settling.{Well, StandsAt, place-fits, placed-well, block-stands, ended, ended-sound, ended-out, ended-below, ended-above, ended-stands, ended-new, above-apart, block-apart}
+
+module _ {X : Type 0} where
+  pub put-none : (p : X → Bool) (new : X) (xs : List X) → list_any p xs ≡ false → put_before p new xs ≡ xs
+  put-none p new [] h = refl
+  put-none p new (x ∷ xs) h = go (p x) h (put-none p new xs)
+    where
+      go : (v : Bool) → (v || list_any p xs) ≡ false → (list_any p xs ≡ false → put_before p new xs ≡ xs) → cond v (new ∷ x ∷ xs) (x ∷ put_before p new xs) ≡ x ∷ xs
+      go true h' r = cc
+      go false h' r = ap (λ l. x ∷ l) (r h')
+
+  pub each-put-any : (P : X → Type 0) (p : X → Bool) (new : X) (xs : List X) → P new → Each P xs → Each P (put_before p new xs)
+  each-put-any P p new [] n e = tt
+  each-put-any P p new (x ∷ xs) n e = go (p x) (each-put-any P p new xs n e.1)
+    where
+      go : (v : Bool) → Each P (put_before p new xs) → Each P (cond v (new ∷ x ∷ xs) (x ∷ put_before p new xs))
+      go true r = (n, e)
+      go false r = (e.0, r)
+
+  pub among-past : (p : X → Bool) (xs : List X) → Among (past p xs) xs
+  among-past p [] = empty
+  among-past p (x ∷ xs) = go (p x) (among-past p xs)
+    where
+      go : (v : Bool) → Among (past p xs) xs → Among (cond v (past p xs) (x ∷ xs)) (x ∷ xs)
+      go true r = skip r
+      go false r = among-all (x ∷ xs)
+
+  pub among-drop : (xs : List X) → Among (drop 1 xs) xs
+  among-drop [] = empty
+  among-drop (x ∷ xs) = skip (among-all xs)
+
+  pub among-trans : (xs ys zs : List X) → Among xs ys → Among ys zs → Among xs zs
+  among-trans xs ys zs a b = go xs ys zs a b
+    where
+      go : (xs ys zs : List X) → Among xs ys → Among ys zs → Among xs zs
+      go xs [] [] a b = a
+      go xs (y ∷ ys) [] a b = elim b [ ]
+      go xs ys (z ∷ zs) a (skip b) = skip (go xs ys zs a b)
+      go xs (y ∷ ys) (z ∷ zs) (skip a) (keep b) = skip (go xs ys zs a b)
+      go (x ∷ xs) (y ∷ ys) (z ∷ zs) (keep a) (keep b) = keep (go xs ys zs a b)
+
+module _ {N : Type 0} (n : Naming N) where
+  abbrev PlainItem : Item N → Type 0
+  PlainItem marker = Unit {0}
+  PlainItem (entry e) = Plain n e.name
+
+  pub to-items : (items : List (Item N)) → PlainEntries n items → Each PlainItem items
+  to-items [] h = tt
+  to-items (marker ∷ items) h = (tt, to-items items h)
+  to-items (entry e ∷ items) h = (h.0, to-items items h.1)
+
+  pub from-items : (items : List (Item N)) → Each PlainItem items → PlainEntries n items
+  from-items [] h = tt
+  from-items (marker ∷ items) h = from-items items h.1
+  from-items (entry e ∷ items) h = (h.0, from-items items h.1)
+
+  plain-for : (new : ℕ) (i : Item N) → PlainItem i → PlainItem (for_node new i)
+  plain-for new marker h = tt
+  plain-for new (entry e) h = h
+
+  pub plain-booked : (old new : ℕ) (b : Bookmark) (items : List (Item N)) → PlainEntries n items → PlainEntries n (booked old new b items)
+  plain-booked old new InPlace items h = plain-with_node n old new items h
+  plain-booked old new (After k) items h = go (find (is_entry old) items) refl
+    where
+      go : (o : Option (Item N)) → find (is_entry old) items ≡ o → PlainEntries n (option_map_or (λ i. put_before (is_entry k) (for_node new i) (without (is_entry old) items)) o items)
+      go None e = h
+      go (Some i) e = from-items (put_before (is_entry k) (for_node new i) (without (is_entry old) items))
+          (each-put-any PlainItem (is_entry k) (for_node new i) (without (is_entry old) items) (plain-for new i (find-each PlainItem (is_entry old) items i (to-items items h) e))
+          (each-among PlainItem (without (is_entry old) items) items (among-without (is_entry old) items) (to-items items h)))
+
+  -- Where nodes go from the stack, entries from the list, or an error comes.
+
+  pub fewer : (s : SiteOf N) (open_now : List (OpenNode N)) → Among open_now (stack s) → Well n s → Well n (with_stack open_now s)
+  fewer s open_now a h = record { counted = h.counted; each = each-among _ open_now (stack s) a h.each; order = pairs-among _ open_now (stack s) a h.order; plain = h.plain }
+
+  pub listed-as : (s : SiteOf N) (items : List (Item N)) → PlainEntries n items → Well n s → Well n (with_items items s)
+  listed-as s items p h = record { counted = h.counted; each = h.each; order = h.order; plain = p }
+
+  pub erred : (s : SiteOf N) (code : ErrorCode) (at : ℕ) → Well n s → Well n (with_error code at s)
+  erred s code at h = record { counted = h.counted; each = h.each; order = h.order; plain = h.plain }
+
+  pub erred-unless : (v : Bool) (s : SiteOf N) (code : ErrorCode) (at : ℕ) → Well n s → Well n (error_unless v code at s)
+  erred-unless true s code at h = h
+  erred-unless false s code at h = erred s code at h
+
+  pub closed-well : (at : ℕ) (sought : OpenNode N → Bool) (s : SiteOf N) → Well n s → Well n (closed n at sought s)
+  closed-well at sought s h =
+      let t = without_implied n sought s in
+      let k = erred-unless (current_is sought t) t TreeInBody at (fewer s _ (among-past (λ x. has_implied_end (n.tag x.name) && not (sought x)) (stack s)) h) in
+      fewer (error_unless (current_is sought t) TreeInBody at t) _ (among-after sought (stack (error_unless (current_is sought t) TreeInBody at t))) k
+
+  pub other-well : (at : ℕ) (name : N) (s : SiteOf N) → Well n s → Well n (other_end n at name s)
+  other-well at name s h = go (in_scope (λ x. is_special (n.tag x.name)) (is_named n.same name) (stack s))
+    where
+      go : (v : Bool) → Well n (cond v (closed n at (is_named n.same name) s) (with_error TreeInBody at s))
+      go true = closed-well at (is_named n.same name) s h
+      go false = erred s TreeInBody at h
+
+  -- the new element takes its place
+  module _ (block : ℕ) (fe : EntryOf N) (bookmark : Bookmark) (s : SiteOf N) (h : Well n s) (stands : StandsAt n block s) where
+    abbrev count : ℕ
+    count = s.nodes.made
+
+    abbrev w : What N
+    w = element fe.name fe.attrs
+
+    abbrev f' : Forest N
+    f' = ended count (trees s) h.counted block stands.0 stands.1 w
+
+    abbrev new : OpenNode N
+    new = record { node = count; name = fe.name }
+
+    abbrev left_open : List (OpenNode N)
+    left_open = without (is_node fe.node) (stack s)
+
+    less : Among left_open (stack s)
+    less = among-without (is_node fe.node) (stack s)
+
+    low : (x : ℕ) → 0 < deep x 0 (trees s) → x ≢ count
+    low x a e = omega (arith, (deep-there count (trees s) h.counted x 0 a).0)
+
+    each' : Each (λ x. ((0 < deep x.node 0 f') × (0 < x.node)) × (x.node ≢ count)) left_open
+    each' = each-map _ _ (λ x p. ((ended-stands count (trees s) h.counted block stands.0 stands.1 w x.node p.0, p.1), low x.node p.0)) left_open (each-among _ left_open (stack s) less h.each)
+
+    order' : Pairs (λ a b. deep b.node a.node f' ≡ 0) left_open
+    order' = pairs-map (λ x. x.node ≢ count) _ _ (λ a b p q r. ended-out count (trees s) h.counted block stands.0 stands.1 w b.node a.node q p r) left_open (each-map _ _ (λ x p. p.1) left_open each') (pairs-among _ left_open (stack s) less h.order)
+
+    new-stands : (0 < deep count 0 f') × (0 < count)
+    new-stands = (ended-new count (trees s) h.counted block stands.0 stands.1 w, omega (arith, (deep-there count (trees s) h.counted block 0 stands.0).0))
+
+    open-well : (v : Bool) → list_any (is_node block) left_open ≡ v
+        → Each (λ x. (0 < deep x.node 0 f') × (0 < x.node)) (put_before (is_node block) new left_open) × Pairs (λ a b. deep b.node a.node f' ≡ 0) (put_before (is_node block) new left_open)
+    open-well false e = rw (put-none (is_node block) new left_open e) (each-map _ _ (λ x p. p.0) left_open each', order')
+    open-well true e =
+        let a = at-nearest (is_node block) left_open e in
+        let is : a.at.node ≡ block = eqb-true a.at.node block a.sought in
+        let old_order = pairs-among _ left_open (stack s) less h.order in
+        let front : Front (λ y. ((is_node block y ≡ false) × Each (λ b. deep b.node y.node (trees s) ≡ 0) (a.at ∷ a.up)) × (y.node ≢ count)) (a.at ∷ a.up) left_open =
+        front-each _ _ _ (λ y p q. (p, q.1)) (a.at ∷ a.up) left_open (front-pairs (λ y. is_node block y ≡ false) (λ x y. deep y.node x.node (trees s) ≡ 0) (a.at ∷ a.up) left_open a.front old_order) each' in
+        let behind = each-among _ (a.at ∷ a.up) left_open (front-among _ (a.at ∷ a.up) left_open a.front) each' in
+        let up_order = (pairs-among (λ x y. deep y.node x.node (trees s) ≡ 0) (a.at ∷ a.up) left_open (front-among _ (a.at ∷ a.up) left_open a.front) old_order).0 in (
+          each-put-any _ (is_node block) new left_open new-stands (each-map _ _ (λ x p. p.0) left_open each'),
+          pairs-put _ _ (is_node block) a.at new a.up left_open (λ y p. p.0.0) a.sought front
+              (λ y p. ended-below count (trees s) h.counted block stands.0 stands.1 w y.node p.1 (subst (λ (k : ℕ). deep k y.node (trees s) ≡ 0) is p.0.1.0)) (
+                ended-above count (trees s) h.counted block stands.0 stands.1 w a.at.node behind.0.1 (rw is (block-apart count (trees s) h.counted block stands.0 stands.1 w)),
+                each-both (λ y. deep y.node a.at.node (trees s) ≡ 0) (λ y. ((0 < deep y.node 0 f') × (0 < y.node)) × (y.node ≢ count)) _
+                    (λ y p q. ended-above count (trees s) h.counted block stands.0 stands.1 w y.node q.1 (above-apart count (trees s) h.counted block stands.0 stands.1 w y.node (subst (λ (k : ℕ). deep y.node k (trees s) ≡ 0) is p))) a.up up_order behind.1,
+              )
+              order',
+        )
+
+    pub settled-well : Well n (settled block count fe bookmark (record s { nodes = make w s.nodes }))
+    settled-well =
+        let o = open-well (list_any (is_node block) left_open) refl in
+        record { counted = ended-sound count (trees s) h.counted block stands.0 stands.1 w; each = o.0; order = o.1; plain = plain-booked fe.node count bookmark s.items h.plain }
+
+module _ {N : Type 0} (n : Naming N) (tells : TellsTables n) (at : ℕ) where
+  -- the last node at its place, and the new element
+  ended-well : (fe : EntryOf N) (block : ℕ) (r : OpenNode N) (up : List (OpenNode N)) (c : Climb N) → Climbing n block (r ∷ up) c → OnGoes (Well n) (ended_climb n at fe block (current up) c)
+  ended-well fe block r up c h = go (leb c.site.nodes.limit c.site.nodes.made)
+    where
+      go : (v : Bool) → OnGoes (Well n) (and_then (cond v (Refused (TooManyNodes at)) (Goes (record (with_trees (graft c.last (place_in n (current up) c.site) (trees c.site)) c.site) { nodes = make (element fe.name fe.attrs) (record c.site.nodes { trees = graft c.last (place_in n (current up) c.site) (trees c.site) }) })))
+          (λ t. Goes (settled block c.site.nodes.made fe c.bookmark t)))
+      go true = tt
+      go false =
+          let fits = place-fits n block (r ∷ up) c h r up refl in
+          settled-well n block fe c.bookmark (with_trees (graft c.last (place_in n (current up) c.site) (trees c.site)) c.site) (placed-well n block (r ∷ up) c h (place_in n (current up) c.site) fits) (block-stands n block (r ∷ up) c h (place_in n (current up) c.site) fits)
+
+  -- no stop is a table
+  pub not-table : (x : OpenNode N) → stops n.tag Default x ≡ false → Plain n x.name
+  not-table x h = go (n.same x.name (n.known Table)) refl
+    where
+      go : (v : Bool) → n.same x.name (n.known Table) ≡ v → v ≡ false
+      go false e = refl
+      go true e = let is : n.tag x.name ≡ Table = tells x.name e in let stop : stops n.tag Default x ≡ true = ap stops_scope is in let clash = sym h ∙ stop in cc
+
+  abbrev pub WellAfter : Turn (SiteOf N) → Type 0
+  WellAfter (Next s) = Well n s
+  WellAfter (Ended s) = Well n s
+
+  module _ (fe : EntryOf N) (s : SiteOf N) (h : Well n s) where
+    by-well : (b : OpenNode N) → list_any (is_node b.node) (before (is_node fe.node) (stack s)) ≡ true → is_open fe.node (stack s) ≡ true → in_scope (stops n.tag Default) (is_node fe.node) (stack s) ≡ true
+        → OnGoes WellAfter (adopted_by n at fe s b)
+    by-well b under is_open_now scope =
+        let all = any-after (is_node fe.node) (is_node b.node) (stack s) under is_open_now in
+        let a = at-nearest (is_node fe.node) (above b.node (stack s)) all.0 in
+        let bs = any-each _ (is_node b.node) (stack s) h.each all.2 in
+        let b_is : bs.0.node ≡ b.node = eqb-true bs.0.node b.node bs.2 in
+        let b_stands : StandsAt n b.node s = subst (λ (k : ℕ). StandsAt n k s) b_is bs.1 in
+        let out = pairs-after _ (is_node b.node) (stack s) h.order all.2 in
+        let out_is : out.0.node ≡ b.node = eqb-true out.0.node b.node out.1 in
+        let start : Climb N = record { last = b.node; bookmark = InPlace; site = s } in
+        let begins : Climbing n b.node (above b.node (stack s)) start = record {
+          counted = h.counted;
+          low = (deep-there s.nodes.made (trees s) h.counted b.node 0 b_stands.0).0;
+          pos = b_stands.1;
+          each = each-map _ _ (λ x p. (inl p.0, p.1)) (stack s) h.each;
+          behind = each-both _ _ _ (λ x p q. (p.0, subst (λ (k : ℕ). deep x.node k (trees s) ≡ 0) out_is q)) (above b.node (stack s)) (each-among _ (above b.node (stack s)) (stack s) (among-after (is_node b.node) (stack s)) h.each) out.2;
+          order = h.order;
+          front = scope-front (λ x. Plain n x.name) (stops n.tag Default) (is_node fe.node) (is_node b.node) (in_scope (stops n.tag Default) (is_node fe.node)) (stack s) (λ x ys. refl) not-table scope under;
+          block_in = (inl b_stands.0, b_stands.1);
+          plain = h.plain;
+        } in
+        let way = before (is_node fe.node) (above b.node (stack s)) in
+        goes-then (Climbing n b.node (a.at ∷ a.up)) WellAfter (climbed n at b.node 0 way start) _
+        (climbed-climbs n at b.node way (a.at ∷ a.up) 0 start (subst (λ (l : List (OpenNode N)). Climbing n b.node l start) a.is begins))
+        (λ c k. goes-then (Well n) WellAfter (ended_climb n at fe b.node (current (above fe.node (stack s))) c) (λ t. Goes (Next t))
+        (rw (← all.1, a.up_is) (ended-well fe b.node a.at a.up c k))
+        (λ t m. m))
+
+  popped-well : (fe : EntryOf N) (s : SiteOf N) → Well n s → Well n (popped_with fe s)
+  popped-well fe s h = listed-as n (popped_to (is_node fe.node) s) (without_entry fe.node s.items) (plain-without n fe.node s.items h.plain) (fewer n s _ (among-after (is_node fe.node) (stack s)) h)
+
+  with-well : (fe : EntryOf N) (s : SiteOf N) → Well n s → OnGoes WellAfter (turned_with n at fe s)
+  with-well fe s h = go (is_open fe.node (stack s)) refl (in_scope (stops n.tag Default) (is_node fe.node) (stack s)) refl (current_is (is_node fe.node) s)
+    where
+      under : (t : SiteOf N) → Well n t → is_open fe.node (stack t) ≡ true → in_scope (stops n.tag Default) (is_node fe.node) (stack t) ≡ true → (o : Option (OpenNode N)) → furthest_block n.tag fe.node (stack t) ≡ o
+          → OnGoes WellAfter (option_map_or (adopted_by n at fe t) o (Goes (Ended (popped_with fe t))))
+      under t k x y None e = popped-well fe t k
+      under t k x y (Some b) e = by-well fe t k b (special-there n.tag (below fe.node (stack t)) b e) x y
+
+      go : (x : Bool) → is_open fe.node (stack s) ≡ x → (y : Bool) → in_scope (stops n.tag Default) (is_node fe.node) (stack s) ≡ y → (z : Bool)
+          → OnGoes WellAfter (cond (not x) (Goes (Ended (with_items (without_entry fe.node s.items) (with_error TreeInBody at s)))) (cond (not y) (Goes (Ended (with_error TreeInBody at s))) (option_map_or (adopted_by n at fe (error_unless z TreeInBody at s)) (furthest_block n.tag fe.node (stack (error_unless z TreeInBody at s))) (Goes (Ended (popped_with fe (error_unless z TreeInBody at s)))))))
+      go false i y j z = listed-as n (with_error TreeInBody at s) (without_entry fe.node s.items) (plain-without n fe.node s.items h.plain) (erred n s TreeInBody at h)
+      go true i false j z = erred n s TreeInBody at h
+      go true i true j true = under s h i j (furthest_block n.tag fe.node (stack s)) refl
+      go true i true j false = under (with_error TreeInBody at s) (erred n s TreeInBody at h) i j (furthest_block n.tag fe.node (stack s)) refl
+
+  pub turned-well : (name : N) (s : SiteOf N) → Well n s → OnGoes WellAfter (turned n at name s)
+  turned-well name s h = go (find_entry n.same name s.items)
+    where
+      go : (o : Option (EntryOf N)) → OnGoes WellAfter (option_map_or (λ f. turned_with n at f s) o (Goes (Ended (other_end n at name s))))
+      go None = other-well n at name s h
+      go (Some f) = with-well f s h
+
+  turns-well : (k : ℕ) (name : N) (s : SiteOf N) → Well n s → OnGoes (Well n) (turns n at k name s)
+  turns-well zero name s h = h
+  turns-well (suc k) name s h = goes-then WellAfter (Well n) (turned n at name s) (next_turn (turns n at k name)) (turned-well name s h) (next (turns-well k name))
+    where
+      next : ((t : SiteOf N) → Well n t → OnGoes (Well n) (turns n at k name t)) → (t : Turn (SiteOf N)) → WellAfter t → OnGoes (Well n) (next_turn (turns n at k name) t)
+      next r (Next t) m = r t m
+      next r (Ended t) m = m
+
+  -- the adoption agency keeps it
+  pub adopted-well : (name : N) (s : SiteOf N) → Well n s → OnGoes (Well n) (adopted n at name s)
+  adopted-well name s h = go (is_unlisted n at name s)
+    where
+      go : (v : Bool) → OnGoes (Well n) (cond v (Goes (with_stack (drop 1 (stack s)) s)) (turns n at most_turns name s))
+      go true = fewer n s _ (among-drop (stack s)) h
+      go false = turns-well 8 name s h

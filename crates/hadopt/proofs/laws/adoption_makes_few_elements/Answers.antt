@@ -1,0 +1,6 @@
+use Rattle.hadopt.specs.Naming.{texts}
+use Rattle.hadopt.proofs.Bound.{adopted-makes}
+use Rattle.hadopt.proofs.laws.adoption_makes_few_elements.Goals as goal
+
+pub returns : goal.returns
+returns c = λ at name before after is. adopted-makes texts at name before after is

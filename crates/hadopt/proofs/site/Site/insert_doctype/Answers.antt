@@ -1,0 +1,14 @@
+use Rattle.std.proofs.Common.{rules}
+use Rattle.hadopt.specs.Naming.{numbers}
+use Rattle.std.specs.Prelude.{ℕ, Result, Ok}
+use Rattle.names.specs.declared.refusal.Refusal.{Refusal}
+use Rattle.hnodes.specs.declared.node.Place.TheVariants.{LastIn}
+use Rattle.hadopt.proofs.Standing.{root-stands}
+use Rattle.hadopt.proofs.Calls.{gives-kept, added-kept}
+use Rattle.hadopt.proofs.site.Site.insert_doctype.Goals as goal
+
+pub returns-clause-done : goal.returns-clause-done
+returns-clause-done c = search rules
+
+pub returns-clause-kept : goal.returns-clause-kept
+returns-clause-kept c = λ k. let r : Result ℕ Refusal = Ok c.in_ok-node.node in gives-kept numbers r _ _ (returns-clause-done c) (added-kept numbers c.args.at _ (LastIn 0) c.args.self.now (root-stands numbers c.args.self.now k) k)

@@ -1,0 +1,16 @@
+use Rattle.std.proofs.Common.{rules}
+use Rattle.hadopt.specs.Naming.{numbers}
+use Rattle.hadopt.proofs.Calls.{fewer-kept}
+use Rattle.hadopt.proofs.Lists.{each-among, among-without}
+use Rattle.hadopt.specs.Site.{stack}
+use Rattle.hopen.specs.Stack.{is_node}
+use Rattle.hadopt.proofs.site.Site.leave.Goals as goal
+
+pub invariant_of-self : goal.invariant_of-self
+invariant_of-self c = rw (c.remove.ensures) (each-among _ _ _ (among-without (is_node c.args.node) c.self.inside.stack.stack) c.self.invariant)
+
+pub returns-clause-site : goal.returns-clause-site
+returns-clause-site c = search rules
+
+pub returns-clause-kept : goal.returns-clause-kept
+returns-clause-kept c = λ k. rw (returns-clause-site c) (fewer-kept numbers c.args.self.now _ (among-without _ (stack c.args.self.now)) k)

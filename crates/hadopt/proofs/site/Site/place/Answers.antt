@@ -1,0 +1,10 @@
+use Rattle.std.proofs.Common.{rules}
+use Rattle.hadopt.specs.Naming.{numbers}
+use Rattle.hadopt.proofs.Standing.{place-stands}
+use Rattle.hadopt.proofs.site.Site.place.Goals as goal
+
+pub returns-clause-place : goal.returns-clause-place
+returns-clause-place c = search rules
+
+pub returns-clause-stands : goal.returns-clause-stands
+returns-clause-stands c = λ k. rw (returns-clause-place c) (place-stands numbers c.args.self.now k)

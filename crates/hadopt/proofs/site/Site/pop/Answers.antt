@@ -1,0 +1,16 @@
+use Rattle.hadopt.proofs.Lists.{each-among}
+use Rattle.std.proofs.Common.{rules}
+use Rattle.hadopt.specs.Naming.{numbers}
+use Rattle.hadopt.proofs.Calls.{fewer-kept}
+use Rattle.hadopt.proofs.Turning.{among-drop}
+use Rattle.hadopt.specs.Site.{stack}
+use Rattle.hadopt.proofs.site.Site.pop.Goals as goal
+
+pub invariant_of-self : goal.invariant_of-self
+invariant_of-self c = rw (c.pop.ensures.rest) (each-among _ _ _ (among-drop c.self.inside.stack.stack) c.self.invariant)
+
+pub returns-clause-site : goal.returns-clause-site
+returns-clause-site c = search rules
+
+pub returns-clause-kept : goal.returns-clause-kept
+returns-clause-kept c = λ k. rw (returns-clause-site c) (fewer-kept numbers c.args.self.now _ (among-drop (stack c.args.self.now)) k)

@@ -1,0 +1,17 @@
+use Rattle.std.proofs.Common.{rules}
+use Rattle.hadopt.specs.Naming.{numbers}
+use Rattle.hadopt.proofs.Calls.{fewer-kept}
+use Rattle.hadopt.proofs.Lists.{each-among, among-after}
+use Rattle.hadopt.specs.Site.{stack}
+use Rattle.std.proofs.Common.{nat_eq}
+use Rattle.hopen.specs.Scopes.{is_named}
+use Rattle.hadopt.proofs.site.Site.pop_to.Goals as goal
+
+pub invariant_of-self : goal.invariant_of-self
+invariant_of-self c = rw (c.pop_to.ensures) (each-among _ _ _ (among-after (is_named nat_eq c.args.name) c.self.inside.stack.stack) c.self.invariant)
+
+pub returns-clause-site : goal.returns-clause-site
+returns-clause-site c = search rules
+
+pub returns-clause-kept : goal.returns-clause-kept
+returns-clause-kept c = λ k. rw (returns-clause-site c) (fewer-kept numbers c.args.self.now _ (among-after _ (stack c.args.self.now)) k)

@@ -1,0 +1,10 @@
+use Rattle.std.proofs.Common.{rules}
+use Rattle.hadopt.specs.Naming.{numbers}
+use Rattle.hadopt.proofs.Calls.{removed-kept}
+use Rattle.hadopt.proofs.site.Site.remove_entry.Goals as goal
+
+pub returns-clause-site : goal.returns-clause-site
+returns-clause-site c = search rules
+
+pub returns-clause-kept : goal.returns-clause-kept
+returns-clause-kept c = λ k. rw (returns-clause-site c) (removed-kept numbers c.args.node c.args.self.now k)

@@ -1,0 +1,63 @@
+-- What is inserted (13.2.6.1). `at` is the place of the token. Nodes are counted before the open ones.
+use Rattle.std.specs.Prelude.{ℕ, Bool, false, ◌&&◌, nat_le, is_none, length, List, [], ◌∷◌, Option, if◌then◌else◌}
+use Rattle.std.specs.List.{list_any}
+use Rattle.std.specs.Option.{option_map_or}
+use Rattle.hnodes.specs.Forest.{Attribute, What, element, Forest}
+use Rattle.hnodes.specs.Spots.{attributes_of}
+use Rattle.hnodes.specs.Edits.{graft, make, add_attribute, add_char, text_before}
+use Rattle.hnodes.specs.declared.node.Place.{Place}
+use Rattle.hopen.specs.Stack.{OpenNode, current}
+use Rattle.hopen.specs.Formatting.{pushed as entry_pushed}
+use Rattle.names.specs.declared.placed.Placed.{Placed}
+use Rattle.names.specs.declared.refusal.Refusal.TheVariants.{TooManyNodes, TooDeep}
+use Rattle.hadopt.specs.Naming.{Naming}
+use Rattle.hadopt.specs.Site.{Outcome, Goes, Refused, and_then, SiteOf, stack, trees, with_trees, with_stack, with_items, node_of}
+
+module _ {N : Type 0} (at : ℕ) where
+  -- a new node, loose
+  abbrev pub made : What N → SiteOf N → Outcome (SiteOf N)
+  made what s =
+      if nat_le s.nodes.limit s.nodes.made then Refused (TooManyNodes at)
+      else Goes (record s { nodes = make what s.nodes })
+
+  -- a new node at a place
+  abbrev pub added : What N → Place → SiteOf N → Outcome (SiteOf N)
+  added what place s = and_then (made what s) (λ t. Goes (with_trees (graft s.nodes.made place (trees t)) t))
+
+  -- a node becomes the current one
+  abbrev pub pushed : OpenNode N → SiteOf N → Outcome (SiteOf N)
+  pushed x s =
+      if nat_le s.open_nodes.limit (length (stack s)) then Refused (TooDeep at)
+      else Goes (with_stack (x ∷ stack s) s)
+
+  -- a new element at a place, which becomes the current node
+  abbrev pub inserted : N → List (Attribute N) → Place → SiteOf N → Outcome (SiteOf N)
+  inserted name attrs place s =
+      and_then (added (element name attrs) place s) (pushed (record { node = s.nodes.made; name = name }))
+
+  -- a character
+  abbrev pub put : ℕ → Place → SiteOf N → Outcome (SiteOf N)
+  put c place s =
+      if is_none (text_before place (trees s)) && nat_le s.nodes.limit s.nodes.made then Refused (TooManyNodes at)
+      else Goes (record s { nodes = add_char c place s.nodes })
+
+module _ {N : Type 0} where
+  -- a run of characters, one by one, at one place
+  abbrev pub put_each : List Placed → Place → SiteOf N → Outcome (SiteOf N)
+  put_each [] place s = Goes s
+  put_each (c ∷ cs) place s = and_then (put c.at c.ch place s) (put_each cs place)
+
+module _ {N : Type 0} (n : Naming N) where
+  -- Push onto the list of active formatting elements (13.2.4.3): the current node, with the token that it was made for.
+  abbrev pub listed : N → List (Attribute N) → SiteOf N → SiteOf N
+  listed name attrs s =
+      with_items (entry_pushed n.same (record { node = node_of (current (stack s)); name = name; attrs = attrs }) s.items) s
+
+  abbrev pub has_attribute : N → Option (List (Attribute N)) → Bool
+  has_attribute name attrs = option_map_or (list_any (λ a. n.same a.0 name)) attrs false
+
+  -- those of the attributes that a node lacks
+  abbrev pub with_missing : ℕ → List (Attribute N) → Forest N → Forest N
+  with_missing node [] f = f
+  with_missing node (a ∷ attrs) f =
+      with_missing node attrs (if has_attribute a.0 (attributes_of node f) then f else add_attribute node a f)

@@ -1,0 +1,14 @@
+pub mod Naming
+pub mod Site
+pub mod Gives
+pub mod Places
+pub mod Inserts
+pub mod Closes
+pub mod Passings
+pub mod Reconstructs
+pub mod Adopts
+pub mod Spelled
+pub mod Kept
+pub mod Made
+pub mod Meets
+pub mod Settles

@@ -1,0 +1,91 @@
+//! The edits of the tree and of the stack that the adoption agency is made of.
+
+ghost use Rattle.std.specs.Prelude.{◌≡◌, ◌<◌, ℕ, map, IfOk, OnOk, Some, true};
+ghost use Rattle.hnodes.specs.Edits.{IsPlace, graft, move_all, place_node};
+ghost use Rattle.hnodes.specs.Forest.{element, IsOutside};
+ghost use Rattle.hnodes.specs.Rows.{attribute_of};
+ghost use Rattle.hnodes.specs.Spots.{attributes_of};
+ghost use Rattle.hnodes.specs.declared.node.Place.{Place};
+ghost use Rattle.hopen.specs.Nearest.{without, changed, put_before};
+ghost use Rattle.hopen.specs.Opens.{open_of};
+ghost use Rattle.hopen.specs.Stack.{is_node, is_open};
+ghost use Rattle.hadopt.specs.Gives.{Gives};
+ghost use Rattle.hadopt.specs.Inserts.{made};
+ghost use Rattle.hadopt.specs.Site.{Goes, stack, trees, with_stack, with_trees};
+
+use crate::site::Site;
+use hnodes::{NodeId, Place};
+use hopen::Open;
+use names::{Attr, NameId, Refusal};
+use std::alloc::AllocError;
+
+impl Site {
+    /// A new element, loose.
+    pub(crate) fn create(
+        &mut self,
+        name: NameId,
+        attrs: Vec<Attr>,
+        at: u64,
+    ) -> Result<NodeId, Refusal>
+        ensures done { Gives result self.new (made at (element name (map attribute_of attrs.items)) self.old) }
+        ensures number { IfOk result (λ n. (n ≡ self.old.nodes.made) × (0 < n)) }
+        ensures outside { IfOk result (λ n. (k : ℕ) → k < n → IsOutside k n (trees self.new)) }
+        ensures apart { IfOk result (λ n. (k : ℕ) → k < n → IsOutside n k (trees self.new)) }
+        ensures places { IfOk result (λ n. (p : Place) → IsPlace p self.old.nodes → IsPlace p self.new.nodes) }
+        ensures attrs { IfOk result (λ n. attributes_of n (trees self.new) ≡ Some (map attribute_of attrs.items)) }
+    {
+        // its clause says that nodes are nodes
+        self.tree.document();
+        self.tree.create_element(name, attrs, at)
+    }
+
+    /// Moves a node from where it stands to a place.
+    pub(crate) fn graft(&mut self, child: NodeId, place: Place)
+        requires child_in { child < self.old.nodes.made }
+        requires place { IsPlace place self.old.nodes }
+        requires not_document { 0 < child }
+        requires not_inside { IsOutside (place_node place) child (trees self.old) }
+        ensures { self.new ≡ with_trees (graft child place (trees self.old)) self.old }
+    {
+        self.tree.insert(child, place);
+    }
+
+    /// The children of a node become the last children of another.
+    pub(crate) fn move_children(&mut self, from: NodeId, to: NodeId)
+        requires from_in { from < self.old.nodes.made }
+        requires to_in { to < self.old.nodes.made }
+        requires not_inside { IsOutside to from (trees self.old) }
+        ensures moved { self.new ≡ with_trees (move_all from to (trees self.old)) self.old }
+        ensures outside { IsOutside from to (trees self.old) → IsOutside from to (trees self.new) }
+    {
+        self.tree.move_children(from, to);
+    }
+
+    /// Another node takes the place of an open one.
+    pub(crate) fn replace(&mut self, node: NodeId, by: Open) -> Result<(), AllocError>
+        requires begun { 0 < by.node }
+        requires by_in { by.node < self.old.nodes.made }
+        ensures { OnOk result (self.new ≡ with_stack (changed (is_node node) (λ _. open_of by) (stack self.old)) self.old) }
+    {
+        self.stack.replace(node, by)
+    }
+
+    /// An open node leaves, and a new one comes right below another: so there is room for it.
+    pub(crate) fn exchange(
+        &mut self,
+        leaving: NodeId,
+        above: NodeId,
+        new: Open,
+        at: u64,
+    ) -> Result<(), Refusal>
+        requires begun { 0 < new.node }
+        requires new_in { new.node < self.old.nodes.made }
+        requires leaving { is_open leaving (stack self.old) ≡ true }
+        ensures { Gives result self.new (Goes (with_stack (put_before (is_node above) (open_of new) (without (is_node leaving) (stack self.old))) self.old)) }
+    {
+        // its clause says that there are no more than may be
+        self.stack.len();
+        self.stack.remove(leaving);
+        self.stack.insert_below(above, new, at)
+    }
+}

@@ -1,0 +1,150 @@
+//! What is inserted (HTML Standard, 13.2.6.1).
+
+ghost use Rattle.std.specs.Prelude.{◌≡◌, ◌<◌, ◌+◌, ◌^◌, ◌∷◌, ℕ, List, Some, false, length, map, nat_eq, string_bytes, IfOk, OnOk};
+ghost use Rattle.std.specs.List.{list_any};
+ghost use Rattle.hnodes.specs.Edits.{IsPlace};
+ghost use Rattle.hnodes.specs.Forest.{Attribute, comment, doctype};
+ghost use Rattle.hnodes.specs.Rows.{attribute_of};
+ghost use Rattle.hnodes.specs.Spots.{attributes_of};
+ghost use Rattle.hnodes.specs.declared.node.Place.TheVariants.{LastIn};
+ghost use Rattle.hnodes.specs.declared.node.Place.{Place};
+ghost use Rattle.hopen.specs.Formatting.{pushed as entry_pushed};
+ghost use Rattle.hopen.specs.Opens.{open_of};
+ghost use Rattle.names.specs.Placed.{placed};
+ghost use Rattle.names.specs.Tags.{number_of};
+ghost use Rattle.hadopt.specs.Gives.{Gives};
+ghost use Rattle.hadopt.specs.Inserts.{added, pushed, inserted, put, put_each, listed, has_attribute, with_missing};
+ghost use Rattle.hadopt.specs.Kept.{Kept, OpenStands, PlaceStands};
+ghost use Rattle.hadopt.specs.Naming.{numbers};
+ghost use Rattle.hadopt.specs.Site.{Goes, and_then, stack, trees, with_items, with_trees};
+
+use crate::site::Site;
+use hnodes::{Doctype, NodeId, Place};
+use hopen::Open;
+use names::{Attr, NameId, Refusal, Tag};
+use std::alloc::AllocError;
+
+/// Whether an attribute of a name is among others.
+fn has_name(attrs: &[Attr], name: NameId) -> bool
+    ensures { result ≡ list_any (λ a. nat_eq a.name name) attrs.now }
+{
+    attrs.iter().any(|attr| attr.name == name)
+}
+
+impl Site {
+    /// A new element at a place, which becomes the current node. `at` is the place of the token, as in all calls that may be refused.
+    pub fn insert_element(
+        &mut self,
+        name: NameId,
+        attrs: Vec<Attr>,
+        place: Place,
+        at: u64,
+    ) -> Result<NodeId, Refusal>
+        requires { IsPlace place self.old.nodes }
+        ensures done { Gives result self.new (inserted at name (map attribute_of attrs.items) place self.old) }
+        ensures number { IfOk result (λ n. n ≡ self.old.nodes.made) }
+        ensures kept { Kept numbers self.old → PlaceStands place (trees self.old) → IfOk result (λ _. Kept numbers self.new) }
+    {
+        let node = self.create(name, attrs, at)?;
+        self.graft(node, place);
+        self.push(Open { node, name }, at)?;
+        Ok(node)
+    }
+
+    /// The same for a formatting element: it also gets an entry in the list of active formatting elements.
+    pub fn insert_formatting(
+        &mut self,
+        name: NameId,
+        attrs: Vec<Attr>,
+        place: Place,
+        at: u64,
+    ) -> Result<NodeId, Refusal>
+        requires { IsPlace place self.old.nodes }
+        ensures done { Gives result self.new (and_then (inserted at name (map attribute_of attrs.items) place self.old) (λ t. Goes (listed numbers name (map attribute_of attrs.items) t))) }
+        ensures number { IfOk result (λ n. n ≡ self.old.nodes.made) }
+        ensures kept { Kept numbers self.old → PlaceStands place (trees self.old) → nat_eq name (number_of Tag.Table) ≡ false → IfOk result (λ _. Kept numbers self.new) }
+    {
+        let node = self.create(name, attrs, at)?;
+        self.add_entry(node, name)?;
+        self.graft(node, place);
+        self.push(Open { node, name }, at)?;
+        Ok(node)
+    }
+
+    /// An entry for an element, with the attributes that it has.
+    fn add_entry(&mut self, node: NodeId, name: NameId) -> Result<(), AllocError>
+        requires { node < self.old.nodes.made }
+        ensures { (attrs : List (Attribute ℕ)) → attributes_of node (trees self.old) ≡ Some attrs → OnOk result (self.new ≡ with_items (entry_pushed nat_eq (record { node = node; name = name; attrs = attrs }) self.old.items) self.old) }
+    {
+        match self.tree.attrs(node) {
+            Some(attrs) => self.list.push(node, name, attrs),
+            None => Ok(()),
+        }
+    }
+
+    /// A comment at a place.
+    pub fn insert_comment(&mut self, text: String, place: Place, at: u64) -> Result<NodeId, Refusal>
+        requires { IsPlace place self.old.nodes }
+        ensures done { Gives result self.new (added at (comment (string_bytes text)) place self.old) }
+        ensures kept { Kept numbers self.old → PlaceStands place (trees self.old) → IfOk result (λ _. Kept numbers self.new) }
+    {
+        let node = self.tree.create_comment(text, at)?;
+        self.tree.insert(node, place);
+        Ok(node)
+    }
+
+    /// A doctype last in the document.
+    pub fn insert_doctype(&mut self, texts: Doctype, at: u64) -> Result<NodeId, Refusal>
+        ensures done { Gives result self.new (added at (doctype (string_bytes texts.name) (string_bytes texts.public_id) (string_bytes texts.system_id)) (LastIn 0) self.old) }
+        ensures kept { Kept numbers self.old → IfOk result (λ _. Kept numbers self.new) }
+    {
+        let document = self.tree.document();
+        let node = self.tree.create_doctype(texts, at)?;
+        self.tree.append(node, document);
+        Ok(node)
+    }
+
+    /// A character at a place: at the end of the text right before the place, or in a new text there.
+    pub fn put(&mut self, c: char, place: Place, at: u64) -> Result<(), Refusal>
+        requires { IsPlace place self.old.nodes }
+        ensures done { Gives result self.new (put at c place self.old) }
+        ensures kept { Kept numbers self.old → PlaceStands place (trees self.old) → IfOk result (λ _. Kept numbers self.new) }
+    {
+        self.tree.put_char(c, place, at)
+    }
+
+    /// An element gets those of the attributes that it lacks.
+    pub fn add_missing(&mut self, node: NodeId, attrs: Vec<Attr>) -> Result<(), Refusal>
+        requires { node < self.old.nodes.made }
+        ensures done { Gives result self.new (Goes (with_trees (with_missing numbers node (map attribute_of attrs.items) (trees self.old)) self.old)) }
+        ensures kept { Kept numbers self.old → IfOk result (λ _. Kept numbers self.new) }
+    {
+        for attr in attrs {
+            if !self.has_attribute(node, attr.name) {
+                self.tree.add_attr(node, attr)?;
+            }
+        }
+        Ok(())
+    }
+
+    /// Whether an element has an attribute of a name.
+    fn has_attribute(&self, node: NodeId, name: NameId) -> bool
+        requires { node < self.now.nodes.made }
+        ensures { result ≡ has_attribute numbers name (attributes_of node (trees self.now)) }
+    {
+        match self.tree.attrs(node) {
+            Some(attrs) => has_name(attrs, name),
+            None => false,
+        }
+    }
+
+    /// A node that was made becomes the current one.
+    pub fn push(&mut self, opened: Open, at: u64) -> Result<(), Refusal>
+        requires begun { 0 < opened.node }
+        requires made { opened.node < self.old.nodes.made }
+        ensures done { Gives result self.new (pushed at (open_of opened) self.old) }
+        ensures kept { Kept numbers self.old → OpenStands (trees self.old) (open_of opened ∷ stack self.old) → IfOk result (λ _. Kept numbers self.new) }
+    {
+        self.stack.push(opened, at)
+    }
+}

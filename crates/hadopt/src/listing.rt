@@ -1,0 +1,106 @@
+//! The entries of the list of active formatting elements (HTML Standard, 13.2.4.3), as the rules edit it.
+
+ghost use Rattle.std.specs.Prelude.{◌≡◌, ◌∷◌, IfOk, IsTrue, nat_eq};
+ghost use Rattle.std.specs.List.{list_any};
+ghost use Rattle.std.specs.Option.{option_map};
+ghost use Rattle.hopen.specs.Formatting.{marker, cleared, entry_of, entry_at, find_entry, is_entry, without_entry, with_node, for_node, booked, has_bookmark};
+ghost use Rattle.hopen.specs.Items.{entry_is};
+ghost use Rattle.hopen.specs.Nearest.{changed_at};
+ghost use Rattle.hadopt.specs.Gives.{Gives};
+ghost use Rattle.hadopt.specs.Kept.{Kept};
+ghost use Rattle.hadopt.specs.Naming.{numbers};
+ghost use Rattle.hadopt.specs.Site.{Goes, with_items};
+
+use crate::site::Site;
+use hnodes::NodeId;
+use hopen::{Bookmark, Entry, copy_attrs};
+use names::{NameId, Refusal};
+use std::alloc::AllocError;
+
+impl Site {
+    /// One more marker.
+    pub fn marker(&mut self) -> Result<(), Refusal>
+        ensures done { Gives result self.new (Goes (with_items (marker ∷ self.old.items) self.old)) }
+        ensures kept { Kept numbers self.old → IfOk result (λ _. Kept numbers self.new) }
+    {
+        self.list.marker()?;
+        Ok(())
+    }
+
+    /// Removes the last marker and what comes after it, or all where there is none.
+    pub fn clear_to_marker(&mut self)
+        ensures site { self.new ≡ with_items (cleared self.old.items) self.old }
+        ensures kept { Kept numbers self.old → Kept numbers self.new }
+    {
+        self.list.clear();
+    }
+
+    /// Removes the entry of a node, where it has one.
+    pub fn remove_entry(&mut self, node: NodeId)
+        ensures site { self.new ≡ with_items (without_entry node self.old.items) self.old }
+        ensures kept { Kept numbers self.old → Kept numbers self.new }
+    {
+        self.list.remove(node);
+    }
+
+    /// The entry of a node becomes that of another one.
+    pub(crate) fn replace_entry(&mut self, from: NodeId, to: NodeId)
+        ensures { self.new ≡ with_items (with_node from to self.old.items) self.old }
+    {
+        self.list.replace(from, to);
+    }
+
+    /// The entry that has so many items after it becomes that of another node.
+    pub(crate) fn renew_entry(&mut self, back: usize, node: NodeId)
+        ensures { self.new ≡ with_items (changed_at back (for_node node) self.old.items) self.old }
+    {
+        self.list.renew(back, node);
+    }
+
+    /// The entry of a node becomes that of another one, and stands at the bookmark.
+    pub(crate) fn move_to_bookmark(&mut self, from: NodeId, to: NodeId, bookmark: Bookmark)
+        requires entry { IsTrue (list_any (is_entry from) self.old.items) }
+        requires bookmark { IsTrue (has_bookmark from bookmark self.old.items) }
+        ensures { self.new ≡ with_items (booked from to bookmark self.old.items) self.old }
+    {
+        self.list.move_to_bookmark(from, to, bookmark);
+    }
+
+    /// A copy of an entry.
+    fn copy(&self, entry: Option<&Entry>) -> Result<Option<Entry>, AllocError>
+        ensures { IfOk result (λ copy. option_map entry_is copy ≡ option_map (λ e. entry_is e.now) entry.entry) }
+    {
+        match entry {
+            Some(entry) => {
+                let attrs = copy_attrs(self.alloc, &entry.attrs)?;
+                Ok(Some(Entry {
+                    node: entry.node,
+                    name: entry.name,
+                    attrs,
+                }))
+            }
+            None => Ok(None),
+        }
+    }
+
+    /// A copy of the entry of a node.
+    pub(crate) fn entry_of(&self, node: NodeId) -> Result<Option<Entry>, AllocError>
+        ensures { IfOk result (λ copy. option_map entry_is copy ≡ entry_of node self.now.items) }
+    {
+        self.copy(self.list.entry_of(node))
+    }
+
+    /// A copy of the entry that has so many items after it.
+    pub(crate) fn entry_at(&self, back: usize) -> Result<Option<Entry>, AllocError>
+        ensures { IfOk result (λ copy. option_map entry_is copy ≡ entry_at back self.now.items) }
+    {
+        self.copy(self.list.get(back))
+    }
+
+    /// A copy of the last entry of a name after the last marker.
+    pub(crate) fn find_entry(&self, name: NameId) -> Result<Option<Entry>, AllocError>
+        ensures { IfOk result (λ copy. option_map entry_is copy ≡ find_entry nat_eq name self.now.items) }
+    {
+        self.copy(self.list.find(name))
+    }
+}

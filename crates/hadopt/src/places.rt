@@ -1,0 +1,125 @@
+//! Where a node goes (HTML Standard, 13.2.6.1).
+
+ghost use Rattle.std.specs.Prelude.{◌≡◌, ◌<◌, IfSome, ◌&&◌, false};
+ghost use Rattle.std.specs.Option.{option_map, option_map_or};
+ghost use Rattle.hnodes.specs.Edits.{IsPlace};
+ghost use Rattle.hnodes.specs.declared.node.Place.TheVariants.{LastIn};
+ghost use Rattle.hopen.specs.Opens.{open_of};
+ghost use Rattle.hopen.specs.Stack.{current};
+ghost use Rattle.names.specs.Tags.{tag_of};
+ghost use Rattle.hadopt.specs.Kept.{Kept, PlaceStands};
+ghost use Rattle.hadopt.specs.Naming.{numbers};
+ghost use Rattle.hadopt.specs.Places.{is_fostering, beside, foster_place, place_in, place};
+ghost use Rattle.hadopt.specs.Site.{stack, trees, from_top, node_of};
+
+use crate::site::Site;
+use hnodes::Place;
+use hopen::Open;
+use names::Tag;
+
+/// Whether what is put into such an element is foster parented.
+pub(crate) fn fosters(tag: Tag) -> bool
+    ensures { result ≡ is_fostering tag }
+{
+    matches!(
+        tag,
+        Tag::Table | Tag::Tbody | Tag::Tfoot | Tag::Thead | Tag::Tr
+    )
+}
+
+impl Site {
+    /// The appropriate place for inserting a node.
+    pub fn place(&self) -> Place
+        ensures place { result ≡ place numbers self.now }
+        ensures within { IsPlace result self.now.nodes }
+        ensures stands { Kept numbers self.now → PlaceStands result (trees self.now) }
+    {
+        self.place_in(self.stack.current())
+    }
+
+    /// Last in the current node; in the document where no node is open.
+    pub fn place_in_current(&self) -> Place
+        ensures place { result ≡ LastIn (node_of (current (stack self.now))) }
+        ensures within { IsPlace result self.now.nodes }
+        ensures stands { Kept numbers self.now → PlaceStands result (trees self.now) }
+    {
+        self.last_in(self.stack.current())
+    }
+
+    /// Last in the first open node; in the document where no node is open.
+    pub fn place_in_first(&self) -> Place
+        ensures place { result ≡ LastIn (node_of (from_top 0 self.now)) }
+        ensures within { IsPlace result self.now.nodes }
+        ensures stands { Kept numbers self.now → PlaceStands result (trees self.now) }
+    {
+        self.last_in(self.stack.from_top(0))
+    }
+
+    /// Last in the document.
+    pub fn place_in_document(&self) -> Place
+        ensures place { result ≡ LastIn 0 }
+        ensures within { IsPlace result self.now.nodes }
+        ensures stands { Kept numbers self.now → PlaceStands result (trees self.now) }
+    {
+        Place::LastIn(self.tree.document())
+    }
+
+    /// The appropriate place with an open node as the target; in the document where there is none.
+    pub(crate) fn place_in(&self, target: Option<Open>) -> Place
+        requires { IfSome target (λ x. x.node < self.now.nodes.made) }
+        ensures place { result ≡ place_in numbers (option_map open_of target) self.now }
+        ensures within { IsPlace result self.now.nodes }
+    {
+        // A copy for the first of two calls.
+        let tested = target;
+        if self.is_fostered(tested) {
+            return self.foster_place();
+        }
+        self.last_in(target)
+    }
+
+    /// Whether what goes into an open node is foster parented.
+    fn is_fostered(&self, target: Option<Open>) -> bool
+        ensures { result ≡ (self.now.foster && option_map_or (λ x. is_fostering (tag_of x.name)) (option_map open_of target) false) }
+    {
+        match target {
+            Some(top) => self.foster && fosters(top.name.tag()),
+            None => false,
+        }
+    }
+
+    /// Where a node goes that is foster parented.
+    fn foster_place(&self) -> Place
+        ensures place { result ≡ foster_place numbers self.now }
+        ensures within { IsPlace result self.now.nodes }
+    {
+        match self.stack.nearest(Tag::Table.number()) {
+            Some(table) => self.beside(table),
+            None => self.last_in(self.stack.from_top(0)),
+        }
+    }
+
+    /// Right before a table; last in the open node above it where it has no parent.
+    fn beside(&self, table: Open) -> Place
+        requires { table.node < self.now.nodes.made }
+        ensures place { result ≡ beside self.now (open_of table) }
+        ensures within { IsPlace result self.now.nodes }
+    {
+        if self.tree.parent(table.node).is_some() {
+            return Place::Before(table.node);
+        }
+        self.last_in(self.stack.above(table.node))
+    }
+
+    /// Last in an open node, or in the document where there is none.
+    fn last_in(&self, target: Option<Open>) -> Place
+        requires { IfSome target (λ x. x.node < self.now.nodes.made) }
+        ensures place { result ≡ LastIn (node_of (option_map open_of target)) }
+        ensures within { IsPlace result self.now.nodes }
+    {
+        match target {
+            Some(top) => Place::LastIn(top.node),
+            None => Place::LastIn(self.tree.document()),
+        }
+    }
+}

@@ -1,0 +1,109 @@
+//! What is popped (HTML Standard, 13.2.6.3, and the contexts of 13.2.6.4.9, 13.2.6.4.13 and 13.2.6.4.14).
+
+ghost use Rattle.std.specs.Prelude.{◌≡◌, drop, nat_eq};
+ghost use Rattle.hopen.specs.Nearest.{without};
+ghost use Rattle.hopen.specs.Opens.{open_of};
+ghost use Rattle.hopen.specs.Scopes.{is_named, is_of};
+ghost use Rattle.hopen.specs.Stack.{is_node};
+ghost use Rattle.names.specs.Tags.{tag_of};
+ghost use Rattle.hadopt.specs.Closes.{past, popped_to};
+ghost use Rattle.hadopt.specs.Kept.{Kept};
+ghost use Rattle.hadopt.specs.Naming.{numbers};
+ghost use Rattle.hadopt.specs.Passings.{passes};
+ghost use Rattle.hadopt.specs.Site.{stack, with_stack};
+
+use crate::site::Site;
+use hnodes::NodeId;
+use hopen::{Group, Open, OpenStack};
+use names::{NameId, Tag};
+
+/// Which open nodes are popped, up to the first that is not one of them.
+#[derive(Clone, Copy)]
+pub enum Passing {
+    /// Those with implied end tags, except for a name.
+    Implied(Option<NameId>),
+    /// Those that are no table context.
+    Table,
+    /// Those that are no table body context.
+    Body,
+    /// Those that are no table row context.
+    Row,
+}
+
+impl Passing {
+    /// Whether a node is popped.
+    fn is(self, node: Open) -> bool
+        ensures { result ≡ passes self (open_of node) }
+    {
+        let tag = node.name.tag();
+        match self {
+            Passing::Implied(None) => tag.has_implied_end(),
+            Passing::Implied(Some(kept)) => tag.has_implied_end() && node.name != kept,
+            Passing::Table => !matches!(tag, Tag::Table | Tag::Html),
+            Passing::Body => !matches!(tag, Tag::Tbody | Tag::Tfoot | Tag::Thead | Tag::Html),
+            Passing::Row => !matches!(tag, Tag::Tr | Tag::Html),
+        }
+    }
+}
+
+/// Pops nodes as long as they pass.
+fn pop_past(stack: &mut OpenStack, passing: Passing)
+    ensures { stack.new ≡ record stack.old { stack = past (passes passing) stack.old.stack } }
+{
+    while let Some(top) = stack.current() {
+        let wanted = passing;
+        if !wanted.is(top) {
+            return;
+        }
+        stack.pop();
+    }
+}
+
+impl Site {
+    /// Pops nodes up to the first that does not pass.
+    pub fn pop_past(&mut self, passing: Passing)
+        ensures site { self.new ≡ with_stack (past (passes passing) (stack self.old)) self.old }
+        ensures kept { Kept numbers self.old → Kept numbers self.new }
+    {
+        pop_past(&mut self.stack, passing);
+    }
+
+    /// Pops the current node, where there is one.
+    pub fn pop(&mut self)
+        ensures site { self.new ≡ with_stack (drop 1 (stack self.old)) self.old }
+        ensures kept { Kept numbers self.old → Kept numbers self.new }
+    {
+        self.stack.pop();
+    }
+
+    /// Pops nodes up to and with the nearest of a name; all where there is none.
+    pub fn pop_to(&mut self, name: NameId)
+        ensures site { self.new ≡ popped_to (is_named nat_eq name) self.old }
+        ensures kept { Kept numbers self.old → Kept numbers self.new }
+    {
+        self.stack.pop_to(name);
+    }
+
+    /// Pops nodes up to and with the nearest of a group; all where there is none.
+    pub fn pop_to_group(&mut self, group: Group)
+        ensures site { self.new ≡ popped_to (is_of tag_of group) self.old }
+        ensures kept { Kept numbers self.old → Kept numbers self.new }
+    {
+        self.stack.pop_to_group(group);
+    }
+
+    /// Pops nodes up to and with a node; all where it is not open.
+    pub(crate) fn pop_to_node(&mut self, node: NodeId)
+        ensures { self.new ≡ popped_to (is_node node) self.old }
+    {
+        self.stack.pop_to_node(node);
+    }
+
+    /// Takes a node out of the stack, where it is open.
+    pub fn leave(&mut self, node: NodeId)
+        ensures site { self.new ≡ with_stack (without (is_node node) (stack self.old)) self.old }
+        ensures kept { Kept numbers self.old → Kept numbers self.new }
+    {
+        self.stack.remove(node);
+    }
+}

@@ -1,0 +1,180 @@
+//! What the rules ask of the open nodes and of the formatting elements.
+
+ghost use Rattle.std.specs.Prelude.{◌≡◌, ◌<◌, IfSome, length, nat_eq, slice_get};
+ghost use Rattle.std.specs.List.{list_all};
+ghost use Rattle.std.specs.Option.{option_map};
+ghost use Rattle.hopen.specs.Formatting.{find_entry};
+ghost use Rattle.hopen.specs.Opens.{open_of};
+ghost use Rattle.hopen.specs.Scopes.{stops as stops_node, is_named, is_of};
+ghost use Rattle.hopen.specs.Stack.{current as current_of, is_node, is_open, in_scope as is_in_scope, furthest_block};
+ghost use Rattle.hopen.specs.declared.scope.Scope.TheVariants.{Default};
+ghost use Rattle.names.specs.Sets.{may_stay_open};
+ghost use Rattle.names.specs.Tags.{tag_of};
+ghost use Rattle.hadopt.specs.Closes.{stops_item};
+ghost use Rattle.hadopt.specs.Places.{is_fostering};
+ghost use Rattle.hadopt.specs.Site.{stack, from_top, current_is};
+
+use crate::places::fosters;
+use crate::site::Site;
+use hnodes::NodeId;
+use hopen::{Group, Open, Scope};
+use names::{NameId, Tag};
+
+/// Whether a name stops the search for an open li, dd or dt.
+fn stops_item(tag: Tag) -> bool
+    ensures { result ≡ stops_item tag }
+{
+    match tag {
+        Tag::Address | Tag::Div | Tag::P => false,
+        _ => tag.is_special(),
+    }
+}
+
+impl Site {
+    /// The current node.
+    pub fn current(&self) -> Option<Open>
+        ensures node { option_map open_of result ≡ current_of (stack self.now) }
+        ensures made { IfSome result (λ x. (0 < x.node) × (x.node < self.now.nodes.made)) }
+    {
+        self.stack.current()
+    }
+
+    /// The open node with so many above it: 0 is html.
+    pub fn from_top(&self, down: usize) -> Option<Open>
+        ensures node { option_map open_of result ≡ from_top down self.now }
+        ensures made { IfSome result (λ x. (0 < x.node) × (x.node < self.now.nodes.made)) }
+    {
+        self.stack.from_top(down)
+    }
+
+    /// The open node with so many below it: 0 is the current one.
+    pub fn get(&self, up: usize) -> Option<Open>
+        ensures node { option_map open_of result ≡ slice_get (stack self.now) up }
+        ensures made { IfSome result (λ x. (0 < x.node) × (x.node < self.now.nodes.made)) }
+    {
+        self.stack.get(up)
+    }
+
+    /// How many nodes are open.
+    pub fn open_count(&self) -> usize
+        ensures { result ≡ length (stack self.now) }
+    {
+        self.stack.len()
+    }
+
+    /// Whether a node is open.
+    pub fn is_open(&self, node: NodeId) -> bool
+        ensures { result ≡ is_open node (stack self.now) }
+    {
+        self.stack.contains(node)
+    }
+
+    /// Whether a node is the current one.
+    pub fn is_current(&self, node: NodeId) -> bool
+        ensures { result ≡ current_is (is_node node) self.now }
+    {
+        match self.stack.current() {
+            Some(top) => top.node == node,
+            None => false,
+        }
+    }
+
+    /// Whether the current node has a name.
+    pub fn current_is(&self, name: NameId) -> bool
+        ensures { result ≡ current_is (is_named nat_eq name) self.now }
+    {
+        match self.stack.current() {
+            Some(top) => top.name == name,
+            None => false,
+        }
+    }
+
+    /// Whether the name of the current node is of a group.
+    pub fn current_is_of(&self, group: Group) -> bool
+        ensures { result ≡ current_is (is_of tag_of group) self.now }
+    {
+        match self.stack.current() {
+            Some(top) => group.has(top.name.tag()),
+            None => false,
+        }
+    }
+
+    /// Whether the current node is a table, tbody, tfoot, thead or tr.
+    pub fn current_fosters(&self) -> bool
+        ensures { result ≡ current_is (λ x. is_fostering (tag_of x.name)) self.now }
+    {
+        match self.stack.current() {
+            Some(top) => fosters(top.name.tag()),
+            None => false,
+        }
+    }
+
+    /// Whether an element of a name is in a scope.
+    pub fn in_scope(&self, scope: Scope, name: NameId) -> bool
+        ensures { result ≡ is_in_scope (stops_node tag_of scope) (is_named nat_eq name) (stack self.now) }
+    {
+        self.stack.in_scope(scope, name)
+    }
+
+    /// Whether an element of a group is in a scope.
+    pub fn group_in_scope(&self, scope: Scope, group: Group) -> bool
+        ensures { result ≡ is_in_scope (stops_node tag_of scope) (is_of tag_of group) (stack self.now) }
+    {
+        self.stack.group_in_scope(scope, group)
+    }
+
+    /// Whether a node is in scope.
+    pub fn node_in_scope(&self, node: NodeId) -> bool
+        ensures { result ≡ is_in_scope (stops_node tag_of Default) (is_node node) (stack self.now) }
+    {
+        self.stack.node_in_scope(node)
+    }
+
+    /// Whether, going up from the current node, an element of a name comes before a special one other than address, div and p: what
+    /// the start tags li, dd and dt ask.
+    pub fn item_is_near(&self, name: NameId) -> bool
+        ensures { result ≡ is_in_scope (λ x. stops_item (tag_of x.name)) (is_named nat_eq name) (stack self.now) }
+    {
+        for up in 0..self.stack.len() {
+            let Some(node) = self.stack.get(up) else {
+                return false;
+            };
+            if node.name == name {
+                return true;
+            }
+            if stops_item(node.name.tag()) {
+                return false;
+            }
+        }
+        false
+    }
+
+    /// The topmost special node below a formatting element.
+    pub(crate) fn furthest_block(&self, formatting: NodeId) -> Option<Open>
+        ensures { option_map open_of result ≡ furthest_block tag_of formatting (stack self.now) }
+    {
+        self.stack.furthest_block(formatting)
+    }
+
+    /// Whether each open node may be open at the end of the body.
+    pub fn all_may_stay_open(&self) -> bool
+        ensures { result ≡ list_all (λ x. may_stay_open (tag_of x.name)) (stack self.now) }
+    {
+        for up in 0..self.stack.len() {
+            let Some(node) = self.stack.get(up) else {
+                return true;
+            };
+            if !node.name.tag().may_stay_open() {
+                return false;
+            }
+        }
+        true
+    }
+
+    /// The node of the last entry of a name after the last marker.
+    pub fn find(&self, name: NameId) -> Option<NodeId>
+        ensures { result ≡ option_map (λ e. e.node) (find_entry nat_eq name self.now.items) }
+    {
+        self.list.find(name).map(|entry| entry.node)
+    }
+}

@@ -1,0 +1,116 @@
+//! The state that the tree rules edit.
+
+ghost use Rattle.std.specs.Prelude.{◌≡◌, ◌<◌, IfOk, false, []};
+ghost use Rattle.hnodes.specs.Forest.{document, tree, none};
+ghost use Rattle.hadopt.specs.Gives.{Gives};
+ghost use Rattle.hadopt.specs.Kept.{Kept};
+ghost use Rattle.hadopt.specs.Naming.{numbers};
+ghost use Rattle.hadopt.specs.Site.{Goes, with_error, error_unless};
+
+use hnodes::Tree;
+use hopen::{Formatting, OpenStack};
+use names::{ErrorCode, ParseError, Refusal};
+use std::alloc::{AllocError, Global};
+use std::marker::Model;
+
+/// The nodes, the stack of open elements, the list of active formatting elements, whether foster parenting is on, and the parse
+/// errors so far, in the order in which they were raised. No call recurses over the depth of the document. After a refusal the
+/// nodes are a tree and the open nodes are among them; nothing else is said of the state then.
+#[derive(Drop)]
+pub struct Site {
+    pub(crate) tree: Tree,
+    pub(crate) stack: OpenStack,
+    pub(crate) list: Formatting,
+    pub(crate) foster: bool,
+    errors: Vec<ParseError>,
+    pub(crate) alloc: Global,
+}
+
+impl Model for Site {
+    ghost use Rattle.std.specs.Prelude.{ℕ};
+    ghost use Rattle.hadopt.specs.Site.{SiteOf};
+    ghost use Rattle.hadopt.specs.Made.{AreMade};
+    ghost use Rattle.std.specs.Coded.{codes};
+    ghost use Rattle.hnodes.specs.Coding.{coded_forest};
+
+    ghost Value = { SiteOf ℕ };
+
+    ghost coded = { Prim.hlevel (codes, coded_forest) };
+
+    ghost view = { λ s. record { nodes = s.tree; open_nodes = s.stack; items = s.list; foster = s.foster; errors = s.errors.items } };
+
+    ghost invariant = { λ s. AreMade s.tree.made s.stack.stack };
+}
+
+impl Site {
+    /// The document alone: no open nodes, no entries, no errors. At most `most_nodes` may be made, the document among them, and at
+    /// most `most_open` may be open at a time.
+    pub fn new(alloc: Global, most_nodes: u32, most_open: u32) -> Result<Self, AllocError>
+        requires { 0 < most_nodes }
+        ensures site { IfOk result (λ s. s ≡ record { nodes = record { limit = most_nodes; made = 1; trees = tree 0 document none none }; open_nodes = record { limit = most_open; stack = [] }; items = []; foster = false; errors = [] }) }
+        ensures kept { IfOk result (λ s. Kept numbers s) }
+    {
+        Ok(Site {
+            tree: Tree::new(alloc, most_nodes)?,
+            stack: OpenStack::new(alloc, most_open),
+            list: Formatting::new(alloc),
+            foster: false,
+            errors: Vec::new(alloc),
+            alloc,
+        })
+    }
+
+    /// Switches foster parenting on or off.
+    pub fn set_foster(&mut self, on: bool)
+        ensures site { self.new ≡ record self.old { foster = on } }
+        ensures kept { Kept numbers self.old → Kept numbers self.new }
+    {
+        self.foster = on;
+    }
+
+    /// One more parse error. `at` is the place of the token.
+    pub fn error(&mut self, code: ErrorCode, at: u64) -> Result<(), Refusal>
+        ensures done { Gives result self.new (Goes (with_error code at self.old)) }
+        ensures kept { Kept numbers self.old → IfOk result (λ _. Kept numbers self.new) }
+    {
+        self.errors.push(ParseError { code, at })?;
+        Ok(())
+    }
+
+    /// One more parse error where a test fails.
+    pub(crate) fn error_unless(
+        &mut self,
+        passes: bool,
+        code: ErrorCode,
+        at: u64,
+    ) -> Result<(), Refusal>
+        ensures { Gives result self.new (Goes (error_unless passes code at self.old)) }
+    {
+        if passes {
+            return Ok(());
+        }
+        self.error(code, at)
+    }
+
+    /// The tree.
+    pub fn tree(&self) -> &Tree
+        ensures { result.now ≡ self.now.nodes }
+    {
+        &self.tree
+    }
+
+    /// The parse errors so far.
+    pub fn errors(&self) -> &[ParseError]
+        ensures { result.now ≡ self.now.errors }
+    {
+        &self.errors
+    }
+
+    /// The tree and the parse errors.
+    pub fn into_parts(self) -> (Tree, Vec<ParseError>)
+        ensures tree { result.0 ≡ self.nodes }
+        ensures errors { result.1.items ≡ self.errors }
+    {
+        (self.tree, self.errors)
+    }
+}

@@ -1,0 +1,4 @@
+pub mod Ending
+pub mod Fault
+pub mod Line
+pub mod Program

@@ -1,0 +1,97 @@
+-- Where a node stands once another one has become something else.
+use Rattle.std.proofs.Common.{◌≡◌, ℕ, Bool, true, false, eqb, cond, if◌then◌else◌, List, ◌++◌, Option, Some, None, refl, sym, ◌∙◌, ap, option_and_then}
+use Rattle.std.proofs.lemmas.Bool.{eqb-true, eq-eqb}
+use Rattle.std.specs.Option.{option_map}
+use Rattle.hnodes.specs.Forest.{What, document, doctype, element, comment, text, Forest, none, tree, change_what}
+use Rattle.hnodes.specs.Spots.{Spot, spot_below, spot_of, either_of, last_or, what_of, last_child_of, previous_of}
+use Rattle.hnodes.specs.Edits.{with_text, before_place, if_text, text_before}
+use Rattle.hnodes.specs.declared.node.Place.{Place}
+use Rattle.hnodes.specs.declared.node.Place.TheVariants.{LastIn, Before}
+use Rattle.hnodes.proofs.Whats.{last_or-what}
+
+module _ {N : Type 0} (n : ℕ) (g : What N → What N) where
+  -- the same spot of node m
+  abbrev changed_spot : ℕ → Spot N → Spot N
+  changed_spot m s = record { parent = s.parent; before = s.before; what = if eqb m n then g s.what else s.what; children = change_what n g s.children; after = change_what n g s.after }
+
+  either-changed : (m : ℕ) (o u : Option (Spot N)) → either_of (option_map (changed_spot m) o) (option_map (changed_spot m) u) ≡ option_map (changed_spot m) (either_of o u)
+  either-changed m None u = refl
+  either-changed m (Some s) u = refl
+
+  below-what : (m : ℕ) (p x : Option ℕ) (f : Forest N) → spot_below m p x (change_what n g f) ≡ option_map (changed_spot m) (spot_below m p x f)
+  below-what m p x none = refl
+  below-what m p x (tree b w kids rest) = go (below-what m (Some b) None kids) (below-what m p (Some b) rest) (eqb b m) refl
+    where
+      go : spot_below m (Some b) None (change_what n g kids) ≡ option_map (changed_spot m) (spot_below m (Some b) None kids) → spot_below m p (Some b) (change_what n g rest) ≡ option_map (changed_spot m) (spot_below m p (Some b) rest)
+          → (v : Bool) → eqb b m ≡ v
+          → cond v (Some (record { parent = p; before = x; what = if eqb b n then g w else w; children = change_what n g kids; after = change_what n g rest })) (either_of (spot_below m (Some b) None (change_what n g kids)) (spot_below m p (Some b) (change_what n g rest)))
+          ≡ option_map (changed_spot m) (cond v (Some (record { parent = p; before = x; what = w; children = kids; after = rest })) (either_of (spot_below m (Some b) None kids) (spot_below m p (Some b) rest)))
+      go l r true e = ap (λ (k : ℕ). Some (record { parent = p; before = x; what = if eqb k n then g w else w; children = change_what n g kids; after = change_what n g rest })) (eqb-true b m e)
+      go l r false e = (λ i. either_of (l i) (r i)) ∙ either-changed m (spot_below m (Some b) None kids) (spot_below m p (Some b) rest)
+
+  pub spot-what : (m : ℕ) (f : Forest N) → spot_of m (change_what n g f) ≡ option_map (changed_spot m) (spot_of m f)
+  spot-what m none = refl
+  spot-what m (tree b w kids rest) =
+      let l = below-what m None None (tree b w kids none) in
+      let r = spot-what m rest in
+      (λ i. either_of (l i) (r i)) ∙ either-changed m (spot_below m None None (tree b w kids none)) (spot_of m rest)
+
+  pub what_of-what : (m : ℕ) (f : Forest N) → what_of m (change_what n g f) ≡ option_map (λ w. if eqb m n then g w else w) (what_of m f)
+  what_of-what m f = ap (option_map (λ s. s.what)) (spot-what m f) ∙ go (spot_of m f)
+    where
+      go : (o : Option (Spot N)) → option_map (λ s. s.what) (option_map (changed_spot m) o) ≡ option_map (λ w. if eqb m n then g w else w) (option_map (λ s. s.what) o)
+      go None = refl
+      go (Some s) = refl
+
+  pub last_child-what : (m : ℕ) (f : Forest N) → last_child_of m (change_what n g f) ≡ last_child_of m f
+  last_child-what m f = ap (option_and_then (λ s. last_or None s.children)) (spot-what m f) ∙ go (spot_of m f)
+    where
+      go : (o : Option (Spot N)) → option_and_then (λ s. last_or None s.children) (option_map (changed_spot m) o) ≡ option_and_then (λ s. last_or None s.children) o
+      go None = refl
+      go (Some s) = last_or-what n g None s.children
+
+  pub previous-what : (m : ℕ) (f : Forest N) → previous_of m (change_what n g f) ≡ previous_of m f
+  previous-what m f = ap (option_and_then (λ s. s.before)) (spot-what m f) ∙ go (spot_of m f)
+    where
+      go : (o : Option (Spot N)) → option_and_then (λ s. s.before) (option_map (changed_spot m) o) ≡ option_and_then (λ s. s.before) o
+      go None = refl
+      go (Some s) = refl
+
+  pub before_place-what : (place : Place) (f : Forest N) → before_place place (change_what n g f) ≡ before_place place f
+  before_place-what (LastIn p) f = last_child-what p f
+  before_place-what (Before s) f = previous-what s f
+
+module _ {N : Type 0} where
+  -- the text before a place is a text, and is what comes before the place
+  pub record IsTextBefore (place : Place) (f : Forest N) (n : ℕ) : Type 0 where
+    pub before : before_place place f ≡ Some n
+    pub bytes : List ℕ
+    pub what : what_of n f ≡ Some (text bytes)
+
+  pub text_before-is : (place : Place) (f : Forest N) (n : ℕ) → IsTextBefore place f n → text_before place f ≡ Some n
+  text_before-is place f n t = rw (t.before, t.what) refl
+
+  pub is-text_before : (place : Place) (f : Forest N) (n : ℕ) → text_before place f ≡ Some n → IsTextBefore place f n
+  is-text_before place f n e = go (before_place place f) refl e
+    where
+      with : (m : ℕ) → before_place place f ≡ Some m → (o : Option (What N)) → what_of m f ≡ o → if_text m o ≡ Some n → IsTextBefore place f n
+      with m b None w i = cc
+      with m b (Some (text t)) w i =
+          let same : m ≡ n = cc in
+          record { before = b ∙ ap (λ (k : ℕ). Some k) same; bytes = t; what = ap (λ (k : ℕ). what_of k f) (sym same) ∙ w }
+      with m b (Some document) w i = cc
+      with m b (Some (doctype a c d)) w i = cc
+      with m b (Some (element a c)) w i = cc
+      with m b (Some (comment a)) w i = cc
+
+      go : (o : Option ℕ) → before_place place f ≡ o → option_and_then (λ m. if_text m (what_of m f)) o ≡ Some n → IsTextBefore place f n
+      go None b i = cc
+      go (Some m) b i = with m b (what_of m f) refl i
+
+  -- a text that goes on is still the text before the place
+  pub text_before-longer : (place : Place) (f : Forest N) (n : ℕ) (more : List ℕ) → IsTextBefore place f n → IsTextBefore place (change_what n (with_text more) f) n
+  text_before-longer place f n more t = record {
+    before = before_place-what n (with_text more) place f ∙ t.before;
+    bytes = t.bytes ++ more;
+    what = what_of-what n (with_text more) n f ∙ rw (t.what, eq-eqb n n refl) refl;
+  }

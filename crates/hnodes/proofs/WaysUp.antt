@@ -1,0 +1,59 @@
+-- From a node to its parent, and so on.
+use Rattle.std.proofs.Common.{◌≡◌, ℕ, ◌+◌, ◌<◌, Bool, true, false, eqb, cond, List, [], ◌∷◌, Some, None, refl, sym, ◌∙◌, ap, arith, option_and_then, unwrap_or, ◌⊎◌, inl, inr}
+use Rattle.std.proofs.lemmas.Bool.{eqb-true, eq-eqb}
+use Rattle.hnodes.specs.Forest.{What, Forest, none, tree, times, join, children_of}
+use Rattle.hnodes.specs.Spots.{Spot, either_of, parent_of}
+use Rattle.hnodes.specs.Edits.{AreCounted}
+use Rattle.hnodes.specs.Passed.{above, ancestors_of, way_up}
+use Rattle.hnodes.proofs.Levels.{level, Here, Below}
+use Rattle.hnodes.proofs.Counted.{at-most, is-there}
+use Rattle.hnodes.proofs.ChildSpots.{Child, of_root, of_kids, of_rest, child, left-apart, child-spot, root-spot}
+
+module _ {N : Type 0} where
+  above-absent : (n : ℕ) (up : List ℕ) (f : Forest N) → times n f ≡ 0 → above n up f ≡ None
+  above-absent n up none h = refl
+  above-absent n up (tree b w kids rest) h = go (above-absent n (b ∷ up) kids) (above-absent n up rest) (eqb b n) h
+    where
+      go : (times n kids ≡ 0 → above n (b ∷ up) kids ≡ None) → (times n rest ≡ 0 → above n up rest ≡ None) → (u : Bool) → cond u 1 0 + (times n kids + times n rest) ≡ 0
+          → cond u (Some up) (either_of (above n (b ∷ up) kids) (above n up rest)) ≡ None
+      go l r true h' = absurd (omega arith)
+      go l r false h' = rw (l (omega arith), r (omega arith)) refl
+
+  above-row : (n : ℕ) (w : What N) (up : List ℕ) (L k R : Forest N) → times n L ≡ 0 → above n up (join L (tree n w k R)) ≡ Some up
+  above-row n w up none k R h = rw (eq-eqb n n refl) refl
+  above-row n w up (tree b v kids rest) k R h = go (above-row n w up rest k R) (eqb b n) refl h
+    where
+      go : (times n rest ≡ 0 → above n up (join rest (tree n w k R)) ≡ Some up) → (u : Bool) → eqb b n ≡ u → cond u 1 0 + (times n kids + times n rest) ≡ 0
+          → cond u (Some up) (either_of (above n (b ∷ up) kids) (above n up (join rest (tree n w k R)))) ≡ Some up
+      go r true e h' = absurd (omega arith)
+      go r false e h' = rw (above-absent n (b ∷ up) kids (omega arith)) (r (omega arith))
+
+  module _ (n q : ℕ) (w : What N) where
+    -- what a child is inside of: its parent, and what that is inside of
+    abbrev Stacked : List ℕ → Forest N → Type 0
+    Stacked up f = (ups : List ℕ) × (above q up f ≡ Some ups) × (above n up f ≡ Some (q ∷ ups))
+
+    stacked : (up : List ℕ) (L k R f : Forest N) → times q f ≡ 1 → times n f ≡ 1 → children_of q f ≡ join L (tree n w k R) → Stacked up f
+    stacked up L k R none one once is = absurd (omega arith)
+    stacked up L k R (tree b v kids rest) one once is = go (stacked (b ∷ up) L k R kids) (stacked up L k R rest) (child n q w L k R b v kids rest one once is)
+      where
+        go : (times q kids ≡ 1 → times n kids ≡ 1 → children_of q kids ≡ join L (tree n w k R) → Stacked (b ∷ up) kids) → (times q rest ≡ 1 → times n rest ≡ 1 → children_of q rest ≡ join L (tree n w k R) → Stacked up rest)
+            → Child n q w L k R b kids rest → Stacked up (tree b v kids rest)
+        go l r (of_root i j o y same z) =
+            let inside : above n (b ∷ up) kids ≡ Some (b ∷ up) = ap (above n (b ∷ up)) same ∙ above-row n w (b ∷ up) L k R (left-apart n q w L k R (ap (times n) (sym same) ∙ o)) in
+            (up, rw i refl, rw (j, inside) (ap (λ m. Some (m ∷ up)) (eqb-true b q i)))
+        go l r (of_kids i j o y a same z) = let s = l a o same in (s.0, rw (i, s.1) refl, rw (j, s.2) refl)
+        go l r (of_rest i t j o y a same) = let s = r a y same in (s.0, rw (i, above-absent q (b ∷ up) kids t) s.1, rw (j, above-absent n (b ∷ up) kids o) s.2)
+
+  -- one step
+  pub way-step : (made : ℕ) (f : Forest N) → AreCounted made f → (n : ℕ) → n < made → way_up (Some n) f ≡ n ∷ way_up (parent_of n f) f
+  way-step made f counted n h = ap (λ xs. n ∷ xs) (go (level n f (is-there made f counted n h) (at-most made f counted)))
+    where
+      go : Here n f ⊎ Below n f → ancestors_of n f ≡ way_up (parent_of n f) f
+      go (inl p) =
+          let root : above n [] f ≡ Some [] = ap (above n []) p.is ∙ above-row n p.what [] p.left p.kids p.right (left-apart n n p.what p.left p.kids p.right (ap (times n) (sym p.is) ∙ is-there made f counted n h)) in
+          ap (λ o. unwrap_or o []) root ∙ ap (λ o. way_up (option_and_then (λ (s : Spot N). s.parent) o) f) (sym (root-spot n p.what p.left p.kids p.right f (at-most made f counted n) p.is))
+      go (inr p) =
+          let one = is-there made f counted n h in
+          let s = stacked n p.parent p.what [] p.left p.kids p.right f p.one one p.is in
+          ap (λ o. unwrap_or o []) s.2 ∙ ap (λ xs. p.parent ∷ xs) (sym (ap (λ o. unwrap_or o []) s.1)) ∙ ap (λ o. way_up (option_and_then (λ (u : Spot N). u.parent) o) f) (sym (child-spot n p.parent p.what p.left p.kids p.right f p.one one p.is))

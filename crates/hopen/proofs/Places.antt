@@ -1,0 +1,51 @@
+-- The place of the nearest that is sought, and the words on lists.
+use Rattle.std.proofs.Common.{◌≡◌, ℕ, zero, suc, ◌+◌, ◌-◌, ◌<◌, ◌≤◌, Bool, true, false, cond, not, ltb, leb, ◌&&◌, ◌||◌, List, [], ◌∷◌, Option, Some, None, length, refl, sym, arith}
+use Rattle.std.specs.List.{position, position_or_len}
+use Rattle.std.proofs.lemmas.Bool.{lt-ltb, le-ltb, le-leb, lt-leb}
+use Rattle.hopen.specs.Places.{last_place}
+use Rattle.hopen.specs.Stack.{OpenNode, in_scope}
+
+module _ {X : Type 0} (sought : X → Bool) where
+  pub last_place-le : (xs : List X) → last_place sought xs ≤ length xs
+  last_place-le [] = omega arith
+  last_place-le (x ∷ xs) = go (sought x) (last_place-le xs)
+    where
+      go : (v : Bool) → last_place sought xs ≤ length xs → cond v (suc (length xs)) (last_place sought xs) ≤ suc (length xs)
+      go true i = omega arith
+      go false i = omega arith
+
+  -- what is nearer, and the place, make up the length
+  place-position : (xs : List X) → last_place sought xs + position_or_len sought xs ≡ length xs
+  place-position [] = omega arith
+  place-position (x ∷ xs) = go (sought x) (place-position xs)
+    where
+      go : (v : Bool) → last_place sought xs + position_or_len sought xs ≡ length xs → cond v (suc (length xs)) (last_place sought xs) + cond (not v) (1 + position_or_len sought xs) 0 ≡ suc (length xs)
+      go true i = omega arith
+      go false i = omega arith
+
+  pub position-none : (xs : List X) → last_place sought xs ≡ 0 → position sought xs ≡ None
+  position-none xs none =
+      let past : length xs ≤ position_or_len sought xs = omega (arith, place-position xs) in
+      rw (le-ltb (position_or_len sought xs) (length xs) past) refl
+
+  pub position-some : (xs : List X) (i : ℕ) → last_place sought xs ≡ suc i → position sought xs ≡ Some (length xs - 1 - i)
+  position-some xs i some =
+      let up : position_or_len sought xs ≡ length xs - 1 - i = omega (arith, place-position xs) in
+      let within : position_or_len sought xs < length xs = omega (arith, place-position xs) in
+      rw (lt-ltb (position_or_len sought xs) (length xs) within, up) refl
+
+-- one that is sought is in scope where no stop is nearer
+pub in_scope-places : {N : Type 0} (stops sought : OpenNode N → Bool) (xs : List (OpenNode N)) → in_scope stops sought xs ≡ (ltb 0 (last_place sought xs) && leb (last_place stops xs) (last_place sought xs))
+in_scope-places stops sought [] = refl
+in_scope-places stops sought (x ∷ xs) = go (sought x) (stops x) (in_scope-places stops sought xs)
+  where
+    go : (v w : Bool) → in_scope stops sought xs ≡ (ltb 0 (last_place sought xs) && leb (last_place stops xs) (last_place sought xs))
+        → (v || (not w && in_scope stops sought xs)) ≡ (ltb 0 (cond v (suc (length xs)) (last_place sought xs)) && leb (cond w (suc (length xs)) (last_place stops xs)) (cond v (suc (length xs)) (last_place sought xs)))
+    go true true i = rw (lt-ltb 0 (suc (length xs)) (omega arith), le-leb (suc (length xs)) (suc (length xs)) (omega arith)) refl
+    go true false i = rw (lt-ltb 0 (suc (length xs)) (omega arith), le-leb (last_place stops xs) (suc (length xs)) (omega (arith, last_place-le stops xs))) refl
+    go false true i = rw (lt-leb (suc (length xs)) (last_place sought xs) (omega (arith, last_place-le sought xs))) (none (ltb 0 (last_place sought xs)))
+      where
+        none : (v : Bool) → false ≡ (v && false)
+        none true = refl
+        none false = refl
+    go false false i = i

@@ -1,0 +1,143 @@
+-- The kept places under each change of the items.
+use Rattle.std.proofs.Common.{◌≡◌, ℕ, suc, add-one, ◌+◌, ◌-◌, ◌<◌, ◌≤◌, ◌≢◌, eqb, Bool, true, false, cond, List, [], ◌∷◌, ◌++◌, length, map, reverse, take, drop, get_or, set, ◌⊎◌, inl, inr, refl, sym, ◌∙◌, ap, subst, arith}
+use Rattle.std.proofs.lemmas.Bool.{eqb-true, eqb-false, cases_lt}
+use Rattle.std.proofs.lemmas.List.{get_or-set_same, get_or-set_other, get_or_past, get_or_default, drop-set, reverse-append, length-reverse, length-map, length-set, map-append}
+use Rattle.std.proofs.Math.Seq.{take-suc, drop-cons}
+use Rattle.hopen.specs.Stack.{OpenNode}
+use Rattle.hopen.specs.Places.{last_place}
+use Rattle.hopen.specs.NameSets.{is_in, is_in_set, set_place}
+use Rattle.hopen.specs.Kept.{opened_by, stack_of, SaysPlaces, IsKept, AreKept, Stands, AreIn}
+use Rattle.hopen.specs.declared.kept.Item.{Item}
+use Rattle.hopen.specs.declared.kept.LastPlaces.{LastPlaces}
+use Rattle.hopen.specs.declared.name_sets.NameSet.{NameSet}
+use Rattle.hopen.specs.declared.name_sets.SetPlaces.{SetPlaces}
+use Rattle.names.specs.Tags.{tag_of}
+use Rattle.hopen.proofs.Nearest.{reverse_push, reverse-map}
+
+-- One table of places.
+module _ (number : OpenNode ℕ → ℕ) (places : List ℕ) (x : OpenNode ℕ) (above : List (OpenNode ℕ)) where
+  same-eqb : (n : ℕ) → eqb n n ≡ true
+  same-eqb n = go (eqb n n) refl
+    where
+      go : (v : Bool) → eqb n n ≡ v → v ≡ true
+      go true e = refl
+      go false e = absurd (eqb-false n n e refl)
+
+  -- the number of an open node is in the table
+  pub says-in : SaysPlaces number places (x ∷ above) → number x < length places
+  says-in says = go (cases_lt (number x) (length places))
+    where
+      here : get_or places (number x) 0 ≡ suc (length above)
+      here = says (number x) ∙ rw (same-eqb (number x)) refl
+
+      go : (number x < length places) ⊎ (length places ≤ number x) → number x < length places
+      go (inl within) = within
+      go (inr past) = absurd (omega (arith, here, get_or_past places (number x) 0 past))
+
+  -- a node comes
+  pub says-more : SaysPlaces number places above → number x < length places → SaysPlaces number (set places (number x) (suc (length above))) (x ∷ above)
+  says-more says within k = go (eqb (number x) k) refl
+    where
+      go : (v : Bool) → eqb (number x) k ≡ v → get_or (set places (number x) (suc (length above))) k 0 ≡ cond v (suc (length above)) (last_place (λ y. eqb (number y) k) above)
+      go true e = ap (λ m. get_or (set places (number x) (suc (length above))) m 0) (sym (eqb-true (number x) k e)) ∙ get_or-set_same places (number x) (suc (length above)) 0 within
+      go false e = get_or-set_other places (number x) k (suc (length above)) 0 (λ same. eqb-false (number x) k e (sym same)) ∙ says k
+
+  -- it goes, and what it kept is the nearest place
+  pub says-less : SaysPlaces number places (x ∷ above) → (kept : ℕ) → kept ≡ last_place (λ y. eqb (number y) (number x)) above → SaysPlaces number (set places (number x) kept) above
+  says-less says kept is k = go (eqb (number x) k) refl (says k)
+    where
+      go : (v : Bool) → eqb (number x) k ≡ v → get_or places k 0 ≡ cond v (suc (length above)) (last_place (λ y. eqb (number y) k) above) → get_or (set places (number x) kept) k 0 ≡ last_place (λ y. eqb (number y) k) above
+      go true e here =
+          let same : number x ≡ k = eqb-true (number x) k e in
+          ap (λ m. get_or (set places (number x) kept) m 0) (sym same) ∙ get_or-set_same places (number x) kept 0 (says-in says) ∙ is ∙ ap (λ m. last_place (λ y. eqb (number y) m) above) same
+      go false e here = get_or-set_other places (number x) k kept 0 (λ same. eqb-false (number x) k e (sym same)) ∙ here
+
+-- the last item of a vector
+pub stack-more : (items : List Item) (x : Item) → stack_of (items ++ x ∷ []) ≡ opened_by x ∷ stack_of items
+stack-more items x = reverse_push opened_by items x
+
+pub length-stack_of : (items : List Item) → length (stack_of items) ≡ length items
+length-stack_of items = length-reverse (map opened_by items) ∙ length-map items opened_by
+
+module _ (items : List Item) (x : Item) where
+  -- the last item, and those before it
+  pub kept-last : AreKept (reverse (items ++ x ∷ [])) → IsKept x (stack_of items) × AreKept (reverse items)
+  kept-last k =
+      let both : IsKept x (map opened_by (reverse items)) × AreKept (reverse items) = rw (reverse-append items (x ∷ [])) at k in
+      (rw (← reverse-map opened_by items) at both.0, both.1)
+
+  pub kept-more : IsKept x (stack_of items) → AreKept (reverse items) → AreKept (reverse (items ++ x ∷ []))
+  kept-more is rest = rw (reverse-append items (x ∷ [])) (rw (reverse-map opened_by items) at is, rest)
+
+module _ (last : LastPlaces) (items : List Item) (x : Item) where
+  -- the tables have the numbers of an item
+  pub stands-in : Stands last (items ++ x ∷ []) → (x.opened.name < length last.names.items) × (x.opened.node < length last.nodes.items)
+  stands-in s =
+      ( says-in (λ y. y.name) last.names.items (opened_by x) (stack_of items) (rw stack-more at s.names)
+      , says-in (λ y. y.node) last.nodes.items (opened_by x) (stack_of items) (rw stack-more at s.nodes)
+      )
+
+  -- the last item goes
+  pub stands-less : Stands last (items ++ x ∷ []) → (next : LastPlaces) → next.names.items ≡ set last.names.items x.opened.name x.same_name → next.nodes.items ≡ set last.nodes.items x.opened.node x.same_node → Stands next items
+  stands-less s next names nodes =
+      let k = kept-last items x s.kept in
+      record {
+        names = rw names (says-less (λ y. y.name) last.names.items (opened_by x) (stack_of items) (rw stack-more at s.names) x.same_name k.0.same_name);
+        nodes = rw nodes (says-less (λ y. y.node) last.nodes.items (opened_by x) (stack_of items) (rw stack-more at s.nodes) x.same_node k.0.same_node);
+        kept = k.1;
+      }
+
+  -- an item comes, with what the tables say
+  pub stands-more : (place : ℕ) → place ≡ suc (length items) → Stands last items → x.opened.name < length last.names.items → x.opened.node < length last.nodes.items
+      → x.same_name ≡ get_or last.names.items x.opened.name 0 → x.same_node ≡ get_or last.nodes.items x.opened.node 0
+      → ((set : NameSet) → set_place set x.sets ≡ last_place (is_in set) (opened_by x ∷ stack_of items))
+      → (next : LastPlaces) → next.names.items ≡ set last.names.items x.opened.name place → next.nodes.items ≡ set last.nodes.items x.opened.node place → Stands next (items ++ x ∷ [])
+  stands-more place is s name_in node_in same_name same_node sets next names nodes =
+      record {
+        names = rw (names, is, stack-more items x, ← length-stack_of items) (says-more (λ y. y.name) last.names.items (opened_by x) (stack_of items) s.names name_in);
+        nodes = rw (nodes, is, stack-more items x, ← length-stack_of items) (says-more (λ y. y.node) last.nodes.items (opened_by x) (stack_of items) s.nodes node_in);
+        kept = kept-more items x (record { same_name = same_name ∙ s.names x.opened.name; same_node = same_node ∙ s.nodes x.opened.node; sets = sets }) s.kept;
+      }
+
+-- tables that say the same
+pub stands-same : (last next : LastPlaces) (items : List Item) → Stands last items → ((k : ℕ) → get_or next.names.items k 0 ≡ get_or last.names.items k 0) → ((k : ℕ) → get_or next.nodes.items k 0 ≡ get_or last.nodes.items k 0) → Stands next items
+stands-same last next items s names nodes = record { names = λ k. names k ∙ s.names k; nodes = λ k. nodes k ∙ s.nodes k; kept = s.kept }
+
+-- the places of sets at an item that comes
+pub sets-more : (items : List Item) (x : Item) (above : SetPlaces) (place : ℕ) → place ≡ suc (length items) → ((set : NameSet) → set_place set above ≡ last_place (is_in set) (stack_of items))
+    → ((set : NameSet) → set_place set x.sets ≡ cond (is_in_set set (tag_of x.opened.name)) place (set_place set above)) → (set : NameSet) → set_place set x.sets ≡ last_place (is_in set) (opened_by x ∷ stack_of items)
+sets-more items x above place is before here set =
+    let p : place ≡ suc (length (stack_of items)) = omega (arith, length-stack_of items) in
+    here set ∙ (λ i. cond (is_in_set set (tag_of x.opened.name)) (p i) (before set i))
+
+-- those at the last item
+pub sets-last : (items front : List Item) (x : Item) → items ≡ front ++ x ∷ [] → AreKept (reverse items) → (set : NameSet) → set_place set x.sets ≡ last_place (is_in set) (stack_of items)
+sets-last items front x is kept set =
+    let k = kept-last front x (subst (λ (xs : List Item). AreKept (reverse xs)) is kept) in
+    k.0.sets set ∙ ap (last_place (is_in set)) (sym (ap stack_of is ∙ stack-more front x))
+
+-- one item of a vector, and those above it
+module _ (items : List Item) (n j : ℕ) (x : Item) (next : n ≡ suc j) (within : j < length items) (is : x ≡ get_or items j x) where
+  take-more : take n items ≡ take j items ++ x ∷ []
+  take-more = ap (λ m. take m items) next ∙ take-suc items j x within ∙ ap (λ y. take j items ++ y ∷ []) (sym is)
+
+  drop-more : drop j items ≡ x ∷ drop n items
+  drop-more = drop-cons items j x within ∙ ap (λ y. y ∷ drop (suc j) items) (sym is) ∙ ap (λ m. x ∷ drop m items) (sym next)
+
+  pub taken-in : (last : LastPlaces) → Stands last (take n items) → (x.opened.name < length last.names.items) × (x.opened.node < length last.nodes.items)
+  taken-in last s = stands-in last (take j items) x (subst (λ (xs : List Item). Stands last xs) take-more s)
+
+  pub taken-less : (last next : LastPlaces) → Stands last (take n items) → next.names.items ≡ set last.names.items x.opened.name x.same_name → next.nodes.items ≡ set last.nodes.items x.opened.node x.same_node → Stands next (take j items)
+  taken-less last next s names nodes = stands-less last (take j items) x (subst (λ (xs : List Item). Stands last xs) take-more s) next names nodes
+
+  pub numbers-more : (names nodes : ℕ) → AreIn names nodes (drop n items) → x.opened.name < names → x.opened.node < nodes → AreIn names nodes (drop j items)
+  numbers-more names nodes rest name_in node_in = subst (λ (xs : List Item). AreIn names nodes xs) (sym drop-more) (name_in, node_in, rest)
+
+  pub numbers-less : (names nodes : ℕ) → AreIn names nodes (drop j items) → (x.opened.name < names) × (x.opened.node < nodes) × AreIn names nodes (drop n items)
+  numbers-less names nodes all = subst (λ (xs : List Item). AreIn names nodes xs) drop-more all
+
+-- the numbers are in the tables where an item takes the place of another
+pub numbers-replaced : (items : List Item) (i : ℕ) (x : Item) (names nodes : ℕ) → i < length items → AreIn names nodes (drop i items) → x.opened.name < names → x.opened.node < nodes → AreIn names nodes (drop i (set items i x))
+numbers-replaced items i x names nodes within all name_in node_in =
+    let rest = numbers-less items (suc i) i (get_or items i x) refl within (get_or_default items i x (get_or items i x) within) names nodes all in
+    rw (drop-set items i x within, add-one) (name_in, node_in, rest.2)

@@ -1,0 +1,13 @@
+use Rattle.std.proofs.Common.{length, ◌<◌}
+use Rattle.hopen.specs.Kept.{Stands}
+use Rattle.hopen.proofs.Standing.{stands-in, stands-less}
+use Rattle.hopen.proofs.kept.pop.Goals as goal
+
+pub take_back-requires-clause-name_in : goal.take_back-requires-clause-name_in
+take_back-requires-clause-name_in c = (stands-in c.args.last.now c.pop.new.self.items c.in_ok-item.item (rw c.in_ok-item.ensures.items at c.requires)).0
+
+pub take_back-requires-clause-node_in : goal.take_back-requires-clause-node_in
+take_back-requires-clause-node_in c = (stands-in c.args.last.now c.pop.new.self.items c.in_ok-item.item (rw c.in_ok-item.ensures.items at c.requires)).1
+
+pub returns-clause-stands : goal.returns-clause-stands
+returns-clause-stands c = stands-less c.args.last.now c.pop.new.self.items c.in_ok-item.item (rw c.in_ok-item.ensures.items at c.requires) c.take_back.new.self c.take_back.ensures.names c.take_back.ensures.nodes

@@ -1,0 +1,18 @@
+use Rattle.std.proofs.Common.{◌≡◌, ◌≤◌, ◌-◌, length, map, take, drop}
+use Rattle.hopen.specs.Places.{last_place}
+use Rattle.hopen.specs.NameSets.{is_in, set_place}
+use Rattle.hopen.specs.Kept.{Stands, AreIn, opened_by, stack_of}
+use Rattle.hopen.specs.declared.name_sets.NameSet.{NameSet}
+use Rattle.hopen.proofs.kept.rewind.Given as goal
+
+abbrev pub invariant-loop-index : goal.invariant-loop-index
+invariant-loop-index l = record {
+  within : l.index ≤ length l.items;
+  stands : Stands l.last (take l.index l.items);
+  numbers : AreIn (length l.last.names.items) (length l.last.nodes.items) (drop l.index l.items);
+  sets : (set : NameSet) → set_place set l.sets ≡ last_place (is_in set) (stack_of (take l.index l.items));
+  same : map opened_by l.items ≡ map opened_by l.initial.items;
+}
+
+abbrev pub decreases-loop-index : goal.decreases-loop-index
+decreases-loop-index l = length l.items - l.index

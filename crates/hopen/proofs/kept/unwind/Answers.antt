@@ -1,0 +1,29 @@
+use Rattle.std.proofs.Common.{◌≡◌, suc, ◌-◌, ◌<◌, length, ap, ◌∙◌, arith}
+use Rattle.std.proofs.lemmas.List.{length-set}
+use Rattle.hopen.proofs.Standing.{taken-in, taken-less, numbers-more}
+use Rattle.hopen.proofs.kept.unwind.Goals as goal
+
+pub take_back-requires-clause-name_in : goal.take_back-requires-clause-name_in
+take_back-requires-clause-name_in c =
+    (taken-in c.args.items.now c.loop-end.end (c.loop-end.end - 1) c.index-items-end.result (omega arith) (omega arith) c.index-items-end.is c.loop-end.last c.loop-end.invariant.stands).0
+
+pub take_back-requires-clause-node_in : goal.take_back-requires-clause-node_in
+take_back-requires-clause-node_in c =
+    (taken-in c.args.items.now c.loop-end.end (c.loop-end.end - 1) c.index-items-end.result (omega arith) (omega arith) c.index-items-end.is c.loop-end.last c.loop-end.invariant.stands).1
+
+pub loop-end-preserved : goal.loop-end-preserved
+loop-end-preserved c =
+    let x = c.index-items-end.result in
+    let next : c.loop-end.end ≡ suc (c.loop-end.end - 1) = omega arith in
+    let within : c.loop-end.end - 1 < length c.args.items.now = omega arith in
+    let names : length c.take_back.new.self.names.items ≡ length c.loop-end.last.names.items = ap length c.take_back.ensures.names ∙ length-set c.loop-end.last.names.items x.opened.name x.same_name in
+    let nodes : length c.take_back.new.self.nodes.items ≡ length c.loop-end.last.nodes.items = ap length c.take_back.ensures.nodes ∙ length-set c.loop-end.last.nodes.items x.opened.node x.same_node in
+    let both = taken-in c.args.items.now c.loop-end.end (c.loop-end.end - 1) x next within c.index-items-end.is c.loop-end.last c.loop-end.invariant.stands in
+    record {
+      within = omega arith;
+      above = omega arith;
+      stands = taken-less c.args.items.now c.loop-end.end (c.loop-end.end - 1) x next within c.index-items-end.is c.loop-end.last c.take_back.new.self c.loop-end.invariant.stands c.take_back.ensures.names c.take_back.ensures.nodes;
+      numbers = rw (names, nodes) (numbers-more c.args.items.now c.loop-end.end (c.loop-end.end - 1) x next within c.index-items-end.is (length c.loop-end.last.names.items) (length c.loop-end.last.nodes.items) c.loop-end.invariant.numbers both.0 both.1);
+      names = omega arith;
+      nodes = omega arith;
+    }

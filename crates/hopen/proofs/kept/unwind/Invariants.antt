@@ -1,0 +1,16 @@
+use Rattle.std.proofs.Common.{◌≡◌, ◌≤◌, length, take, drop}
+use Rattle.hopen.specs.Kept.{Stands, AreIn}
+use Rattle.hopen.proofs.kept.unwind.Given as goal
+
+abbrev pub invariant-loop-end : goal.invariant-loop-end
+invariant-loop-end l = record {
+  within : l.end ≤ length l.items;
+  above : l.from ≤ l.end;
+  stands : Stands l.last (take l.end l.items);
+  numbers : AreIn (length l.last.names.items) (length l.last.nodes.items) (drop l.end l.items);
+  names : length l.last.names.items ≡ length l.initial.last.names.items;
+  nodes : length l.last.nodes.items ≡ length l.initial.last.nodes.items;
+}
+
+abbrev pub decreases-loop-end : goal.decreases-loop-end
+decreases-loop-end l = l.end

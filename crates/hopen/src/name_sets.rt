@@ -1,0 +1,88 @@
+//! Sets of known names, and where the nearest open nodes of each set are.
+
+ghost use Rattle.std.specs.Prelude.{◌≡◌, if◌then◌else◌};
+ghost use Rattle.hopen.specs.NameSets.{is_in_set, set_place};
+
+use crate::scope::{Group, Scope};
+use names::Tag;
+
+/// A set of known names that a search looks for, or that stops it.
+#[derive(Clone, Copy)]
+pub(crate) enum NameSet {
+    /// The names that stop a search in a scope.
+    Stops(Scope),
+    /// The special names.
+    Special,
+    /// The names of a group.
+    Group(Group),
+}
+
+/// For each set of names, the place of the nearest open node that has one of them, from 1, the topmost; 0 if there is none.
+#[derive(Clone, Copy)]
+pub(crate) struct SetPlaces {
+    scope: u32,
+    list_item_scope: u32,
+    button_scope: u32,
+    table_scope: u32,
+    special: u32,
+    heading: u32,
+    table_section: u32,
+    cell: u32,
+}
+
+/// A new place if there is one, else the old one.
+fn place_if(is_new: bool, new: u32, old: u32) -> u32
+    ensures { result ≡ (if is_new then new else old) }
+{
+    if is_new { new } else { old }
+}
+
+impl SetPlaces {
+    /// No open node.
+    pub(crate) fn none() -> SetPlaces
+        ensures { (set : NameSet) → set_place set result ≡ 0 }
+    {
+        SetPlaces {
+            scope: 0,
+            list_item_scope: 0,
+            button_scope: 0,
+            table_scope: 0,
+            special: 0,
+            heading: 0,
+            table_section: 0,
+            cell: 0,
+        }
+    }
+
+    /// The place of the nearest node of a set.
+    pub(crate) fn of(&self, set: NameSet) -> u32
+        ensures { result ≡ set_place set self.now }
+    {
+        match set {
+            NameSet::Stops(Scope::Default) => self.scope,
+            NameSet::Stops(Scope::ListItem) => self.list_item_scope,
+            NameSet::Stops(Scope::Button) => self.button_scope,
+            NameSet::Stops(Scope::Table) => self.table_scope,
+            NameSet::Special => self.special,
+            NameSet::Group(Group::Heading) => self.heading,
+            NameSet::Group(Group::TableSection) => self.table_section,
+            NameSet::Group(Group::Cell) => self.cell,
+        }
+    }
+
+    /// The same with one node more below, at a place.
+    pub(crate) fn with(&self, tag: Tag, place: u32) -> SetPlaces
+        ensures { (set : NameSet) → set_place set result ≡ (if is_in_set set tag then place else set_place set self.now) }
+    {
+        SetPlaces {
+            scope: place_if(tag.stops_scope(), place, self.scope),
+            list_item_scope: place_if(tag.stops_list_item_scope(), place, self.list_item_scope),
+            button_scope: place_if(tag.stops_button_scope(), place, self.button_scope),
+            table_scope: place_if(tag.stops_table_scope(), place, self.table_scope),
+            special: place_if(tag.is_special(), place, self.special),
+            heading: place_if(Group::Heading.has(tag), place, self.heading),
+            table_section: place_if(Group::TableSection.has(tag), place, self.table_section),
+            cell: place_if(Group::Cell.has(tag), place, self.cell),
+        }
+    }
+}
