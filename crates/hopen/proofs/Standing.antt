@@ -72,10 +72,10 @@ module _ (items : List Item) (x : Item) where
 module _ (last : LastPlaces) (items : List Item) (x : Item) where
   -- the tables have the numbers of an item
   pub stands-in : Stands last (items ++ x ∷ []) → (x.opened.name < length last.names.items) × (x.opened.node < length last.nodes.items)
-  stands-in s =
-      ( says-in (λ y. y.name) last.names.items (opened_by x) (stack_of items) (rw stack-more at s.names)
-      , says-in (λ y. y.node) last.nodes.items (opened_by x) (stack_of items) (rw stack-more at s.nodes)
-      )
+  stands-in s = (
+    says-in (λ y. y.name) last.names.items (opened_by x) (stack_of items) (rw stack-more at s.names),
+    says-in (λ y. y.node) last.nodes.items (opened_by x) (stack_of items) (rw stack-more at s.nodes),
+  )
 
   -- the last item goes
   pub stands-less : Stands last (items ++ x ∷ []) → (next : LastPlaces) → next.names.items ≡ set last.names.items x.opened.name x.same_name → next.nodes.items ≡ set last.nodes.items x.opened.node x.same_node → Stands next items

@@ -205,7 +205,11 @@ fn rewind(last: &mut LastPlaces, items: &mut [Item], from: usize)
 }
 
 /// One item more, for a node that comes right below the last one.
-pub(crate) fn push(last: &mut LastPlaces, items: &mut Vec<Item>, opened: Open) -> Result<(), AllocError>
+pub(crate) fn push(
+    last: &mut LastPlaces,
+    items: &mut Vec<Item>,
+    opened: Open,
+) -> Result<(), AllocError>
     requires stands { Stands last.old items.old.items }
     requires places { length items.old.items + 1 < 2 ^ 32 }
     ensures stands { Stands last.new items.new.items }

@@ -14,9 +14,9 @@ ghost use Rattle.names.specs.Sets.{is_special};
 ghost use Rattle.names.specs.declared.refusal.Refusal.TheVariants.{TooDeep, Memory};
 ghost use Rattle.hopen.specs.declared.scope.Scope.TheVariants.{Default};
 
-use crate::scope::{Group, Scope};
 use crate::kept::{Item, LastPlaces, insert, nearest_of_sets, pop, push, remove, replace};
 use crate::name_sets::NameSet;
+use crate::scope::{Group, Scope};
 use crate::sought::{Sought, first_special};
 use hnodes::NodeId;
 use names::{NameId, Refusal};
@@ -151,7 +151,12 @@ impl OpenStack {
             let wanted = opened;
             self.last.make_room(wanted)?;
             self.items.reserve(1)?;
-            insert(&mut self.last, &mut self.items, index + 1, Item::new(opened));
+            insert(
+                &mut self.last,
+                &mut self.items,
+                index + 1,
+                Item::new(opened),
+            );
         }
         Ok(())
     }
