@@ -3,6 +3,7 @@
 ghost use Rattle.std.specs.Prelude.{◌≡◌, ◌<◌, IfOk, length};
 
 use crate::fixed::pick;
+use crate::kept::Item;
 use crate::scope::{Group, Scope};
 use crate::stack::{Open, OpenStack};
 use crate::stack_plain::{Plain, Wanted};
@@ -196,6 +197,7 @@ fn find_alike(stack: &OpenStack, plain: &Plain, supply: &mut Supply) -> bool {
 #[test]
 fn an_open_node_is_small(rt: HostRuntime) {
     assert_eq!(rt; std::mem::size_of::<Open>(), 16);
+    assert_eq!(rt; std::mem::size_of::<Item>(), 56);
 }
 
 /// Whether both answer every question alike.

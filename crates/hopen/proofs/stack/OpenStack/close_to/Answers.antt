@@ -1,4 +1,4 @@
-use Rattle.std.proofs.Common.{◌≡◌, ℕ, ◌-◌, ◌+◌, List, length, drop, ap, sym, ◌∙◌, arith}
+use Rattle.std.proofs.Common.{◌≡◌, ℕ, ◌-◌, ◌+◌, length, drop, ap, sym, ◌∙◌, arith}
 use Rattle.std.proofs.lemmas.List.{length-drop, drop-drop}
 use Rattle.hopen.specs.Stack.{OpenNodes}
 use Rattle.hopen.specs.Nearest.{after}
