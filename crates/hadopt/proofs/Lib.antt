@@ -20,3 +20,4 @@ pub mod Refusals
 pub mod Going
 pub mod Bound
 pub mod Spellings
+pub mod Agreeing

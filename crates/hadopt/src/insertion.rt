@@ -65,11 +65,11 @@ impl Site {
         ensures number { IfOk result (λ n. n ≡ self.old.nodes.made) }
         ensures kept { Kept numbers self.old → PlaceStands place (trees self.old) → nat_eq name (number_of Tag.Table) ≡ false → IfOk result (λ _. Kept numbers self.new) }
     {
-        let node = self.create(name, attrs, at)?;
-        self.add_entry(node, name)?;
-        self.graft(node, place);
-        self.push(Open { node, name }, at)?;
-        Ok(node)
+        let new = self.create(name, attrs, at)?;
+        self.add_entry(new, name)?;
+        self.graft(new, place);
+        self.push(Open { node: new, name }, at)?;
+        Ok(new)
     }
 
     /// An entry for an element, with the attributes that it has.
