@@ -19,7 +19,7 @@ use Rattle.hadopt.specs.Naming.{Naming}
 use Rattle.hadopt.specs.Reconstructs.{reconstructed}
 use Rattle.hadopt.specs.Site.{Outcome, Goes, Refused, and_then, SiteOf, stack, trees, with_trees, with_stack, with_items, with_error, node_of}
 use Rattle.hadopt.proofs.Climbing.{OnGoes, goes-then, Plain, PlainEntries, plain-without}
-use Rattle.hadopt.proofs.Inserting.{standing-fits, added-well, inserted-well, put-well, missing-well, reconstructed-well}
+use Rattle.hadopt.proofs.Inserting.{standing-fits, put-stands, added-well, inserted-well, put-well, missing-well, reconstructed-well}
 use Rattle.hadopt.proofs.Keeping.{goes-map, to-well, from-well}
 use Rattle.hadopt.proofs.Entering.{among-room}
 use Rattle.hadopt.proofs.Lists.{Among, each-among, pairs-among}
@@ -92,6 +92,17 @@ module _ {N : Type 0} (n : Naming N) where
   put-kept at c p s stands k =
       let h = to-well n s k in
       goes-map n (Well n) (Kept n) (from-well n) (put at c p s) (put-well n at c p s h (standing-fits n (text (encode_utf8 c)) s h p stands))
+
+  goes-both : (P Q : SiteOf N → Type 0) (o : Outcome (SiteOf N)) → OnGoes P o → OnGoes Q o → OnGoes (λ s. P s × Q s) o
+  goes-both P Q (Goes s) p q = (p, q)
+  goes-both P Q (Refused r) p q = tt
+
+  pub each-kept : (cs : List Placed) (p : Place) (s : SiteOf N) → PlaceStands p (trees s) → Kept n s → OnGoes (Kept n) (put_each cs p s)
+  each-kept [] p s stands k = k
+  each-kept (c ∷ cs) p s stands k =
+      goes-then (λ t. Kept n t × PlaceStands p (trees t)) (Kept n) (put c.at c.ch p s) (put_each cs p)
+      (goes-both (Kept n) (λ t. PlaceStands p (trees t)) (put c.at c.ch p s) (put-kept c.at c.ch p s stands k) (put-stands n c.at c.ch p s (to-well n s k) stands))
+      (λ t h. each-kept cs p t h.1 h.0)
 
   pub missing-kept : (node : ℕ) (attrs : List (Attribute N)) (s : SiteOf N) → Kept n s → Kept n (with_trees (with_missing n node attrs (trees s)) s)
   missing-kept node attrs s k = from-well n (with_trees (with_missing n node attrs (trees s)) s) (missing-well n node attrs s (to-well n s k))

@@ -31,6 +31,20 @@ use Rattle.hadopt.proofs.Climbing.{OnGoes, goes-then, PlainEntries, Climbing}
 use Rattle.hadopt.proofs.Searching.{Member, last-behind, found-member}
 use Rattle.hadopt.proofs.Settling.{Well, Fits, document-fits, before-fits, current-fits, under-fits, placed-well, block-stands}
 
+module _ {N : Type 0} (made : ℕ) (f : Forest N) (counted : AreCounted made f) where
+  -- a place in the document's tree
+  stands-deep : (p : Place) → PlaceStands p f → (0 < deep (place_node p) 0 f) × NotBefore 0 p
+  stands-deep (LastIn p) is = (omega (arith, deep-is p 0 f (at-most made f counted 0), is), tt)
+  stands-deep (Before z) is = let b = below-document made f counted z is in (b.0, λ e. omega (arith, b.1, e))
+
+  deep-stands : (p : Place) → 0 < deep (place_node p) 0 f → NotBefore 0 p → PlaceStands p f
+  deep-stands (LastIn p) a under = omega (arith, a, deep-is p 0 f (at-most made f counted 0), tree_at-among p 0 f, at-most made f counted p)
+  deep-stands (Before z) a under = in-document made f counted z a (go z under)
+    where
+      go : (z : ℕ) → z ≢ 0 → 0 < z
+      go zero apart = absurd (apart refl)
+      go (suc j) apart = omega arith
+
 module _ {N : Type 0} (n : Naming N) where
   -- what a node is has changed
   pub what-well : (k : ℕ) (g : What N → What N) (s : SiteOf N) → g document ≡ document → Well n s → Well n (with_trees (change_what k g (trees s)) s)
@@ -143,20 +157,10 @@ module _ {N : Type 0} (n : Naming N) where
     }
 
     pub standing-fits : (p : Place) → PlaceStands p (trees s) → FitsHere p
-    standing-fits (LastIn p) is = fits (LastIn p) (omega (arith, deep-is p 0 (trees s) (at-most count (trees s) h.counted 0), is)) tt
-    standing-fits (Before z) is = let b = below-document count (trees s) h.counted z is in fits (Before z) b.0 (λ e. omega (arith, b.1, e))
+    standing-fits p is = let d = stands-deep count (trees s) h.counted p is in fits p d.0 d.1
 
     pub fits-standing : (p : Place) → FitsHere p → PlaceStands p (trees s)
-    fits-standing (LastIn p) f =
-        let a : 0 < deep p 0 (trees s) = rw (← deep-new p 0 count w (trees s) not0) f.to_document in
-        omega (arith, a, deep-is p 0 (trees s) (at-most count (trees s) h.counted 0), tree_at-among p 0 (trees s), at-most count (trees s) h.counted p)
-    fits-standing (Before z) f =
-        let a : 0 < deep z 0 (trees s) = rw (← deep-new z 0 count w (trees s) not0) f.to_document in
-        in-document count (trees s) h.counted z a (go z f.under)
-      where
-        go : (z : ℕ) → z ≢ 0 → 0 < z
-        go zero apart = absurd (apart refl)
-        go (suc j) apart = omega arith
+    fits-standing p f = deep-stands count (trees s) h.counted p (rw (← deep-new (place_node p) 0 count w (trees s) not0) f.to_document) f.under
 
     module _ (p : Place) (fits : FitsHere p) where
       abbrev there_site : SiteOf N
@@ -164,6 +168,9 @@ module _ {N : Type 0} (n : Naming N) where
 
       pub there-well : Well n there_site
       there-well = placed-well n count (stack s) loose loose-climbs p fits
+
+      pub there-deep : 0 < deep (place_node p) 0 (trees there_site)
+      there-deep = rw (graft-apart (place_node p) 0 count p (trees new_site) (sym (deep-is (place_node p) count (trees new_site) (at-most (count + 1) (trees new_site) loose-climbs.counted count)) ∙ fits.outside)) fits.to_document
 
       pub pushed-well : (name : N) → Well n (with_stack (record { node = count; name = name } ∷ stack s) there_site)
       pushed-well name = record {
@@ -198,6 +205,21 @@ module _ {N : Type 0} (n : Naming N) where
       go o true = tt
       go None false = there-well (text (encode_utf8 c)) s h p fits
       go (Some k) false = what-well k (with_char c) s refl h
+
+  -- the place is still in the document's tree
+  pub put-stands : (at c : ℕ) (p : Place) (s : SiteOf N) (h : Well n s) → PlaceStands p (trees s) → OnGoes (λ t. PlaceStands p (trees t)) (put at c p s)
+  put-stands at c p s h is = go (text_before p (trees s)) (is_none (text_before p (trees s)) && leb s.nodes.limit s.nodes.made)
+    where
+      d : (0 < deep (place_node p) 0 (trees s)) × NotBefore 0 p
+      d = stands-deep s.nodes.made (trees s) h.counted p is
+
+      fits : FitsHere (text (encode_utf8 c)) s h p
+      fits = standing-fits (text (encode_utf8 c)) s h p is
+
+      go : (o : Option ℕ) (v : Bool) → OnGoes (λ t. PlaceStands p (trees t)) (cond v (Refused (TooManyNodes at)) (Goes (record s { nodes = char_into c p o s.nodes })))
+      go o true = tt
+      go None false = deep-stands (s.nodes.made + 1) _ (there-well (text (encode_utf8 c)) s h p fits).counted p (there-deep (text (encode_utf8 c)) s h p fits) d.1
+      go (Some k) false = deep-stands s.nodes.made _ (what-well k (with_char c) s refl h).counted p (rw (deep-what (place_node p) 0 k (with_char c) (trees s)) d.0) d.1
 
   plain-at : (back new : ℕ) (items : List (Item N)) → PlainEntries n items → PlainEntries n (changed_at back (for_node new) items)
   plain-at back new [] h = tt

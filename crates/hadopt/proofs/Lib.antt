@@ -7,6 +7,7 @@ pub mod Inserting
 pub mod Keeping
 pub mod Entering
 pub mod Standing
+pub mod Putting
 pub mod Fresh
 pub mod Calls
 pub mod Made
@@ -19,3 +20,4 @@ pub mod Refusals
 pub mod Going
 pub mod Bound
 pub mod Spellings
+pub mod Agreeing

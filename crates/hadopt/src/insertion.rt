@@ -2,6 +2,7 @@
 
 ghost use Rattle.std.specs.Prelude.{◌≡◌, ◌<◌, ◌+◌, ◌^◌, ◌∷◌, ℕ, List, Some, false, length, map, nat_eq, string_bytes, IfOk, OnOk};
 ghost use Rattle.std.specs.List.{list_any};
+ghost use Rattle.std.specs.Str.{chars};
 ghost use Rattle.hnodes.specs.Edits.{IsPlace};
 ghost use Rattle.hnodes.specs.Forest.{Attribute, comment, doctype};
 ghost use Rattle.hnodes.specs.Rows.{attribute_of};
@@ -64,11 +65,11 @@ impl Site {
         ensures number { IfOk result (λ n. n ≡ self.old.nodes.made) }
         ensures kept { Kept numbers self.old → PlaceStands place (trees self.old) → nat_eq name (number_of Tag.Table) ≡ false → IfOk result (λ _. Kept numbers self.new) }
     {
-        let node = self.create(name, attrs, at)?;
-        self.add_entry(node, name)?;
-        self.graft(node, place);
-        self.push(Open { node, name }, at)?;
-        Ok(node)
+        let new = self.create(name, attrs, at)?;
+        self.add_entry(new, name)?;
+        self.graft(new, place);
+        self.push(Open { node: new, name }, at)?;
+        Ok(new)
     }
 
     /// An entry for an element, with the attributes that it has.
@@ -111,6 +112,17 @@ impl Site {
         ensures kept { Kept numbers self.old → PlaceStands place (trees self.old) → IfOk result (λ _. Kept numbers self.new) }
     {
         self.tree.put_char(c, place, at)
+    }
+
+    /// A run of characters at a place, one by one; `at` is the place of the first one. Adjacent texts join.
+    pub fn put_text(&mut self, text: &str, place: Place, at: u64) -> Result<(), Refusal>
+        requires { IsPlace place self.old.nodes }
+        ensures done { Gives result self.new (put_each (placed at (chars text.now)) place self.old) }
+        ensures kept { Kept numbers self.old → PlaceStands place (trees self.old) → IfOk result (λ _. Kept numbers self.new) }
+    {
+        // its clause says that nodes are nodes
+        self.tree.document();
+        self.tree.put_text(text, place, at)
     }
 
     /// An element gets those of the attributes that it lacks.

@@ -1,6 +1,8 @@
 //! Laws of the definitions.
 
 ghost use Rattle.std.specs.Prelude.{◌≡◌, ◌≤◌, ◌+◌, ℕ, List};
+ghost use Rattle.names.specs.Names.{Texts, AreNames};
+ghost use Rattle.names.specs.Spelling.{spelling};
 ghost use Rattle.hadopt.specs.Adopts.{adopted};
 ghost use Rattle.hadopt.specs.Naming.{numbers, texts};
 ghost use Rattle.hadopt.specs.Site.{SiteOf, Goes};
@@ -9,6 +11,11 @@ ghost use Rattle.hadopt.specs.Spelled.{Agree, OperationsKnowNoNames};
 /// What the operations do with numbers of names they do with the texts that the numbers stand for.
 pub fn operations_know_no_names()
     ensures { (spell : ℕ → List ℕ) → Agree numbers texts spell → OperationsKnowNoNames numbers texts spell }
+{}
+
+/// The numbers of each table of names agree with texts: those of the table, and others beyond its end.
+pub fn numbers_agree_with_texts()
+    ensures { (names : Texts) → AreNames names → Agree numbers texts (spelling names) }
 {}
 
 /// One run of the adoption agency makes at most 32 elements.

@@ -3,11 +3,15 @@
 #![tactic(auto)]
 
 pub mod adopting;
+#[cfg(test)]
+mod call_tests;
 pub mod closing;
 mod edits;
 pub mod insertion;
 pub mod laws;
 pub mod listing;
+#[cfg(test)]
+mod page;
 pub mod places;
 pub mod popping;
 pub mod questions;
@@ -16,6 +20,6 @@ pub mod site;
 #[cfg(test)]
 mod tests;
 
-pub use laws::{adoption_makes_few_elements, operations_know_no_names};
+pub use laws::{adoption_makes_few_elements, numbers_agree_with_texts, operations_know_no_names};
 pub use popping::Passing;
 pub use site::Site;

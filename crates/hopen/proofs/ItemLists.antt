@@ -4,12 +4,11 @@ use Rattle.std.proofs.lemmas.List.{reverse-append, reverse-reverse, length-rever
 use Rattle.hopen.specs.declared.entry.Item.{Item as Stored}
 use Rattle.std.proofs.lemmas.List.Elements.{filter-append}
 use Rattle.std.specs.List.{list_any, position, position_or_len, find, slice_get}
-use Rattle.std.proofs.lemmas.List.Quantifiers.{position-Some}
 use Rattle.std.proofs.lemmas.List.Folds.{find_at}
 use Rattle.std.proofs.lemmas.Option.{cond_some}
 use Rattle.hopen.specs.Formatting.{Item, is_entry}
 use Rattle.hopen.specs.Items.{items_of, item_of}
-use Rattle.hopen.proofs.Nearest.{reverse_push, position_nearest, is_some-position, slice_get_nearest}
+use Rattle.hopen.proofs.Nearest.{reverse_push, position_nearest, is_some-position, found_within, slice_get_nearest}
 
 module _ {X : Type 0} (P : List X → Type 0) (none : P []) (more : (front : List X) (x : X) → P front → P (front ++ x ∷ [])) where
   along_turned : (ys : List X) → P (reverse ys)
@@ -45,8 +44,8 @@ items_of-filter kept items = along_last (λ xs. items_of (filter (λ i. kept (it
 pub back_is : (node : ℕ) (items seen : List Stored) (back : Option ℕ) → seen ≡ items → back ≡ position (λ i. is_entry node (item_of i)) (reverse seen) → position (is_entry node) (items_of items) ≡ back
 back_is node items seen back same found = position_nearest item_of (is_entry node) items ∙ ap (λ xs. position (λ i. is_entry node (item_of i)) (reverse xs)) (sym same) ∙ sym found
 
-pub back_within : (node : ℕ) (items : List Stored) (back : ℕ) (d : Item ℕ) → position (is_entry node) (items_of items) ≡ Some back → back < length items
-back_within node items back d found = omega (arith, (position-Some (is_entry node) (items_of items) back d found).0, length-items_of items)
+pub back_within : (node : ℕ) (items : List Stored) (back : ℕ) → position (is_entry node) (items_of items) ≡ Some back → back < length items
+back_within node items back found = omega (arith, found_within (is_entry node) (items_of items) back found, length-items_of items)
 
 -- an entry that is there is found
 pub not_missing : (node : ℕ) (items : List Stored) → IsTrue (list_any (is_entry node) (items_of items)) → position (is_entry node) (items_of items) ≡ None → ⊥

@@ -1,9 +1,9 @@
+pub mod Images
 pub mod Nearest
 pub mod Opened
 pub mod Searches
 pub mod ItemLists
 pub mod Earliest
-pub mod Sameness
 pub mod Bookmarks
 pub mod Spellings
 pub mod Places

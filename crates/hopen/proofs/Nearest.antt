@@ -5,6 +5,7 @@ use Rattle.std.specs.Option.{is_some, IfSome}
 use Rattle.std.proofs.lemmas.Bool.{ltb-true, ltb-false, lt-ltb, le-ltb, cases_lt}
 use Rattle.std.proofs.lemmas.List.{map-append, reverse-append, append_assoc, length-map, length-reverse, length-drop, take-append-drop, set_split, take_at, drop_at, get_or-map, get_or-reverse}
 use Rattle.std.proofs.lemmas.Option.{slice_get-get_or, cond_some}
+use Rattle.hopen.proofs.Images.{position-map}
 use Rattle.hopen.specs.Nearest.{before, after, without, changed, put_before, changed_at}
 
 module _ {Y : Type 0} (sought : Y → Bool) where
@@ -37,12 +38,15 @@ module _ {Y : Type 0} (sought : Y → Bool) where
   pub words : (ys : List Y) (up : ℕ) → position sought ys ≡ Some up → Words ys up
   words ys up e = let s = position_is ys up e in words_at ys up s.1 s.0
 
+  pub found_within : (ys : List Y) (up : ℕ) → position sought ys ≡ Some up → up < length ys
+  found_within ys up e = (position_is ys up e).0
+
   pub position_within : (ys : List Y) → IfSome (position sought ys) (λ up. up < length ys)
   position_within ys = go (position sought ys) refl
     where
       go : (o : Option ℕ) → position sought ys ≡ o → IfSome o (λ up. up < length ys)
       go None e = tt
-      go (Some up) e = (position_is ys up e).0
+      go (Some up) e = found_within ys up e
 
   -- one that is sought leaves
   pub length-without : (ys : List Y) → list_any sought ys ≡ true → length (without sought ys) + 1 ≡ length ys
@@ -117,12 +121,8 @@ module _ {X Y : Type 0} (f : X → Y) where
   reverse-map [] = refl
   reverse-map (x ∷ xs) = reverse_split (x ∷ []) xs ∙ ap (λ l. l ++ f x ∷ []) (reverse-map xs) ∙ sym (map-append f (reverse xs) (x ∷ [])) ∙ ap (λ l. map f l) (sym (reverse-append (x ∷ []) xs))
 
-  position_or_len-map : (sought : Y → Bool) (xs : List X) → position_or_len sought (map f xs) ≡ position_or_len (λ x. sought (f x)) xs
-  position_or_len-map sought [] = refl
-  position_or_len-map sought (x ∷ xs) = ap (λ n. cond (not (sought (f x))) (1 + n) 0) (position_or_len-map sought xs)
-
   pub position_nearest : (sought : Y → Bool) (items : List X) → position sought (reverse (map f items)) ≡ position (λ x. sought (f x)) (reverse items)
-  position_nearest sought items = rw (reverse-map items, position_or_len-map sought (reverse items), length-map (reverse items) f) refl
+  position_nearest sought items = ap (position sought) (reverse-map items) ∙ position-map f (λ x. sought (f x)) sought (λ _. refl) (reverse items)
 
   reverse_around : (xs ys : List X) (x : X) → reverse (map f (xs ++ x ∷ ys)) ≡ reverse (map f ys) ++ f x ∷ reverse (map f xs)
   reverse_around xs ys x = reverse_split xs (x ∷ ys) ∙ ap (λ l. l ++ reverse (map f xs)) (reverse_split (x ∷ []) ys) ∙ append_assoc (reverse (map f ys)) (f x ∷ []) (reverse (map f xs))
@@ -157,9 +157,6 @@ module _ {X Y : Type 0} (f : X → Y) where
 
   -- edits of a vector at the nearest that is sought, which has so many nearer than it
   module _ (sought : Y → Bool) where
-    pub take_to_nearest : (items : List X) (i up : ℕ) → position sought (reverse (map f items)) ≡ Some up → i + suc up ≡ length items → reverse (map f (take i items)) ≡ after sought (reverse (map f items))
-    take_to_nearest items i up s h = sym ((words sought (reverse (map f items)) up s).after_is ∙ drop_nearest items i (suc up) h)
-
     pub remove_nearest : (items : List X) (i up : ℕ) → position sought (reverse (map f items)) ≡ Some up → i + suc up ≡ length items → reverse (map f (remove items i)) ≡ without sought (reverse (map f items))
     remove_nearest items i up s h =
         reverse_split (take i items) (drop (suc i) items)
@@ -168,9 +165,6 @@ module _ {X Y : Type 0} (f : X → Y) where
     pub change_nearest : (g : Y → Y) (items : List X) (i up : ℕ) (d y : X) → position sought (reverse (map f items)) ≡ Some up → i + suc up ≡ length items → f y ≡ g (f (get_or items i d))
         → reverse (map f (set items i y)) ≡ changed sought g (reverse (map f items))
     change_nearest g items i up d y s h e = set_nearest g items i up d y h e ∙ sym ((words sought (reverse (map f items)) up s).changed_is g)
-
-    pub replace_nearest : (items : List X) (i up : ℕ) (y : X) → position sought (reverse (map f items)) ≡ Some up → i + suc up ≡ length items → reverse (map f (set items i y)) ≡ changed sought (λ _. f y) (reverse (map f items))
-    replace_nearest items i up y s h = change_nearest (λ _. f y) items i up y y s h refl
 
     pub insert_nearest : (items : List X) (i up : ℕ) (y : X) → position sought (reverse (map f items)) ≡ Some up → i + suc up ≡ length items → reverse (map f (insert items (i + 1) y)) ≡ put_before sought (f y) (reverse (map f items))
     insert_nearest items i up y s h =

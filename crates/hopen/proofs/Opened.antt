@@ -33,9 +33,6 @@ found s n sought i e =
       sum = omega (arith, length-reverse (map opened_by s.items.items), length-map s.items.items opened_by);
     })
 
-pub not_found : (s : Inside) (n : OpenNodes ℕ) (sought : OpenNode ℕ → Bool) → open_nodes_of s ≡ n → position sought n.stack ≡ None → position sought (reverse (map opened_by s.items.items)) ≡ None
-not_found s n sought e h = let P : OpenNodes ℕ → Type 0 = λ m. position sought m.stack ≡ None → position sought (reverse (map opened_by s.items.items)) ≡ None in subst P e (λ p. p) h
-
 -- no index is found
 pub none_found : (o : Option ℕ) (P : Type 0) (Q : ℕ → Type 0) → ((i : ℕ) → o ≡ Some i → ⊥) → MatchOption o P Q → P
 none_found None P Q never h = h

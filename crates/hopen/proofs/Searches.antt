@@ -1,12 +1,11 @@
 -- Searches that go up the open nodes, in the words of the code.
-use Rattle.std.proofs.Common.{◌≡◌, ℕ, zero, suc, ◌<◌, ◌-◌, Bool, true, false, cond, not, ◌&&◌, ◌||◌, List, [], ◌∷◌, ◌++◌, Option, Some, None, length, drop, map, reverse, ◌+◌, subst, refl, sym, ◌∙◌, ap, arith}
+use Rattle.std.proofs.Common.{◌≡◌, ℕ, zero, suc, ◌<◌, ◌-◌, Bool, true, false, cond, List, [], ◌∷◌, ◌++◌, Option, Some, None, length, drop, map, reverse, subst, refl, sym, ◌∙◌, ap, arith}
 use Rattle.std.specs.List.{position, find, slice_get}
-use Rattle.std.specs.Option.{option_map, option_or, option_map_or, unwrap_or, IfSome}
+use Rattle.std.specs.Option.{option_or, unwrap_or, IfSome}
 use Rattle.hopen.specs.Nearest.{before}
-use Rattle.hopen.proofs.Nearest.{reverse-map, words, no_words, take_nearest, slice_get_nearest, position_within}
+use Rattle.hopen.proofs.Nearest.{words, no_words, take_nearest, position_within}
 use Rattle.std.proofs.lemmas.List.{reverse-append, length-reverse, length-map}
-use Rattle.std.proofs.lemmas.Option.{slice_get-get_or}
-use Rattle.hopen.specs.Stack.{OpenNode, in_scope, current, topmost_special, furthest_block, is_node}
+use Rattle.hopen.specs.Stack.{OpenNode, current, topmost_special, furthest_block, is_node}
 use Rattle.names.specs.declared.tag.Tag.{Tag}
 use Rattle.names.specs.Sets.{is_special}
 
@@ -17,14 +16,6 @@ option_or-none (Some x) = refl
 option_or_assoc : {A : Type 0} (a b c : Option A) → option_or (option_or a b) c ≡ option_or a (option_or b c)
 option_or_assoc None b c = refl
 option_or_assoc (Some x) b c = refl
-
-pub find-map : {X Y : Type 0} (f : X → Y) (test : Y → Bool) (xs : List X) → find test (map f xs) ≡ option_map f (find (λ x. test (f x)) xs)
-find-map f test [] = refl
-find-map f test (x ∷ xs) = go (test (f x)) (find-map f test xs)
-  where
-    go : (v : Bool) → find test (map f xs) ≡ option_map f (find (λ y. test (f y)) xs) → cond v (Some (f x)) (find test (map f xs)) ≡ option_map f (cond v (Some x) (find (λ y. test (f y)) xs))
-    go true i = refl
-    go false i = i
 
 module _ {N : Type 0} where
   pub current-drop : (n : ℕ) (ys : List (OpenNode N)) → current (drop n ys) ≡ slice_get ys n

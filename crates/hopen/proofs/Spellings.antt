@@ -1,11 +1,12 @@
 -- The open nodes and the formatting list under other names.
-use Rattle.std.proofs.Common.{◌≡◌, ℕ, ◌+◌, zero, suc, Bool, true, false, cond, not, ◌&&◌, ◌||◌, List, [], ◌∷◌, map, length, Option, Some, None, refl, ◌∙◌, ap}
-use Rattle.std.specs.Prelude.{if◌then◌else◌, slice_get, option_and_then, filter, find, nat_le, nat_lt, bytes_eq, position, drop}
-use Rattle.std.specs.List.{list_any, list_all, prefix_len}
+use Rattle.std.proofs.Common.{◌≡◌, ℕ, Bool, true, false, cond, not, ◌&&◌, ◌||◌, List, [], ◌∷◌, map, length, Option, Some, None, refl, ◌∙◌, ap}
+use Rattle.std.specs.Prelude.{if◌then◌else◌, slice_get, option_and_then, filter, find, nat_le, bytes_eq, drop}
+use Rattle.std.specs.List.{list_any}
 use Rattle.std.specs.Option.{option_map, option_or, option_map_or}
 use Rattle.std.proofs.lemmas.List.{length-map}
 use Rattle.std.proofs.lemmas.Option.{slice_get-map}
-use Rattle.hopen.specs.Nearest.{before, after, without, changed, put_before, changed_at}
+use Rattle.hopen.proofs.Images.{before-map, after-map, without-map, changed-map, put_before-map, filter-map, find-map, any-map, all-map, position-map, changed_at-map}
+use Rattle.hopen.specs.Nearest.{without, put_before}
 use Rattle.hopen.specs.Stack.{OpenNode, is_node, current, below, in_scope, topmost_special, furthest_block}
 use Rattle.hopen.specs.Scopes.{stops, stops_in, is_named, is_of, is_of_group}
 use Rattle.hopen.specs.Formatting.{EntryOf, Item, marker, entry, entries, is_of_node, is_entry, as_entry, entry_at, entry_of, after_marker, cleared, for_node, with_node, booked, without_earliest, most_equal, same_attribute, are_among, is_equal, pushed, find_entry}
@@ -19,82 +20,6 @@ use Rattle.hnodes.specs.Spelled.{spelled_attribute}
 use Rattle.names.specs.declared.tag.Tag.{Tag}
 use Rattle.names.specs.Sets.{is_special}
 use Rattle.names.specs.Spelling.{IsSpelling}
-
--- A list and its image, where a test of the image is a test of the list.
-module _ {X Y : Type 0} (h : X → Y) (p : X → Bool) (q : Y → Bool) (e : (x : X) → q (h x) ≡ p x) where
-  before-map : (xs : List X) → before q (map h xs) ≡ map h (before p xs)
-  before-map [] = refl
-  before-map (x ∷ xs) = (λ i. cond (e x i) [] (h x ∷ before-map xs i)) ∙ go (p x)
-    where
-      go : (v : Bool) → cond v [] (h x ∷ map h (before p xs)) ≡ map h (cond v [] (x ∷ before p xs))
-      go true = refl
-      go false = refl
-
-  after-map : (xs : List X) → after q (map h xs) ≡ map h (after p xs)
-  after-map [] = refl
-  after-map (x ∷ xs) = (λ i. cond (e x i) (map h xs) (after-map xs i)) ∙ go (p x)
-    where
-      go : (v : Bool) → cond v (map h xs) (map h (after p xs)) ≡ map h (cond v xs (after p xs))
-      go true = refl
-      go false = refl
-
-  without-map : (xs : List X) → without q (map h xs) ≡ map h (without p xs)
-  without-map [] = refl
-  without-map (x ∷ xs) = (λ i. cond (e x i) (map h xs) (h x ∷ without-map xs i)) ∙ go (p x)
-    where
-      go : (v : Bool) → cond v (map h xs) (h x ∷ map h (without p xs)) ≡ map h (cond v xs (x ∷ without p xs))
-      go true = refl
-      go false = refl
-
-  changed-map : (f : X → X) (f' : Y → Y) → ((x : X) → f' (h x) ≡ h (f x)) → (xs : List X) → changed q f' (map h xs) ≡ map h (changed p f xs)
-  changed-map f f' c [] = refl
-  changed-map f f' c (x ∷ xs) = (λ i. cond (e x i) (c x i ∷ map h xs) (h x ∷ changed-map f f' c xs i)) ∙ go (p x)
-    where
-      go : (v : Bool) → cond v (h (f x) ∷ map h xs) (h x ∷ map h (changed p f xs)) ≡ map h (cond v (f x ∷ xs) (x ∷ changed p f xs))
-      go true = refl
-      go false = refl
-
-  put_before-map : (new : X) (xs : List X) → put_before q (h new) (map h xs) ≡ map h (put_before p new xs)
-  put_before-map new [] = refl
-  put_before-map new (x ∷ xs) = (λ i. cond (e x i) (h new ∷ h x ∷ map h xs) (h x ∷ put_before-map new xs i)) ∙ go (p x)
-    where
-      go : (v : Bool) → cond v (h new ∷ h x ∷ map h xs) (h x ∷ map h (put_before p new xs)) ≡ map h (cond v (new ∷ x ∷ xs) (x ∷ put_before p new xs))
-      go true = refl
-      go false = refl
-
-  filter-map : (xs : List X) → filter q (map h xs) ≡ map h (filter p xs)
-  filter-map [] = refl
-  filter-map (x ∷ xs) = (λ i. cond (e x i) (h x ∷ filter-map xs i) (filter-map xs i)) ∙ go (p x)
-    where
-      go : (v : Bool) → cond v (h x ∷ map h (filter p xs)) (map h (filter p xs)) ≡ map h (cond v (x ∷ filter p xs) (filter p xs))
-      go true = refl
-      go false = refl
-
-  find-map : (xs : List X) → find q (map h xs) ≡ option_map h (find p xs)
-  find-map [] = refl
-  find-map (x ∷ xs) = (λ i. cond (e x i) (Some (h x)) (find-map xs i)) ∙ go (p x)
-    where
-      go : (v : Bool) → cond v (Some (h x)) (option_map h (find p xs)) ≡ option_map h (cond v (Some x) (find p xs))
-      go true = refl
-      go false = refl
-
-  any-map : (xs : List X) → list_any q (map h xs) ≡ list_any p xs
-  any-map [] = refl
-  any-map (x ∷ xs) = λ i. e x i || any-map xs i
-
-  all-map : (xs : List X) → list_all q (map h xs) ≡ list_all p xs
-  all-map [] = refl
-  all-map (x ∷ xs) = λ i. e x i && all-map xs i
-
-  prefix-map : (xs : List X) → prefix_len q (map h xs) ≡ prefix_len p xs
-  prefix-map [] = refl
-  prefix-map (x ∷ xs) = λ i. cond (e x i) (1 + prefix-map xs i) 0
-
-module _ {X Y : Type 0} (h : X → Y) where
-  changed_at-map : (f : X → X) (f' : Y → Y) → ((x : X) → f' (h x) ≡ h (f x)) → (n : ℕ) (xs : List X) → changed_at n f' (map h xs) ≡ map h (changed_at n f xs)
-  changed_at-map f f' c n [] = refl
-  changed_at-map f f' c zero (x ∷ xs) = λ i. c x i ∷ map h xs
-  changed_at-map f f' c (suc n) (x ∷ xs) = λ i. h x ∷ changed_at-map f f' c n xs i
 
 -- The words of the stack.
 module _ {N M : Type 0} (tag : N → Tag) (tag' : M → Tag) (same : N → N → Bool) (same' : M → M → Bool) (g : N → M) (s : IsSpelling tag tag' same same' g) where
@@ -123,16 +48,10 @@ module _ {N M : Type 0} (tag : N → Tag) (tag' : M → Tag) (same : N → N →
   pop-map [] = refl
   pop-map (x ∷ xs) = refl
 
-  position-map : (n : ℕ) (xs : List (OpenNode N)) → position (is_node n) (spelled_stack g xs) ≡ position (is_node n) xs
-  position-map n xs = λ i. at (prefix-map (spelled_open g) (λ x. not (is_node n x)) (λ x. not (is_node n x)) (λ _. refl) xs i) (length-map xs (spelled_open g) i)
-    where
-      at : ℕ → ℕ → Option ℕ
-      at k len = if nat_lt k len then Some k else None
-
   pub stack_spelled : StackKnowsNoNames tag tag' same same' g
   stack_spelled = record {
     contains = λ n. any-map (spelled_open g) (is_node n) (is_node n) (λ _. refl);
-    place = position-map;
+    place = λ n. position-map (spelled_open g) (is_node n) (is_node n) (λ _. refl);
     get = λ up xs. slice_get-map (spelled_open g) xs up;
     current_node = current-map;
     pop = pop-map;

@@ -1,7 +1,7 @@
 -- The kept places under each change of the items.
-use Rattle.std.proofs.Common.{◌≡◌, ℕ, suc, add-one, ◌+◌, ◌-◌, ◌<◌, ◌≤◌, ◌≢◌, eqb, Bool, true, false, cond, List, [], ◌∷◌, ◌++◌, length, map, reverse, take, drop, get_or, set, ◌⊎◌, inl, inr, refl, sym, ◌∙◌, ap, subst, arith}
+use Rattle.std.proofs.Common.{◌≡◌, ℕ, suc, add-one, ◌<◌, ◌≤◌, eqb, Bool, true, false, cond, List, [], ◌∷◌, ◌++◌, length, map, reverse, take, drop, get_or, set, ◌⊎◌, inl, inr, refl, sym, ◌∙◌, ap, subst, arith}
 use Rattle.std.proofs.lemmas.Bool.{eqb-true, eqb-false, cases_lt}
-use Rattle.std.proofs.lemmas.List.{get_or-set_same, get_or-set_other, get_or_past, get_or_default, drop-set, reverse-append, length-reverse, length-map, length-set, map-append}
+use Rattle.std.proofs.lemmas.List.{get_or-set_same, get_or-set_other, get_or_past, get_or_default, drop-set, reverse-append, length-reverse, length-map}
 use Rattle.std.proofs.Math.Seq.{take-suc, drop-cons}
 use Rattle.hopen.specs.Stack.{OpenNode}
 use Rattle.hopen.specs.Places.{last_place}
@@ -72,10 +72,10 @@ module _ (items : List Item) (x : Item) where
 module _ (last : LastPlaces) (items : List Item) (x : Item) where
   -- the tables have the numbers of an item
   pub stands-in : Stands last (items ++ x ∷ []) → (x.opened.name < length last.names.items) × (x.opened.node < length last.nodes.items)
-  stands-in s =
-      ( says-in (λ y. y.name) last.names.items (opened_by x) (stack_of items) (rw stack-more at s.names)
-      , says-in (λ y. y.node) last.nodes.items (opened_by x) (stack_of items) (rw stack-more at s.nodes)
-      )
+  stands-in s = (
+    says-in (λ y. y.name) last.names.items (opened_by x) (stack_of items) (rw stack-more at s.names),
+    says-in (λ y. y.node) last.nodes.items (opened_by x) (stack_of items) (rw stack-more at s.nodes),
+  )
 
   -- the last item goes
   pub stands-less : Stands last (items ++ x ∷ []) → (next : LastPlaces) → next.names.items ≡ set last.names.items x.opened.name x.same_name → next.nodes.items ≡ set last.nodes.items x.opened.node x.same_node → Stands next items

@@ -1,5 +1,5 @@
 -- The places that open nodes keep, and the tables of the nearest ones. In a vector of items the current node is the last.
-use Rattle.std.specs.Prelude.{◌≡◌, ℕ, ◌<◌, ◌==◌, List, [], ◌∷◌, length, map, reverse, slice_index}
+use Rattle.std.specs.Prelude.{◌≡◌, ℕ, ◌<◌, ◌==◌, List, [], ◌∷◌, map, reverse, slice_index}
 use Rattle.hopen.specs.Stack.{OpenNode}
 use Rattle.hopen.specs.Opens.{open_of}
 use Rattle.hopen.specs.Places.{last_place}

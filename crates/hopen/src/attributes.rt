@@ -8,7 +8,7 @@ ghost use Rattle.hopen.specs.Formatting.{same_attribute, are_among, same_attribu
 use names::Attr;
 use std::alloc::{AllocError, Global};
 
-/// Copies of attributes, in their order.
+/// Copies a list of attributes, in order.
 pub fn copy_attrs(alloc: Global, attrs: &[Attr]) -> Result<Vec<Attr>, AllocError>
     ensures { IfOk result (λ copies. map attribute_of copies.items ≡ map attribute_of attrs.now) }
 {
@@ -38,7 +38,7 @@ fn are_all_in(attrs: &[Attr], others: &[Attr]) -> bool
     attrs.iter().all(|attr| contains(others, attr))
 }
 
-/// Whether two lists have the same attributes, in whatever order.
+/// Whether two lists have the same attributes, in any order.
 pub(crate) fn are_same(xs: &[Attr], ys: &[Attr]) -> bool
     ensures { result ≡ same_attributes nat_eq (map attribute_of xs.now) (map attribute_of ys.now) }
 {

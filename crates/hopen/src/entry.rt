@@ -19,7 +19,7 @@ pub struct Entry {
 }
 
 impl Entry {
-    /// Whether it is made for an equal token.
+    /// Whether it was made for an equal token: with the same name, and the same attributes in whatever order.
     pub(crate) fn is_equal(&self, name: NameId, attrs: &[Attr]) -> bool
         // whatever the new entry's node
         ensures { result ≡ is_equal nat_eq (record { node = 0; name = name; attrs = map attribute_of attrs.now }) (entry_is self.now) }
@@ -29,7 +29,7 @@ impl Entry {
 }
 
 /// A marker or an entry.
-#[derive(Drop)]
+#[derive(Debug, Drop)]
 pub(crate) enum Item {
     Marker,
     Entry(Entry),
@@ -56,7 +56,7 @@ impl Item {
         }
     }
 
-    /// An entry becomes that of another node.
+    /// Sets the node of an entry; does nothing to a marker.
     pub(crate) fn set_node(&mut self, node: NodeId)
         ensures { item_of self.new ≡ for_node node (item_of self.old) }
     {

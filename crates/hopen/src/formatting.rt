@@ -20,7 +20,7 @@ use std::marker::Model;
 const MOST_EQUAL: usize = 3;
 
 /// The list of active formatting elements.
-#[derive(Drop)]
+#[derive(Debug, Drop)]
 pub struct Formatting {
     items: Vec<Item>,
     alloc: Global,
@@ -39,7 +39,7 @@ impl Model for Formatting {
     ghost view = { λ f. items_of f.items.items };
 }
 
-/// The index of the earliest entry after the last marker that is equal to a new one, where there are as many as there may be.
+/// The index of the entry that gives way to a new one: the earliest of the equal entries after the last marker, if there are three.
 fn giving_way(items: &[Item], name: NameId, attrs: &[Attr]) -> Option<usize>
     ensures within { IfSome result (λ i. i < length items.now) }
     ensures room { items_of (option_map_or (λ i. remove items.now i) result items.now) ≡ with_room nat_eq (record { node = 0; name = name; attrs = map attribute_of attrs.now }) (items_of items.now) }
@@ -57,14 +57,14 @@ fn giving_way(items: &[Item], name: NameId, attrs: &[Attr]) -> Option<usize>
     if equal < MOST_EQUAL { None } else { earliest }
 }
 
-/// How many items come after the entry of a node.
+/// How many items come after the entry of a node; None if it has none.
 fn back_of(items: &[Item], node: NodeId) -> Option<usize>
     ensures { result ≡ position (λ i. is_entry node (item_of i)) (reverse items.now) }
 {
     items.iter().rev().position(|item| item.is_of(node))
 }
 
-/// The item that has so many after it becomes that of another node.
+/// Sets the node of the item with `back` items after it.
 fn set_node(items: &mut [Item], back: usize, node: NodeId)
     requires { back < length items.old }
     ensures { items_of items.new ≡ changed_at back (for_node node) (items_of items.old) }
@@ -73,7 +73,7 @@ fn set_node(items: &mut [Item], back: usize, node: NodeId)
     items[index].set_node(node);
 }
 
-/// Takes the entry of a node out of the list, which then has room for one item.
+/// Removes the entry of a node and returns it. The list then has room for one item.
 fn take(items: &mut Vec<Item>, node: NodeId) -> Item
     requires { IsTrue (list_any (is_entry node) (items_of items.old.items)) }
     ensures item { Some (item_of result) ≡ find (is_entry node) (items_of items.old.items) }
@@ -103,7 +103,7 @@ fn insert_after(items: &mut Vec<Item>, mark: NodeId, item: Item)
 }
 
 impl Formatting {
-    /// No items.
+    /// An empty list.
     pub fn new(alloc: Global) -> Self
         ensures { result ≡ [] }
     {
@@ -113,7 +113,8 @@ impl Formatting {
         }
     }
 
-    /// One entry more, after the earliest of three equal ones after the last marker has given way.
+    /// Pushes an entry, with copies of the attributes. If three entries after the last marker are equal to it, the earliest of them is
+    /// removed (13.2.4.3). On an error nothing changes.
     pub fn push(&mut self, node: NodeId, name: NameId, attrs: &[Attr]) -> Result<(), AllocError>
         ensures ok { OnOk result (self.new ≡ pushed nat_eq (record { node = node; name = name; attrs = map attribute_of attrs.now }) self.old) }
         ensures err { OnErr result (self.new ≡ self.old) }
@@ -127,7 +128,7 @@ impl Formatting {
         Ok(())
     }
 
-    /// One marker more.
+    /// Pushes a marker. On an error nothing changes.
     pub fn marker(&mut self) -> Result<(), AllocError>
         ensures ok { OnOk result (self.new ≡ marker ∷ self.old) }
         ensures err { OnErr result (self.new ≡ self.old) }
@@ -136,7 +137,7 @@ impl Formatting {
         Ok(())
     }
 
-    /// Removes the last marker and what comes after it, or all where there is none.
+    /// Removes the last marker and everything after it, or everything if there is no marker (13.2.4.3).
     pub fn clear(&mut self)
         ensures { self.new ≡ cleared self.old }
     {
@@ -154,7 +155,7 @@ impl Formatting {
         self.items.len()
     }
 
-    /// The last entry of a name after the last marker.
+    /// The last entry of a name after the last marker; None if there is none.
     pub fn find(&self, name: NameId) -> Option<&Entry>
         ensures { option_map (λ e. entry_is e.now) result ≡ find_entry nat_eq name self.now }
     {
@@ -168,7 +169,7 @@ impl Formatting {
         None
     }
 
-    /// The entry of a node.
+    /// The entry of a node; None if it has none.
     pub fn entry_of(&self, node: NodeId) -> Option<&Entry>
         ensures { option_map (λ e. entry_is e.now) result ≡ entry_of node self.now }
     {
@@ -184,8 +185,8 @@ impl Formatting {
         None
     }
 
-    /// The entry that has so many items after it: 0 is the last one. None where a marker stands there, so that a loop that goes back
-    /// ends at the last marker, as that which reconstructs the formatting elements.
+    /// The entry with `back` items after it: 0 is the last one. None for a marker, and past the first item; so a loop that goes back,
+    /// as the one that reconstructs the formatting elements, ends at the last marker.
     pub fn get(&self, back: usize) -> Option<&Entry>
         ensures { option_map (λ e. entry_is e.now) result ≡ entry_at back self.now }
     {
@@ -195,14 +196,14 @@ impl Formatting {
         self.items[self.items.len() - 1 - back].entry()
     }
 
-    /// Removes the entry of a node, where it has one.
+    /// Removes the entry of a node; does nothing if it has none.
     pub fn remove(&mut self, node: NodeId)
         ensures { self.new ≡ without_entry node self.old }
     {
         self.items.retain(|item| !item.is_of(node));
     }
 
-    /// The entry of a node becomes that of another one, which is made for the same token.
+    /// Sets the node of a node's entry, which was made for the same token; does nothing if there is no such entry.
     pub fn replace(&mut self, from: NodeId, to: NodeId)
         ensures { self.new ≡ with_node from to self.old }
     {
@@ -211,7 +212,7 @@ impl Formatting {
         }
     }
 
-    /// The same for the entry that `get` gives, by its number.
+    /// Sets the node of the entry that `get(back)` returns; does nothing if that is None.
     pub fn renew(&mut self, back: usize, node: NodeId)
         ensures { self.new ≡ changed_at back (for_node node) self.old }
     {
@@ -220,7 +221,7 @@ impl Formatting {
         }
     }
 
-    /// The entry of a node becomes that of another one, and stands at the bookmark (13.2.6.4.7). Takes no memory.
+    /// Sets the node of a node's entry, and moves the entry to the bookmark (13.2.6.4.7). Allocates nothing.
     pub fn move_to_bookmark(&mut self, from: NodeId, to: NodeId, bookmark: Bookmark)
         requires entry { IsTrue (list_any (is_entry from) self.old) }
         requires bookmark { IsTrue (has_bookmark from bookmark self.old) }

@@ -16,7 +16,7 @@ use names::NameId;
 use std::alloc::{AllocError, Global};
 
 /// An open node, and the places that were known when it was opened. Places count from 1, the topmost; 0 is none.
-#[derive(Clone, Copy)]
+#[derive(Clone, Copy, Debug)]
 pub(crate) struct Item {
     pub(crate) opened: Open,
     /// The nearest node of the same name above it.
@@ -27,14 +27,14 @@ pub(crate) struct Item {
     sets: SetPlaces,
 }
 
-/// By the number of each name, and of each node: the nearest place where it is open.
-#[derive(Drop)]
+/// For each name, and each node, by its number: the nearest place where it is open, 0 if it is not.
+#[derive(Debug, Drop)]
 pub(crate) struct LastPlaces {
     names: Vec<u32>,
     nodes: Vec<u32>,
 }
 
-/// The place that is kept for a number.
+/// The place of a number; 0 if the table does not reach it.
 fn place_at(places: &[u32], number: usize) -> u32
     ensures { result ≡ slice_index places.now number }
 {
@@ -120,7 +120,7 @@ impl LastPlaces {
         self.nodes[opened.node.index()] = of_node;
     }
 
-    /// The node of an item comes to a place.
+    /// Notes that a node is open at a place.
     pub(crate) fn put(&mut self, opened: Open, place: u32)
         requires name_in { opened.name < length self.old.names.items }
         requires node_in { opened.node < length self.old.nodes.items }
@@ -130,7 +130,7 @@ impl LastPlaces {
         self.set(opened, place, place);
     }
 
-    /// The node of an item goes, and what it kept is the nearest again.
+    /// Notes that the node of an item is closed: what the item kept is the nearest again.
     pub(crate) fn take_back(&mut self, item: &Item)
         requires name_in { item.now.opened.name < length self.old.names.items }
         requires node_in { item.now.opened.node < length self.old.nodes.items }
@@ -140,7 +140,7 @@ impl LastPlaces {
         self.set(item.opened, item.same_name, item.same_node);
     }
 
-    /// What an item keeps that comes to a place, right below a node with these places of sets.
+    /// The item of a node that is opened at a place, right below a node with these places of sets.
     pub(crate) fn item(&self, opened: Open, above: &SetPlaces, place: u32) -> Item
         ensures opened { result.opened ≡ opened }
         ensures same_name { result.same_name ≡ slice_index self.now.names.items opened.name }
@@ -167,7 +167,7 @@ pub(crate) fn nearest_of_sets(items: &[Item]) -> SetPlaces
     }
 }
 
-/// Takes the items from an index on out of the tables.
+/// Takes the items from an index on out of the tables, the last one first.
 fn unwind(last: &mut LastPlaces, items: &[Item], from: usize)
     requires stands { Stands last.old items.now }
     requires within { from ≤ length items.now }
@@ -204,8 +204,12 @@ fn rewind(last: &mut LastPlaces, items: &mut [Item], from: usize)
     }
 }
 
-/// One item more, for a node that comes right below the last one.
-pub(crate) fn push(last: &mut LastPlaces, items: &mut Vec<Item>, opened: Open) -> Result<(), AllocError>
+/// Pushes an item for a node. On an error the items stay; the tables may have grown.
+pub(crate) fn push(
+    last: &mut LastPlaces,
+    items: &mut Vec<Item>,
+    opened: Open,
+) -> Result<(), AllocError>
     requires stands { Stands last.old items.old.items }
     requires places { length items.old.items + 1 < 2 ^ 32 }
     ensures stands { Stands last.new items.new.items }
@@ -222,7 +226,7 @@ pub(crate) fn push(last: &mut LastPlaces, items: &mut Vec<Item>, opened: Open) -
     Ok(())
 }
 
-/// Takes the last item.
+/// Removes the last item and returns its node.
 pub(crate) fn pop(last: &mut LastPlaces, items: &mut Vec<Item>) -> Option<Open>
     requires { Stands last.old items.old.items }
     ensures stands { Stands last.new items.new.items }

@@ -11,10 +11,10 @@ pub mod formatting;
 mod formatting_plain;
 #[cfg(test)]
 mod formatting_tests;
-pub mod laws;
-pub mod scope;
 mod kept;
+pub mod laws;
 mod name_sets;
+pub mod scope;
 mod sought;
 pub mod stack;
 #[cfg(test)]

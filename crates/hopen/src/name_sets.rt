@@ -18,7 +18,7 @@ pub(crate) enum NameSet {
 }
 
 /// For each set of names, the place of the nearest open node that has one of them, from 1, the topmost; 0 if there is none.
-#[derive(Clone, Copy)]
+#[derive(Clone, Copy, Debug)]
 pub(crate) struct SetPlaces {
     scope: u32,
     list_item_scope: u32,
@@ -54,7 +54,7 @@ impl SetPlaces {
         }
     }
 
-    /// The place of the nearest node of a set.
+    /// The place of the nearest node of a set; 0 if there is none.
     pub(crate) fn of(&self, set: NameSet) -> u32
         ensures { result ≡ set_place set self.now }
     {
@@ -70,7 +70,7 @@ impl SetPlaces {
         }
     }
 
-    /// The same with one node more below, at a place.
+    /// The places where one more node is open right below, at a place.
     pub(crate) fn with(&self, tag: Tag, place: u32) -> SetPlaces
         ensures { (set : NameSet) → set_place set result ≡ (if is_in_set set tag then place else set_place set self.now) }
     {

@@ -32,7 +32,7 @@ impl Scope {
     }
 }
 
-/// Names that a rule seeks together.
+/// A group of names that a rule looks for together.
 #[derive(Clone, Copy, Debug, PartialEq, Eq)]
 pub enum Group {
     /// h1 to h6.

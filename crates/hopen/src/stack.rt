@@ -14,9 +14,9 @@ ghost use Rattle.names.specs.Sets.{is_special};
 ghost use Rattle.names.specs.declared.refusal.Refusal.TheVariants.{TooDeep, Memory};
 ghost use Rattle.hopen.specs.declared.scope.Scope.TheVariants.{Default};
 
-use crate::scope::{Group, Scope};
 use crate::kept::{Item, LastPlaces, insert, nearest_of_sets, pop, push, remove, replace};
 use crate::name_sets::NameSet;
+use crate::scope::{Group, Scope};
 use crate::sought::{Sought, first_special};
 use hnodes::NodeId;
 use names::{NameId, Refusal};
@@ -30,10 +30,13 @@ pub struct Open {
     pub name: NameId,
 }
 
-/// The open nodes with their names, from html down to the current node. Each takes 16 bytes. A push takes the same time at any
-/// depth, amortized; all other calls take at most as many steps as they pass nodes, going up from the current one. No call but
-/// `push` and `insert_below` takes memory, and none recurses.
-#[derive(Drop)]
+/// The open nodes with their names, from html down to the current node.
+///
+/// No question searches the stack, but for `furthest_block`, which passes the nodes from the formatting element down to the block.
+/// A push and a pop take the same time at any depth, amortized. `remove`, `replace` and `insert_below` take a step for each node
+/// below. An open node takes 56 bytes; a name, and a node, take 4 bytes for each number up to the greatest that was ever open.
+/// `push`, `replace` and `insert_below` alone allocate, and on an error they change nothing.
+#[derive(Debug, Drop)]
 pub struct OpenStack {
     items: Vec<Item>,
     last: LastPlaces,
@@ -57,7 +60,7 @@ impl Model for OpenStack {
 }
 
 impl OpenStack {
-    /// No open node. At most `limit` may be open at a time.
+    /// A stack with no open node, on which at most `limit` may be open at a time.
     pub fn new(alloc: Global, limit: u32) -> Self
         ensures { result ≡ record { limit = limit; stack = [] } }
     {
@@ -76,7 +79,7 @@ impl OpenStack {
         self.items.len()
     }
 
-    /// The node becomes the current one. `at` is the place of the token.
+    /// Opens a node, which becomes the current one. `at` is the byte offset of the token.
     pub fn push(&mut self, opened: Open, at: u64) -> Result<(), Refusal>
         ensures ok { OnOk result (self.new ≡ record self.old { stack = open_of opened ∷ self.old.stack }) }
         ensures full { (result ≡ Err (TooDeep at)) ↔ (self.old.limit ≤ length self.old.stack) }
@@ -88,7 +91,7 @@ impl OpenStack {
         Ok(())
     }
 
-    /// Closes the current node, where there is one.
+    /// Closes the current node and returns it; None if no node is open.
     pub fn pop(&mut self) -> Option<Open>
         ensures popped { option_map open_of result ≡ current_of self.old.stack }
         ensures rest { self.new ≡ record self.old { stack = drop 1 self.old.stack } }
@@ -96,28 +99,28 @@ impl OpenStack {
         pop(&mut self.last, &mut self.items)
     }
 
-    /// Closes nodes up to and with the nearest of a name; all where there is none.
+    /// Closes nodes up to and including the nearest of a name; all of them if there is none.
     pub fn pop_to(&mut self, name: NameId)
         ensures { self.new ≡ record self.old { stack = after (is_named nat_eq name) self.old.stack } }
     {
         self.close_to(Sought::Name(name));
     }
 
-    /// Closes nodes up to and with a node; all where it is not open.
+    /// Closes nodes up to and including a node; all of them if it is not open.
     pub fn pop_to_node(&mut self, node: NodeId)
         ensures { self.new ≡ record self.old { stack = above_of node self.old.stack } }
     {
         self.close_to(Sought::Node(node));
     }
 
-    /// Closes nodes up to and with the nearest of a group; all where there is none.
+    /// Closes nodes up to and including the nearest of a group; all of them if there is none.
     pub fn pop_to_group(&mut self, group: Group)
         ensures { self.new ≡ record self.old { stack = after (is_of tag_of group) self.old.stack } }
     {
         self.close_to(Sought::Group(group));
     }
 
-    /// Takes a node out, where it is open.
+    /// Removes a node; does nothing if it is not open.
     pub fn remove(&mut self, node: NodeId)
         ensures { self.new ≡ record self.old { stack = without (is_node node) self.old.stack } }
     {
@@ -126,7 +129,7 @@ impl OpenStack {
         }
     }
 
-    /// Another node in the place of one that is open.
+    /// Puts another node in the place of an open one; does nothing if that is not open.
     pub fn replace(&mut self, node: NodeId, by: Open) -> Result<(), AllocError>
         ensures ok { OnOk result (self.new ≡ record self.old { stack = changed (is_node node) (λ _. open_of by) self.old.stack }) }
         ensures err { OnErr result (self.new ≡ self.old) }
@@ -139,7 +142,7 @@ impl OpenStack {
         Ok(())
     }
 
-    /// One more node right below one that is open; none where it is not open. `at` is the place of the token.
+    /// Inserts a node right below an open one; inserts nothing if that is not open. `at` is the byte offset of the token.
     pub fn insert_below(&mut self, node: NodeId, opened: Open, at: u64) -> Result<(), Refusal>
         ensures ok { OnOk result (self.new ≡ record self.old { stack = put_before (is_node node) (open_of opened) self.old.stack }) }
         ensures full { (result ≡ Err (TooDeep at)) ↔ (self.old.limit ≤ length self.old.stack) }
@@ -151,7 +154,12 @@ impl OpenStack {
             let wanted = opened;
             self.last.make_room(wanted)?;
             self.items.reserve(1)?;
-            insert(&mut self.last, &mut self.items, index + 1, Item::new(opened));
+            insert(
+                &mut self.last,
+                &mut self.items,
+                index + 1,
+                Item::new(opened),
+            );
         }
         Ok(())
     }
@@ -163,15 +171,16 @@ impl OpenStack {
         self.place(node).is_some()
     }
 
-    /// Whether an element of a name is in a scope.
+    /// Whether an element of a name is in a scope (13.2.4.2): going up from the current node, it is met before any scope boundary that
+    /// is not itself sought.
     pub fn in_scope(&self, scope: Scope, name: NameId) -> bool
         ensures { result ≡ is_in_scope (stops_node tag_of scope) (is_named nat_eq name) self.now.stack }
     {
         self.is_nearer(Sought::Name(name), NameSet::Stops(scope))
     }
 
-    /// Whether, going up from the current node, an element of a name is met before a special element that does not have it: the search
-    /// of "any other end tag" (13.2.6.4.7).
+    /// Whether, going up from the current node, an element of a name is met before any other special element: the search of "any other
+    /// end tag" (13.2.6.4.7).
     pub fn before_special(&self, name: NameId) -> bool
         ensures { result ≡ is_in_scope (λ x. is_special (tag_of x.name)) (is_named nat_eq name) self.now.stack }
     {
@@ -199,7 +208,7 @@ impl OpenStack {
         Some(self.items.last()?.opened)
     }
 
-    /// The node with so many open nodes below it: 0 is the current one.
+    /// The open node with `up` nodes below it: 0 is the current node.
     pub fn get(&self, up: usize) -> Option<Open>
         ensures { option_map open_of result ≡ slice_get self.now.stack up }
     {
@@ -210,7 +219,7 @@ impl OpenStack {
         }
     }
 
-    /// The node with so many open nodes above it: 0 is the first one, html.
+    /// The open node with `down` nodes above it: 0 is the topmost, html.
     pub fn from_top(&self, down: usize) -> Option<Open>
         ensures { option_map open_of result ≡ slice_get (reverse self.now.stack) down }
     {
@@ -221,7 +230,7 @@ impl OpenStack {
         }
     }
 
-    /// How many open nodes are below a node, where it is open.
+    /// How many open nodes are below a node; None if it is not open.
     pub fn place(&self, node: NodeId) -> Option<usize>
         ensures place { result ≡ position (is_node node) self.now.stack }
         ensures within { IfSome result (λ up. up < length self.now.stack) }
@@ -229,7 +238,7 @@ impl OpenStack {
         self.place_of(Sought::Node(node))
     }
 
-    /// How many open nodes are above a node, 0 where it is not open.
+    /// How many open nodes are above a node; 0 if it is not open.
     pub fn depth(&self, node: NodeId) -> usize
         ensures { result ≡ length (above_of node self.now.stack) }
     {
@@ -243,7 +252,7 @@ impl OpenStack {
         self.get(self.place_of(Sought::Name(name))?)
     }
 
-    /// The open node right above a node.
+    /// The open node right above a node; None if the node is the topmost or not open.
     pub fn above(&self, node: NodeId) -> Option<Open>
         ensures { option_map open_of result ≡ current_of (above_of node self.now.stack) }
     {
@@ -254,7 +263,8 @@ impl OpenStack {
         Some(self.items[index - 1].opened)
     }
 
-    /// The topmost special node below a formatting element (13.2.6.4.7), or of all open nodes where that is not one of them.
+    /// The furthest block of a formatting element: the topmost special node below it (13.2.6.4.7), or of all open nodes if it is not
+    /// open.
     pub fn furthest_block(&self, formatting: NodeId) -> Option<Open>
         ensures { option_map open_of result ≡ furthest_block_of tag_of formatting self.now.stack }
     {
@@ -262,7 +272,7 @@ impl OpenStack {
         first_special(&self.items[self.items.len() - below..])
     }
 
-    /// Whether one node more may be open.
+    /// Checks that one more node may be open.
     fn room(&self, at: u64) -> Result<(), Refusal>
         ensures { result ≡ (if leb self.now.limit (length self.now.stack) then Err (TooDeep at) else Ok tt) }
     {
@@ -290,7 +300,7 @@ impl OpenStack {
         nearest_of_sets(&self.items).of(set)
     }
 
-    /// How many open nodes are below the nearest that is sought.
+    /// How many open nodes are below the nearest that is sought; None if there is none.
     fn place_of(&self, sought: Sought) -> Option<usize>
         ensures place { result ≡ position (is_sought sought) self.now.stack }
         ensures within { IfSome result (λ up. up < length self.now.stack) }
@@ -299,7 +309,7 @@ impl OpenStack {
         Some(self.items.len() - 1 - index)
     }
 
-    /// How many open nodes are above the nearest that is sought.
+    /// How many open nodes are above the nearest that is sought; None if there is none.
     fn index(&self, sought: Sought) -> Option<usize>
         ensures found { MatchOption result (position (is_sought sought) self.now.stack ≡ None) (λ i. position (is_sought sought) self.now.stack ≡ Some (length self.now.stack - 1 - i)) }
         ensures within { IfSome result (λ i. i < length self.now.stack) }
@@ -311,7 +321,7 @@ impl OpenStack {
         Some(place - 1)
     }
 
-    /// Closes nodes up to and with the nearest that is sought; all where there is none.
+    /// Closes nodes up to and including the nearest that is sought; all of them if there is none.
     fn close_to(&mut self, sought: Sought)
         ensures { self.new ≡ record self.old { stack = after (is_sought sought) self.old.stack } }
     {

@@ -3,6 +3,7 @@
 ghost use Rattle.std.specs.Prelude.{◌≡◌, ◌<◌, IfOk, length};
 
 use crate::fixed::pick;
+use crate::kept::Item;
 use crate::scope::{Group, Scope};
 use crate::stack::{Open, OpenStack};
 use crate::stack_plain::{Plain, Wanted};
@@ -196,31 +197,84 @@ fn find_alike(stack: &OpenStack, plain: &Plain, supply: &mut Supply) -> bool {
 #[test]
 fn an_open_node_is_small(rt: HostRuntime) {
     assert_eq!(rt; std::mem::size_of::<Open>(), 16);
+    assert_eq!(rt; std::mem::size_of::<Item>(), 56);
 }
 
-#[test]
-fn ten_thousand_edits_are_those_of_a_plain_list(rt: HostRuntime) -> Result<(), Fail> {
-    let mut supply = Supply::new(rt.alloc())?;
-    let mut stack = OpenStack::new(rt.alloc(), LIMIT);
-    let mut plain = Plain::new(rt.alloc());
+/// Whether both answer every question alike.
+fn are_alike(stack: &OpenStack, plain: &Plain, supply: &mut Supply) -> bool {
+    agree(stack, plain)
+        && answer_alike(stack, plain, supply.node())
+        && find_alike(stack, plain, supply)
+        && find_alike(stack, plain, supply)
+}
+
+/// A list of edits, each of both, with questions after each. How many edits found the stack full, or None where an answer differs.
+fn run_list(supply: &mut Supply, alloc: Global) -> Result<Option<u32>, Refusal> {
+    let mut stack = OpenStack::new(alloc, LIMIT);
+    let mut plain = Plain::new(alloc);
     let mut full = 0u32;
-    for turn in 0..10_000 {
+    for _ in 0..24 {
         if stack.len() == LIMIT as usize {
             full = full.wrapping_add(1);
         }
-        assert!(rt; edit(&mut stack, &mut plain, &mut supply)?, "edit {turn}");
-        assert!(rt; agree(&stack, &plain), "after edit {turn}");
-        let node = supply.node();
-        assert!(rt;
-            answer_alike(&stack, &plain, node),
-            "a node after edit {turn}"
-        );
-        assert!(rt;
-            find_alike(&stack, &plain, &mut supply),
-            "a search after edit {turn}"
-        );
+        if !edit(&mut stack, &mut plain, supply)? || !are_alike(&stack, &plain, supply) {
+            return Ok(None);
+        }
+    }
+    Ok(Some(full))
+}
+
+#[test]
+fn ten_thousand_lists_of_edits_are_those_of_a_plain_list(rt: HostRuntime) -> Result<(), Fail> {
+    let mut supply = Supply::new(rt.alloc())?;
+    let mut full = 0u32;
+    for list in 0..10_000 {
+        let found = run_list(&mut supply, rt.alloc())?;
+        assert!(rt; found.is_some(), "list {list}");
+        full = full.wrapping_add(found.unwrap_or(0));
     }
     assert!(rt; full > 100, "{full}");
+    Ok(())
+}
+
+/// Whether each question that goes up to the topmost node is answered, with so many below it.
+fn finds_topmost(stack: &OpenStack, topmost: &Open, below: usize) -> bool {
+    stack.contains(topmost.node)
+        && stack.place(topmost.node) == Some(below)
+        && stack.depth(topmost.node) == 0
+        && stack.above(topmost.node).is_none()
+        && stack
+            .nearest(topmost.name)
+            .is_some_and(|found| found.node == topmost.node)
+        && stack.in_scope(Scope::Table, topmost.name)
+        && stack.node_in_scope(topmost.node)
+        && stack.before_special(topmost.name)
+        && !stack.group_in_scope(Scope::Default, Group::Heading)
+}
+
+/// A search at each of these questions would pass 100,000 nodes, which takes minutes.
+#[test]
+fn no_question_takes_longer_at_depth(rt: HostRuntime) -> Result<(), Fail> {
+    let mut names = Names::new(rt.alloc())?;
+    let mut tree = Tree::new(rt.alloc(), 200_000)?;
+    let mut stack = OpenStack::new(rt.alloc(), 200_000);
+    let html = Open {
+        node: tree.document(),
+        name: names.intern(rt.alloc(), "html")?,
+    };
+    let name = names.intern(rt.alloc(), "b")?;
+    let first = html;
+    stack.push(first, PLACE)?;
+    for below in 0..100_000usize {
+        assert!(rt; finds_topmost(&stack, &html, below), "{below}");
+        let node = tree.create_element(name, Vec::new(rt.alloc()), PLACE)?;
+        stack.push(Open { node, name }, PLACE)?;
+    }
+    for popped in 0..100_000usize {
+        assert!(rt; finds_topmost(&stack, &html, 100_000 - popped), "{popped}");
+        assert!(rt; stack.pop().is_some());
+    }
+    assert_eq!(rt; stack.len(), 1);
     Ok(())
 }
 

@@ -12,7 +12,7 @@ unreachable-requires c =
 pub returns : goal.returns
 returns c =
     let found = back_is c.args.mark c.args.items.now.items c.deref.result.now c.back_of.result c.deref.ensures.value c.back_of.ensures ∙ c.in-Some.is in
-    let within : c.in-Some.back < length c.args.items.now.items = back_within c.args.mark c.args.items.now.items c.in-Some.back (item_of c.args.item) found in
+    let within : c.in-Some.back < length c.args.items.now.items = back_within c.args.mark c.args.items.now.items c.in-Some.back found in
     let at : (c.len.result - 1 - c.in-Some.back) + 1 ≡ c.len.result - c.in-Some.back = omega arith in
     let put = insert_nearest item_of (is_entry c.args.mark) c.args.items.now.items (c.len.result - 1 - c.in-Some.back) c.in-Some.back c.args.item found (omega arith) in
     let done : is_ok c.insert.result ≡ true = search rules in

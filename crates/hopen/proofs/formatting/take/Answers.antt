@@ -10,7 +10,7 @@ found : (c : goal.After-remove) → position (is_entry c.args.node) (items_of c.
 found c = back_is c.args.node c.args.items.now.items c.deref.result.now c.back_of.result c.deref.ensures.value c.back_of.ensures ∙ c.in-Some.is
 
 within : (c : goal.After-remove) → c.in-Some.back < length c.args.items.now.items
-within c = back_within c.args.node c.args.items.now.items c.in-Some.back (item_of c.remove.result) (found c)
+within c = back_within c.args.node c.args.items.now.items c.in-Some.back (found c)
 
 pub unreachable-requires : goal.unreachable-requires
 unreachable-requires c =

@@ -1,5 +1,3 @@
-use Rattle.std.proofs.Common.{length, ◌<◌}
-use Rattle.hopen.specs.Kept.{Stands}
 use Rattle.hopen.proofs.Standing.{stands-in, stands-less}
 use Rattle.hopen.proofs.kept.pop.Goals as goal
 

@@ -1,4 +1,4 @@
-use Rattle.std.proofs.Common.{◌≡◌, ℕ, suc, ◌+◌, ◌++◌, ◌∷◌, [], List, ◌<◌, length, get_or, set, cond, subst, sym, ap, ◌∙◌, arith}
+use Rattle.std.proofs.Common.{◌≡◌, ℕ, suc, ◌+◌, List, ◌<◌, length, get_or, set, cond, subst, sym, ap, ◌∙◌, arith}
 use Rattle.hopen.specs.Kept.{Stands, stack_of}
 use Rattle.hopen.specs.Places.{last_place}
 use Rattle.hopen.specs.NameSets.{is_in, is_in_set, set_place}

@@ -1,7 +1,3 @@
-use Rattle.std.proofs.Common.{◌+◌, length, drop, set, subst, sym, List, arith, get_or, refl}
-use Rattle.std.proofs.lemmas.List.{drop-set}
-use Rattle.hopen.specs.Kept.{AreIn}
-use Rattle.hopen.specs.declared.kept.Item.{Item}
 use Rattle.hopen.proofs.Standing.{numbers-replaced}
 use Rattle.hopen.proofs.kept.replace.Goals as goal
 

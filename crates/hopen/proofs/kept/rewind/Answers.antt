@@ -1,7 +1,7 @@
-use Rattle.std.proofs.Common.{◌≡◌, ℕ, suc, ◌+◌, ◌-◌, ◌<◌, List, [], ◌∷◌, ◌++◌, length, map, take, drop, set, get_or, cond, ap, sym, ◌∙◌, subst, arith}
+use Rattle.std.proofs.Common.{◌≡◌, suc, ◌+◌, ◌<◌, List, [], ◌∷◌, ◌++◌, length, take, drop, set, get_or, cond, ap, sym, ◌∙◌, subst, arith}
 use Rattle.std.proofs.lemmas.List.{length-set, length-take-le, take_more_set, drop-set-lt}
 use Rattle.std.proofs.Math.Seq.{map-set_same}
-use Rattle.hopen.specs.Kept.{Stands, AreIn, opened_by, stack_of}
+use Rattle.hopen.specs.Kept.{Stands, opened_by, stack_of}
 use Rattle.hopen.specs.declared.kept.Item.{Item}
 use Rattle.hopen.specs.declared.stack.Open.{Open}
 use Rattle.hopen.specs.Opens.{open_of}

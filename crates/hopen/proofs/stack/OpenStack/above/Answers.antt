@@ -1,4 +1,4 @@
-use Rattle.std.proofs.Common.{◌≡◌, ℕ, Some, suc, ◌+◌, ◌-◌, ◌≤◌, length, drop, ◌∙◌, ap, sym, arith}
+use Rattle.std.proofs.Common.{◌≡◌, ℕ, Some, suc, ◌+◌, ◌-◌, length, drop, ◌∙◌, ap, sym, arith}
 use Rattle.std.specs.Option.{option_map}
 use Rattle.std.proofs.Math.Seq.{drop-length}
 use Rattle.hopen.specs.Kept.{opened_by, stack_of}

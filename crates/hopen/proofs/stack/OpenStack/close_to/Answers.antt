@@ -1,4 +1,4 @@
-use Rattle.std.proofs.Common.{◌≡◌, ℕ, ◌-◌, ◌+◌, List, length, drop, ap, sym, ◌∙◌, arith}
+use Rattle.std.proofs.Common.{◌≡◌, ℕ, ◌-◌, ◌+◌, length, drop, ap, sym, ◌∙◌, arith}
 use Rattle.std.proofs.lemmas.List.{length-drop, drop-drop}
 use Rattle.hopen.specs.Stack.{OpenNodes}
 use Rattle.hopen.specs.Nearest.{after}
@@ -24,6 +24,6 @@ returns c =
     let now = c.args.self.now in
     let none : length s - c.unwrap_or-index.result ≡ 0 = omega arith in
     let stack : s ≡ after (is_sought c.args.sought) now.stack =
-        sym (ap (λ n. drop n s) none) ∙ c.loop-self.invariant.rest ∙ ap (λ n. drop (length now.stack - n) now.stack) c.unwrap_or-index.ensures
-        ∙ left_is (is_sought c.args.sought) now.stack c.index.result c.index.ensures.found c.index.ensures.within in
+    sym (ap (λ n. drop n s) none) ∙ c.loop-self.invariant.rest ∙ ap (λ n. drop (length now.stack - n) now.stack) c.unwrap_or-index.ensures
+    ∙ left_is (is_sought c.args.sought) now.stack c.index.result c.index.ensures.found c.index.ensures.within in
     λ i. record { limit = c.loop-self.invariant.limit i; stack = stack i }

@@ -1,6 +1,5 @@
-use Rattle.std.proofs.Common.{◌≡◌, suc, ◌-◌, ◌∙◌, sym, arith}
+use Rattle.std.proofs.Common.{◌-◌, arith}
 use Rattle.hopen.specs.Opens.{is_sought}
-use Rattle.hopen.specs.Places.{last_place}
 use Rattle.hopen.proofs.Places.{position-none, position-some, last_place-le}
 use Rattle.hopen.proofs.stack.OpenStack.index.Goals as goal
 

@@ -1,4 +1,4 @@
-use Rattle.std.proofs.Common.{◌≡◌, ltb, true, false, ◌&&◌, leb, sym, ◌∙◌, ap, refl, arith}
+use Rattle.std.proofs.Common.{refl}
 use Rattle.std.proofs.lemmas.Bool.{lt-ltb, le-ltb}
 use Rattle.hopen.specs.NameSets.{is_in}
 use Rattle.hopen.specs.Opens.{is_sought}

@@ -1,4 +1,4 @@
-use Rattle.std.proofs.Common.{◌∙◌, ap, map, reverse, arith}
+use Rattle.std.proofs.Common.{◌∙◌, ap, reverse, arith}
 use Rattle.std.proofs.lemmas.List.{with_items_is}
 use Rattle.std.specs.Vec.{with_items}
 use Rattle.hopen.proofs.Opened.{seen, found, none_found, kept}

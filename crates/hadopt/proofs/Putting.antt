@@ -1,0 +1,101 @@
+-- A run of characters is put as its characters are, one by one: behind the first one a text stands, so none of the others makes a node.
+use Rattle.std.proofs.Common.{◌≡◌, ℕ, zero, suc, ◌+◌, ◌<◌, ◌≤◌, Bool, true, false, leb, cond, List, [], ◌∷◌, Option, Some, None, is_none, length, refl, sym, ◌∙◌, ap, subst, arith, ◌⊎◌, inl, inr, Ok, Err}
+use Rattle.std.proofs.lemmas.Bool.{le-leb, leb-true}
+use Rattle.std.proofs.lemmas.List.{nil_from_length}
+use Rattle.std.proofs.lemmas.Str.{chars-nil, encodes-chars}
+use Rattle.std.specs.Char.{encode_utf8, len_utf8}
+use Rattle.std.specs.Prelude.{Result, IfErr, OnOk, OnErr, ◌&&◌, ◌↔◌}
+use Rattle.std.specs.Str.{chars, encode_utf8_all, IsUtf8}
+use Rattle.hnodes.proofs.Counted.{not-there}
+use Rattle.hnodes.proofs.Placed.{placed as placed_at, graft-made, placed-text}
+use Rattle.hnodes.proofs.Respots.{IsTextBefore, is-text_before, text_before-is, text_before-longer}
+use Rattle.hnodes.specs.Edits.{Nodes, AreNodes, IsPlace, text_before, char_into, with_char, add_char, add_chars}
+use Rattle.hnodes.specs.Forest.{text, tree, none, change_what}
+use Rattle.hnodes.specs.declared.node.Place.{Place}
+use Rattle.hopen.specs.Stack.{OpenNode}
+use Rattle.names.specs.Placed.{placed}
+use Rattle.names.specs.declared.refusal.Refusal.{Refusal}
+use Rattle.names.specs.declared.refusal.Refusal.TheVariants.{TooManyNodes, Memory}
+use Rattle.hadopt.specs.Gives.{Gives}
+use Rattle.hadopt.specs.Inserts.{put, put_each}
+use Rattle.hadopt.specs.Made.{AreMade}
+use Rattle.hadopt.proofs.Made.{more}
+use Rattle.hadopt.specs.Site.{Outcome, Goes, Refused, and_then, SiteOf, trees}
+
+module _ {N : Type 0} (place : Place) where
+  -- where a text stands before the place
+  each-joins : (at : ℕ) (cs : List ℕ) (s : SiteOf N) (n : ℕ) → IsTextBefore place (trees s) n → put_each (placed at cs) place s ≡ Goes (record s { nodes = add_chars cs place s.nodes })
+  each-joins at [] s n is = refl
+  each-joins at (c ∷ cs) s n is =
+      let there = text_before-is place (trees s) n is in
+      let first : add_char c place s.nodes ≡ record s.nodes { trees = change_what n (with_char c) (trees s) } = ap (λ o. char_into c place o s.nodes) there in
+      let still : IsTextBefore place (add_char c place s.nodes).trees n = subst (λ (t : Nodes N). IsTextBefore place t.trees n) (sym first) (text_before-longer place (trees s) n (encode_utf8 c) is) in
+      ap (λ o. and_then (cond (is_none o && leb s.nodes.limit s.nodes.made) (Refused (TooManyNodes at)) (Goes (record s { nodes = add_char c place s.nodes }))) (put_each (placed (at + len_utf8 c) cs) place)) there
+      ∙ each-joins (at + len_utf8 c) cs (record s { nodes = add_char c place s.nodes }) n still
+
+  -- where none does, and there is room for a node
+  each-makes : (at c : ℕ) (cs : List ℕ) (s : SiteOf N) → AreNodes s.nodes → IsPlace place s.nodes → text_before place (trees s) ≡ None → leb s.nodes.limit s.nodes.made ≡ false
+      → put_each (placed at (c ∷ cs)) place s ≡ Goes (record s { nodes = add_chars (c ∷ cs) place s.nodes })
+  each-makes at c cs s nodes is none_there room =
+      let t = s.nodes in
+      let absent = not-there t.made t.trees nodes.counted t.made (omega arith) in
+      let begun = graft-made t.made (text (encode_utf8 c)) place t.trees absent in
+      let first : add_char c place t ≡ record t { made = t.made + 1; trees = placed_at place (tree t.made (text (encode_utf8 c)) none none) t.trees } = ap (λ o. char_into c place o t) none_there ∙ (λ i. record t { made = t.made + 1; trees = begun i }) in
+      let still : IsTextBefore place (add_char c place t).trees t.made = subst (λ (u : Nodes N). IsTextBefore place u.trees t.made) (sym first) (placed-text place t (encode_utf8 c) nodes.counted is) in
+      ap (λ v. and_then (cond (is_none (text_before place t.trees) && v) (Refused (TooManyNodes at)) (Goes (record s { nodes = add_char c place t }))) (put_each (placed (at + len_utf8 c) cs) place)) room
+      ∙ ap (λ o. and_then (cond (is_none o && false) (Refused (TooManyNodes at)) (Goes (record s { nodes = add_char c place t }))) (put_each (placed (at + len_utf8 c) cs) place)) none_there
+      ∙ each-joins (at + len_utf8 c) cs (record s { nodes = add_char c place t }) t.made still
+
+  -- where none does, and there is no room
+  each-refused : (at c : ℕ) (cs : List ℕ) (s : SiteOf N) → text_before place (trees s) ≡ None → leb s.nodes.limit s.nodes.made ≡ true → put_each (placed at (c ∷ cs)) place s ≡ Refused (TooManyNodes at)
+  each-refused at c cs s none_there full =
+      ap (λ v. and_then (cond (is_none (text_before place (trees s)) && v) (Refused (TooManyNodes at)) (Goes (record s { nodes = add_char c place s.nodes }))) (put_each (placed (at + len_utf8 c) cs) place)) full
+      ∙ ap (λ o. and_then (cond (is_none o && true) (Refused (TooManyNodes at)) (Goes (record s { nodes = add_char c place s.nodes }))) (put_each (placed (at + len_utf8 c) cs) place)) none_there
+
+  each-put : (at : ℕ) (cs : List ℕ) (s : SiteOf N) → AreNodes s.nodes → IsPlace place s.nodes → (0 < length cs → text_before place (trees s) ≡ None → leb s.nodes.limit s.nodes.made ≡ true → ⊥)
+      → put_each (placed at cs) place s ≡ Goes (record s { nodes = add_chars cs place s.nodes })
+  each-put at [] s nodes is fits = refl
+  each-put at (c ∷ cs) s nodes is fits = go (text_before place (trees s)) refl (leb s.nodes.limit s.nodes.made) refl
+    where
+      go : (o : Option ℕ) → text_before place (trees s) ≡ o → (v : Bool) → leb s.nodes.limit s.nodes.made ≡ v → put_each (placed at (c ∷ cs)) place s ≡ Goes (record s { nodes = add_chars (c ∷ cs) place s.nodes })
+      go (Some n) o v f = each-joins at (c ∷ cs) s n (is-text_before place (trees s) n o)
+      go None o true f = absurd (fits (omega arith) o f)
+      go None o false f = each-makes at c cs s nodes is o f
+
+-- a text has bytes where it has characters
+bytes-some : (bytes : List ℕ) → 0 < length (chars bytes) → 0 < length bytes
+bytes-some bytes some = go (length bytes) refl
+  where
+    go : (k : ℕ) → length bytes ≡ k → 0 < length bytes
+    go zero e = absurd (let gone : length (chars bytes) ≡ 0 = ap (λ (b : List ℕ). length (chars b)) (nil_from_length bytes e) ∙ ap length chars-nil in omega arith)
+    go (suc k) e = omega arith
+
+pub text-gives : (r : Result (Unit {0}) Refusal) (at : ℕ) (bytes : List ℕ) (place : Place) (s : SiteOf ℕ) (new : Nodes ℕ) → IsUtf8 bytes → AreNodes s.nodes → IsPlace place s.nodes
+    → OnOk r (new ≡ add_chars (chars bytes) place s.nodes)
+    → ((r ≡ Err (TooManyNodes at)) ↔ ((0 < length bytes) × (text_before place (trees s) ≡ None) × (s.nodes.limit ≤ s.nodes.made)))
+    → IfErr r (λ e. (e ≡ TooManyNodes at) ⊎ (e ≡ Memory))
+    → Gives r (record s { nodes = new }) (put_each (placed at (chars bytes)) place s)
+text-gives (Ok tt) at bytes place s new utf8 nodes is ok full refused =
+    each-put place at (chars bytes) s nodes is (λ some none_there no_room. let clash = full.1 (bytes-some bytes some, none_there, leb-true s.nodes.limit s.nodes.made no_room) in cc)
+    ∙ ap (λ (t : Nodes ℕ). Goes (record s { nodes = t })) (sym ok)
+text-gives (Err e) at bytes place s new utf8 nodes is ok full (inr memory) = inl memory
+text-gives (Err e) at bytes place s new utf8 nodes is ok full (inl many) =
+    let why = full.0 (ap Err many) in
+    inr (go (chars bytes) (encodes-chars bytes utf8) why.0 why.1 (le-leb s.nodes.limit s.nodes.made why.2) ∙ ap Refused (sym many))
+  where
+    go : (cs : List ℕ) → encode_utf8_all cs ≡ bytes → 0 < length bytes → text_before place (trees s) ≡ None → leb s.nodes.limit s.nodes.made ≡ true → put_each (placed at cs) place s ≡ Refused (TooManyNodes at)
+    go [] spelled some none_there no_room = absurd (let none_left : length bytes ≡ 0 = ap length (sym spelled) in omega arith)
+    go (c ∷ cs) spelled some none_there no_room = each-refused place at c cs s none_there no_room
+
+-- no node is lost
+chars-more : (cs : List ℕ) (place : Place) (t : Nodes ℕ) → t.made ≤ (add_chars cs place t).made
+chars-more [] place t = omega arith
+chars-more (c ∷ cs) place t = omega (arith, one (text_before place t.trees), chars-more cs place (add_char c place t))
+  where
+    one : (o : Option ℕ) → t.made ≤ (char_into c place o t).made
+    one None = omega arith
+    one (Some n) = omega arith
+
+pub made-after_text : {A : Type 0} (r : Result A Refusal) (cs : List ℕ) (place : Place) (old new : Nodes ℕ) (stack : List (OpenNode ℕ)) → OnOk r (new ≡ add_chars cs place old) → OnErr r (new ≡ old) → AreMade old.made stack → AreMade new.made stack
+made-after_text (Ok a) cs place old new stack ok err made = rw ok (more old.made (add_chars cs place old).made stack (chars-more cs place old) made)
+made-after_text (Err e) cs place old new stack ok err made = rw err made
