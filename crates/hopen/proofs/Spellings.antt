@@ -1,11 +1,12 @@
 -- The open nodes and the formatting list under other names.
 use Rattle.std.proofs.Common.{◌≡◌, ℕ, Bool, true, false, cond, not, ◌&&◌, ◌||◌, List, [], ◌∷◌, map, length, Option, Some, None, refl, ◌∙◌, ap}
-use Rattle.std.specs.Prelude.{if◌then◌else◌, slice_get, option_and_then, filter, find, nat_le, bytes_eq, drop}
+use Rattle.std.specs.Prelude.{if◌then◌else◌, slice_get, option_and_then, filter, find, nat_le, bytes_eq, drop, reverse}
 use Rattle.std.specs.List.{list_any}
 use Rattle.std.specs.Option.{option_map, option_or, option_map_or}
 use Rattle.std.proofs.lemmas.List.{length-map}
 use Rattle.std.proofs.lemmas.Option.{slice_get-map}
 use Rattle.hopen.proofs.Images.{before-map, after-map, without-map, changed-map, put_before-map, filter-map, find-map, any-map, all-map, position-map, changed_at-map}
+use Rattle.hopen.proofs.Nearest.{reverse-map}
 use Rattle.hopen.specs.Nearest.{without, put_before}
 use Rattle.hopen.specs.Stack.{OpenNode, is_node, current, below, in_scope, topmost_special, furthest_block}
 use Rattle.hopen.specs.Scopes.{stops, stops_in, is_named, is_of, is_of_group}
@@ -13,7 +14,6 @@ use Rattle.hopen.specs.Formatting.{EntryOf, Item, marker, entry, entries, is_of_
 use Rattle.hopen.specs.Spelled.{spelled_open, spelled_stack, spelled_entry, spelled_item, spelled_items, StackKnowsNoNames, FormattingKnowsNoNames}
 use Rattle.hopen.specs.declared.bookmark.Bookmark.{Bookmark}
 use Rattle.hopen.specs.declared.bookmark.Bookmark.TheVariants.{InPlace, After}
-use Rattle.hopen.specs.declared.scope.Scope.{Scope}
 use Rattle.hopen.specs.declared.scope.Scope.TheVariants.{Default}
 use Rattle.hnodes.specs.Forest.{Attribute}
 use Rattle.hnodes.specs.Spelled.{spelled_attribute}
@@ -23,10 +23,13 @@ use Rattle.names.specs.Spelling.{IsSpelling}
 
 -- The words of the stack.
 module _ {N M : Type 0} (tag : N → Tag) (tag' : M → Tag) (same : N → N → Bool) (same' : M → M → Bool) (g : N → M) (s : IsSpelling tag tag' same same' g) where
-  scope-map : (scope : Scope) (p : OpenNode N → Bool) (q : OpenNode M → Bool) → ((x : OpenNode N) → q (spelled_open g x) ≡ p x) → (xs : List (OpenNode N))
-      → in_scope (stops tag' scope) q (spelled_stack g xs) ≡ in_scope (stops tag scope) p xs
-  scope-map scope p q e [] = refl
-  scope-map scope p q e (x ∷ xs) = λ i. e x i || (not (stops_in scope (s.tags x.name i)) && scope-map scope p q e xs i)
+  scope-map : (stops : Tag → Bool) (p : OpenNode N → Bool) (q : OpenNode M → Bool) → ((x : OpenNode N) → q (spelled_open g x) ≡ p x) → (xs : List (OpenNode N))
+      → in_scope (λ x. stops (tag' x.name)) q (spelled_stack g xs) ≡ in_scope (λ x. stops (tag x.name)) p xs
+  scope-map stops p q e [] = refl
+  scope-map stops p q e (x ∷ xs) = λ i. e x i || (not (stops (s.tags x.name i)) && scope-map stops p q e xs i)
+
+  from_top-map : (down : ℕ) (xs : List (OpenNode N)) → slice_get (reverse (spelled_stack g xs)) down ≡ option_map (spelled_open g) (slice_get (reverse xs) down)
+  from_top-map down xs = ap (λ ys. slice_get ys down) (reverse-map (spelled_open g) xs) ∙ slice_get-map (spelled_open g) (reverse xs) down
 
   topmost-map : (xs : List (OpenNode N)) → topmost_special tag' (spelled_stack g xs) ≡ option_map (spelled_open g) (topmost_special tag xs)
   topmost-map [] = refl
@@ -53,6 +56,8 @@ module _ {N M : Type 0} (tag : N → Tag) (tag' : M → Tag) (same : N → N →
     contains = λ n. any-map (spelled_open g) (is_node n) (is_node n) (λ _. refl);
     place = λ n. position-map (spelled_open g) (is_node n) (is_node n) (λ _. refl);
     get = λ up xs. slice_get-map (spelled_open g) xs up;
+    from_top = from_top-map;
+    nearest = λ a. find-map (spelled_open g) (is_named same a) (is_named same' (g a)) (λ x. s.names x.name a);
     current_node = current-map;
     pop = pop-map;
     pop_to = λ a. after-map (spelled_open g) (is_named same a) (is_named same' (g a)) (λ x. s.names x.name a);
@@ -62,9 +67,10 @@ module _ {N M : Type 0} (tag : N → Tag) (tag' : M → Tag) (same : N → N →
     remove = λ n. without-map (spelled_open g) (is_node n) (is_node n) (λ _. refl);
     replace = λ n new. changed-map (spelled_open g) (is_node n) (is_node n) (λ _. refl) (λ _. new) (λ _. spelled_open g new) (λ _. refl);
     insert_below = λ n new. put_before-map (spelled_open g) (is_node n) (is_node n) (λ _. refl) new;
-    is_in_scope = λ scope a. scope-map scope (is_named same a) (is_named same' (g a)) (λ x. s.names x.name a);
-    node_is_in_scope = λ n. scope-map Default (is_node n) (is_node n) (λ _. refl);
-    group_is_in_scope = λ scope group. scope-map scope (is_of tag group) (is_of tag' group) (λ x. ap (is_of_group group) (s.tags x.name));
+    is_in_scope = λ scope a. scope-map (stops_in scope) (is_named same a) (is_named same' (g a)) (λ x. s.names x.name a);
+    node_is_in_scope = λ n. scope-map (stops_in Default) (is_node n) (is_node n) (λ _. refl);
+    group_is_in_scope = λ scope group. scope-map (stops_in scope) (is_of tag group) (is_of tag' group) (λ x. ap (is_of_group group) (s.tags x.name));
+    is_before_special = λ a. scope-map is_special (is_named same a) (is_named same' (g a)) (λ x. s.names x.name a);
     furthest = furthest-map;
   }
 

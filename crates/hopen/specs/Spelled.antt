@@ -1,5 +1,5 @@
 -- The same lists under other names, as a number of a name and its text.
-use Rattle.std.specs.Prelude.{◌≡◌, ℕ, Bool, List, map, drop, slice_get, position}
+use Rattle.std.specs.Prelude.{◌≡◌, ℕ, Bool, List, map, drop, find, reverse, slice_get, position}
 use Rattle.std.specs.Option.{option_map}
 use Rattle.hnodes.specs.Spelled.{spelled_attribute}
 use Rattle.hopen.specs.Nearest.{after, without, changed, put_before, changed_at}
@@ -11,6 +11,7 @@ use Rattle.hopen.specs.declared.scope.Group.{Group}
 use Rattle.hopen.specs.declared.scope.Scope.{Scope}
 use Rattle.hopen.specs.declared.scope.Scope.TheVariants.{Default}
 use Rattle.names.specs.declared.tag.Tag.{Tag}
+use Rattle.names.specs.Sets.{is_special}
 
 module _ {N M : Type 0} where
   abbrev pub spelled_open : (N → M) → OpenNode N → OpenNode M
@@ -36,6 +37,8 @@ module _ {N M : Type 0} (tag : N → Tag) (tag' : M → Tag) (same : N → N →
     pub contains : (n : ℕ) (s : List (OpenNode N)) → is_open n (spelled_stack g s) ≡ is_open n s
     pub place : (n : ℕ) (s : List (OpenNode N)) → position (is_node n) (spelled_stack g s) ≡ position (is_node n) s
     pub get : (up : ℕ) (s : List (OpenNode N)) → slice_get (spelled_stack g s) up ≡ option_map (spelled_open g) (slice_get s up)
+    pub from_top : (down : ℕ) (s : List (OpenNode N)) → slice_get (reverse (spelled_stack g s)) down ≡ option_map (spelled_open g) (slice_get (reverse s) down)
+    pub nearest : (a : N) (s : List (OpenNode N)) → find (is_named same' (g a)) (spelled_stack g s) ≡ option_map (spelled_open g) (find (is_named same a) s)
     pub current_node : (s : List (OpenNode N)) → current (spelled_stack g s) ≡ option_map (spelled_open g) (current s)
     pub pop : (s : List (OpenNode N)) → drop 1 (spelled_stack g s) ≡ spelled_stack g (drop 1 s)
     pub pop_to : (a : N) (s : List (OpenNode N)) → after (is_named same' (g a)) (spelled_stack g s) ≡ spelled_stack g (after (is_named same a) s)
@@ -48,6 +51,7 @@ module _ {N M : Type 0} (tag : N → Tag) (tag' : M → Tag) (same : N → N →
     pub is_in_scope : (scope : Scope) (a : N) (s : List (OpenNode N)) → in_scope (stops tag' scope) (is_named same' (g a)) (spelled_stack g s) ≡ in_scope (stops tag scope) (is_named same a) s
     pub node_is_in_scope : (n : ℕ) (s : List (OpenNode N)) → in_scope (stops tag' Default) (is_node n) (spelled_stack g s) ≡ in_scope (stops tag Default) (is_node n) s
     pub group_is_in_scope : (scope : Scope) (group : Group) (s : List (OpenNode N)) → in_scope (stops tag' scope) (is_of tag' group) (spelled_stack g s) ≡ in_scope (stops tag scope) (is_of tag group) s
+    pub is_before_special : (a : N) (s : List (OpenNode N)) → in_scope (λ x. is_special (tag' x.name)) (is_named same' (g a)) (spelled_stack g s) ≡ in_scope (λ x. is_special (tag x.name)) (is_named same a) s
     pub furthest : (n : ℕ) (s : List (OpenNode N)) → furthest_block tag' n (spelled_stack g s) ≡ option_map (spelled_open g) (furthest_block tag n s)
 
   -- The same of the list of active formatting elements.

@@ -74,12 +74,16 @@ impl SetPlaces {
     pub(crate) fn with(&self, tag: Tag, place: u32) -> SetPlaces
         ensures { (set : NameSet) → set_place set result ≡ (if is_in_set set tag then place else set_place set self.now) }
     {
+        // every other set holds special names alone
+        if !tag.is_special() {
+            return *self;
+        }
         SetPlaces {
             scope: place_if(tag.stops_scope(), place, self.scope),
             list_item_scope: place_if(tag.stops_list_item_scope(), place, self.list_item_scope),
             button_scope: place_if(tag.stops_button_scope(), place, self.button_scope),
             table_scope: place_if(tag.stops_table_scope(), place, self.table_scope),
-            special: place_if(tag.is_special(), place, self.special),
+            special: place,
             heading: place_if(Group::Heading.has(tag), place, self.heading),
             table_section: place_if(Group::TableSection.has(tag), place, self.table_section),
             cell: place_if(Group::Cell.has(tag), place, self.cell),
