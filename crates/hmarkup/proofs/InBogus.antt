@@ -1,12 +1,13 @@
 -- A bogus comment that has not ended, and one more character or the end.
-use Rattle.std.proofs.Common.{◌≡◌, ℕ, Bool, true, false, ◌&&◌, eqb, List, [], ◌∷◌, ◌++◌, sym, refl, ap, ◌∙◌, append-nil}
+use Rattle.std.proofs.Common.{◌≡◌, ℕ, Bool, true, false, not, ◌&&◌, ◌||◌, eqb, List, [], ◌∷◌, ◌++◌, sym, refl, ap, ◌∙◌, append-nil}
+use Rattle.std.proofs.lemmas.Bool.{false≢true}
 use Rattle.std.specs.Char.{encode_utf8}
 use Rattle.names.specs.declared.error.ParseError.{ParseError}
 use Rattle.names.specs.declared.placed.Placed.{Placed}
-use Rattle.names.specs.Placed.{before, Avoids, null_errors, text_bytes, without_null}
+use Rattle.names.specs.Placed.{all, before, Avoids, null_errors, text_bytes, without_null}
 use Rattle.hmarkup.specs.declared.comment.CommentKind.TheVariants.{Bogus}
-use Rattle.hmarkup.specs.Comment.{errors_here, closes_bogus, IsBogus, closed_bogus, unclosed_bogus}
-use Rattle.hmarkup.specs.CommentWalk.{Progress, IsInBogus}
+use Rattle.hmarkup.specs.Comment.{errors_here, closes_bogus, is_plain_in_bogus, IsBogus, closed_bogus, unclosed_bogus}
+use Rattle.hmarkup.specs.CommentWalk.{Progress, begun, IsInBogus}
 use Rattle.hmarkup.proofs.Marks.{Avoids-more, Avoids-append, before-avoids, text_bytes-append, null_errors-append}
 
 module _ (w : Progress) (text : List Placed) (errs : List ParseError) (ch at : ℕ) (h : IsInBogus w text errs) where
@@ -38,3 +39,24 @@ before-bogus w text errs h = sym (ap (before closes_bogus) (sym (append-nil text
 -- the input ends in it
 pub bogus_unclosed : (w : Progress) (text : List Placed) (errs : List ParseError) → IsInBogus w text errs → IsBogus [] text w.data (errs ++ [])
 bogus_unclosed w text errs h = unclosed_bogus refl (before-bogus w text errs h) h.data_is (append-nil errs ∙ h.errors_are)
+
+-- plain characters have been read: they close nothing, and none is an error
+plain_parts : (greater null others : Bool) → (not (greater || null) && others) ≡ true → (greater ≡ false) × (null ≡ false) × (others ≡ true)
+plain_parts true null others h = absurd (false≢true h)
+plain_parts false true others h = absurd (false≢true h)
+plain_parts false false others h = (refl, refl, h)
+
+plain_avoids : (text : List Placed) → all is_plain_in_bogus text ≡ true → Avoids closes_bogus text []
+plain_avoids [] h = tt
+plain_avoids (p ∷ ps) h =
+    let k = plain_parts (eqb p.ch 62) (eqb p.ch 0) (all is_plain_in_bogus ps) h in
+    (ap (λ (b : Bool). b && true) k.0, plain_avoids ps k.2)
+
+plain_errors : (text : List Placed) → all is_plain_in_bogus text ≡ true → null_errors text ≡ []
+plain_errors [] h = refl
+plain_errors (p ∷ ps) h =
+    let k = plain_parts (eqb p.ch 62) (eqb p.ch 0) (all is_plain_in_bogus ps) h in
+    rw k.1 (plain_errors ps k.2)
+
+pub plain_read : (text : List Placed) → all is_plain_in_bogus text ≡ true → IsInBogus (begun Bogus (text_bytes text)) text []
+plain_read text h = record { kind_is = refl; no_close = plain_avoids text h; data_is = refl; errors_are = sym (plain_errors text h) }

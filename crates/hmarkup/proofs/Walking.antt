@@ -6,14 +6,31 @@ use Rattle.names.specs.declared.error.ParseError.{ParseError}
 use Rattle.names.specs.declared.error.ErrorCode.TheVariants.{AbruptClosingOfEmptyComment, EofInComment, IncorrectlyClosedComment}
 use Rattle.names.specs.declared.placed.Placed.{Placed}
 use Rattle.names.specs.Placed.{characters, error, before, Avoids, text_bytes, without_null}
+use Rattle.hmarkup.specs.declared.comment.CommentKind.TheVariants.{Comment}
 use Rattle.hmarkup.specs.declared.tail.Opening.{Opening}
 use Rattle.hmarkup.specs.declared.tail.Opening.TheVariants.{Outside, Less, LessBang, LessBangDash, Whole}
 use Rattle.hmarkup.specs.declared.tail.Ending.TheVariants.{Dashes, Bang}
 use Rattle.hmarkup.specs.Comment.{closes_comment, closes_at_once, is_ending, errors_here, errors_after, ends_with_opening, IsComment, closed_at_once, closed, closed_with_bang, unclosed}
-use Rattle.hmarkup.specs.CommentWalk.{Progress, IsOpening, IsInComment, backwards, is_whole}
+use Rattle.hmarkup.specs.CommentWalk.{Progress, begun, holds_nothing, IsOpening, IsInComment, backwards, is_whole}
 use Rattle.hmarkup.specs.Steps.{next, next_opening, opening_by_dash, opening_by_bang, decided}
 use Rattle.hmarkup.proofs.Marks.{Avoids-more, Avoids-append, before-avoids, neither, or_none, and_no, text_bytes-append}
 use Rattle.hmarkup.proofs.Moving.{moves, closes, closes-more, ending-more, dashes_close, bang_closes, dash_held, held_at_end, held_long}
+
+-- nothing was read
+pub comment_begins : IsInComment (begun Comment []) [] []
+comment_begins = record {
+  kind_is = refl;
+  inner = [];
+  held = [];
+  text_is = refl;
+  is_held = holds_nothing;
+  not_at_once = refl;
+  no_close = tt;
+  no_ending = tt;
+  opening = record { less = refl; less_bang = refl; less_bang_dash = refl; whole = refl };
+  data_is = refl;
+  errors_are = refl;
+}
 
 -- how much of an inner `<!--` was read
 opening_dash : (o : Opening) (at : ℕ) (seen : List Placed) → IsOpening o seen → IsOpening (opening_by_dash o) (record { ch = 45; at = at } ∷ seen)

@@ -1,6 +1,6 @@
 -- Comments (HTML Standard, 13.2.5.43 to 13.2.5.52) and bogus comments (13.2.5.41): a text after the mark that opens it, its
 -- data in UTF-8, and its errors in the order of the text.
-use Rattle.std.specs.Prelude.{◌≡◌, ℕ, Bool, true, false, not, ◌&&◌, ◌||◌, List, [], ◌∷◌, ◌++◌, codes}
+use Rattle.std.specs.Prelude.{◌≡◌, ℕ, Bool, true, false, not, ◌==◌, ◌&&◌, ◌||◌, List, [], ◌∷◌, ◌++◌, codes}
 use Rattle.names.specs.declared.error.ParseError.{ParseError}
 use Rattle.names.specs.declared.error.ErrorCode.TheVariants.{AbruptClosingOfEmptyComment, EofInComment, IncorrectlyClosedComment, NestedComment}
 use Rattle.names.specs.declared.placed.Placed.{Placed}
@@ -48,6 +48,10 @@ pub data IsComment (end : ℕ) (rest text : List Placed) («data» : List ℕ) (
 -- the mark that closes a bogus comment
 abbrev pub closes_bogus : List Placed → Bool
 closes_bogus text = spells (codes ">") text
+
+-- a character that neither closes a bogus comment nor is an error in it
+abbrev pub is_plain_in_bogus : ℕ → Bool
+is_plain_in_bogus c = not (c == 62 || c == 0)
 
 -- The text is what is read as a comment up to the first `>`, or to the end (13.2.5.41).
 pub data IsBogus (rest text : List Placed) («data» : List ℕ) (errors : List ParseError) : Type 0 where

@@ -8,7 +8,7 @@ use Rattle.hmarkup.specs.declared.comment.CommentKind.TheVariants.{Comment, Bogu
 use Rattle.hmarkup.specs.declared.tail.Ending.{Ending}
 use Rattle.hmarkup.specs.declared.tail.Ending.TheVariants.{Plain, Dash, Dashes, Bang}
 use Rattle.hmarkup.specs.declared.tail.Opening.{Opening}
-use Rattle.hmarkup.specs.declared.tail.Opening.TheVariants.{Less, LessBang, LessBangDash, Whole}
+use Rattle.hmarkup.specs.declared.tail.Opening.TheVariants.{Outside, Less, LessBang, LessBangDash, Whole}
 use Rattle.hmarkup.specs.Comment.{closes_comment, closes_at_once, closes_bogus, is_ending, errors_after, IsComment, IsBogus}
 
 -- what contracts see of a walk
@@ -17,6 +17,10 @@ pub record Progress : Type 0 where
   pub ending : Ending
   pub opening : Opening
   pub «data» : List ℕ
+
+-- a walk of this data that holds nothing back
+abbrev pub begun : CommentKind → List ℕ → Progress
+begun kind «data» = record { kind = kind; ending = Plain; opening = Outside; «data» = «data» }
 
 -- the last characters, which may begin a closing mark
 pub data IsHeld : Ending → List Placed → Type 0 where

@@ -1,22 +1,22 @@
 //! A comment or a bogus comment, a character at a time.
 
-ghost use Rattle.std.specs.Prelude.{◌≡◌, ◌++◌, ℕ, List, [], OnOk, string_bytes};
+ghost use Rattle.std.specs.Prelude.{◌≡◌, ◌++◌, ℕ, List, [], true, IfOk, OnOk, string_bytes};
 ghost use Rattle.std.specs.Char.{encode_utf8};
 ghost use Rattle.names.specs.declared.error.ParseError.{ParseError as Error};
 ghost use Rattle.names.specs.declared.placed.Placed.{Placed};
-ghost use Rattle.names.specs.Placed.{error, without_null};
+ghost use Rattle.names.specs.Placed.{all, error, without_null};
 ghost use Rattle.names.specs.Sink.{Hands};
 ghost use Rattle.hmarkup.specs.declared.comment.CommentKind.{CommentKind as Kind};
 ghost use Rattle.hmarkup.specs.declared.comment.CommentKind.TheVariants.{Comment, Bogus};
-ghost use Rattle.hmarkup.specs.Comment.{errors_here};
+ghost use Rattle.hmarkup.specs.Comment.{errors_here, is_plain_in_bogus};
 ghost use Rattle.hmarkup.specs.Walk.{BeginsSpans, IsOpen, IsOneSpan, Takes, Ends};
-ghost use Rattle.hmarkup.specs.CommentWalk.{Progress, HasReadOf, IsInComment, IsInBogus, IsSpan};
+ghost use Rattle.hmarkup.specs.CommentWalk.{Progress, begun, HasReadOf, IsInComment, IsInBogus, IsSpan};
 ghost use Rattle.hmarkup.specs.Steps.{next};
 
 use crate::sink::ErrorSink;
 use crate::tail::{Ending, Opening};
-use crate::taking::{push, tell};
-use names::{ErrorCode, Refusal};
+use crate::taking::{push, tell, text_of};
+use names::{ErrorCode, Placed, Refusal};
 use std::alloc::{AllocError, Global};
 use std::marker::Model;
 
@@ -62,28 +62,39 @@ fn report<S: ErrorSink>(nested: bool, ch: char, at: u64, errors: &mut S) -> Resu
 }
 
 impl CommentWalk {
+    /// A walk that has read this data, and holds nothing back.
+    fn with(kind: CommentKind, text: String) -> CommentWalk
+        ensures { result ≡ begun kind (string_bytes text) }
+    {
+        CommentWalk {
+            kind,
+            ending: Ending::Plain,
+            opening: Opening::Outside,
+            text,
+        }
+    }
+
     /// Reads what follows `<!--`.
     pub fn comment(alloc: Global) -> CommentWalk
         ensures { HasReadOf Comment result [] [] }
     {
-        CommentWalk {
-            kind: CommentKind::Comment,
-            ending: Ending::Plain,
-            opening: Opening::Outside,
-            text: String::new(alloc),
-        }
+        CommentWalk::with(CommentKind::Comment, String::new(alloc))
     }
 
-    /// Reads what is a comment up to the first `>`.
+    /// Reads a bogus comment, which ends at the first `>`.
     pub fn bogus(alloc: Global) -> CommentWalk
         ensures { HasReadOf Bogus result [] [] }
     {
-        CommentWalk {
-            kind: CommentKind::Bogus,
-            ending: Ending::Plain,
-            opening: Opening::Outside,
-            text: String::new(alloc),
-        }
+        CommentWalk::with(CommentKind::Bogus, String::new(alloc))
+    }
+
+    /// Reads a bogus comment whose first characters were read before it was known to be one, as the letters after a `<!`.
+    pub fn bogus_after(alloc: Global, read: &[Placed]) -> Result<CommentWalk, AllocError>
+        requires { all is_plain_in_bogus read.now ≡ true }
+        ensures { IfOk result (λ walk. HasReadOf Bogus walk read.now []) }
+    {
+        let text = text_of(alloc, read)?;
+        Ok(CommentWalk::with(CommentKind::Bogus, text))
     }
 
     /// Takes the next character, which stands at byte `at`, and tells whether the comment has ended with it. An `Err` is

@@ -101,3 +101,15 @@ fn stops_where_the_sink_refuses(rt: HostRuntime) {
     assert_eq!(rt; answer.err(), Some(Refusal::Write));
     assert_eq!(rt; errors.kept.as_slice(), [(Nested, 8)].as_slice());
 }
+
+#[test]
+fn goes_on_after_read_characters(rt: HostRuntime) -> Result<(), Fail> {
+    let mut errors = Errors::new(rt.alloc(), 9);
+    let held = [Placed { ch: 'd', at: 2 }, Placed { ch: 'O', at: 3 }];
+    let walk = CommentWalk::bogus_after(rt.alloc(), &held)?;
+    let (data, after) = read(walk, "x\0->b", 4, &mut errors)?;
+    assert_eq!(rt; data.as_str(), "dOx\u{FFFD}-");
+    assert_eq!(rt; after, 8);
+    assert_eq!(rt; errors.kept.as_slice(), [(Null, 5)].as_slice());
+    Ok(())
+}
