@@ -19,29 +19,27 @@ use Rattle.hmarkup.proofs.Marks.{and_parts, and_no}
 use Rattle.hmarkup.proofs.Characters.{no_null_error}
 use Rattle.htoken.specs.declared.state.State.{State}
 use Rattle.htoken.specs.declared.state.State.TheVariants as state
-use Rattle.htoken.specs.declared.tag.Phase.{Phase}
 use Rattle.htoken.specs.declared.tag.Phase.TheVariants as phase
 use Rattle.htoken.specs.declared.tag.TagKind.TheVariants as tag
 use Rattle.htoken.specs.declared.tag.TagWalk.{TagWalk}
 use Rattle.htoken.specs.declared.script.Script.{Script}
 use Rattle.htoken.specs.Script.{HasFront, level_number}
 use Rattle.htoken.specs.declared.tokenizer.Tokenizer.{Tokenizer}
-use Rattle.htoken.specs.Token.{Tok, Span, Item, Event, Gives, Reports, Char, piece_span}
-use Rattle.htoken.specs.Standing.{Standing, next}
+use Rattle.htoken.specs.Token.{Span, Item, Event, Gives, Reports, Char, piece_span}
+use Rattle.htoken.specs.Standing.{Standing}
 use Rattle.htoken.specs.Value.{plain_piece}
 use Rattle.htoken.specs.Raw.{is_raw, is_script, ends_by, may_end, is_raw_end}
 use Rattle.htoken.specs.Spans.{IsSpan, IsSpanOf, IsRawSpan, has_references, raw_character, raw_end}
-use Rattle.htoken.specs.Tokens.{events_of, AreFront, tokens_in, tokens_of, has_refused}
+use Rattle.htoken.specs.Tokens.{events_of, tokens_in, tokens_of}
 use Rattle.htoken.specs.Handing.{HandsEvents}
 use Rattle.htoken.specs.Run.{run_events}
-use Rattle.htoken.specs.Tag.{IsTag, ends_name}
-use Rattle.htoken.specs.TagWalk.{IsInTag, HasPhase}
-use Rattle.htoken.specs.Tokenizing.{Stands, Reads, Takes, take_ran_out, take_sink_refused, IsHeld, IsIn, IsLast, IsBetween, IsAfterRawLess, IsInRawName, less}
-use Rattle.htoken.specs.Steps.{Keeps, Holds}
+use Rattle.htoken.specs.Tag.{ends_name}
+use Rattle.htoken.specs.Tokenizing.{Stands, Reads, Takes, take_sink_refused, IsHeld, IsIn, IsLast, IsBetween, IsAfterRawLess, IsInRawName, less}
+use Rattle.htoken.specs.Steps.{Stays, Keeps, Holds}
 use Rattle.htoken.proofs.Cutting.{stands_more}
-use Rattle.htoken.proofs.Going.{goes_on, span_ends}
+use Rattle.htoken.proofs.Going.{ran_out, goes_on, span_ends}
 use Rattle.htoken.proofs.TagWalking.{all-snoc}
-use Rattle.htoken.proofs.RawEnds.{name_ends, differs, goes_past, at_end, is_whole, left_some, left_none, letter_not, letters_stay, no_null_in, name_is_lowered, no_solidus, nothing_more, no_name, a_name, other_goes_on, nameless_goes_on, inner_goes_on}
+use Rattle.htoken.proofs.RawEnds.{name_ends, differs, goes_past, is_whole, left_some, left_none, letter_not, letters_stay, no_null_in, name_is_lowered, no_solidus, no_name, a_name, other_goes_on, nameless_goes_on, inner_goes_on}
 
 -- a span of raw text is one where raw text stands
 raw_of : (k : RawKind) (table : Entities) (end : ℕ) (here : Standing) (rest : List Placed) (span : Span) → is_raw k ≡ true → IsRawSpan table end here rest span → IsSpanOf k table end here rest span
@@ -128,10 +126,12 @@ module _ {S : Type 0} (gives : S → Item → Result (Unit {0}) Refusal → S �
     front_is : text ≡ h.front ++ qs
     front_is = h.text_is ∙ ap (λ (x : List Placed). h.front ++ x) text_is
 
-    pub characters_ended : (new : Tokenizer) → new.refused ≡ t.refused → new.kind ≡ t.kind → new.last ≡ t.last → new.state ≡ state.Text → new.raised.errors.items ≡ [] → IsBetween (after_characters h.here qs) new
+    pub characters_ended : (new : Tokenizer) → Stays t new → new.kind ≡ t.kind → new.last ≡ t.last → new.state ≡ state.Text → new.raised.errors.items ≡ [] → IsBetween (after_characters h.here qs) new
         → Reads table start new names text (p ∷ []) (taken ++ run_events qs)
-    characters_ended new accepts kind last in_text none between = record {
-      accepts = accepts ∙ h.accepts;
+    characters_ended new stays kind last in_text none between = record {
+      accepts = stays.0 ∙ h.accepts;
+      table_is = ap (λ x. x.now) stays.1 ∙ h.table_is;
+      next_is = stays.2 ∙ h.next_is;
       front = h.front ++ qs;
       held = [];
       here = after_characters h.here qs;
@@ -143,7 +143,7 @@ module _ {S : Type 0} (gives : S → Item → Result (Unit {0}) Refusal → S �
       is_held = subst (λ (x : State). IsHeld x table (after_characters h.here qs) new [] (p ∷ [])) (sym in_text) (refl, none, between);
     }
 
-    pub characters_refused : (new : Tokenizer) (old s : S) (e : Refusal) → HandsEvents gives names old (run_events qs) (Err e) s → Takes gives table start text p taken names old (Err e) s new
+    pub characters_refused : (new : Tokenizer) (old s : S) (e : Refusal) → HandsEvents gives names old (run_events qs) (Err e) s → Takes gives table start text (p ∷ []) taken names old (Err e) s new
     characters_refused new old s e handed = take_sink_refused e (run_events qs) refl handed (λ more end.
         let then = stands_before end more in
         record {
@@ -152,6 +152,7 @@ module _ {S : Type 0} (gives : S → Item → Result (Unit {0}) Refusal → S �
           others = [];
           text_is = ap (λ (x : List Placed). x ++ p ∷ more) (front_is ∙ then.front_is);
           cut = then.cut;
+          in_profile = then.in_profile;
           front_is = append-nil (tokens_in (taken ++ run_events qs)) ∙ then.tokens_are ∙ sym (append-nil (tokens_of then.spans));
         })
 
@@ -169,19 +170,19 @@ module _ {S : Type 0} (gives : S → Item → Result (Unit {0}) Refusal → S �
 
     -- a character
     pub raw_taken : (new : Tokenizer) (old s : S) (answer : Result (Unit {0}) Refusal) → Follows new → ((more : List Placed) → is_raw_end h.here (p ∷ more) ≡ false) → (has_references t.kind && eqb p.ch 38) ≡ false → HandsEvents gives names old (events_of (raw_span p)) answer s
-        → Takes gives table start text p taken names old answer s new
+        → Takes gives table start text (p ∷ []) taken names old answer s new
     raw_taken new old s answer f go plain handed =
-        subst (λ (x : Tokenizer). Takes gives table start text p taken names old answer s x) (sym f.then)
+        subst (λ (x : Tokenizer). Takes gives table start text (p ∷ []) taken names old answer s x) (sym f.then)
         (span_ends gives table start text p names taken t h (raw_span p) (ap (λ (x : List Placed). x ++ p ∷ []) (sym nothing.0))
         (λ end more. in_raw table end h.here more (raw_span p) here_is (raw_character p (go more) (subst (λ (k : RawKind). (has_references k && eqb p.ch 38) ≡ false) h.kind_is plain) refl)) refl
-        (record t { script = new.script }) old s answer refl h.kind_is h.name_is in_text nothing.1 (record { named = nothing.2.named; leveled = λ r. f.follows p.at h.here.front (ap is_script h.kind_is ∙ r) (nothing.2.leveled r) }) handed)
+        (record t { script = new.script }) old s answer (refl, refl, refl) h.kind_is h.name_is in_text nothing.1 (record { named = nothing.2.named; leveled = λ r. f.follows p.at h.here.front (ap is_script h.kind_is ∙ r) (nothing.2.leveled r) }) handed)
 
     pub raw_plain_taken : (new : Tokenizer) (old s : S) (answer : Result (Unit {0}) Refusal) → Follows new → ((more : List Placed) → is_raw_end h.here (p ∷ more) ≡ false) → (has_references t.kind && eqb p.ch 38) ≡ false → eqb p.ch 0 ≡ false
-        → HandsEvents gives names old (Gives (Char p.ch p.at) ∷ []) answer s → Takes gives table start text p taken names old answer s new
+        → HandsEvents gives names old (Gives (Char p.ch p.at) ∷ []) answer s → Takes gives table start text (p ∷ []) taken names old answer s new
     raw_plain_taken new old s answer f go plain some handed = raw_taken new old s answer f go plain (subst (λ (x : List Event). HandsEvents gives names old x answer s) (sym (plain_events p some)) handed)
 
     pub raw_null_taken : (new : Tokenizer) (old s : S) (answer : Result (Unit {0}) Refusal) → Follows new → p.ch ≡ 0 → HandsEvents gives names old (Reports (error UnexpectedNullCharacter p.at) ∷ Gives (Char 0xFFFD p.at) ∷ []) answer s
-        → Takes gives table start text p taken names old answer s new
+        → Takes gives table start text (p ∷ []) taken names old answer s new
     raw_null_taken new old s answer f is handed =
         let same : events_of (raw_span p) ≡ Reports (error UnexpectedNullCharacter p.at) ∷ Gives (Char 0xFFFD p.at) ∷ [] = ap (λ (c : ℕ). events_of (raw_span (record { ch = c; at = p.at }))) is in
         raw_taken new old s answer f (λ more. other_goes_on h.here p more (ap (λ (c : ℕ). eqb c 60) is)) (and_no (has_references t.kind) (eqb p.ch 38) (ap (λ (c : ℕ). eqb c 38) is))
@@ -213,9 +214,9 @@ module _ {S : Type 0} (gives : S → Item → Result (Unit {0}) Refusal → S �
 
     -- a `<` that may begin the end tag
     pub raw_less_begins : (new : Tokenizer) (s : S) (bytes : List ℕ) → Keeps (record t { at = p.at }) new → new.state ≡ state.RawLess → new.raised.errors.items ≡ t.raised.errors.items → new.tag ≡ t.tag → new.script ≡ t.script → p.ch ≡ 60
-        → h.here.name ≡ Some bytes → may_end h.here.kind h.here.front ≡ true → Takes gives table start text p taken names s (Ok tt) s new
+        → h.here.name ≡ Some bytes → may_end h.here.kind h.here.front ≡ true → Takes gives table start text (p ∷ []) taken names s (Ok tt) s new
     raw_less_begins new s bytes keeps less_is raised same keeps_script is named may =
-        goes_on gives table start text p names taken t h new s keeps.refused_is keeps.kind_is keeps.last_is
+        goes_on gives table start text p names taken t h new s keeps.stays keeps.kind_is keeps.last_is
         (subst (λ (x : State). IsIn x h.here.kind) (sym less_is) here_is)
         (subst (λ (x : State). IsHeld x table h.here new (h.held ++ p ∷ []) []) (sym less_is) (record {
           held_is = ap (λ (x : List Placed). x ++ p ∷ []) nothing.0 ∙ ap (λ (c : ℕ). record { ch = c; at = p.at } ∷ []) is ∙ ap (λ (a : ℕ). record { ch = 60; at = a } ∷ []) (sym keeps.at_is);
@@ -235,10 +236,10 @@ module _ {S : Type 0} (gives : S → Item → Result (Unit {0}) Refusal → S �
     is_raw_here = subst (λ (x : State). IsIn x h.here.kind) after h.is_in
 
     pub raw_solidus_follows : (new : Tokenizer) (s : S) → Keeps t new → new.state ≡ state.RawName p.at → new.raised.errors.items ≡ t.raised.errors.items → new.tag ≡ t.tag → new.script ≡ t.script → new.held.items ≡ [] → p.ch ≡ 47
-        → Takes gives table start text p taken names s (Ok tt) s new
+        → Takes gives table start text (p ∷ []) taken names s (Ok tt) s new
     raw_solidus_follows new s keeps then raised same keeps_script none is =
         let i = after_less in
-        goes_on gives table start text p names taken t h new s keeps.refused_is keeps.kind_is keeps.last_is
+        goes_on gives table start text p names taken t h new s keeps.stays keeps.kind_is keeps.last_is
         (subst (λ (x : State). IsIn x h.here.kind) (sym then) is_raw_here)
         (subst (λ (x : State). IsHeld x table h.here new (h.held ++ p ∷ []) []) (sym then) (record {
           held_is = ap (λ (x : List Placed). x ++ p ∷ []) i.held_is ∙ ap (λ (c : ℕ). less t ∷ record { ch = c; at = p.at } ∷ []) is
@@ -257,10 +258,10 @@ module _ {S : Type 0} (gives : S → Item → Result (Unit {0}) Refusal → S �
 
     pub less_given : (new : Tokenizer) → eqb p.ch 47 ≡ false → IsFollowed (record t { state = state.Text }) 60 new → Reads table start new names text (p ∷ []) (taken ++ run_events (less t ∷ []))
     less_given new other f = subst (λ (x : Tokenizer). Reads table start x names text (p ∷ []) (taken ++ run_events (less t ∷ []))) (sym f.then)
-        (characters_ended (less t ∷ []) after_less.held_is is_raw_here (less_go_on other) (record t { state = state.Text; script = new.script }) refl refl refl refl after_less.raises_none
+        (characters_ended (less t ∷ []) after_less.held_is is_raw_here (less_go_on other) (record t { state = state.Text; script = new.script }) (refl, refl, refl) refl refl refl after_less.raises_none
         (record { named = after_less.between.named; leveled = λ r. f.follows t.at h.here.front (ap is_script h.kind_is ∙ r) (after_less.between.leveled r) }))
 
-    pub less_refused : (new : Tokenizer) (old s : S) (e : Refusal) → eqb p.ch 47 ≡ false → HandsEvents gives names old (run_events (less t ∷ [])) (Err e) s → Takes gives table start text p taken names old (Err e) s new
+    pub less_refused : (new : Tokenizer) (old s : S) (e : Refusal) → eqb p.ch 47 ≡ false → HandsEvents gives names old (run_events (less t ∷ [])) (Err e) s → Takes gives table start text (p ∷ []) taken names old (Err e) s new
     less_refused new old s e other handed = characters_refused (less t ∷ []) after_less.held_is is_raw_here (less_go_on other) new old s e handed
 
   -- AFTER `</`
@@ -277,11 +278,11 @@ module _ {S : Type 0} (gives : S → Item → Result (Unit {0}) Refusal → S �
 
     -- a letter of the name
     pub raw_letter_follows : (new : Tokenizer) (s : S) (c : ℕ) → Keeps t new → new.state ≡ state.RawName at → new.raised.errors.items ≡ t.raised.errors.items → new.tag ≡ t.tag → new.script ≡ t.script → new.held.items ≡ t.held.items ++ p ∷ []
-        → slice_get (string_bytes t.tag.name) (length t.held.items) ≡ Some c → to_ascii_lowercase p.ch ≡ c → is_letter p.ch ≡ true → Takes gives table start text p taken names s (Ok tt) s new
+        → slice_get (string_bytes t.tag.name) (length t.held.items) ≡ Some c → to_ascii_lowercase p.ch ≡ c → is_letter p.ch ≡ true → Takes gives table start text (p ∷ []) taken names s (Ok tt) s new
     raw_letter_follows new s c keeps then raised same keeps_script more expected is letter =
         let i = in_name in
         let l = left_some t.held.items i.left c (ap (λ (x : List ℕ). slice_get x (length t.held.items)) i.agrees ∙ expected) in
-        goes_on gives table start text p names taken t h new s keeps.refused_is keeps.kind_is keeps.last_is
+        goes_on gives table start text p names taken t h new s keeps.stays keeps.kind_is keeps.last_is
         (subst (λ (x : State). IsIn x h.here.kind) (sym then) raw_here)
         (subst (λ (x : State). IsHeld x table h.here new (h.held ++ p ∷ []) []) (sym then) (record {
           held_is = ap (λ (x : List Placed). x ++ p ∷ []) i.held_is ∙ ap (λ (x : List Placed). less t ∷ record { ch = 47; at = at } ∷ x) (sym more)
@@ -297,11 +298,11 @@ module _ {S : Type 0} (gives : S → Item → Result (Unit {0}) Refusal → S �
         }))
 
     pub letter_held : (new : Tokenizer) (s : S) (c : ℕ) (answer : Result (Unit {0}) Refusal) → MatchResult answer (λ _. Holds t p new) (λ r. r ≡ Memory)
-        → slice_get (string_bytes t.tag.name) (length t.held.items) ≡ Some c → eqb (to_ascii_lowercase p.ch) c ≡ true → Takes gives table start text p taken names s answer s new
-    letter_held new s c (Err r) is expected same = take_ran_out (ap (λ (x : Refusal). Err x) is)
+        → slice_get (string_bytes t.tag.name) (length t.held.items) ≡ Some c → eqb (to_ascii_lowercase p.ch) c ≡ true → Takes gives table start text (p ∷ []) taken names s answer s new
+    letter_held new s c (Err r) is expected same = ran_out gives table start text p names taken t h new s (Err r) (ap (λ (x : Refusal). Err x) is)
     letter_held new s c (Ok u) i expected same =
-        subst (λ (x : Tokenizer). Takes gives table start text p taken names s (Ok tt) s x) (sym i.then)
-        (raw_letter_follows (record t { held = new.held }) s c (record { kind_is = refl; last_is = refl; at_is = refl; refused_is = refl }) after refl refl refl i.held_is expected (eqb-true (to_ascii_lowercase p.ch) c same) i.letter)
+        subst (λ (x : Tokenizer). Takes gives table start text (p ∷ []) taken names s (Ok tt) s x) (sym i.then)
+        (raw_letter_follows (record t { held = new.held }) s c (record { kind_is = refl; last_is = refl; at_is = refl; stays = (refl, refl, refl) }) after refl refl refl i.held_is expected (eqb-true (to_ascii_lowercase p.ch) c same) i.letter)
 
     -- no end tag stands here
     module _ (other : (more : List Placed) → name_ends (string_bytes t.tag.name) (t.held.items ++ p ∷ more) ≡ false) where
@@ -311,10 +312,10 @@ module _ {S : Type 0} (gives : S → Item → Result (Unit {0}) Refusal → S �
       pub name_given : (new : Tokenizer) → new ≡ record t { state = state.Text; script = new.script }
           → ((front : List Placed) → is_script t.kind ≡ true → HasFront t.script front → HasFront new.script (backwards front mark)) → Reads table start new names text (p ∷ []) (taken ++ run_events mark)
       name_given new is f = subst (λ (x : Tokenizer). Reads table start x names text (p ∷ []) (taken ++ run_events mark)) (sym is)
-          (characters_ended mark in_name.held_is raw_here name_go_on (record t { state = state.Text; script = new.script }) refl refl refl refl in_name.raises_none
+          (characters_ended mark in_name.held_is raw_here name_go_on (record t { state = state.Text; script = new.script }) (refl, refl, refl) refl refl refl in_name.raises_none
           (record { named = in_name.between.named; leveled = λ r. f h.here.front (ap is_script h.kind_is ∙ r) (in_name.between.leveled r) }))
 
-      pub name_refused : (new : Tokenizer) (old s : S) (e : Refusal) → HandsEvents gives names old (run_events mark) (Err e) s → Takes gives table start text p taken names old (Err e) s new
+      pub name_refused : (new : Tokenizer) (old s : S) (e : Refusal) → HandsEvents gives names old (run_events mark) (Err e) s → Takes gives table start text (p ∷ []) taken names old (Err e) s new
       name_refused new old s e handed = characters_refused mark in_name.held_is raw_here name_go_on new old s e handed
 
     pub differs_here : (c : ℕ) → slice_get (string_bytes t.tag.name) (length t.held.items) ≡ Some c → eqb (to_ascii_lowercase p.ch) c ≡ false
@@ -343,6 +344,8 @@ module _ {S : Type 0} (gives : S → Item → Result (Unit {0}) Refusal → S �
           subst (λ (x : Tokenizer). Reads table start x names text (p ∷ []) taken) (sym new_is)
           (subst (λ (x : TagWalk). Reads table start (record t { state = state.Tag; tag = x }) names text (p ∷ []) taken) (sym walk_is) (record {
             accepts = h.accepts;
+            table_is = h.table_is;
+            next_is = h.next_is;
             front = h.front;
             held = h.held;
             here = h.here;

@@ -19,12 +19,12 @@ ghost use Rattle.htoken.specs.Tokens.{events_of};
 ghost use Rattle.htoken.specs.Standing.{start_kind};
 ghost use Rattle.htoken.specs.Raw.{is_raw, is_script, ends_by};
 ghost use Rattle.htoken.specs.Spans.{has_references};
-ghost use Rattle.htoken.specs.Run.{is_plain, run_events, TakesRun};
+ghost use Rattle.htoken.specs.Run.{run_events};
 ghost use Rattle.htoken.specs.Tag.{ends_name};
 ghost use Rattle.std.specs.Prelude.{◌&&◌, is_some, length, string_bytes, MatchResult, map, nat_lt};
 ghost use Rattle.std.specs.Char.{to_ascii_lowercase};
 ghost use Rattle.names.specs.Placed.{all, placed};
-ghost use Rattle.htoken.specs.Tokenizing.{Reads, HasTaken, Takes, Finishes, EndsHeld, less};
+ghost use Rattle.htoken.specs.Tokenizing.{after_place, Reads, HasTaken, Takes, Finishes, EndsHeld, less};
 ghost use Rattle.htoken.specs.Steps.{held_in_raw, script_errors, Holds, CutsOff, BeginsBogus, BeginsTag, EndsSpan, GivesSpan, EndsStartTag, EndsTag};
 
 use crate::hand::{give, give_all, give_faulty, hand_over};
@@ -33,6 +33,7 @@ use crate::sink::TokenSink;
 use crate::state::{Raised, State};
 use crate::tag::{TagKind, TagWalk};
 use crate::token::{Start, Token};
+use charref::Table;
 use hmarkup::CommentWalk;
 use names::{ErrorCode, NameId, Names, ParseError, Placed, RawKind, Refusal};
 use std::alloc::{AllocError, Global};
@@ -40,18 +41,28 @@ use std::mem;
 
 /// Cuts a text that comes character by character into tokens (HTML Standard, 13.2.5). It keeps the unfinished span alone.
 #[derive(Drop)]
-pub struct Tokenizer {
+pub struct Tokenizer<'t> {
     pub(crate) alloc: Global,
+    pub(crate) table: &'t Table,
     pub(crate) kind: RawKind,
     pub(crate) last: Option<NameId>,
     pub(crate) state: State,
+    /// The place of the first character that is held, and one more than the last place fed.
     pub(crate) at: u64,
+    pub(crate) next: u64,
     pub(crate) held: Vec<Placed>,
     pub(crate) comment: CommentWalk,
     pub(crate) tag: TagWalk,
     pub(crate) script: Script,
     pub(crate) raised: Raised,
     pub(crate) refused: Option<Refusal>,
+}
+
+/// One more than the place of a character.
+fn after(place: u64) -> u64
+    ensures { result ≡ after_place place }
+{
+    place.saturating_add(1)
 }
 
 /// Whether a character of data stands for itself, without an error.
@@ -61,16 +72,19 @@ fn is_plain(ch: char) -> bool
     ch != '<' && ch != '&' && ch != '\0'
 }
 
-impl Tokenizer {
-    pub fn new(alloc: Global, start: Start) -> Tokenizer
-        ensures { (table : Entities) (names : Texts) → HasTaken table (start_kind start) result names [] [] }
+impl<'t> Tokenizer<'t> {
+    /// A tokenizer of a text that begins so. References are those of the table.
+    pub fn new(alloc: Global, table: &'t Table, start: Start) -> Tokenizer<'t>
+        ensures { (names : Texts) → HasTaken table.now (start_kind start) result names [] [] }
     {
         Tokenizer {
             alloc,
+            table,
             kind: start.kind(),
             last: None,
             state: State::Text,
             at: 0,
+            next: 0,
             held: Vec::new(alloc),
             comment: CommentWalk::bogus(alloc),
             tag: TagWalk::new(alloc),
@@ -92,7 +106,7 @@ impl Tokenizer {
         sink: &mut S,
     ) -> Result<(), Refusal>
         ensures takes { (table : Entities) (start : Kind) (before : Texts) (text : List Character) (taken : List Event) → Grows before names.old → HasTaken table start self.old before text taken
-            → Takes (gives_item S.gives S.gives_token) table start text (record { ch = ch; at = place }) taken names.new sink.old result sink.new self.new }
+            → Takes (gives_item S.gives S.gives_token) table start text (record { ch = ch; at = place } ∷ []) taken names.new sink.old result sink.new self.new }
         ensures grows { Grows names.old names.new }
 
         // Where it answers a refusal, it answers the same to every later call, and hands over nothing.
@@ -103,31 +117,13 @@ impl Tokenizer {
             return Err(refusal);
         }
         if self.is_in_data() && is_plain(ch) {
+            self.next = after(place);
             match give(ch, place, sink) {
                 Ok(()) => Ok(()),
                 Err(refusal) => self.refuse(refusal),
             }
         } else {
             self.feed_other(names, ch, place, sink)
-        }
-    }
-
-    /// Takes a run of plain ASCII characters of data, one by one, where `is_in_data` says so.
-    pub fn feed_run<S: TokenSink>(
-        &mut self,
-        run: &[u8],
-        place: u64,
-        sink: &mut S,
-    ) -> Result<(), Refusal>
-        requires text { self.old.state ≡ State.Text }
-        requires is_data { self.old.kind ≡ RawKind.None }
-        requires plain { all is_plain (placed place run.now) ≡ true }
-        ensures { (table : Entities) (start : Kind) (names : Texts) (text : List Character) (taken : List Event) → HasTaken table start self.old names text taken
-            → TakesRun (gives_item S.gives S.gives_token) table start text (placed place run.now) taken names sink.old result sink.new self.old }
-    {
-        match sink.take_run(run, place) {
-            Ok(()) => Ok(()),
-            Err(refusal) => self.refuse(refusal),
         }
     }
 
@@ -157,7 +153,7 @@ impl Tokenizer {
         sink: &mut S,
     ) -> Result<(), Refusal>
         ensures takes { (table : Entities) (start : Kind) (before : Texts) (text : List Character) (taken : List Event) → Grows before names.old → HasTaken table start self.old before text taken
-            → Takes (gives_item S.gives S.gives_token) table start text (record { ch = ch; at = place }) taken names.new sink.old result sink.new self.new }
+            → Takes (gives_item S.gives S.gives_token) table start text (record { ch = ch; at = place } ∷ []) taken names.new sink.old result sink.new self.new }
         ensures grows { Grows names.old names.new }
         ensures refused { IfErr result (λ refusal. self.new.refused ≡ Some refusal) }
     {
@@ -261,7 +257,7 @@ impl Tokenizer {
     /// A comment ends where the input does.
     fn end_in_comment<S: TokenSink>(&mut self, end: u64, sink: &mut S) -> Result<(), Refusal>
         requires { self.old.state ≡ State.Comment }
-        ensures { (table : Entities) (start : Kind) (names : Texts) (text : List Character) (taken : List Event) → HasTaken table start self.old names text taken
+        ensures { (table : Entities) (start : Kind) (names : Texts) (text : List Character) (taken : List Event) → Reads table start self.old names text [] taken
             → EndsHeld (gives_item S.gives S.gives_token) table start end text taken names sink.old result self.new sink.new }
     {
         self.comment.end(end, &mut self.raised)?;
@@ -304,9 +300,10 @@ impl Tokenizer {
         sink: &mut S,
     ) -> Result<(), Refusal>
         ensures takes { (table : Entities) (start : Kind) (before : Texts) (text : List Character) (taken : List Event) → Grows before names.old → HasTaken table start self.old before text taken
-            → Takes (gives_item S.gives S.gives_token) table start text (record { ch = ch; at = at }) taken names.new sink.old result sink.new self.new }
+            → Takes (gives_item S.gives S.gives_token) table start text (record { ch = ch; at = at } ∷ []) taken names.new sink.old result sink.new self.new }
         ensures grows { Grows names.old names.new }
     {
+        self.next = after(at);
         match self.state {
             State::Text => self.in_text(ch, at, sink),
             State::Less => self.after_less(ch, at, sink),
@@ -324,7 +321,7 @@ impl Tokenizer {
     fn in_text<S: TokenSink>(&mut self, ch: char, at: u64, sink: &mut S) -> Result<(), Refusal>
         requires { self.old.state ≡ State.Text }
         ensures { (table : Entities) (start : Kind) (names : Texts) (text : List Character) (taken : List Event) → Reads table start self.old names text (record { ch = ch; at = at } ∷ []) taken
-            → Takes (gives_item S.gives S.gives_token) table start text (record { ch = ch; at = at }) taken names sink.old result sink.new self.new }
+            → Takes (gives_item S.gives S.gives_token) table start text (record { ch = ch; at = at } ∷ []) taken names sink.old result sink.new self.new }
     {
         match self.kind {
             RawKind::None => self.in_data(ch, at, sink),
@@ -339,7 +336,7 @@ impl Tokenizer {
         requires text { self.old.state ≡ State.Text }
         requires raw { is_raw self.old.kind ≡ true }
         ensures { (table : Entities) (start : Kind) (names : Texts) (text : List Character) (taken : List Event) → Reads table start self.old names text (record { ch = ch; at = at } ∷ []) taken
-            → Takes (gives_item S.gives S.gives_token) table start text (record { ch = ch; at = at }) taken names sink.old result sink.new self.new }
+            → Takes (gives_item S.gives S.gives_token) table start text (record { ch = ch; at = at } ∷ []) taken names sink.old result sink.new self.new }
     {
         match ch {
             '<' => {
@@ -412,7 +409,7 @@ impl Tokenizer {
     ) -> Result<(), Refusal>
         requires { self.old.state ≡ State.RawLess }
         ensures { (table : Entities) (start : Kind) (names : Texts) (text : List Character) (taken : List Event) → Reads table start self.old names text (record { ch = ch; at = at } ∷ []) taken
-            → Takes (gives_item S.gives S.gives_token) table start text (record { ch = ch; at = at }) taken names sink.old result sink.new self.new }
+            → Takes (gives_item S.gives S.gives_token) table start text (record { ch = ch; at = at } ∷ []) taken names sink.old result sink.new self.new }
     {
         if ch == '/' {
             self.state = State::RawName(at);
@@ -437,7 +434,7 @@ impl Tokenizer {
     ) -> Result<(), Refusal>
         requires { self.old.state ≡ State.RawName solidus }
         ensures takes { (table : Entities) (start : Kind) (before : Texts) (text : List Character) (taken : List Event) → Grows before names.old → Reads table start self.old before text (record { ch = ch; at = at } ∷ []) taken
-            → Takes (gives_item S.gives S.gives_token) table start text (record { ch = ch; at = at }) taken names.new sink.old result sink.new self.new }
+            → Takes (gives_item S.gives S.gives_token) table start text (record { ch = ch; at = at } ∷ []) taken names.new sink.old result sink.new self.new }
         ensures grows { Grows names.old names.new }
     {
         match self.expected() {
@@ -501,7 +498,7 @@ impl Tokenizer {
         requires text { self.old.state ≡ State.Text }
         requires is_data { self.old.kind ≡ RawKind.None }
         ensures { (table : Entities) (start : Kind) (names : Texts) (text : List Character) (taken : List Event) → Reads table start self.old names text (record { ch = ch; at = at } ∷ []) taken
-            → Takes (gives_item S.gives S.gives_token) table start text (record { ch = ch; at = at }) taken names sink.old result sink.new self.new }
+            → Takes (gives_item S.gives S.gives_token) table start text (record { ch = ch; at = at } ∷ []) taken names sink.old result sink.new self.new }
     {
         match ch {
             '<' => {
@@ -519,7 +516,7 @@ impl Tokenizer {
     fn after_less<S: TokenSink>(&mut self, ch: char, at: u64, sink: &mut S) -> Result<(), Refusal>
         requires { self.old.state ≡ State.Less }
         ensures { (table : Entities) (start : Kind) (names : Texts) (text : List Character) (taken : List Event) → Reads table start self.old names text (record { ch = ch; at = at } ∷ []) taken
-            → Takes (gives_item S.gives S.gives_token) table start text (record { ch = ch; at = at }) taken names sink.old result sink.new self.new }
+            → Takes (gives_item S.gives S.gives_token) table start text (record { ch = ch; at = at } ∷ []) taken names sink.old result sink.new self.new }
     {
         match ch {
             '/' => {
@@ -558,7 +555,7 @@ impl Tokenizer {
     ) -> Result<(), Refusal>
         requires { (solidus : ℕ) × (self.old.state ≡ State.LessSolidus solidus) }
         ensures { (table : Entities) (start : Kind) (names : Texts) (text : List Character) (taken : List Event) → Reads table start self.old names text (record { ch = ch; at = at } ∷ []) taken
-            → Takes (gives_item S.gives S.gives_token) table start text (record { ch = ch; at = at }) taken names sink.old result sink.new self.new }
+            → Takes (gives_item S.gives S.gives_token) table start text (record { ch = ch; at = at } ∷ []) taken names sink.old result sink.new self.new }
     {
         match ch {
             '>' => {
@@ -580,7 +577,7 @@ impl Tokenizer {
     fn after_bang<S: TokenSink>(&mut self, ch: char, at: u64, sink: &mut S) -> Result<(), Refusal>
         requires { (bang : ℕ) × (self.old.state ≡ State.LessBang bang) }
         ensures { (table : Entities) (start : Kind) (names : Texts) (text : List Character) (taken : List Event) → Reads table start self.old names text (record { ch = ch; at = at } ∷ []) taken
-            → Takes (gives_item S.gives S.gives_token) table start text (record { ch = ch; at = at }) taken names sink.old result sink.new self.new }
+            → Takes (gives_item S.gives S.gives_token) table start text (record { ch = ch; at = at } ∷ []) taken names sink.old result sink.new self.new }
     {
         match ch {
             '-' => match self.state {
@@ -602,7 +599,7 @@ impl Tokenizer {
     fn after_dash<S: TokenSink>(&mut self, ch: char, at: u64, sink: &mut S) -> Result<(), Refusal>
         requires { (bang : ℕ) × (dash : ℕ) × (self.old.state ≡ State.LessBangDash bang dash) }
         ensures { (table : Entities) (start : Kind) (names : Texts) (text : List Character) (taken : List Event) → Reads table start self.old names text (record { ch = ch; at = at } ∷ []) taken
-            → Takes (gives_item S.gives S.gives_token) table start text (record { ch = ch; at = at }) taken names sink.old result sink.new self.new }
+            → Takes (gives_item S.gives S.gives_token) table start text (record { ch = ch; at = at } ∷ []) taken names sink.old result sink.new self.new }
     {
         if ch != '-' {
             return Err(Refusal::Memory);
@@ -635,7 +632,7 @@ impl Tokenizer {
     fn in_comment<S: TokenSink>(&mut self, ch: char, at: u64, sink: &mut S) -> Result<(), Refusal>
         requires { self.old.state ≡ State.Comment }
         ensures { (table : Entities) (start : Kind) (names : Texts) (text : List Character) (taken : List Event) → Reads table start self.old names text (record { ch = ch; at = at } ∷ []) taken
-            → Takes (gives_item S.gives S.gives_token) table start text (record { ch = ch; at = at }) taken names sink.old result sink.new self.new }
+            → Takes (gives_item S.gives S.gives_token) table start text (record { ch = ch; at = at } ∷ []) taken names sink.old result sink.new self.new }
     {
         if self.comment.take_char(ch, at, &mut self.raised)? {
             self.end_comment(sink)
@@ -664,7 +661,7 @@ impl Tokenizer {
     ) -> Result<(), Refusal>
         requires { self.old.state ≡ State.Tag }
         ensures takes { (table : Entities) (start : Kind) (before : Texts) (text : List Character) (taken : List Event) → Grows before names.old → Reads table start self.old before text (record { ch = ch; at = at } ∷ []) taken
-            → Takes (gives_item S.gives S.gives_token) table start text (record { ch = ch; at = at }) taken names.new sink.old result sink.new self.new }
+            → Takes (gives_item S.gives S.gives_token) table start text (record { ch = ch; at = at } ∷ []) taken names.new sink.old result sink.new self.new }
         ensures grows { Grows names.old names.new }
     {
         if self.tag.take_char(ch, at, &mut self.raised.errors)? {
