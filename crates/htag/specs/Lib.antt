@@ -1,0 +1,6 @@
+pub mod Value
+pub mod Tag
+pub mod Attributes
+pub mod Seen
+pub mod TagWalk
+pub mod Steps
