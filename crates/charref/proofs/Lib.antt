@@ -10,3 +10,5 @@ pub mod Numbers
 pub mod Extending
 pub mod Taking
 pub mod Opening
+pub mod OneReference
+pub mod SomeReference

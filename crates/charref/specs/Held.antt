@@ -1,4 +1,4 @@
--- What a walk has been handed after the `&`, by its state.
+-- What a walk has taken after the `&`, by its state.
 use Rattle.std.specs.Prelude.{◌≡◌, ℕ, Bool, true, false, nat_le, min, List, [], ◌∷◌, ◌++◌}
 use Rattle.names.specs.declared.placed.Placed.{Placed}
 use Rattle.names.specs.Placed.{characters, begins, is_empty, all, is_alphanumeric}
@@ -11,7 +11,7 @@ use Rattle.charref.specs.Reference.{Entities, number_from}
 use Rattle.charref.specs.Number.{is_digit_of, radix}
 use Rattle.charref.specs.Table.{GoesOn, HasRead, is_search_within}
 
--- a state of a walk through a table of so many entries
+-- whether a state's search stays within a table with this many entries, and its number within what is stored
 abbrev pub is_within : State → ℕ → Bool
 is_within (Name search) count = is_search_within search count
 is_within NumberSign count = true
@@ -28,11 +28,12 @@ pub data IsSign : Base → List Placed → Type 0 where
   small_x : (p q : Placed) → p.ch ≡ 35 → q.ch ≡ 120 → IsSign Hexadecimal (p ∷ q ∷ [])
   capital_x : (p q : Placed) → p.ch ≡ 35 → q.ch ≡ 88 → IsSign Hexadecimal (p ∷ q ∷ [])
 
--- The text is what a walk in this state has been handed. In a value a whole key waits for the character after it.
+-- The text is what a walk in this state has taken. In a value, a whole key waits for the next character.
 pub data IsHeld (table : Entities) (in_value : Bool) : State → List Placed → Type 0 where
   in_name : (search : Search) (text : List Placed) → HasRead search table (key_bytes text) → all is_alphanumeric text ≡ true
       → (in_value ≡ false → is_empty text ≡ false → GoesOn table (key_bytes text)) → IsHeld table in_value (Name search) text
   after_sign : (text : List Placed) → IsSign Decimal text → IsHeld table in_value NumberSign text
   after_x : (text : List Placed) → IsSign Hexadecimal text → IsHeld table in_value HexadecimalSign text
-  in_number : (base : Base) (value : ℕ) (sign digits text : List Placed) → text ≡ sign ++ digits → IsSign base sign → begins (is_digit_of base) digits ≡ true
-      → all (is_digit_of base) digits ≡ true → value ≡ min (number_from 0 (radix base) digits) 0x110000 → IsHeld table in_value (Number base value) text
+  in_number : (base : Base) (value : ℕ) (sign digits text : List Placed) → text ≡ sign ++ digits → IsSign base sign
+      → begins (is_digit_of base) digits ≡ true → all (is_digit_of base) digits ≡ true
+      → value ≡ min (number_from 0 (radix base) digits) 0x110000 → IsHeld table in_value (Number base value) text

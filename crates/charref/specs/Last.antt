@@ -1,4 +1,4 @@
--- What a walk asks of the last character, and when no more characters matter.
+-- The last character that a walk has read, and when no more characters matter.
 use Rattle.std.specs.Prelude.{◌≡◌, ℕ, ◌+◌, Bool, true, false, not, ◌&&◌, nat_lt, ◌==◌, ◌||◌, if◌then◌else◌, List, ◌++◌, length, Some}
 use Rattle.names.specs.declared.placed.Placed.{Placed}
 use Rattle.names.specs.Placed.{characters, is_alphanumeric, is_equals}
@@ -10,7 +10,7 @@ use Rattle.charref.specs.Held.{key_bytes}
 abbrev pub last_of : ℕ → Last
 last_of c = if is_alphanumeric c then Alphanumeric else (if c == 59 then Semicolon else (if is_equals c then Equals else Other))
 
--- What follows this text doesn't change the key that it begins with, nor keep a key that is all of it as text.
+-- What follows this text doesn't change its longest key, nor keeps a key that is all of it as text.
 pub record IsSettled (table : Entities) (in_value : Bool) (text after : List Placed) : Type 0 where
   pub same : longest table (key_bytes text ++ characters after) ≡ longest table (key_bytes text)
   pub not_kept : (e : Entry) → longest table (key_bytes text) ≡ Some e → length e.key ≡ length text + 1 → is_kept in_value e.key after ≡ false
@@ -27,6 +27,6 @@ goes_on_name Semicolon = false
 goes_on_name Equals = true
 goes_on_name Other = false
 
--- the rule for values, where so many characters are left, this one last
+-- the rule for values, where `left` characters were read after the key, the last of this kind
 abbrev pub is_kept_before : Bool → Bool → ℕ → Last → Bool
 is_kept_before in_value semicolon left last = in_value && not semicolon && (nat_lt 1 left || (left == 1 && goes_on_name last))

@@ -1,10 +1,10 @@
--- A text that may still become a reference.
-use Rattle.std.specs.Prelude.{◌≡◌, false, List, ◌∷◌, ◌++◌}
+-- A text that begins with a reference, and one that may still become one.
+use Rattle.std.specs.Prelude.{◌≡◌, Bool, false, List, ◌∷◌, ◌++◌}
 use Rattle.names.specs.declared.placed.Placed.{Placed}
 use Rattle.names.specs.Placed.{is_empty}
 use Rattle.charref.specs.Reference.{Entities, Piece, IsReference}
 
--- Some longer text that begins with the `&` and this text is one reference, outside of a value.
+-- Outside a value, some longer text that begins with the `&` and this text is one reference.
 pub record IsOpen (table : Entities) (amp : Placed) (text : List Placed) : Type 0 where
   pub more : List Placed
   pub rest : List Placed
@@ -12,3 +12,10 @@ pub record IsOpen (table : Entities) (amp : Placed) (text : List Placed) : Type 
   pub is_more : is_empty more ≡ false
   pub text_is : piece.text ≡ amp ∷ (text ++ more)
   pub is_reference : IsReference table false rest piece
+
+-- A reference, or an `&` that is text, stands at the front of this text.
+pub record HasReference (table : Entities) (in_value : Bool) (text : List Placed) : Type 0 where
+  pub piece : Piece
+  pub rest : List Placed
+  pub text_is : text ≡ piece.text ++ rest
+  pub is_reference : IsReference table in_value rest piece

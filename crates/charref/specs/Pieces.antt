@@ -1,4 +1,4 @@
--- A reference that a walk has told, as a piece of the text.
+-- The reference that a walk returns, as a piece of the text.
 use Rattle.std.specs.Prelude.{◌≡◌, ℕ, ◌-◌, ◌≤◌, Bool, true, false, Some, None, ◌&&◌, ◌==◌, List, [], ◌∷◌, ◌++◌, map, length, take, drop, option_to_list}
 use Rattle.names.specs.declared.error.ParseError.{ParseError}
 use Rattle.names.specs.declared.error.ErrorCode.TheVariants.{MissingSemicolonAfterCharacterReference, UnknownNamedCharacterReference}
@@ -15,24 +15,27 @@ abbrev pub characters_of : Characters → List ℕ
 characters_of (Named characters) = characters.now
 characters_of (One character) = character ∷ []
 
--- the errors of a reference at this place, where `after` follows all that was taken
+-- the errors of a reference at this place, where `after` follows all characters taken
 abbrev pub errors_of : Reference → ℕ → List Placed → List ParseError
-errors_of found at after = error_if found.missing_semicolon MissingSemicolonAfterCharacterReference at ++ map (λ code. error code at) (option_to_list found.fault)
+errors_of found at after =
+    error_if found.missing_semicolon MissingSemicolonAfterCharacterReference at
+    ++ map (λ code. error code at) (option_to_list found.fault)
     ++ error_if (found.in_run && begins (λ c. c == 59) (past is_alphanumeric after)) UnknownNamedCharacterReference at
 
--- The text after the `&` begins with this reference, where `after` follows it, and `left` characters of it are left.
+-- This reference stands at the `&` before `text` and `after`, and leaves the last `left` characters of the text to be read again.
 pub record IsRead (table : Entities) (in_value : Bool) (text after : List Placed) (found : Reference) : Type 0 where
   pub within : found.left ≤ length text
   pub reads : (amp : Placed) → amp.ch ≡ 38 → IsReference table in_value (drop (length text - found.left) text ++ after)
       (record { text = amp ∷ take (length text - found.left) text; gives = characters_of found.characters; errors = errors_of found amp.at after })
 
--- the `&` as text, where no key begins with what was read
+-- an `&` that is text because no key matches
 abbrev pub unknown_of : ℕ → Last → Reference
 unknown_of left Alphanumeric = record { characters = One 38; left = left; missing_semicolon = false; fault = None; in_run = true }
 unknown_of left Semicolon = record { characters = One 38; left = left; missing_semicolon = false; fault = Some UnknownNamedCharacterReference; in_run = false }
 unknown_of left Equals = record { characters = One 38; left = left; missing_semicolon = false; fault = None; in_run = false }
 unknown_of left Other = record { characters = One 38; left = left; missing_semicolon = false; fault = None; in_run = false }
 
--- a number
+-- a numeric reference
 abbrev pub number_of : ℕ → ℕ → Bool → Reference
-number_of value left missing = record { characters = One (numbered value); left = left; missing_semicolon = missing; fault = number_fault value; in_run = false }
+number_of value left missing =
+    record { characters = One (numbered value); left = left; missing_semicolon = missing; fault = number_fault value; in_run = false }

@@ -1,4 +1,4 @@
--- The table that a JSON text is, or the first cause for which it is none: entry by entry in the order of the keys' bytes.
+-- The table of a JSON text, or the first fault of the text, entry by entry in the order of the keys' bytes.
 use Rattle.std.specs.Prelude.{◌≡◌, ℕ, Bool, not, ◌&&◌, ◌==◌, nat_le, if◌then◌else◌, List, [], ◌∷◌, codes, Option, Some, None, option_map, option_and_then, Result, Ok, Err, bytes_eq, encode_utf8_all, ◌⊎◌}
 use Rattle.serde_json.specs.Data.{Data, Items, no_items, item, Members, no_members, member}
 use Rattle.serde_json.specs.Find.{get, as_number, as_str, as_array, as_object, as_u64}
@@ -16,16 +16,18 @@ is_character n = not (n == 0) && nat_le n 0x10FFFF && not (is_surrogate n)
 abbrev pub codepoint : Data → Option ℕ
 codepoint d = option_and_then (λ n. if is_character n then Some n else None) (option_and_then as_u64 (as_number d))
 
--- the characters of a list of one or two
+-- the characters of a list of one or two numbers
 abbrev pub codepoints : Items → Option (List ℕ)
 codepoints no_items = None
 codepoints (item d no_items) = option_map (λ c. c ∷ []) (codepoint d)
 codepoints (item d (item e no_items)) = option_and_then (λ c. option_map (λ b. c ∷ b ∷ []) (codepoint e)) (codepoint d)
 codepoints (item d (item e (item f ds))) = None
 
--- the two fields of an entry, where it is an object that has them as a list and a text
+-- the two fields of an entry, if it is an object that has them as a list and a text
 abbrev pub fields : Data → Option (Items × List ℕ)
-fields value = option_and_then (λ ds. option_map (λ s. (ds, s)) (option_and_then as_str (get (codes "characters") value))) (option_and_then as_array (get (codes "codepoints") value))
+fields value =
+    option_and_then (λ ds. option_map (λ s. (ds, s)) (option_and_then as_str (get (codes "characters") value)))
+    (option_and_then as_array (get (codes "codepoints") value))
 
 -- the entry of a key and its value
 abbrev pub entry_of_characters : List ℕ → List ℕ → Option (List ℕ) → Result Entry TableFault
@@ -39,7 +41,7 @@ entry_of_fields key (Some pair) = entry_of_characters key pair.1 (codepoints pai
 abbrev pub entry_of : List ℕ → Data → Result Entry TableFault
 entry_of key value = if is_key key then entry_of_fields key (fields value) else Err Key
 
--- an entry, and then the others; the first cause
+-- an entry and those after it, or the first fault
 abbrev pub and_then : Result Entry TableFault → Result Entities TableFault → Result Entities TableFault
 and_then (Err cause) others = Err cause
 and_then (Ok entry) (Err cause) = Err cause
@@ -57,11 +59,11 @@ abbrev pub table_of_value : Option Data → Result Entities TableFault
 table_of_value None = Err Json
 table_of_value (Some d) = table_of_members (as_object d)
 
--- the table of a text; its whole is read first, as JSON
+-- the table of a text, which is read as JSON first
 abbrev pub table_of : List ℕ → Result Entities TableFault
 table_of text = table_of_value (json.read text)
 
--- what a refusal of a text says: memory, or the first cause
+-- a refusal says that memory ran out, or gives the first fault
 abbrev pub IsRefusedWith : {A : Type 0} → Result A TableFault → Refusal → Type 0
 IsRefusedWith (Ok found) refusal = refusal ≡ Memory
 IsRefusedWith (Err cause) refusal = (refusal ≡ Memory) ⊎ (refusal ≡ BadTable cause)

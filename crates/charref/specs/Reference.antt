@@ -34,9 +34,10 @@ pub record IsTable (table : Entities) : Type 0 where
   pub distinct : IsDistinct bytes_eq (map (λ entry. entry.key) table)
   pub characters : list_all (λ entry. not (is_empty_list entry.stands_for)) table ≡ true
 
--- the entries that the serializer counts on
+-- the entries that the serializer relies on
 abbrev pub core : Entities
-core = record { key = codes "&amp;"; stands_for = 0x26 ∷ [] } ∷ record { key = codes "&gt;"; stands_for = 0x3E ∷ [] } ∷ record { key = codes "&lt;"; stands_for = 0x3C ∷ [] }
+core = record { key = codes "&amp;"; stands_for = 0x26 ∷ [] } ∷ record { key = codes "&gt;"; stands_for = 0x3E ∷ [] }
+    ∷ record { key = codes "&lt;"; stands_for = 0x3C ∷ [] }
     ∷ record { key = codes "&nbsp;"; stands_for = 0xA0 ∷ [] } ∷ record { key = codes "&quot;"; stands_for = 0x22 ∷ [] } ∷ []
 
 abbrev pub HasCore : Entities → Type 0
@@ -128,27 +129,38 @@ abbrev pub ampersand : Placed → List ParseError → Piece
 ampersand amp errors = record { text = amp ∷ []; gives = 38 ∷ []; errors = errors }
 
 abbrev pub named_piece : List Placed → Entry → Piece
-named_piece text entry = record { text = text; gives = entry.stands_for; errors = error_if (not (ends_in_semicolon entry.key)) MissingSemicolonAfterCharacterReference (place 0 text) }
+named_piece text entry =
+    record {
+      text = text;
+      gives = entry.stands_for;
+      errors = error_if (not (ends_in_semicolon entry.key)) MissingSemicolonAfterCharacterReference (place 0 text);
+    }
 
 abbrev pub numeric_piece : ℕ → List Placed → List Placed → List Placed → Piece
 numeric_piece base opening digits close =
     let value = number_from 0 base digits in
     let at = place 0 opening in
-    record { text = opening ++ digits ++ close; gives = numbered value ∷ []; errors = error_if (is_empty close) MissingSemicolonAfterCharacterReference at ++ map (λ code. error code at) (option_to_list (number_fault value)) }
+    record {
+      text = opening ++ digits ++ close;
+      gives = numbered value ∷ [];
+      errors = error_if (is_empty close) MissingSemicolonAfterCharacterReference at
+          ++ map (λ code. error code at) (option_to_list (number_fault value));
+    }
 
 -- The text at `&` is this piece where `rest` follows it. All errors stand at the `&`.
 pub data IsReference (table : Entities) (in_value : Bool) (rest : List Placed) (piece : Piece) : Type 0 where
   -- a key: the longest one that stands here (13.2.5.73)
   named : (amp : Placed) (name : List Placed) (entry : Entry) → amp.ch ≡ 38 → begins is_alphanumeric name ≡ true
-      → longest table (characters (amp ∷ name ++ rest)) ≡ Some entry → characters (amp ∷ name) ≡ entry.key → is_kept in_value entry.key rest ≡ false
-      → piece ≡ named_piece (amp ∷ name) entry → IsReference table in_value rest piece
+      → longest table (characters (amp ∷ name ++ rest)) ≡ Some entry → characters (amp ∷ name) ≡ entry.key
+      → is_kept in_value entry.key rest ≡ false → piece ≡ named_piece (amp ∷ name) entry → IsReference table in_value rest piece
   -- a key that the rule for values keeps as text: its `&`
   kept : (amp : Placed) (entry : Entry) → amp.ch ≡ 38 → begins is_alphanumeric rest ≡ true
       → longest table (characters (amp ∷ rest)) ≡ Some entry → is_kept in_value entry.key (drop (length entry.key - 1) rest) ≡ true
       → piece ≡ ampersand amp [] → IsReference table in_value rest piece
   -- no key (13.2.5.74)
   unknown : (amp : Placed) → amp.ch ≡ 38 → begins is_alphanumeric rest ≡ true → longest table (characters (amp ∷ rest)) ≡ None
-      → piece ≡ ampersand amp (error_if (begins (λ c. c == 59) (past is_alphanumeric rest)) UnknownNamedCharacterReference amp.at) → IsReference table in_value rest piece
+      → piece ≡ ampersand amp (error_if (begins (λ c. c == 59) (past is_alphanumeric rest)) UnknownNamedCharacterReference amp.at)
+      → IsReference table in_value rest piece
   -- a number (13.2.5.78 to 13.2.5.80)
   decimal : (opening digits close : List Placed) → characters opening ≡ codes "&#" → begins is_digit digits ≡ true
       → RunsTo (λ c. not (is_digit c)) digits (close ++ rest) → is_semicolon_if_any close rest ≡ true

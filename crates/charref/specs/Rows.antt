@@ -9,39 +9,51 @@ use Rattle.charref.specs.Reference.{Entities, IsReference, named, kept, unknown,
 use Rattle.charref.specs.Reading.{table_of_members}
 
 abbrev not_table : Entities
-not_table = record { key = codes "&not"; stands_for = 172 ∷ [] } ∷ record { key = codes "&not;"; stands_for = 172 ∷ [] } ∷ record { key = codes "&notin;"; stands_for = 8713 ∷ [] } ∷ []
+not_table = record { key = codes "&not"; stands_for = 172 ∷ [] } ∷ record { key = codes "&not;"; stands_for = 172 ∷ [] }
+    ∷ record { key = codes "&notin;"; stands_for = 8713 ∷ [] } ∷ []
 
 abbrev number_table : Entities
 number_table = record { key = codes "&a"; stands_for = 49 ∷ [] } ∷ record { key = codes "&aaa"; stands_for = 51 ∷ [] } ∷ []
 
-row_not : IsReference not_table false (placed 4 (codes "it; &notin;")) (record { text = placed 0 (codes "&not"); gives = 172 ∷ []; errors = error code.MissingSemicolonAfterCharacterReference 0 ∷ [] })
+row_not : IsReference not_table false (placed 4 (codes "it; &notin;"))
+    (record { text = placed 0 (codes "&not"); gives = 172 ∷ []; errors = error code.MissingSemicolonAfterCharacterReference 0 ∷ [] })
 row_not = named (record { ch = 38; at = 0 }) (placed 1 (codes "not")) (record { key = codes "&not"; stands_for = 172 ∷ [] }) refl refl refl refl refl refl
 
 row_notin : IsReference not_table false [] (record { text = placed 9 (codes "&notin;"); gives = 8713 ∷ []; errors = [] })
-row_notin = named (record { ch = 38; at = 9 }) (placed 10 (codes "notin;")) (record { key = codes "&notin;"; stands_for = 8713 ∷ [] }) refl refl refl refl refl refl
+row_notin = named (record { ch = 38; at = 9 }) (placed 10 (codes "notin;")) (record { key = codes "&notin;"; stands_for = 8713 ∷ [] })
+    refl refl refl refl refl refl
 
 row_in_value : IsReference not_table true (placed 3 (codes "not=1")) (record { text = placed 2 (codes "&"); gives = 38 ∷ []; errors = [] })
 row_in_value = kept (record { ch = 38; at = 2 }) (record { key = codes "&not"; stands_for = 172 ∷ [] }) refl refl refl refl refl
 
-row_unknown : IsReference not_table false (placed 1 (codes "nox;")) (record { text = placed 0 (codes "&"); gives = 38 ∷ []; errors = error code.UnknownNamedCharacterReference 0 ∷ [] })
+row_unknown : IsReference not_table false (placed 1 (codes "nox;"))
+    (record { text = placed 0 (codes "&"); gives = 38 ∷ []; errors = error code.UnknownNamedCharacterReference 0 ∷ [] })
 row_unknown = unknown (record { ch = 38; at = 0 }) refl refl refl refl
 
-row_aab : IsReference number_table false (placed 2 (codes "ab")) (record { text = placed 0 (codes "&a"); gives = 49 ∷ []; errors = error code.MissingSemicolonAfterCharacterReference 0 ∷ [] })
+row_aab : IsReference number_table false (placed 2 (codes "ab"))
+    (record { text = placed 0 (codes "&a"); gives = 49 ∷ []; errors = error code.MissingSemicolonAfterCharacterReference 0 ∷ [] })
 row_aab = named (record { ch = 38; at = 0 }) (placed 1 (codes "a")) (record { key = codes "&a"; stands_for = 49 ∷ [] }) refl refl refl refl refl refl
 
-row_null : IsReference [] false (placed 4 (codes "&#x80;&#xD800;&#65")) (record { text = placed 0 (codes "&#0;"); gives = 0xFFFD ∷ []; errors = error code.NullCharacterReference 0 ∷ [] })
+row_null : IsReference [] false (placed 4 (codes "&#x80;&#xD800;&#65"))
+    (record { text = placed 0 (codes "&#0;"); gives = 0xFFFD ∷ []; errors = error code.NullCharacterReference 0 ∷ [] })
 row_null = decimal (placed 0 (codes "&#")) (placed 2 (codes "0")) (placed 3 (codes ";")) refl refl (record { passes_none = refl; stops_after = refl }) refl refl
 
-row_mapped : IsReference [] false (placed 10 (codes "&#xD800;&#65")) (record { text = placed 4 (codes "&#x80;"); gives = 0x20AC ∷ []; errors = error code.ControlCharacterReference 4 ∷ [] })
-row_mapped = hexadecimal (placed 4 (codes "&#x")) (placed 7 (codes "80")) (placed 9 (codes ";")) refl refl (record { passes_none = refl; stops_after = refl }) refl refl
+row_mapped : IsReference [] false (placed 10 (codes "&#xD800;&#65"))
+    (record { text = placed 4 (codes "&#x80;"); gives = 0x20AC ∷ []; errors = error code.ControlCharacterReference 4 ∷ [] })
+row_mapped = hexadecimal (placed 4 (codes "&#x")) (placed 7 (codes "80")) (placed 9 (codes ";")) refl refl
+    (record { passes_none = refl; stops_after = refl }) refl refl
 
-row_surrogate : IsReference [] false (placed 18 (codes "&#65")) (record { text = placed 10 (codes "&#XD800;"); gives = 0xFFFD ∷ []; errors = error code.SurrogateCharacterReference 10 ∷ [] })
-row_surrogate = hexadecimal (placed 10 (codes "&#X")) (placed 13 (codes "D800")) (placed 17 (codes ";")) refl refl (record { passes_none = refl; stops_after = refl }) refl refl
+row_surrogate : IsReference [] false (placed 18 (codes "&#65"))
+    (record { text = placed 10 (codes "&#XD800;"); gives = 0xFFFD ∷ []; errors = error code.SurrogateCharacterReference 10 ∷ [] })
+row_surrogate = hexadecimal (placed 10 (codes "&#X")) (placed 13 (codes "D800")) (placed 17 (codes ";")) refl refl
+    (record { passes_none = refl; stops_after = refl }) refl refl
 
-row_cut_off : IsReference [] false [] (record { text = placed 18 (codes "&#65"); gives = codes "A"; errors = error code.MissingSemicolonAfterCharacterReference 18 ∷ [] })
+row_cut_off : IsReference [] false []
+    (record { text = placed 18 (codes "&#65"); gives = codes "A"; errors = error code.MissingSemicolonAfterCharacterReference 18 ∷ [] })
 row_cut_off = decimal (placed 18 (codes "&#")) (placed 20 (codes "65")) [] refl refl (record { passes_none = refl; stops_after = refl }) refl refl
 
-row_no_digits : IsReference [] false (placed 1 (codes "#xg")) (record { text = placed 0 (codes "&"); gives = 38 ∷ []; errors = error code.AbsenceOfDigitsInNumericCharacterReference 0 ∷ [] })
+row_no_digits : IsReference [] false (placed 1 (codes "#xg"))
+    (record { text = placed 0 (codes "&"); gives = 38 ∷ []; errors = error code.AbsenceOfDigitsInNumericCharacterReference 0 ∷ [] })
 row_no_digits = no_digits (record { ch = 38; at = 0 }) refl refl refl refl
 
 row_alone : IsReference not_table false (placed 1 (codes " not;")) (record { text = placed 0 (codes "&"); gives = 38 ∷ []; errors = [] })

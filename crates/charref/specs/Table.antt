@@ -1,4 +1,4 @@
--- A table in memory, and what looking up in it comes to.
+-- A table in memory, and the state of a look-up in it.
 use Rattle.std.specs.Prelude.{◌≡◌, ℕ, ◌+◌, ◌≤◌, ◌<◌, Bool, true, false, nat_eq, nat_le, nat_lt, ◌&&◌, List, map, length, slice_get, Option, Some, None, IfSome}
 use Rattle.std.specs.List.{starts_with}
 use Rattle.std.specs.List.Sorted.{IsStrictlySortedBy}
@@ -14,12 +14,12 @@ entry entity = record { key = entity.key.items; stands_for = entity.characters.i
 abbrev pub entries : List Entity → Entities
 entries entities = map entry entities
 
--- a table whose keys stand in the order of their bytes
+-- a table sorted by the bytes of its keys
 pub record IsSortedTable (table : Entities) : Type 0 where
   pub is_table : IsTable table
   pub sorted : IsStrictlySortedBy (slice_cmp nat_cmp) (map (λ e. e.key) table)
 
--- the byte of a key at a depth, from 1 on; 0 past its end
+-- the byte of a key at a depth, plus 1; 0 past its end
 abbrev pub code_of : Option ℕ → ℕ
 code_of None = 0
 code_of (Some byte) = byte + 1
@@ -33,9 +33,10 @@ pub record IsRange (table : Entities) (bytes : List ℕ) (low high : ℕ) : Type
   pub within : high ≤ length table
   pub exact : (k : ℕ) (e : Entry) → slice_get table k ≡ Some e → starts_with nat_eq e.key bytes ≡ (nat_le low k && nat_lt k high)
 
--- In the entries from `low` up to `high` the byte at this depth does not fall.
+-- From `low` up to `high` the byte at this depth never decreases.
 pub record IsRising (table : Entities) (low high depth : ℕ) : Type 0 where
-  pub at : (j k : ℕ) (e f : Entry) → slice_get table j ≡ Some e → slice_get table k ≡ Some f → low ≤ j → j ≤ k → k < high → code_at e.key depth ≤ code_at f.key depth
+  pub at : (j k : ℕ) (e f : Entry) → slice_get table j ≡ Some e → slice_get table k ≡ Some f → low ≤ j → j ≤ k → k < high
+      → code_at e.key depth ≤ code_at f.key depth
 
 -- From `low` up to `middle` it is below this code, and from there up to `high` it is not.
 pub record IsParted (table : Entities) (low middle high depth code : ℕ) : Type 0 where
@@ -54,7 +55,7 @@ pub record HasRead (search : Search) (table : Entities) (bytes : List ℕ) : Typ
   pub within : IfSome search.best (λ k. k < length table)
   pub best : best_entry table search.best ≡ longest table bytes
 
--- No key of the table begins with these bytes and goes on; some key does.
+-- No key of the table begins with these bytes and is longer; some key is.
 pub record IsOver (table : Entities) (bytes : List ℕ) : Type 0 where
   pub no_more : (k : ℕ) (e : Entry) → slice_get table k ≡ Some e → starts_with nat_eq e.key bytes ≡ true → length e.key ≤ length bytes
 
@@ -65,7 +66,7 @@ pub record GoesOn (table : Entities) (bytes : List ℕ) : Type 0 where
   pub opens : starts_with nat_eq entry.key bytes ≡ true
   pub is_longer : length bytes < length entry.key
 
--- whether the key that was found is as long as what was read
+-- whether the key found has as many bytes as were read
 abbrev pub is_as_long : ℕ → Option Entry → Bool
 is_as_long depth None = false
 is_as_long depth (Some e) = nat_eq (length e.key) depth
@@ -77,7 +78,7 @@ is_whole table search = is_as_long search.depth (best_entry table search.best)
 pub record HasNone (table : Entities) (bytes : List ℕ) : Type 0 where
   pub none : (k : ℕ) (e : Entry) → slice_get table k ≡ Some e → starts_with nat_eq e.key bytes ≡ true → ⊥
 
--- A search stays within a table of so many entries.
+-- a search stays within a table of this many entries
 abbrev pub is_place : Option ℕ → ℕ → Bool
 is_place None count = true
 is_place (Some k) count = nat_lt k count

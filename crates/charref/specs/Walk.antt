@@ -1,4 +1,4 @@
--- What a walk has been handed, and what it does with a character more.
+-- What a walk has taken, and what it does with the next character.
 use Rattle.std.specs.Prelude.{◌≡◌, ℕ, Bool, true, List, Option, MatchOption}
 use Rattle.names.specs.declared.placed.Placed.{Placed}
 use Rattle.charref.specs.declared.reference.Reference.{Reference}
@@ -9,13 +9,13 @@ use Rattle.charref.specs.Reference.{Entities}
 use Rattle.charref.specs.Held.{IsHeld, is_within}
 use Rattle.charref.specs.Pieces.{IsRead}
 
--- The walk, by this table, in a value or not, has been handed this text after the `&`, and no reference has ended in it.
+-- The walk, with this table, in a value or not, has taken this text after the `&`, and its reference is not known yet.
 pub record HasTaken (walk : Walk) (table : Entities) (in_value : Bool) (text : List Placed) : Type 0 where
   pub table_is : walk.table.now ≡ table
   pub in_value_is : walk.in_value ≡ in_value
   pub held : IsHeld table in_value walk.state text
 
--- a step of a walk, which has been handed this text
+-- a step of a walk that has now taken this text
 abbrev pub NextIs : Entities → Bool → List Placed → Next → Type 0
 NextIs table in_value text (Goes state) = IsHeld table in_value state text
 NextIs table in_value text (Ended found) = (after : List Placed) → IsRead table in_value text after found
@@ -24,6 +24,7 @@ abbrev pub is_next_within : Next → ℕ → Bool
 is_next_within (Goes state) count = is_within state count
 is_next_within (Ended found) count = true
 
--- The walk goes on after this text, or a reference has ended in it, whatever follows.
+-- After this text the walk goes on, or its reference is known, whatever follows.
 abbrev pub Takes : Entities → Bool → List Placed → Option Reference → Walk → Type 0
-Takes table in_value text answer walk = MatchOption answer (HasTaken walk table in_value text) (λ found. (after : List Placed) → IsRead table in_value text after found)
+Takes table in_value text answer walk =
+    MatchOption answer (HasTaken walk table in_value text) (λ found. (after : List Placed) → IsRead table in_value text after found)

@@ -1,9 +1,9 @@
-//! What a walk asks of the last character.
+//! The last character that a walk has read.
 
 ghost use Rattle.std.specs.Prelude.{◌≡◌};
 ghost use Rattle.charref.specs.Last.{last_of, is_letter_or_digit, goes_on_name, is_kept_before};
 
-/// What the last character that was read is.
+/// What kind of character was read last, as far as the end of a reference depends on it.
 #[derive(Clone, Copy, Debug)]
 pub(crate) enum Last {
     Alphanumeric,
@@ -30,7 +30,7 @@ impl Last {
         matches!(self, Last::Alphanumeric)
     }
 
-    /// Whether a name that ends before it goes on with it, or a `=` follows.
+    /// Whether this character, right after a key in a value, keeps the key as text.
     fn goes_on(self) -> bool
         ensures { result ≡ goes_on_name self }
     {
@@ -38,7 +38,7 @@ impl Last {
     }
 }
 
-/// Whether a key that ends before the last `left` characters is kept as text (13.2.5.73).
+/// Whether the rule for attribute values keeps a key as text, where `left` characters were read after it (13.2.5.73).
 pub(crate) fn is_kept(in_value: bool, semicolon: bool, left: usize, last: Last) -> bool
     ensures { result ≡ is_kept_before in_value semicolon left last }
 {

@@ -1,8 +1,9 @@
-//! Character references (HTML Standard, 13.2.5.72 to 13.2.5.80): the table of named ones, and what stands at an `&`.
+//! Character references (HTML Standard, 13.2.5.72 to 13.2.5.80): the table of named ones, and reading what follows an `&`.
 #![tactic(auto)]
 
 mod entity;
 mod last;
+mod laws;
 mod next;
 mod number;
 mod read;
@@ -15,7 +16,7 @@ mod tests;
 mod walk;
 mod walking;
 
+pub use laws::{goes_on_in_a_reference, one_reference, some_reference};
 pub use reference::{Characters, Reference};
 pub use table::{Match, Table};
 pub use walk::Walk;
-pub use walking::goes_on_in_a_reference;

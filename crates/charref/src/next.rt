@@ -1,9 +1,9 @@
-//! What a character more makes of a walk.
+//! The outcome of a step of a walk.
 
 use crate::reference::Reference;
 use crate::state::State;
 
-/// The walk goes on in a state, or a reference has ended.
+/// The walk continues in a state, or has found the end of a reference.
 #[derive(Clone, Copy, Debug)]
 pub(crate) enum Next<'t> {
     Goes(State),

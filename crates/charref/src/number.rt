@@ -7,14 +7,14 @@ ghost use Rattle.charref.specs.Number.{is_digit_of, radix};
 
 use names::ErrorCode;
 
-/// How a number is written.
+/// The base in which a number is written.
 #[derive(Clone, Copy, Debug)]
 pub(crate) enum Base {
     Decimal,
     Hexadecimal,
 }
 
-/// One more than the greatest code of a character: what any greater number is counted as.
+/// One more than the greatest code point. Greater numbers mean the same, and are stored as this one.
 pub(crate) const TOO_GREAT: u32 = 0x11_0000;
 
 impl Base {
@@ -30,7 +30,7 @@ impl Base {
         }
     }
 
-    /// The number with a digit more, as far as it matters.
+    /// The number with one more digit, at most `TOO_GREAT`.
     pub(crate) fn more(self, value: u32, digit: u32) -> u32
         requires value { value ≤ TOO_GREAT }
         requires digit { digit < 16 }
@@ -68,7 +68,7 @@ fn is_space(value: u32) -> bool
     matches!(value, 9 | 10 | 12 | 13 | 32)
 }
 
-/// What stands for a control from 80 to 9F, where a character is listed for it.
+/// The replacement of a C1 control (13.2.5.80); any other value is its own.
 fn replaced(value: u32) -> u32
     ensures { result ≡ replaced replacements value }
 {
@@ -104,7 +104,7 @@ fn replaced(value: u32) -> u32
     }
 }
 
-/// The character of a number.
+/// The character that a number stands for (13.2.5.80).
 pub(crate) fn numbered(value: u32) -> char
     ensures { result ≡ numbered value }
 {
@@ -114,7 +114,7 @@ pub(crate) fn numbered(value: u32) -> char
     }
 }
 
-/// What is wrong with a number.
+/// The parse error of a number, if it has one (13.2.5.80).
 pub(crate) fn number_fault(value: u32) -> Option<ErrorCode>
     ensures { result ≡ number_fault value }
 {

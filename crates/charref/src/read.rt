@@ -1,4 +1,4 @@
-//! Reading a table of JSON text.
+//! Reading a table from JSON text.
 
 ghost use Rattle.std.specs.Prelude.{◌≡◌, ◌⊎◌, List, Ok, Err, Some, IfOk, IfErr, option_map, string_bytes, encode_utf8_all};
 ghost use Rattle.names.specs.declared.refusal.TableFault.{TableFault};
@@ -17,7 +17,7 @@ use names::{Refusal, TableFault};
 use serde_json::{Error, Map, Value};
 use std::alloc::{AllocError, Global};
 
-/// Whether this is alphanumerics, one or more, and then at most one `;`.
+/// Whether this is one or more alphanumerics, and then at most one `;`.
 fn is_key_name(name: &[u8]) -> bool
     ensures { result ≡ is_key_name name.now }
 {
@@ -39,7 +39,7 @@ fn is_key(key: &[u8]) -> bool
     }
 }
 
-/// The character of a number in digits alone, other than NUL.
+/// The character with this number, if it is written in digits alone and is a character other than NUL.
 fn codepoint(value: &Value) -> Option<char>
     ensures { result ≡ codepoint (view value.now) }
 {
@@ -52,7 +52,7 @@ fn codepoint(value: &Value) -> Option<char>
     }
 }
 
-/// The characters of a list of one or two.
+/// The characters of a list of one or two numbers.
 fn codepoints(alloc: Global, list: &[Value]) -> Result<Option<Vec<char>>, AllocError>
     ensures { IfOk result (λ found. option_map (λ v. v.items) found ≡ codepoints (items_view list.now)) }
 {
@@ -81,7 +81,7 @@ fn text_of(alloc: Global, characters: &[char]) -> Result<String, AllocError>
     Ok(text)
 }
 
-/// The list and the text of an entry, where it is an object that has both.
+/// The list and the text of an entry, if it is an object that has both.
 fn fields(value: &Value) -> Option<(&Vec<Value>, &str)>
     ensures { option_map (λ pair. (items_view pair.0.now.items, pair.1.now)) result ≡ fields (view value.now) }
 {
@@ -96,7 +96,7 @@ fn fault(cause: TableFault) -> Refusal
     Refusal::BadTable { cause }
 }
 
-/// What a text is refused with that `serde_json` does not read.
+/// The refusal of a text that `serde_json` rejects.
 fn json_fault(error: Error) -> Refusal
     ensures memory { IsMemory error → result ≡ Refusal.Memory }
     ensures json { ¬ IsMemory error → result ≡ Refusal.BadTable TableFault.Json }
@@ -145,10 +145,10 @@ fn entities_of(alloc: Global, members: &Map<String, Value>) -> Result<Vec<Entity
 }
 
 impl Table {
-    /// The table of a JSON text: an object of key to object with `codepoints`, a list of one or two numbers, and
-    /// `characters`, their text. Of equal keys, and of equal fields of an entry, the last one counts; other fields are not
-    /// looked at. The first fault is told: of the text as JSON, of the whole, and then entry by entry in the order of their
-    /// keys' bytes.
+    /// Reads a table from JSON text: an object that maps each key to an object with `codepoints`, a list of one or two
+    /// numbers, and `characters`, their text. Of equal keys, and of equal fields of an entry, the last one counts; other
+    /// fields are ignored. The error is `Memory`, or `BadTable` with the first cause found: in the text as JSON, in the
+    /// whole, and then entry by entry in the order of the keys' bytes.
     pub fn read(alloc: Global, text: &str) -> Result<Table, Refusal>
         ensures ok { IfOk result (λ table. table_of text.now ≡ Ok table) }
         ensures err { IfErr result (λ e. IsRefusedWith (table_of text.now) e) }

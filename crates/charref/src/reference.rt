@@ -1,4 +1,4 @@
-//! What stands at an `&`.
+//! The result of a walk.
 
 ghost use Rattle.std.specs.Prelude.{◌≡◌};
 ghost use Rattle.charref.specs.Pieces.{characters_of};
@@ -6,22 +6,22 @@ ghost use Rattle.charref.specs.Pieces.{characters_of};
 use names::ErrorCode;
 use std::slice;
 
-/// The characters that a reference stands for: lent by the table, or one.
+/// The characters that a reference stands for: borrowed from the table, or a single one.
 #[derive(Clone, Copy, Debug)]
 pub enum Characters<'t> {
     Named(&'t [char]),
     One(char),
 }
 
-/// What stands at an `&`: a reference, or the `&` as text.
+/// What stands at an `&`: a reference, or an `&` that is text.
 ///
-/// Its errors stand at the `&`: missing-semicolon-after-character-reference where `missing_semicolon` says so, and then
-/// `fault`. Where `in_run` says so, no key begins with the alphanumerics that were taken, and their run goes on: it is
-/// unknown-named-character-reference if a `;` follows the run.
+/// Its parse errors are placed at the `&`: missing-semicolon-after-character-reference if `missing_semicolon` is set, and
+/// then `fault`. If `in_run` is set, no key matches and the run of alphanumerics after the `&` may go on: the error is
+/// unknown-named-character-reference if a `;` follows that run.
 #[derive(Clone, Copy, Debug)]
 pub struct Reference<'t> {
     pub characters: Characters<'t>,
-    /// How many of the characters taken do not belong to it: they are read again. The `&` belongs to it.
+    /// How many of the characters taken, the last ones, are not part of it and must be read again. The `&` is part of it.
     pub left: usize,
     pub missing_semicolon: bool,
     pub fault: Option<ErrorCode>,

@@ -1,4 +1,4 @@
-//! A look-up, byte by byte.
+//! Looking up a key, byte by byte.
 
 ghost use Rattle.std.specs.Prelude.{◌≡◌, ◌↔◌, ℕ, ◌+◌, ◌-◌, ◌≤◌, ◌<◌, [], ◌∷◌, ◌++◌, List, true, false, None, length, IsTrue, IsNone, IfSome};
 ghost use Rattle.charref.specs.Reference.{longest};
@@ -6,8 +6,8 @@ ghost use Rattle.charref.specs.Table.{entries, code_at, best_entry, IsSortedTabl
 
 use crate::entity::Entity;
 
-/// How far a look-up has come: so many bytes were read, the entities from `low` up to `high` have keys that begin with them,
-/// and that at `best` has the longest key that they begin with.
+/// The state of a look-up that has read `depth` bytes. The keys of the entities from `low` up to `high` begin with these
+/// bytes, and the entity at `best` has the longest key that the bytes begin with.
 #[derive(Clone, Copy, Debug)]
 pub(crate) struct Search {
     pub(crate) depth: usize,
@@ -16,7 +16,7 @@ pub(crate) struct Search {
     pub(crate) best: Option<usize>,
 }
 
-/// The byte of a key at `depth`, from 1 on; 0 past its end.
+/// The byte of a key at `depth`, plus 1; 0 past its end.
 fn code_at(key: &[u8], depth: usize) -> u16
     ensures { result ≡ code_at key.now depth }
 {
@@ -26,7 +26,7 @@ fn code_at(key: &[u8], depth: usize) -> u16
     }
 }
 
-/// The first of the entities from `low` up to `high` whose key has at `depth` at least this code, or `high`.
+/// Of the entities from `low` up to `high`, the first whose key has at least this code at `depth`, or `high`.
 fn first_from(entities: &[Entity], low: usize, high: usize, depth: usize, code: u16) -> usize
     requires ordered { low ≤ high }
     requires within { high ≤ length entities.now }
@@ -39,7 +39,7 @@ fn first_from(entities: &[Entity], low: usize, high: usize, depth: usize, code: 
 }
 
 impl Search {
-    /// Before the first byte.
+    /// A look-up that has read nothing.
     pub(crate) fn new(entities: &[Entity]) -> Search
         requires sorted { IsSortedTable (entries entities.now) }
         ensures read { HasRead result (entries entities.now) [] }
@@ -55,14 +55,14 @@ impl Search {
         }
     }
 
-    /// Whether no key begins with what was read.
+    /// Whether no key begins with the bytes read.
     pub(crate) fn is_over(&self) -> bool
         ensures { IsTrue result ↔ (self.now.low ≡ self.now.high) }
     {
         self.low == self.high
     }
 
-    /// Reads one byte more.
+    /// Reads one more byte.
     pub(crate) fn narrow(&mut self, entities: &[Entity], byte: u8)
         requires sorted { IsSortedTable (entries entities.now) }
         requires within { (self.old.low ≤ self.old.high) × (self.old.high ≤ length entities.now) }
@@ -90,7 +90,7 @@ impl Search {
         };
     }
 
-    /// Whether some key begins with what was read and goes on: the last of the range, if any.
+    /// Whether some key begins with the bytes read and is longer: if any is, the last of the range is.
     pub(crate) fn goes_on(&self, entities: &[Entity]) -> bool
         requires sorted { IsSortedTable (entries entities.now) }
         requires within { (self.now.low ≤ self.now.high) × (self.now.high ≤ length entities.now) }
@@ -103,7 +103,7 @@ impl Search {
         self.low < self.high && entities[self.high - 1].key.len() > self.depth
     }
 
-    /// With one character more, where some key begins with it.
+    /// The look-up after one more character, if some key may begin with it.
     pub(crate) fn extended(&self, entities: &[Entity], ch: char) -> Option<Search>
         requires sorted { IsSortedTable (entries entities.now) }
         requires within { is_search_within self.now (length entities.now) ≡ true }
@@ -122,7 +122,7 @@ impl Search {
         }
     }
 
-    /// Whether what was read is a key.
+    /// Whether the bytes read are a key.
     pub(crate) fn is_whole(&self, entities: &[Entity]) -> bool
         requires within { IfSome self.now.best (λ k. k < length entities.now) }
         ensures { result ≡ is_whole (entries entities.now) self.now }
@@ -134,7 +134,7 @@ impl Search {
     }
 }
 
-/// Reads a text as far as some key goes on.
+/// Looks up a text, as far as some key begins with what was read.
 pub(crate) fn search_for(entities: &[Entity], text: &[u8]) -> Search
     requires sorted { IsSortedTable (entries entities.now) }
     ensures within { IfSome result.best (λ k. k < length entities.now) }

@@ -1,9 +1,9 @@
-//! How far a walk has come.
+//! The state of a walk.
 
 use crate::number::Base;
 use crate::search::Search;
 
-/// What the characters after the `&` are so far: a beginning of a name, `#`, `#x`, or a number with its digits.
+/// What the characters after the `&` are so far: the beginning of a name, `#`, `#x`, or a number.
 #[derive(Clone, Copy, Debug)]
 pub(crate) enum State {
     Name(Search),

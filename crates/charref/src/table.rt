@@ -10,9 +10,9 @@ use names::Refusal;
 use std::alloc::Global;
 use std::marker::Model;
 
-/// A table of named character references, in the order of its keys' bytes, so that the keys which begin with what has been
-/// read are a range. A look-up narrows this range byte by byte, each time by a binary search: it costs no more than the
-/// length of the longest key times the logarithm of the number of keys, and takes no memory.
+/// A table of named character references, sorted by the bytes of the keys, so that the keys with a common beginning are a
+/// range. A look-up narrows this range byte by byte, each time by a binary search: it takes at most as many searches as the
+/// longest key has bytes, twice, and allocates nothing.
 #[derive(Debug, Drop)]
 pub struct Table {
     pub(crate) entities: Vec<Entity>,
@@ -26,7 +26,7 @@ impl Model for Table {
     ghost invariant = { λ table. IsSortedTable (entries table.entities.items) };
 }
 
-/// A key that a text begins with: its length in bytes, the `&` among them, and the characters that it stands for.
+/// A key that a text begins with: its length in bytes, including the `&`, and the characters that it stands for.
 #[derive(Clone, Copy, Debug)]
 pub struct Match<'t> {
     pub length: usize,
@@ -34,7 +34,7 @@ pub struct Match<'t> {
 }
 
 impl Table {
-    /// The five entries that the serializer counts on: `&amp;`, `&gt;`, `&lt;`, `&nbsp;` and `&quot;`.
+    /// The table of the five entries that the serializer relies on: `&amp;`, `&gt;`, `&lt;`, `&nbsp;` and `&quot;`.
     pub fn core(alloc: Global) -> Result<Table, Refusal>
         ensures ok { IfOk result (λ table. table ≡ core) }
         ensures err { IfErr result (λ e. e ≡ Refusal.Memory) }
@@ -48,7 +48,7 @@ impl Table {
         Ok(Table { entities })
     }
 
-    /// The longest of all keys that the text, which begins with the `&`, begins with.
+    /// The longest key that this text, which starts at the `&`, begins with.
     pub fn longest(&self, text: &[u8]) -> Option<Match<'_>>
         ensures table { IsTable self.now }
         ensures found { MatchOption result (longest self.now text.now ≡ None)
@@ -73,7 +73,7 @@ impl Table {
         }
     }
 
-    /// Whether the five entries that the serializer counts on are there.
+    /// Whether the table has the five entries of [`Table::core`].
     pub fn has_core(&self) -> bool
         ensures table { IsTable self.now }
         ensures core { IsTrue result ↔ HasCore self.now }

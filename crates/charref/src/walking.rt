@@ -3,11 +3,9 @@
 ghost use Rattle.std.specs.Prelude.{◌≡◌, ◌+◌, [], ◌∷◌, ◌++◌, Bool, true, false, ◌&&◌, ℕ, List, length, IfSome, IsSome, ◌<◌, ◌≤◌};
 ghost use Rattle.names.specs.declared.placed.Placed.{Placed};
 ghost use Rattle.names.specs.Placed.{all, is_empty, is_alphanumeric};
-ghost use Rattle.charref.specs.Reference.{Entities, longest, ends_in_semicolon, IsTable};
+ghost use Rattle.charref.specs.Reference.{Entities, IsTable, longest, ends_in_semicolon};
 ghost use Rattle.charref.specs.Table.{best_entry, entries, is_search_within, is_whole, HasRead};
 ghost use Rattle.charref.specs.Held.{key_bytes, IsHeld, IsSign};
-ghost use Rattle.charref.specs.Open.{IsOpen};
-ghost use Rattle.charref.specs.declared.walk.Walk.{Walk as WalkOf};
 ghost use Rattle.charref.specs.Last.{last_of, is_letter_or_digit, IsSettled};
 ghost use Rattle.charref.specs.Pieces.{IsRead, unknown_of, number_of};
 ghost use Rattle.charref.specs.Walk.{HasTaken, Takes, NextIs, is_next_within};
@@ -24,7 +22,7 @@ use crate::walk::Walk;
 use names::ErrorCode;
 
 impl<'t> Walk<'t> {
-    /// A walk right after an `&`, which stands in an attribute's value or not.
+    /// A walk that starts right after an `&`, in an attribute value or not.
     pub fn new(table: &'t Table, in_value: bool) -> Walk<'t>
         ensures table { IsTable table.now }
         ensures taken { HasTaken result table.now in_value [] }
@@ -38,8 +36,8 @@ impl<'t> Walk<'t> {
         }
     }
 
-    /// Takes the character after those that it has taken. Where the reference is not known yet, there is no answer; otherwise
-    /// the walk has ended, and stays as it was.
+    /// Takes the next character. Returns `None` while the reference is not known yet; once it is, the walk is over, and is
+    /// left unchanged.
     pub fn take(&mut self, ch: char) -> Option<Reference<'t>>
         ensures ended { IsSome result → self.new ≡ self.old }
         ensures taken { (table : Entities) (in_value : Bool) (text : List Placed) (p : Placed)
@@ -67,7 +65,7 @@ impl<'t> Walk<'t> {
         }
     }
 
-    /// What stands at the `&` where the text ends after the characters that the walk has taken.
+    /// What stands at the `&` if the text ends after the characters taken.
     pub fn end(&self) -> Reference<'t>
         ensures { (table : Entities) (in_value : Bool) (text : List Placed)
             → HasTaken self.now table in_value text → IsRead table in_value text [] result }
@@ -89,7 +87,7 @@ impl<'t> Walk<'t> {
     }
 }
 
-/// An `&` that is text, as are all the characters that were read.
+/// An `&` that is text, where `left` characters were read after it.
 fn as_text<'t>(left: usize, fault: Option<ErrorCode>, in_run: bool) -> Reference<'t>
     ensures { result ≡ record { characters = Characters.One 38; left = left; missing_semicolon = false; fault = fault; in_run = in_run } }
 {
@@ -109,7 +107,7 @@ fn ends_in_semicolon(key: &[u8]) -> bool
     !key.is_empty() && key[key.len() - 1] == b';'
 }
 
-/// The `&` as text, where no key begins with what was read (13.2.5.73, 13.2.5.74).
+/// An `&` that is text because no key matches (13.2.5.73, 13.2.5.74).
 fn unknown<'t>(left: usize, last: Last) -> Reference<'t>
     ensures { result ≡ unknown_of left last }
 {
@@ -120,8 +118,8 @@ fn unknown<'t>(left: usize, last: Last) -> Reference<'t>
     }
 }
 
-/// What so many characters after the `&` are, the last of which is such, where the entity at `best` has the longest key that
-/// they begin with (13.2.5.73).
+/// The outcome once no further character can change the longest match, the entity at `best`: `read` characters were read
+/// after the `&`, and `last` is the kind of the last one (13.2.5.73).
 fn decided<'t>(
     table: &'t Table,
     in_value: bool,
@@ -153,7 +151,7 @@ fn decided<'t>(
     }
 }
 
-/// A number (13.2.5.80).
+/// A numeric reference (13.2.5.80).
 fn number<'t>(value: u32, left: usize, missing_semicolon: bool) -> Reference<'t>
     ensures { result ≡ number_of value left missing_semicolon }
 {
@@ -215,7 +213,7 @@ fn after_digits<'t>(base: Base, value: u32, ch: char) -> Next<'t>
     }
 }
 
-/// Right after the `&`, where no alphanumeric stands (13.2.5.72).
+/// Right after the `&`, before a character that is no alphanumeric (13.2.5.72).
 fn after_ampersand<'t>(ch: char) -> Next<'t>
     ensures within { (count : ℕ) → is_next_within result count ≡ true }
     ensures next { (table : Entities) (in_value : Bool) (p : Placed) → p.ch ≡ ch → is_alphanumeric ch ≡ false
@@ -228,7 +226,8 @@ fn after_ampersand<'t>(ch: char) -> Next<'t>
     }
 }
 
-/// Whether a key that is all that was read waits for the character after it, by the rule for values (13.2.5.73).
+/// Whether the characters read are a key that must wait for the next character, by the rule for attribute values
+/// (13.2.5.73).
 fn waits(in_value: bool, last: Last, search: Search, entities: &[Entity]) -> bool
     requires { IfSome search.best (λ k. k < length entities.now) }
     ensures { result ≡ (in_value && is_letter_or_digit last && is_whole (entries entities.now) search) }
@@ -236,7 +235,7 @@ fn waits(in_value: bool, last: Last, search: Search, entities: &[Entity]) -> boo
     in_value && last.is_alphanumeric() && search.is_whole(entities)
 }
 
-/// After a beginning of a name (13.2.5.73).
+/// After the beginning of a name (13.2.5.73).
 fn after_name<'t>(table: &'t Table, in_value: bool, search: Search, ch: char) -> Next<'t>
     requires { is_search_within search (length table.now) ≡ true }
     ensures within { is_next_within result (length table.now) ≡ true }
@@ -259,7 +258,7 @@ fn after_name<'t>(table: &'t Table, in_value: bool, search: Search, ch: char) ->
     Next::Ended(decided(table, in_value, next.best, search.depth, last))
 }
 
-/// A beginning of a name, where the text ends.
+/// The beginning of a name, at the end of the text.
 fn name_at_end<'t>(table: &'t Table, in_value: bool, search: Search) -> Reference<'t>
     requires { is_search_within search (length table.now) ≡ true }
     ensures { (text : List Placed) → HasRead search table.now (key_bytes text) → all is_alphanumeric text ≡ true
@@ -277,10 +276,3 @@ fn name_at_end<'t>(table: &'t Table, in_value: bool, search: Search) -> Referenc
         )
     }
 }
-
-/// A law: outside of an attribute's value a walk goes on only while what it has taken, with more characters after it, is one
-/// reference. So what is held back for it may still become a reference.
-pub fn goes_on_in_a_reference()
-    ensures { (walk : WalkOf) (table : Entities) (text : List Placed) (amp : Placed) → IsTable table
-        → HasTaken walk table false text → amp.ch ≡ 38 → IsOpen table amp text }
-{}

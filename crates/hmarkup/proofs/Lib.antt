@@ -22,3 +22,5 @@ pub mod Phases
 pub mod Reading
 pub mod Outcomes
 pub mod Lines
+pub mod SomeSpan
+pub mod Closing

@@ -88,3 +88,8 @@ HasReadOf Bogus = IsInBogus
 abbrev pub IsSpan : CommentKind → ℕ → List Placed → List Placed → List ℕ → List ParseError → Type 0
 IsSpan Comment = IsComment
 IsSpan Bogus = λ end. IsBogus
+
+-- the characters that close a comment of this kind wherever it is
+abbrev pub closing_mark : CommentKind → List ℕ
+closing_mark Comment = codes "-->"
+closing_mark Bogus = codes ">"

@@ -25,6 +25,21 @@ BeginsSpans {V} IsSpan text errors = (end : ℕ) (after rest span : List Placed)
 abbrev pub IsOpen : {V : Type 0} → (ℕ → List Placed → List Placed → V → List ParseError → Type 0) → List Placed → Type 0
 IsOpen {V} IsSpan text = (end : ℕ) (rest : List Placed) (value : V) (errors : List ParseError) → IsSpan end rest text value errors → rest ≡ []
 
+-- This text with a closing text after it is a span, whatever follows.
+pub record ClosedBy {V : Type 0} (IsSpan : ℕ → List Placed → List Placed → V → List ParseError → Type 0) (text closing : List Placed) : Type 0 where
+  pub value : V
+  pub errors : List ParseError
+  pub is_span : (end : ℕ) (rest : List Placed) → IsSpan end rest (text ++ closing) value errors
+
+-- A span stands at the front of this text, where the input ends after the text.
+pub record HasSpan {V : Type 0} (IsSpan : ℕ → List Placed → List Placed → V → List ParseError → Type 0) (end : ℕ) (text : List Placed) : Type 0 where
+  pub span : List Placed
+  pub rest : List Placed
+  pub value : V
+  pub errors : List ParseError
+  pub text_is : text ≡ span ++ rest
+  pub is_span : IsSpan end rest span value errors
+
 -- At the front of a text stands one span at most, with one value and one list of errors.
 abbrev pub IsOneSpan : {V : Type 0} → (ℕ → List Placed → List Placed → V → List ParseError → Type 0) → Type 0
 IsOneSpan {V} IsSpan = (end : ℕ) (rest rest' span span' : List Placed) (value value' : V) (errors errors' : List ParseError)

@@ -4,13 +4,13 @@ ghost use Rattle.std.specs.Prelude.{◌≡◌, ◌++◌, ℕ, List, [], true, If
 ghost use Rattle.std.specs.Char.{encode_utf8};
 ghost use Rattle.names.specs.declared.error.ParseError.{ParseError as Error};
 ghost use Rattle.names.specs.declared.placed.Placed.{Placed};
-ghost use Rattle.names.specs.Placed.{all, error, without_null};
+ghost use Rattle.names.specs.Placed.{all, characters, error, without_null};
 ghost use Rattle.names.specs.Sink.{Hands};
 ghost use Rattle.hmarkup.specs.declared.comment.CommentKind.{CommentKind as Kind};
 ghost use Rattle.hmarkup.specs.declared.comment.CommentKind.TheVariants.{Comment, Bogus};
 ghost use Rattle.hmarkup.specs.Comment.{errors_here, is_plain_in_bogus};
-ghost use Rattle.hmarkup.specs.Walk.{BeginsSpans, IsOpen, IsOneSpan, Takes, Ends};
-ghost use Rattle.hmarkup.specs.CommentWalk.{Progress, begun, HasReadOf, IsInComment, IsInBogus, IsSpan};
+ghost use Rattle.hmarkup.specs.Walk.{BeginsSpans, IsOpen, ClosedBy, HasSpan, IsOneSpan, Takes, Ends};
+ghost use Rattle.hmarkup.specs.CommentWalk.{Progress, begun, HasReadOf, IsInComment, IsInBogus, IsSpan, closing_mark};
 ghost use Rattle.hmarkup.specs.Steps.{next};
 
 use crate::sink::ErrorSink;
@@ -204,6 +204,17 @@ impl CommentWalk {
 pub fn goes_on_in_a_span()
     ensures begins { (kind : Kind) (walk : Progress) (text : List Placed) (errors : List Error) → HasReadOf kind walk text errors → BeginsSpans (IsSpan kind) text errors }
     ensures is_open { (kind : Kind) (walk : Progress) (text : List Placed) (errors : List Error) → HasReadOf kind walk text errors → IsOpen (IsSpan kind) text }
+{}
+
+/// What a walk has read is the beginning of a comment that ends: `-->` after it, or `>` after a bogus comment, makes it whole.
+pub fn closing_mark_ends_a_span()
+    ensures { (kind : Kind) (walk : Progress) (text closing : List Placed) (errors : List Error) → HasReadOf kind walk text errors → characters closing ≡ closing_mark kind
+        → ClosedBy (IsSpan kind) text closing }
+{}
+
+/// A comment stands at the front of each text; it may be the whole text.
+pub fn some_span()
+    ensures { (kind : Kind) (end : ℕ) (text : List Placed) → HasSpan (IsSpan kind) end text }
 {}
 
 /// One comment at most stands at the front of a text.

@@ -1,15 +1,15 @@
 //! A doctype, a character at a time.
 
-ghost use Rattle.std.specs.Prelude.{◌≡◌, ◌++◌, ◌∷◌, ℕ, [], List, Option, Some, OnOk};
+ghost use Rattle.std.specs.Prelude.{◌≡◌, ◌++◌, ◌∷◌, ℕ, [], List, Option, Some, OnOk, codes};
 ghost use Rattle.std.specs.Char.{encode_utf8};
 ghost use Rattle.names.specs.declared.error.ParseError.{ParseError as Error};
 ghost use Rattle.names.specs.declared.placed.Placed.{Placed};
-ghost use Rattle.names.specs.Placed.{null_errors, without_null};
+ghost use Rattle.names.specs.Placed.{characters, null_errors, without_null};
 ghost use Rattle.names.specs.Sink.{Hands};
 ghost use Rattle.hmarkup.specs.Doctype.{IsDoctype, force, longer};
 ghost use Rattle.hmarkup.specs.DoctypeSteps.{fault_errors, kept, found_by};
 ghost use Rattle.hmarkup.specs.DoctypeWalk.{Reading, HasReadDoctype, text_of};
-ghost use Rattle.hmarkup.specs.Walk.{BeginsSpans, IsOpen, IsOneSpan, Takes, Ends};
+ghost use Rattle.hmarkup.specs.Walk.{BeginsSpans, IsOpen, ClosedBy, HasSpan, IsOneSpan, Takes, Ends};
 
 use crate::keyword::Identifier;
 use crate::phase::{Keeps, Phase, Step};
@@ -205,6 +205,17 @@ impl DoctypeWalk {
 pub fn goes_on_in_a_doctype()
     ensures begins { (walk : Reading) (text : List Placed) (errors : List Error) → HasReadDoctype walk text errors → BeginsSpans IsDoctype text errors }
     ensures is_open { (walk : Reading) (text : List Placed) (errors : List Error) → HasReadDoctype walk text errors → IsOpen IsDoctype text }
+{}
+
+/// What a walk has read is the beginning of a doctype that ends: `>` after it makes it whole, in quotes too.
+pub fn greater_ends_a_doctype()
+    ensures { (walk : Reading) (text closing : List Placed) (errors : List Error) → HasReadDoctype walk text errors → characters closing ≡ codes ">"
+        → ClosedBy IsDoctype text closing }
+{}
+
+/// A doctype stands at the front of each text; it may be the whole text.
+pub fn some_doctype()
+    ensures { (end : ℕ) (text : List Placed) → HasSpan IsDoctype end text }
 {}
 
 /// One doctype at most stands at the front of a text.

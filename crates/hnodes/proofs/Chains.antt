@@ -93,10 +93,10 @@ module _ {N : Type 0} where
       go l r false = λ i. tree b w (l i) (r i)
 
   one-there : (v : Nodes N) (n : ℕ) → AreNodes v → n < v.made → times n v.trees ≡ 1
-  one-there v n a h = a.once n ∙ rw (le-leb (suc n) v.made (omega arith)) refl
+  one-there v n a h = a.counted.once n ∙ rw (le-leb (suc n) v.made (omega arith)) refl
 
   once-there : (v : Nodes N) (n : ℕ) → AreNodes v → times n v.trees ≤ 1
-  once-there v n a = rw (a.once n) (go (ltb n v.made))
+  once-there v n a = rw (a.counted.once n) (go (ltb n v.made))
     where
       go : (u : Bool) → cond u 1 0 ≤ 1
       go true = omega arith
@@ -117,14 +117,14 @@ module _ {N : Type 0} where
   -- the document is no child
   not_zero : (v : Nodes N) (m : ℕ) → AreNodes v → times 0 (children_of m v.trees) ≡ 0
   not_zero v m a =
-      let o : times 0 (tree 0 document a.begins.0 a.begins.1) ≤ 1 = subst (λ (f : Forest N). times 0 f ≤ 1) a.begins.2 (once-there v 0 a) in
-      let c : times 0 (children_of m (tree 0 document a.begins.0 a.begins.1)) ≡ 0 = go (eqb 0 m) (children-among 0 m a.begins.0) (children-among 0 m a.begins.1) o in
-      rw a.begins.2 c
+      let o : times 0 (tree 0 document a.counted.begins.0 a.counted.begins.1) ≤ 1 = subst (λ (f : Forest N). times 0 f ≤ 1) a.counted.begins.2 (once-there v 0 a) in
+      let c : times 0 (children_of m (tree 0 document a.counted.begins.0 a.counted.begins.1)) ≡ 0 = go (eqb 0 m) (children-among 0 m a.counted.begins.0) (children-among 0 m a.counted.begins.1) o in
+      rw a.counted.begins.2 c
     where
-      go : (u : Bool) → times 0 (children_of m a.begins.0) ≤ times 0 a.begins.0 → times 0 (children_of m a.begins.1) ≤ times 0 a.begins.1 → 1 + (times 0 a.begins.0 + times 0 a.begins.1) ≤ 1
-          → times 0 (cond u a.begins.0 (join (children_of m a.begins.0) (children_of m a.begins.1))) ≡ 0
+      go : (u : Bool) → times 0 (children_of m a.counted.begins.0) ≤ times 0 a.counted.begins.0 → times 0 (children_of m a.counted.begins.1) ≤ times 0 a.counted.begins.1 → 1 + (times 0 a.counted.begins.0 + times 0 a.counted.begins.1) ≤ 1
+          → times 0 (cond u a.counted.begins.0 (join (children_of m a.counted.begins.0) (children_of m a.counted.begins.1))) ≡ 0
       go true x y o = omega arith
-      go false x y o = omega (arith, times-join 0 (children_of m a.begins.0) (children_of m a.begins.1))
+      go false x y o = omega (arith, times-join 0 (children_of m a.counted.begins.0) (children_of m a.counted.begins.1))
 
   -- what there is to show of the move of a first child
   pub record Moves (v : Nodes N) (m p c : ℕ) : Type 0 where

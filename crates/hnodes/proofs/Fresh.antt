@@ -8,6 +8,7 @@ use Rattle.hnodes.specs.declared.node.Place.{Place}
 use Rattle.hnodes.specs.declared.node.Place.TheVariants.{LastIn, Before}
 use Rattle.hnodes.proofs.Forests.{tree_at-absent}
 use Rattle.hnodes.proofs.Spots.{either-none}
+use Rattle.hnodes.proofs.Inside.{tree_at-joined, tree_at-among}
 use Rattle.hnodes.proofs.Opened.{Opened, opened}
 use Rattle.hnodes.proofs.Makes.{made_view}
 use Rattle.hnodes.specs.Links.{alone, whole}
@@ -61,3 +62,16 @@ pub add-outside : (t : Inside) (x : Node) (w : What ℕ) (n : ℕ) → row_of x 
 add-outside t x w n r s same k h =
     subst (λ (m : ℕ). IsOutside k m (whole (length (t.nodes.items ++ x ∷ [])) (look_in (t.nodes.items ++ x ∷ [])))) (sym same)
     (subst (λ (u : Nodes ℕ). IsOutside k (length t.nodes.items) u.trees) (sym (made_view t x w r s)) (made-outside t (nodes_of t) w (opened t (nodes_of t) refl s) k (omega arith)))
+
+-- the new one is in no node that was there
+pub made-apart : (t : Inside) (v : Nodes ℕ) (w : What ℕ) → Opened t v → (k : ℕ) → k < v.made → IsOutside v.made k (make w v).trees
+made-apart t v w o k h =
+    let absent : times v.made v.trees ≡ 0 = o.stands.once v.made ∙ rw (o.made, lt-leb (suc v.made) v.made (omega arith)) refl in
+    let alone : times v.made (tree_at k (tree v.made w none none)) ≡ 0 = rw (ne_eqb v.made k (λ e. omega arith)) refl in
+    omega (arith, tree_at-joined v.made k v.trees (tree v.made w none none), tree_at-among v.made k v.trees)
+
+pub add-apart : (t : Inside) (x : Node) (w : What ℕ) (n : ℕ) → row_of x ≡ alone w → IsTree t → n ≡ length t.nodes.items
+    → (k : ℕ) → k < n → IsOutside n k (whole (length (t.nodes.items ++ x ∷ [])) (look_in (t.nodes.items ++ x ∷ [])))
+add-apart t x w n r s same k h =
+    subst (λ (m : ℕ). IsOutside m k (whole (length (t.nodes.items ++ x ∷ [])) (look_in (t.nodes.items ++ x ∷ [])))) (sym same)
+    (subst (λ (u : Nodes ℕ). IsOutside (length t.nodes.items) k u.trees) (sym (made_view t x w r s)) (made-apart t (nodes_of t) w (opened t (nodes_of t) refl s) k (omega arith)))

@@ -9,10 +9,10 @@ use Rattle.hnodes.proofs.Families.{Sited, at_root, in_kids, in_rest, sited, fami
 use Rattle.hnodes.proofs.Cuts.{here-row, below-row}
 
 module _ {N : Type 0} where
-  tree_at-among : (n top : ℕ) (f : Forest N) → times n (tree_at top f) ≤ times n f
+  pub tree_at-among : (n top : ℕ) (f : Forest N) → times n (tree_at top f) ≤ times n f
   tree_at-among n top f = omega (arith, times-cut n top f)
 
-  tree_at-joined : (n top : ℕ) (f g : Forest N) → times n (tree_at top (join f g)) ≤ times n (tree_at top f) + times n (tree_at top g)
+  pub tree_at-joined : (n top : ℕ) (f g : Forest N) → times n (tree_at top (join f g)) ≤ times n (tree_at top f) + times n (tree_at top g)
   tree_at-joined n top none g = omega arith
   tree_at-joined n top (tree b w kids rest) g = go (eqb b top) (tree_at-joined n top rest g)
     where

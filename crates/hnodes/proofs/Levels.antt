@@ -5,7 +5,7 @@ use Rattle.hnodes.specs.Forest.{What, Forest, none, tree, times, join, tree_at, 
 use Rattle.hnodes.proofs.Forests.{join-none, cut-absent, tree_at-absent, children_of-absent, change_children-absent}
 
 module _ {N : Type 0} where
-  put_before-absent : (n : ℕ) (t f : Forest N) → times n f ≡ 0 → put_before n t f ≡ f
+  pub put_before-absent : (n : ℕ) (t f : Forest N) → times n f ≡ 0 → put_before n t f ≡ f
   put_before-absent n t none h = refl
   put_before-absent n t (tree b w kids rest) h = go (put_before-absent n t kids) (put_before-absent n t rest) (eqb b n) h
     where

@@ -23,3 +23,8 @@ pub mod Chains
 pub mod Spellings
 pub mod Inside
 pub mod Climbs
+pub mod Counts
+pub mod Deep
+pub mod DeepEdits
+pub mod Counted
+pub mod Outside

@@ -73,8 +73,10 @@ are_nodes t v o =
     let count = length t.nodes.items in
     let first = loose-begins (look_in t.nodes.items) count (let h = begun_made t v o in omega (arith, o.made)) (document-loose (look_in t.nodes.items 0) o.begun) in
     record {
-      once = λ n. (o.stands.once n ∙ ap (λ m. cond (ltb n m) 1 0) o.made);
-      begins = begins (look_in t.nodes.items) v.trees first.0 (o.stands.loose_ones ∙ first.1) o.stands.rows o.begun;
+      counted = record {
+        once = λ n. (o.stands.once n ∙ ap (λ m. cond (ltb n m) 1 0) o.made);
+        begins = begins (look_in t.nodes.items) v.trees first.0 (o.stands.loose_ones ∙ first.1) o.stands.rows o.begun;
+      };
       fits = omega (arith, o.made, o.limit, o.fits);
     }
 

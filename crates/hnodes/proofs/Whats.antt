@@ -32,7 +32,7 @@ module _ {N : Type 0} (n : ℕ) (g : What N → What N) where
   size-what none = refl
   size-what (tree b w kids rest) = omega (arith, size-what kids, size-what rest)
 
-  times-what : (m : ℕ) (f : Forest N) → times m (change_what n g f) ≡ times m f
+  pub times-what : (m : ℕ) (f : Forest N) → times m (change_what n g f) ≡ times m f
   times-what m none = refl
   times-what m (tree b w kids rest) = omega (arith, times-what m kids, times-what m rest)
 

@@ -17,10 +17,14 @@ abbrev pub place_node : Place → ℕ
 place_node (LastIn p) = p
 place_node (Before s) = s
 
--- what the nodes of a tree always are: each number below the count is there once, and no other; the document's tree comes first
+-- nodes that are counted: each number below the count is there once, and no other; the document's tree comes first
+pub record AreCounted {N : Type 0} (made : ℕ) (f : Forest N) : Type 0 where
+  pub once : (n : ℕ) → times n f ≡ (if ltb n made then 1 else 0)
+  pub begins : (kids : Forest N) × (rest : Forest N) × (f ≡ tree 0 document kids rest)
+
+-- what the nodes of a tree always are
 pub record AreNodes {N : Type 0} (t : Nodes N) : Type 0 where
-  pub once : (n : ℕ) → times n t.trees ≡ (if ltb n t.made then 1 else 0)
-  pub begins : (kids : Forest N) × (rest : Forest N) × (t.trees ≡ tree 0 document kids rest)
+  pub counted : AreCounted t.made t.trees
   pub fits : t.made ≤ t.limit
 
 module _ {N : Type 0} where

@@ -1,10 +1,11 @@
 //! A tree as one value.
 
-ghost use Rattle.std.specs.Prelude.{◌≡◌, ◌<◌, ◌≤◌, ◌↔◌, ◌⊎◌, ℕ, Some, None, OnOk, OnErr, IfOk, IfErr, IfSome, IsSome, IsFalse, map, string_bytes, leb, if◌then◌else◌};
+ghost use Rattle.std.specs.Prelude.{◌≡◌, ◌<◌, ◌≤◌, ◌↔◌, ◌⊎◌, ℕ, Some, None, OnOk, OnErr, IfOk, IfErr, IfSome, IsSome, IsFalse, IsTrue, map, string_bytes, leb, if◌then◌else◌};
 ghost use Rattle.std.specs.Option.{option_map};
 ghost use Rattle.hnodes.specs.Forest.{document, doctype, element, comment, text, tree, none, change_what, IsOutside};
 ghost use Rattle.hnodes.specs.Spots.{parent_of, first_child_of, last_child_of, next_of, previous_of, kind_of, name_of, attributes_of, text_of, doctype_of};
 ghost use Rattle.hnodes.specs.Edits.{make, graft, graft_last, graft_before, move_all, add_attribute, add_char, with_char, text_before, IsPlace, place_node, AreNodes};
+ghost use Rattle.hnodes.specs.declared.node.Place.{Place};
 ghost use Rattle.hnodes.specs.Rows.{attribute_of, content_is, doctype_texts};
 ghost use Rattle.names.specs.declared.refusal.Refusal.TheVariants.{TooManyNodes, Memory};
 ghost use Rattle.std.specs.Char.{encode_utf8};
@@ -59,10 +60,18 @@ impl Tree {
     /// The number of the document.
     pub fn document(&self) -> NodeId
         ensures number { result ≡ 0 }
+        ensures within { result < self.now.made }
         ensures nodes { AreNodes self.now }
     {
         prove!(!self.nodes.is_empty());
         NodeId { number: 0 }
+    }
+
+    /// Whether a node was made.
+    pub fn has(&self, node: NodeId) -> bool
+        ensures { IsTrue result ↔ (node < self.now.made) }
+    {
+        node.number < self.made()
     }
 
     /// How many nodes were made, the document among them.
@@ -85,6 +94,8 @@ impl Tree {
         ensures ok { OnOk result (self.new ≡ make (element name (map attribute_of attrs.items)) self.old) }
         ensures number { IfOk result (λ n. (n ≡ self.old.made) × (0 < n)) }
         ensures outside { IfOk result (λ n. (k : ℕ) → k < n → IsOutside k n self.new.trees) }
+        ensures apart { IfOk result (λ n. (k : ℕ) → k < n → IsOutside n k self.new.trees) }
+        ensures places { IfOk result (λ n. (p : Place) → IsPlace p self.old → IsPlace p self.new) }
         ensures full { (result ≡ Err (TooManyNodes at)) ↔ (self.old.limit ≤ self.old.made) }
         ensures refused { IfErr result (λ e. (e ≡ TooManyNodes at) ⊎ (e ≡ Memory)) }
         ensures err { OnErr result (self.new ≡ self.old) }
@@ -98,6 +109,8 @@ impl Tree {
         ensures ok { OnOk result (self.new ≡ make (comment (string_bytes text)) self.old) }
         ensures number { IfOk result (λ n. (n ≡ self.old.made) × (0 < n)) }
         ensures outside { IfOk result (λ n. (k : ℕ) → k < n → IsOutside k n self.new.trees) }
+        ensures apart { IfOk result (λ n. (k : ℕ) → k < n → IsOutside n k self.new.trees) }
+        ensures places { IfOk result (λ n. (p : Place) → IsPlace p self.old → IsPlace p self.new) }
         ensures full { (result ≡ Err (TooManyNodes at)) ↔ (self.old.limit ≤ self.old.made) }
         ensures refused { IfErr result (λ e. (e ≡ TooManyNodes at) ⊎ (e ≡ Memory)) }
         ensures err { OnErr result (self.new ≡ self.old) }
@@ -111,6 +124,8 @@ impl Tree {
         ensures ok { OnOk result (self.new ≡ make (doctype (string_bytes texts.name) (string_bytes texts.public_id) (string_bytes texts.system_id)) self.old) }
         ensures number { IfOk result (λ n. (n ≡ self.old.made) × (0 < n)) }
         ensures outside { IfOk result (λ n. (k : ℕ) → k < n → IsOutside k n self.new.trees) }
+        ensures apart { IfOk result (λ n. (k : ℕ) → k < n → IsOutside n k self.new.trees) }
+        ensures places { IfOk result (λ n. (p : Place) → IsPlace p self.old → IsPlace p self.new) }
         ensures full { (result ≡ Err (TooManyNodes at)) ↔ (self.old.limit ≤ self.old.made) }
         ensures refused { IfErr result (λ e. (e ≡ TooManyNodes at) ⊎ (e ≡ Memory)) }
         ensures err { OnErr result (self.new ≡ self.old) }
@@ -125,6 +140,8 @@ impl Tree {
         ensures ok { OnOk result (self.new ≡ make (text (encode_utf8 c)) self.old) }
         ensures number { IfOk result (λ n. (n ≡ self.old.made) × (0 < n)) }
         ensures outside { IfOk result (λ n. (k : ℕ) → k < n → IsOutside k n self.new.trees) }
+        ensures apart { IfOk result (λ n. (k : ℕ) → k < n → IsOutside n k self.new.trees) }
+        ensures places { IfOk result (λ n. (p : Place) → IsPlace p self.old → IsPlace p self.new) }
         ensures full { (result ≡ Err (TooManyNodes at)) ↔ (self.old.limit ≤ self.old.made) }
         ensures refused { IfErr result (λ e. (e ≡ TooManyNodes at) ⊎ (e ≡ Memory)) }
         ensures err { OnErr result (self.new ≡ self.old) }
@@ -151,6 +168,8 @@ impl Tree {
         ensures ok { OnOk result (self.new ≡ make (content_is content) self.old) }
         ensures number { IfOk result (λ n. (n ≡ self.old.made) × (0 < n)) }
         ensures outside { IfOk result (λ n. (k : ℕ) → k < n → IsOutside k n self.new.trees) }
+        ensures apart { IfOk result (λ n. (k : ℕ) → k < n → IsOutside n k self.new.trees) }
+        ensures places { IfOk result (λ n. (p : Place) → IsPlace p self.old → IsPlace p self.new) }
         ensures memory { IfErr result (λ e. e ≡ Memory) }
         ensures err { OnErr result (self.new ≡ self.old) }
     {
@@ -189,14 +208,31 @@ impl Tree {
         }
     }
 
+    /// Moves a node from where it stands to a place.
+    pub fn insert(&mut self, child: NodeId, place: Place)
+        requires child_in { child < self.old.made }
+        requires place { IsPlace place self.old }
+        requires not_document { 0 < child }
+        requires not_inside { IsOutside (place_node place) child self.old.trees }
+        ensures { self.new ≡ record self.old { trees = graft child place self.old.trees } }
+    {
+        match place {
+            Place::LastIn(parent) => self.append(child, parent),
+            Place::Before(sibling) => self.insert_before(child, sibling),
+        }
+    }
+
     /// The children of a node leave it and become the last children of another, in their order. It takes as many steps as there
     /// are children.
     pub fn move_children(&mut self, from: NodeId, to: NodeId)
         requires from_in { from < self.old.made }
         requires to_in { to < self.old.made }
         requires not_inside { IsOutside to from self.old.trees }
-        ensures { self.new ≡ record self.old { trees = move_all from to self.old.trees } }
+        ensures moved { self.new ≡ record self.old { trees = move_all from to self.old.trees } }
+        ensures outside { IsOutside from to self.old.trees → IsOutside from to self.new.trees }
     {
+        // The document is there, so the nodes are counted before the first of them moves.
+        prove!(!self.nodes.is_empty());
         while let Some(child) = self.first_child(from) {
             self.append(child, to);
         }
@@ -216,7 +252,7 @@ impl Tree {
             Some(text) => self.lengthen(text, c),
             None => {
                 let text = self.create_text(c, at)?;
-                self.graft(text, place);
+                self.insert(text, place);
                 Ok(())
             }
         }
@@ -230,20 +266,6 @@ impl Tree {
         ensures err { OnErr result (self.new ≡ self.old) }
     {
         push_char(&mut self.nodes, text, c)
-    }
-
-    /// A node leaves where it stands and comes to a place.
-    fn graft(&mut self, child: NodeId, place: Place)
-        requires child_in { child < self.old.made }
-        requires place { IsPlace place self.old }
-        requires not_document { 0 < child }
-        requires not_inside { IsOutside (place_node place) child self.old.trees }
-        ensures { self.new ≡ record self.old { trees = graft child place self.old.trees } }
-    {
-        match place {
-            Place::LastIn(parent) => self.append(child, parent),
-            Place::Before(sibling) => self.insert_before(child, sibling),
-        }
     }
 
     /// The text right before a place.

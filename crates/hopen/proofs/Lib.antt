@@ -5,4 +5,4 @@ pub mod ItemLists
 pub mod Earliest
 pub mod Sameness
 pub mod Bookmarks
-mod Spellings
+pub mod Spellings

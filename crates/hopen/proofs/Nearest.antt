@@ -1,6 +1,6 @@
 -- A vector whose last member is the nearest, and what an edit of it is in the words on lists.
 use Rattle.std.proofs.Common.{◌≡◌, ℕ, zero, suc, ◌+◌, ◌<◌, ◌≤◌, Bool, true, false, cond, ltb, not, List, [], ◌∷◌, ◌++◌, Option, Some, None, length, get_or, set, take, drop, map, reverse, ◌||◌, ◌⊎◌, inl, inr, refl, sym, ◌∙◌, ap, arith}
-use Rattle.std.specs.List.{insert, remove, slice_get, position, position_or_len, list_any}
+use Rattle.std.specs.List.{find, insert, remove, slice_get, position, position_or_len, list_any}
 use Rattle.std.specs.Option.{is_some, IfSome}
 use Rattle.std.proofs.lemmas.Bool.{ltb-true, ltb-false, lt-ltb, le-ltb, cases_lt}
 use Rattle.std.proofs.lemmas.List.{map-append, reverse-append, append_assoc, length-map, length-reverse, length-drop, take-append-drop, set_split, take_at, drop_at, get_or-map, get_or-reverse}
@@ -15,18 +15,19 @@ module _ {Y : Type 0} (sought : Y → Bool) where
     pub without_is : without sought ys ≡ take up ys ++ drop (suc up) ys
     pub changed_is : (g : Y → Y) → changed sought g ys ≡ changed_at up g ys
     pub put_is : (y : Y) → put_before sought y ys ≡ take up ys ++ y ∷ drop up ys
+    pub find_is : find sought ys ≡ slice_get ys up
 
   words_at : (ys : List Y) (up : ℕ) → position_or_len sought ys ≡ up → up < length ys → Words ys up
   words_at [] up e h = absurd (omega arith)
   words_at (y ∷ ys) up e h = go (sought y) refl up (words_at ys) e h
     where
       go : (v : Bool) → sought y ≡ v → (up : ℕ) → ((n : ℕ) → position_or_len sought ys ≡ n → n < length ys → Words ys n) → cond (not v) (1 + position_or_len sought ys) 0 ≡ up → up < suc (length ys) → Words (y ∷ ys) up
-      go true s zero i e h = record { before_is = rw s refl; after_is = rw s refl; without_is = rw s refl; changed_is = λ g. rw s refl; put_is = λ z. rw s refl }
+      go true s zero i e h = record { before_is = rw s refl; after_is = rw s refl; without_is = rw s refl; changed_is = λ g. rw s refl; put_is = λ z. rw s refl; find_is = rw s refl }
       go true s (suc up) i e h = absurd (omega arith)
       go false s zero i e h = absurd (omega arith)
       go false s (suc up) i e h =
           let w : Words ys up = i up (omega arith) (omega arith) in
-          record { before_is = rw (s, w.before_is) refl; after_is = rw s w.after_is; without_is = rw (s, w.without_is) refl; changed_is = λ g. rw (s, w.changed_is g) refl; put_is = λ z. rw (s, w.put_is z) refl }
+          record { before_is = rw (s, w.before_is) refl; after_is = rw s w.after_is; without_is = rw (s, w.without_is) refl; changed_is = λ g. rw (s, w.changed_is g) refl; put_is = λ z. rw (s, w.put_is z) refl; find_is = rw s w.find_is }
 
   position_is : (ys : List Y) (up : ℕ) → position sought ys ≡ Some up → (up < length ys) × (position_or_len sought ys ≡ up)
   position_is ys up e =
@@ -43,6 +44,15 @@ module _ {Y : Type 0} (sought : Y → Bool) where
       go None e = tt
       go (Some up) e = (position_is ys up e).0
 
+  -- one that is sought leaves
+  pub length-without : (ys : List Y) → list_any sought ys ≡ true → length (without sought ys) + 1 ≡ length ys
+  length-without [] e = cc
+  length-without (y ∷ ys) e = go (sought y) (length-without ys) e
+    where
+      go : (v : Bool) → (list_any sought ys ≡ true → length (without sought ys) + 1 ≡ length ys) → (v || list_any sought ys) ≡ true → length (cond v ys (y ∷ without sought ys)) + 1 ≡ suc (length ys)
+      go true i e = omega arith
+      go false i e = omega (arith, i e)
+
   -- and where none is sought
   pub record NoWords (ys : List Y) : Type 0 where
     pub before_is : before sought ys ≡ ys
@@ -50,16 +60,17 @@ module _ {Y : Type 0} (sought : Y → Bool) where
     pub without_is : without sought ys ≡ ys
     pub changed_is : (g : Y → Y) → changed sought g ys ≡ ys
     pub put_is : (y : Y) → put_before sought y ys ≡ ys
+    pub find_is : find sought ys ≡ None
 
   no_words_at : (ys : List Y) → length ys ≤ position_or_len sought ys → NoWords ys
-  no_words_at [] h = record { before_is = refl; after_is = refl; without_is = refl; changed_is = λ g. refl; put_is = λ z. refl }
+  no_words_at [] h = record { before_is = refl; after_is = refl; without_is = refl; changed_is = λ g. refl; put_is = λ z. refl; find_is = refl }
   no_words_at (y ∷ ys) h = go (sought y) refl (no_words_at ys) h
     where
       go : (v : Bool) → sought y ≡ v → (length ys ≤ position_or_len sought ys → NoWords ys) → suc (length ys) ≤ cond (not v) (1 + position_or_len sought ys) 0 → NoWords (y ∷ ys)
       go true s i h = absurd (omega arith)
       go false s i h =
           let w : NoWords ys = i (omega arith) in
-          record { before_is = rw (s, w.before_is) refl; after_is = rw s w.after_is; without_is = rw (s, w.without_is) refl; changed_is = λ g. rw (s, w.changed_is g) refl; put_is = λ z. rw (s, w.put_is z) refl }
+          record { before_is = rw (s, w.before_is) refl; after_is = rw s w.after_is; without_is = rw (s, w.without_is) refl; changed_is = λ g. rw (s, w.changed_is g) refl; put_is = λ z. rw (s, w.put_is z) refl; find_is = rw s w.find_is }
 
   pub no_words : (ys : List Y) → position sought ys ≡ None → NoWords ys
   no_words ys e = no_words_at ys (go (ltb (position_or_len sought ys) (length ys)) refl e)

@@ -1,10 +1,10 @@
 -- What is seen of the open nodes after an edit of their vector.
-use Rattle.std.proofs.Common.{◌≡◌, ℕ, suc, ◌+◌, ◌-◌, ◌<◌, Bool, List, Option, Some, None, length, take, map, reverse, refl, sym, ap, subst, arith, MatchOption}
+use Rattle.std.proofs.Common.{◌≡◌, ℕ, suc, ◌+◌, ◌-◌, ◌<◌, Bool, List, Option, Some, None, length, take, map, reverse, refl, sym, ◌∙◌, ap, subst, arith, MatchOption}
 use Rattle.std.specs.List.{position}
-use Rattle.std.proofs.lemmas.List.{length-map, length-reverse}
+use Rattle.std.proofs.lemmas.List.{length-drop, length-map, length-reverse}
 use Rattle.std.specs.Option.{unwrap_or, IfSome}
 use Rattle.hopen.specs.Nearest.{after}
-use Rattle.hopen.proofs.Nearest.{no_words, take_to_nearest}
+use Rattle.hopen.proofs.Nearest.{words, no_words, take_to_nearest}
 use Rattle.hopen.specs.Stack.{OpenNode, OpenNodes}
 use Rattle.hopen.specs.Opens.{open_of}
 use Rattle.hopen.specs.StackView.{open_nodes_of}
@@ -50,3 +50,9 @@ pub left_above : (s : Inside) (n : OpenNodes ℕ) (sought : OpenNode ℕ → Boo
     → reverse (map open_of (take (unwrap_or o 0) s.items.items)) ≡ after sought (reverse (map open_of s.items.items))
 left_above s n sought None e p h = sym (no_words sought (reverse (map open_of s.items.items)) (not_found s n sought e p)).after_is
 left_above s n sought (Some i) e p h = let f = found s n sought i e p h in take_to_nearest open_of sought s.items.items i f.up f.place f.sum
+
+-- how many nodes are above an index, or none where none is found
+pub depth_is : {X : Type 0} (sought : X → Bool) (ys : List X) (o : Option ℕ) → MatchOption o (position sought ys ≡ None) (λ i. position sought ys ≡ Some (length ys - 1 - i)) → IfSome o (λ i. i < length ys)
+    → unwrap_or o 0 ≡ length (after sought ys)
+depth_is sought ys None p h = ap length (sym (no_words sought ys p).after_is)
+depth_is sought ys (Some i) p h = sym (ap length (words sought ys (length ys - 1 - i) p).after_is ∙ omega (arith, length-drop (suc (length ys - 1 - i)) ys))

@@ -147,6 +147,13 @@ impl Formatting {
         }
     }
 
+    /// How many items there are.
+    pub fn len(&self) -> usize
+        ensures { result ≡ length self.now }
+    {
+        self.items.len()
+    }
+
     /// The last entry of a name after the last marker.
     pub fn find(&self, name: NameId) -> Option<&Entry>
         ensures { option_map (λ e. entry_is e.now) result ≡ find_entry nat_eq name self.now }

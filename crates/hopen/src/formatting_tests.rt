@@ -188,7 +188,8 @@ impl Twice {
 
     /// Whether both say the same of all places and all nodes.
     fn agrees(&self, kit: &Kit) -> bool {
-        (0..self.plain.len().wrapping_add(1)).all(|back| self.agrees_at(kit, back))
+        self.list.len() == self.plain.len()
+            && (0..self.plain.len().wrapping_add(1)).all(|back| self.agrees_at(kit, back))
             && kit.nodes.iter().all(|node| self.agrees_on(kit, *node))
     }
 }

@@ -1,21 +1,22 @@
 //! The stack of open elements (HTML Standard, 13.2.4.2).
 
 ghost use Rattle.std.specs.Prelude.{◌≡◌, ◌≤◌, ◌↔◌, ◌⊎◌, [], ◌∷◌, OnOk, OnErr, IfErr, IfSome, MatchOption, ◌<◌, ◌-◌, length, drop, reverse, nat_eq, leb, if◌then◌else◌};
-ghost use Rattle.std.specs.List.{position, slice_get};
+ghost use Rattle.std.specs.List.{find, position, slice_get};
 ghost use Rattle.std.specs.Option.{option_map};
 ghost use Rattle.hopen.specs.Nearest.{after, without, changed, put_before};
 ghost use Rattle.hopen.specs.Stack.{is_node, is_open, current as current_of, above as above_of, in_scope as is_in_scope, furthest_block as furthest_block_of};
 ghost use Rattle.hopen.specs.Scopes.{stops as stops_node, is_named, is_of};
 ghost use Rattle.hopen.specs.Opens.{open_of, is_sought};
 ghost use Rattle.names.specs.Tags.{tag_of};
+ghost use Rattle.names.specs.Sets.{is_special};
 ghost use Rattle.names.specs.declared.refusal.Refusal.TheVariants.{TooDeep, Memory};
 ghost use Rattle.hopen.specs.declared.scope.Scope.TheVariants.{Default};
 
 use crate::scope::{Group, Scope};
-use crate::sought::{Sought, first_special, is_in_scope, nearest};
+use crate::sought::{Sought, Stops, first_special, is_in_scope, nearest};
 use hnodes::NodeId;
 use names::{NameId, Refusal};
-use std::alloc::Global;
+use std::alloc::{AllocError, Global};
 use std::marker::Model;
 
 /// An open node and its name.
@@ -120,12 +121,14 @@ impl OpenStack {
     }
 
     /// Another node in the place of one that is open.
-    pub fn replace(&mut self, node: NodeId, by: Open)
-        ensures { self.new ≡ record self.old { stack = changed (is_node node) (λ _. open_of by) self.old.stack } }
+    pub fn replace(&mut self, node: NodeId, by: Open) -> Result<(), AllocError>
+        ensures ok { OnOk result (self.new ≡ record self.old { stack = changed (is_node node) (λ _. open_of by) self.old.stack }) }
+        ensures err { OnErr result (self.new ≡ self.old) }
     {
         if let Some(index) = self.index(Sought::Node(node)) {
             self.items[index] = by;
         }
+        Ok(())
     }
 
     /// One more node right below one that is open; none where it is not open. `at` is the place of the token.
@@ -154,6 +157,14 @@ impl OpenStack {
         ensures { result ≡ is_in_scope (stops_node tag_of scope) (is_named nat_eq name) self.now.stack }
     {
         self.is_in_scope(scope, Sought::Name(name))
+    }
+
+    /// Whether, going up from the current node, an element of a name is met before a special element that does not have it: the search
+    /// of "any other end tag" (13.2.6.4.7).
+    pub fn before_special(&self, name: NameId) -> bool
+        ensures { result ≡ is_in_scope (λ x. is_special (tag_of x.name)) (is_named nat_eq name) self.now.stack }
+    {
+        is_in_scope(&self.items, Stops::Special, Sought::Name(name))
     }
 
     /// Whether a node is in scope, without further words.
@@ -200,7 +211,22 @@ impl OpenStack {
         ensures place { result ≡ position (is_node node) self.now.stack }
         ensures within { IfSome result (λ up. up < length self.now.stack) }
     {
-        self.nearest(Sought::Node(node))
+        self.place_of(Sought::Node(node))
+    }
+
+    /// How many open nodes are above a node, 0 where it is not open.
+    pub fn depth(&self, node: NodeId) -> usize
+        ensures { result ≡ length (above_of node self.now.stack) }
+    {
+        self.index(Sought::Node(node)).unwrap_or(0)
+    }
+
+    /// The nearest open node of a name.
+    pub fn nearest(&self, name: NameId) -> Option<Open>
+        ensures { option_map open_of result ≡ find (is_named nat_eq name) self.now.stack }
+    {
+        let index = self.index(Sought::Name(name))?;
+        Some(self.items[index])
     }
 
     /// The open node right above a node.
@@ -230,7 +256,7 @@ impl OpenStack {
     }
 
     /// How many open nodes are below the nearest that is sought.
-    fn nearest(&self, sought: Sought) -> Option<usize>
+    fn place_of(&self, sought: Sought) -> Option<usize>
         ensures place { result ≡ position (is_sought sought) self.now.stack }
         ensures within { IfSome result (λ up. up < length self.now.stack) }
     {
@@ -242,7 +268,7 @@ impl OpenStack {
         ensures found { MatchOption result (position (is_sought sought) self.now.stack ≡ None) (λ i. position (is_sought sought) self.now.stack ≡ Some (length self.now.stack - 1 - i)) }
         ensures within { IfSome result (λ i. i < length self.now.stack) }
     {
-        let up = self.nearest(sought)?;
+        let up = self.place_of(sought)?;
         Some(self.items.len() - 1 - up)
     }
 
@@ -258,6 +284,6 @@ impl OpenStack {
     fn is_in_scope(&self, scope: Scope, sought: Sought) -> bool
         ensures { result ≡ is_in_scope (stops_node tag_of scope) (is_sought sought) self.now.stack }
     {
-        is_in_scope(&self.items, scope, sought)
+        is_in_scope(&self.items, Stops::Of(scope), sought)
     }
 }

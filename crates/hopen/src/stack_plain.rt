@@ -135,6 +135,29 @@ impl Plain {
         false
     }
 
+    pub(crate) fn before_special(&self, name: NameId) -> bool {
+        for open in &self.nodes {
+            if open.name == name {
+                return true;
+            }
+            if open.name.tag().is_special() {
+                return false;
+            }
+        }
+        false
+    }
+
+    pub(crate) fn nearest(&self, name: NameId) -> Option<Open> {
+        self.get(self.position(Wanted::Name(name))?)
+    }
+
+    pub(crate) fn depth(&self, node: NodeId) -> usize {
+        match self.position(Wanted::Node(node)) {
+            Some(up) => self.nodes.len() - 1 - up,
+            None => 0,
+        }
+    }
+
     pub(crate) fn get(&self, up: usize) -> Option<Open> {
         self.nodes.get(up).copied()
     }

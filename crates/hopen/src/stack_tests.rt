@@ -150,7 +150,7 @@ fn edit(stack: &mut OpenStack, plain: &mut Plain, supply: &mut Supply) -> Result
             let node = supply.node();
             let by = supply.open();
             let copy = by;
-            stack.replace(node, copy);
+            stack.replace(node, copy)?;
             plain.replace(node, by);
         }
         11 | 12 | 13 => return insert(stack, plain, supply),
@@ -176,6 +176,7 @@ fn answer_alike(stack: &OpenStack, plain: &Plain, node: NodeId) -> bool {
     let place = plain.position(Wanted::Node(node));
     stack.place(node) == place
         && stack.contains(node) == place.is_some()
+        && stack.depth(node) == plain.depth(node)
         && stack.above(node) == plain.above(node)
         && stack.furthest_block(node) == plain.furthest_block(node)
         && stack.node_in_scope(node) == plain.is_in_scope(Scope::Default, Wanted::Node(node))
@@ -188,6 +189,8 @@ fn find_alike(stack: &OpenStack, plain: &Plain, supply: &mut Supply) -> bool {
     let (group, wanted) = supply.group();
     stack.in_scope(scope, name) == plain.is_in_scope(scope, Wanted::Name(name))
         && stack.group_in_scope(scope, group) == plain.is_in_scope(scope, wanted)
+        && stack.before_special(name) == plain.before_special(name)
+        && stack.nearest(name) == plain.nearest(name)
 }
 
 #[test]
@@ -249,6 +252,10 @@ fn the_adoption_agency_has_its_questions(rt: HostRuntime) -> Result<(), Fail> {
     assert_eq!(rt; stack.place(opens[2].node), Some(3));
     assert_eq!(rt; stack.above(opens[2].node), Some(opens[1]));
     assert_eq!(rt; stack.above(opens[0].node), None);
+    assert_eq!(rt; stack.depth(opens[2].node), 2);
+    assert_eq!(rt; stack.nearest(opens[3].name), Some(opens[3]));
+    assert!(rt; !stack.before_special(opens[4].name));
+    assert!(rt; stack.before_special(opens[5].name));
     assert_eq!(rt; stack.furthest_block(opens[2].node), Some(opens[3]));
     assert_eq!(rt; stack.furthest_block(opens[4].node), Some(opens[5]));
     assert_eq!(rt; stack.furthest_block(opens[5].node), None);
@@ -265,7 +272,7 @@ fn the_adoption_agency_has_its_edits(rt: HostRuntime) -> Result<(), Fail> {
     stack.insert_below(opens[3].node, opens[6], PLACE)?;
     assert_eq!(rt; stack.get(2), Some(opens[6]));
     assert_eq!(rt; stack.get(3), Some(opens[3]));
-    stack.replace(opens[4].node, opens[2]);
+    stack.replace(opens[4].node, opens[2])?;
     assert_eq!(rt; stack.get(1), Some(opens[2]));
     stack.pop_to_node(opens[6].node);
     assert_eq!(rt; stack.pop(), Some(opens[3]));

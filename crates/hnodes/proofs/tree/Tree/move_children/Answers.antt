@@ -1,6 +1,17 @@
-use Rattle.std.proofs.Common.{sym, ◌∙◌}
+use Rattle.std.proofs.Common.{refl, sym, ◌∙◌}
 use Rattle.hnodes.proofs.Chains.{moves, none-left}
+use Rattle.hnodes.proofs.Outside.{moved-outside}
+use Rattle.hnodes.proofs.Opened.{opened, are_nodes}
 use Rattle.hnodes.proofs.tree.Tree.move_children.Goals as goal
+
+pub loop-child-init : goal.loop-child-init
+loop-child-init c = record {
+  limit = refl;
+  made = refl;
+  outside = c.requires.not_inside;
+  nodes = are_nodes c.self.inside c.args.self.now (opened c.self.inside c.args.self.now c.self.view_is c.self.invariant);
+  same = refl;
+}
 
 pub append-requires-clause-not_document : goal.append-requires-clause-not_document
 append-requires-clause-not_document c = (moves c.loop-child.self c.args.from c.args.to c.in-Some.child c.in-Some.ensures.nodes (rw c.loop-child.invariant.made c.requires.from_in) (rw c.loop-child.invariant.made c.requires.to_in) c.loop-child.invariant.outside (sym c.in-Some.ensures.child)).not_document
@@ -15,11 +26,16 @@ pub loop-child-preserved : goal.loop-child-preserved
 loop-child-preserved c = rw c.append.ensures (record {
   limit = c.loop-child.invariant.limit;
   made = c.loop-child.invariant.made;
+  nodes = c.loop-child.invariant.nodes;
   outside = (moves c.loop-child.self c.args.from c.args.to c.in-Some.child c.in-Some.ensures.nodes (rw c.loop-child.invariant.made c.requires.from_in) (rw c.loop-child.invariant.made c.requires.to_in) c.loop-child.invariant.outside (sym c.in-Some.ensures.child)).outside;
   same = (moves c.loop-child.self c.args.from c.args.to c.in-Some.child c.in-Some.ensures.nodes (rw c.loop-child.invariant.made c.requires.from_in) (rw c.loop-child.invariant.made c.requires.to_in) c.loop-child.invariant.outside (sym c.in-Some.ensures.child)).same ∙ c.loop-child.invariant.same;
 })
 
-pub returns : goal.returns
-returns c =
+pub returns-clause-moved : goal.returns-clause-moved
+returns-clause-moved c =
     let trees = sym (none-left c.loop-child.self c.args.from c.args.to c.in_default.ensures.nodes (rw c.loop-child.invariant.made c.requires.from_in) (sym c.in_default.ensures.child)) ∙ c.loop-child.invariant.same in
     λ i. record { limit = c.loop-child.invariant.limit i; made = c.loop-child.invariant.made i; trees = trees i }
+
+pub returns-clause-outside : goal.returns-clause-outside
+returns-clause-outside c out =
+    rw (returns-clause-moved c) (moved-outside c.args.self.now.made c.args.self.now.trees c.loop-child.invariant.nodes.counted c.args.from c.args.to c.requires.from_in c.requires.to_in c.requires.not_inside out)

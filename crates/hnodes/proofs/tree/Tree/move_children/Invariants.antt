@@ -1,6 +1,6 @@
 use Rattle.std.proofs.Common.{◌≡◌}
 use Rattle.hnodes.specs.Forest.{size, children_of, IsOutside}
-use Rattle.hnodes.specs.Edits.{move_all}
+use Rattle.hnodes.specs.Edits.{AreNodes, move_all}
 use Rattle.hnodes.proofs.tree.Tree.move_children.Given as goal
 
 abbrev pub invariant-loop-child : goal.invariant-loop-child
@@ -8,6 +8,7 @@ invariant-loop-child l = record {
   limit : l.self.limit ≡ l.initial.self.limit;
   made : l.self.made ≡ l.initial.self.made;
   outside : IsOutside l.to l.from l.self.trees;
+  nodes : AreNodes l.initial.self;
   same : move_all l.from l.to l.self.trees ≡ move_all l.from l.to l.initial.self.trees;
 }
 

@@ -4,9 +4,9 @@ use Rattle.hnodes.specs.Edits.{place_node}
 use Rattle.hnodes.proofs.Fresh.{place-made, place-under}
 use Rattle.hnodes.proofs.tree.Tree.put_char.Goals as goal
 
-pub graft-requires-clause-place : goal.graft-requires-clause-place
-graft-requires-clause-place c = rw c.in_ok-text-in-None.ensures.ok (place-made c.args.place c.args.self.now (text (encode_utf8 c.args.c)) c.requires)
+pub insert-requires-clause-place : goal.insert-requires-clause-place
+insert-requires-clause-place c = rw c.in_ok-text-in-None.ensures.ok (place-made c.args.place c.args.self.now (text (encode_utf8 c.args.c)) c.requires)
 
-pub graft-requires-clause-not_inside : goal.graft-requires-clause-not_inside
-graft-requires-clause-not_inside c =
+pub insert-requires-clause-not_inside : goal.insert-requires-clause-not_inside
+insert-requires-clause-not_inside c =
     c.in_ok-text-in-None.ensures.outside (place_node c.args.place) (rw c.in_ok-text-in-None.ensures.number.0 (place-under c.args.place c.args.self.now c.requires))

@@ -1,0 +1,170 @@
+-- Each text that begins with `&` begins with a reference.
+use Rattle.std.proofs.Common.{arith, ◌≡◌, ℕ, zero, suc, ◌-◌, ◌≤◌, Bool, true, false, not, ◌&&◌, ◌||◌, ◌==◌, cond, List, [], ◌∷◌, ◌++◌, length, take, drop, Option, Some, None, refl, sym, ap, ◌∙◌, subst, append_assoc}
+use Rattle.std.proofs.lemmas.Bool.{and_parts, false≢true}
+use Rattle.std.proofs.lemmas.Bool.Decides.{nat_tests}
+use Rattle.std.proofs.lemmas.List.{take-append-drop}
+use Rattle.std.specs.Char.{to_ascii_lowercase}
+use Rattle.names.specs.declared.placed.Placed.{Placed}
+use Rattle.names.specs.Placed.{characters, begins, stops, all, is_digit, is_alphanumeric}
+use Rattle.charref.specs.Reference.{Entry, Entities, IsTable, longest, is_kept, is_hex_digit, begins_number, is_semicolon_if_any, named, kept, unknown, decimal, hexadecimal, no_digits, alone}
+use Rattle.charref.specs.Open.{HasReference}
+use Rattle.charref.proofs.Core.{longest_among}
+use Rattle.charref.proofs.Naming.{key_of, take-map, is_key_of, key_opens}
+use Rattle.charref.proofs.OneReference.{run, after_run}
+
+-- a run, and what follows it
+passes_on : (test : ℕ → Bool) (p : Placed) (ps : List Placed) (b : Bool) → test p.ch ≡ b → all (λ c. not (not (test c))) (run test ps) ≡ true → all (λ c. not (not (test c))) (cond b (p ∷ run test ps) []) ≡ true
+passes_on test p ps true e k = ap (λ (b : Bool). not (not b) && all (λ c. not (not (test c))) (run test ps)) e ∙ k
+passes_on test p ps false e k = refl
+
+run_passes : (test : ℕ → Bool) (text : List Placed) → all (λ c. not (not (test c))) (run test text) ≡ true
+run_passes test [] = refl
+run_passes test (p ∷ ps) = passes_on test p ps (test p.ch) refl (run_passes test ps)
+
+stops_on : (test : ℕ → Bool) (p : Placed) (ps : List Placed) (b : Bool) → test p.ch ≡ b → stops (λ c. not (test c)) (after_run test ps) ≡ true → stops (λ c. not (test c)) (cond b (after_run test ps) (p ∷ ps)) ≡ true
+stops_on test p ps true e k = k
+stops_on test p ps false e k = ap not e
+
+run_stops : (test : ℕ → Bool) (text : List Placed) → stops (λ c. not (test c)) (after_run test text) ≡ true
+run_stops test [] = refl
+run_stops test (p ∷ ps) = stops_on test p ps (test p.ch) refl (run_stops test ps)
+
+split_on : (test : ℕ → Bool) (p : Placed) (ps : List Placed) (b : Bool) → ps ≡ run test ps ++ after_run test ps → p ∷ ps ≡ cond b (p ∷ run test ps) [] ++ cond b (after_run test ps) (p ∷ ps)
+split_on test p ps true k = ap (λ (xs : List Placed). p ∷ xs) k
+split_on test p ps false k = refl
+
+run_split : (test : ℕ → Bool) (text : List Placed) → text ≡ run test text ++ after_run test text
+run_split test [] = refl
+run_split test (p ∷ ps) = split_on test p ps (test p.ch) (run_split test ps)
+
+begins_by : (test : ℕ → Bool) (p : Placed) (ps : List Placed) (b : Bool) → test p.ch ≡ b → b ≡ true → begins test (cond b (p ∷ run test ps) []) ≡ true
+begins_by test p ps true e h = e
+begins_by test p ps false e h = absurd (false≢true h)
+
+run_begins : (test : ℕ → Bool) (text : List Placed) → begins test text ≡ true → begins test (run test text) ≡ true
+run_begins test [] h = h
+run_begins test (p ∷ ps) h = begins_by test p ps (test p.ch) refl h
+
+-- a `;`, if one follows
+record Close (after : List Placed) : Type 0 where
+  close : List Placed
+  rest : List Placed
+  after_is : after ≡ close ++ rest
+  closes : is_semicolon_if_any close rest ≡ true
+
+close_by : (p : Placed) (ps : List Placed) (b : Bool) → (p.ch == 59) ≡ b → Close (p ∷ ps)
+close_by p ps true e = record { close = p ∷ []; rest = ps; after_is = refl; closes = ap (λ (b : Bool). b && true) e }
+close_by p ps false e = record { close = []; rest = p ∷ ps; after_is = refl; closes = ap not e }
+
+close_of : (after : List Placed) → Close after
+close_of [] = record { close = []; rest = []; after_is = refl; closes = refl }
+close_of (p ∷ ps) = close_by p ps (p.ch == 59) refl
+
+sign_code : (c : ℕ) → (c == 35) ≡ true → c ≡ 35
+sign_code c h = grind (arith, nat_tests)
+
+x_lower : (c : ℕ) → (c == 120) ≡ true → to_ascii_lowercase c ≡ 120
+x_lower c h = let is : c ≡ 120 = grind (arith, nat_tests) in ap to_ascii_lowercase is
+
+capital_lower : (c : ℕ) → (c == 88) ≡ true → to_ascii_lowercase c ≡ 120
+capital_lower c h = let is : c ≡ 88 = grind (arith, nat_tests) in ap to_ascii_lowercase is
+
+x_of : (c : ℕ) (a : Bool) → (c == 120) ≡ a → (a || c == 88) ≡ true → to_ascii_lowercase c ≡ 120
+x_of c true e h = x_lower c e
+x_of c false e h = capital_lower c h
+
+neither_of : (a b : Bool) → a ≡ false → b ≡ false → (a || b) ≡ false
+neither_of true b h k = absurd (false≢true (sym h))
+neither_of false b h k = k
+
+not_begun : (rest : List Placed) → begins is_alphanumeric rest ≡ false → begins (λ c. c == 35) rest ≡ false → begins (λ c. is_alphanumeric c || c == 35) rest ≡ false
+not_begun [] h k = refl
+not_begun (p ∷ ps) h k = neither_of (is_alphanumeric p.ch) (p.ch == 35) h k
+
+begins_take : (n : ℕ) (text : List Placed) → begins is_alphanumeric text ≡ true → 1 ≤ n → begins is_alphanumeric (take n text) ≡ true
+begins_take zero text h l = absurd (grind (arith, l))
+begins_take (suc n) [] h l = h
+begins_take (suc n) (p ∷ ps) h l = h
+
+front_of_length : (n : ℕ) (p : Placed) (ps : List Placed) → 2 ≤ n → take n (characters (p ∷ ps)) ≡ characters (p ∷ take (n - 1) ps)
+front_of_length zero p ps l = absurd (omega (arith, l))
+front_of_length (suc n) p ps l =
+    let e : n ≡ suc n - 1 = omega arith in
+    ap (λ (cs : List ℕ). p.ch ∷ cs) (take-map n ps) ∙ ap (λ (k : ℕ). characters (p ∷ take k ps)) e
+
+module _ (table : Entities) (in_value : Bool) (is_table : IsTable table) (amp : Placed) (is : amp.ch ≡ 38) where
+  -- numbers
+  decimal_here : (q : Placed) (text : List Placed) → (q.ch == 35) ≡ true → begins is_digit text ≡ true → HasReference table in_value (amp ∷ q ∷ text)
+  decimal_here q text sign digit =
+      let k = close_of (after_run is_digit text) in
+      record {
+        piece = _;
+        rest = k.rest;
+        text_is = ap (λ (xs : List Placed). amp ∷ q ∷ xs) (run_split is_digit text ∙ ap (λ (xs : List Placed). run is_digit text ++ xs) k.after_is ∙ sym (append_assoc (run is_digit text) k.close k.rest));
+        is_reference = decimal (amp ∷ q ∷ []) (run is_digit text) k.close
+            (ap (λ (c : ℕ). c ∷ q.ch ∷ []) is ∙ ap (λ (c : ℕ). 38 ∷ c ∷ []) (sign_code q.ch sign))
+            (run_begins is_digit text digit)
+            (record { passes_none = run_passes is_digit text; stops_after = subst (λ (xs : List Placed). stops (λ c. not (is_digit c)) xs ≡ true) k.after_is (run_stops is_digit text) }) k.closes refl;
+      }
+
+  hexadecimal_here : (q x : Placed) (text : List Placed) → (q.ch == 35) ≡ true → (x.ch == 120 || x.ch == 88) ≡ true → begins is_hex_digit text ≡ true → HasReference table in_value (amp ∷ q ∷ x ∷ text)
+  hexadecimal_here q x text sign mark digit =
+      let k = close_of (after_run is_hex_digit text) in
+      record {
+        piece = _;
+        rest = k.rest;
+        text_is = ap (λ (xs : List Placed). amp ∷ q ∷ x ∷ xs) (run_split is_hex_digit text ∙ ap (λ (xs : List Placed). run is_hex_digit text ++ xs) k.after_is ∙ sym (append_assoc (run is_hex_digit text) k.close k.rest));
+        is_reference = hexadecimal (amp ∷ q ∷ x ∷ []) (run is_hex_digit text) k.close
+            (ap (λ (c : ℕ). to_ascii_lowercase c ∷ to_ascii_lowercase q.ch ∷ to_ascii_lowercase x.ch ∷ []) is ∙ ap (λ (c : ℕ). 38 ∷ to_ascii_lowercase c ∷ to_ascii_lowercase x.ch ∷ []) (sign_code q.ch sign)
+            ∙ ap (λ (c : ℕ). 38 ∷ 35 ∷ c ∷ []) (x_of x.ch (x.ch == 120) refl mark))
+            (run_begins is_hex_digit text digit)
+            (record { passes_none = run_passes is_hex_digit text; stops_after = subst (λ (xs : List Placed). stops (λ c. not (is_hex_digit c)) xs ≡ true) k.after_is (run_stops is_hex_digit text) }) k.closes refl;
+      }
+
+  number_by : (q : Placed) (text : List Placed) (digit : Bool) → (q.ch == 35) ≡ true → begins is_digit text ≡ digit
+      → ((q.ch == 35 && true) && (digit || (begins (λ c. c == 120 || c == 88) text && begins is_hex_digit (drop 1 text)))) ≡ true → HasReference table in_value (amp ∷ q ∷ text)
+  number_by q text true sign e h = decimal_here q text sign e
+  number_by q [] false sign e h = absurd (false≢true (and_parts (q.ch == 35 && true) false h).1)
+  number_by q (x ∷ xs) false sign e h =
+      let marks = and_parts (x.ch == 120 || x.ch == 88) (begins is_hex_digit xs) (and_parts (q.ch == 35 && true) ((x.ch == 120 || x.ch == 88) && begins is_hex_digit xs) h).1 in
+      hexadecimal_here q x xs sign marks.0 marks.1
+
+  sign_by : (text : List Placed) (number : Bool) → begins (λ c. c == 35) text ≡ true → begins_number text ≡ number → HasReference table in_value (amp ∷ text)
+  sign_by text false sign e = record { piece = _; rest = text; text_is = refl; is_reference = no_digits amp is sign e refl }
+  sign_by [] true sign e = absurd (false≢true sign)
+  sign_by (q ∷ qs) true sign e = number_by q qs (begins is_digit qs) sign refl e
+
+  -- names
+  named_here : (text : List Placed) (entry : Entry) → begins is_alphanumeric text ≡ true → longest table (characters (amp ∷ text)) ≡ Some entry → is_kept in_value entry.key (drop (length entry.key - 1) text) ≡ false
+      → HasReference table in_value (amp ∷ text)
+  named_here text entry letter found kept' =
+      let n : ℕ = length entry.key - 1 in
+      let among = longest_among table (characters (amp ∷ text)) entry found in
+      let opens = key_opens entry.key (is_key_of table among.0 entry is_table among.1) in
+      let long : 2 ≤ length entry.key = omega (arith, ap length opens.is) in
+      let key_is : entry.key ≡ characters (amp ∷ take n text) =
+      key_of (characters (amp ∷ text)) entry.key among.2 ∙ front_of_length (length entry.key) amp text long in
+      record {
+        piece = _;
+        rest = drop n text;
+        text_is = ap (λ (xs : List Placed). amp ∷ xs) (sym (take-append-drop n text));
+        is_reference = named amp (take n text) entry is (begins_take n text letter (grind (arith, long)))
+            (ap (λ (xs : List Placed). longest table (characters (amp ∷ xs))) (take-append-drop n text) ∙ found) (sym key_is) kept' refl;
+      }
+
+  kept_by : (text : List Placed) (entry : Entry) (b : Bool) → begins is_alphanumeric text ≡ true → longest table (characters (amp ∷ text)) ≡ Some entry → is_kept in_value entry.key (drop (length entry.key - 1) text) ≡ b
+      → HasReference table in_value (amp ∷ text)
+  kept_by text entry true letter found e = record { piece = _; rest = text; text_is = refl; is_reference = kept amp entry is letter found e refl }
+  kept_by text entry false letter found e = named_here text entry letter found e
+
+  name_by : (text : List Placed) (found : Option Entry) → begins is_alphanumeric text ≡ true → longest table (characters (amp ∷ text)) ≡ found → HasReference table in_value (amp ∷ text)
+  name_by text None letter e = record { piece = _; rest = text; text_is = refl; is_reference = unknown amp is letter e refl }
+  name_by text (Some entry) letter e = kept_by text entry (is_kept in_value entry.key (drop (length entry.key - 1) text)) letter e refl
+
+  some_by : (text : List Placed) (letter sign : Bool) → begins is_alphanumeric text ≡ letter → begins (λ c. c == 35) text ≡ sign → HasReference table in_value (amp ∷ text)
+  some_by text true sign e f = name_by text (longest table (characters (amp ∷ text))) e refl
+  some_by text false true e f = sign_by text (begins_number text) f refl
+  some_by text false false e f = record { piece = _; rest = text; text_is = refl; is_reference = alone amp is (not_begun text e f) refl }
+
+  pub some_of : (text : List Placed) → HasReference table in_value (amp ∷ text)
+  some_of text = some_by text (begins is_alphanumeric text) (begins (λ c. c == 35) text) refl refl

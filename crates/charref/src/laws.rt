@@ -1,0 +1,28 @@
+//! Laws of references: each text that begins with `&` has exactly one at its front.
+
+ghost use Rattle.std.specs.Prelude.{◌≡◌, ◌∷◌, ◌++◌, Bool, false, List};
+ghost use Rattle.names.specs.declared.placed.Placed.{Placed};
+ghost use Rattle.charref.specs.Reference.{Entities, IsTable, Piece, IsReference};
+ghost use Rattle.charref.specs.Open.{IsOpen, HasReference};
+ghost use Rattle.charref.specs.declared.walk.Walk.{Walk as WalkOf};
+ghost use Rattle.charref.specs.Walk.{HasTaken};
+
+/// A law: at each `&` stands a reference, or an `&` that is text.
+pub fn some_reference()
+    ensures { (table : Entities) (in_value : Bool) (amp : Placed) (text : List Placed) → IsTable table → amp.ch ≡ 38
+        → HasReference table in_value (amp ∷ text) }
+{}
+
+/// A law: a text has at most one of them at its front, and so one rest after it.
+pub fn one_reference()
+    ensures { (table : Entities) (in_value : Bool) (piece other : Piece) (rest after : List Placed)
+        → IsReference table in_value rest piece → IsReference table in_value after other
+        → piece.text ++ rest ≡ other.text ++ after → (piece ≡ other) × (rest ≡ after) }
+{}
+
+/// A law: outside an attribute value, a walk continues only while what it has taken is the beginning of a longer reference.
+/// So text that is held back for a walk may still become a reference.
+pub fn goes_on_in_a_reference()
+    ensures { (walk : WalkOf) (table : Entities) (text : List Placed) (amp : Placed) → IsTable table
+        → HasTaken walk table false text → amp.ch ≡ 38 → IsOpen table amp text }
+{}

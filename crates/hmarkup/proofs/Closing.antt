@@ -1,0 +1,115 @@
+-- What a walk has read, and the characters that close it.
+use Rattle.std.proofs.Common.{◌≡◌, ℕ, true, false, eqb, List, [], ◌∷◌, ◌++◌, sym, refl, ap, ◌∙◌, subst, codes, None, append_assoc}
+use Rattle.names.specs.declared.error.ParseError.{ParseError}
+use Rattle.names.specs.declared.placed.Placed.{Placed}
+use Rattle.names.specs.Placed.{characters, is_quote}
+use Rattle.hmarkup.specs.declared.comment.CommentKind.{CommentKind}
+use Rattle.hmarkup.specs.declared.comment.CommentKind.TheVariants.{Comment, Bogus}
+use Rattle.hmarkup.specs.declared.keyword.Letters.{Letters}
+use Rattle.hmarkup.specs.declared.keyword.Letters.TheVariants.{P, Pu, Pub, Publ, Publi, S, Sy, Sys, Syst, Syste}
+use Rattle.hmarkup.specs.declared.phase.Phase.{Phase}
+use Rattle.hmarkup.specs.declared.phase.Phase.TheVariants as phase
+use Rattle.hmarkup.specs.declared.tail.Ending.{Ending}
+use Rattle.hmarkup.specs.declared.tail.Ending.TheVariants.{Plain, Dash, Dashes, Bang}
+use Rattle.hmarkup.specs.Comment.{errors_here, IsComment}
+use Rattle.hmarkup.specs.CommentWalk.{Progress, HasReadOf, IsInComment, IsSpan, closing_mark, is_whole}
+use Rattle.hmarkup.specs.Doctype.{Found, IsDoctype}
+use Rattle.hmarkup.specs.DoctypeSteps.{step}
+use Rattle.hmarkup.specs.DoctypeWalk.{Reading, Fits, HasReadDoctype}
+use Rattle.hmarkup.specs.Steps.{next, next_ending}
+use Rattle.hmarkup.specs.Walk.{ClosedBy}
+use Rattle.hmarkup.proofs.Characters.{quote_is}
+use Rattle.hmarkup.proofs.InBogus.{bogus_closed}
+use Rattle.hmarkup.proofs.Marks.{first_is}
+use Rattle.hmarkup.proofs.Reading.{read_whole}
+use Rattle.hmarkup.proofs.Walking.{kept_other, closed_now}
+
+-- two dashes after any ending
+two_dashes : (ending : Ending) → next_ending (next_ending ending 45) 45 ≡ Dashes
+two_dashes Plain = refl
+two_dashes Dash = refl
+two_dashes Dashes = refl
+two_dashes Bang = refl
+
+-- characters that are read before the closing text begin the longer closing text
+closed_sooner : {V : Type 0} (IsSpan : ℕ → List Placed → List Placed → V → List ParseError → Type 0) (text front closing : List Placed) → ClosedBy IsSpan (text ++ front) closing → ClosedBy IsSpan text (front ++ closing)
+closed_sooner IsSpan text front closing k = record {
+  value = k.value;
+  errors = k.errors;
+  is_span = λ end rest. subst (λ (x : List Placed). IsSpan end rest x k.value k.errors) (append_assoc text front closing) (k.is_span end rest);
+}
+
+module _ (w : Progress) (text : List Placed) (errs : List ParseError) (h : IsInComment w text errs) (a b c : Placed) (a_is : a.ch ≡ 45) (b_is : b.ch ≡ 45) (c_is : c.ch ≡ 62) where
+  abbrev errors_a : List ParseError
+  errors_a = errs ++ errors_here (is_whole w.opening) a
+
+  abbrev errors_b : List ParseError
+  errors_b = errors_a ++ errors_here (is_whole (next w a.ch).opening) b
+
+  after_a : IsInComment (next w a.ch) (text ++ a ∷ []) errors_a
+  after_a = kept_other w text errs a.ch a.at (is_whole w.opening) refl h (ap (λ (n : ℕ). eqb n 62) a_is)
+
+  after_b : IsInComment (next (next w a.ch) b.ch) ((text ++ a ∷ []) ++ b ∷ []) errors_b
+  after_b = kept_other (next w a.ch) (text ++ a ∷ []) errors_a b.ch b.at (is_whole (next w a.ch).opening) refl after_a (ap (λ (n : ℕ). eqb n 62) b_is)
+
+  has_dashes : (next (next w a.ch) b.ch).ending ≡ Dashes
+  has_dashes = ap (λ (n : ℕ). next_ending (next_ending w.ending n) b.ch) a_is ∙ ap (λ (n : ℕ). next_ending (next_ending w.ending 45) n) b_is ∙ two_dashes w.ending
+
+  closed_by_dashes : ClosedBy IsComment text (a ∷ b ∷ c ∷ [])
+  closed_by_dashes =
+      closed_sooner IsComment text (a ∷ []) (b ∷ c ∷ [])
+      (closed_sooner IsComment (text ++ a ∷ []) (b ∷ []) (c ∷ [])
+      (record {
+        value = _;
+        errors = _;
+        is_span = closed_now (next (next w a.ch) b.ch) ((text ++ a ∷ []) ++ b ∷ []) errors_b c.ch c.at (is_whole (next (next w a.ch) b.ch).opening) refl after_b c_is has_dashes;
+      }))
+
+pub closed_span : (kind : CommentKind) (w : Progress) (text closing : List Placed) (errs : List ParseError) → HasReadOf kind w text errs → characters closing ≡ closing_mark kind → ClosedBy (IsSpan kind) text closing
+closed_span Comment w text [] errs h is = absurd cc
+closed_span Comment w text (a ∷ []) errs h is = absurd cc
+closed_span Comment w text (a ∷ b ∷ []) errs h is = absurd cc
+closed_span Comment w text (a ∷ b ∷ c ∷ []) errs h is =
+    let a_is : a.ch ≡ 45 = cc in
+    let b_is : b.ch ≡ 45 = cc in
+    let c_is : c.ch ≡ 62 = cc in
+    closed_by_dashes w text errs h a b c a_is b_is c_is
+closed_span Comment w text (a ∷ b ∷ c ∷ d ∷ more) errs h is = absurd cc
+closed_span Bogus w text [] errs h is = absurd cc
+closed_span Bogus w text (p ∷ []) errs h is = record { value = _; errors = _; is_span = bogus_closed w text errs p.ch p.at h (first_is p [] 62 [] is) }
+closed_span Bogus w text (p ∷ q ∷ more) errs h is = absurd cc
+
+-- `>` ends a doctype in each phase
+no_quote : (mark : ℕ) → is_quote mark ≡ true → eqb 62 mark ≡ false
+no_quote mark h = quote_is mark h (λ n. eqb 62 n ≡ false) refl refl
+
+no_letter : (letters : Letters) (first at : ℕ) → (step (phase.Keyword letters first) (record { ch = 62; at = at })).next ≡ None
+no_letter P first at = refl
+no_letter Pu first at = refl
+no_letter Pub first at = refl
+no_letter Publ first at = refl
+no_letter Publi first at = refl
+no_letter S first at = refl
+no_letter Sy first at = refl
+no_letter Sys first at = refl
+no_letter Syst first at = refl
+no_letter Syste first at = refl
+
+ends_doctype : (phase : Phase) (known : Found) (at : ℕ) → Fits phase known → (step phase (record { ch = 62; at = at })).next ≡ None
+ends_doctype (phase.BeforeName spaced) known at fits = refl
+ends_doctype phase.Name known at fits = refl
+ends_doctype phase.AfterName known at fits = refl
+ends_doctype (phase.Keyword letters first) known at fits = no_letter letters first at
+ends_doctype (phase.AfterKeyword which spaced) known at fits = refl
+ends_doctype (phase.Quoted which mark) known at fits = simp (no_quote mark fits.0)
+ends_doctype (phase.AfterPublic spaced) known at fits = refl
+ends_doctype phase.AfterSystem known at fits = refl
+ends_doctype phase.Skipped known at fits = refl
+
+closed_by_greater : (w : Reading) (text : List Placed) (errs : List ParseError) (ch at : ℕ) → ch ≡ 62 → HasReadDoctype w text errs → (step w.phase (record { ch = ch; at = at })).next ≡ None
+closed_by_greater w text errs ch at is h = subst (λ (c : ℕ). (step w.phase (record { ch = c; at = at })).next ≡ None) (sym is) (ends_doctype w.phase w.found at h.fits)
+
+pub closed_doctype : (w : Reading) (text closing : List Placed) (errs : List ParseError) → HasReadDoctype w text errs → characters closing ≡ codes ">" → ClosedBy IsDoctype text closing
+closed_doctype w text [] errs h is = absurd cc
+closed_doctype w text (p ∷ []) errs h is = record { value = _; errors = _; is_span = read_whole w text errs p h (closed_by_greater w text errs p.ch p.at (first_is p [] 62 [] is) h) }
+closed_doctype w text (p ∷ q ∷ more) errs h is = absurd cc

@@ -1,0 +1,158 @@
+-- What the edits keep: each node stands in the forest once, and the document's tree comes first.
+use Rattle.std.proofs.Common.{◌≡◌, ◌≢◌, ℕ, zero, suc, ◌+◌, ◌<◌, ◌≤◌, Bool, true, false, eqb, ltb, cond, if◌then◌else◌, refl, ◌∙◌, subst, arith, ◌⊎◌, inl, inr}
+use Rattle.std.proofs.lemmas.Bool.{eq-eqb, ne_eqb, cases_lt, le-leb, lt-leb}
+use Rattle.hnodes.specs.Forest.{What, document, Forest, none, tree, times, join, tree_at, cut, children_of, change_children, change_what, put_before}
+use Rattle.hnodes.specs.Edits.{AreCounted, place_node, graft, move_all}
+use Rattle.hnodes.specs.declared.node.Place.{Place}
+use Rattle.hnodes.specs.declared.node.Place.TheVariants.{LastIn, Before}
+use Rattle.hnodes.proofs.Forests.{times-join, times-cut, times-emptied, children-apart}
+use Rattle.hnodes.proofs.Whats.{times-what}
+use Rattle.hnodes.proofs.Counts.{emptied, times-hung, times-put, times-emptied-apart}
+use Rattle.hnodes.proofs.Deep.{deep, deep-lower, deep-upper, children-deep}
+
+-- a place that is not right before this node
+abbrev pub NotBefore : ℕ → Place → Type 0
+NotBefore y (LastIn p) = Unit {0}
+NotBefore y (Before s) = s ≢ y
+
+module _ {N : Type 0} where
+  abbrev pub Begins : Forest N → Type 0
+  Begins f = (kids : Forest N) × (rest : Forest N) × (f ≡ tree 0 document kids rest)
+
+  begins-change : (p : ℕ) (g : Forest N → Forest N) (f : Forest N) → Begins f → Begins (change_children p g f)
+  begins-change p g f (kids, rest, is) = rw is (go (eqb 0 p))
+    where
+      go : (v : Bool) → Begins (cond v (tree 0 document (g kids) rest) (tree 0 document (change_children p g kids) (change_children p g rest)))
+      go true = (g kids, rest, refl)
+      go false = (change_children p g kids, change_children p g rest, refl)
+
+  begins-cut : (n : ℕ) (f : Forest N) → 0 < n → Begins f → Begins (cut n f)
+  begins-cut n f h (kids, rest, is) = rw (is, ne_eqb 0 n (λ e. omega arith)) (cut n kids, cut n rest, refl)
+
+  begins-put : (s : ℕ) (t f : Forest N) → 0 < s → Begins f → Begins (put_before s t f)
+  begins-put s t f h (kids, rest, is) = rw (is, ne_eqb 0 s (λ e. omega arith)) (put_before s t kids, put_before s t rest, refl)
+
+  begins-join : (t f : Forest N) → Begins f → Begins (join f t)
+  begins-join t f (kids, rest, is) = rw is (kids, join rest t, refl)
+
+  begins-what : (n : ℕ) (g : What N → What N) (f : Forest N) → g document ≡ document → Begins f → Begins (change_what n g f)
+  begins-what n g f same (kids, rest, is) = rw is (go (eqb 0 n))
+    where
+      go : (v : Bool) → Begins (tree 0 (cond v (g document) document) (change_what n g kids) (change_what n g rest))
+      go true = rw same (change_what n g kids, change_what n g rest, refl)
+      go false = (change_what n g kids, change_what n g rest, refl)
+
+  module _ (made : ℕ) (f : Forest N) (counted : AreCounted made f) where
+    pub at-most : (x : ℕ) → times x f ≤ 1
+    at-most x = rw (counted.once x) (go (ltb x made))
+      where
+        go : (v : Bool) → cond v 1 0 ≤ 1
+        go true = omega arith
+        go false = omega arith
+
+    pub is-there : (x : ℕ) → x < made → times x f ≡ 1
+    is-there x h = rw (counted.once x, le-leb (suc x) made (omega arith)) refl
+
+    pub not-there : (x : ℕ) → made ≤ x → times x f ≡ 0
+    not-there x h = rw (counted.once x, lt-leb (suc x) made (omega arith)) refl
+
+    pub was-made : (x : ℕ) → 0 < times x f → x < made
+    was-made x h = go (cases_lt x made)
+      where
+        go : (x < made) ⊎ (made ≤ x) → x < made
+        go (inl a) = a
+        go (inr a) = absurd (omega (arith, not-there x a))
+
+    pub one-there : (x : ℕ) → 0 < times x f → times x f ≡ 1
+    one-there x h = omega (arith, at-most x)
+
+    pub deep-there : (x y : ℕ) → 0 < deep x y f → (x < made) × (y < made)
+    deep-there x y h = (was-made x (go (times x f) refl), was-made y (go' (times y f) refl))
+      where
+        go : (j : ℕ) → times x f ≡ j → 0 < times x f
+        go zero a = absurd (omega (arith, deep-lower x y f a))
+        go (suc j) a = omega arith
+
+        go' : (j : ℕ) → times y f ≡ j → 0 < times y f
+        go' zero a = absurd (omega (arith, deep-upper x y f a))
+        go' (suc j) a = omega arith
+
+    -- the document is in nothing else
+    pub document-out : (y : ℕ) → 0 < y → deep 0 y f ≡ 0
+    document-out y h = go counted.begins
+      where
+        go : Begins f → deep 0 y f ≡ 0
+        go (kids, rest, is) =
+            let one : 1 + (times 0 kids + times 0 rest) ≤ 1 = subst (λ (g : Forest N). times 0 g ≤ 1) is (at-most 0) in
+            rw (is, ne_eqb 0 y (λ e. omega arith)) (omega (arith, deep-lower 0 y kids (omega arith), deep-lower 0 y rest (omega arith)))
+
+    -- what stands below the document
+    pub below-document : (x : ℕ) → times x (children_of 0 f) ≡ 1 → (0 < deep x 0 f) × (0 < x)
+    below-document x h = (omega (arith, children-deep x 0 f), go x refl)
+      where
+        go : (j : ℕ) → x ≡ j → 0 < x
+        go zero a = absurd (let z = children-apart 0 f (at0 counted.begins) in let z' : times x (children_of 0 f) ≡ 0 = rw a z in omega arith)
+          where
+            at0 : Begins f → times 0 f ≡ 1
+            at0 (kids, rest, is) = omega (arith, at-most 0, is0)
+              where
+                is0 : 0 < times 0 f
+                is0 = rw is (omega arith)
+        go (suc j) a = omega arith
+
+    pub in-document : (x : ℕ) → 0 < deep x 0 f → 0 < x → times x (children_of 0 f) ≡ 1
+    in-document x h pos = go counted.begins
+      where
+        go : Begins f → times x (children_of 0 f) ≡ 1
+        go (kids, rest, is) =
+            let one : 1 + (times 0 kids + times 0 rest) ≤ 1 = subst (λ (g : Forest N). times 0 g ≤ 1) is (at-most 0) in
+            let some : 0 < (cond (eqb 0 x) 1 0 + times x kids) + (deep x 0 kids + deep x 0 rest) = subst (λ (g : Forest N). 0 < deep x 0 g) is h in
+            let some' : 0 < (0 + times x kids) + (deep x 0 kids + deep x 0 rest) = subst (λ (u : Bool). 0 < (cond u 1 0 + times x kids) + (deep x 0 kids + deep x 0 rest)) (ne_eqb 0 x (λ e. omega arith)) some in
+            let few : cond (eqb 0 x) 1 0 + (times x kids + times x rest) ≤ 1 = subst (λ (g : Forest N). times x g ≤ 1) is (at-most x) in
+            let few' : 0 + (times x kids + times x rest) ≤ 1 = subst (λ (u : Bool). cond u 1 0 + (times x kids + times x rest) ≤ 1) (ne_eqb 0 x (λ e. omega arith)) few in
+            rw is (omega (arith, deep-upper x 0 kids (omega arith), deep-upper x 0 rest (omega arith)))
+
+  -- a new node stands there once
+  pub times-new : (new : ℕ) (w : What N) (f : Forest N) → times new f ≡ 0 → times new (join f (tree new w none none)) ≡ 1
+  times-new new w f z = omega (arith, times-join new f (tree new w none none), is)
+    where
+      is : times new (tree new w none none) ≡ 1
+      is = rw (eq-eqb new new refl) refl
+
+  -- a node is made
+  pub counted-new : (made : ℕ) (w : What N) (f : Forest N) → AreCounted made f → AreCounted (made + 1) (join f (tree made w none none))
+  counted-new made w f s = record { once = one; begins = begins-join (tree made w none none) f s.begins }
+    where
+      one : (x : ℕ) → times x (join f (tree made w none none)) ≡ (if ltb x (made + 1) then 1 else 0)
+      one x = go (cases_lt x made) (cases_lt made x)
+        where
+          go : (x < made) ⊎ (made ≤ x) → (made < x) ⊎ (x ≤ made) → times x (join f (tree made w none none)) ≡ (if ltb x (made + 1) then 1 else 0)
+          go (inl a) c = rw (le-leb (suc x) (made + 1) (omega arith), times-join x f (tree made w none none), is-there made f s x a, ne_eqb made x (λ e. omega arith)) refl
+          go (inr a) (inl c) = rw (lt-leb (suc x) (made + 1) (omega arith), times-join x f (tree made w none none), not-there made f s x a, ne_eqb made x (λ e. omega arith)) refl
+          go (inr a) (inr c) = let e : made ≡ x = omega arith in rw (le-leb (suc x) (made + 1) (omega arith), times-join x f (tree made w none none), not-there made f s x a, eq-eqb made x e) refl
+
+  -- a node comes to a place
+  pub counted-graft : (made n : ℕ) (place : Place) (f : Forest N) → AreCounted made f → 0 < n → NotBefore 0 place → times (place_node place) f ≡ 1 → times (place_node place) (tree_at n f) ≡ 0 → AreCounted made (graft n place f)
+  counted-graft made n (LastIn p) f s h b one out = record {
+    once = λ x. times-hung x p (tree_at n f) (cut n f) (omega (arith, times-cut p n f)) ∙ times-cut x n f ∙ s.once x;
+    begins = begins-change p (λ kids. join kids (tree_at n f)) (cut n f) (begins-cut n f h s.begins);
+  }
+  counted-graft made n (Before q) f s h b one out = record {
+    once = λ x. times-put x q (tree_at n f) (cut n f) (omega (arith, times-cut q n f)) ∙ times-cut x n f ∙ s.once x;
+    begins = begins-put q (tree_at n f) (cut n f) (go q refl) (begins-cut n f h s.begins);
+  }
+    where
+      go : (j : ℕ) → q ≡ j → 0 < q
+      go zero e = absurd (b e)
+      go (suc j) e = omega arith
+
+  -- the children of a node go into another
+  pub counted-move : (made m p : ℕ) (f : Forest N) → AreCounted made f → times m f ≡ 1 → times p f ≡ 1 → times p (children_of m f) ≡ 0 → AreCounted made (move_all m p f)
+  counted-move made m p f s one to out = record {
+    once = λ x. times-hung x p (children_of m f) (emptied m f) (times-emptied-apart p m f out ∙ to) ∙ times-emptied x m f one ∙ s.once x;
+    begins = begins-change p (λ kids. join kids (children_of m f)) (emptied m f) (begins-change m (λ _. none) f s.begins);
+  }
+
+  -- a node becomes something else
+  pub counted-what : (made n : ℕ) (g : What N → What N) (f : Forest N) → g document ≡ document → AreCounted made f → AreCounted made (change_what n g f)
+  counted-what made n g f same s = record { once = λ x. times-what n g x f ∙ s.once x; begins = begins-what n g f same s.begins }

@@ -1,0 +1,88 @@
+-- How often a node is another one or inside it. Where each node stands once, 0 says that it is outside.
+use Rattle.std.proofs.Common.{◌≡◌, ℕ, zero, suc, ◌+◌, ◌<◌, ◌≤◌, Bool, true, false, eqb, cond, if◌then◌else◌, refl, arith}
+use Rattle.hnodes.specs.Forest.{Forest, none, tree, times, join, tree_at, children_of}
+use Rattle.hnodes.proofs.Forests.{times-join, times-cut}
+
+module _ {N : Type 0} where
+  -- how often x is node y or inside it
+  abbrev pub deep : (x y : ℕ) → Forest N → ℕ
+  deep x y none = 0
+  deep x y (tree b w kids rest) = (if eqb b y then (if eqb b x then 1 else 0) + times x kids else 0) + (deep x y kids + deep x y rest)
+
+  pub deep-join : (x y : ℕ) (f g : Forest N) → deep x y (join f g) ≡ deep x y f + deep x y g
+  deep-join x y none g = omega arith
+  deep-join x y (tree b w kids rest) g = omega (arith, deep-join x y rest g)
+
+  -- no node is inside another unless both stand in the forest
+  pub deep-lower : (x y : ℕ) (f : Forest N) → times x f ≡ 0 → deep x y f ≡ 0
+  deep-lower x y none h = refl
+  deep-lower x y (tree b w kids rest) h = go (deep-lower x y kids) (deep-lower x y rest) (eqb b y) (eqb b x) h
+    where
+      go : (times x kids ≡ 0 → deep x y kids ≡ 0) → (times x rest ≡ 0 → deep x y rest ≡ 0) → (u v : Bool) → cond v 1 0 + (times x kids + times x rest) ≡ 0
+          → cond u (cond v 1 0 + times x kids) 0 + (deep x y kids + deep x y rest) ≡ 0
+      go l r u true h' = absurd (omega arith)
+      go l r true false h' = omega (arith, l (omega arith), r (omega arith))
+      go l r false false h' = omega (arith, l (omega arith), r (omega arith))
+
+  pub deep-upper : (x y : ℕ) (f : Forest N) → times y f ≡ 0 → deep x y f ≡ 0
+  deep-upper x y none h = refl
+  deep-upper x y (tree b w kids rest) h = go (deep-upper x y kids) (deep-upper x y rest) (eqb b y) h
+    where
+      go : (times y kids ≡ 0 → deep x y kids ≡ 0) → (times y rest ≡ 0 → deep x y rest ≡ 0) → (u : Bool) → cond u 1 0 + (times y kids + times y rest) ≡ 0
+          → cond u ((if eqb b x then 1 else 0) + times x kids) 0 + (deep x y kids + deep x y rest) ≡ 0
+      go l r true h' = absurd (omega arith)
+      go l r false h' = omega (arith, l (omega arith), r (omega arith))
+
+  -- it is the count in the tree of y
+  pub deep-is : (x y : ℕ) (f : Forest N) → times y f ≤ 1 → deep x y f ≡ times x (tree_at y f)
+  deep-is x y none h = refl
+  deep-is x y (tree b w kids rest) h = go (deep-is x y kids) (deep-is x y rest) (deep-upper x y kids) (deep-upper x y rest) (eqb b y) h
+    where
+      go : (times y kids ≤ 1 → deep x y kids ≡ times x (tree_at y kids)) → (times y rest ≤ 1 → deep x y rest ≡ times x (tree_at y rest))
+          → (times y kids ≡ 0 → deep x y kids ≡ 0) → (times y rest ≡ 0 → deep x y rest ≡ 0) → (u : Bool) → cond u 1 0 + (times y kids + times y rest) ≤ 1
+          → cond u ((if eqb b x then 1 else 0) + times x kids) 0 + (deep x y kids + deep x y rest) ≡ times x (cond u (tree b w kids none) (join (tree_at y kids) (tree_at y rest)))
+      go l r l0 r0 true h' = omega (arith, l0 (omega arith), r0 (omega arith))
+      go l r l0 r0 false h' = omega (arith, l (omega arith), r (omega arith), times-join x (tree_at y kids) (tree_at y rest))
+
+  -- a node is inside itself
+  pub deep-self : (y : ℕ) (f : Forest N) → times y f ≤ deep y y f
+  deep-self y none = omega arith
+  deep-self y (tree b w kids rest) = go (deep-self y kids) (deep-self y rest) (eqb b y)
+    where
+      go : times y kids ≤ deep y y kids → times y rest ≤ deep y y rest → (u : Bool) → cond u 1 0 + (times y kids + times y rest) ≤ cond u (cond u 1 0 + times y kids) 0 + (deep y y kids + deep y y rest)
+      go l r true = omega arith
+      go l r false = omega arith
+
+  -- a node's children are inside it
+  pub children-deep : (x m : ℕ) (f : Forest N) → times x (children_of m f) ≤ deep x m f
+  children-deep x m none = omega arith
+  children-deep x m (tree b w kids rest) = go (children-deep x m kids) (children-deep x m rest) (eqb b m)
+    where
+      go : times x (children_of m kids) ≤ deep x m kids → times x (children_of m rest) ≤ deep x m rest → (u : Bool)
+          → times x (cond u kids (join (children_of m kids) (children_of m rest))) ≤ cond u ((if eqb b x then 1 else 0) + times x kids) 0 + (deep x m kids + deep x m rest)
+      go l r true = omega arith
+      go l r false = omega (arith, times-join x (children_of m kids) (children_of m rest))
+
+  -- what is inside m is inside all that m is inside of
+  pub deep-trans : (x m y : ℕ) (f : Forest N) → times m f ≤ 1 → 0 < deep m y f → deep x m f ≤ deep x y f
+  deep-trans x m y none h in_y = omega arith
+  deep-trans x m y (tree b w kids rest) h in_y = top (deep-trans x m y kids) (deep-trans x m y rest) (eqb b m) refl (eqb b y) refl h in_y
+    where
+      some : ℕ
+      some = if eqb b x then 1 else 0
+
+      top : (times m kids ≤ 1 → 0 < deep m y kids → deep x m kids ≤ deep x y kids) → (times m rest ≤ 1 → 0 < deep m y rest → deep x m rest ≤ deep x y rest)
+          → (u : Bool) → eqb b m ≡ u → (v : Bool) → eqb b y ≡ v → cond u 1 0 + (times m kids + times m rest) ≤ 1 → 0 < cond v (cond u 1 0 + times m kids) 0 + (deep m y kids + deep m y rest)
+          → cond u (some + times x kids) 0 + (deep x m kids + deep x m rest) ≤ cond v (some + times x kids) 0 + (deep x y kids + deep x y rest)
+      top l r true e true i h' o = omega (arith, deep-upper x m kids (omega arith), deep-upper x m rest (omega arith))
+      top l r true e false i h' o = absurd (omega (arith, deep-lower m y kids (omega arith), deep-lower m y rest (omega arith)))
+      top l r false e true i h' o = under (times m kids) refl
+        where
+          under : (j : ℕ) → times m kids ≡ j → 0 + (deep x m kids + deep x m rest) ≤ (some + times x kids) + (deep x y kids + deep x y rest)
+          under zero a = omega (arith, r (omega arith) (omega (arith, deep-lower m y kids a)), deep-upper x m kids a)
+          under (suc j) a = omega (arith, deep-is x m kids (omega arith), times-cut x m kids, deep-upper x m rest (omega arith))
+      top l r false e false i h' o = under (times m kids) refl
+        where
+          under : (j : ℕ) → times m kids ≡ j → 0 + (deep x m kids + deep x m rest) ≤ 0 + (deep x y kids + deep x y rest)
+          under zero a = omega (arith, r (omega arith) (omega (arith, deep-lower m y kids a)), deep-upper x m kids a)
+          under (suc j) a = omega (arith, l (omega arith) (omega (arith, deep-lower m y rest (omega arith))), deep-upper x m rest (omega arith))
