@@ -12,34 +12,36 @@ use Rattle.names.specs.declared.raw.RawKind.{RawKind}
 use Rattle.names.specs.declared.raw.RawKind.TheVariants as kind
 use Rattle.names.specs.declared.refusal.Refusal.{Refusal}
 use Rattle.names.specs.Names.{Texts}
-use Rattle.names.specs.Placed.{lowered, begins, all, is_letter, without_null, error, null_errors}
+use Rattle.names.specs.Placed.{lowered, begins, all, is_letter, name_bytes, without_null, error}
 use Rattle.charref.specs.Reference.{Entities}
 use Rattle.hmarkup.specs.CommentWalk.{backwards}
 use Rattle.hmarkup.proofs.Marks.{and_parts, and_no}
 use Rattle.hmarkup.proofs.Characters.{no_null_error}
 use Rattle.htoken.specs.declared.state.State.{State}
 use Rattle.htoken.specs.declared.state.State.TheVariants as state
-use Rattle.htoken.specs.declared.tag.Phase.TheVariants as phase
-use Rattle.htoken.specs.declared.tag.TagKind.TheVariants as tag
-use Rattle.htoken.specs.declared.tag.TagWalk.{TagWalk}
+use Rattle.htag.specs.declared.kind.TagKind.TheVariants as tag
+use Rattle.htag.specs.declared.walk.TagWalk.{TagWalk}
 use Rattle.htoken.specs.declared.script.Script.{Script}
 use Rattle.htoken.specs.Script.{HasFront, level_number}
 use Rattle.htoken.specs.declared.tokenizer.Tokenizer.{Tokenizer}
 use Rattle.htoken.specs.Token.{Span, Item, Event, Gives, Reports, Char, piece_span}
 use Rattle.htoken.specs.Standing.{Standing}
-use Rattle.htoken.specs.Value.{plain_piece}
+use Rattle.htag.specs.Value.{plain_piece}
 use Rattle.htoken.specs.Raw.{is_raw, is_script, ends_by, may_end, is_raw_end}
 use Rattle.htoken.specs.Spans.{IsSpan, IsSpanOf, IsRawSpan, has_references, raw_character, raw_end}
 use Rattle.htoken.specs.Tokens.{events_of, tokens_in, tokens_of}
 use Rattle.htoken.specs.Handing.{HandsEvents}
 use Rattle.htoken.specs.Run.{run_events}
-use Rattle.htoken.specs.Tag.{ends_name}
+use Rattle.htag.specs.Tag.{ends_name}
 use Rattle.htoken.specs.Tokenizing.{Stands, Reads, Takes, take_sink_refused, IsHeld, IsIn, IsLast, IsBetween, IsAfterRawLess, IsInRawName, less}
 use Rattle.htoken.specs.Steps.{Stays, Keeps, Holds}
+use Rattle.htag.specs.TagWalk.{IsInTag}
+use Rattle.htoken.specs.Tag.{tag_mark}
+use Rattle.htoken.proofs.TagKept.{tag_ahead}
 use Rattle.htoken.proofs.Cutting.{stands_more}
 use Rattle.htoken.proofs.Going.{ran_out, goes_on, span_ends}
-use Rattle.htoken.proofs.TagWalking.{all-snoc}
-use Rattle.htoken.proofs.RawEnds.{name_ends, differs, goes_past, is_whole, left_some, left_none, letter_not, letters_stay, no_null_in, name_is_lowered, no_solidus, no_name, a_name, other_goes_on, nameless_goes_on, inner_goes_on}
+use Rattle.htag.proofs.Parts.{all-snoc}
+use Rattle.htoken.proofs.RawEnds.{name_ends, differs, goes_past, is_whole, left_some, left_none, letter_not, name_is_lowered, no_solidus, no_name, a_name, other_goes_on, nameless_goes_on, inner_goes_on}
 
 -- a span of raw text is one where raw text stands
 raw_of : (k : RawKind) (table : Entities) (end : ℕ) (here : Standing) (rest : List Placed) (span : Span) → is_raw k ≡ true → IsRawSpan table end here rest span → IsSpanOf k table end here rest span
@@ -140,7 +142,7 @@ module _ {S : Type 0} (gives : S → Item → Result (Unit {0}) Refusal → S �
       kind_is = kind ∙ h.kind_is;
       name_is = subst (λ (x : Option ℕ). IsLast names x h.here.name) (sym last) h.name_is;
       is_in = subst (λ (x : State). IsIn x h.here.kind) (sym in_text) tt;
-      is_held = subst (λ (x : State). IsHeld x table (after_characters h.here qs) new [] (p ∷ [])) (sym in_text) (refl, none, between);
+      is_held = subst (λ (x : State). IsHeld x table names (after_characters h.here qs) new [] (p ∷ [])) (sym in_text) (refl, none, between);
     }
 
     pub characters_refused : (new : Tokenizer) (old s : S) (e : Refusal) → HandsEvents gives names old (run_events qs) (Err e) s → Takes gives table start text (p ∷ []) taken names old (Err e) s new
@@ -162,8 +164,8 @@ module _ {S : Type 0} (gives : S → Item → Result (Unit {0}) Refusal → S �
     here_is : is_raw h.here.kind ≡ true
     here_is = ap is_raw (sym h.kind_is) ∙ raw
 
-    abbrev nothing : IsHeld state.Text table h.here t h.held (p ∷ [])
-    nothing = subst (λ (x : State). IsHeld x table h.here t h.held (p ∷ [])) in_text h.is_held
+    abbrev nothing : IsHeld state.Text table names h.here t h.held (p ∷ [])
+    nothing = subst (λ (x : State). IsHeld x table names h.here t h.held (p ∷ [])) in_text h.is_held
 
     abbrev Follows : Tokenizer → Type 0
     Follows new = IsFollowed t p.ch new
@@ -218,7 +220,7 @@ module _ {S : Type 0} (gives : S → Item → Result (Unit {0}) Refusal → S �
     raw_less_begins new s bytes keeps less_is raised same keeps_script is named may =
         goes_on gives table start text p names taken t h new s keeps.stays keeps.kind_is keeps.last_is
         (subst (λ (x : State). IsIn x h.here.kind) (sym less_is) here_is)
-        (subst (λ (x : State). IsHeld x table h.here new (h.held ++ p ∷ []) []) (sym less_is) (record {
+        (subst (λ (x : State). IsHeld x table names h.here new (h.held ++ p ∷ []) []) (sym less_is) (record {
           held_is = ap (λ (x : List Placed). x ++ p ∷ []) nothing.0 ∙ ap (λ (c : ℕ). record { ch = c; at = p.at } ∷ []) is ∙ ap (λ (a : ℕ). record { ch = 60; at = a } ∷ []) (sym keeps.at_is);
           raises_none = raised ∙ nothing.1;
           may = may;
@@ -230,7 +232,7 @@ module _ {S : Type 0} (gives : S → Item → Result (Unit {0}) Refusal → S �
 
   module _ (after : t.state ≡ state.RawLess) where
     abbrev after_less : IsAfterRawLess h.here t h.held
-    after_less = subst (λ (x : State). IsHeld x table h.here t h.held (p ∷ [])) after h.is_held
+    after_less = subst (λ (x : State). IsHeld x table names h.here t h.held (p ∷ [])) after h.is_held
 
     is_raw_here : is_raw h.here.kind ≡ true
     is_raw_here = subst (λ (x : State). IsIn x h.here.kind) after h.is_in
@@ -241,7 +243,7 @@ module _ {S : Type 0} (gives : S → Item → Result (Unit {0}) Refusal → S �
         let i = after_less in
         goes_on gives table start text p names taken t h new s keeps.stays keeps.kind_is keeps.last_is
         (subst (λ (x : State). IsIn x h.here.kind) (sym then) is_raw_here)
-        (subst (λ (x : State). IsHeld x table h.here new (h.held ++ p ∷ []) []) (sym then) (record {
+        (subst (λ (x : State). IsHeld x table names h.here new (h.held ++ p ∷ []) []) (sym then) (record {
           held_is = ap (λ (x : List Placed). x ++ p ∷ []) i.held_is ∙ ap (λ (c : ℕ). less t ∷ record { ch = c; at = p.at } ∷ []) is
               ∙ ap (λ (a : ℕ). record { ch = 60; at = a } ∷ record { ch = 47; at = p.at } ∷ []) (sym keeps.at_is) ∙ ap (λ (x : List Placed). less new ∷ record { ch = 47; at = p.at } ∷ x) (sym none);
           raises_none = raised ∙ i.raises_none;
@@ -268,7 +270,7 @@ module _ {S : Type 0} (gives : S → Item → Result (Unit {0}) Refusal → S �
 
   module _ (at : ℕ) (after : t.state ≡ state.RawName at) where
     abbrev pub in_name : IsInRawName h.here t at h.held
-    in_name = subst (λ (x : State). IsHeld x table h.here t h.held (p ∷ [])) after h.is_held
+    in_name = subst (λ (x : State). IsHeld x table names h.here t h.held (p ∷ [])) after h.is_held
 
     raw_here : is_raw h.here.kind ≡ true
     raw_here = subst (λ (x : State). IsIn x h.here.kind) after h.is_in
@@ -284,7 +286,7 @@ module _ {S : Type 0} (gives : S → Item → Result (Unit {0}) Refusal → S �
         let l = left_some t.held.items i.left c (ap (λ (x : List ℕ). slice_get x (length t.held.items)) i.agrees ∙ expected) in
         goes_on gives table start text p names taken t h new s keeps.stays keeps.kind_is keeps.last_is
         (subst (λ (x : State). IsIn x h.here.kind) (sym then) raw_here)
-        (subst (λ (x : State). IsHeld x table h.here new (h.held ++ p ∷ []) []) (sym then) (record {
+        (subst (λ (x : State). IsHeld x table names h.here new (h.held ++ p ∷ []) []) (sym then) (record {
           held_is = ap (λ (x : List Placed). x ++ p ∷ []) i.held_is ∙ ap (λ (x : List Placed). less t ∷ record { ch = 47; at = at } ∷ x) (sym more)
               ∙ ap (λ (a : ℕ). record { ch = 60; at = a } ∷ record { ch = 47; at = at } ∷ new.held.items) (sym keeps.at_is);
           raises_none = raised ∙ i.raises_none;
@@ -336,13 +338,12 @@ module _ {S : Type 0} (gives : S → Item → Result (Unit {0}) Refusal → S �
       goes_past_here other more = subst (λ (x : List ℕ). name_ends x (t.held.items ++ p ∷ more) ≡ false) name_whole (goes_past t.held.items p more other)
 
       -- .. and it ends here: the tag goes on with the character
-      pub end_tag_begins : (new : Tokenizer) (walk : TagWalk) → new ≡ record t { state = state.Tag; tag = walk } → walk ≡ record t.tag { kind = tag.End; phase = phase.Name } → ends_name p.ch ≡ true → begins is_letter t.held.items ≡ true
+      pub end_tag_begins : (new : Tokenizer) → new ≡ record t { state = state.Tag; tag = new.tag } → new.tag.kind ≡ tag.End → ends_name p.ch ≡ true → begins is_letter t.held.items ≡ true
+          → ((letters : List Placed) → begins is_letter letters ≡ true → all is_letter letters ≡ true → string_bytes t.tag.name ≡ name_bytes letters → IsInTag table names new.tag letters [] [])
           → Reads table start new names text (p ∷ []) taken
-      end_tag_begins new walk new_is walk_is ends some =
+      end_tag_begins new new_is kind ends some begun =
           let i = in_name in
-          let tagged : TagWalk = record t.tag { kind = tag.End; phase = phase.Name } in
-          subst (λ (x : Tokenizer). Reads table start x names text (p ∷ []) taken) (sym new_is)
-          (subst (λ (x : TagWalk). Reads table start (record t { state = state.Tag; tag = x }) names text (p ∷ []) taken) (sym walk_is) (record {
+          subst (λ (x : Tokenizer). Reads table start x names text (p ∷ []) taken) (sym new_is) (record {
             accepts = h.accepts;
             table_is = h.table_is;
             next_is = h.next_is;
@@ -358,25 +359,12 @@ module _ {S : Type 0} (gives : S → Item → Result (Unit {0}) Refusal → S �
               opening = record { ch = 47; at = at } ∷ [];
               body = t.held.items;
               held_is = i.held_is;
-              opens = refl;
-              in_tag = record {
-                name = t.held.items;
-                parts = [];
-                held = [];
-                front = record {
-                  body_is = sym (append-nil t.held.items);
-                  first = some;
-                  passes = letters_stay t.held.items i.letters;
-                  name_is = sym name_whole ∙ sym (name_is_lowered t.held.items i.letters);
-                  are_parts = λ end more. tt;
-                  errors_are = i.raises_none ∙ sym (append-nil (null_errors t.held.items) ∙ no_null_in t.held.items i.letters);
-                  bare = refl;
-                };
-                has_phase = (refl, refl);
-              };
+              opens = sym (ap tag_mark kind);
+              in_tag = tag_ahead table names new.tag t.held.items t.raised.errors.items p (subst (IsInTag table names new.tag t.held.items []) (sym i.raises_none)
+                  (begun t.held.items some i.letters (sym name_whole ∙ sym (name_is_lowered t.held.items i.letters))));
               fits = λ end rest more span e is. in_raw table end h.here rest span raw_here (raw_end (whole rest more span e) is);
             };
-          })) where
+          }) where
             whole : (rest more : List Placed) (span : Span) → span.text ≡ h.held ++ ((p ∷ []) ++ more) → is_raw_end h.here (span.text ++ rest) ≡ true
             whole rest more span e =
                 let same : span.text ++ rest ≡ less t ∷ record { ch = 47; at = at } ∷ (t.held.items ++ p ∷ (more ++ rest)) =

@@ -4,7 +4,7 @@ ghost use Rattle.std.specs.Prelude.{◌≡◌, [], ◌∷◌, ◌==◌, ◌&&◌
 ghost use Rattle.std.specs.Char.{to_ascii_lowercase};
 ghost use Rattle.names.specs.declared.placed.Placed.{Placed as Character};
 ghost use Rattle.hmarkup.specs.CommentWalk.{backwards};
-ghost use Rattle.htoken.specs.Tag.{ends_name};
+ghost use Rattle.htag.specs.Tag.{ends_name};
 ghost use Rattle.htoken.specs.Script.{HasFront, FollowsAll, level_number, mark_after, word_after, level_after, is_dashes, is_less_bang_dash, is_read};
 
 use names::Placed;

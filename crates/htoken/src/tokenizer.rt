@@ -20,21 +20,22 @@ ghost use Rattle.htoken.specs.Standing.{start_kind};
 ghost use Rattle.htoken.specs.Raw.{is_raw, is_script, ends_by};
 ghost use Rattle.htoken.specs.Spans.{has_references};
 ghost use Rattle.htoken.specs.Run.{run_events};
-ghost use Rattle.htoken.specs.Tag.{ends_name};
+ghost use Rattle.htag.specs.Tag.{ends_name};
+ghost use Rattle.htag.specs.TagWalk.{IsInTag};
 ghost use Rattle.std.specs.Prelude.{◌&&◌, is_some, length, string_bytes, MatchResult, map, nat_lt};
 ghost use Rattle.std.specs.Char.{to_ascii_lowercase};
 ghost use Rattle.names.specs.Placed.{all, placed};
 ghost use Rattle.htoken.specs.Tokenizing.{after_place, Reads, HasTaken, Takes, Finishes, EndsHeld, less};
-ghost use Rattle.htoken.specs.Steps.{held_in_raw, script_errors, Holds, CutsOff, BeginsBogus, BeginsTag, EndsSpan, GivesSpan, EndsStartTag, EndsTag};
+ghost use Rattle.htoken.specs.Steps.{held_in_raw, script_errors, Holds, CutsOff, KeepsFaults, BeginsBogus, BeginsTag, EndsSpan, GivesSpan, EndsStartTag, EndsTag};
 
 use crate::hand::{give, give_all, give_faulty, hand_over};
 use crate::script::{Script, agrees, ends_name};
 use crate::sink::TokenSink;
 use crate::state::{Raised, State};
-use crate::tag::{TagKind, TagWalk};
 use crate::token::{Start, Token};
 use charref::Table;
 use hmarkup::CommentWalk;
+use htag::{TagKind, TagWalk};
 use names::{ErrorCode, NameId, Names, ParseError, Placed, RawKind, Refusal};
 use std::alloc::{AllocError, Global};
 use std::mem;
@@ -52,7 +53,7 @@ pub struct Tokenizer<'t> {
     pub(crate) next: u64,
     pub(crate) held: Vec<Placed>,
     pub(crate) comment: CommentWalk,
-    pub(crate) tag: TagWalk,
+    pub(crate) tag: TagWalk<'t>,
     pub(crate) script: Script,
     pub(crate) raised: Raised,
     pub(crate) refused: Option<Refusal>,
@@ -182,7 +183,7 @@ impl<'t> Tokenizer<'t> {
         if let Some(refusal) = self.refused {
             return Err(refusal);
         }
-        let answer = self.end_text(end, sink);
+        let answer = self.end_text(names, end, sink);
         if let Err(refusal) = answer {
             self.refused = Some(refusal);
         }
@@ -190,11 +191,17 @@ impl<'t> Tokenizer<'t> {
     }
 
     /// Ends what is held, and hands over the end.
-    fn end_text<S: TokenSink>(&mut self, end: u64, sink: &mut S) -> Result<(), Refusal>
-        ensures { (table : Entities) (start : Kind) (names : Texts) (text : List Character) (taken : List Event) → HasTaken table start self.old names text taken
-            → Finishes (gives_item S.gives S.gives_token) table start end text taken names sink.old result sink.new }
+    fn end_text<S: TokenSink>(
+        &mut self,
+        names: &mut Names,
+        end: u64,
+        sink: &mut S,
+    ) -> Result<(), Refusal>
+        ensures finishes { (table : Entities) (start : Kind) (before : Texts) (text : List Character) (taken : List Event) → Grows before names.old → HasTaken table start self.old before text taken
+            → Finishes (gives_item S.gives S.gives_token) table start end text taken names.new sink.old result sink.new }
+        ensures grows { Grows names.old names.new }
     {
-        self.end_held(end, sink)?;
+        self.end_held(names, end, sink)?;
         self.give_end(end, sink)
     }
 
@@ -227,9 +234,15 @@ impl<'t> Tokenizer<'t> {
     }
 
     /// Hands over what is held as what it is where the input ends.
-    fn end_held<S: TokenSink>(&mut self, end: u64, sink: &mut S) -> Result<(), Refusal>
-        ensures { (table : Entities) (start : Kind) (names : Texts) (text : List Character) (taken : List Event) → HasTaken table start self.old names text taken
-            → EndsHeld (gives_item S.gives S.gives_token) table start end text taken names sink.old result self.new sink.new }
+    fn end_held<S: TokenSink>(
+        &mut self,
+        names: &mut Names,
+        end: u64,
+        sink: &mut S,
+    ) -> Result<(), Refusal>
+        ensures ends { (table : Entities) (start : Kind) (before : Texts) (text : List Character) (taken : List Event) → Grows before names.old → HasTaken table start self.old before text taken
+            → EndsHeld (gives_item S.gives S.gives_token) table start end text taken names.new sink.old result self.new sink.new }
+        ensures grows { Grows names.old names.new }
     {
         match self.state {
             State::Text => Ok(()),
@@ -237,7 +250,7 @@ impl<'t> Tokenizer<'t> {
             State::LessSolidus(at) => self.end_solidus(at, end, sink),
             State::LessBang(_) | State::LessBangDash(_, _) => Err(Refusal::Memory),
             State::Comment => self.end_in_comment(end, sink),
-            State::Tag => self.cut_off(end, sink),
+            State::Tag => self.cut_off(names, end, sink),
             State::RawLess => self.end_raw_less(sink),
             State::RawName(solidus) => self.give_held(solidus, sink),
         }
@@ -280,10 +293,17 @@ impl<'t> Tokenizer<'t> {
     }
 
     /// A tag that the end cuts off gives no token.
-    fn cut_off<S: TokenSink>(&mut self, end: u64, sink: &mut S) -> Result<(), Refusal>
-        ensures { CutsOff (gives_item S.gives S.gives_token) self.old end sink.old result self.new sink.new }
+    fn cut_off<S: TokenSink>(
+        &mut self,
+        names: &mut Names,
+        end: u64,
+        sink: &mut S,
+    ) -> Result<(), Refusal>
+        ensures cuts { (table : Entities) (body : List Character) → IsInTag table names.old self.old.tag body [] self.old.raised.errors.items → CutsOff (gives_item S.gives S.gives_token) table body end sink.old result self.new sink.new }
+        ensures grows { Grows names.old names.new }
     {
         self.kind = RawKind::None;
+        self.tag.end(names, &mut self.raised.errors)?;
         self.raised.errors.push(ParseError {
             code: ErrorCode::EofInTag,
             at: end,
@@ -477,7 +497,7 @@ impl<'t> Tokenizer<'t> {
     fn expected(&self) -> Option<u8>
         ensures { result ≡ slice_get (string_bytes self.now.tag.name) (length self.now.held.items) }
     {
-        self.tag.name.as_bytes().get(self.held.len()).copied()
+        self.tag.name().as_bytes().get(self.held.len()).copied()
     }
 
     /// Hands over what is held in raw text as characters: it is no end tag.
@@ -664,7 +684,10 @@ impl<'t> Tokenizer<'t> {
             → Takes (gives_item S.gives S.gives_token) table start text (record { ch = ch; at = at } ∷ []) taken names.new sink.old result sink.new self.new }
         ensures grows { Grows names.old names.new }
     {
-        if self.tag.take_char(ch, at, &mut self.raised.errors)? {
+        if self
+            .tag
+            .take_char(self.table, names, ch, at, &mut self.raised.errors)?
+        {
             self.end_tag(names, sink)
         } else {
             Ok(())
@@ -676,11 +699,34 @@ impl<'t> Tokenizer<'t> {
         ensures tag { EndsTag (gives_item S.gives S.gives_token) self.old names.new sink.old result self.new sink.new }
         ensures grows { Grows names.old names.new }
     {
-        let name = names.intern(self.alloc, &self.tag.name)?;
-        match self.tag.kind {
+        let name = names.intern(self.alloc, self.tag.name())?;
+        match self.tag.kind() {
             TagKind::Start => self.end_start_tag(name, sink),
-            TagKind::End => self.end_end_tag(name, sink),
+            TagKind::End => {
+                self.keep_faults()?;
+                self.end_end_tag(name, sink)
+            }
         }
+    }
+
+    /// Keeps the errors of an end tag that has attributes or a solidus. It drops them.
+    fn keep_faults(&mut self) -> Result<(), AllocError>
+        ensures { OnOk result (KeepsFaults self.old self.new) }
+    {
+        let at = self.at;
+        if self.tag.has_attributes() {
+            self.raised.errors.push(ParseError {
+                code: ErrorCode::EndTagWithAttributes,
+                at,
+            })?;
+        }
+        if self.tag.is_closing() {
+            self.raised.errors.push(ParseError {
+                code: ErrorCode::EndTagWithTrailingSolidus,
+                at,
+            })?;
+        }
+        Ok(())
     }
 
     fn end_end_tag<S: TokenSink>(&mut self, name: NameId, sink: &mut S) -> Result<(), Refusal>
@@ -693,7 +739,7 @@ impl<'t> Tokenizer<'t> {
 
     /// Hands over a start tag of this name, unless it is left out of the profile.
     fn end_start_tag<S: TokenSink>(&mut self, name: NameId, sink: &mut S) -> Result<(), Refusal>
-        ensures { (text : List ℕ) → EndsStartTag (gives_item S.gives S.gives_token) self.old name text sink.old result self.new sink.new }
+        ensures { (text : List ℕ) (attrs : List (List ℕ × List ℕ)) → EndsStartTag (gives_item S.gives S.gives_token) self.old name text attrs sink.old result self.new sink.new }
     {
         let at = self.at;
         let tag = name.tag();
@@ -703,11 +749,13 @@ impl<'t> Tokenizer<'t> {
         self.kind = tag.raw_kind();
         self.last = Some(name);
         self.script = Script::new();
+        let closing = self.tag.is_closing();
+        let attrs = self.tag.take_attributes();
         self.end_span(
             Token::Start {
                 name,
-                attrs: Vec::new(self.alloc),
-                closing: false,
+                attrs,
+                closing,
                 at,
             },
             sink,
