@@ -5,7 +5,7 @@ ghost use Rattle.names.specs.declared.placed.Placed.{Placed as Character};
 ghost use Rattle.names.specs.declared.raw.RawKind.{RawKind as Kind};
 ghost use Rattle.names.specs.declared.refusal.Refusal.{Refusal as Refused};
 ghost use Rattle.names.specs.Names.{Texts, Grows};
-ghost use Rattle.names.specs.Placed.{error};
+ghost use Rattle.names.specs.Placed.{error, place};
 ghost use Rattle.names.specs.Sink.{Hands};
 ghost use Rattle.charref.specs.Reference.{Entities};
 ghost use Rattle.htoken.specs.Script.{HasFront, level_number};
@@ -25,16 +25,17 @@ ghost use Rattle.htag.specs.TagWalk.{IsInTag};
 ghost use Rattle.std.specs.Prelude.{◌&&◌, is_some, length, string_bytes, MatchResult, map, nat_lt};
 ghost use Rattle.std.specs.Char.{to_ascii_lowercase};
 ghost use Rattle.names.specs.Placed.{all, placed};
-ghost use Rattle.htoken.specs.Tokenizing.{after_place, Reads, HasTaken, Takes, Finishes, EndsHeld, less};
+ghost use Rattle.htoken.specs.Tokenizing.{after_place, Reads, HasTaken, Takes, Finishes, EndsHeld, less, doctype_token};
 ghost use Rattle.htoken.specs.Steps.{held_in_raw, script_errors, Holds, CutsOff, KeepsFaults, BeginsBogus, BeginsTag, EndsSpan, GivesSpan, EndsStartTag, EndsTag};
 
+use crate::declaration::{Opened, Opens, is_plain as is_plain_text};
 use crate::hand::{give, give_all, give_faulty, hand_over};
 use crate::script::{Script, agrees, ends_name};
 use crate::sink::TokenSink;
 use crate::state::{Raised, State};
 use crate::token::{Start, Token};
 use charref::Table;
-use hmarkup::CommentWalk;
+use hmarkup::{CommentWalk, DoctypeWalk};
 use htag::{TagKind, TagWalk};
 use names::{ErrorCode, NameId, Names, ParseError, Placed, RawKind, Refusal};
 use std::alloc::{AllocError, Global};
@@ -53,6 +54,7 @@ pub struct Tokenizer<'t> {
     pub(crate) next: u64,
     pub(crate) held: Vec<Placed>,
     pub(crate) comment: CommentWalk,
+    pub(crate) doctype: DoctypeWalk,
     pub(crate) tag: TagWalk<'t>,
     pub(crate) script: Script,
     pub(crate) raised: Raised,
@@ -88,6 +90,7 @@ impl<'t> Tokenizer<'t> {
             next: 0,
             held: Vec::new(alloc),
             comment: CommentWalk::bogus(alloc),
+            doctype: DoctypeWalk::new(alloc),
             tag: TagWalk::new(alloc),
             script: Script::new(),
             raised: Raised {
@@ -248,8 +251,9 @@ impl<'t> Tokenizer<'t> {
             State::Text => Ok(()),
             State::Less => self.end_less(end, sink),
             State::LessSolidus(at) => self.end_solidus(at, end, sink),
-            State::LessBang(_) | State::LessBangDash(_, _) => Err(Refusal::Memory),
+            State::Declaration(bang, so) => self.end_declaration(bang, so, end, sink),
             State::Comment => self.end_in_comment(end, sink),
+            State::Doctype => self.end_in_doctype(end, sink),
             State::Tag => self.cut_off(names, end, sink),
             State::RawLess => self.end_raw_less(sink),
             State::RawName(solidus) => self.give_held(solidus, sink),
@@ -275,6 +279,33 @@ impl<'t> Tokenizer<'t> {
     {
         self.comment.end(end, &mut self.raised)?;
         self.end_comment(sink)
+    }
+
+    /// What comes after `<!` is read as a comment that ends where the input does.
+    fn end_declaration<S: TokenSink>(
+        &mut self,
+        bang: u64,
+        so: Opened,
+        end: u64,
+        sink: &mut S,
+    ) -> Result<(), Refusal>
+        requires { self.old.state ≡ State.Declaration bang so }
+        ensures { (table : Entities) (start : Kind) (names : Texts) (text : List Character) (taken : List Event) → Reads table start self.old names text [] taken
+            → EndsHeld (gives_item S.gives S.gives_token) table start end text taken names sink.old result self.new sink.new }
+    {
+        self.begin_held(ErrorCode::IncorrectlyOpenedComment, end)?;
+        self.comment.end(end, &mut self.raised)?;
+        self.end_comment(sink)
+    }
+
+    /// A doctype ends where the input does.
+    fn end_in_doctype<S: TokenSink>(&mut self, end: u64, sink: &mut S) -> Result<(), Refusal>
+        requires { self.old.state ≡ State.Doctype }
+        ensures { (table : Entities) (start : Kind) (names : Texts) (text : List Character) (taken : List Event) → Reads table start self.old names text [] taken
+            → EndsHeld (gives_item S.gives S.gives_token) table start end text taken names sink.old result self.new sink.new }
+    {
+        self.doctype.end(end, &mut self.raised)?;
+        self.end_doctype(sink)
     }
 
     /// A `<` right before the end is text (13.2.5.6).
@@ -328,9 +359,9 @@ impl<'t> Tokenizer<'t> {
             State::Text => self.in_text(ch, at, sink),
             State::Less => self.after_less(ch, at, sink),
             State::LessSolidus(_) => self.after_solidus(ch, at, sink),
-            State::LessBang(_) => self.after_bang(ch, at, sink),
-            State::LessBangDash(_, _) => self.after_dash(ch, at, sink),
+            State::Declaration(bang, so) => self.in_declaration(bang, so, ch, at, sink),
             State::Comment => self.in_comment(ch, at, sink),
+            State::Doctype => self.in_doctype(ch, at, sink),
             State::Tag => self.in_tag(names, ch, at, sink),
             State::RawLess => self.after_raw_less(ch, at, sink),
             State::RawName(solidus) => self.in_raw_name(solidus, names, ch, at, sink),
@@ -544,7 +575,8 @@ impl<'t> Tokenizer<'t> {
                 Ok(())
             }
             '!' => {
-                self.state = State::LessBang(at);
+                self.state = State::Declaration(at, Opened::Nothing);
+                self.held.clear();
                 Ok(())
             }
             '?' => {
@@ -594,44 +626,111 @@ impl<'t> Tokenizer<'t> {
     }
 
     /// After `<!` (13.2.5.42).
-    fn after_bang<S: TokenSink>(&mut self, ch: char, at: u64, sink: &mut S) -> Result<(), Refusal>
-        requires { (bang : ℕ) × (self.old.state ≡ State.LessBang bang) }
+    fn in_declaration<S: TokenSink>(
+        &mut self,
+        bang: u64,
+        so: Opened,
+        ch: char,
+        at: u64,
+        sink: &mut S,
+    ) -> Result<(), Refusal>
+        requires { self.old.state ≡ State.Declaration bang so }
         ensures { (table : Entities) (start : Kind) (names : Texts) (text : List Character) (taken : List Event) → Reads table start self.old names text (record { ch = ch; at = at } ∷ []) taken
             → Takes (gives_item S.gives S.gives_token) table start text (record { ch = ch; at = at } ∷ []) taken names sink.old result sink.new self.new }
     {
-        match ch {
-            '-' => match self.state {
-                State::LessBang(bang) => {
-                    self.state = State::LessBangDash(bang, at);
-                    Ok(())
-                }
-                _ => Err(Refusal::Memory),
-            },
-            'd' | 'D' | '[' => Err(Refusal::Memory),
-            _ => {
-                self.begin_bogus(ErrorCode::IncorrectlyOpenedComment, at)?;
+        match so.after(self.held_count(), ch) {
+            Opens::Front(so) => {
+                self.state = State::Declaration(bang, so);
+                self.held.push(Placed { ch, at })?;
+                Ok(())
+            }
+            Opens::Comment => {
+                self.comment = CommentWalk::comment(self.alloc);
+                self.state = State::Comment;
+                Ok(())
+            }
+            Opens::Doctype => {
+                self.doctype = DoctypeWalk::new(self.alloc);
+                self.state = State::Doctype;
+                Ok(())
+            }
+            Opens::Cdata => {
+                self.held.push(Placed { ch, at })?;
+                self.begin_held(ErrorCode::CdataInHtmlContent, at)
+            }
+            Opens::Bogus => {
+                self.begin_held(ErrorCode::IncorrectlyOpenedComment, at)?;
                 self.in_comment(ch, at, sink)
             }
         }
     }
 
-    /// After `<!-`.
-    fn after_dash<S: TokenSink>(&mut self, ch: char, at: u64, sink: &mut S) -> Result<(), Refusal>
-        requires { (bang : ℕ) × (dash : ℕ) × (self.old.state ≡ State.LessBangDash bang dash) }
-        ensures { (table : Entities) (start : Kind) (names : Texts) (text : List Character) (taken : List Event) → Reads table start self.old names text (record { ch = ch; at = at } ∷ []) taken
-            → Takes (gives_item S.gives S.gives_token) table start text (record { ch = ch; at = at } ∷ []) taken names sink.old result sink.new self.new }
+    /// Begins what is read as a comment with the characters that are held after `<!`. The error stands at the first of them, or here.
+    fn begin_held(&mut self, code: ErrorCode, at: u64) -> Result<(), Refusal>
+        ensures { MatchResult result (λ _. BeginsBogus self.old self.old.held.items (error code (place at self.old.held.items)) self.new) (λ refusal. refusal ≡ Refusal.Memory) }
     {
-        if ch != '-' {
+        if !is_plain_text(&self.held) {
             return Err(Refusal::Memory);
         }
-        self.comment = CommentWalk::comment(self.alloc);
+        let at = self.first_held(at);
+        self.raised.errors.push(ParseError { code, at })?;
+        self.comment = CommentWalk::bogus_after(self.alloc, &self.held)?;
         self.state = State::Comment;
         Ok(())
     }
 
+    /// How many characters are held after a mark.
+    fn held_count(&self) -> usize
+        ensures { result ≡ length self.now.held.items }
+    {
+        self.held.len()
+    }
+
+    /// The place of the first character that is held after `<!`, or this one.
+    fn first_held(&self, at: u64) -> u64
+        ensures { result ≡ place at self.now.held.items }
+    {
+        match self.held.first() {
+            Some(first) => first.at,
+            None => at,
+        }
+    }
+
+    /// Takes a character of a doctype.
+    fn in_doctype<S: TokenSink>(&mut self, ch: char, at: u64, sink: &mut S) -> Result<(), Refusal>
+        requires { self.old.state ≡ State.Doctype }
+        ensures { (table : Entities) (start : Kind) (names : Texts) (text : List Character) (taken : List Event) → Reads table start self.old names text (record { ch = ch; at = at } ∷ []) taken
+            → Takes (gives_item S.gives S.gives_token) table start text (record { ch = ch; at = at } ∷ []) taken names sink.old result sink.new self.new }
+    {
+        if self.doctype.take_char(ch, at, &mut self.raised)? {
+            self.end_doctype(sink)
+        } else {
+            Ok(())
+        }
+    }
+
+    /// Hands over the doctype that has ended.
+    fn end_doctype<S: TokenSink>(&mut self, sink: &mut S) -> Result<(), Refusal>
+        ensures { GivesSpan (gives_item S.gives S.gives_token) (λ names token. TokenMeans names token (doctype_token self.old.doctype.found self.old.at)) self.old sink.old result self.new sink.new }
+    {
+        let walk = mem::replace(&mut self.doctype, DoctypeWalk::new(self.alloc));
+        let doctype = walk.into_doctype();
+        let at = self.at;
+        self.end_span(
+            Token::Doctype {
+                name: doctype.name,
+                public_id: doctype.public_id,
+                system_id: doctype.system_id,
+                forced: doctype.forced,
+                at,
+            },
+            sink,
+        )
+    }
+
     /// Begins what is read as a comment up to the first `>`, with an error.
     fn begin_bogus(&mut self, code: ErrorCode, at: u64) -> Result<(), AllocError>
-        ensures { OnOk result (BeginsBogus self.old (error code at) self.new) }
+        ensures { OnOk result (BeginsBogus self.old [] (error code at) self.new) }
     {
         self.raised.errors.push(ParseError { code, at })?;
         self.comment = CommentWalk::bogus(self.alloc);
