@@ -57,8 +57,8 @@ module _ (table : Entities) (names : Texts) (walk : TagWalk) (body : List Placed
       let part : Part = attribute_part n.name [] [] [] in
       let text : part.text ++ (n.sign ++ p ∷ []) ≡ h.held ++ p ∷ [] = ap (λ (x : List Placed). x ++ (n.sign ++ p ∷ [])) (append-nil n.name) ∙ sym (append_assoc n.name n.sign (p ∷ [])) ∙ ap (λ (x : List Placed). x ++ p ∷ []) (sym n.held_is) in
       let same : part.attribute ≡ Some (attribute_of walk) =
-      ap (λ (x : List ℕ). Some (record { name = x; value = []; at = place 0 n.name })) (sym n.has_name.is) ∙ ap (λ (x : List ℕ). Some (record { name = string_bytes walk.attribute; value = x; at = place 0 n.name })) (sym n.no_value)
-      ∙ ap (λ (x : ℕ). Some (record { name = string_bytes walk.attribute; value = string_bytes walk.value; at = x })) n.has_name.at_is in
+      ap (λ (x : List ℕ). Some (record { name = x; value = []; at = place 0 n.name })) (sym n.has_name.is) ∙ ap (λ (x : List ℕ). Some (record { name = string_bytes walk.attribute; value = x; at = place 0 n.name })) (sym n.no_value.empty)
+      ∙ ap (λ (x : ℕ). Some (record { name = string_bytes walk.attribute; value = string_bytes walk.value.text; at = x })) n.has_name.at_is in
       let ended = ends.ends h.parts part same h.has_attributes in
       let early : IsInTag table after new (h.name ++ (parts_text h.parts ++ n.name)) (n.sign ++ p ∷ []) later = record {
         name = h.name;

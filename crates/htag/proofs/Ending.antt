@@ -38,13 +38,13 @@ module _ (before after : Texts) (grows : Grows before after) (are : AreNames aft
   }
 
   -- it is the first of its name
-  pub first_ends : (value : Attr) → first ≡ true → value.name ≡ id → string_bytes value.value ≡ string_bytes old.value → new.attrs.items ≡ old.attrs.items ++ value ∷ []
+  pub first_ends : (value : Attr) → first ≡ true → value.name ≡ id → string_bytes value.value ≡ string_bytes old.value.text → new.attrs.items ≡ old.attrs.items ++ value ∷ []
       → HasAttributes after new (parts ++ part ∷ []) × (repeated (names_after [] parts) part.attribute ≡ [])
   first_ends value one name is_value attrs =
       let none : is_known (names_after [] parts) (string_bytes old.attribute) ≡ false = known ∙ ap not one in (
-        holds (subst (AttrsMean after new.attrs.items) (ap (λ (x : List (List ℕ × List ℕ)). attributes_after [] parts ++ x) (sym (ap (kept (names_after [] parts)) is ∙ ap (λ (b : Bool). if b then [] else (string_bytes old.attribute, string_bytes old.value) ∷ []) none)))
-            (subst (λ (x : List Attr). AttrsMean after x (attributes_after [] parts ++ (string_bytes old.attribute, string_bytes old.value) ∷ [])) (sym attrs)
-            (attrs-snoc after old.attrs.items (attributes_after [] parts) value (string_bytes old.attribute, string_bytes old.value) (attrs_kept before after grows old.attrs.items (attributes_after [] parts) h.attributes) (ap (slice_get after) name ∙ number) is_value))),
+        holds (subst (AttrsMean after new.attrs.items) (ap (λ (x : List (List ℕ × List ℕ)). attributes_after [] parts ++ x) (sym (ap (kept (names_after [] parts)) is ∙ ap (λ (b : Bool). if b then [] else (string_bytes old.attribute, string_bytes old.value.text) ∷ []) none)))
+            (subst (λ (x : List Attr). AttrsMean after x (attributes_after [] parts ++ (string_bytes old.attribute, string_bytes old.value.text) ∷ [])) (sym attrs)
+            (attrs-snoc after old.attrs.items (attributes_after [] parts) value (string_bytes old.attribute, string_bytes old.value.text) (attrs_kept before after grows old.attrs.items (attributes_after [] parts) h.attributes) (ap (slice_get after) name ∙ number) is_value))),
         ap (repeated (names_after [] parts)) is ∙ ap (λ (b : Bool). if b then error DuplicateAttribute old.place ∷ [] else []) none,
       )
 
@@ -52,7 +52,7 @@ module _ (before after : Texts) (grows : Grows before after) (are : AreNames aft
   pub repeated_ends : first ≡ false → new.attrs ≡ old.attrs → HasAttributes after new (parts ++ part ∷ []) × (repeated (names_after [] parts) part.attribute ≡ error DuplicateAttribute old.place ∷ [])
   repeated_ends again attrs =
       let some : is_known (names_after [] parts) (string_bytes old.attribute) ≡ true = known ∙ ap not again in
-      let nothing : kept (names_after [] parts) part.attribute ≡ [] = ap (kept (names_after [] parts)) is ∙ ap (λ (b : Bool). if b then [] else (string_bytes old.attribute, string_bytes old.value) ∷ []) some in (
+      let nothing : kept (names_after [] parts) part.attribute ≡ [] = ap (kept (names_after [] parts)) is ∙ ap (λ (b : Bool). if b then [] else (string_bytes old.attribute, string_bytes old.value.text) ∷ []) some in (
         holds (subst (λ (x : Vec Attr Global). AttrsMean after x.items (attributes_after [] parts ++ kept (names_after [] parts) part.attribute)) (sym attrs)
             (subst (AttrsMean after old.attrs.items) (sym (ap (λ (x : List (List ℕ × List ℕ)). attributes_after [] parts ++ x) nothing ∙ append-nil (attributes_after [] parts)))
             (attrs_kept before after grows old.attrs.items (attributes_after [] parts) h.attributes))),

@@ -15,12 +15,23 @@ use Rattle.htag.specs.declared.phase.Phase.{Phase}
 use Rattle.htag.specs.declared.phase.Phase.TheVariants as phase
 use Rattle.htag.specs.declared.walk.TagWalk.{TagWalk}
 use Rattle.htag.specs.Tag.{Part, IsPart, AreParts, parts_text, errors_after, tag_errors, tag_close, ends_name, ends_attribute_name, attribute_name_errors, name_errors_here, attribute_part, repeated}
-use Rattle.htag.specs.TagWalk.{names_after, HasAttributes, HasName, InName, HasPhase, IsPast, IsInTag, IsWholeTag}
-use Rattle.htag.specs.Steps.{AddsToName, BeginsAttribute, EndsAttribute, attribute_of}
+use Rattle.htag.specs.TagWalk.{NoValue, names_after, HasAttributes, HasName, InName, HasPhase, IsPast, IsInTag, IsWholeTag}
+use Rattle.htag.specs.Steps.{KeepsTag, AddsToName, BeginsAttribute, EndsAttribute, attribute_of}
 use Rattle.htag.proofs.Parts.{begins-more, all-snoc, parts_text-snoc, AreParts-snoc, errors-snoc, holds_plain, holds_same, past-space}
 
 abbrev pub space_part : Placed → Part
 space_part p = record { text = p ∷ []; attribute = None; errors = [] }
+
+-- the errors of a part more
+pub part_errors : (name : List Placed) (parts : List Part) (held errors : List ParseError) → errors ≡ tag_errors name parts ++ held → (part : Part) (e later : List ParseError) → part.errors ≡ held ++ e
+    → later ≡ (errors ++ e) ++ repeated (names_after [] parts) part.attribute → later ≡ tag_errors name (parts ++ part ∷ [])
+part_errors name parts held errors so_far part e later own is =
+    let r : List ParseError = repeated (names_after [] parts) part.attribute in
+    is ∙ ap (λ (x : List ParseError). (x ++ e) ++ r) so_far ∙ ap (λ (x : List ParseError). x ++ r) (append_assoc (tag_errors name parts) held e) ∙ ap (λ (x : List ParseError). (tag_errors name parts ++ x) ++ r) (sym own)
+    ∙ append_assoc (tag_errors name parts) part.errors r ∙ append_assoc (null_errors name) (errors_after [] parts) (part.errors ++ r) ∙ ap (λ (x : List ParseError). null_errors name ++ x) (sym (errors-snoc [] parts part))
+
+pub keeps_self : (walk : TagWalk) → KeepsTag walk walk
+keeps_self walk = record { kind_is = refl; name_is = refl; attrs_are = refl; seen_is = refl; any_is = refl }
 
 module _ (table : Entities) (names : Texts) (walk : TagWalk) (body : List Placed) (p : Placed) (errors : List ParseError) (h : IsInTag table names walk body (p ∷ []) errors) where
   abbrev pub Past : Bool
@@ -56,11 +67,7 @@ module _ (table : Entities) (names : Texts) (walk : TagWalk) (body : List Placed
 
   -- a part has ended before the character
   pub errors_then : (part : Part) (e later : List ParseError) → part.errors ≡ h.own ++ e → later ≡ (errors ++ e) ++ repeated (names_after [] h.parts) part.attribute → later ≡ tag_errors h.name (h.parts ++ part ∷ []) ++ []
-  errors_then part e later own is =
-      let r : List ParseError = repeated (names_after [] h.parts) part.attribute in
-      is ∙ ap (λ (x : List ParseError). (x ++ e) ++ r) h.errors_are ∙ ap (λ (x : List ParseError). x ++ r) (append_assoc (tag_errors h.name h.parts) h.own e) ∙ ap (λ (x : List ParseError). (tag_errors h.name h.parts ++ x) ++ r) (sym own)
-      ∙ append_assoc (tag_errors h.name h.parts) part.errors r ∙ append_assoc (null_errors h.name) (errors_after [] h.parts) (part.errors ++ r)
-      ∙ ap (λ (x : List ParseError). null_errors h.name ++ x) (sym (errors-snoc [] h.parts part)) ∙ sym (append-nil (tag_errors h.name (h.parts ++ part ∷ [])))
+  errors_then part e later own is = part_errors h.name h.parts h.own errors h.errors_are part e later own is ∙ sym (append-nil (tag_errors h.name (h.parts ++ part ∷ [])))
 
   pub part_ends : (part : Part) → part.text ≡ h.held → ((end : ℕ) (more : List Placed) → IsPart table end (p ∷ more) part) → (after : Texts) (new : TagWalk) (e later : List ParseError) → part.errors ≡ h.own ++ e
       → later ≡ (errors ++ e) ++ repeated (names_after [] h.parts) part.attribute → new.name ≡ walk.name → new.phase ≡ phase.BeforeAttribute → HasAttributes after new (h.parts ++ part ∷ []) → Past ≡ true
@@ -83,16 +90,16 @@ module _ (table : Entities) (names : Texts) (walk : TagWalk) (body : List Placed
   }
 
   -- an attribute has ended before the character
-  pub attribute_ends : (name others : List Placed) (value : List ℕ) (e' : List ParseError) → name ++ others ≡ h.held → ((end : ℕ) (more : List Placed) → IsPart table end (p ∷ more) (attribute_part name others value e'))
-      → HasName walk name → string_bytes walk.value ≡ value → (e mid : List ParseError) → attribute_name_errors name ++ e' ≡ h.own ++ e → mid ≡ errors ++ e
-      → (after : Texts) (new : TagWalk) (later : List ParseError) → EndsAttribute names after walk mid new later → Past ≡ true → IsInTag table after new body (p ∷ []) later
-  attribute_ends name others value e' text is has value_is e mid own mid_is after new later ends gone =
+  pub attribute_ends : (mid_walk : TagWalk) → KeepsTag walk mid_walk → mid_walk.attribute ≡ walk.attribute → mid_walk.place ≡ walk.place → (name others : List Placed) (value : List ℕ) (e' : List ParseError) → name ++ others ≡ h.held
+      → ((end : ℕ) (more : List Placed) → IsPart table end (p ∷ more) (attribute_part name others value e')) → HasName walk name → string_bytes mid_walk.value.text ≡ value → (e mid : List ParseError) → attribute_name_errors name ++ e' ≡ h.own ++ e → mid ≡ errors ++ e
+      → (after : Texts) (new : TagWalk) (later : List ParseError) → EndsAttribute names after mid_walk mid new later → Past ≡ true → IsInTag table after new body (p ∷ []) later
+  attribute_ends mid_walk keeps attribute at name others value e' text is has value_is e mid own mid_is after new later ends gone =
       let part : Part = attribute_part name others value e' in
-      let same : part.attribute ≡ Some (attribute_of walk) =
-      ap (λ (x : List ℕ). Some (record { name = x; value = value; at = place 0 name })) (sym has.is) ∙ ap (λ (x : List ℕ). Some (record { name = string_bytes walk.attribute; value = x; at = place 0 name })) (sym value_is)
-      ∙ ap (λ (x : ℕ). Some (record { name = string_bytes walk.attribute; value = string_bytes walk.value; at = x })) has.at_is in
-      let ended = ends.ends h.parts part same h.has_attributes in
-      part_ends part text is after new e later own (ended.1 ∙ ap (λ (x : List ParseError). x ++ repeated (names_after [] h.parts) part.attribute) mid_is) ends.name_is ends.phase_is ended.0 gone
+      let same : part.attribute ≡ Some (attribute_of mid_walk) =
+      ap (λ (x : List ℕ). Some (record { name = x; value = value; at = place 0 name })) (sym has.is ∙ ap string_bytes (sym attribute)) ∙ ap (λ (x : List ℕ). Some (record { name = string_bytes mid_walk.attribute; value = x; at = place 0 name })) (sym value_is)
+      ∙ ap (λ (x : ℕ). Some (record { name = string_bytes mid_walk.attribute; value = string_bytes mid_walk.value.text; at = x })) (has.at_is ∙ sym at) in
+      let ended = ends.ends h.parts part same (holds_same names walk mid_walk h.parts keeps.seen_is keeps.attrs_are keeps.any_is h.has_attributes) in
+      part_ends part text is after new e later own (ended.1 ∙ ap (λ (x : List ParseError). x ++ repeated (names_after [] h.parts) part.attribute) mid_is) (ends.name_is ∙ keeps.name_is) ends.phase_is ended.0 gone
 
   -- BEFORE AN ATTRIBUTE
 
@@ -220,7 +227,7 @@ module _ (table : Entities) (names : Texts) (walk : TagWalk) (body : List Placed
                 ∙ ap (λ (x : List ℕ). name_bytes h.held ++ x) (sym (append-nil (encode_utf8 (to_ascii_lowercase (without_null p.ch))))) ∙ sym (name_bytes-append h.held (p ∷ []));
             at_is = place_more h.held n.has_name.first ∙ n.has_name.at_is ∙ sym a.place_is;
           };
-          no_value = ap string_bytes a.value_is ∙ n.no_value;
+          no_value = subst NoValue (sym a.value_is) n.no_value;
           own_is = ap (λ (x : List ParseError). x ++ name_errors_here p) n.own_is
               ∙ append_assoc (error_if (begins is_equals h.held) UnexpectedEqualsSignBeforeAttributeName (place 0 h.held)) (flat_map name_errors_here h.held) (name_errors_here p)
               ∙ ap (λ (x : List ParseError). error_if (begins is_equals h.held) UnexpectedEqualsSignBeforeAttributeName (place 0 h.held) ++ x) (ap (λ (x : List ParseError). flat_map name_errors_here h.held ++ x) (sym (append-nil (name_errors_here p))) ∙ sym (flat_map-append name_errors_here h.held (p ∷ [])))
@@ -232,6 +239,6 @@ module _ (table : Entities) (names : Texts) (walk : TagWalk) (body : List Placed
     pub bare_ends : (after : Texts) (new : TagWalk) (later : List ParseError) → EndsAttribute names after walk errors new later → ends_attribute_name p.ch ≡ true → is_space p.ch ≡ false → is_equals p.ch ≡ false → IsInTag table after new body (p ∷ []) later
     bare_ends after new later ends stop no_space no_equals =
         let n = named_here in
-        attribute_ends h.held [] [] [] (append-nil h.held)
+        attribute_ends walk (keeps_self walk) refl refl h.held [] [] [] (append-nil h.held)
         (λ end more. IsPart.bare h.held (record { first = n.has_name.first; runs = record { passes_none = n.has_name.runs; stops_after = stop } }) (ap (begins is_equals) (past-space [] p more refl no_space) ∙ no_equals) refl)
-        n.has_name n.no_value [] errors (append-nil (attribute_name_errors h.held) ∙ sym n.own_is ∙ sym (append-nil h.own)) (sym (append-nil errors)) after new later ends (past_is phase.AttributeName in_name)
+        n.has_name n.no_value.empty [] errors (append-nil (attribute_name_errors h.held) ∙ sym n.own_is ∙ sym (append-nil h.own)) (sym (append-nil errors)) after new later ends (past_is phase.AttributeName in_name)

@@ -1,28 +1,27 @@
 -- What follows an attribute's name: `=` and a value.
 use Rattle.std.proofs.Common.{◌≡◌, ℕ, Bool, true, false, not, ◌||◌, ◌&&◌, eqb, List, [], ◌∷◌, ◌++◌, sym, refl, ap, ◌∙◌, subst, append_assoc, append-nil}
-use Rattle.std.specs.Prelude.{encode_utf8_all}
-use Rattle.std.specs.Char.{encode_utf8}
 use Rattle.std.specs.String.{string_bytes}
-use Rattle.std.specs.List.{flat_map}
 use Rattle.std.proofs.lemmas.Bool.{eqb-true}
-use Rattle.std.proofs.lemmas.Grind.{flat_map-append}
-use Rattle.names.specs.declared.error.ErrorCode.TheVariants.{MissingAttributeValue, MissingWhitespaceBetweenAttributes, UnexpectedCharacterInUnquotedAttributeValue}
+use Rattle.names.specs.declared.error.ErrorCode.TheVariants.{MissingAttributeValue, MissingWhitespaceBetweenAttributes}
 use Rattle.names.specs.declared.error.ParseError.{ParseError}
 use Rattle.names.specs.declared.placed.Placed.{Placed}
 use Rattle.names.specs.Names.{Texts}
-use Rattle.names.specs.Placed.{begins, stops, all, is_space, is_equals, is_greater, is_quote, error, error_if, errors_at, null_errors, without_null}
+use Rattle.names.specs.Placed.{begins, stops, all, is_space, is_equals, is_greater, is_quote, error, error_if}
 use Rattle.hmarkup.proofs.Marks.{and_parts, and_both}
-use Rattle.std.proofs.lemmas.Str.{encodes-append}
-use Rattle.charref.specs.Reference.{Entities, Piece}
+use Rattle.charref.specs.Reference.{Entities}
 use Rattle.htag.specs.declared.phase.Phase.{Phase}
 use Rattle.htag.specs.declared.phase.Phase.TheVariants as phase
 use Rattle.htag.specs.declared.walk.TagWalk.{TagWalk}
-use Rattle.htag.specs.Value.{AreValue, IsPiece, pieces_text, plain_piece, value_bytes}
-use Rattle.htag.specs.Tag.{IsPart, is_sign, ends_name, ends_attribute_name, ends_unquoted, attribute_name_errors, value_errors, unquoted_errors, is_odd}
-use Rattle.htag.specs.TagWalk.{HasName, HasValue, HasPhase, IsPast, IsInTag}
-use Rattle.htag.specs.Steps.{AddsUnquoted, EndsAttribute}
+use Rattle.htag.specs.declared.reading.Reading.{Reading}
+use Rattle.htag.specs.declared.value.ValueWalk.{ValueWalk}
+use Rattle.htag.specs.Value.{pieces_text, value_bytes}
+use Rattle.htag.specs.ValueWalk.{HasHeld, IsInValue, TakesInValue, EndsValue, pieces_errors}
+use Rattle.htag.proofs.InValue.{looks_ahead}
+use Rattle.htag.specs.Tag.{IsPart, is_sign, ends_name, ends_attribute_name, ends_unquoted, attribute_name_errors, value_errors, unquoted_errors}
+use Rattle.htag.specs.TagWalk.{NoValue, HasName, HasPhase, IsPast, IsInTag}
+use Rattle.htag.specs.Steps.{KeepsTag, EndsAttribute}
 use Rattle.htag.proofs.Parts.{begins-more, all-snoc}
-use Rattle.htag.proofs.Phases.{Past, past_is, held_in, goes_on, attribute_ends}
+use Rattle.htag.proofs.Phases.{keeps_self, Past, past_is, held_in, goes_on, attribute_ends}
 
 -- the attribute's name stays
 name_stays : (walk new : TagWalk) (name : List Placed) → new.attribute ≡ walk.attribute → new.place ≡ walk.place → HasName walk name → HasName new name
@@ -57,22 +56,19 @@ sign_stops (x ∷ xs) h = by (is_space x.ch) refl where
   by true e = ends_by_space x.ch e
   by false e = let parts = and_parts (is_equals x.ch) (all is_space xs) (sym (other_first x xs e) ∙ h) in ap ends_attribute_name (eqb-true x.ch 61 parts.0)
 
-pieces_text-snoc : (pieces : List Piece) (p : Placed) → pieces_text (pieces ++ plain_piece p ∷ []) ≡ pieces_text pieces ++ p ∷ []
-pieces_text-snoc pieces p = flat_map-append (λ (x : Piece). x.text) pieces (plain_piece p ∷ [])
-
--- a value of a character more
-value_more : (table : Entities) (walk new : TagWalk) (pieces : List Piece) (p : Placed) → HasValue table walk pieces → eqb p.ch 38 ≡ false → string_bytes new.value ≡ string_bytes walk.value ++ encode_utf8 (without_null p.ch) → HasValue table new (pieces ++ plain_piece p ∷ [])
-value_more table walk new pieces p h plain is = record {
-  begins_value = λ more are. subst (AreValue table) (sym (append_assoc pieces (plain_piece p ∷ []) more)) (h.begins_value (plain_piece p ∷ more) (IsPiece.plain p plain refl, are));
-  is = is ∙ ap (λ (x : List ℕ). x ++ encode_utf8 (without_null p.ch)) h.is ∙ ap (λ (x : List ℕ). value_bytes pieces ++ x) (sym (append-nil (encode_utf8 (without_null p.ch))))
-      ∙ sym (encodes-append (flat_map (λ (x : Piece). x.gives) pieces) (without_null p.ch ∷ [])) ∙ ap encode_utf8_all (sym (flat_map-append (λ (x : Piece). x.gives) pieces (plain_piece p ∷ [])));
-}
-
-no_value_yet : (table : Entities) (walk : TagWalk) → string_bytes walk.value ≡ [] → HasValue table walk []
-no_value_yet table walk e = record { begins_value = λ more are. are; is = e }
-
-whole_value : (table : Entities) (walk : TagWalk) (pieces : List Piece) → HasValue table walk pieces → AreValue table pieces
-whole_value table walk pieces h = subst (AreValue table) (append-nil pieces) (h.begins_value [] tt)
+-- nothing is read of a value yet
+begun_value : (table : Entities) (quoted : Bool) (value : ValueWalk) → NoValue value → IsInValue table quoted value [] [] []
+begun_value table quoted value n = record {
+  pieces = [];
+  held = [];
+  text_is = refl;
+  begins_value = record { value = λ more rest are is. are };
+  errors_are = none quoted;
+  has_held = subst (λ (x : Reading). HasHeld x table value [] []) (sym n.nothing) (refl, n.empty);
+} where
+  none : (b : Bool) → [] ≡ pieces_errors b []
+  none true = refl
+  none false = refl
 
 module _ (table : Entities) (names : Texts) (walk : TagWalk) (body : List Placed) (p : Placed) (errors : List ParseError) (h : IsInTag table names walk body (p ∷ []) errors) where
   -- the same attribute in another phase
@@ -90,7 +86,7 @@ module _ (table : Entities) (names : Texts) (walk : TagWalk) (body : List Placed
           sign = p ∷ [];
           held_is = refl;
           has_name = name_stays walk new h.held attribute at n.has_name;
-          no_value = ap string_bytes value ∙ n.no_value;
+          no_value = subst NoValue (sym value) n.no_value;
           is_sign = and_both (is_space p.ch) true is refl;
           begun = stop;
           own_is = n.own_is;
@@ -104,7 +100,7 @@ module _ (table : Entities) (names : Texts) (walk : TagWalk) (body : List Placed
           sign = p ∷ [];
           held_is = refl;
           has_name = name_stays walk new h.held attribute at n.has_name;
-          no_value = ap string_bytes value ∙ n.no_value;
+          no_value = subst NoValue (sym value) n.no_value;
           is_sign = ap (λ (c : ℕ). is_sign (record { ch = c; at = p.at } ∷ [])) is;
           begun = ap ends_attribute_name is;
           own_is = n.own_is;
@@ -119,7 +115,7 @@ module _ (table : Entities) (names : Texts) (walk : TagWalk) (body : List Placed
           sign = n.sign ++ p ∷ [];
           held_is = ap (λ (x : List Placed). x ++ p ∷ []) n.held_is ∙ append_assoc n.name n.sign (p ∷ []);
           has_name = name_stays walk new n.name attribute at n.has_name;
-          no_value = ap string_bytes value ∙ n.no_value;
+          no_value = subst NoValue (sym value) n.no_value;
           is_sign = all-snoc is_space n.sign p n.is_sign is;
           begun = begins-more ends_attribute_name n.sign (p ∷ []) n.begun;
           own_is = n.own_is;
@@ -133,7 +129,7 @@ module _ (table : Entities) (names : Texts) (walk : TagWalk) (body : List Placed
           sign = n.sign ++ p ∷ [];
           held_is = ap (λ (x : List Placed). x ++ p ∷ []) n.held_is ∙ append_assoc n.name n.sign (p ∷ []);
           has_name = name_stays walk new n.name attribute at n.has_name;
-          no_value = ap string_bytes value ∙ n.no_value;
+          no_value = subst NoValue (sym value) n.no_value;
           is_sign = spaces_sign n.sign p n.is_sign is;
           begun = begins-more ends_attribute_name n.sign (p ∷ []) n.begun;
           own_is = n.own_is;
@@ -147,7 +143,7 @@ module _ (table : Entities) (names : Texts) (walk : TagWalk) (body : List Placed
           sign = n.sign ++ p ∷ [];
           held_is = ap (λ (x : List Placed). x ++ p ∷ []) n.held_is ∙ append_assoc n.name n.sign (p ∷ []);
           has_name = name_stays walk new n.name attribute at n.has_name;
-          no_value = ap string_bytes value ∙ n.no_value;
+          no_value = subst NoValue (sym value) n.no_value;
           is_sign = sign_more n.sign p n.is_sign is;
           begun = begins-more ends_attribute_name n.sign (p ∷ []) n.begun;
           own_is = n.own_is;
@@ -161,65 +157,64 @@ module _ (table : Entities) (names : Texts) (walk : TagWalk) (body : List Placed
           name = n.name;
           sign = n.sign;
           quote = p ∷ [];
-          pieces = [];
+          text = [];
+          raised = [];
           held_is = ap (λ (x : List Placed). x ++ p ∷ []) n.held_is ∙ append_assoc n.name n.sign (p ∷ []) ∙ ap (λ (x : List Placed). n.name ++ x) (sym (append-nil (n.sign ++ p ∷ [])));
           has_name = name_stays walk new n.name attribute at n.has_name;
           signed = n.is_sign;
           opens = refl;
           is_mark = is;
           inside = refl;
-          value = no_value_yet table new (ap string_bytes value ∙ n.no_value);
+          value = begun_value table true new.value (subst NoValue (sym value) n.no_value);
           own_is = n.own_is ∙ sym (append-nil (attribute_name_errors n.name));
         })
 
-    -- the quote that ends the value
-    pub quote_closes : (mark : ℕ) → walk.phase ≡ phase.Quoted mark → new.phase ≡ phase.AfterQuoted → p.ch ≡ mark → IsInTag table names new (body ++ p ∷ []) [] errors
-    quote_closes mark before then is =
-        let q = held_in table names walk body p errors h (phase.Quoted mark) before in
-        moves phase.AfterQuoted then (λ b e. e) (past_is table names walk body p errors h (phase.Quoted mark) before) (record {
-          mark = mark;
-          front = h.held;
-          close = p ∷ [];
-          held_is = refl;
-          in_quotes = record {
-            name = q.name;
-            sign = q.sign;
-            quote = q.quote;
-            pieces = q.pieces;
-            held_is = q.held_is;
-            has_name = name_stays walk new q.name attribute at q.has_name;
-            signed = q.signed;
-            opens = q.opens;
-            is_mark = q.is_mark;
-            inside = q.inside;
-            value = record { begins_value = q.value.begins_value; is = ap string_bytes value ∙ q.value.is };
-            own_is = q.own_is;
-          };
-          closes = ap (λ (c : ℕ). c ∷ []) is;
-        })
-
-  -- a value goes on
-  pub quoted_goes_on : (mark : ℕ) (new : TagWalk) (later : List ParseError) → new.name ≡ walk.name → new.seen ≡ walk.seen → new.attrs ≡ walk.attrs → new.any ≡ walk.any → new.attribute ≡ walk.attribute → new.place ≡ walk.place
-      → string_bytes new.value ≡ string_bytes walk.value ++ encode_utf8 (without_null p.ch) → walk.phase ≡ phase.Quoted mark → new.phase ≡ walk.phase → later ≡ errors ++ null_errors (p ∷ []) → eqb p.ch mark ≡ false → eqb p.ch 38 ≡ false
-      → IsInTag table names new (body ++ p ∷ []) [] later
-  quoted_goes_on mark new later named seen attrs any attribute at value before same later_is other plain =
+  -- the quote that ends the value
+  pub quote_closes : (mark : ℕ) (new : TagWalk) (later : List ParseError) → KeepsTag walk new → new.attribute ≡ walk.attribute → new.place ≡ walk.place → EndsValue walk.value errors new.value later
+      → walk.phase ≡ phase.Quoted mark → new.phase ≡ phase.AfterQuoted → p.ch ≡ mark → IsInTag table names new (body ++ p ∷ []) [] later
+  quote_closes mark new later keeps attribute at v before next is =
       let q = held_in table names walk body p errors h (phase.Quoted mark) before in
-      let then : new.phase ≡ phase.Quoted mark = same ∙ before in
-      goes_on table names walk body p errors h new (null_errors (p ∷ [])) later later_is named seen attrs any (λ b e. subst (λ (x : Phase). IsPast x b) (sym then) e) (past_is table names walk body p errors h (phase.Quoted mark) before)
-      (subst (λ (x : Phase). HasPhase x table new h.parts (h.held ++ p ∷ []) (h.own ++ null_errors (p ∷ []))) (sym then) (record {
+      goes_on table names walk body p errors h new v.more later v.later_is keeps.name_is keeps.seen_is keeps.attrs_are keeps.any_is (λ b e. subst (λ (x : Phase). IsPast x b) (sym next) e) (past_is table names walk body p errors h (phase.Quoted mark) before)
+      (subst (λ (x : Phase). HasPhase x table new h.parts (h.held ++ p ∷ []) (h.own ++ v.more)) (sym next) (record {
+        mark = mark;
         name = q.name;
         sign = q.sign;
         quote = q.quote;
-        pieces = q.pieces ++ plain_piece p ∷ [];
-        held_is = ap (λ (x : List Placed). x ++ p ∷ []) q.held_is ∙ append_assoc q.name (q.sign ++ q.quote ++ pieces_text q.pieces) (p ∷ []) ∙ ap (λ (x : List Placed). q.name ++ x) (append_assoc (q.sign ++ q.quote) (pieces_text q.pieces) (p ∷ []) ∙ ap (λ (x : List Placed). (q.sign ++ q.quote) ++ x) (sym (pieces_text-snoc q.pieces p)));
+        text = q.text;
+        close = p ∷ [];
+        raised = q.raised ++ v.more;
+        held_is = ap (λ (x : List Placed). x ++ p ∷ []) q.held_is ∙ append_assoc q.name (q.sign ++ q.quote ++ q.text) (p ∷ []);
         has_name = name_stays walk new q.name attribute at q.has_name;
         signed = q.signed;
         opens = q.opens;
         is_mark = q.is_mark;
-        inside = ap (all (λ c. not (eqb c mark))) (pieces_text-snoc q.pieces p) ∙ all-snoc (λ c. not (eqb c mark)) (pieces_text q.pieces) p q.inside (ap not other);
-        value = value_more table walk new q.pieces p q.value plain value;
-        own_is = ap (λ (x : List ParseError). x ++ null_errors (p ∷ [])) q.own_is ∙ append_assoc (attribute_name_errors q.name) (value_errors q.pieces) (null_errors (p ∷ []))
-            ∙ ap (λ (x : List ParseError). attribute_name_errors q.name ++ x) (ap (λ (x : List ParseError). value_errors q.pieces ++ x) (sym (append-nil (null_errors (p ∷ [])))) ∙ sym (flat_map-append (λ (x : Piece). x.errors) q.pieces (plain_piece p ∷ [])));
+        inside = q.inside;
+        value = v.ends table true q.text q.raised q.value;
+        closes = ap (λ (c : ℕ). c ∷ []) is;
+        own_is = ap (λ (x : List ParseError). x ++ v.more) q.own_is ∙ append_assoc (attribute_name_errors q.name) q.raised v.more;
+      }))
+
+  -- a value goes on
+  pub quoted_goes_on : (mark : ℕ) (new : TagWalk) (later : List ParseError) → KeepsTag walk new → new.attribute ≡ walk.attribute → new.place ≡ walk.place → TakesInValue table true walk.value p errors new.value later
+      → walk.phase ≡ phase.Quoted mark → new.phase ≡ walk.phase → eqb p.ch mark ≡ false → IsInTag table names new (body ++ p ∷ []) [] later
+  quoted_goes_on mark new later keeps attribute at v before same other =
+      let q = held_in table names walk body p errors h (phase.Quoted mark) before in
+      let next : new.phase ≡ phase.Quoted mark = same ∙ before in
+      goes_on table names walk body p errors h new v.more later v.later_is keeps.name_is keeps.seen_is keeps.attrs_are keeps.any_is (λ b e. subst (λ (x : Phase). IsPast x b) (sym next) e) (past_is table names walk body p errors h (phase.Quoted mark) before)
+      (subst (λ (x : Phase). HasPhase x table new h.parts (h.held ++ p ∷ []) (h.own ++ v.more)) (sym next) (record {
+        name = q.name;
+        sign = q.sign;
+        quote = q.quote;
+        text = q.text ++ p ∷ [];
+        raised = q.raised ++ v.more;
+        held_is = ap (λ (x : List Placed). x ++ p ∷ []) q.held_is ∙ append_assoc q.name (q.sign ++ q.quote ++ q.text) (p ∷ []) ∙ ap (λ (x : List Placed). q.name ++ x) (append_assoc (q.sign ++ q.quote) q.text (p ∷ []));
+        has_name = name_stays walk new q.name attribute at q.has_name;
+        signed = q.signed;
+        opens = q.opens;
+        is_mark = q.is_mark;
+        inside = all-snoc (λ c. not (eqb c mark)) q.text p q.inside (ap not other);
+        value = v.takes q.text q.raised (looks_ahead table true walk.value q.text (p ∷ []) q.raised q.value);
+        own_is = ap (λ (x : List ParseError). x ++ v.more) q.own_is ∙ append_assoc (attribute_name_errors q.name) q.raised v.more;
       }))
 
   -- an attribute in quotes has ended
@@ -227,14 +222,15 @@ module _ (table : Entities) (names : Texts) (walk : TagWalk) (body : List Placed
       → EndsAttribute names after walk mid new later → IsInTag table after new body (p ∷ []) later
   quoted_ends mid after new later before mid_is ends =
       let s = held_in table names walk body p errors h phase.AfterQuoted before in
-      let q = s.in_quotes in
+      let v = s.value in
       let fault : List ParseError = error_if (not (ends_name p.ch)) MissingWhitespaceBetweenAttributes p.at in
-      attribute_ends table names walk body p errors h q.name (q.sign ++ q.quote ++ pieces_text q.pieces ++ s.close) (value_bytes q.pieces) (value_errors q.pieces ++ fault)
-      (ap (λ (x : List Placed). q.name ++ x) refl ∙ sym (append_assoc q.name (q.sign ++ q.quote ++ pieces_text q.pieces) s.close) ∙ ap (λ (x : List Placed). x ++ s.close) (sym q.held_is) ∙ sym s.held_is)
-      (λ end more. IsPart.quoted q.name q.sign q.quote s.close q.pieces s.mark (record { first = q.has_name.first; runs = record { passes_none = q.has_name.runs; stops_after = sign_stops q.sign q.signed } })
-      q.signed q.opens q.is_mark q.inside (whole_value table walk q.pieces q.value) s.closes refl)
-      q.has_name q.value.is fault mid
-      (sym (append_assoc (attribute_name_errors q.name) (value_errors q.pieces) fault) ∙ ap (λ (x : List ParseError). x ++ fault) (sym q.own_is)) mid_is after new later ends (past_is table names walk body p errors h phase.AfterQuoted before)
+      attribute_ends table names walk body p errors h walk (keeps_self walk) refl refl s.name (s.sign ++ s.quote ++ pieces_text v.pieces ++ s.close) (value_bytes v.pieces) (value_errors v.pieces ++ fault)
+      (ap (λ (x : List Placed). s.name ++ (s.sign ++ s.quote ++ x ++ s.close)) (sym v.text_is) ∙ sym s.held_is)
+      (λ end more. IsPart.quoted s.name s.sign s.quote s.close v.pieces s.mark (record { first = s.has_name.first; runs = record { passes_none = s.has_name.runs; stops_after = sign_stops s.sign s.signed } })
+      s.signed s.opens s.is_mark (ap (all (λ c. not (eqb c s.mark))) (sym v.text_is) ∙ s.inside) v.are s.closes refl)
+      s.has_name v.bytes fault mid
+      (sym (append_assoc (attribute_name_errors s.name) (value_errors v.pieces) fault) ∙ ap (λ (x : List ParseError). (attribute_name_errors s.name ++ x) ++ fault) (sym v.errors_are) ∙ ap (λ (x : List ParseError). x ++ fault) (sym s.own_is)) mid_is after new later ends
+      (past_is table names walk body p errors h phase.AfterQuoted before)
 
   -- `>` in the place of a value
   pub no_value_ends : (mid : List ParseError) (after : Texts) (new : TagWalk) (later : List ParseError) → walk.phase ≡ phase.BeforeValue → mid ≡ errors ++ error MissingAttributeValue p.at ∷ [] → is_greater p.ch ≡ true
@@ -242,56 +238,61 @@ module _ (table : Entities) (names : Texts) (walk : TagWalk) (body : List Placed
   no_value_ends mid after new later before mid_is is ends =
       let n = held_in table names walk body p errors h phase.BeforeValue before in
       let fault : List ParseError = error MissingAttributeValue p.at ∷ [] in
-      attribute_ends table names walk body p errors h n.name n.sign [] fault (sym n.held_is)
+      attribute_ends table names walk body p errors h walk (keeps_self walk) refl refl n.name n.sign [] fault (sym n.held_is)
       (λ end more. IsPart.no_value n.name n.sign (record { first = n.has_name.first; runs = record { passes_none = n.has_name.runs; stops_after = sign_stops n.sign n.is_sign } }) n.is_sign is refl)
-      n.has_name n.no_value fault mid (ap (λ (x : List ParseError). x ++ fault) (sym n.own_is)) mid_is after new later ends (past_is table names walk body p errors h phase.BeforeValue before)
+      n.has_name n.no_value.empty fault mid (ap (λ (x : List ParseError). x ++ fault) (sym n.own_is)) mid_is after new later ends (past_is table names walk body p errors h phase.BeforeValue before)
 
   -- a value without quotes begins
-  pub unquoted_begins : (mid new : TagWalk) (later : List ParseError) → mid.name ≡ walk.name → mid.seen ≡ walk.seen → mid.attrs ≡ walk.attrs → mid.any ≡ walk.any → mid.attribute ≡ walk.attribute → mid.place ≡ walk.place → mid.value ≡ walk.value
-      → walk.phase ≡ phase.BeforeValue → mid.phase ≡ phase.Unquoted → AddsUnquoted mid p errors new later → not (ends_unquoted p.ch || is_quote p.ch) ≡ true → not (ends_unquoted p.ch) ≡ true → eqb p.ch 38 ≡ false → IsInTag table names new (body ++ p ∷ []) [] later
-  unquoted_begins mid new later named seen attrs any attribute at value before mid_is a first stays plain =
+  pub unquoted_begins : (new : TagWalk) (later : List ParseError) → KeepsTag walk new → new.attribute ≡ walk.attribute → new.place ≡ walk.place → TakesInValue table false walk.value p errors new.value later
+      → walk.phase ≡ phase.BeforeValue → new.phase ≡ phase.Unquoted → not (ends_unquoted p.ch || is_quote p.ch) ≡ true → not (ends_unquoted p.ch) ≡ true → IsInTag table names new (body ++ p ∷ []) [] later
+  unquoted_begins new later keeps attribute at v before next first stays =
       let n = held_in table names walk body p errors h phase.BeforeValue before in
-      let e : List ParseError = errors_at UnexpectedCharacterInUnquotedAttributeValue is_odd (p ∷ []) ++ null_errors (p ∷ []) in
-      let next : new.phase ≡ phase.Unquoted = a.phase_is ∙ mid_is in
-      goes_on table names walk body p errors h new e later a.later_is (a.keeps.name_is ∙ named) (a.keeps.seen_is ∙ seen) (a.keeps.attrs_are ∙ attrs) (a.keeps.any_is ∙ any) (λ b x. subst (λ (y : Phase). IsPast y b) (sym next) x) (past_is table names walk body p errors h phase.BeforeValue before)
-      (subst (λ (x : Phase). HasPhase x table new h.parts (h.held ++ p ∷ []) (h.own ++ e)) (sym next) (record {
+      goes_on table names walk body p errors h new v.more later v.later_is keeps.name_is keeps.seen_is keeps.attrs_are keeps.any_is (λ b x. subst (λ (y : Phase). IsPast y b) (sym next) x) (past_is table names walk body p errors h phase.BeforeValue before)
+      (subst (λ (x : Phase). HasPhase x table new h.parts (h.held ++ p ∷ []) (h.own ++ v.more)) (sym next) (record {
         name = n.name;
         sign = n.sign;
-        pieces = plain_piece p ∷ [];
+        text = p ∷ [];
+        raised = v.more;
         held_is = ap (λ (x : List Placed). x ++ p ∷ []) n.held_is ∙ append_assoc n.name n.sign (p ∷ []);
-        has_name = name_stays walk new n.name (a.attribute_is ∙ attribute) (a.place_is ∙ at) n.has_name;
+        has_name = name_stays walk new n.name attribute at n.has_name;
         signed = n.is_sign;
         first = first;
         inside = and_both (not (ends_unquoted p.ch)) true stays refl;
-        value = value_more table mid new [] p (no_value_yet table mid (ap string_bytes value ∙ n.no_value)) plain a.value_is;
-        own_is = ap (λ (x : List ParseError). x ++ e) n.own_is ∙ ap (λ (x : List ParseError). attribute_name_errors n.name ++ x) (sym (append-nil e));
+        value = v.takes [] [] (looks_ahead table false walk.value [] (p ∷ []) [] (begun_value table false walk.value n.no_value));
+        own_is = ap (λ (x : List ParseError). x ++ v.more) n.own_is;
       }))
 
   -- it goes on
-  pub unquoted_goes_on : (new : TagWalk) (later : List ParseError) → walk.phase ≡ phase.Unquoted → AddsUnquoted walk p errors new later → not (ends_unquoted p.ch) ≡ true → eqb p.ch 38 ≡ false → IsInTag table names new (body ++ p ∷ []) [] later
-  unquoted_goes_on new later before a stays plain =
+  pub unquoted_goes_on : (new : TagWalk) (later : List ParseError) → KeepsTag walk new → new.attribute ≡ walk.attribute → new.place ≡ walk.place → TakesInValue table false walk.value p errors new.value later
+      → walk.phase ≡ phase.Unquoted → new.phase ≡ walk.phase → not (ends_unquoted p.ch) ≡ true → IsInTag table names new (body ++ p ∷ []) [] later
+  unquoted_goes_on new later keeps attribute at v before same stays =
       let n = held_in table names walk body p errors h phase.Unquoted before in
-      let e : List ParseError = errors_at UnexpectedCharacterInUnquotedAttributeValue is_odd (p ∷ []) ++ null_errors (p ∷ []) in
-      let next : new.phase ≡ phase.Unquoted = a.phase_is ∙ before in
-      goes_on table names walk body p errors h new e later a.later_is a.keeps.name_is a.keeps.seen_is a.keeps.attrs_are a.keeps.any_is (λ b x. subst (λ (y : Phase). IsPast y b) (sym next) x) (past_is table names walk body p errors h phase.Unquoted before)
-      (subst (λ (x : Phase). HasPhase x table new h.parts (h.held ++ p ∷ []) (h.own ++ e)) (sym next) (record {
+      let next : new.phase ≡ phase.Unquoted = same ∙ before in
+      goes_on table names walk body p errors h new v.more later v.later_is keeps.name_is keeps.seen_is keeps.attrs_are keeps.any_is (λ b x. subst (λ (y : Phase). IsPast y b) (sym next) x) (past_is table names walk body p errors h phase.Unquoted before)
+      (subst (λ (x : Phase). HasPhase x table new h.parts (h.held ++ p ∷ []) (h.own ++ v.more)) (sym next) (record {
         name = n.name;
         sign = n.sign;
-        pieces = n.pieces ++ plain_piece p ∷ [];
-        held_is = ap (λ (x : List Placed). x ++ p ∷ []) n.held_is ∙ append_assoc n.name (n.sign ++ pieces_text n.pieces) (p ∷ []) ∙ ap (λ (x : List Placed). n.name ++ x) (append_assoc n.sign (pieces_text n.pieces) (p ∷ []) ∙ ap (λ (x : List Placed). n.sign ++ x) (sym (pieces_text-snoc n.pieces p)));
-        has_name = name_stays walk new n.name a.attribute_is a.place_is n.has_name;
+        text = n.text ++ p ∷ [];
+        raised = n.raised ++ v.more;
+        held_is = ap (λ (x : List Placed). x ++ p ∷ []) n.held_is ∙ append_assoc n.name (n.sign ++ n.text) (p ∷ []) ∙ ap (λ (x : List Placed). n.name ++ x) (append_assoc n.sign n.text (p ∷ []));
+        has_name = name_stays walk new n.name attribute at n.has_name;
         signed = n.signed;
-        first = ap (begins (λ c. not (ends_unquoted c || is_quote c))) (pieces_text-snoc n.pieces p) ∙ begins-more _ (pieces_text n.pieces) (p ∷ []) n.first;
-        inside = ap (all (λ c. not (ends_unquoted c))) (pieces_text-snoc n.pieces p) ∙ all-snoc (λ c. not (ends_unquoted c)) (pieces_text n.pieces) p n.inside stays;
-        value = value_more table walk new n.pieces p n.value plain a.value_is;
-        own_is = ap (λ (x : List ParseError). x ++ e) n.own_is ∙ append_assoc (attribute_name_errors n.name) (unquoted_errors n.pieces) e
-            ∙ ap (λ (x : List ParseError). attribute_name_errors n.name ++ x) (ap (λ (x : List ParseError). unquoted_errors n.pieces ++ x) (sym (append-nil e)) ∙ sym (flat_map-append (λ (x : Piece). errors_at UnexpectedCharacterInUnquotedAttributeValue is_odd x.text ++ x.errors) n.pieces (plain_piece p ∷ [])));
+        first = begins-more _ n.text (p ∷ []) n.first;
+        inside = all-snoc (λ c. not (ends_unquoted c)) n.text p n.inside stays;
+        value = v.takes n.text n.raised (looks_ahead table false walk.value n.text (p ∷ []) n.raised n.value);
+        own_is = ap (λ (x : List ParseError). x ++ v.more) n.own_is ∙ append_assoc (attribute_name_errors n.name) n.raised v.more;
       }))
 
   -- it ends
-  pub unquoted_ends : (after : Texts) (new : TagWalk) (later : List ParseError) → walk.phase ≡ phase.Unquoted → ends_unquoted p.ch ≡ true → EndsAttribute names after walk errors new later → IsInTag table after new body (p ∷ []) later
-  unquoted_ends after new later before stop ends =
+  pub unquoted_ends : (mid_walk : TagWalk) (mid : List ParseError) (after : Texts) (new : TagWalk) (later : List ParseError) → KeepsTag walk mid_walk → mid_walk.attribute ≡ walk.attribute → mid_walk.place ≡ walk.place
+      → EndsValue walk.value errors mid_walk.value mid → walk.phase ≡ phase.Unquoted → ends_unquoted p.ch ≡ true → EndsAttribute names after mid_walk mid new later → IsInTag table after new body (p ∷ []) later
+  unquoted_ends mid_walk mid after new later keeps attribute at e before stop ends =
       let n = held_in table names walk body p errors h phase.Unquoted before in
-      attribute_ends table names walk body p errors h n.name (n.sign ++ pieces_text n.pieces) (value_bytes n.pieces) (unquoted_errors n.pieces) (sym n.held_is)
-      (λ end more. IsPart.unquoted n.name n.sign n.pieces (record { first = n.has_name.first; runs = record { passes_none = n.has_name.runs; stops_after = sign_stops n.sign n.signed } }) n.signed n.first (record { passes_none = n.inside; stops_after = stop }) (whole_value table walk n.pieces n.value) refl)
-      n.has_name n.value.is [] errors (sym (append-nil h.own ∙ n.own_is)) (sym (append-nil errors)) after new later ends (past_is table names walk body p errors h phase.Unquoted before)
+      let v = e.ends table false n.text n.raised n.value in
+      attribute_ends table names walk body p errors h mid_walk keeps attribute at n.name (n.sign ++ pieces_text v.pieces) (value_bytes v.pieces) (unquoted_errors v.pieces)
+      (ap (λ (x : List Placed). n.name ++ (n.sign ++ x)) (sym v.text_is) ∙ sym n.held_is)
+      (λ end more. IsPart.unquoted n.name n.sign v.pieces (record { first = n.has_name.first; runs = record { passes_none = n.has_name.runs; stops_after = sign_stops n.sign n.signed } }) n.signed
+      (ap (begins (λ c. not (ends_unquoted c || is_quote c))) (sym v.text_is) ∙ n.first) (record { passes_none = ap (all (λ c. not (ends_unquoted c))) (sym v.text_is) ∙ n.inside; stops_after = stop }) v.are refl)
+      n.has_name v.bytes e.more mid
+      (ap (λ (x : List ParseError). attribute_name_errors n.name ++ x) (sym v.errors_are) ∙ sym (append_assoc (attribute_name_errors n.name) n.raised e.more) ∙ ap (λ (x : List ParseError). x ++ e.more) (sym n.own_is)) e.later_is
+      after new later ends (past_is table names walk body p errors h phase.Unquoted before)

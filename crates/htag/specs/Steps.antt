@@ -2,17 +2,17 @@
 use Rattle.std.specs.Prelude.{◌≡◌, List, [], ◌∷◌, ◌++◌, Some, false}
 use Rattle.std.specs.Char.{encode_utf8, to_ascii_lowercase}
 use Rattle.std.specs.String.{string_bytes}
-use Rattle.names.specs.declared.error.ErrorCode.TheVariants.{UnexpectedCharacterInUnquotedAttributeValue, UnexpectedEqualsSignBeforeAttributeName}
+use Rattle.names.specs.declared.error.ErrorCode.TheVariants.{UnexpectedEqualsSignBeforeAttributeName}
 use Rattle.names.specs.declared.error.ParseError.{ParseError}
 use Rattle.names.specs.declared.placed.Placed.{Placed}
 use Rattle.names.specs.Names.{Texts}
-use Rattle.names.specs.Placed.{is_equals, error_if, errors_at, null_errors, without_null}
+use Rattle.names.specs.Placed.{is_equals, error_if, without_null}
 use Rattle.htag.specs.declared.kind.TagKind.{TagKind}
 use Rattle.htag.specs.declared.phase.Phase.TheVariants as phase
 use Rattle.htag.specs.declared.walk.TagWalk.{TagWalk}
 use Rattle.htag.specs.Seen.{HasSeen}
-use Rattle.htag.specs.Tag.{Attribute, Part, repeated, name_errors_here, is_odd}
-use Rattle.htag.specs.TagWalk.{names_after, HasAttributes}
+use Rattle.htag.specs.Tag.{Attribute, Part, repeated, name_errors_here}
+use Rattle.htag.specs.TagWalk.{NoValue, names_after, HasAttributes}
 
 -- A tag of this kind has begun; its name stands in the walk already.
 pub record IsBegun (kind : TagKind) (walk : TagWalk) : Type 0 where
@@ -24,7 +24,7 @@ pub record IsBegun (kind : TagKind) (walk : TagWalk) : Type 0 where
 
 -- the attribute that is being read
 abbrev pub attribute_of : TagWalk → Attribute
-attribute_of walk = record { name = string_bytes walk.attribute; value = string_bytes walk.value; at = walk.place }
+attribute_of walk = record { name = string_bytes walk.attribute; value = string_bytes walk.value.text; at = walk.place }
 
 -- An attribute has been read to its end: it is kept, or told as a repeated one.
 pub record EndsAttribute (before after : Texts) (old : TagWalk) (errors : List ParseError) (new : TagWalk) (later : List ParseError) : Type 0 where
@@ -54,14 +54,6 @@ pub record BeginsAttribute (old : TagWalk) (p : Placed) (errors : List ParseErro
   pub keeps : KeepsTag old new
   pub phase_is : new.phase ≡ phase.AttributeName
   pub place_is : new.place ≡ p.at
-  pub value_is : string_bytes new.value ≡ []
+  pub value_is : NoValue new.value
   pub attribute_is : string_bytes new.attribute ≡ encode_utf8 (to_ascii_lowercase (without_null p.ch))
   pub later_is : later ≡ errors ++ (error_if (is_equals p.ch) UnexpectedEqualsSignBeforeAttributeName p.at ++ name_errors_here p)
-
-pub record AddsUnquoted (old : TagWalk) (p : Placed) (errors : List ParseError) (new : TagWalk) (later : List ParseError) : Type 0 where
-  pub keeps : KeepsTag old new
-  pub phase_is : new.phase ≡ old.phase
-  pub place_is : new.place ≡ old.place
-  pub attribute_is : new.attribute ≡ old.attribute
-  pub value_is : string_bytes new.value ≡ string_bytes old.value ++ encode_utf8 (without_null p.ch)
-  pub later_is : later ≡ errors ++ (errors_at UnexpectedCharacterInUnquotedAttributeValue is_odd (p ∷ []) ++ null_errors (p ∷ []))

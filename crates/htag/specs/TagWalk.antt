@@ -7,14 +7,16 @@ use Rattle.names.specs.declared.refusal.Refusal.{Refusal}
 use Rattle.names.specs.declared.refusal.Refusal.TheVariants.{Memory}
 use Rattle.names.specs.Names.{Texts}
 use Rattle.names.specs.Placed.{characters, begins, all, RunsTo, place, is_letter, is_space, is_quote, name_bytes}
-use Rattle.charref.specs.Reference.{Entities, Piece}
+use Rattle.charref.specs.Reference.{Entities}
 use Rattle.htag.specs.declared.phase.Phase.{Phase}
 use Rattle.htag.specs.declared.phase.Phase.TheVariants as phase
 use Rattle.htag.specs.declared.walk.TagWalk.{TagWalk}
 use Rattle.htag.specs.Attributes.{AttrsMean}
-use Rattle.htag.specs.Value.{AreValue, pieces_text, value_bytes}
+use Rattle.htag.specs.declared.reading.Reading.TheVariants as reading
+use Rattle.htag.specs.declared.value.ValueWalk.{ValueWalk}
+use Rattle.htag.specs.ValueWalk.{IsInValue, IsWholeValue}
 use Rattle.htag.specs.Seen.{HasSeen}
-use Rattle.htag.specs.Tag.{Part, AreParts, parts_text, attributes_after, named_by, has_attribute, tag_close, tag_errors, is_sign, ends_name, ends_attribute_name, ends_unquoted, attribute_name_errors, value_errors, unquoted_errors}
+use Rattle.htag.specs.Tag.{Part, AreParts, parts_text, attributes_after, named_by, has_attribute, tag_close, tag_errors, is_sign, ends_name, ends_attribute_name, ends_unquoted, attribute_name_errors}
 
 -- ATTRIBUTES
 
@@ -47,15 +49,15 @@ pub record HasName (walk : TagWalk) (name : List Placed) : Type 0 where
   pub is : string_bytes walk.attribute ≡ name_bytes name
   pub at_is : place 0 name ≡ walk.place
 
--- The walk has this value, which begins with these pieces: what follows them goes on with it.
-pub record HasValue (table : Entities) (walk : TagWalk) (pieces : List Piece) : Type 0 where
-  pub begins_value : (more : List Piece) → AreValue table more → AreValue table (pieces ++ more)
-  pub is : string_bytes walk.value ≡ value_bytes pieces
+-- nothing is read of a value yet
+pub record NoValue (value : ValueWalk) : Type 0 where
+  pub empty : string_bytes value.text ≡ []
+  pub nothing : value.reading ≡ reading.Nothing
 
 -- in an attribute's name
 pub record InName (walk : TagWalk) (held : List Placed) (own : List ParseError) : Type 0 where
   pub has_name : HasName walk held
-  pub no_value : string_bytes walk.value ≡ []
+  pub no_value : NoValue walk.value
   pub own_is : own ≡ attribute_name_errors held
 
 -- past it, where such characters stand
@@ -64,7 +66,7 @@ pub record PastName (is_such : List Placed → Bool) (walk : TagWalk) (held : Li
   pub sign : List Placed
   pub held_is : held ≡ name ++ sign
   pub has_name : HasName walk name
-  pub no_value : string_bytes walk.value ≡ []
+  pub no_value : NoValue walk.value
   pub is_sign : is_such sign ≡ true
   pub begun : begins ends_attribute_name sign ≡ true
   pub own_is : own ≡ attribute_name_errors name
@@ -74,36 +76,48 @@ pub record InQuotes (table : Entities) (mark : ℕ) (walk : TagWalk) (held : Lis
   pub name : List Placed
   pub sign : List Placed
   pub quote : List Placed
-  pub pieces : List Piece
-  pub held_is : held ≡ name ++ (sign ++ quote ++ pieces_text pieces)
+  pub text : List Placed
+  pub raised : List ParseError
+  pub held_is : held ≡ name ++ (sign ++ quote ++ text)
   pub has_name : HasName walk name
   pub signed : is_sign sign ≡ true
   pub opens : characters quote ≡ mark ∷ []
   pub is_mark : is_quote mark ≡ true
-  pub inside : all (λ c. not (c == mark)) (pieces_text pieces) ≡ true
-  pub value : HasValue table walk pieces
-  pub own_is : own ≡ attribute_name_errors name ++ value_errors pieces
+  pub inside : all (λ c. not (c == mark)) text ≡ true
+  pub value : IsInValue table true walk.value text [] raised
+  pub own_is : own ≡ attribute_name_errors name ++ raised
 
 pub record InUnquoted (table : Entities) (walk : TagWalk) (held : List Placed) (own : List ParseError) : Type 0 where
   pub name : List Placed
   pub sign : List Placed
-  pub pieces : List Piece
-  pub held_is : held ≡ name ++ (sign ++ pieces_text pieces)
+  pub text : List Placed
+  pub raised : List ParseError
+  pub held_is : held ≡ name ++ (sign ++ text)
   pub has_name : HasName walk name
   pub signed : is_sign sign ≡ true
-  pub first : begins (λ c. not (ends_unquoted c || is_quote c)) (pieces_text pieces) ≡ true
-  pub inside : all (λ c. not (ends_unquoted c)) (pieces_text pieces) ≡ true
-  pub value : HasValue table walk pieces
-  pub own_is : own ≡ attribute_name_errors name ++ unquoted_errors pieces
+  pub first : begins (λ c. not (ends_unquoted c || is_quote c)) text ≡ true
+  pub inside : all (λ c. not (ends_unquoted c)) text ≡ true
+  pub value : IsInValue table false walk.value text [] raised
+  pub own_is : own ≡ attribute_name_errors name ++ raised
 
 -- past a value in quotes
 pub record PastQuotes (table : Entities) (walk : TagWalk) (held : List Placed) (own : List ParseError) : Type 0 where
   pub mark : ℕ
-  pub front : List Placed
+  pub name : List Placed
+  pub sign : List Placed
+  pub quote : List Placed
+  pub text : List Placed
   pub close : List Placed
-  pub held_is : held ≡ front ++ close
-  pub in_quotes : InQuotes table mark walk front own
+  pub raised : List ParseError
+  pub held_is : held ≡ name ++ (sign ++ quote ++ text ++ close)
+  pub has_name : HasName walk name
+  pub signed : is_sign sign ≡ true
+  pub opens : characters quote ≡ mark ∷ []
+  pub is_mark : is_quote mark ≡ true
+  pub inside : all (λ c. not (c == mark)) text ≡ true
+  pub value : IsWholeValue table true walk.value text raised
   pub closes : characters close ≡ mark ∷ []
+  pub own_is : own ≡ attribute_name_errors name ++ raised
 
 -- what is held of a part in a phase, and its errors
 abbrev pub HasPhase : Phase → Entities → TagWalk → List Part → List Placed → List ParseError → Type 0

@@ -2,12 +2,12 @@
 
 ghost use Rattle.std.specs.Prelude.{◌≡◌, OnOk, MatchResult};
 ghost use Rattle.names.specs.Names.{Grows};
-ghost use Rattle.htag.specs.Steps.{EndsAttribute, BeginsAttribute, AddsToName, AddsUnquoted};
+ghost use Rattle.htag.specs.Steps.{EndsAttribute, BeginsAttribute, AddsToName};
 ghost use Rattle.htag.specs.TagWalk.{StepsInTag};
 ghost use Rattle.names.specs.declared.refusal.Refusal.TheVariants.{Memory};
 
 use crate::phase::Phase;
-use crate::push::{ends_name, keep_if, keep_null, push_lowered, push_value};
+use crate::push::{ends_name, keep_if, keep_null, push_lowered};
 use crate::walk::TagWalk;
 use charref::Table;
 use names::{Attr, ErrorCode, Names, ParseError, Refusal};
@@ -34,7 +34,7 @@ impl<'t> TagWalk<'t> {
             errors,
         )?;
         self.attribute.clear();
-        self.value.clear();
+        self.value.begin();
         self.place = at;
         self.phase = Phase::AttributeName;
         self.add_to_name(ch, at, errors)
@@ -141,32 +141,9 @@ impl<'t> TagWalk<'t> {
             self.end_attribute(names, errors)?;
             return self.before_attribute(table, names, ch, at, errors);
         }
-        if ch == '&' {
-            return Err(Refusal::Memory);
-        }
         self.phase = Phase::Unquoted;
-        self.add_unquoted(ch, at, errors)?;
+        self.value.take(table, false, ch, at, errors)?;
         Ok(false)
-    }
-
-    /// Adds a character to a value without quotes.
-    pub(crate) fn add_unquoted(
-        &mut self,
-        ch: char,
-        at: u64,
-        errors: &mut Vec<ParseError>,
-    ) -> Result<(), AllocError>
-        ensures { OnOk result (AddsUnquoted self.old (record { ch = ch; at = at }) errors.old.items self.new errors.new.items) }
-    {
-        let odd = ch == '"' || ch == '\'' || ch == '<' || ch == '=' || ch == '`';
-        keep_if(
-            odd,
-            ErrorCode::UnexpectedCharacterInUnquotedAttributeValue,
-            at,
-            errors,
-        )?;
-        keep_null(ch, at, errors)?;
-        push_value(&mut self.value, ch)
     }
 
     /// In a value in quotes (13.2.5.36, 13.2.5.37).
@@ -185,14 +162,11 @@ impl<'t> TagWalk<'t> {
         ensures kind { OnOk result (self.new.kind ≡ self.old.kind) }
     {
         if ch == mark {
+            self.value.end(errors)?;
             self.phase = Phase::AfterQuoted;
             return Ok(false);
         }
-        if ch == '&' {
-            return Err(Refusal::Memory);
-        }
-        keep_null(ch, at, errors)?;
-        push_value(&mut self.value, ch)?;
+        self.value.take(table, true, ch, at, errors)?;
         Ok(false)
     }
 
@@ -211,13 +185,11 @@ impl<'t> TagWalk<'t> {
         ensures kind { OnOk result (self.new.kind ≡ self.old.kind) }
     {
         if ch == '>' || ch.is_ascii_whitespace() {
+            self.value.end(errors)?;
             self.end_attribute(names, errors)?;
             return self.before_attribute(table, names, ch, at, errors);
         }
-        if ch == '&' {
-            return Err(Refusal::Memory);
-        }
-        self.add_unquoted(ch, at, errors)?;
+        self.value.take(table, false, ch, at, errors)?;
         Ok(false)
     }
 
@@ -263,7 +235,7 @@ impl<'t> TagWalk<'t> {
         self.phase = Phase::BeforeAttribute;
         self.any = true;
         if self.seen.add(number)? {
-            let value = mem::replace(&mut self.value, String::new(self.alloc));
+            let value = mem::replace(&mut self.value.text, String::new(self.alloc));
             self.attrs.push(Attr { name: id, value })?;
         } else {
             errors.push(ParseError {

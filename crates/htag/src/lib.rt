@@ -4,11 +4,15 @@
 mod attribute;
 mod kind;
 mod phase;
+mod piece;
 mod push;
 mod reading;
 mod seen;
 mod stamp;
 mod step;
+#[cfg(test)]
+mod tests;
+mod value;
 mod walk;
 
 pub use kind::TagKind;

@@ -1,6 +1,6 @@
 //! Characters and errors, added to what was read.
 
-ghost use Rattle.std.specs.Prelude.{◌≡◌, ◌∷◌, ◌++◌, [], OnOk, string_bytes};
+ghost use Rattle.std.specs.Prelude.{◌≡◌, ◌∷◌, ◌++◌, [], OnOk, string_bytes, encode_utf8_all};
 ghost use Rattle.std.specs.Char.{encode_utf8, to_ascii_lowercase};
 ghost use Rattle.names.specs.Placed.{error_if, null_errors, without_null};
 ghost use Rattle.htag.specs.Tag.{ends_name};
@@ -59,6 +59,16 @@ pub(crate) fn keep_null(ch: char, at: u64, errors: &mut Vec<ParseError>) -> Resu
             code: ErrorCode::UnexpectedNullCharacter,
             at,
         })?;
+    }
+    Ok(())
+}
+
+/// All of these characters.
+pub(crate) fn push_all(text: &mut String, characters: &[char]) -> Result<(), AllocError>
+    ensures { OnOk result (string_bytes text.new ≡ string_bytes text.old ++ encode_utf8_all characters.now) }
+{
+    for character in characters {
+        text.push(*character)?;
     }
     Ok(())
 }

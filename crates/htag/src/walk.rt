@@ -13,8 +13,8 @@ ghost use Rattle.names.specs.declared.refusal.Refusal.TheVariants.{Memory};
 use crate::kind::TagKind;
 use crate::phase::Phase;
 use crate::push::push_lowered;
-use crate::reading::Reading;
 use crate::seen::Seen;
+use crate::value::ValueWalk;
 use charref::Table;
 use names::{Attr, Names, ParseError, Refusal};
 use std::alloc::{AllocError, Global};
@@ -30,8 +30,7 @@ pub struct TagWalk<'t> {
     /// The attribute that is being read: its name, the first byte of it, and its value.
     pub(crate) attribute: String,
     pub(crate) place: u64,
-    pub(crate) value: String,
-    pub(crate) reading: Reading<'t>,
+    pub(crate) value: ValueWalk<'t>,
     /// The first attribute of each name.
     pub(crate) attrs: Vec<Attr>,
     pub(crate) seen: Seen,
@@ -49,8 +48,7 @@ impl<'t> TagWalk<'t> {
             name: String::new(alloc),
             attribute: String::new(alloc),
             place: 0,
-            value: String::new(alloc),
-            reading: Reading::Nothing,
+            value: ValueWalk::new(alloc),
             attrs: Vec::new(alloc),
             seen: Seen::new(alloc),
             any: false,
@@ -113,7 +111,37 @@ impl<'t> TagWalk<'t> {
             → MatchResult result (λ _. IsCutTag table body errors.new.items) (λ e. e ≡ Memory) }
         ensures grows { Grows names.old names.new }
     {
-        Err(Refusal::Memory)
+        match self.phase {
+            Phase::Name => Ok(()),
+            Phase::BeforeAttribute => Ok(()),
+            Phase::Solidus => Ok(()),
+            Phase::AttributeName => {
+                self.end_attribute(names, errors)?;
+                Ok(())
+            }
+            Phase::AfterAttributeName => {
+                self.end_attribute(names, errors)?;
+                Ok(())
+            }
+            Phase::BeforeValue => {
+                self.end_attribute(names, errors)?;
+                Ok(())
+            }
+            Phase::Quoted(_) => {
+                self.value.end(errors)?;
+                self.end_attribute(names, errors)?;
+                Ok(())
+            }
+            Phase::Unquoted => {
+                self.value.end(errors)?;
+                self.end_attribute(names, errors)?;
+                Ok(())
+            }
+            Phase::AfterQuoted => {
+                self.end_attribute(names, errors)?;
+                Ok(())
+            }
+        }
     }
 
     pub fn kind(&self) -> TagKind

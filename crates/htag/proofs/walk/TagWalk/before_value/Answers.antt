@@ -1,4 +1,4 @@
-use Rattle.std.proofs.Common.{◌≡◌, true, false, not, ◌||◌, eqb, refl, arith}
+use Rattle.std.proofs.Common.{◌≡◌, true, not, ◌||◌, refl, arith}
 use Rattle.std.proofs.lemmas.Bool.Decides.{nat_tests}
 use Rattle.names.specs.Placed.{is_space, is_quote, is_greater}
 use Rattle.htag.specs.Tag.{ends_unquoted}
@@ -24,5 +24,4 @@ pub returns-clause-takes : goal.returns-clause-takes
 returns-clause-takes c = λ body h.
     let first : not (ends_unquoted c.args.ch || is_quote c.args.ch) ≡ true = grind (arith, nat_tests) in
     let stays : not (ends_unquoted c.args.ch) ≡ true = grind (arith, nat_tests) in
-    let plain : eqb c.args.ch 38 ≡ false = grind (arith, nat_tests) in
-    unquoted_begins _ _ _ body _ _ h _ _ _ refl refl refl refl refl refl refl c.requires refl c.in_ok-add_unquoted.ensures first stays plain
+    unquoted_begins _ _ _ body _ _ h _ _ (record { kind_is = refl; name_is = refl; attrs_are = refl; seen_is = refl; any_is = refl }) refl refl c.in_ok-take.ensures c.requires refl first stays
