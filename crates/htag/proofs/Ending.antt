@@ -1,0 +1,60 @@
+-- The end of an attribute.
+use Rattle.std.proofs.Common.{◌≡◌, ℕ, Bool, true, false, not, ◌||◌, List, [], ◌∷◌, ◌++◌, sym, refl, ap, ◌∙◌, subst, append-nil, Option, Some, is_some, Vec, Global}
+use Rattle.std.specs.Prelude.{slice_get, if◌then◌else◌}
+use Rattle.std.specs.String.{string_bytes}
+use Rattle.names.specs.declared.attr.Attr.{Attr}
+use Rattle.names.specs.declared.error.ErrorCode.TheVariants.{DuplicateAttribute}
+use Rattle.names.specs.Names.{Texts, Grows, AreNames}
+use Rattle.names.specs.Placed.{error}
+use Rattle.htag.specs.declared.walk.TagWalk.{TagWalk}
+use Rattle.htag.specs.Attributes.{AttrsMean}
+use Rattle.htag.specs.Seen.{HasSeen, has_number}
+use Rattle.htag.specs.Tag.{Attribute, Part, attributes_after, has_attribute, is_known, kept, repeated, named_by}
+use Rattle.htag.specs.TagWalk.{names_after, NumbersMean, HasAttributes}
+use Rattle.htag.specs.Steps.{attribute_of}
+use Rattle.htag.proofs.Naming.{numbers_kept, attrs_kept, attrs-snoc, known_number}
+use Rattle.htag.proofs.Parts.{names-snoc, attributes-snoc, any-snoc}
+
+flip : (a b : Bool) → a ≡ not b → b ≡ not a
+flip a true e = sym (ap not e)
+flip a false e = sym (ap not e)
+
+or-true : (b : Bool) → true ≡ (b || true)
+or-true true = refl
+or-true false = refl
+
+module _ (before after : Texts) (grows : Grows before after) (are : AreNames after) (old new : TagWalk) (id : ℕ) (number : slice_get after id ≡ Some (string_bytes old.attribute)) (first : Bool)
+    (seen : (numbers : List ℕ) → HasSeen old.seen numbers → (first ≡ not (has_number id numbers)) × HasSeen new.seen (id ∷ numbers)) (any : new.any ≡ true) (parts : List Part) (part : Part) (is : part.attribute ≡ Some (attribute_of old)) (h : HasAttributes before old parts) where
+  known : is_known (names_after [] parts) (string_bytes old.attribute) ≡ not first
+  known = known_number after id (string_bytes old.attribute) are number h.numbers (names_after [] parts) (numbers_kept before after grows h.numbers (names_after [] parts) h.named) ∙ flip first (has_number id h.numbers) (seen h.numbers h.seen).0
+
+  holds : AttrsMean after new.attrs.items (attributes_after [] parts ++ kept (names_after [] parts) part.attribute) → HasAttributes after new (parts ++ part ∷ [])
+  holds attributes = record {
+    numbers = id ∷ h.numbers;
+    seen = (seen h.numbers h.seen).1;
+    named = subst (NumbersMean after (id ∷ h.numbers)) (sym (names-snoc [] parts part ∙ ap (λ (a : Option Attribute). named_by a ++ names_after [] parts) is)) (number, numbers_kept before after grows h.numbers (names_after [] parts) h.named);
+    attributes = subst (AttrsMean after new.attrs.items) (sym (attributes-snoc [] parts part)) attributes;
+    any = any ∙ or-true (has_attribute parts) ∙ sym (any-snoc parts part ∙ ap (λ (a : Option Attribute). has_attribute parts || is_some a) is);
+  }
+
+  -- it is the first of its name
+  pub first_ends : (value : Attr) → first ≡ true → value.name ≡ id → string_bytes value.value ≡ string_bytes old.value.text → new.attrs.items ≡ old.attrs.items ++ value ∷ []
+      → HasAttributes after new (parts ++ part ∷ []) × (repeated (names_after [] parts) part.attribute ≡ [])
+  first_ends value one name is_value attrs =
+      let none : is_known (names_after [] parts) (string_bytes old.attribute) ≡ false = known ∙ ap not one in (
+        holds (subst (AttrsMean after new.attrs.items) (ap (λ (x : List (List ℕ × List ℕ)). attributes_after [] parts ++ x) (sym (ap (kept (names_after [] parts)) is ∙ ap (λ (b : Bool). if b then [] else (string_bytes old.attribute, string_bytes old.value.text) ∷ []) none)))
+            (subst (λ (x : List Attr). AttrsMean after x (attributes_after [] parts ++ (string_bytes old.attribute, string_bytes old.value.text) ∷ [])) (sym attrs)
+            (attrs-snoc after old.attrs.items (attributes_after [] parts) value (string_bytes old.attribute, string_bytes old.value.text) (attrs_kept before after grows old.attrs.items (attributes_after [] parts) h.attributes) (ap (slice_get after) name ∙ number) is_value))),
+        ap (repeated (names_after [] parts)) is ∙ ap (λ (b : Bool). if b then error DuplicateAttribute old.place ∷ [] else []) none,
+      )
+
+  -- it is a repeated one
+  pub repeated_ends : first ≡ false → new.attrs ≡ old.attrs → HasAttributes after new (parts ++ part ∷ []) × (repeated (names_after [] parts) part.attribute ≡ error DuplicateAttribute old.place ∷ [])
+  repeated_ends again attrs =
+      let some : is_known (names_after [] parts) (string_bytes old.attribute) ≡ true = known ∙ ap not again in
+      let nothing : kept (names_after [] parts) part.attribute ≡ [] = ap (kept (names_after [] parts)) is ∙ ap (λ (b : Bool). if b then [] else (string_bytes old.attribute, string_bytes old.value.text) ∷ []) some in (
+        holds (subst (λ (x : Vec Attr Global). AttrsMean after x.items (attributes_after [] parts ++ kept (names_after [] parts) part.attribute)) (sym attrs)
+            (subst (AttrsMean after old.attrs.items) (sym (ap (λ (x : List (List ℕ × List ℕ)). attributes_after [] parts ++ x) nothing ∙ append-nil (attributes_after [] parts)))
+            (attrs_kept before after grows old.attrs.items (attributes_after [] parts) h.attributes))),
+        ap (repeated (names_after [] parts)) is ∙ ap (λ (b : Bool). if b then error DuplicateAttribute old.place ∷ [] else []) some,
+      )

@@ -1,0 +1,153 @@
+-- What a reference is written with.
+use Rattle.std.proofs.Common.{◌≡◌, ℕ, Bool, true, false, not, ◌||◌, ◌&&◌, eqb, List, [], ◌∷◌, ◌++◌, sym, refl, ap, ◌∙◌, subst, arith}
+use Rattle.std.proofs.lemmas.Bool.Decides.{nat_tests}
+use Rattle.std.specs.Prelude.{codes, bytes_eq}
+use Rattle.std.specs.List.{list_all}
+use Rattle.std.specs.Char.{to_ascii_lowercase}
+use Rattle.names.specs.declared.placed.Placed.{Placed}
+use Rattle.names.specs.Placed.{characters, lowered, all, is_digit, is_alphanumeric}
+use Rattle.hmarkup.proofs.Marks.{and_parts, and_both}
+use Rattle.charref.specs.declared.number.Base.{Base}
+use Rattle.charref.specs.declared.number.Base.TheVariants.{Decimal, Hexadecimal}
+use Rattle.charref.specs.declared.state.State.{State}
+use Rattle.charref.specs.Number.{is_digit_of}
+use Rattle.charref.specs.Held.{IsHeld, IsSign}
+use Rattle.charref.specs.Reference.{Entities, Piece, IsReference, IsTable, is_hex_digit, is_key, is_key_name, is_empty_list, is_semicolon_if_any}
+use Rattle.charref.proofs.Core.{longest_among}
+use Rattle.charref.proofs.Naming.{all-append, is_key_of}
+use Rattle.htag.specs.Tag.{is_odd}
+use Rattle.htag.proofs.Pieces.{is_even, is_quiet, quiet_run, quiet_odd}
+
+quiet_digit : (base : Base) (c : ℕ) → is_digit_of base c ≡ true → is_quiet c ≡ true
+quiet_digit Decimal c h = let k : is_digit c ≡ true = h in grind (arith, nat_tests)
+quiet_digit Hexadecimal c h = let k : is_hex_digit c ≡ true = h in grind (arith, nat_tests)
+
+quiet_digits : (base : Base) (text : List Placed) → all (is_digit_of base) text ≡ true → all is_quiet text ≡ true
+quiet_digits base [] h = refl
+quiet_digits base (p ∷ ps) h =
+    let parts = and_parts (is_digit_of base p.ch) (all (is_digit_of base) ps) h in
+    and_both (is_quiet p.ch) (all is_quiet ps) (quiet_digit base p.ch parts.0) (quiet_digits base ps parts.1)
+
+quiet_sign : (base : Base) (text : List Placed) → IsSign base text → all is_quiet text ≡ true
+quiet_sign _ _ (IsSign.number_sign p e) = rw e refl
+quiet_sign _ _ (IsSign.small_x p q e f) = rw (e, f) refl
+quiet_sign _ _ (IsSign.capital_x p q e f) = rw (e, f) refl
+
+-- what a walk through a reference was handed
+pub quiet_held : (table : Entities) (in_value : Bool) (state : State) (text : List Placed) → IsHeld table in_value state text → all is_quiet text ≡ true
+quiet_held table in_value _ _ (IsHeld.in_name search text read run goes) = quiet_run text run
+quiet_held table in_value _ _ (IsHeld.after_sign text sign) = quiet_sign Decimal text sign
+quiet_held table in_value _ _ (IsHeld.after_x text sign) = quiet_sign Hexadecimal text sign
+quiet_held table in_value _ _ (IsHeld.in_number base value sign digits text is is_sign begins are value_is) =
+    ap (all is_quiet) is ∙ all-append is_quiet sign digits (quiet_sign base sign is_sign) (quiet_digits base digits are)
+
+-- no character of a reference is a fault in a value
+abbrev not_odd : ℕ → Bool
+not_odd c = not (is_odd c)
+
+even_of : (text : List Placed) → all not_odd text ≡ true → is_even text
+even_of [] h = refl
+even_of (p ∷ ps) h =
+    let parts = and_parts (not_odd p.ch) (all not_odd ps) h in
+    let even : is_odd p.ch ≡ false = by (is_odd p.ch) parts.0 in
+    rw even (even_of ps parts.1)
+  where
+    by : (b : Bool) → not b ≡ true → b ≡ false
+    by true e = absurd cc
+    by false e = refl
+
+of_characters : (text : List Placed) → all not_odd text ≡ list_all not_odd (characters text)
+of_characters [] = refl
+of_characters (p ∷ ps) = ap (λ (b : Bool). not_odd p.ch && b) (of_characters ps)
+
+letter_even : (c : ℕ) → is_alphanumeric c ≡ true → not_odd c ≡ true
+letter_even c h = grind (arith, nat_tests)
+
+quiet_even : (text : List Placed) → all is_quiet text ≡ true → all not_odd text ≡ true
+quiet_even [] h = refl
+quiet_even (p ∷ ps) h =
+    let parts = and_parts (is_quiet p.ch) (all is_quiet ps) h in
+    and_both (not_odd p.ch) (all not_odd ps) (ap not (quiet_odd p.ch parts.0)) (quiet_even ps parts.1)
+
+-- a key's characters
+key_name_even : (cs : List ℕ) → is_key_name cs ≡ true → list_all not_odd cs ≡ true
+key_name_even [] h = refl
+key_name_even (c ∷ cs) h =
+    let parts = and_parts (is_alphanumeric c) (is_empty_list cs || bytes_eq cs (codes ";") || is_key_name cs) h in
+    and_both (not_odd c) (list_all not_odd cs) (letter_even c parts.0) (others cs (key_name_even cs) parts.1)
+  where
+    semicolon : (d : ℕ) → eqb d 59 ≡ true → not_odd d ≡ true
+    semicolon d e = grind (arith, nat_tests)
+
+    others : (ds : List ℕ) → (is_key_name ds ≡ true → list_all not_odd ds ≡ true) → (is_empty_list ds || bytes_eq ds (codes ";") || is_key_name ds) ≡ true → list_all not_odd ds ≡ true
+    others [] then e = refl
+    others (d ∷ ds) then e = by (bytes_eq (d ∷ ds) (codes ";")) refl e where
+      alone : (es : List ℕ) → bytes_eq (d ∷ es) (codes ";") ≡ true → list_all not_odd (d ∷ es) ≡ true
+      alone [] k = and_both (not_odd d) true (semicolon d (and_parts (eqb d 59) true k).0) refl
+      alone (x ∷ xs) k = let no = and_parts (eqb d 59) false k in absurd (cc (no.1))
+
+      by : (b : Bool) → bytes_eq (d ∷ ds) (codes ";") ≡ b → (b || is_key_name (d ∷ ds)) ≡ true → list_all not_odd (d ∷ ds) ≡ true
+      by true k e = alone ds k
+      by false k e = then e
+
+key_even : (cs : List ℕ) → is_key cs ≡ true → list_all not_odd cs ≡ true
+key_even [] h = refl
+key_even (c ∷ cs) h =
+    let parts = and_parts (eqb c 38) (is_key_name cs) h in
+    and_both (not_odd c) (list_all not_odd cs) (amp parts.0) (key_name_even cs parts.1)
+  where
+    amp : eqb c 38 ≡ true → not_odd c ≡ true
+    amp e = grind (arith, nat_tests)
+
+semicolon_even : (close rest : List Placed) → is_semicolon_if_any close rest ≡ true → all not_odd close ≡ true
+semicolon_even [] rest h = refl
+semicolon_even (p ∷ []) rest h = and_both (not_odd p.ch) true (one p.ch (and_parts (eqb p.ch 59) true h).0) refl where
+  one : (c : ℕ) → eqb c 59 ≡ true → not_odd c ≡ true
+  one c e = grind (arith, nat_tests)
+semicolon_even (p ∷ q ∷ ps) rest h = let parts = and_parts (eqb p.ch 59) false h in absurd (cc (parts.1))
+
+lowered_even : (text : List Placed) (cs : List ℕ) → lowered text ≡ cs → list_all not_odd cs ≡ true → all not_odd text ≡ true
+lowered_even [] cs is h = refl
+lowered_even (p ∷ ps) cs is h =
+    let parts = and_parts (not_odd (to_ascii_lowercase p.ch)) (list_all not_odd (lowered ps)) (ap (list_all not_odd) is ∙ h) in
+    and_both (not_odd p.ch) (all not_odd ps) (one p.ch parts.0) (lowered_even ps (lowered ps) refl parts.1)
+  where
+    one : (c : ℕ) → not_odd (to_ascii_lowercase c) ≡ true → not_odd c ≡ true
+    one c e = grind (arith, nat_tests)
+
+amp_even : (amp : Placed) → amp.ch ≡ 38 → all not_odd (amp ∷ []) ≡ true
+amp_even amp is = of_characters (amp ∷ []) ∙ ap (λ (c : ℕ). list_all not_odd (c ∷ [])) is
+
+pub alone_even : (amp : Placed) → amp.ch ≡ 38 → is_even (amp ∷ [])
+alone_even amp is = even_of (amp ∷ []) (amp_even amp is)
+
+pub reference_even : (table : Entities) (in_value : Bool) (rest : List Placed) (piece : Piece) → IsTable table → IsReference table in_value rest piece → is_even piece.text
+reference_even table in_value rest piece is_table (IsReference.named amp name entry is letter found key kept e) =
+    let among = longest_among table (characters (amp ∷ name ++ rest)) entry found in
+    subst (λ (x : Piece). is_even x.text) (sym e) (even_of (amp ∷ name) (of_characters (amp ∷ name) ∙ ap (list_all not_odd) key ∙ key_even entry.key (is_key_of table among.0 entry is_table among.1)))
+reference_even table in_value rest piece is_table (IsReference.kept amp entry is letter found kept e) = subst (λ (x : Piece). is_even x.text) (sym e) (alone_even amp is)
+reference_even table in_value rest piece is_table (IsReference.unknown amp is letter none e) = subst (λ (x : Piece). is_even x.text) (sym e) (alone_even amp is)
+reference_even table in_value rest piece is_table (IsReference.decimal opening digits close is digit runs closes e) =
+    subst (λ (x : Piece). is_even x.text) (sym e)
+    (even_of (opening ++ digits ++ close) (all-append not_odd (opening ++ digits) close
+    (all-append not_odd opening digits (of_characters opening ∙ ap (list_all not_odd) is) (quiet_even digits (quiet_digits Decimal digits (passes digits runs.passes_none)))) (semicolon_even close rest closes)))
+  where
+    passes : (text : List Placed) → all (λ c. not (not (is_digit c))) text ≡ true → all is_digit text ≡ true
+    passes [] h = refl
+    passes (p ∷ ps) h = let parts = and_parts (not (not (is_digit p.ch))) (all (λ c. not (not (is_digit c))) ps) h in and_both (is_digit p.ch) (all is_digit ps) (twice (is_digit p.ch) parts.0) (passes ps parts.1) where
+      twice : (b : Bool) → not (not b) ≡ true → b ≡ true
+      twice true k = refl
+      twice false k = k
+reference_even table in_value rest piece is_table (IsReference.hexadecimal opening digits close is digit runs closes e) =
+    subst (λ (x : Piece). is_even x.text) (sym e)
+    (even_of (opening ++ digits ++ close) (all-append not_odd (opening ++ digits) close
+    (all-append not_odd opening digits (lowered_even opening (codes "&#x") is refl) (quiet_even digits (quiet_digits Hexadecimal digits (passes digits runs.passes_none)))) (semicolon_even close rest closes)))
+  where
+    passes : (text : List Placed) → all (λ c. not (not (is_hex_digit c))) text ≡ true → all is_hex_digit text ≡ true
+    passes [] h = refl
+    passes (p ∷ ps) h = let parts = and_parts (not (not (is_hex_digit p.ch))) (all (λ c. not (not (is_hex_digit c))) ps) h in and_both (is_hex_digit p.ch) (all is_hex_digit ps) (twice (is_hex_digit p.ch) parts.0) (passes ps parts.1) where
+      twice : (b : Bool) → not (not b) ≡ true → b ≡ true
+      twice true k = refl
+      twice false k = k
+reference_even table in_value rest piece is_table (IsReference.no_digits amp is sign none e) = subst (λ (x : Piece). is_even x.text) (sym e) (alone_even amp is)
+reference_even table in_value rest piece is_table (IsReference.alone amp is none e) = subst (λ (x : Piece). is_even x.text) (sym e) (alone_even amp is)

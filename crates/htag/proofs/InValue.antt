@@ -1,0 +1,423 @@
+-- A value, a character at a time.
+use Rattle.std.proofs.Common.{◌≡◌, ℕ, zero, suc, ◌+◌, ◌-◌, ◌≤◌, Bool, true, false, ◌&&◌, eqb, List, [], ◌∷◌, ◌++◌, length, take, drop, map, sym, refl, ap, ◌∙◌, subst, append-nil, append_assoc, arith, length-append, Option, Some, None, Vec, Global}
+use Rattle.std.specs.Prelude.{encode_utf8_all, option_to_list}
+use Rattle.std.specs.Char.{encode_utf8}
+use Rattle.std.specs.String.{string_bytes}
+use Rattle.std.proofs.lemmas.List.{take-append-drop, take-append-le, drop-append-le}
+use Rattle.std.proofs.lemmas.Str.{encodes-append}
+use Rattle.names.specs.declared.error.ErrorCode.TheVariants.{MissingSemicolonAfterCharacterReference, UnknownNamedCharacterReference}
+use Rattle.names.specs.declared.error.ErrorCode.{ErrorCode}
+use Rattle.names.specs.declared.error.ParseError.{ParseError}
+use Rattle.names.specs.declared.placed.Placed.{Placed}
+use Rattle.names.specs.Placed.{characters, begins, all, past, is_alphanumeric, error, error_if, without_null}
+use Rattle.hmarkup.proofs.Marks.{and_parts, and_both}
+use Rattle.charref.specs.declared.reference.Reference.{Reference}
+use Rattle.charref.specs.declared.walk.Walk.{Walk}
+use Rattle.charref.specs.Pieces.{IsRead, characters_of, errors_of}
+use Rattle.charref.specs.Reference.{Entities, Piece, IsReference, IsTable, ampersand}
+use Rattle.charref.specs.Walk.{HasTaken}
+use Rattle.charref.proofs.Naming.{all-append}
+use Rattle.htag.specs.declared.reading.Reading.{Reading}
+use Rattle.htag.specs.declared.reading.Reading.TheVariants as reading
+use Rattle.htag.specs.declared.value.ValueWalk.{ValueWalk}
+use Rattle.htag.specs.Value.{IsPiece, AreValue, pieces_text, plain_piece, value_bytes}
+use Rattle.htag.specs.ValueWalk.{Begins, InReference, InRun, HasHeld, IsInValue, IsWholeValue, pieces_errors, plain_pieces, told, TellsReference}
+use Rattle.htag.proofs.Pieces.{pieces_text-append, pieces_text-one, value_bytes-append, value_bytes-one, pieces_errors-append, is_even, errors-even, is_quiet, quiet_run, quiet_plain, plain_text, plain_bytes, plain_errors, begins_further, begins_piece, begins_plain}
+use Rattle.htag.proofs.Even.{quiet_held, reference_even, alone_even}
+use Rattle.htag.proofs.Running.{IsRunRead, characters-append, run_read}
+
+pub looks_ahead : (table : Entities) (quoted : Bool) (walk : ValueWalk) (text next : List Placed) (errors : List ParseError) → IsInValue table quoted walk text [] errors → IsInValue table quoted walk text next errors
+looks_ahead table quoted walk text next errors h = record {
+  pieces = h.pieces;
+  held = h.held;
+  text_is = h.text_is;
+  begins_value = subst (λ (x : List Placed). Begins table h.pieces (x ++ next)) (append-nil h.held) (begins_further table h.pieces (h.held ++ []) next h.begins_value);
+  errors_are = h.errors_are;
+  has_held = h.has_held;
+}
+
+drop-map : (n : ℕ) (text : List Placed) → drop n (characters text) ≡ characters (drop n text)
+drop-map zero text = refl
+drop-map (suc n) [] = refl
+drop-map (suc n) (p ∷ ps) = drop-map n ps
+
+length-characters : (text : List Placed) → length (characters text) ≡ length text
+length-characters [] = refl
+length-characters (p ∷ ps) = ap suc (length-characters ps)
+
+quiet_drop : (n : ℕ) (text : List Placed) → all is_quiet text ≡ true → all is_quiet (drop n text) ≡ true
+quiet_drop zero text h = h
+quiet_drop (suc n) [] h = refl
+quiet_drop (suc n) (p ∷ ps) h = quiet_drop n ps (and_parts (is_quiet p.ch) (all is_quiet ps) h).1
+
+are_plain : (table : Entities) (text : List Placed) → all is_quiet text ≡ true → AreValue table (plain_pieces text)
+are_plain table [] h = tt
+are_plain table (p ∷ ps) h = let parts = and_parts (is_quiet p.ch) (all is_quiet ps) h in (IsPiece.plain p (quiet_plain p.ch parts.0) refl, are_plain table ps parts.1)
+
+-- A PIECE IS KNOWN, AND CHARACTERS AFTER IT
+
+module _ (pieces : List Piece) (piece : Piece) (back : List Placed) (quiet : all is_quiet back ≡ true) where
+  abbrev all_pieces : List Piece
+  all_pieces = (pieces ++ piece ∷ []) ++ plain_pieces back
+
+  resolved_text : pieces_text all_pieces ≡ pieces_text pieces ++ (piece.text ++ back)
+  resolved_text =
+      pieces_text-append (pieces ++ piece ∷ []) (plain_pieces back) ∙ ap (λ (x : List Placed). x ++ pieces_text (plain_pieces back)) (pieces_text-one pieces piece)
+      ∙ ap (λ (x : List Placed). (pieces_text pieces ++ piece.text) ++ x) (plain_text back) ∙ append_assoc (pieces_text pieces) piece.text back
+
+  resolved_bytes : value_bytes all_pieces ≡ value_bytes pieces ++ (encode_utf8_all piece.gives ++ encode_utf8_all (characters back))
+  resolved_bytes =
+      value_bytes-append (pieces ++ piece ∷ []) (plain_pieces back) ∙ ap (λ (x : List ℕ). x ++ value_bytes (plain_pieces back)) (value_bytes-one pieces piece)
+      ∙ ap (λ (x : List ℕ). (value_bytes pieces ++ encode_utf8_all piece.gives) ++ x) (plain_bytes back quiet) ∙ append_assoc (value_bytes pieces) (encode_utf8_all piece.gives) (encode_utf8_all (characters back))
+
+  resolved_errors : (quoted : Bool) → is_even piece.text → pieces_errors quoted all_pieces ≡ pieces_errors quoted pieces ++ piece.errors
+  resolved_errors quoted even =
+      pieces_errors-append quoted (pieces ++ piece ∷ []) (plain_pieces back) ∙ ap (λ (x : List ParseError). pieces_errors quoted (pieces ++ piece ∷ []) ++ x) (plain_errors quoted back quiet)
+      ∙ append-nil (pieces_errors quoted (pieces ++ piece ∷ [])) ∙ pieces_errors-append quoted pieces (piece ∷ []) ∙ ap (λ (x : List ParseError). pieces_errors quoted pieces ++ x) (errors-even quoted piece even)
+
+  module _ (table : Entities) (quoted : Bool) (new : ValueWalk) (text : List Placed) (own : List ParseError) (even : is_even piece.text)
+      (bytes : string_bytes new.text ≡ value_bytes pieces ++ (encode_utf8_all piece.gives ++ encode_utf8_all (characters back))) (text_is : text ≡ pieces_text pieces ++ (piece.text ++ back)) (own_is : own ≡ pieces_errors quoted pieces) where
+    resolve : (next : List Placed) → Begins table pieces (piece.text ++ (back ++ next)) → ((rest : List Placed) → IsPiece table true ((back ++ next) ++ rest) piece) → new.reading ≡ reading.Nothing → IsInValue table quoted new text next (own ++ piece.errors)
+    resolve next b is_piece nothing = record {
+      pieces = all_pieces;
+      held = [];
+      text_is = text_is ∙ sym resolved_text ∙ sym (append-nil (pieces_text all_pieces));
+      begins_value = begins_plain table back (pieces ++ piece ∷ []) next quiet (begins_piece table pieces piece (back ++ next) b is_piece);
+      errors_are = ap (λ (x : List ParseError). x ++ piece.errors) own_is ∙ sym (resolved_errors quoted even);
+      has_held = subst (λ (x : Reading). HasHeld x table new all_pieces []) (sym nothing) (refl, bytes ∙ sym resolved_bytes);
+    }
+
+    resolve_end : Begins table pieces (piece.text ++ back) → IsPiece table true back piece → IsWholeValue table quoted new text (own ++ piece.errors)
+    resolve_end b is_piece = record {
+      pieces = all_pieces;
+      text_is = text_is ∙ sym resolved_text;
+      are = subst (AreValue table) (sym (append_assoc pieces (piece ∷ []) (plain_pieces back)))
+          (b.value (piece ∷ plain_pieces back) [] (subst (λ (x : List Placed). IsPiece table true x piece) (sym (plain_text back)) is_piece, are_plain table back quiet)
+          (ap (λ (x : List Placed). piece.text ++ x) (plain_text back) ∙ sym (append-nil (piece.text ++ back))));
+      errors_are = ap (λ (x : List ParseError). x ++ piece.errors) own_is ∙ sym (resolved_errors quoted even);
+      bytes = bytes ∙ sym resolved_bytes;
+    }
+
+-- what a reference gives, and characters that were held
+pub told_then_given : (found : Reference) (old mid : ValueWalk) (errors later : List ParseError) (count : ℕ) (bytes : List ℕ) → TellsReference found old errors mid later
+    → bytes ≡ string_bytes mid.text ++ encode_utf8_all (drop (length mid.held.items - count) mid.held.items)
+    → bytes ≡ (string_bytes old.text ++ encode_utf8_all (characters_of found.characters)) ++ encode_utf8_all (drop (length old.held.items - count) old.held.items)
+told_then_given found old mid errors later count bytes t e =
+    e ∙ ap (λ (x : List ℕ). x ++ encode_utf8_all (drop (length mid.held.items - count) mid.held.items)) t.bytes
+    ∙ ap (λ (x : Vec ℕ Global). (string_bytes old.text ++ encode_utf8_all (characters_of found.characters)) ++ encode_utf8_all (drop (length x.items - count) x.items)) t.held_is
+
+-- A CHARACTER MORE
+
+module _ (table : Entities) (quoted : Bool) (old new : ValueWalk) (p : Placed) (text : List Placed) (own : List ParseError) (h : IsInValue table quoted old text (p ∷ []) own) where
+  held_in : (r : Reading) → old.reading ≡ r → HasHeld r table old h.pieces h.held
+  held_in r e = subst (λ (x : Reading). HasHeld x table old h.pieces h.held) e h.has_held
+
+  -- where nothing is held
+  module _ (nothing : old.reading ≡ reading.Nothing) where
+    text_so_far : text ++ p ∷ [] ≡ pieces_text h.pieces ++ p ∷ []
+    text_so_far = ap (λ (x : List Placed). x ++ p ∷ []) (h.text_is ∙ ap (λ (x : List Placed). pieces_text h.pieces ++ x) (held_in reading.Nothing nothing).0 ∙ append-nil (pieces_text h.pieces))
+
+    begins_here : Begins table h.pieces (p ∷ [])
+    begins_here = subst (λ (x : List Placed). Begins table h.pieces (x ++ p ∷ [])) (held_in reading.Nothing nothing).0 h.begins_value
+
+    pub plain_step : new.reading ≡ old.reading → string_bytes new.text ≡ string_bytes old.text ++ encode_utf8 (without_null p.ch) → eqb p.ch 38 ≡ false
+        → IsInValue table quoted new (text ++ p ∷ []) [] (own ++ pieces_errors quoted (plain_piece p ∷ []))
+    plain_step same bytes plain = record {
+      pieces = h.pieces ++ plain_piece p ∷ [];
+      held = [];
+      text_is = text_so_far ∙ sym (pieces_text-one h.pieces (plain_piece p)) ∙ sym (append-nil (pieces_text (h.pieces ++ plain_piece p ∷ [])));
+      begins_value = begins_piece table h.pieces (plain_piece p) [] begins_here (λ rest. IsPiece.plain p plain refl);
+      errors_are = ap (λ (x : List ParseError). x ++ pieces_errors quoted (plain_piece p ∷ [])) h.errors_are ∙ sym (pieces_errors-append quoted h.pieces (plain_piece p ∷ []));
+      has_held = subst (λ (x : Reading). HasHeld x table new (h.pieces ++ plain_piece p ∷ []) []) (sym (same ∙ nothing)) (
+        refl,
+        bytes ∙ ap (λ (x : List ℕ). x ++ encode_utf8 (without_null p.ch)) (held_in reading.Nothing nothing).1
+            ∙ ap (λ (x : List ℕ). value_bytes h.pieces ++ x) (sym (append-nil (encode_utf8 (without_null p.ch)))) ∙ sym (value_bytes-one h.pieces (plain_piece p)),
+      );
+    }
+
+    pub amp_step : (w : Walk) → new.reading ≡ reading.Reference w → p.ch ≡ 38 → IsTable table → HasTaken w table true [] → new.place ≡ p.at → new.held.items ≡ [] → new.text ≡ old.text → IsInValue table quoted new (text ++ p ∷ []) [] (own ++ [])
+    amp_step w next is is_table taken place kept same = record {
+      pieces = h.pieces;
+      held = p ∷ [];
+      text_is = text_so_far;
+      begins_value = begins_here;
+      errors_are = append-nil own ∙ h.errors_are;
+      has_held = subst (λ (x : Reading). HasHeld x table new h.pieces (p ∷ [])) (sym next) (record {
+        amp = p;
+        taken = [];
+        held_is = refl;
+        is_amp = is;
+        is_table = is_table;
+        has_taken = taken;
+        place_is = place;
+        kept = kept;
+        bytes = ap string_bytes same ∙ (held_in reading.Nothing nothing).1;
+      });
+    }
+
+  text_more : text ++ p ∷ [] ≡ pieces_text h.pieces ++ (h.held ++ p ∷ [])
+  text_more = ap (λ (x : List Placed). x ++ p ∷ []) h.text_is ∙ append_assoc (pieces_text h.pieces) h.held (p ∷ [])
+
+  begins_more : Begins table h.pieces ((h.held ++ p ∷ []) ++ [])
+  begins_more = subst (Begins table h.pieces) (sym (append-nil (h.held ++ p ∷ []))) h.begins_value
+
+  -- where a reference is being read
+  module _ (w : Walk) (before : old.reading ≡ reading.Reference w) where
+    abbrev held_here : InReference table w old h.pieces h.held
+    held_here = held_in (reading.Reference w) before
+
+    pub reference_on : (w' : Walk) → new.reading ≡ reading.Reference w' → ((taken : List Placed) → HasTaken w table true taken → HasTaken w' table true (taken ++ p ∷ [])) → new.held.items ≡ old.held.items ++ p.ch ∷ [] → new.place ≡ old.place → new.text ≡ old.text
+        → IsInValue table quoted new (text ++ p ∷ []) [] (own ++ [])
+    reference_on w' next takes kept place same =
+        let r = held_here in record {
+          pieces = h.pieces;
+          held = h.held ++ p ∷ [];
+          text_is = text_more;
+          begins_value = begins_more;
+          errors_are = append-nil own ∙ h.errors_are;
+          has_held = subst (λ (x : Reading). HasHeld x table new h.pieces (h.held ++ p ∷ [])) (sym next) (record {
+            amp = r.amp;
+            taken = r.taken ++ p ∷ [];
+            held_is = ap (λ (x : List Placed). x ++ p ∷ []) r.held_is;
+            is_amp = r.is_amp;
+            is_table = r.is_table;
+            has_taken = takes r.taken r.has_taken;
+            place_is = place ∙ r.place_is;
+            kept = kept ∙ ap (λ (x : List ℕ). x ++ p.ch ∷ []) r.kept ∙ sym (characters-append r.taken (p ∷ []));
+            bytes = ap string_bytes same ∙ r.bytes;
+          });
+        }
+
+    module _ (found : Reference) (read : (taken : List Placed) → HasTaken w table true taken → (after : List Placed) → IsRead table true (taken ++ p ∷ []) after found) where
+      abbrev all_taken : List Placed
+      all_taken = held_here.taken ++ p ∷ []
+
+      quiet_taken : all is_quiet held_here.taken ≡ true
+      quiet_taken = quiet_held table true w.state held_here.taken held_here.has_taken.held
+
+      one_more : length all_taken ≡ length held_here.taken + 1
+      one_more = length-append held_here.taken (p ∷ [])
+
+      module _ (no_run : found.in_run ≡ false) where
+        errors_known : (after : List Placed) → errors_of found held_here.amp.at after ≡ told found held_here.amp.at
+        errors_known after = ap (λ (b : Bool). told found held_here.amp.at ++ error_if (b && begins (λ c. eqb c 59) (past is_alphanumeric after)) UnknownNamedCharacterReference held_here.amp.at) no_run ∙ append-nil (told found held_here.amp.at)
+
+        -- the piece is so much of what was taken
+        abbrev piece_of : List Placed → Piece
+        piece_of front = record { text = held_here.amp ∷ front; gives = characters_of found.characters; errors = told found held_here.amp.at }
+
+        is_piece : (front back : List Placed) → take (length all_taken - found.left) all_taken ≡ front → drop (length all_taken - found.left) all_taken ≡ back → (rest : List Placed) → IsReference table true (back ++ rest) (piece_of front)
+        is_piece front back taken left rest =
+            subst (λ (x : List Placed). IsReference table true (x ++ rest) (piece_of front)) left
+            (subst (λ (x : List Placed). IsReference table true (drop (length all_taken - found.left) all_taken ++ rest) (piece_of x)) taken
+            (subst (λ (x : List ParseError). IsReference table true (drop (length all_taken - found.left) all_taken ++ rest) (record { text = held_here.amp ∷ take (length all_taken - found.left) all_taken; gives = characters_of found.characters; errors = x })) (errors_known rest)
+            ((read held_here.taken held_here.has_taken rest).reads held_here.amp held_here.is_amp)))
+
+        told_here : own ++ told found held_here.amp.at ≡ own ++ told found old.place
+        told_here = ap (λ (x : ℕ). own ++ told found x) (sym held_here.place_is)
+
+        -- it ends with the character
+        pub reference_ends : found.left ≡ 0 → new.reading ≡ reading.Nothing → string_bytes new.text ≡ string_bytes old.text ++ encode_utf8_all (characters_of found.characters) → IsInValue table quoted new (text ++ p ∷ []) [] (own ++ told found old.place)
+        reference_ends none nothing bytes =
+            let whole : take (length all_taken - found.left) all_taken ≡ all_taken = ap (λ (n : ℕ). take (length all_taken - n) all_taken) none ∙ take_whole all_taken in
+            let nothing_left : drop (length all_taken - found.left) all_taken ≡ [] = ap (λ (n : ℕ). drop (length all_taken - n) all_taken) none ∙ drop_whole all_taken in
+            let is : (rest : List Placed) → IsReference table true ([] ++ rest) (piece_of all_taken) = is_piece all_taken [] whole nothing_left in
+            let held_more : h.held ++ p ∷ [] ≡ held_here.amp ∷ all_taken = ap (λ (x : List Placed). x ++ p ∷ []) held_here.held_is in
+            subst (IsInValue table quoted new (text ++ p ∷ []) []) told_here
+            (resolve h.pieces (piece_of all_taken) [] refl table quoted new (text ++ p ∷ []) own (reference_even table true [] (piece_of all_taken) held_here.is_table (is []))
+            (bytes ∙ ap (λ (x : List ℕ). x ++ encode_utf8_all (characters_of found.characters)) held_here.bytes ∙ ap (λ (x : List ℕ). value_bytes h.pieces ++ x) (sym (append-nil (encode_utf8_all (characters_of found.characters)))))
+            (text_more ∙ ap (λ (x : List Placed). pieces_text h.pieces ++ x) (held_more ∙ sym (append-nil (held_here.amp ∷ all_taken)))) h.errors_are []
+            (subst (Begins table h.pieces) (held_more ∙ sym (append-nil (held_here.amp ∷ all_taken))) h.begins_value) (λ rest. IsPiece.reference (is rest)) nothing)
+          where
+            take_whole : (xs : List Placed) → take (length xs - 0) xs ≡ xs
+            take_whole xs = (let e : length xs - 0 ≡ length xs = omega arith in ap (λ (n : ℕ). take n xs) e) ∙ go xs where
+              go : (ys : List Placed) → take (length ys) ys ≡ ys
+              go [] = refl
+              go (y ∷ ys) = ap (λ (x : List Placed). y ∷ x) (go ys)
+
+            drop_whole : (xs : List Placed) → drop (length xs - 0) xs ≡ []
+            drop_whole xs = (let e : length xs - 0 ≡ length xs = omega arith in ap (λ (n : ℕ). drop n xs) e) ∙ go xs where
+              go : (ys : List Placed) → drop (length ys) ys ≡ []
+              go [] = refl
+              go (y ∷ ys) = go ys
+
+        -- it ends before it
+        pub reference_read : 1 ≤ found.left → new.reading ≡ reading.Nothing
+            → string_bytes new.text ≡ (string_bytes old.text ++ encode_utf8_all (characters_of found.characters)) ++ encode_utf8_all (drop (length old.held.items - (found.left - 1)) old.held.items)
+            → IsInValue table quoted new text (p ∷ []) (own ++ told found old.place)
+        reference_read some nothing bytes =
+            let taken : List Placed = held_here.taken in
+            let k : ℕ = length all_taken - found.left in
+            let within : k ≤ length taken = omega (arith, one_more, some) in
+            let front : List Placed = take k taken in
+            let back : List Placed = drop k taken in
+            let is : (rest : List Placed) → IsReference table true ((back ++ p ∷ []) ++ rest) (piece_of front) = is_piece front (back ++ p ∷ []) (take-append-le k taken (p ∷ []) within) (drop-append-le k taken (p ∷ []) within) in
+            let quiet : all is_quiet back ≡ true = quiet_drop k taken quiet_taken in
+            let same : length old.held.items - (found.left - 1) ≡ k = (let e : length old.held.items ≡ length taken = ap length held_here.kept ∙ length-characters taken in omega (arith, e, one_more, some)) in
+            let given : drop (length old.held.items - (found.left - 1)) old.held.items ≡ characters back = ap (λ (n : ℕ). drop n old.held.items) same ∙ ap (drop k) held_here.kept ∙ drop-map k taken in
+            let joined : h.held ≡ (held_here.amp ∷ front) ++ back = held_here.held_is ∙ ap (λ (x : List Placed). held_here.amp ∷ x) (sym (take-append-drop k taken)) in
+            subst (IsInValue table quoted new text (p ∷ [])) told_here
+            (resolve h.pieces (piece_of front) back quiet table quoted new text own (reference_even table true ((back ++ p ∷ []) ++ []) (piece_of front) held_here.is_table (is []))
+            (bytes ∙ ap (λ (x : List ℕ). (x ++ encode_utf8_all (characters_of found.characters)) ++ encode_utf8_all (drop (length old.held.items - (found.left - 1)) old.held.items)) held_here.bytes
+            ∙ ap (λ (x : List ℕ). (value_bytes h.pieces ++ encode_utf8_all (characters_of found.characters)) ++ encode_utf8_all x) given ∙ append_assoc (value_bytes h.pieces) (encode_utf8_all (characters_of found.characters)) (encode_utf8_all (characters back)))
+            (h.text_is ∙ ap (λ (x : List Placed). pieces_text h.pieces ++ x) joined) h.errors_are (p ∷ [])
+            (subst (Begins table h.pieces) (ap (λ (x : List Placed). x ++ p ∷ []) joined ∙ append_assoc (held_here.amp ∷ front) back (p ∷ [])) h.begins_value) (λ rest. IsPiece.reference (is rest)) nothing)
+
+      -- no key begins with it
+      pub run_begins : found.in_run ≡ true → new.reading ≡ reading.Run → new.place ≡ old.place
+          → string_bytes new.text ≡ ((string_bytes old.text ++ encode_utf8_all (characters_of found.characters)) ++ encode_utf8_all old.held.items) ++ encode_utf8 p.ch
+          → IsInValue table quoted new (text ++ p ∷ []) [] (own ++ told found old.place)
+      run_begins in_run next place bytes =
+          let taken : List Placed = held_here.taken in
+          let long : 1 ≤ length all_taken = omega (arith, one_more) in
+          let reads : (after : List Placed) → IsRead table true all_taken after found = read taken held_here.has_taken in
+          let r : IsRunRead all_taken found = run_read table all_taken found long reads in_run in
+          let nothing_off : length all_taken - found.left ≡ 0 = omega (arith, r.left_is) in
+          record {
+            pieces = h.pieces;
+            held = h.held ++ p ∷ [];
+            text_is = text_more;
+            begins_value = begins_more;
+            errors_are = ap (λ (x : List ParseError). own ++ x) (untold found old.place r.nothing) ∙ append-nil own ∙ h.errors_are;
+            has_held = subst (λ (x : Reading). HasHeld x table new h.pieces (h.held ++ p ∷ [])) (sym next) (record {
+              amp = held_here.amp;
+              run = all_taken;
+              held_is = ap (λ (x : List Placed). x ++ p ∷ []) held_here.held_is;
+              is_amp = held_here.is_amp;
+              is_run = r.letters;
+              unknown = λ after. unknown_here r nothing_off after;
+              place_is = place ∙ held_here.place_is;
+              bytes = bytes ∙ ap (λ (x : List ℕ). ((x ++ encode_utf8_all (characters_of found.characters)) ++ encode_utf8_all old.held.items) ++ encode_utf8 p.ch) held_here.bytes
+                  ∙ ap (λ (x : List ℕ). ((value_bytes h.pieces ++ encode_utf8_all x) ++ encode_utf8_all old.held.items) ++ encode_utf8 p.ch) r.gives
+                  ∙ ap (λ (x : List ℕ). ((value_bytes h.pieces ++ encode_utf8_all (38 ∷ [])) ++ encode_utf8_all x) ++ encode_utf8 p.ch) held_here.kept
+                  ∙ in_order (value_bytes h.pieces) (characters taken) p.ch ∙ ap (λ (x : List ℕ). value_bytes h.pieces ++ encode_utf8_all (38 ∷ x)) (sym (characters-append taken (p ∷ [])));
+            });
+          }
+        where
+          untold : (f : Reference) (at : ℕ) → told f 0 ≡ [] → told f at ≡ []
+          untold f at e = by f.missing_semicolon f.fault e where
+            by : (b : Bool) (o : Option ErrorCode) → error_if b MissingSemicolonAfterCharacterReference 0 ++ map (λ code. error code 0) (option_to_list o) ≡ [] → error_if b MissingSemicolonAfterCharacterReference at ++ map (λ code. error code at) (option_to_list o) ≡ []
+            by true o k = absurd cc
+            by false None k = refl
+            by false (Some code) k = absurd cc
+
+          in_order : (front cs : List ℕ) (c : ℕ) → ((front ++ encode_utf8_all (38 ∷ [])) ++ encode_utf8_all cs) ++ encode_utf8 c ≡ front ++ encode_utf8_all (38 ∷ (cs ++ c ∷ []))
+          in_order front cs c =
+              append_assoc (front ++ encode_utf8_all (38 ∷ [])) (encode_utf8_all cs) (encode_utf8 c) ∙ append_assoc front (encode_utf8_all (38 ∷ [])) (encode_utf8_all cs ++ encode_utf8 c)
+              ∙ ap (λ (x : List ℕ). front ++ x) (ap (λ (x : List ℕ). encode_utf8_all (38 ∷ []) ++ (encode_utf8_all cs ++ x)) (sym (append-nil (encode_utf8 c)))
+              ∙ ap (λ (x : List ℕ). encode_utf8_all (38 ∷ []) ++ x) (sym (encodes-append cs (c ∷ []))) ∙ sym (encodes-append (38 ∷ []) (cs ++ c ∷ [])))
+
+          unknown_here : IsRunRead all_taken found → length all_taken - found.left ≡ 0 → (after : List Placed) → IsReference table true (all_taken ++ after) (ampersand held_here.amp (error_if (begins (λ c. eqb c 59) (past is_alphanumeric after)) UnknownNamedCharacterReference held_here.amp.at))
+          unknown_here r off after =
+              let at : ℕ = held_here.amp.at in
+              let late : List ParseError = error_if (begins (λ c. eqb c 59) (past is_alphanumeric after)) UnknownNamedCharacterReference at in
+              let errors : errors_of found at after ≡ late =
+              ap (λ (b : Bool). told found at ++ error_if (b && begins (λ c. eqb c 59) (past is_alphanumeric after)) UnknownNamedCharacterReference at) in_run ∙ ap (λ (x : List ParseError). x ++ late) (untold found at r.nothing) in
+              subst (λ (x : List ParseError). IsReference table true (all_taken ++ after) (record { text = held_here.amp ∷ []; gives = 38 ∷ []; errors = x })) errors
+              (subst (λ (x : List ℕ). IsReference table true (all_taken ++ after) (record { text = held_here.amp ∷ []; gives = x; errors = errors_of found at after })) r.gives
+              (subst (λ (n : ℕ). IsReference table true (drop n all_taken ++ after) (record { text = held_here.amp ∷ take n all_taken; gives = characters_of found.characters; errors = errors_of found at after })) off
+              ((read held_here.taken held_here.has_taken after).reads held_here.amp held_here.is_amp)))
+
+  -- in a run
+  module _ (before : old.reading ≡ reading.Run) where
+    abbrev run_here : InRun table old h.pieces h.held
+    run_here = held_in reading.Run before
+
+    pub run_on : new.reading ≡ old.reading → new.place ≡ old.place → string_bytes new.text ≡ string_bytes old.text ++ encode_utf8 p.ch → is_alphanumeric p.ch ≡ true → IsInValue table quoted new (text ++ p ∷ []) [] (own ++ [])
+    run_on same place bytes letter =
+        let r = run_here in record {
+          pieces = h.pieces;
+          held = h.held ++ p ∷ [];
+          text_is = text_more;
+          begins_value = begins_more;
+          errors_are = append-nil own ∙ h.errors_are;
+          has_held = subst (λ (x : Reading). HasHeld x table new h.pieces (h.held ++ p ∷ [])) (sym (same ∙ before)) (record {
+            amp = r.amp;
+            run = r.run ++ p ∷ [];
+            held_is = ap (λ (x : List Placed). x ++ p ∷ []) r.held_is;
+            is_amp = r.is_amp;
+            is_run = all-append is_alphanumeric r.run (p ∷ []) r.is_run (and_both (is_alphanumeric p.ch) true letter refl);
+            unknown = λ after.
+                subst (λ (x : List Placed). IsReference table true x (ampersand r.amp (error_if (begins (λ c. eqb c 59) (past is_alphanumeric after)) UnknownNamedCharacterReference r.amp.at))) (sym (append_assoc r.run (p ∷ []) after))
+                (subst (λ (x : List Placed). IsReference table true (r.run ++ (p ∷ after)) (ampersand r.amp (error_if (begins (λ c. eqb c 59) x) UnknownNamedCharacterReference r.amp.at))) (past_letter after) (r.unknown (p ∷ after)));
+            place_is = place ∙ r.place_is;
+            bytes = bytes ∙ ap (λ (x : List ℕ). x ++ encode_utf8 p.ch) r.bytes ∙ in_order (value_bytes h.pieces) (38 ∷ characters r.run) p.ch
+                ∙ ap (λ (x : List ℕ). value_bytes h.pieces ++ encode_utf8_all (38 ∷ x)) (sym (characters-append r.run (p ∷ [])));
+          });
+        }
+      where
+        past_letter : (after : List Placed) → past is_alphanumeric (p ∷ after) ≡ past is_alphanumeric after
+        past_letter after = rw letter refl
+
+        in_order : (front cs : List ℕ) (c : ℕ) → (front ++ encode_utf8_all cs) ++ encode_utf8 c ≡ front ++ encode_utf8_all (cs ++ c ∷ [])
+        in_order front cs c =
+            append_assoc front (encode_utf8_all cs) (encode_utf8 c)
+            ∙ ap (λ (x : List ℕ). front ++ x) (ap (λ (x : List ℕ). encode_utf8_all cs ++ x) (sym (append-nil (encode_utf8 c))) ∙ sym (encodes-append cs (c ∷ [])))
+
+    pub run_ends : new.reading ≡ reading.Nothing → string_bytes new.text ≡ string_bytes old.text → is_alphanumeric p.ch ≡ false → IsInValue table quoted new text (p ∷ []) (own ++ error_if (eqb p.ch 59) UnknownNamedCharacterReference old.place)
+    run_ends nothing bytes other =
+        let r = run_here in
+        let piece : Piece = ampersand r.amp (error_if (eqb p.ch 59) UnknownNamedCharacterReference r.amp.at) in
+        subst (λ (x : ℕ). IsInValue table quoted new text (p ∷ []) (own ++ error_if (eqb p.ch 59) UnknownNamedCharacterReference x)) (sym r.place_is)
+        (resolve h.pieces piece r.run (quiet_run r.run r.is_run) table quoted new text own (alone_even r.amp r.is_amp)
+        (bytes ∙ r.bytes ∙ ap (λ (x : List ℕ). value_bytes h.pieces ++ x) (encodes-append (38 ∷ []) (characters r.run))) (h.text_is ∙ ap (λ (x : List Placed). pieces_text h.pieces ++ x) r.held_is) h.errors_are (p ∷ [])
+        (subst (Begins table h.pieces) (ap (λ (x : List Placed). x ++ p ∷ []) r.held_is) h.begins_value)
+        (λ rest. IsPiece.reference (subst (λ (x : List Placed). IsReference table true x piece) (sym (append_assoc r.run (p ∷ []) rest))
+        (subst (λ (x : List Placed). IsReference table true (r.run ++ (p ∷ rest)) (ampersand r.amp (error_if (begins (λ c. eqb c 59) x) UnknownNamedCharacterReference r.amp.at))) (past_other rest) (r.unknown (p ∷ rest))))) nothing)
+      where
+        past_other : (after : List Placed) → past is_alphanumeric (p ∷ after) ≡ p ∷ after
+        past_other after = rw other refl
+
+-- THE END
+
+module _ (table : Entities) (quoted : Bool) (old new : ValueWalk) (text : List Placed) (own : List ParseError) (h : IsInValue table quoted old text [] own) where
+  holds_at_end : (r : Reading) → old.reading ≡ r → HasHeld r table old h.pieces h.held
+  holds_at_end r e = subst (λ (x : Reading). HasHeld x table old h.pieces h.held) e h.has_held
+
+  begins_end : Begins table h.pieces h.held
+  begins_end = subst (Begins table h.pieces) (append-nil h.held) h.begins_value
+
+  pub ends_plain : old.reading ≡ reading.Nothing → string_bytes new.text ≡ string_bytes old.text → IsWholeValue table quoted new text (own ++ [])
+  ends_plain nothing bytes =
+      let e = holds_at_end reading.Nothing nothing in record {
+        pieces = h.pieces;
+        text_is = h.text_is ∙ ap (λ (x : List Placed). pieces_text h.pieces ++ x) e.0 ∙ append-nil (pieces_text h.pieces);
+        are = subst (AreValue table) (append-nil h.pieces) (begins_end.value [] [] tt (ap (λ (x : List Placed). x ++ []) (sym e.0)));
+        errors_are = append-nil own ∙ h.errors_are;
+        bytes = bytes ∙ e.1;
+      }
+
+  pub ends_run : old.reading ≡ reading.Run → string_bytes new.text ≡ string_bytes old.text → IsWholeValue table quoted new text (own ++ [])
+  ends_run before bytes =
+      let r = holds_at_end reading.Run before in
+      resolve_end h.pieces (ampersand r.amp []) r.run (quiet_run r.run r.is_run) table quoted new text own (alone_even r.amp r.is_amp)
+      (bytes ∙ r.bytes ∙ ap (λ (x : List ℕ). value_bytes h.pieces ++ x) (encodes-append (38 ∷ []) (characters r.run))) (h.text_is ∙ ap (λ (x : List Placed). pieces_text h.pieces ++ x) r.held_is) h.errors_are
+      (subst (Begins table h.pieces) r.held_is begins_end)
+      (IsPiece.reference (subst (λ (x : List Placed). IsReference table true x (ampersand r.amp [])) (append-nil r.run) (r.unknown [])))
+
+  module _ (w : Walk) (before : old.reading ≡ reading.Reference w) (found : Reference) (read : (taken : List Placed) → HasTaken w table true taken → IsRead table true taken [] found) where
+    pub ends_reference : string_bytes new.text ≡ (string_bytes old.text ++ encode_utf8_all (characters_of found.characters)) ++ encode_utf8_all (drop (length old.held.items - found.left) old.held.items)
+        → IsWholeValue table quoted new text (own ++ told found old.place)
+    ends_reference bytes =
+        let r : InReference table w old h.pieces h.held = holds_at_end (reading.Reference w) before in
+        let k : ℕ = length r.taken - found.left in
+        let front : List Placed = take k r.taken in
+        let back : List Placed = drop k r.taken in
+        let piece : Piece = record { text = r.amp ∷ front; gives = characters_of found.characters; errors = told found r.amp.at } in
+        let errors : errors_of found r.amp.at [] ≡ told found r.amp.at = ap (λ (b : Bool). told found r.amp.at ++ error_if b UnknownNamedCharacterReference r.amp.at) (and-false found.in_run) ∙ append-nil (told found r.amp.at) in
+        let is : IsReference table true back piece =
+        subst (λ (x : List ParseError). IsReference table true back (record { text = r.amp ∷ front; gives = characters_of found.characters; errors = x })) errors
+        (subst (λ (x : List Placed). IsReference table true x (record { text = r.amp ∷ front; gives = characters_of found.characters; errors = errors_of found r.amp.at [] })) (append-nil back) ((read r.taken r.has_taken).reads r.amp r.is_amp)) in
+        let quiet : all is_quiet back ≡ true = quiet_drop k r.taken (quiet_held table true w.state r.taken r.has_taken.held) in
+        let same : length old.held.items - found.left ≡ k = ap (λ (n : ℕ). n - found.left) (ap length r.kept ∙ length-characters r.taken) in
+        let given : drop (length old.held.items - found.left) old.held.items ≡ characters back = ap (λ (n : ℕ). drop n old.held.items) same ∙ ap (drop k) r.kept ∙ drop-map k r.taken in
+        let joined : h.held ≡ (r.amp ∷ front) ++ back = r.held_is ∙ ap (λ (x : List Placed). r.amp ∷ x) (sym (take-append-drop k r.taken)) in
+        subst (λ (x : ℕ). IsWholeValue table quoted new text (own ++ told found x)) (sym r.place_is)
+        (resolve_end h.pieces piece back quiet table quoted new text own (reference_even table true back piece r.is_table is)
+        (bytes ∙ ap (λ (x : List ℕ). (x ++ encode_utf8_all (characters_of found.characters)) ++ encode_utf8_all (drop (length old.held.items - found.left) old.held.items)) r.bytes
+        ∙ ap (λ (x : List ℕ). (value_bytes h.pieces ++ encode_utf8_all (characters_of found.characters)) ++ encode_utf8_all x) given ∙ append_assoc (value_bytes h.pieces) (encode_utf8_all (characters_of found.characters)) (encode_utf8_all (characters back)))
+        (h.text_is ∙ ap (λ (x : List Placed). pieces_text h.pieces ++ x) joined) h.errors_are (subst (Begins table h.pieces) joined begins_end) (IsPiece.reference is))
+      where
+        and-false : (b : Bool) → (b && false) ≡ false
+        and-false true = refl
+        and-false false = refl

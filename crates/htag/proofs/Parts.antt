@@ -1,0 +1,96 @@
+-- Parts of a tag, one by one.
+use Rattle.std.proofs.Common.{◌≡◌, ℕ, Bool, true, false, ◌||◌, List, [], ◌∷◌, ◌++◌, sym, refl, ap, ◌∙◌, subst, append_assoc, append-nil, Option, None, is_some, Vec, Global}
+use Rattle.std.proofs.lemmas.Grind.{flat_map-append}
+use Rattle.names.specs.declared.error.ParseError.{ParseError}
+use Rattle.names.specs.declared.placed.Placed.{Placed}
+use Rattle.names.specs.Placed.{begins, stops, all, is_space, past}
+use Rattle.names.specs.Names.{Texts}
+use Rattle.hmarkup.proofs.Marks.{and_parts, and_both}
+use Rattle.charref.specs.Reference.{Entities}
+use Rattle.names.specs.declared.attr.Attr.{Attr}
+use Rattle.htag.specs.declared.seen.Seen.{Seen}
+use Rattle.htag.specs.declared.walk.TagWalk.{TagWalk}
+use Rattle.htag.specs.Attributes.{AttrsMean}
+use Rattle.htag.specs.Seen.{HasSeen}
+use Rattle.htag.specs.Tag.{Attribute, Part, IsPart, AreParts, parts_text, errors_after, attributes_after, has_attribute, named_by, kept, repeated}
+use Rattle.htag.specs.TagWalk.{names_after, NumbersMean, HasAttributes}
+
+pub begins-more : (test : ℕ → Bool) (xs ys : List Placed) → begins test xs ≡ true → begins test (xs ++ ys) ≡ true
+begins-more test [] ys h = absurd cc
+begins-more test (x ∷ xs) ys h = h
+
+pub begins_stops : (test : ℕ → Bool) (xs ys : List Placed) → begins test xs ≡ true → stops test (xs ++ ys) ≡ true
+begins_stops test [] ys e = absurd cc
+begins_stops test (x ∷ xs) ys e = e
+
+pub all-snoc : (test : ℕ → Bool) (xs : List Placed) (p : Placed) → all test xs ≡ true → test p.ch ≡ true → all test (xs ++ p ∷ []) ≡ true
+all-snoc test [] p h k = and_both (test p.ch) true k refl
+all-snoc test (x ∷ xs) p h k = let parts = and_parts (test x.ch) (all test xs) h in and_both (test x.ch) (all test (xs ++ p ∷ [])) parts.0 (all-snoc test xs p parts.1 k)
+
+pub parts_text-append : (xs ys : List Part) → parts_text (xs ++ ys) ≡ parts_text xs ++ parts_text ys
+parts_text-append xs ys = flat_map-append (λ (s : Part). s.text) xs ys
+
+pub parts_text-snoc : (parts : List Part) (part : Part) → parts_text (parts ++ part ∷ []) ≡ parts_text parts ++ part.text
+parts_text-snoc parts part = parts_text-append parts (part ∷ []) ∙ ap (λ (x : List Placed). parts_text parts ++ x) (append-nil part.text)
+
+-- more parts
+pub AreParts-append : (table : Entities) (end : ℕ) (xs ys : List Part) (rest : List Placed) → AreParts table end xs (parts_text ys ++ rest) → AreParts table end ys rest → AreParts table end (xs ++ ys) rest
+AreParts-append table end [] ys rest h k = k
+AreParts-append table end (x ∷ xs) ys rest (first, h) k =
+    (subst (λ (t : List Placed). IsPart table end t x) (sym (append_assoc (parts_text xs) (parts_text ys) rest) ∙ ap (λ (t : List Placed). t ++ rest) (sym (parts_text-append xs ys))) first, AreParts-append table end xs ys rest h k)
+
+pub AreParts-snoc : (table : Entities) (end : ℕ) (xs : List Part) (part : Part) (rest : List Placed) → AreParts table end xs (part.text ++ rest) → IsPart table end rest part → AreParts table end (xs ++ part ∷ []) rest
+AreParts-snoc table end xs part rest h k =
+    AreParts-append table end xs (part ∷ []) rest (subst (λ (t : List Placed). AreParts table end xs (t ++ rest)) (sym (append-nil part.text)) h) (k, tt)
+
+pub names-snoc : (names : List (List ℕ)) (parts : List Part) (part : Part) → names_after names (parts ++ part ∷ []) ≡ named_by part.attribute ++ names_after names parts
+names-snoc names [] part = refl
+names-snoc names (x ∷ xs) part = names-snoc (named_by x.attribute ++ names) xs part
+
+pub errors-snoc : (names : List (List ℕ)) (parts : List Part) (part : Part) → errors_after names (parts ++ part ∷ []) ≡ errors_after names parts ++ (part.errors ++ repeated (names_after names parts) part.attribute)
+errors-snoc names [] part = append-nil (part.errors ++ repeated names part.attribute)
+errors-snoc names (x ∷ xs) part = ap (λ (e : List ParseError). (x.errors ++ repeated names x.attribute) ++ e) (errors-snoc (named_by x.attribute ++ names) xs part)
+    ∙ sym (append_assoc (x.errors ++ repeated names x.attribute) (errors_after (named_by x.attribute ++ names) xs) (part.errors ++ repeated (names_after (named_by x.attribute ++ names) xs) part.attribute))
+
+pub attributes-snoc : (names : List (List ℕ)) (parts : List Part) (part : Part) → attributes_after names (parts ++ part ∷ []) ≡ attributes_after names parts ++ kept (names_after names parts) part.attribute
+attributes-snoc names [] part = append-nil (kept names part.attribute)
+attributes-snoc names (x ∷ xs) part = ap (λ (e : List (List ℕ × List ℕ)). kept names x.attribute ++ e) (attributes-snoc (named_by x.attribute ++ names) xs part)
+    ∙ sym (append_assoc (kept names x.attribute) (attributes_after (named_by x.attribute ++ names) xs) (kept (names_after (named_by x.attribute ++ names) xs) part.attribute))
+
+pub any-snoc : (parts : List Part) (part : Part) → has_attribute (parts ++ part ∷ []) ≡ (has_attribute parts || is_some part.attribute)
+any-snoc [] part = or-false (is_some part.attribute) where
+  or-false : (b : Bool) → (b || false) ≡ b
+  or-false true = refl
+  or-false false = refl
+any-snoc (x ∷ xs) part = ap (λ (b : Bool). is_some x.attribute || b) (any-snoc xs part) ∙ sym (assoc (is_some x.attribute) (has_attribute xs) (is_some part.attribute)) where
+  assoc : (a b c : Bool) → ((a || b) || c) ≡ (a || (b || c))
+  assoc true b c = refl
+  assoc false b c = refl
+
+-- a part without an attribute changes no attributes
+pub holds_plain : (names : Texts) (walk new : TagWalk) (parts : List Part) (part : Part) → part.attribute ≡ None → new.seen ≡ walk.seen → new.attrs ≡ walk.attrs → new.any ≡ walk.any → HasAttributes names walk parts → HasAttributes names new (parts ++ part ∷ [])
+holds_plain names walk new parts part none seen attrs any h = record {
+  numbers = h.numbers;
+  seen = subst (λ (x : Seen). HasSeen x h.numbers) (sym seen) h.seen;
+  named = subst (NumbersMean names h.numbers) (sym (names-snoc [] parts part ∙ ap (λ (a : Option Attribute). named_by a ++ names_after [] parts) none)) h.named;
+  attributes = subst (λ (x : Vec Attr Global). AttrsMean names x.items (attributes_after [] (parts ++ part ∷ []))) (sym attrs)
+      (subst (AttrsMean names walk.attrs.items) (sym (attributes-snoc [] parts part ∙ ap (λ (a : Option Attribute). attributes_after [] parts ++ kept (names_after [] parts) a) none ∙ append-nil (attributes_after [] parts))) h.attributes);
+  any = any ∙ h.any ∙ sym (any-snoc parts part ∙ ap (λ (a : Option Attribute). has_attribute parts || is_some a) none ∙ or-false (has_attribute parts));
+} where
+  or-false : (b : Bool) → (b || false) ≡ b
+  or-false true = refl
+  or-false false = refl
+
+pub holds_same : (names : Texts) (walk new : TagWalk) (parts : List Part) → new.seen ≡ walk.seen → new.attrs ≡ walk.attrs → new.any ≡ walk.any → HasAttributes names walk parts → HasAttributes names new parts
+holds_same names walk new parts seen attrs any h = record {
+  numbers = h.numbers;
+  seen = subst (λ (x : Seen). HasSeen x h.numbers) (sym seen) h.seen;
+  named = h.named;
+  attributes = subst (λ (x : Vec Attr Global). AttrsMean names x.items (attributes_after [] parts)) (sym attrs) h.attributes;
+  any = any ∙ h.any;
+}
+
+-- past white space
+pub past-space : (space : List Placed) (p : Placed) (rest : List Placed) → all is_space space ≡ true → is_space p.ch ≡ false → past is_space (space ++ p ∷ rest) ≡ p ∷ rest
+past-space [] p rest h k = rw k refl
+past-space (x ∷ xs) p rest h k = let parts = and_parts (is_space x.ch) (all is_space xs) h in rw parts.0 (past-space xs p rest parts.1 k)

@@ -1,0 +1,110 @@
+-- Pieces of a value, one after another.
+use Rattle.std.proofs.Common.{◌≡◌, ℕ, Bool, true, false, ◌||◌, eqb, List, [], ◌∷◌, ◌++◌, sym, refl, ap, ◌∙◌, subst, append_assoc, append-nil, arith}
+use Rattle.std.specs.Prelude.{encode_utf8_all}
+use Rattle.std.specs.Char.{encode_utf8}
+use Rattle.std.specs.List.{flat_map}
+use Rattle.std.proofs.lemmas.Bool.Decides.{nat_tests}
+use Rattle.std.proofs.lemmas.Grind.{flat_map-append}
+use Rattle.std.proofs.lemmas.Str.{encodes-append}
+use Rattle.names.specs.declared.error.ErrorCode.TheVariants.{UnexpectedCharacterInUnquotedAttributeValue}
+use Rattle.names.specs.declared.error.ParseError.{ParseError}
+use Rattle.names.specs.declared.placed.Placed.{Placed}
+use Rattle.names.specs.Placed.{characters, all, is_alphanumeric, errors_at, without_null}
+use Rattle.hmarkup.proofs.Marks.{and_parts, and_both}
+use Rattle.charref.specs.Reference.{Entities, Piece}
+use Rattle.htag.specs.Value.{IsPiece, AreValue, pieces_text, plain_piece, value_bytes}
+use Rattle.htag.specs.Tag.{is_odd}
+use Rattle.htag.specs.ValueWalk.{Begins, pieces_errors, plain_pieces}
+
+pub pieces_text-append : (xs ys : List Piece) → pieces_text (xs ++ ys) ≡ pieces_text xs ++ pieces_text ys
+pieces_text-append xs ys = flat_map-append (λ (x : Piece). x.text) xs ys
+
+pub pieces_text-one : (xs : List Piece) (piece : Piece) → pieces_text (xs ++ piece ∷ []) ≡ pieces_text xs ++ piece.text
+pieces_text-one xs piece = pieces_text-append xs (piece ∷ []) ∙ ap (λ (x : List Placed). pieces_text xs ++ x) (append-nil piece.text)
+
+pub value_bytes-append : (xs ys : List Piece) → value_bytes (xs ++ ys) ≡ value_bytes xs ++ value_bytes ys
+value_bytes-append xs ys = ap encode_utf8_all (flat_map-append (λ (x : Piece). x.gives) xs ys) ∙ encodes-append (flat_map (λ (x : Piece). x.gives) xs) (flat_map (λ (x : Piece). x.gives) ys)
+
+pub value_bytes-one : (xs : List Piece) (piece : Piece) → value_bytes (xs ++ piece ∷ []) ≡ value_bytes xs ++ encode_utf8_all piece.gives
+value_bytes-one xs piece = value_bytes-append xs (piece ∷ []) ∙ ap (λ (x : List ℕ). value_bytes xs ++ encode_utf8_all x) (append-nil piece.gives)
+
+pub pieces_errors-append : (quoted : Bool) (xs ys : List Piece) → pieces_errors quoted (xs ++ ys) ≡ pieces_errors quoted xs ++ pieces_errors quoted ys
+pieces_errors-append true xs ys = flat_map-append (λ (x : Piece). x.errors) xs ys
+pieces_errors-append false xs ys = flat_map-append (λ (x : Piece). errors_at UnexpectedCharacterInUnquotedAttributeValue is_odd x.text ++ x.errors) xs ys
+
+-- a text without the characters that are faults in a value
+abbrev pub is_even : List Placed → Type 0
+is_even text = errors_at UnexpectedCharacterInUnquotedAttributeValue is_odd text ≡ []
+
+pub errors-even : (quoted : Bool) (piece : Piece) → is_even piece.text → pieces_errors quoted (piece ∷ []) ≡ piece.errors
+errors-even true piece even = append-nil piece.errors
+errors-even false piece even = append-nil (errors_at UnexpectedCharacterInUnquotedAttributeValue is_odd piece.text ++ piece.errors) ∙ ap (λ (x : List ParseError). x ++ piece.errors) even
+
+-- the characters that may stand in a reference before its last one
+abbrev pub is_quiet : ℕ → Bool
+is_quiet c = is_alphanumeric c || eqb c 35
+
+pub quiet_run : (text : List Placed) → all is_alphanumeric text ≡ true → all is_quiet text ≡ true
+quiet_run [] h = refl
+quiet_run (p ∷ ps) h =
+    let parts = and_parts (is_alphanumeric p.ch) (all is_alphanumeric ps) h in
+    let first : is_alphanumeric p.ch ≡ true = parts.0 in
+    and_both (is_quiet p.ch) (all is_quiet ps) (rw first refl) (quiet_run ps parts.1)
+
+module _ (c : ℕ) (h : is_quiet c ≡ true) where
+  pub quiet_plain : eqb c 38 ≡ false
+  quiet_plain = grind (arith, nat_tests)
+
+  pub quiet_null : eqb c 0 ≡ false
+  quiet_null = grind (arith, nat_tests)
+
+  pub quiet_odd : is_odd c ≡ false
+  quiet_odd = grind (arith, nat_tests)
+
+-- they are pieces by themselves
+pub plain_text : (text : List Placed) → pieces_text (plain_pieces text) ≡ text
+plain_text [] = refl
+plain_text (p ∷ ps) = ap (λ (x : List Placed). p ∷ x) (plain_text ps)
+
+pub plain_bytes : (text : List Placed) → all is_quiet text ≡ true → value_bytes (plain_pieces text) ≡ encode_utf8_all (characters text)
+plain_bytes [] h = refl
+plain_bytes (p ∷ ps) h =
+    let parts = and_parts (is_quiet p.ch) (all is_quiet ps) h in
+    let some : eqb p.ch 0 ≡ false = quiet_null p.ch parts.0 in
+    value_bytes-append (plain_piece p ∷ []) (plain_pieces ps) ∙ ap (λ (x : List ℕ). x ++ value_bytes (plain_pieces ps)) (append-nil (encode_utf8 (without_null p.ch)))
+    ∙ ap (λ (x : List ℕ). encode_utf8 (without_null p.ch) ++ x) (plain_bytes ps parts.1) ∙ rw some refl
+
+pub plain_errors : (quoted : Bool) (text : List Placed) → all is_quiet text ≡ true → pieces_errors quoted (plain_pieces text) ≡ []
+plain_errors true [] h = refl
+plain_errors false [] h = refl
+plain_errors true (p ∷ ps) h =
+    let parts = and_parts (is_quiet p.ch) (all is_quiet ps) h in
+    let some : eqb p.ch 0 ≡ false = quiet_null p.ch parts.0 in
+    rw some (plain_errors true ps parts.1)
+plain_errors false (p ∷ ps) h =
+    let parts = and_parts (is_quiet p.ch) (all is_quiet ps) h in
+    let some : eqb p.ch 0 ≡ false = quiet_null p.ch parts.0 in
+    let even : is_odd p.ch ≡ false = quiet_odd p.ch parts.0 in
+    rw (some, even) (plain_errors false ps parts.1)
+
+-- BEGINNINGS OF VALUES
+
+module _ (table : Entities) where
+  pub begins_further : (pieces : List Piece) (next others : List Placed) → Begins table pieces next → Begins table pieces (next ++ others)
+  begins_further pieces next others b = record { value = λ more rest are is. b.value more (others ++ rest) are (is ∙ append_assoc next others rest) }
+
+  -- a piece more
+  pub begins_piece : (pieces : List Piece) (piece : Piece) (next : List Placed) → Begins table pieces (piece.text ++ next) → ((rest : List Placed) → IsPiece table true (next ++ rest) piece) → Begins table (pieces ++ piece ∷ []) next
+  begins_piece pieces piece next b is_piece = record {
+    value = λ more rest are is.
+        subst (AreValue table) (sym (append_assoc pieces (piece ∷ []) more))
+        (b.value (piece ∷ more) rest (subst (λ (x : List Placed). IsPiece table true x piece) (sym is) (is_piece rest), are) (ap (λ (x : List Placed). piece.text ++ x) is ∙ sym (append_assoc piece.text next rest)));
+  }
+
+  -- characters more
+  pub begins_plain : (text : List Placed) (pieces : List Piece) (next : List Placed) → all is_quiet text ≡ true → Begins table pieces (text ++ next) → Begins table (pieces ++ plain_pieces text) next
+  begins_plain [] pieces next h b = subst (λ (x : List Piece). Begins table x next) (sym (append-nil pieces)) b
+  begins_plain (p ∷ ps) pieces next h b =
+      let parts = and_parts (is_quiet p.ch) (all is_quiet ps) h in
+      subst (λ (x : List Piece). Begins table x next) (append_assoc pieces (plain_piece p ∷ []) (plain_pieces ps))
+      (begins_plain ps (pieces ++ plain_piece p ∷ []) next parts.1 (begins_piece pieces (plain_piece p) (ps ++ next) b (λ rest. IsPiece.plain p (quiet_plain p.ch parts.0) refl)))

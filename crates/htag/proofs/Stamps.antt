@@ -1,0 +1,53 @@
+-- Stamps of the names that a tag has had.
+use Rattle.std.proofs.Common.{◌≡◌, ℕ, zero, suc, ◌<◌, ◌≤◌, Bool, true, false, not, ◌||◌, eqb, List, [], ◌∷◌, ◌++◌, length, replicate, get_or, sym, refl, ap, ◌∙◌, arith}
+use Rattle.std.proofs.lemmas.Bool.{eqb-true}
+use Rattle.std.proofs.lemmas.Bool.Decides.{nat_tests}
+use Rattle.hmarkup.proofs.Marks.{eqb_self}
+use Rattle.htag.specs.declared.seen.Seen.{Seen}
+use Rattle.htag.specs.Seen.{has_number, stamp, HasSeen}
+
+zeros : (k m : ℕ) → let none : ℕ = 0 in get_or (replicate k none) m none ≡ none
+zeros zero m = refl
+zeros (suc k) zero = refl
+zeros (suc k) (suc m) = zeros k m
+
+pub grown : (xs : List ℕ) (k m : ℕ) → get_or (xs ++ replicate k 0) m 0 ≡ get_or xs m 0
+grown [] k m = zeros k m
+grown (x ∷ xs) k zero = refl
+grown (x ∷ xs) k (suc m) = grown xs k m
+
+past_all : (xs : List ℕ) (n : ℕ) → length xs ≤ n → get_or xs n 0 ≡ 0
+past_all [] n h = refl
+past_all (x ∷ xs) zero h = absurd (omega (arith, h))
+past_all (x ∷ xs) (suc n) h = past_all xs n (omega (arith, h))
+
+different : (m n : ℕ) → eqb m n ≡ false → m ≡ n → ⊥
+different m n e is = let never : true ≡ false = sym (eqb_self n) ∙ ap (λ (x : ℕ). eqb x n) (sym is) ∙ e in absurd cc
+
+-- a name more
+pub marked : (old new : Seen) (n : ℕ) (numbers : List ℕ) → HasSeen old numbers → new.tag ≡ old.tag → stamp new n ≡ old.tag → ((m : ℕ) → (m ≡ n → ⊥) → stamp new m ≡ stamp old m) → HasSeen new (n ∷ numbers)
+marked old new n numbers h same here others = record { exact = λ m. exact_at m (eqb m n) refl } where
+  exact_at : (m : ℕ) (b : Bool) → eqb m n ≡ b → eqb (stamp new m) new.tag ≡ (eqb m n || has_number m numbers)
+  exact_at m true e =
+      let is : stamp new m ≡ new.tag = ap (stamp new) (eqb-true m n e) ∙ here ∙ sym same in
+      ap (λ (x : ℕ). eqb x new.tag) is ∙ eqb_self new.tag ∙ sym (ap (λ (b : Bool). b || has_number m numbers) e)
+  exact_at m false e =
+      ap (λ (x : ℕ). eqb x new.tag) (others m (different m n e)) ∙ ap (eqb (stamp old m)) same ∙ h.exact m ∙ sym (ap (λ (b : Bool). b || has_number m numbers) e)
+
+-- stamps stay old where each is the tag's or was there
+pub still_older : (old new : List ℕ) (n tag : ℕ) → get_or new n 0 ≡ tag → ((m : ℕ) → (m ≡ n → ⊥) → get_or new m 0 ≡ get_or old m 0) → ((m : ℕ) → get_or old m 0 ≤ tag) → (m : ℕ) → get_or new m 0 ≤ tag
+still_older old new n tag here others h m = by (eqb m n) refl where
+  by : (b : Bool) → eqb m n ≡ b → get_or new m 0 ≤ tag
+  by true e = let is : m ≡ n = eqb-true m n e in omega (arith, ap (λ (x : ℕ). get_or new x 0) is, here)
+  by false e = omega (arith, others m (different m n e), h m)
+
+-- a new tag has had no names
+pub none_yet : (seen : Seen) (tag : ℕ) → ((n : ℕ) → stamp seen n ≤ tag) → tag < seen.tag → HasSeen seen []
+none_yet seen tag older new = record { exact = λ n. let h = older n in let other : eqb (stamp seen n) seen.tag ≡ false = grind (arith, nat_tests) in other }
+
+-- a name past all that have a stamp
+pub no_stamp : (seen : Seen) (n : ℕ) (numbers : List ℕ) → 0 < seen.tag → HasSeen seen numbers → length seen.stamps.items ≤ n → true ≡ not (has_number n numbers)
+no_stamp seen n numbers begun h past =
+    let none : stamp seen n ≡ 0 = past_all seen.stamps.items n past in
+    let other : eqb (stamp seen n) seen.tag ≡ false = grind (arith, nat_tests) in
+    ap not (sym other ∙ h.exact n)

@@ -1,0 +1,7 @@
+use Rattle.std.proofs.Common.{◌≡◌, ◌++◌, take}
+use Rattle.std.specs.Prelude.{encode_utf8_all}
+use Rattle.std.specs.String.{string_bytes}
+use Rattle.htag.proofs.push.push_all.Given as goal
+
+abbrev pub invariant-loop-character : goal.invariant-loop-character
+invariant-loop-character l = string_bytes l.text ≡ string_bytes l.initial.text ++ encode_utf8_all (take l.character-index l.characters)

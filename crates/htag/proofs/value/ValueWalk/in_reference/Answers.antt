@@ -1,0 +1,52 @@
+use Rattle.std.proofs.Common.{◌++◌, ◌≤◌, [], List, ℕ, refl, sym, ap, ◌∙◌, append-nil, append_assoc, arith, subst, Vec, Global}
+use Rattle.std.specs.Prelude.{encode_utf8_all}
+use Rattle.std.specs.Char.{encode_utf8}
+use Rattle.std.specs.String.{string_bytes}
+use Rattle.charref.specs.Pieces.{characters_of}
+use Rattle.names.specs.declared.error.ParseError.{ParseError}
+use Rattle.htag.specs.ValueWalk.{IsInValue}
+use Rattle.htag.proofs.InValue.{reference_on, reference_ends, reference_read, run_begins, told_then_given}
+use Rattle.htag.proofs.value.ValueWalk.in_reference.Goals as goal
+
+pub returns-in-None : goal.returns-in-None
+returns-in-None c = record {
+  more = [];
+  later_is = sym (append-nil c.args.errors.now.items);
+  takes = λ text own h. reference_on _ _ _ _ _ text own h c.args.walk c.requires _ refl (λ taken has. c.in-None.ensures.taken _ _ taken _ has refl) c.in_ok-push-in-None.ensures.items refl refl;
+}
+
+pub returns-then-found : goal.returns-then-found
+returns-then-found c =
+    let t = c.in_ok-tell.ensures in
+    record {
+      more = _;
+      later_is = t.later_is;
+      takes = λ text own h.
+          run_begins _ _ _ _ _ text own h c.args.walk c.requires c.in-Some.found (λ taken has after. c.in-Some.ensures.taken _ _ taken _ has refl after) c.if-found.true refl t.place_is
+          (c.in_ok-push.ensures.bytes ∙ ap (λ (x : List ℕ). x ++ encode_utf8 c.args.ch) (c.in_ok-push_all.ensures ∙ ap (λ (x : List ℕ). string_bytes c.tell.new.self.text ++ encode_utf8_all x) c.deref.ensures.value
+          ∙ ap (λ (x : List ℕ). x ++ encode_utf8_all c.tell.new.self.held.items) t.bytes
+          ∙ ap (λ (x : Vec ℕ Global). (string_bytes c.args.self.now.text ++ encode_utf8_all (characters_of c.in-Some.found.characters)) ++ encode_utf8_all x.items) t.held_is));
+    }
+
+pub returns-then-found-eq0 : goal.returns-then-found-eq0
+returns-then-found-eq0 c =
+    let t = c.in_ok-tell.ensures in
+    record {
+      more = _;
+      later_is = t.later_is;
+      takes = λ text own h. reference_ends _ _ _ _ _ text own h c.args.walk c.requires c.in-Some.found (λ taken has after. c.in-Some.ensures.taken _ _ taken _ has refl after) c.if-found.false c.if-found-eq0.true refl t.bytes;
+    }
+
+pub returns : goal.returns
+returns c =
+    let t = c.in_ok-tell.ensures in
+    let n = c.in_ok-take_next.ensures in
+    let some : 1 ≤ c.in-Some.found.left = omega arith in
+    record {
+      more = _;
+      later_is = n.later_is ∙ ap (λ (x : List ParseError). x ++ n.more) t.later_is ∙ append_assoc c.args.errors.now.items _ n.more;
+      takes = λ text own h.
+          subst (IsInValue _ _ _ _ []) (append_assoc own _ n.more)
+          (n.takes text _ (reference_read _ _ _ _ _ text own h c.args.walk c.requires c.in-Some.found (λ taken has after. c.in-Some.ensures.taken _ _ taken _ has refl after) c.if-found.false some c.in_ok-give_back.ensures.reading_is
+          (told_then_given _ _ _ _ _ _ _ t c.in_ok-give_back.ensures.bytes)));
+    }

@@ -1,0 +1,17 @@
+use Rattle.std.proofs.Common.{◌≡◌, [], false, eqb, refl, sym, append-nil, arith}
+use Rattle.std.proofs.lemmas.Bool.Decides.{nat_tests}
+use Rattle.htag.proofs.InValue.{plain_step, amp_step}
+use Rattle.htag.proofs.value.ValueWalk.take_next.Goals as goal
+
+pub returns-then-ch-ne38 : goal.returns-then-ch-ne38
+returns-then-ch-ne38 c =
+    let a = c.in_ok-push.ensures in
+    let plain : eqb c.args.ch 38 ≡ false = grind (arith, nat_tests) in
+    record { more = _; later_is = a.later_is; takes = λ text own h. plain_step _ _ _ _ _ text own h c.requires a.reading_is a.bytes plain }
+
+pub returns : goal.returns
+returns c = record {
+  more = [];
+  later_is = sym (append-nil c.args.errors.now.items);
+  takes = λ text own h. amp_step _ _ _ _ _ text own h c.requires _ refl (omega arith) c.new.ensures.table c.new.ensures.taken refl c.clear.ensures.items refl;
+}

@@ -1,0 +1,14 @@
+use Rattle.std.proofs.Common.{◌≡◌, ℕ, true, List, [], ◌∷◌, ◌++◌, ap, sym, ◌∙◌, append-nil, refl}
+use Rattle.std.specs.Char.{encode_utf8, to_ascii_lowercase}
+use Rattle.std.specs.String.{string_bytes}
+use Rattle.hmarkup.proofs.Marks.{and_both}
+use Rattle.names.specs.Placed.{is_letter, without_null}
+use Rattle.htag.proofs.Names.{begun_in_tag}
+use Rattle.htag.proofs.walk.TagWalk.begin.Goals as goal
+
+pub returns-clause-begun : goal.returns-clause-begun
+returns-clause-begun c = λ table names p is letter.
+    let first : is_letter p.ch ≡ true = ap is_letter is ∙ letter in
+    begun_in_tag _ _ c.begin_parts.ensures.begun table names (p ∷ []) first (and_both (is_letter p.ch) true first refl)
+    (ap string_bytes c.begin_parts.ensures.name ∙ c.in_ok-push_lowered.ensures ∙ ap (λ (x : List ℕ). x ++ encode_utf8 (to_ascii_lowercase (without_null c.args.ch))) c.clear.ensures.bytes
+    ∙ ap (λ (x : ℕ). encode_utf8 (to_ascii_lowercase (without_null x))) (sym is) ∙ sym (append-nil (encode_utf8 (to_ascii_lowercase (without_null p.ch)))))

@@ -1,0 +1,15 @@
+use Rattle.std.proofs.Common.{◌≡◌, true, false, refl, arith}
+use Rattle.std.proofs.lemmas.Bool.Decides.{nat_tests}
+use Rattle.htag.specs.Tag.{ends_name}
+use Rattle.htag.proofs.Names.{name_grows, name_ends}
+use Rattle.htag.proofs.walk.TagWalk.in_name.Goals as goal
+
+pub returns-then-ch-eq62-clause-takes : goal.returns-then-ch-eq62-clause-takes
+returns-then-ch-eq62-clause-takes c = λ body h.
+    let ends : ends_name c.args.ch ≡ true = grind (arith, nat_tests) in
+    c.before_attribute.ensures.takes body (name_ends _ _ _ body _ _ h c.requires _ refl refl refl refl refl ends)
+
+pub returns-clause-takes : goal.returns-clause-takes
+returns-clause-takes c = λ body h.
+    let stays : ends_name c.args.ch ≡ false = grind (arith, nat_tests) in
+    name_grows _ _ _ body _ _ h c.requires _ _ refl refl refl refl c.in_ok-push_lowered.ensures c.in_ok-keep_null.ensures stays

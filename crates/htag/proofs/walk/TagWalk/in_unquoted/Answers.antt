@@ -1,0 +1,15 @@
+use Rattle.std.proofs.Common.{◌≡◌, true, not, refl, arith}
+use Rattle.std.proofs.lemmas.Bool.Decides.{nat_tests}
+use Rattle.htag.specs.Tag.{ends_unquoted}
+use Rattle.htag.proofs.Values.{unquoted_goes_on, unquoted_ends}
+use Rattle.htag.proofs.walk.TagWalk.in_unquoted.Goals as goal
+
+pub returns-then-ch-eq62-clause-takes : goal.returns-then-ch-eq62-clause-takes
+returns-then-ch-eq62-clause-takes c = λ body h.
+    let stop : ends_unquoted c.args.ch ≡ true = grind (arith, nat_tests) in
+    c.before_attribute.ensures.takes body (unquoted_ends _ _ _ body _ _ h _ _ _ _ _ (record { kind_is = refl; name_is = refl; attrs_are = refl; seen_is = refl; any_is = refl }) refl refl c.in_ok-end.ensures c.requires stop c.in_ok-end_attribute.ensures.ended)
+
+pub returns-clause-takes : goal.returns-clause-takes
+returns-clause-takes c = λ body h.
+    let stays : not (ends_unquoted c.args.ch) ≡ true = grind (arith, nat_tests) in
+    unquoted_goes_on _ _ _ body _ _ h _ _ (record { kind_is = refl; name_is = refl; attrs_are = refl; seen_is = refl; any_is = refl }) refl refl c.in_ok-take.ensures c.requires refl stays

@@ -1,0 +1,59 @@
+-- What the walk's own functions do.
+use Rattle.std.specs.Prelude.{◌≡◌, List, [], ◌∷◌, ◌++◌, Some, false}
+use Rattle.std.specs.Char.{encode_utf8, to_ascii_lowercase}
+use Rattle.std.specs.String.{string_bytes}
+use Rattle.names.specs.declared.error.ErrorCode.TheVariants.{UnexpectedEqualsSignBeforeAttributeName}
+use Rattle.names.specs.declared.error.ParseError.{ParseError}
+use Rattle.names.specs.declared.placed.Placed.{Placed}
+use Rattle.names.specs.Names.{Texts}
+use Rattle.names.specs.Placed.{is_equals, error_if, without_null}
+use Rattle.htag.specs.declared.kind.TagKind.{TagKind}
+use Rattle.htag.specs.declared.phase.Phase.TheVariants as phase
+use Rattle.htag.specs.declared.walk.TagWalk.{TagWalk}
+use Rattle.htag.specs.Seen.{HasSeen}
+use Rattle.htag.specs.Tag.{Attribute, Part, repeated, name_errors_here}
+use Rattle.htag.specs.TagWalk.{NoValue, names_after, HasAttributes}
+
+-- A tag of this kind has begun; its name stands in the walk already.
+pub record IsBegun (kind : TagKind) (walk : TagWalk) : Type 0 where
+  pub kind_is : walk.kind ≡ kind
+  pub in_name : walk.phase ≡ phase.Name
+  pub seen : HasSeen walk.seen []
+  pub none : walk.attrs.items ≡ []
+  pub not_any : walk.any ≡ false
+
+-- the attribute that is being read
+abbrev pub attribute_of : TagWalk → Attribute
+attribute_of walk = record { name = string_bytes walk.attribute; value = string_bytes walk.value.text; at = walk.place }
+
+-- An attribute has been read to its end: it is kept, or told as a repeated one.
+pub record EndsAttribute (before after : Texts) (old : TagWalk) (errors : List ParseError) (new : TagWalk) (later : List ParseError) : Type 0 where
+  pub kind_is : new.kind ≡ old.kind
+  pub phase_is : new.phase ≡ phase.BeforeAttribute
+  pub name_is : new.name ≡ old.name
+  pub ends : (parts : List Part) (part : Part) → part.attribute ≡ Some (attribute_of old) → HasAttributes before old parts
+      → HasAttributes after new (parts ++ part ∷ []) × (later ≡ errors ++ repeated (names_after [] parts) part.attribute)
+
+-- what stays while an attribute is read
+pub record KeepsTag (old new : TagWalk) : Type 0 where
+  pub kind_is : new.kind ≡ old.kind
+  pub name_is : new.name ≡ old.name
+  pub attrs_are : new.attrs ≡ old.attrs
+  pub seen_is : new.seen ≡ old.seen
+  pub any_is : new.any ≡ old.any
+
+pub record AddsToName (old : TagWalk) (p : Placed) (errors : List ParseError) (new : TagWalk) (later : List ParseError) : Type 0 where
+  pub keeps : KeepsTag old new
+  pub phase_is : new.phase ≡ old.phase
+  pub place_is : new.place ≡ old.place
+  pub value_is : new.value ≡ old.value
+  pub attribute_is : string_bytes new.attribute ≡ string_bytes old.attribute ++ encode_utf8 (to_ascii_lowercase (without_null p.ch))
+  pub later_is : later ≡ errors ++ name_errors_here p
+
+pub record BeginsAttribute (old : TagWalk) (p : Placed) (errors : List ParseError) (new : TagWalk) (later : List ParseError) : Type 0 where
+  pub keeps : KeepsTag old new
+  pub phase_is : new.phase ≡ phase.AttributeName
+  pub place_is : new.place ≡ p.at
+  pub value_is : NoValue new.value
+  pub attribute_is : string_bytes new.attribute ≡ encode_utf8 (to_ascii_lowercase (without_null p.ch))
+  pub later_is : later ≡ errors ++ (error_if (is_equals p.ch) UnexpectedEqualsSignBeforeAttributeName p.at ++ name_errors_here p)

@@ -1,0 +1,248 @@
+//! An attribute of a tag.
+
+ghost use Rattle.std.specs.Prelude.{◌≡◌, OnOk, MatchResult};
+ghost use Rattle.names.specs.Names.{Grows};
+ghost use Rattle.htag.specs.Steps.{EndsAttribute, BeginsAttribute, AddsToName};
+ghost use Rattle.htag.specs.TagWalk.{StepsInTag};
+ghost use Rattle.names.specs.declared.refusal.Refusal.TheVariants.{Memory};
+
+use crate::phase::Phase;
+use crate::push::{ends_name, keep_if, keep_null, push_lowered};
+use crate::walk::TagWalk;
+use charref::Table;
+use names::{Attr, ErrorCode, Names, ParseError, Refusal};
+use std::alloc::AllocError;
+use std::mem;
+
+/// More names than this are never numbered.
+const MAX_NUMBER: usize = 4_294_967_295;
+
+impl<'t> TagWalk<'t> {
+    /// Begins an attribute with the first character of its name.
+    pub(crate) fn begin_attribute(
+        &mut self,
+        ch: char,
+        at: u64,
+        errors: &mut Vec<ParseError>,
+    ) -> Result<(), AllocError>
+        ensures { OnOk result (BeginsAttribute self.old (record { ch = ch; at = at }) errors.old.items self.new errors.new.items) }
+    {
+        keep_if(
+            ch == '=',
+            ErrorCode::UnexpectedEqualsSignBeforeAttributeName,
+            at,
+            errors,
+        )?;
+        self.attribute.clear();
+        self.value.begin();
+        self.place = at;
+        self.phase = Phase::AttributeName;
+        self.add_to_name(ch, at, errors)
+    }
+
+    /// Adds a character to the attribute's name.
+    pub(crate) fn add_to_name(
+        &mut self,
+        ch: char,
+        at: u64,
+        errors: &mut Vec<ParseError>,
+    ) -> Result<(), AllocError>
+        ensures { OnOk result (AddsToName self.old (record { ch = ch; at = at }) errors.old.items self.new errors.new.items) }
+    {
+        let odd = ch == '"' || ch == '\'' || ch == '<';
+        keep_if(
+            odd,
+            ErrorCode::UnexpectedCharacterInAttributeName,
+            at,
+            errors,
+        )?;
+        keep_null(ch, at, errors)?;
+        push_lowered(&mut self.attribute, ch)
+    }
+
+    /// In an attribute's name (13.2.5.33).
+    pub(crate) fn in_attribute_name(
+        &mut self,
+        table: &'t Table,
+        names: &mut Names,
+        ch: char,
+        at: u64,
+        errors: &mut Vec<ParseError>,
+    ) -> Result<bool, Refusal>
+        requires { self.old.phase ≡ Phase.AttributeName }
+        ensures takes { StepsInTag table.now names.old names.new self.old (record { ch = ch; at = at }) errors.old.items result self.new errors.new.items }
+        ensures grows { Grows names.old names.new }
+        ensures kind { OnOk result (self.new.kind ≡ self.old.kind) }
+    {
+        if ch.is_ascii_whitespace() {
+            self.phase = Phase::AfterAttributeName;
+            return Ok(false);
+        }
+        if ch == '=' {
+            self.phase = Phase::BeforeValue;
+            return Ok(false);
+        }
+        if ch == '/' || ch == '>' {
+            self.end_attribute(names, errors)?;
+            return self.before_attribute(table, names, ch, at, errors);
+        }
+        self.add_to_name(ch, at, errors)?;
+        Ok(false)
+    }
+
+    /// After an attribute's name and white space (13.2.5.34).
+    pub(crate) fn after_attribute_name(
+        &mut self,
+        table: &'t Table,
+        names: &mut Names,
+        ch: char,
+        at: u64,
+        errors: &mut Vec<ParseError>,
+    ) -> Result<bool, Refusal>
+        requires { self.old.phase ≡ Phase.AfterAttributeName }
+        ensures takes { StepsInTag table.now names.old names.new self.old (record { ch = ch; at = at }) errors.old.items result self.new errors.new.items }
+        ensures grows { Grows names.old names.new }
+        ensures kind { OnOk result (self.new.kind ≡ self.old.kind) }
+    {
+        if ch.is_ascii_whitespace() {
+            return Ok(false);
+        }
+        if ch == '=' {
+            self.phase = Phase::BeforeValue;
+            return Ok(false);
+        }
+        self.end_attribute(names, errors)?;
+        self.before_attribute(table, names, ch, at, errors)
+    }
+
+    /// Before a value (13.2.5.35).
+    pub(crate) fn before_value(
+        &mut self,
+        table: &'t Table,
+        names: &mut Names,
+        ch: char,
+        at: u64,
+        errors: &mut Vec<ParseError>,
+    ) -> Result<bool, Refusal>
+        requires { self.old.phase ≡ Phase.BeforeValue }
+        ensures takes { StepsInTag table.now names.old names.new self.old (record { ch = ch; at = at }) errors.old.items result self.new errors.new.items }
+        ensures grows { Grows names.old names.new }
+        ensures kind { OnOk result (self.new.kind ≡ self.old.kind) }
+    {
+        if ch.is_ascii_whitespace() {
+            return Ok(false);
+        }
+        if ch == '"' || ch == '\'' {
+            self.phase = Phase::Quoted(ch);
+            return Ok(false);
+        }
+        if ch == '>' {
+            keep_if(true, ErrorCode::MissingAttributeValue, at, errors)?;
+            self.end_attribute(names, errors)?;
+            return self.before_attribute(table, names, ch, at, errors);
+        }
+        self.phase = Phase::Unquoted;
+        self.value.take(table, false, ch, at, errors)?;
+        Ok(false)
+    }
+
+    /// In a value in quotes (13.2.5.36, 13.2.5.37).
+    pub(crate) fn in_quotes(
+        &mut self,
+        table: &'t Table,
+        mark: char,
+        names: &mut Names,
+        ch: char,
+        at: u64,
+        errors: &mut Vec<ParseError>,
+    ) -> Result<bool, Refusal>
+        requires { self.old.phase ≡ Phase.Quoted mark }
+        ensures takes { StepsInTag table.now names.old names.new self.old (record { ch = ch; at = at }) errors.old.items result self.new errors.new.items }
+        ensures grows { Grows names.old names.new }
+        ensures kind { OnOk result (self.new.kind ≡ self.old.kind) }
+    {
+        if ch == mark {
+            self.value.end(errors)?;
+            self.phase = Phase::AfterQuoted;
+            return Ok(false);
+        }
+        self.value.take(table, true, ch, at, errors)?;
+        Ok(false)
+    }
+
+    /// In a value without quotes (13.2.5.38).
+    pub(crate) fn in_unquoted(
+        &mut self,
+        table: &'t Table,
+        names: &mut Names,
+        ch: char,
+        at: u64,
+        errors: &mut Vec<ParseError>,
+    ) -> Result<bool, Refusal>
+        requires { self.old.phase ≡ Phase.Unquoted }
+        ensures takes { StepsInTag table.now names.old names.new self.old (record { ch = ch; at = at }) errors.old.items result self.new errors.new.items }
+        ensures grows { Grows names.old names.new }
+        ensures kind { OnOk result (self.new.kind ≡ self.old.kind) }
+    {
+        if ch == '>' || ch.is_ascii_whitespace() {
+            self.value.end(errors)?;
+            self.end_attribute(names, errors)?;
+            return self.before_attribute(table, names, ch, at, errors);
+        }
+        self.value.take(table, false, ch, at, errors)?;
+        Ok(false)
+    }
+
+    /// After a value in quotes (13.2.5.39).
+    pub(crate) fn after_quotes(
+        &mut self,
+        table: &'t Table,
+        names: &mut Names,
+        ch: char,
+        at: u64,
+        errors: &mut Vec<ParseError>,
+    ) -> Result<bool, Refusal>
+        requires { self.old.phase ≡ Phase.AfterQuoted }
+        ensures takes { StepsInTag table.now names.old names.new self.old (record { ch = ch; at = at }) errors.old.items result self.new errors.new.items }
+        ensures grows { Grows names.old names.new }
+        ensures kind { OnOk result (self.new.kind ≡ self.old.kind) }
+    {
+        let joined = !ends_name(ch);
+        keep_if(
+            joined,
+            ErrorCode::MissingWhitespaceBetweenAttributes,
+            at,
+            errors,
+        )?;
+        self.end_attribute(names, errors)?;
+        self.before_attribute(table, names, ch, at, errors)
+    }
+
+    /// An attribute has been read: keeps the first one of its name.
+    pub(crate) fn end_attribute(
+        &mut self,
+        names: &mut Names,
+        errors: &mut Vec<ParseError>,
+    ) -> Result<(), Refusal>
+        ensures ended { MatchResult result (λ _. EndsAttribute names.old names.new self.old errors.old.items self.new errors.new.items) (λ e. e ≡ Memory) }
+        ensures grows { Grows names.old names.new }
+    {
+        let id = names.intern(self.alloc, &self.attribute)?;
+        let number = id.index();
+        if number >= MAX_NUMBER {
+            return Err(Refusal::Memory);
+        }
+        self.phase = Phase::BeforeAttribute;
+        self.any = true;
+        if self.seen.add(number)? {
+            let value = mem::replace(&mut self.value.text, String::new(self.alloc));
+            self.attrs.push(Attr { name: id, value })?;
+        } else {
+            errors.push(ParseError {
+                code: ErrorCode::DuplicateAttribute,
+                at: self.place,
+            })?;
+        }
+        Ok(())
+    }
+}

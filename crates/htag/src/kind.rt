@@ -1,0 +1,8 @@
+//! Start tags and end tags.
+
+/// Which tag it is: `<` begins a start tag, `</` an end tag.
+#[derive(Clone, Copy, Debug)]
+pub enum TagKind {
+    Start,
+    End,
+}

@@ -1,0 +1,19 @@
+//! Tags after their mark, a character at a time (HTML Standard, 13.2.5.8 and 13.2.5.32 to 13.2.5.40).
+#![tactic(auto)]
+
+mod attribute;
+mod kind;
+mod phase;
+mod piece;
+mod push;
+mod reading;
+mod seen;
+mod stamp;
+mod step;
+#[cfg(test)]
+mod tests;
+mod value;
+mod walk;
+
+pub use kind::TagKind;
+pub use walk::TagWalk;

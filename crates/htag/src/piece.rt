@@ -1,0 +1,225 @@
+//! The pieces of a value: characters and references (HTML Standard, 13.2.5.36 to 13.2.5.38 and 13.2.5.72 to 13.2.5.80).
+
+ghost use Rattle.std.specs.Prelude.{◌≡◌, ◌∷◌, ◌++◌, ◌-◌, ℕ, [], true, false, OnOk, string_bytes, length, drop, encode_utf8_all, Bool, ◌==◌};
+ghost use Rattle.charref.specs.Reference.{Entities};
+ghost use Rattle.charref.specs.declared.walk.Walk.{Walk as Handed};
+ghost use Rattle.htag.specs.Value.{plain_piece};
+ghost use Rattle.htag.specs.ValueWalk.{TakesInValue, EndsValue, TellsReference, pieces_errors};
+ghost use Rattle.htag.specs.ValueSteps.{AddsPlain, GivesBack};
+
+use crate::push::{keep_if, keep_null, push_all, push_value};
+use crate::reading::Reading;
+use crate::value::ValueWalk;
+use charref::{Reference, Table, Walk};
+use names::{ErrorCode, ParseError};
+use std::alloc::{AllocError, Global};
+
+impl<'t> ValueWalk<'t> {
+    pub fn new(alloc: Global) -> ValueWalk<'t> {
+        ValueWalk {
+            text: String::new(alloc),
+            reading: Reading::Nothing,
+            place: 0,
+            held: Vec::new(alloc),
+        }
+    }
+
+    /// Begins another value.
+    pub fn begin(&mut self)
+        ensures reading { self.new.reading ≡ Reading.Nothing }
+        ensures text { string_bytes self.new.text ≡ [] }
+    {
+        self.text.clear();
+        self.reading = Reading::Nothing;
+    }
+
+    /// Takes the next character of the value, which does not end it.
+    pub fn take(
+        &mut self,
+        table: &'t Table,
+        quoted: bool,
+        ch: char,
+        at: u64,
+        errors: &mut Vec<ParseError>,
+    ) -> Result<(), AllocError>
+        ensures { OnOk result (TakesInValue table.now quoted self.old (record { ch = ch; at = at }) errors.old.items self.new errors.new.items) }
+    {
+        match self.reading {
+            Reading::Nothing => self.take_next(table, quoted, ch, at, errors),
+            Reading::Reference(walk) => self.in_reference(walk, table, quoted, ch, at, errors),
+            Reading::Run => self.in_run(table, quoted, ch, at, errors),
+        }
+    }
+
+    /// The value ends.
+    pub fn end(&mut self, errors: &mut Vec<ParseError>) -> Result<(), AllocError>
+        ensures { OnOk result (EndsValue self.old errors.old.items self.new errors.new.items) }
+    {
+        match self.reading {
+            Reading::Reference(walk) => self.end_reference(walk, errors),
+            Reading::Nothing => Ok(()),
+            Reading::Run => {
+                self.reading = Reading::Nothing;
+                Ok(())
+            }
+        }
+    }
+
+    /// A character where no reference is being read.
+    fn take_next(
+        &mut self,
+        table: &'t Table,
+        quoted: bool,
+        ch: char,
+        at: u64,
+        errors: &mut Vec<ParseError>,
+    ) -> Result<(), AllocError>
+        requires { self.old.reading ≡ Reading.Nothing }
+        ensures { OnOk result (TakesInValue table.now quoted self.old (record { ch = ch; at = at }) errors.old.items self.new errors.new.items) }
+    {
+        if ch != '&' {
+            self.push(quoted, ch, at, errors)?;
+            return Ok(());
+        }
+        self.reading = Reading::Reference(Walk::new(table, true));
+        self.place = at;
+        self.held.clear();
+        Ok(())
+    }
+
+    /// A character by itself.
+    fn push(
+        &mut self,
+        quoted: bool,
+        ch: char,
+        at: u64,
+        errors: &mut Vec<ParseError>,
+    ) -> Result<(), AllocError>
+        ensures { OnOk result (AddsPlain quoted self.old (record { ch = ch; at = at }) errors.old.items self.new errors.new.items) }
+    {
+        if !quoted {
+            let odd = ch == '"' || ch == '\'' || ch == '<' || ch == '=' || ch == '`';
+            keep_if(
+                odd,
+                ErrorCode::UnexpectedCharacterInUnquotedAttributeValue,
+                at,
+                errors,
+            )?;
+            keep_null(ch, at, errors)?;
+            push_value(&mut self.text, ch)?;
+            return Ok(());
+        }
+        keep_null(ch, at, errors)?;
+        push_value(&mut self.text, ch)?;
+        Ok(())
+    }
+
+    /// After an `&` that may be a reference's.
+    #[inline(never)]
+    fn in_reference(
+        &mut self,
+        walk: Walk<'t>,
+        table: &'t Table,
+        quoted: bool,
+        ch: char,
+        at: u64,
+        errors: &mut Vec<ParseError>,
+    ) -> Result<(), AllocError>
+        requires { self.old.reading ≡ Reading.Reference walk }
+        ensures { OnOk result (TakesInValue table.now quoted self.old (record { ch = ch; at = at }) errors.old.items self.new errors.new.items) }
+    {
+        let mut walk = walk;
+        let found = match walk.take(ch) {
+            None => {
+                self.held.push(ch)?;
+                self.reading = Reading::Reference(walk);
+                return Ok(());
+            }
+            Some(found) => found,
+        };
+        self.tell(found, errors)?;
+        if found.in_run {
+            self.reading = Reading::Run;
+            push_all(&mut self.text, &self.held)?;
+            self.text.push(ch)?;
+            return Ok(());
+        }
+        self.reading = Reading::Nothing;
+        if found.left == 0 {
+            return Ok(());
+        }
+        self.give_back(found.left - 1)?;
+        self.take_next(table, quoted, ch, at, errors)?;
+        Ok(())
+    }
+
+    /// After an `&` that no key begins (13.2.5.74).
+    fn in_run(
+        &mut self,
+        table: &'t Table,
+        quoted: bool,
+        ch: char,
+        at: u64,
+        errors: &mut Vec<ParseError>,
+    ) -> Result<(), AllocError>
+        requires { self.old.reading ≡ Reading.Run }
+        ensures { OnOk result (TakesInValue table.now quoted self.old (record { ch = ch; at = at }) errors.old.items self.new errors.new.items) }
+    {
+        if ch.is_ascii_alphanumeric() {
+            self.text.push(ch)?;
+            return Ok(());
+        }
+        keep_if(
+            ch == ';',
+            ErrorCode::UnknownNamedCharacterReference,
+            self.place,
+            errors,
+        )?;
+        self.reading = Reading::Nothing;
+        self.take_next(table, quoted, ch, at, errors)?;
+        Ok(())
+    }
+
+    /// The value ends after an `&` and what this walk was handed.
+    #[inline(never)]
+    fn end_reference(
+        &mut self,
+        walk: Walk<'t>,
+        errors: &mut Vec<ParseError>,
+    ) -> Result<(), AllocError>
+        requires { self.old.reading ≡ Reading.Reference walk }
+        ensures { OnOk result (EndsValue self.old errors.old.items self.new errors.new.items) }
+    {
+        let found = walk.end();
+        self.tell(found, errors)?;
+        self.reading = Reading::Nothing;
+        self.give_back(found.left)?;
+        Ok(())
+    }
+
+    /// Adds the characters of a reference, and keeps its errors.
+    fn tell(&mut self, found: Reference<'t>, errors: &mut Vec<ParseError>) -> Result<(), AllocError>
+        ensures { OnOk result (TellsReference found.entry self.old errors.old.items self.new errors.new.items) }
+    {
+        keep_if(
+            found.missing_semicolon,
+            ErrorCode::MissingSemicolonAfterCharacterReference,
+            self.place,
+            errors,
+        )?;
+        if let Some(code) = found.fault {
+            keep_if(true, code, self.place, errors)?;
+        }
+        push_all(&mut self.text, found.characters.as_slice())?;
+        Ok(())
+    }
+
+    /// Adds the last characters that were held, so many.
+    fn give_back(&mut self, count: usize) -> Result<(), AllocError>
+        ensures { OnOk result (GivesBack count self.old self.new) }
+    {
+        let from = self.held.len().saturating_sub(count);
+        push_all(&mut self.text, &self.held[from..])?;
+        Ok(())
+    }
+}

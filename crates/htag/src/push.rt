@@ -1,0 +1,74 @@
+//! Characters and errors, added to what was read.
+
+ghost use Rattle.std.specs.Prelude.{◌≡◌, ◌∷◌, ◌++◌, [], OnOk, string_bytes, encode_utf8_all};
+ghost use Rattle.std.specs.Char.{encode_utf8, to_ascii_lowercase};
+ghost use Rattle.names.specs.Placed.{error_if, null_errors, without_null};
+ghost use Rattle.htag.specs.Tag.{ends_name};
+
+use names::{ErrorCode, ParseError};
+use std::alloc::AllocError;
+
+/// Whether a tag's name ends before this character.
+pub(crate) fn ends_name(ch: char) -> bool
+    ensures { result ≡ ends_name ch }
+{
+    ch.is_ascii_whitespace() || ch == '/' || ch == '>'
+}
+
+/// A character of a name: lowered, NUL as U+FFFD.
+pub(crate) fn push_lowered(text: &mut String, ch: char) -> Result<(), AllocError>
+    ensures { OnOk result (string_bytes text.new ≡ string_bytes text.old ++ encode_utf8 (to_ascii_lowercase (without_null ch))) }
+{
+    if ch == '\0' {
+        return text.push('\u{FFFD}');
+    }
+    text.push(ch.to_ascii_lowercase())
+}
+
+/// A character of a value: NUL as U+FFFD.
+pub(crate) fn push_value(text: &mut String, ch: char) -> Result<(), AllocError>
+    ensures { OnOk result (string_bytes text.new ≡ string_bytes text.old ++ encode_utf8 (without_null ch)) }
+{
+    if ch == '\0' {
+        return text.push('\u{FFFD}');
+    }
+    text.push(ch)
+}
+
+/// Keeps an error, if there is one.
+pub(crate) fn keep_if(
+    says: bool,
+    code: ErrorCode,
+    at: u64,
+    errors: &mut Vec<ParseError>,
+) -> Result<(), AllocError>
+    ensures { OnOk result (errors.new.items ≡ errors.old.items ++ error_if says code at) }
+{
+    if says {
+        errors.push(ParseError { code, at })?;
+    }
+    Ok(())
+}
+
+/// Keeps the error of a NUL.
+pub(crate) fn keep_null(ch: char, at: u64, errors: &mut Vec<ParseError>) -> Result<(), AllocError>
+    ensures { OnOk result (errors.new.items ≡ errors.old.items ++ null_errors (record { ch = ch; at = at } ∷ [])) }
+{
+    if ch == '\0' {
+        errors.push(ParseError {
+            code: ErrorCode::UnexpectedNullCharacter,
+            at,
+        })?;
+    }
+    Ok(())
+}
+
+/// All of these characters.
+pub(crate) fn push_all(text: &mut String, characters: &[char]) -> Result<(), AllocError>
+    ensures { OnOk result (string_bytes text.new ≡ string_bytes text.old ++ encode_utf8_all characters.now) }
+{
+    for character in characters {
+        text.push(*character)?;
+    }
+    Ok(())
+}

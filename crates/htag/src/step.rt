@@ -1,0 +1,88 @@
+//! A tag's name, and what stands between its attributes.
+
+ghost use Rattle.std.specs.Prelude.{◌≡◌, OnOk};
+ghost use Rattle.names.specs.Names.{Grows};
+ghost use Rattle.htag.specs.TagWalk.{StepsInTag};
+
+use crate::phase::Phase;
+use crate::push::{keep_if, keep_null, push_lowered};
+use crate::walk::TagWalk;
+use charref::Table;
+use names::{ErrorCode, Names, ParseError, Refusal};
+
+impl<'t> TagWalk<'t> {
+    /// In the tag's name (13.2.5.8).
+    pub(crate) fn in_name(
+        &mut self,
+        table: &'t Table,
+        names: &mut Names,
+        ch: char,
+        at: u64,
+        errors: &mut Vec<ParseError>,
+    ) -> Result<bool, Refusal>
+        requires { self.old.phase ≡ Phase.Name }
+        ensures takes { StepsInTag table.now names.old names.new self.old (record { ch = ch; at = at }) errors.old.items result self.new errors.new.items }
+        ensures grows { Grows names.old names.new }
+        ensures kind { OnOk result (self.new.kind ≡ self.old.kind) }
+    {
+        if ch == '>' || ch == '/' || ch.is_ascii_whitespace() {
+            self.phase = Phase::BeforeAttribute;
+            return self.before_attribute(table, names, ch, at, errors);
+        }
+        keep_null(ch, at, errors)?;
+        push_lowered(&mut self.name, ch)?;
+        Ok(false)
+    }
+
+    /// Before an attribute (13.2.5.32).
+    pub(crate) fn before_attribute(
+        &mut self,
+        table: &'t Table,
+        names: &mut Names,
+        ch: char,
+        at: u64,
+        errors: &mut Vec<ParseError>,
+    ) -> Result<bool, Refusal>
+        requires { self.old.phase ≡ Phase.BeforeAttribute }
+        ensures takes { StepsInTag table.now names.old names.new self.old (record { ch = ch; at = at }) errors.old.items result self.new errors.new.items }
+        ensures grows { Grows names.old names.new }
+        ensures kind { OnOk result (self.new.kind ≡ self.old.kind) }
+    {
+        if ch == '>' {
+            self.closing = false;
+            return Ok(true);
+        }
+        if ch.is_ascii_whitespace() {
+            return Ok(false);
+        }
+        if ch == '/' {
+            self.phase = Phase::Solidus;
+            return Ok(false);
+        }
+        self.begin_attribute(ch, at, errors)?;
+        Ok(false)
+    }
+
+    /// After a `/` (13.2.5.40).
+    pub(crate) fn after_solidus(
+        &mut self,
+        table: &'t Table,
+        names: &mut Names,
+        ch: char,
+        at: u64,
+        errors: &mut Vec<ParseError>,
+    ) -> Result<bool, Refusal>
+        requires { self.old.phase ≡ Phase.Solidus }
+        ensures takes { StepsInTag table.now names.old names.new self.old (record { ch = ch; at = at }) errors.old.items result self.new errors.new.items }
+        ensures grows { Grows names.old names.new }
+        ensures kind { OnOk result (self.new.kind ≡ self.old.kind) }
+    {
+        if ch == '>' {
+            self.closing = true;
+            return Ok(true);
+        }
+        keep_if(true, ErrorCode::UnexpectedSolidusInTag, at, errors)?;
+        self.phase = Phase::BeforeAttribute;
+        self.before_attribute(table, names, ch, at, errors)
+    }
+}

@@ -1,0 +1,15 @@
+//! The value of an attribute.
+
+use crate::reading::Reading;
+
+/// Reads the value of an attribute, a character at a time, with the character references in it.
+#[derive(Drop)]
+pub(crate) struct ValueWalk<'t> {
+    /// What was read of the value, but for what `reading` says.
+    pub text: String,
+    pub reading: Reading<'t>,
+    /// The place of the `&` that is being read.
+    pub place: u64,
+    /// The characters after it.
+    pub held: Vec<char>,
+}

@@ -1,0 +1,192 @@
+//! A walk through a tag.
+
+ghost use Rattle.std.specs.Prelude.{◌≡◌, ◌∷◌, ◌++◌, List, [], true, OnOk, MatchResult, string_bytes};
+ghost use Rattle.names.specs.declared.placed.Placed.{Placed as Character};
+ghost use Rattle.names.specs.Names.{Texts, Grows};
+ghost use Rattle.names.specs.Placed.{all, begins, is_letter, name_bytes};
+ghost use Rattle.charref.specs.Reference.{Entities};
+ghost use Rattle.htag.specs.declared.kind.TagKind.TheVariants.{End};
+ghost use Rattle.htag.specs.Steps.{IsBegun};
+ghost use Rattle.htag.specs.TagWalk.{IsInTag, TakesInTag, IsCutTag};
+ghost use Rattle.names.specs.declared.refusal.Refusal.TheVariants.{Memory};
+
+use crate::kind::TagKind;
+use crate::phase::Phase;
+use crate::push::push_lowered;
+use crate::seen::Seen;
+use crate::value::ValueWalk;
+use charref::Table;
+use names::{Attr, Names, ParseError, Refusal};
+use std::alloc::{AllocError, Global};
+use std::mem;
+
+/// Reads tags after their mark, one after another, a character at a time. What it keeps of a tag stays until the next one begins.
+#[derive(Drop)]
+pub struct TagWalk<'t> {
+    pub(crate) alloc: Global,
+    pub(crate) kind: TagKind,
+    pub(crate) phase: Phase,
+    pub(crate) name: String,
+    /// The attribute that is being read: its name, the first byte of it, and its value.
+    pub(crate) attribute: String,
+    pub(crate) place: u64,
+    pub(crate) value: ValueWalk<'t>,
+    /// The first attribute of each name.
+    pub(crate) attrs: Vec<Attr>,
+    pub(crate) seen: Seen,
+    /// Whether there was any attribute.
+    pub(crate) any: bool,
+    pub(crate) closing: bool,
+}
+
+impl<'t> TagWalk<'t> {
+    pub fn new(alloc: Global) -> TagWalk<'t> {
+        TagWalk {
+            alloc,
+            kind: TagKind::Start,
+            phase: Phase::Name,
+            name: String::new(alloc),
+            attribute: String::new(alloc),
+            place: 0,
+            value: ValueWalk::new(alloc),
+            attrs: Vec::new(alloc),
+            seen: Seen::new(alloc),
+            any: false,
+            closing: false,
+        }
+    }
+
+    /// Begins a tag with the first letter of its name.
+    pub fn begin(&mut self, kind: TagKind, ch: char) -> Result<(), AllocError>
+        ensures kind { OnOk result (self.new.kind ≡ kind) }
+        ensures begun { OnOk result ((table : Entities) (names : Texts) (p : Character) → p.ch ≡ ch → is_letter ch ≡ true → IsInTag table names self.new (p ∷ []) [] []) }
+    {
+        self.name.clear();
+        push_lowered(&mut self.name, ch)?;
+        self.begin_parts(kind);
+        Ok(())
+    }
+
+    /// Begins an end tag that has the name of the last tag, and whose name was read already.
+    pub fn begin_end(&mut self)
+        ensures kind { self.new.kind ≡ End }
+        ensures name { self.new.name ≡ self.old.name }
+        ensures begun { (table : Entities) (names : Texts) (letters : List Character) → begins is_letter letters ≡ true → all is_letter letters ≡ true
+            → string_bytes self.old.name ≡ name_bytes letters → IsInTag table names self.new letters [] [] }
+    {
+        self.begin_parts(TagKind::End);
+    }
+
+    /// Takes the next character, and tells whether the tag has ended with it. Each call for one tag is handed the same tables and
+    /// the errors that the calls before it left.
+    pub fn take_char(
+        &mut self,
+        table: &'t Table,
+        names: &mut Names,
+        ch: char,
+        at: u64,
+        errors: &mut Vec<ParseError>,
+    ) -> Result<bool, Refusal>
+        ensures takes { (body : List Character) → IsInTag table.now names.old self.old body (record { ch = ch; at = at } ∷ []) errors.old.items
+            → TakesInTag table.now names.new (body ++ record { ch = ch; at = at } ∷ []) result self.new errors.new.items }
+        ensures grows { Grows names.old names.new }
+        ensures kind { OnOk result (self.new.kind ≡ self.old.kind) }
+    {
+        match self.phase {
+            Phase::Name => self.in_name(table, names, ch, at, errors),
+            Phase::BeforeAttribute => self.before_attribute(table, names, ch, at, errors),
+            Phase::Solidus => self.after_solidus(table, names, ch, at, errors),
+            Phase::AttributeName => self.in_attribute_name(table, names, ch, at, errors),
+            Phase::AfterAttributeName => self.after_attribute_name(table, names, ch, at, errors),
+            Phase::BeforeValue => self.before_value(table, names, ch, at, errors),
+            Phase::Quoted(mark) => self.in_quotes(table, mark, names, ch, at, errors),
+            Phase::Unquoted => self.in_unquoted(table, names, ch, at, errors),
+            Phase::AfterQuoted => self.after_quotes(table, names, ch, at, errors),
+        }
+    }
+
+    /// The input ends inside the tag: finishes the attribute that is being read. There is no tag then, but its errors stay.
+    pub fn end(&mut self, names: &mut Names, errors: &mut Vec<ParseError>) -> Result<(), Refusal>
+        ensures cut { (table : Entities) (body : List Character) → IsInTag table names.old self.old body [] errors.old.items
+            → MatchResult result (λ _. IsCutTag table body errors.new.items) (λ e. e ≡ Memory) }
+        ensures grows { Grows names.old names.new }
+    {
+        match self.phase {
+            Phase::Name => Ok(()),
+            Phase::BeforeAttribute => Ok(()),
+            Phase::Solidus => Ok(()),
+            Phase::AttributeName => {
+                self.end_attribute(names, errors)?;
+                Ok(())
+            }
+            Phase::AfterAttributeName => {
+                self.end_attribute(names, errors)?;
+                Ok(())
+            }
+            Phase::BeforeValue => {
+                self.end_attribute(names, errors)?;
+                Ok(())
+            }
+            Phase::Quoted(_) => {
+                self.value.end(errors)?;
+                self.end_attribute(names, errors)?;
+                Ok(())
+            }
+            Phase::Unquoted => {
+                self.value.end(errors)?;
+                self.end_attribute(names, errors)?;
+                Ok(())
+            }
+            Phase::AfterQuoted => {
+                self.end_attribute(names, errors)?;
+                Ok(())
+            }
+        }
+    }
+
+    pub fn kind(&self) -> TagKind
+        ensures { result ≡ self.now.kind }
+    {
+        self.kind
+    }
+
+    /// The name of the tag that was read last, lowered.
+    pub fn name(&self) -> &str
+        ensures { result.now ≡ string_bytes self.now.name }
+    {
+        &self.name
+    }
+
+    /// Whether it ended in `/>`.
+    pub fn is_closing(&self) -> bool
+        ensures { result ≡ self.now.closing }
+    {
+        self.closing
+    }
+
+    /// Whether it had any attribute.
+    pub fn has_attributes(&self) -> bool
+        ensures { result ≡ self.now.any }
+    {
+        self.any
+    }
+
+    /// The first attribute of each name, in order. They are gone from the walk then.
+    pub fn take_attributes(&mut self) -> Vec<Attr>
+        ensures attributes { result.items ≡ self.old.attrs.items }
+        ensures name { self.new.name ≡ self.old.name }
+    {
+        mem::replace(&mut self.attrs, Vec::new(self.alloc))
+    }
+
+    fn begin_parts(&mut self, kind: TagKind)
+        ensures begun { IsBegun kind self.new }
+        ensures name { self.new.name ≡ self.old.name }
+    {
+        self.kind = kind;
+        self.phase = Phase::Name;
+        self.any = false;
+        self.attrs.clear();
+        self.seen.begin();
+    }
+}
