@@ -63,7 +63,7 @@ impl<'t> Feeding<'t> {
 
     /// What has been collected, with the errors in their order.
     pub fn into_run(self) -> Result<TokenRun, Refusal>
-        ensures { MatchResult result (IsRunOf self) (λ refusal. refusal ≡ Memory) }
+        ensures { MatchResult result (IsRunOf self.entry) (λ refusal. refusal ≡ Memory) }
     {
         let Feeding {
             names,

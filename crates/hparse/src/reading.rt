@@ -43,7 +43,7 @@ impl<'t> Reading<'t> {
 
     /// The answer, where the document has ended.
     pub fn finish(self) -> Result<TokenRun, Refusal>
-        ensures { (table : Entities) (limit : ℕ) (bytes : List ℕ) → HasRead table limit self bytes → Shows table limit bytes result }
+        ensures { (table : Entities) (limit : ℕ) (bytes : List ℕ) → HasRead table limit self.entry bytes → Shows table limit bytes result }
     {
         let Reading {
             mut decoder,

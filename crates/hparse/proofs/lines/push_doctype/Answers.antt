@@ -15,7 +15,7 @@ unfolding encode_utf8
 written c end is =
     before_end _ (string_bytes c.begin_line.new.text) (string_bytes c.push_optional.new.text) (string_bytes c.push.new.self) (string_bytes c.push_optional-2.new.text) (string_bytes c.push-2.new.self) _
     (text_of c.args.name.now) (text_of c.args.public_id.now) (text_of c.args.system_id.now) c.args.forced c.args.at end
-    c.in_ok-begin_line.ensures c.in_ok-push_optional.ensures c.in_ok-push.ensures c.in_ok-push_optional-2.ensures c.in_ok-push-2.ensures c.in_ok-push_optional-3.ensures is
+    c.in_ok-begin_line.ensures c.in_ok-push_optional.ensures c.in_ok-push.ensures.bytes c.in_ok-push_optional-2.ensures c.in_ok-push-2.ensures.bytes c.in_ok-push_optional-3.ensures is
 
 pub returns-then-forced : goal.returns-then-forced
 returns-then-forced c =
