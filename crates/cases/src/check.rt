@@ -1,10 +1,11 @@
 //! What the engine makes of a case's input, however it is cut.
 
-ghost use Rattle.std.specs.Prelude.{◌<◌, ◌≤◌, vec_len};
+ghost use Rattle.std.specs.Prelude.{◌≡◌, ◌<◌, ◌≤◌, vec_len};
 
 use crate::case::Case;
 use anyhow::Result;
-use hparse::{Command, Counted, Task, run, token_lines, tokens};
+use charref::Table;
+use hparse::{Command, Counted, Options, Task, run, token_lines, tokens};
 use htext::MAX_INPUT;
 use names::Refusal;
 use std::alloc::Global;
@@ -27,6 +28,16 @@ pub fn check(alloc: Global, case: &Case) -> Result<bool> {
     Ok(true)
 }
 
+/// The core table of references, and the greatest limit.
+fn options_of<'t>(table: &'t Table) -> Options<'t>
+    ensures { result.input_limit ≡ MAX_INPUT }
+{
+    Options {
+        table,
+        input_limit: MAX_INPUT,
+    }
+}
+
 /// Whether a run that reads pieces of this size writes what the case says.
 fn runs(alloc: Global, case: &Case, piece: usize) -> Result<bool>
     requires { 0 < piece }
@@ -37,7 +48,9 @@ fn runs(alloc: Global, case: &Case, piece: usize) -> Result<bool>
     };
     let mut source = Counted::new(case.input.as_slice());
     let mut target = Counted::new(Vec::new(alloc));
-    let refusal = run(alloc, command, MAX_INPUT, &mut source, &mut target).err();
+    let table = Table::core(alloc)?;
+    let options = options_of(&table);
+    let refusal = run(alloc, command, &options, &mut source, &mut target).err();
     is_of(alloc, case, refusal, &target.into_inner())
 }
 
@@ -46,7 +59,8 @@ fn comes(alloc: Global, case: &Case, cut: usize) -> Result<bool>
     requires { cut ≤ vec_len case.now.input }
 {
     let (front, back) = case.input.split_at(cut);
-    match tokens(alloc, &[front, back], MAX_INPUT) {
+    let table = Table::core(alloc)?;
+    match tokens(alloc, &[front, back], &options_of(&table)) {
         Ok(found) => match token_lines(alloc, &found) {
             Ok(text) => is_of(alloc, case, None, &text),
             Err(refusal) => is_of(alloc, case, Some(refusal), &[]),

@@ -2,14 +2,20 @@
 #![tactic(auto)]
 
 use anyhow::{Context, Result};
-use hparse::tokens;
+use charref::Table;
+use hparse::{Options, tokens};
 use htext::MAX_INPUT;
 use std::{env, fs};
 
 fn main(rt: HostRuntime) -> Result<()> {
     let name = env::args(&rt)?.nth(1).context("name a page")?;
     let page = fs::read(&rt, name.as_str())?;
-    match tokens(rt.alloc(), &[&page], MAX_INPUT) {
+    let table = Table::core(rt.alloc())?;
+    let options = Options {
+        table: &table,
+        input_limit: MAX_INPUT,
+    };
+    match tokens(rt.alloc(), &[&page], &options) {
         Ok(run) => {
             for error in &run.errors {
                 println!(rt; "{} {}", error.at, error.code.text())?;

@@ -11,13 +11,13 @@ use Rattle.hmain.specs.declared.fault.Fault.TheVariants as fault
 abbrev pub file_rule : Rule
 file_rule = record (new_rule (codes "file")) { value_names = 1 }
 
--- `--NAME N`
-abbrev pub number_rule : Text → Rule
-number_rule name = record (new_rule name) { long = Some name; value_names = 1 }
+-- `--NAME VALUE`
+abbrev pub option_rule : Text → Rule
+option_rule name = record (new_rule name) { long = Some name; value_names = 1 }
 
 -- a command with its file and its options
 abbrev pub command_shape : Text → Shape
-command_shape name = record (new_app name).top { rules = file_rule ∷ number_rule (codes "piece") ∷ [] }
+command_shape name = record (new_app name).top { rules = file_rule ∷ option_rule (codes "piece") ∷ option_rule (codes "entities") ∷ [] }
 
 -- the program without its commands, one of which is required
 abbrev pub bare_program : App

@@ -11,10 +11,10 @@ use crate::surroundings::Surroundings;
 use hparse::{Counted, Source, Target};
 use htext::MAX_INPUT;
 use std::alloc::Global;
-use std::env;
 use std::fs::File;
 use std::io::{ErrorKind, Stderr, Stdin, Stdout};
 use std::process::ExitCode;
+use std::{env, fs};
 
 // No clause knows what the system holds: stored runs show that these calls hand on its words and files.
 impl Surroundings for HostRuntime {
@@ -29,6 +29,10 @@ impl Surroundings for HostRuntime {
     ghost opens = { λ _ _ _. ⊤ };
 
     ghost cannot_open = { λ _ _. ⊤ };
+
+    ghost has_text = { λ _ _ _. ⊤ };
+
+    ghost lacks_text = { λ _ _ _. ⊤ };
 
     fn alloc(&self) -> Global {
         Alloc::alloc(self)
@@ -47,6 +51,13 @@ impl Surroundings for HostRuntime {
             Err(_) => None,
         }
     }
+
+    fn text(&self, name: &str) -> Result<String, Fault> {
+        match fs::read_to_string(self, name) {
+            Ok(text) => Ok(text),
+            Err(error) => Err(text_fault(error.kind())),
+        }
+    }
 }
 
 // Why there are no words.
@@ -61,10 +72,23 @@ fn words_fault(kind: ErrorKind) -> Fault
     }
 }
 
+// Why a file's text cannot be read.
+fn text_fault(kind: ErrorKind) -> Fault
+    ensures memory { kind ≡ ErrorKind.OutOfMemory → result ≡ fault.Memory }
+    ensures unread { kind ≢ ErrorKind.OutOfMemory → result ≡ fault.CannotRead }
+{
+    if kind == ErrorKind::OutOfMemory {
+        Fault::Memory
+    } else {
+        Fault::CannotRead
+    }
+}
+
 /// The program over the system's streams.
 pub fn start(rt: &HostRuntime) -> ExitCode
     ensures { HasRun ⟦<HostRuntime as Surroundings>⟧.has_words ⟦<HostRuntime as Surroundings>⟧.lacks_words
         ⟦<HostRuntime as Surroundings>⟧.opens ⟦<HostRuntime as Surroundings>⟧.cannot_open
+        ⟦<HostRuntime as Surroundings>⟧.has_text ⟦<HostRuntime as Surroundings>⟧.lacks_text
         ⟦<Counted<File> as Source>⟧.left ⟦<Counted<File> as Source>⟧.failed
         ⟦<Counted<Stdin> as Source>⟧.left ⟦<Counted<Stdin> as Source>⟧.failed
         ⟦<Counted<Stdout> as Target>⟧.written ⟦<Counted<Stdout> as Target>⟧.failed

@@ -4,7 +4,7 @@ ghost use Rattle.std.specs.Prelude.{◌≡◌, ◌<◌, ◌≤◌, [], true, fal
 ghost use Rattle.clap.specs.Words.{app_of, fault_of, rule_of, takes, IsUnsignedIn};
 ghost use Rattle.clap.specs.Walk.{texts};
 ghost use Rattle.clap.specs.declared.builder.command.Command.TheViews.{out-Command as fields_of};
-ghost use Rattle.hmain.specs.Line.{command_shape, file_rule, number_of, number_rule, piece_of, program, task_of, value_of, FaultOf, IsPiece};
+ghost use Rattle.hmain.specs.Line.{command_shape, file_rule, number_of, option_rule, piece_of, program, task_of, value_of, FaultOf, IsPiece};
 ghost use Rattle.hmain.specs.declared.fault.Fault.TheVariants as fault;
 
 use crate::fault::Fault;
@@ -24,6 +24,7 @@ pub fn line<'a>(alloc: Global, words: &'a [&'a str]) -> Result<Line<'a>, Fault>
         × (line.command.piece ≡ piece_of (value_of (codes "piece") (texts words.entry.now)))) }
     ensures in_range { IfOk result (λ line. (0 < line.command.piece) × (line.command.piece ≤ MOST_PIECE)) }
     ensures file { IfOk result (λ line. option_map (λ s. s.now) line.file ≡ value_of (codes "file") (texts words.entry.now)) }
+    ensures entities { IfOk result (λ line. option_map (λ s. s.now) line.entities ≡ value_of (codes "entities") (texts words.entry.now)) }
     ensures taken { OnOk result (fault_of program (texts words.entry.now) ≡ []) }
 
     ensures fault { IfErr result (FaultOf (texts words.entry.now)) }
@@ -43,6 +44,7 @@ pub fn line<'a>(alloc: Global, words: &'a [&'a str]) -> Result<Line<'a>, Fault>
             piece: piece as usize,
         },
         file: found.get_str("file"),
+        entities: found.get_str("entities"),
     })
 }
 
@@ -72,19 +74,29 @@ fn command<'a>(
     clap::Command::new(alloc, name)
         .about(about)
         .arg(file)?
-        .arg(number_option(
+        .arg(option(
             alloc,
             "piece",
+            "N",
             "Bytes fed at a time, 1 to 65536 [default: 65536]",
+        ))?
+        .arg(option(
+            alloc,
+            "entities",
+            "FILE",
+            "The table of character references [default: amp, lt, gt, quot, nbsp]",
         ))
 }
 
-/// An option that has a number.
-fn number_option<'a>(alloc: Global, name: &'a str, help: &'a str) -> Arg<'a>
-    ensures rule { rule_of result ≡ number_rule name.entry.now }
+/// An option that has a value.
+fn option<'a>(alloc: Global, name: &'a str, value: &'a str, help: &'a str) -> Arg<'a>
+    ensures rule { rule_of result ≡ option_rule name.entry.now }
     ensures local { result.global ≡ false }
 {
-    Arg::new(alloc, name).long(name).value_name("N").help(help)
+    Arg::new(alloc, name)
+        .long(name)
+        .value_name(value)
+        .help(help)
 }
 
 /// The number that the value of an option writes, from the least to the most.

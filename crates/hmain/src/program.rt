@@ -1,14 +1,15 @@
 //! The program: does what the words of its command line say.
 
-ghost use Rattle.std.specs.Prelude.{◌≡◌, ◌<◌, ◌≤◌, map, IfOk, string_bytes};
+ghost use Rattle.std.specs.Prelude.{◌≡◌, ◌<◌, ◌≤◌, map, option_map, IfOk, MatchResult, string_bytes};
 ghost use Rattle.clap.specs.Walk.{texts};
-ghost use Rattle.hmain.specs.Program.{AnswersDocument, AnswersFile, AnswersWords, Answers, Ends};
+ghost use Rattle.hmain.specs.Program.{HasTable, LacksTable, AnswersDocument, AnswersFile, AnswersWords, Answers, Ends};
 
 use crate::ending::ending;
 use crate::fault::Fault;
 use crate::line::line;
 use crate::surroundings::Surroundings;
-use hparse::{Command, Source, Target, run};
+use charref::Table;
+use hparse::{Command, Options, Source, Target, run};
 use htext::MAX_INPUT;
 use std::alloc::{AllocError, Global};
 
@@ -20,7 +21,7 @@ pub fn run_program<R: Surroundings, S: Source, W: Target, E: Target>(
     output: &mut W,
     errors: &mut E,
 ) -> u8
-    ensures { Ends R.has_words R.lacks_words R.opens R.cannot_open R.File.left R.File.failed S.left S.failed W.written W.failed E.written E.failed
+    ensures { Ends R.has_words R.lacks_words R.opens R.cannot_open R.has_text R.lacks_text R.File.left R.File.failed S.left S.failed W.written W.failed E.written E.failed
         MAX_INPUT surroundings.now input.old input.new output.old output.new errors.old errors.new result }
 {
     let outcome = answer(surroundings, input, output);
@@ -33,7 +34,7 @@ fn answer<R: Surroundings, S: Source, W: Target>(
     input: &mut S,
     output: &mut W,
 ) -> Result<(), Fault>
-    ensures { Answers R.has_words R.lacks_words R.opens R.cannot_open R.File.left R.File.failed S.left S.failed W.written W.failed
+    ensures { Answers R.has_words R.lacks_words R.opens R.cannot_open R.has_text R.lacks_text R.File.left R.File.failed S.left S.failed W.written W.failed
         MAX_INPUT surroundings.now input.old input.new output.old output.new result }
 {
     let words = surroundings.words()?;
@@ -47,14 +48,19 @@ fn answer_words<R: Surroundings, S: Source, W: Target>(
     input: &mut S,
     output: &mut W,
 ) -> Result<(), Fault>
-    ensures { AnswersWords R.opens R.cannot_open R.File.left R.File.failed S.left S.failed W.written W.failed MAX_INPUT surroundings.now
+    ensures { AnswersWords R.opens R.cannot_open R.File.left R.File.failed R.has_text R.lacks_text S.left S.failed W.written W.failed MAX_INPUT surroundings.now
         (map string_bytes words.now) input.old input.new output.old output.new result }
 {
     let texts = as_texts(surroundings.alloc(), words)?;
     let line = line(surroundings.alloc(), &texts)?;
+    let table = table(surroundings, line.entities)?;
+    let options = Options {
+        table: &table,
+        input_limit: MAX_INPUT,
+    };
     match line.file {
-        Some(name) => answer_file(surroundings, line.command, name, output),
-        None => answer_document(surroundings.alloc(), line.command, input, output),
+        Some(name) => answer_file(surroundings, line.command, &options, name, output),
+        None => answer_document(surroundings.alloc(), line.command, &options, input, output),
     }
 }
 
@@ -68,19 +74,42 @@ fn as_texts<'a>(alloc: Global, words: &'a [String]) -> Result<Vec<&'a str>, Allo
     Ok(found)
 }
 
+// The table of character references: that of the named file, or the core table.
+fn table<R: Surroundings>(surroundings: &R, entities: Option<&str>) -> Result<Table, Fault>
+    ensures { MatchResult result
+        (HasTable R.has_text R.lacks_text surroundings.now (option_map (λ s. s.now) entities.entry))
+        (LacksTable R.has_text R.lacks_text surroundings.now (option_map (λ s. s.now) entities.entry)) }
+{
+    match entities {
+        None => Ok(Table::core(surroundings.alloc())?),
+        Some(name) => {
+            let text = surroundings.text(name)?;
+            Ok(Table::read(surroundings.alloc(), &text)?)
+        }
+    }
+}
+
 // Runs the command over the file of this name.
 fn answer_file<R: Surroundings, W: Target>(
     surroundings: &R,
     command: Command,
+    options: &Options,
     name: &str,
     output: &mut W,
 ) -> Result<(), Fault>
-    requires { 0 < command.piece }
-    ensures { AnswersFile R.opens R.cannot_open R.File.left R.File.failed W.written W.failed command.piece MAX_INPUT surroundings.now name.now
+    requires piece { 0 < command.piece }
+    requires limit { options.now.input_limit ≤ MAX_INPUT }
+    ensures { AnswersFile R.opens R.cannot_open R.File.left R.File.failed W.written W.failed options.now.table.now command.piece options.now.input_limit surroundings.now name.now
         output.old output.new result }
 {
     match surroundings.open(name) {
-        Some(mut file) => answer_document(surroundings.alloc(), command, &mut file, output),
+        Some(mut file) => answer_document(
+            surroundings.alloc(),
+            command,
+            options,
+            &mut file,
+            output,
+        ),
         None => Err(Fault::CannotRead),
     }
 }
@@ -89,13 +118,15 @@ fn answer_file<R: Surroundings, W: Target>(
 fn answer_document<S: Source, W: Target>(
     alloc: Global,
     command: Command,
+    options: &Options,
     source: &mut S,
     target: &mut W,
 ) -> Result<(), Fault>
-    requires { 0 < command.piece }
-    ensures { AnswersDocument S.left S.failed W.written W.failed command.piece MAX_INPUT source.old source.new target.old target.new result }
+    requires piece { 0 < command.piece }
+    requires limit { options.now.input_limit ≤ MAX_INPUT }
+    ensures { AnswersDocument S.left S.failed W.written W.failed options.now.table.now command.piece options.now.input_limit source.old source.new target.old target.new result }
 {
-    run(alloc, command, MAX_INPUT, source, target)?;
+    run(alloc, command, options, source, target)?;
     Ok(())
 }
 

@@ -6,6 +6,8 @@ use hparse::Command;
 #[derive(Clone, Copy, Debug, PartialEq, Eq)]
 pub struct Line<'a> {
     pub command: Command,
+    /// The name of the file of the table of character references. None is the core table.
+    pub entities: Option<&'a str>,
     /// The name of the input's file. None is the standard input.
     pub file: Option<&'a str>,
 }

@@ -24,6 +24,12 @@ pub trait Surroundings {
     // No file of this name can be opened.
     ghost cannot_open: { Self → List ℕ → Type 0 };
 
+    // A file of this name has this text.
+    ghost has_text: { Self → List ℕ → List ℕ → Type 0 };
+
+    // No text can be read from a file of this name, for this reason.
+    ghost lacks_text: { Self → List ℕ → Faults → Type 0 };
+
     /// The allocator for everything that the program keeps.
     fn alloc(&self) -> Global;
 
@@ -35,4 +41,8 @@ pub trait Surroundings {
     fn open(&self, name: &str) -> Option<Self::File>
         ensures opened { IfSome result (opens self.now name.now) }
         ensures not_opened { result ≡ None → cannot_open self.now name.now };
+
+    /// The text of a file. The fault is `Memory`, or `CannotRead` where there is no such file, it cannot be read, or it is not UTF-8.
+    fn text(&self, name: &str) -> Result<String, Fault>
+        ensures { MatchResult result (λ text. has_text self.now name.now (string_bytes text)) (lacks_text self.now name.now) };
 }

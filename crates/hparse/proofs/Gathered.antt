@@ -5,14 +5,25 @@ use Rattle.names.specs.declared.refusal.Refusal.{Refusal}
 use Rattle.names.specs.declared.refusal.Refusal.TheVariants.{Memory}
 use Rattle.names.specs.Names.{Texts, Grows}
 use Rattle.names.specs.Sink.{Hands}
-use Rattle.htoken.proofs.Handing.{token_kept}
+use Rattle.names.proofs.Handing.{text_kept}
+use Rattle.htag.proofs.Naming.{attrs_kept}
+use Rattle.htoken.specs.declared.token.Token.TheVariants as code
 use Rattle.htoken.specs.declared.token.Token.{Token}
-use Rattle.htoken.specs.Token.{Tok, Item, ItemToken, ItemError, Event, Gives, Reports, Mean, gives_item}
+use Rattle.htoken.specs.Token.{Tok, Item, ItemToken, ItemError, Event, Gives, Reports, Mean, TokenMeans, gives_item}
 use Rattle.htoken.specs.Tokens.{tokens_in, errors_in}
 use Rattle.htoken.specs.Handing.{HandsEvents}
 use Rattle.hparse.specs.declared.collect.Collected.{Collected}
 use Rattle.hparse.specs.Collecting.{KeepsError, KeepsToken}
 use Rattle.hparse.specs.TokenRun.{TokensMean}
+
+-- a token stands for the same one when the table has grown
+token_kept : (old new : Texts) → Grows old new → (token : Token) (tok : Tok) → TokenMeans old token tok → TokenMeans new token tok
+token_kept old new grows (code.Doctype name public system forced at) tok h = h
+token_kept old new grows (code.Start name attrs closing at) tok (text, texts, is, are, e) = (text, texts, text_kept old new name text grows is, attrs_kept old new grows attrs.items texts are, e)
+token_kept old new grows (code.End name at) tok (text, is, e) = (text, text_kept old new name text grows is, e)
+token_kept old new grows (code.Comment text at) tok h = h
+token_kept old new grows (code.Char ch at) tok h = h
+token_kept old new grows (code.Eof at) tok h = h
 
 module _ (old new : Texts) (grows : Grows old new) where
   -- tokens stand for the same ones when the table has grown

@@ -1,5 +1,6 @@
 pub mod AttributeWords
 pub mod CallLemmas
+pub mod DoctypeLine
 pub mod Escapes
 pub mod Gathered
 pub mod Grouping

@@ -3,7 +3,7 @@ use Rattle.std.proofs.Common.{◌≡◌, ℕ, zero, suc, ◌+◌, ◌<◌, List,
 use Rattle.std.specs.List.{AllZip}
 use Rattle.names.specs.declared.attr.Attr.{Attr}
 use Rattle.names.specs.Names.{Texts}
-use Rattle.htoken.specs.Token.{AttrsMean}
+use Rattle.htag.specs.Attributes.{AttrsMean}
 
 module _ {A B : Type 0} (R : A → B → Type 0) where
   -- a member, what it stands for, and what follows that

@@ -1,12 +1,13 @@
 -- The tokens that a run shows stand for some.
 use Rattle.std.proofs.Common.{◌≡◌, List, ℕ, Ok, subst}
+use Rattle.charref.specs.Reference.{Entities}
 use Rattle.htoken.specs.Token.{Tok}
 use Rattle.hparse.specs.declared.token_run.TokenRun.{TokenRun}
 use Rattle.hparse.specs.Shown.{Shows, ran_out, refuses, accepts}
 use Rattle.hparse.specs.TokenRun.{TokensMean}
 
-pub stand_for : (limit : ℕ) (bytes : List ℕ) (run : TokenRun) → Shows limit bytes (Ok run) → (tokens : List Tok) × TokensMean run.names run.tokens.items tokens
-stand_for limit bytes run (ran_out e) = absurd cc
-stand_for limit bytes run (refuses refusal e answers) = absurd cc
-stand_for limit bytes run (accepts other tokens e mean answers) =
+pub stand_for : (table : Entities) (limit : ℕ) (bytes : List ℕ) (run : TokenRun) → Shows table limit bytes (Ok run) → (tokens : List Tok) × TokensMean run.names run.tokens.items tokens
+stand_for table limit bytes run (ran_out e) = absurd cc
+stand_for table limit bytes run (refuses refusal e answers) = absurd cc
+stand_for table limit bytes run (accepts other tokens e mean answers) =
     let same : other ≡ run = cc in (tokens, subst (λ (r : TokenRun). TokensMean r.names r.tokens.items tokens) same mean)

@@ -85,6 +85,7 @@ line_of-character names token meant ch at is means = ap line_of (subst (λ (t : 
 
 -- the line of a token that is no character
 pub IsWords-line_of : (names : Texts) (token : Token) (meant : Tok) → ((ch at : ℕ) → token ≡ code.Char ch at → ⊥) → TokenMeans names token meant → IsWords (line_of meant)
+IsWords-line_of names (code.Doctype name public system forced at) meant other means = subst (λ (t : Tok). IsWords (line_of t)) (sym means) tt
 IsWords-line_of names (code.Start name attrs closing at) meant other means = subst (λ (t : Tok). IsWords (line_of t)) (sym means.4) tt
 IsWords-line_of names (code.End name at) meant other means = subst (λ (t : Tok). IsWords (line_of t)) (sym means.2) tt
 IsWords-line_of names (code.Comment text at) meant other means = subst (λ (t : Tok). IsWords (line_of t)) (sym means) tt

@@ -6,6 +6,7 @@ use Rattle.std.proofs.lemmas.List.{length-take-le}
 use Rattle.std.proofs.KnownBytes.{Consumes-trans, Consumes-kept}
 use Rattle.names.specs.declared.refusal.Refusal.{Refusal}
 use Rattle.names.specs.declared.refusal.Refusal.TheVariants.{Memory, Read}
+use Rattle.charref.specs.Reference.{Entities}
 use Rattle.htext.specs.Text.{valid_len}
 use Rattle.htext.specs.Decoding.{Progress, HasFed}
 use Rattle.htext.proofs.Valid.{valid_len_le}
@@ -18,9 +19,9 @@ use Rattle.hparse.specs.Running.{Gave, IsRefusedFrom, IsUndecided, ReadsDocument
 use Rattle.hparse.proofs.Pieces.{has_read}
 
 -- The bytes that the reader gave have been read, at least one a turn, and no read has failed.
-pub record HasTurned {S : Type 0} (left : S → Option (List ℕ)) (failed : S → ℕ) (limit turn : ℕ) (old now : S) (reading : Reading) : Type 0 where
+pub record HasTurned {S : Type 0} (left : S → Option (List ℕ)) (failed : S → ℕ) (table : Entities) (limit turn : ℕ) (old now : S) (reading : Reading) : Type 0 where
   pub fed : List ℕ
-  pub has_read : HasRead limit reading fed
+  pub has_read : HasRead table limit reading fed
   pub given : Consumes (left old) (left now) fed
   pub unfailed : failed now ≡ failed old
   pub each_turn : turn ≤ length fed
@@ -47,7 +48,7 @@ long decoder fed h =
     let most : valid_len decoder.limit fed ≤ decoder.limit = (valid_len_le decoder.limit fed).0 in
     omega arith
 
-module _ {S : Type 0} (left : S → Option (List ℕ)) (failed : S → ℕ) (limit turn : ℕ) (old now new : S) (reading : Reading) (h : HasTurned left failed limit turn old now reading) where
+module _ {S : Type 0} (left : S → Option (List ℕ)) (failed : S → ℕ) (table : Entities) (limit turn : ℕ) (old now new : S) (reading : Reading) (h : HasTurned left failed table limit turn old now reading) where
   -- there are fewer turns than bytes
   pub few_turns : turn ≤ limit + 3
   few_turns =
@@ -67,36 +68,36 @@ module _ {S : Type 0} (left : S → Option (List ℕ)) (failed : S → ℕ) (lim
     unfailed = count ∙ h.unfailed
 
     -- one more piece was read
-    pub turned : (next : Reading) → 0 < length piece → FeedsPiece limit (h.fed ++ piece) (Ok tt) next → HasTurned left failed limit (turn + 1) old new next
+    pub turned : (next : Reading) → 0 < length piece → FeedsPiece table limit (h.fed ++ piece) (Ok tt) next → HasTurned left failed table limit (turn + 1) old new next
     turned next some f =
         record {
           fed = h.fed ++ piece;
-          has_read = has_read limit (h.fed ++ piece) next f;
+          has_read = has_read table limit (h.fed ++ piece) next f;
           given = given_more;
           unfailed = unfailed;
           each_turn = let each : turn ≤ length h.fed = h.each_turn in omega (arith, length-append h.fed piece);
         }
 
     -- it was refused
-    pub refused_turn : (most : ℕ) (next : Reading) (e : Refusal) → length piece ≤ most → FeedsPiece limit (h.fed ++ piece) (Err e) next
-        → ReadsDocument left failed most limit old new (Err e)
+    pub refused_turn : (most : ℕ) (next : Reading) (e : Refusal) → length piece ≤ most → FeedsPiece table limit (h.fed ++ piece) (Err e) next
+        → ReadsDocument left failed table most limit old new (Err e)
     refused_turn most next e few (piece_ran_out is) = let why : e ≡ Memory = cc in reading_ran_out (ap (λ (x : Refusal). Err x) why) unfailed
     refused_turn most next e few (piece_refused refusal is refused) =
         let same : refusal ≡ e = cc in
-        reading_stopped e h.fed piece refl undecided (record { given = given_more; unfailed = unfailed }) (subst (IsRefusedFrom limit (h.fed ++ piece)) same refused) few
+        reading_stopped e h.fed piece refl undecided (record { given = given_more; unfailed = unfailed }) (subst (IsRefusedFrom table limit (h.fed ++ piece)) same refused) few
     refused_turn most next e few (piece_read is k) = absurd cc
 
     -- nothing was left
-    pub ended : (most : ℕ) (answer : Result TokenRun Refusal) → piece ≡ [] → IsAtEnd (left new) → Shows limit h.fed answer → ReadsDocument left failed most limit old new answer
+    pub ended : (most : ℕ) (answer : Result TokenRun Refusal) → piece ≡ [] → IsAtEnd (left new) → Shows table limit h.fed answer → ReadsDocument left failed table most limit old new answer
     ended most answer none end shows = ended_by shows where
       gave : Gave left failed old new h.fed
       gave = record { given = subst (Consumes (left old) (left new)) (ap (λ (x : List ℕ). h.fed ++ x) none ∙ append-nil h.fed) given_more; unfailed = unfailed }
 
-      ended_by : Shows limit h.fed answer → ReadsDocument left failed most limit old new answer
+      ended_by : Shows table limit h.fed answer → ReadsDocument left failed table most limit old new answer
       ended_by (ran_out e) = reading_ran_out e unfailed
       ended_by (refuses refusal e refused) = reading_refused refusal h.fed e undecided gave end refused
       ended_by (accepts run tokens e mean answers) = read_to_end run h.fed tokens e gave end answers mean
 
   -- the read failed
-  pub failed_turn : (most : ℕ) → Keeps (left now) (left new) → failed new ≡ counted (failed now) → ReadsDocument left failed most limit old new (Err Read)
+  pub failed_turn : (most : ℕ) → Keeps (left now) (left new) → failed new ≡ counted (failed now) → ReadsDocument left failed table most limit old new (Err Read)
   failed_turn most kept count = reading_failed h.fed refl undecided (Consumes-kept (left old) (left now) (left new) h.fed h.given kept) (count ∙ ap counted h.unfailed)

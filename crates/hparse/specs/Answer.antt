@@ -7,11 +7,13 @@ use Rattle.names.specs.declared.error.ParseError.{ParseError}
 use Rattle.names.specs.declared.placed.Placed.{Placed}
 use Rattle.names.specs.declared.raw.RawKind.TheVariants as kind
 use Rattle.names.specs.declared.refusal.Refusal.{Refusal}
-use Rattle.names.specs.declared.refusal.Refusal.TheVariants.{NotYet}
+use Rattle.names.specs.declared.refusal.Refusal.TheVariants.{OutOfProfile}
+use Rattle.names.specs.declared.raw.RefusedName.{RefusedName}
 use Rattle.names.specs.Codes.{code_rank}
 use Rattle.htext.specs.declared.Bom.TheVariants.{Drop}
 use Rattle.htext.specs.Text.{decoded, valid_len, refusal_of}
 use Rattle.htext.specs.Items.{input_errors}
+use Rattle.charref.specs.Reference.{Entities}
 use Rattle.htoken.specs.Token.{Tok}
 use Rattle.htoken.specs.Tokens.{Tokens, IsRefused}
 
@@ -23,21 +25,23 @@ document_text limit bytes = decoded Drop limit bytes
 abbrev pub error_cmp : ParseError → ParseError → Ordering
 error_cmp a b = ordering_then (nat_cmp a.at b.at) (nat_cmp (code_rank a.code) (code_rank b.code))
 
--- A document's text is refused for what stands in it.
-pub record IsTextRefusal (text : List Placed) (end : ℕ) (refusal : Refusal) : Type 0 where
+-- A document's text is refused for a start tag that stands in it.
+pub record IsTextRefusal (table : Entities) (text : List Placed) (end : ℕ) (refusal : Refusal) : Type 0 where
   pub tokens : List Tok
+  pub name : RefusedName
   pub at : ℕ
-  pub refused : IsRefused kind.None text end tokens at
-  pub refusal_is : refusal ≡ NotYet at
+  pub refused : IsRefused table kind.None text end tokens name at
+  pub refusal_is : refusal ≡ OutOfProfile name at
 
--- The answer of the bytes of a document. What is read is their longest valid front within the limit.
-pub data Answers (limit : ℕ) (bytes : List ℕ) : Result (List Tok × List ParseError) Refusal → Type 0 where
+-- The answer of the bytes of a document, whose references are those of the table. What is read is their longest valid front within
+-- the limit.
+pub data Answers (table : Entities) (limit : ℕ) (bytes : List ℕ) : Result (List Tok × List ParseError) Refusal → Type 0 where
   -- what is read is refused, taken as a whole input
-  refused_text : (refusal : Refusal) → IsTextRefusal (document_text limit bytes) (valid_len limit bytes) refusal → Answers limit bytes (Err refusal)
+  refused_text : (refusal : Refusal) → IsTextRefusal table (document_text limit bytes) (valid_len limit bytes) refusal → Answers table limit bytes (Err refusal)
   -- what is read is not, but bytes follow it
-  refused_bytes : (refusal : Refusal) (tokens : List Tok) (errors : List ParseError) → Tokens kind.None (document_text limit bytes) (valid_len limit bytes) tokens errors
-      → refusal_of limit bytes ≡ Some refusal → Answers limit bytes (Err refusal)
+  refused_bytes : (refusal : Refusal) (tokens : List Tok) (errors : List ParseError) → Tokens table kind.None (document_text limit bytes) (valid_len limit bytes) tokens errors
+      → refusal_of limit bytes ≡ Some refusal → Answers table limit bytes (Err refusal)
   -- what is read is all of them: the errors are those of the input stream and of the tokens, as often as they are raised
-  accepted : (tokens : List Tok) (errors sorted : List ParseError) → Tokens kind.None (document_text limit bytes) (length bytes) tokens errors
+  accepted : (tokens : List Tok) (errors sorted : List ParseError) → Tokens table kind.None (document_text limit bytes) (length bytes) tokens errors
       → IsPermutation (input_errors (document_text limit bytes) ++ errors) sorted → IsSorted error_cmp sorted
-      → refusal_of limit bytes ≡ None → Answers limit bytes (Ok (tokens, sorted))
+      → refusal_of limit bytes ≡ None → Answers table limit bytes (Ok (tokens, sorted))

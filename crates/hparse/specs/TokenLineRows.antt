@@ -1,9 +1,9 @@
 -- Worked rows.
-use Rattle.std.specs.Prelude.{◌≡◌, [], ◌∷◌, true, false, refl, codes}
+use Rattle.std.specs.Prelude.{◌≡◌, None, Some, [], ◌∷◌, true, false, refl, codes}
 use Rattle.std.specs.Char.{encode_utf8}
 use Rattle.std.specs.Fmt.{digits}
 use Rattle.std.specs.Str.{encode_utf8_all}
-use Rattle.htoken.specs.Token.{Start, End, Comment, Char, Eof}
+use Rattle.htoken.specs.Token.{Doctype, Start, End, Comment, Char, Eof}
 use Rattle.hparse.specs.TokenLines.{token_lines}
 
 -- `<p>a<!--b--></p>`
@@ -28,3 +28,13 @@ row_escapes : token_lines (Start (codes "br") [] true 0 ∷ Char 0xE9 5 ∷ Char
     ≡ encode_utf8_all (codes "0 start \"br\" /\n5 chars \"é\\x00\\x1f\\\"\\\\\"\n11 eof\n")
 unfolding encode_utf8 digits
 row_escapes = refl
+
+-- `<!DOCTYPE html SYSTEM"a>`
+row_doctype : token_lines (Doctype (Some (codes "html")) None (Some (codes "a")) true 0 ∷ Eof 24 ∷ []) ≡ codes "0 doctype \"html\" - \"a\" quirks\n24 eof\n"
+unfolding encode_utf8 digits
+row_doctype = refl
+
+-- `<!doctype>`
+row_doctype_of_nothing : token_lines (Doctype None None None true 0 ∷ Eof 10 ∷ []) ≡ codes "0 doctype - - - quirks\n10 eof\n"
+unfolding encode_utf8 digits
+row_doctype_of_nothing = refl

@@ -1,7 +1,7 @@
 -- How tokens are printed: a line each, but one line for characters that stand next to each other.
-use Rattle.std.specs.Prelude.{ℕ, List, [], ◌∷◌, ◌++◌, if◌then◌else◌, codes, decimal, encode_utf8}
+use Rattle.std.specs.Prelude.{ℕ, Option, None, Some, List, [], ◌∷◌, ◌++◌, if◌then◌else◌, codes, decimal, encode_utf8}
 use Rattle.std.specs.List.{flat_map}
-use Rattle.htoken.specs.Token.{Tok, Start, End, Comment, Char, Eof}
+use Rattle.htoken.specs.Token.{Tok, Doctype, Start, End, Comment, Char, Eof}
 use Rattle.hparse.specs.Quoted.{quoted}
 
 -- a line: its place, which is a byte of the input (from 0), and words or the text of characters
@@ -13,8 +13,15 @@ pub data Line : Type 0 where
 abbrev pub attribute_words : List ℕ × List ℕ → List ℕ
 attribute_words attribute = codes " " ++ quoted attribute.0 ++ codes "=" ++ quoted attribute.1
 
+-- a text between quotes, or `-` where there is none
+abbrev pub quoted_or_none : Option (List ℕ) → List ℕ
+quoted_or_none None = codes "-"
+quoted_or_none (Some text) = quoted text
+
 -- the line of a token by itself
 abbrev pub line_of : Tok → Line
+line_of (Doctype name public system forced at) =
+    Words at (codes "doctype " ++ quoted_or_none name ++ codes " " ++ quoted_or_none public ++ codes " " ++ quoted_or_none system ++ (if forced then codes " quirks" else []))
 line_of (Start name attrs closing at) = Words at (codes "start " ++ quoted name ++ flat_map attribute_words attrs ++ (if closing then codes " /" else []))
 line_of (End name at) = Words at (codes "end " ++ quoted name)
 line_of (Comment text at) = Words at (codes "comment " ++ quoted text)

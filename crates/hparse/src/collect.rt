@@ -31,4 +31,8 @@ impl TokenSink for Collected {
         self.tokens.push(token)?;
         Ok(())
     }
+
+    fn take_text(&mut self, ch: char, at: u64) -> Result<(), Refusal> {
+        self.take_token(Token::Char { ch, at })
+    }
 }

@@ -5,6 +5,7 @@ ghost use Rattle.hparse.specs.Running.{ReadsDocument, WritesText, Runs};
 
 use crate::command::{Command, Task};
 use crate::lines::token_lines;
+use crate::options::Options;
 use crate::reading::Reading;
 use crate::source::Source;
 use crate::target::{Target, write_all};
@@ -13,23 +14,23 @@ use htext::MAX_INPUT;
 use names::Refusal;
 use std::alloc::Global;
 
-/// Reads a document, and writes what the command makes of it. The limit is in bytes. The size of a piece has no influence on
+/// Reads a document, and writes what the command makes of it. The size of a piece has no influence on
 /// what is written. Reading stops after the piece that brings a refused byte, and goes on to the end otherwise; nothing is
 /// written before.
 pub fn run<S: Source, W: Target>(
     alloc: Global,
     command: Command,
-    input_limit: u64,
+    options: &Options,
     source: &mut S,
     target: &mut W,
 ) -> Result<(), Refusal>
-    requires limit { input_limit ≤ MAX_INPUT }
+    requires limit { options.now.input_limit ≤ MAX_INPUT }
     requires piece { 0 < command.piece }
-    ensures { Runs S.left S.failed W.written W.failed command.piece input_limit source.old source.new target.old target.new result }
+    ensures { Runs S.left S.failed W.written W.failed options.now.table.now command.piece options.now.input_limit source.old source.new target.old target.new result }
 {
     match command.task {
         Task::Tokens => {
-            let answer = read_document(alloc, command.piece, input_limit, source)?;
+            let answer = read_document(alloc, command.piece, options, source)?;
             let text = token_lines(alloc, &answer)?;
             write_text(target, &text)
         }
@@ -40,15 +41,15 @@ pub fn run<S: Source, W: Target>(
 fn read_document<S: Source>(
     alloc: Global,
     piece: usize,
-    input_limit: u64,
+    options: &Options,
     source: &mut S,
 ) -> Result<TokenRun, Refusal>
-    requires limit { input_limit ≤ MAX_INPUT }
+    requires limit { options.now.input_limit ≤ MAX_INPUT }
     requires piece { 0 < piece }
-    ensures { ReadsDocument S.left S.failed piece input_limit source.old source.new result }
+    ensures { ReadsDocument S.left S.failed options.now.table.now piece options.now.input_limit source.old source.new result }
 {
     let mut buffer = vec![in alloc; 0u8; piece]?;
-    let mut reading = Reading::new(alloc, input_limit)?;
+    let mut reading = Reading::new(alloc, options)?;
     // A piece has at least one byte, and a document that is too long is refused long before the last turn.
     for _turn in 0..u64::MAX {
         match source.read(&mut buffer) {

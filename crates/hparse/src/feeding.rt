@@ -2,11 +2,13 @@
 
 ghost use Rattle.std.specs.Prelude.{◌≡◌, List, [], IfOk, MatchResult, false};
 ghost use Rattle.names.specs.declared.refusal.Refusal.TheVariants.{Memory};
+ghost use Rattle.charref.specs.Reference.{Entities};
 ghost use Rattle.htext.specs.Items.{CharItem};
 ghost use Rattle.hparse.specs.Holding.{HoldsItems, EndsText, Refuses, is_of_bytes, IsRunOf};
 
 use crate::collect::Collected;
 use crate::token_run::TokenRun;
+use charref::Table;
 use hmarkup::ErrorSink;
 use htext::CharSink;
 use htoken::{Start, Tokenizer};
@@ -15,19 +17,20 @@ use std::alloc::{AllocError, Global};
 
 /// A tokenizer, with the names of its tokens and what has been collected.
 #[derive(Drop)]
-pub struct Feeding {
+pub struct Feeding<'t> {
     pub names: Names,
-    pub tokenizer: Tokenizer,
+    pub tokenizer: Tokenizer<'t>,
     pub collected: Collected,
 }
 
-impl Feeding {
-    pub fn new(alloc: Global) -> Result<Feeding, AllocError>
-        ensures { IfOk result (λ feeding. HoldsItems feeding []) }
+impl<'t> Feeding<'t> {
+    /// A tokenizer that has been fed nothing, over this table of references.
+    pub fn new(alloc: Global, table: &'t Table) -> Result<Feeding<'t>, AllocError>
+        ensures { IfOk result (λ feeding. HoldsItems table.now feeding []) }
     {
         Ok(Feeding {
             names: Names::new(alloc)?,
-            tokenizer: Tokenizer::new(alloc, Start::Document),
+            tokenizer: Tokenizer::new(alloc, table, Start::Document),
             collected: Collected {
                 tokens: Vec::new(alloc),
                 errors: Vec::new(alloc),
@@ -37,16 +40,16 @@ impl Feeding {
 
     /// Ends the text, at the input's byte `end`.
     pub fn finish(&mut self, end: u64) -> Result<(), Refusal>
-        ensures { (items : List CharItem) → HoldsItems self.old items → EndsText items end result self.new }
+        ensures { (table : Entities) (items : List CharItem) → HoldsItems table self.old items → EndsText table items end result self.new }
     {
         self.tokenizer
             .finish(&mut self.names, end, &mut self.collected)
     }
 
-    /// The answer once the decoder has refused: the refusal of the text itself, ended at the refused byte, if it has one;
-    /// otherwise the decoder's.
+    /// The answer once the decoder has refused, where the text before the refused byte is accepted: that refusal. The text is
+    /// ended there, which may run out of memory.
     pub fn refuse(&mut self, refusal: Refusal) -> Refusal
-        ensures answer { (held : List CharItem) → HoldsItems self.old held → Refuses held refusal result }
+        ensures answer { (table : Entities) (held : List CharItem) → HoldsItems table self.old held → Refuses table held refusal result }
         ensures other { is_of_bytes refusal ≡ false → result ≡ refusal }
     {
         match refusal {
@@ -60,7 +63,7 @@ impl Feeding {
 
     /// What has been collected, with the errors in their order.
     pub fn into_run(self) -> Result<TokenRun, Refusal>
-        ensures { MatchResult result (IsRunOf self) (λ refusal. refusal ≡ Memory) }
+        ensures { MatchResult result (IsRunOf self.entry) (λ refusal. refusal ≡ Memory) }
     {
         let Feeding {
             names,
@@ -77,7 +80,7 @@ impl Feeding {
     }
 }
 
-impl CharSink for Feeding {
+impl<'t> CharSink for Feeding<'t> {
     ghost use Rattle.hparse.specs.Holding.{Steps};
 
     ghost gives = { Steps };

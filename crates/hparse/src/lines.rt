@@ -4,10 +4,12 @@ ghost use Rattle.std.specs.Prelude.{◌≡◌, ◌++◌, ℕ, List, codes, decim
 ghost use Rattle.std.specs.List.{flat_map};
 ghost use Rattle.std.specs.String.{string_bytes};
 ghost use Rattle.names.specs.Names.{IsOf};
-ghost use Rattle.htoken.specs.Token.{Tok, Start, End, Comment, Char, AttrsMean, TokenMeans};
+ghost use Rattle.hmarkup.specs.DoctypeWalk.{text_of};
+ghost use Rattle.htag.specs.Attributes.{AttrsMean};
+ghost use Rattle.htoken.specs.Token.{Tok, Doctype, Start, End, Comment, Char, TokenMeans};
 ghost use Rattle.hparse.specs.TokenRun.{TokensMean};
 ghost use Rattle.hparse.specs.Quoted.{quoted};
-ghost use Rattle.hparse.specs.TokenLines.{attribute_words, line_of, line_text, token_lines};
+ghost use Rattle.hparse.specs.TokenLines.{attribute_words, quoted_or_none, line_of, line_text, token_lines};
 
 use crate::quoted::{push_escaped, push_quoted};
 use crate::token_run::TokenRun;
@@ -54,6 +56,42 @@ fn push_attributes(text: &mut String, names: &Names, attrs: &[Attr]) -> Result<(
         push_quoted(text, &attr.value)?;
     }
     Ok(())
+}
+
+/// Writes a text between quotes, or `-` if there is none.
+fn push_optional(text: &mut String, source: &Option<String>) -> Result<(), AllocError>
+    ensures { OnOk result
+        (string_bytes text.new ≡ string_bytes text.old ++ quoted_or_none (text_of source.now)) }
+{
+    match source {
+        Some(source) => push_quoted(text, source),
+        None => text.push('-'),
+    }
+}
+
+/// Writes the line of a doctype.
+fn push_doctype(
+    text: &mut String,
+    name: &Option<String>,
+    public_id: &Option<String>,
+    system_id: &Option<String>,
+    forced: bool,
+    at: u64,
+) -> Result<(), AllocError>
+    ensures { OnOk result (string_bytes text.new ≡ string_bytes text.old
+        ++ line_text (line_of (Doctype (text_of name.now) (text_of public_id.now) (text_of system_id.now) forced at))) }
+{
+    begin_line(text, at, "doctype ")?;
+    push_optional(text, name)?;
+    text.push(' ')?;
+    push_optional(text, public_id)?;
+    text.push(' ')?;
+    push_optional(text, system_id)?;
+    if forced {
+        text.push_str(" quirks\n")
+    } else {
+        text.push('\n')
+    }
 }
 
 /// Writes the line of a start tag.
@@ -122,6 +160,13 @@ fn push_line(text: &mut String, names: &Names, token: &Token) -> Result<(), Allo
         ≡ string_bytes text.old ++ line_text (line_of meant)) }
 {
     match token {
+        Token::Doctype {
+            name,
+            public_id,
+            system_id,
+            forced,
+            at,
+        } => push_doctype(text, name, public_id, system_id, *forced, *at),
         Token::Start {
             name,
             attrs,

@@ -1,10 +1,12 @@
 //! A document that comes in pieces.
 
 ghost use Rattle.std.specs.Prelude.{◌≤◌, ℕ, List, [], ◌++◌, IfOk};
+ghost use Rattle.charref.specs.Reference.{Entities};
 ghost use Rattle.hparse.specs.Fed.{HasRead, FeedsPiece};
 ghost use Rattle.hparse.specs.Shown.{Shows};
 
 use crate::feeding::Feeding;
+use crate::options::Options;
 use crate::token_run::TokenRun;
 use htext::{Bom, Decoder, MAX_INPUT};
 use names::Refusal;
@@ -12,26 +14,26 @@ use std::alloc::{AllocError, Global};
 
 /// The decoder of a document, and what its text is fed to.
 #[derive(Drop)]
-pub struct Reading {
+pub struct Reading<'t> {
     pub decoder: Decoder,
-    pub feeding: Feeding,
+    pub feeding: Feeding<'t>,
 }
 
-impl Reading {
-    /// A document of at most `input_limit` bytes.
-    pub fn new(alloc: Global, input_limit: u64) -> Result<Reading, AllocError>
-        requires { input_limit ≤ MAX_INPUT }
-        ensures { IfOk result (λ reading. HasRead input_limit reading []) }
+impl<'t> Reading<'t> {
+    /// A document of which nothing has been read.
+    pub fn new(alloc: Global, options: &Options<'t>) -> Result<Reading<'t>, AllocError>
+        requires { options.now.input_limit ≤ MAX_INPUT }
+        ensures { IfOk result (λ reading. HasRead options.now.table.now options.now.input_limit reading []) }
     {
         Ok(Reading {
-            decoder: Decoder::new(alloc, Bom::Drop, input_limit),
-            feeding: Feeding::new(alloc)?,
+            decoder: Decoder::new(alloc, Bom::Drop, options.input_limit),
+            feeding: Feeding::new(alloc, options.table)?,
         })
     }
 
     /// Reads the next piece. Nothing is fed after an error.
     pub fn feed(&mut self, piece: &[u8]) -> Result<(), Refusal>
-        ensures { (limit : ℕ) (bytes : List ℕ) → HasRead limit self.old bytes → FeedsPiece limit (bytes ++ piece.now) result self.new }
+        ensures { (table : Entities) (limit : ℕ) (bytes : List ℕ) → HasRead table limit self.old bytes → FeedsPiece table limit (bytes ++ piece.now) result self.new }
     {
         match self.decoder.feed(piece, &mut self.feeding) {
             Ok(()) => Ok(()),
@@ -41,7 +43,7 @@ impl Reading {
 
     /// The answer, where the document has ended.
     pub fn finish(self) -> Result<TokenRun, Refusal>
-        ensures { (limit : ℕ) (bytes : List ℕ) → HasRead limit self bytes → Shows limit bytes result }
+        ensures { (table : Entities) (limit : ℕ) (bytes : List ℕ) → HasRead table limit self.entry bytes → Shows table limit bytes result }
     {
         let Reading {
             mut decoder,

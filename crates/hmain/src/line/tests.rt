@@ -91,7 +91,7 @@ static FAULTS: [(&'static [&'static str], &'static str); 17] = [
     ),
     (
         &["htmlp", "tokens", "-h"],
-        "A line for each token\n\nUsage: htmlp tokens [OPTIONS] [FILE]\n\nArguments:\n  [FILE]  The input [default: standard input]\n\nOptions:\n      --piece <N>  Bytes fed at a time, 1 to 65536 [default: 65536]\n  -h, --help       Print help\n",
+        "A line for each token\n\nUsage: htmlp tokens [OPTIONS] [FILE]\n\nArguments:\n  [FILE]  The input [default: standard input]\n\nOptions:\n      --piece <N>        Bytes fed at a time, 1 to 65536 [default: 65536]\n      --entities <FILE>  The table of character references [default: amp, lt, gt, quot, nbsp]\n  -h, --help             Print help\n",
     ),
     (
         &["htmlp", "help"],

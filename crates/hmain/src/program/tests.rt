@@ -28,6 +28,10 @@ impl Surroundings for Pretended {
 
     ghost cannot_open = { λ _ _. ⊤ };
 
+    ghost has_text = { λ _ _ _. ⊤ };
+
+    ghost lacks_text = { λ _ _ _. ⊤ };
+
     fn alloc(&self) -> Global {
         self.alloc
     }
@@ -44,6 +48,14 @@ impl Surroundings for Pretended {
         Ok(words)
     }
 
+    fn text(&self, name: &str) -> Result<String, Fault> {
+        match name {
+            "table.json" => Ok(String::from_str(self.alloc, TABLE)?),
+            "bad.json" => Ok(String::from_str(self.alloc, "{\"a\":1}")?),
+            _ => Err(Fault::CannotRead),
+        }
+    }
+
     fn open(&self, name: &str) -> Option<Counted<&'static [u8]>> {
         if name == "page.html" {
             Some(Counted::new(self.file))
@@ -52,6 +64,8 @@ impl Surroundings for Pretended {
         }
     }
 }
+
+const TABLE: &str = "{\"&not;\":{\"codepoints\":[172],\"characters\":\"¬\"}}";
 
 const PAGE: &[u8] = b"<p>a";
 
@@ -66,7 +80,28 @@ type Run = (
     u8,
 );
 
-static RUNS: [Run; 9] = [
+static RUNS: [Run; 12] = [
+    (
+        &["htmlp", "tokens", "--entities", "table.json"],
+        b"b",
+        "0 chars \"b\"\n1 eof\n",
+        "",
+        0,
+    ),
+    (
+        &["htmlp", "tokens", "--entities", "bad.json"],
+        b"b",
+        "",
+        "refused: BadTable Key\n",
+        2,
+    ),
+    (
+        &["htmlp", "tokens", "--entities", "none.json"],
+        b"b",
+        "",
+        "fault: cannot read\n",
+        3,
+    ),
     (&["htmlp", "tokens"], b"b", "0 chars \"b\"\n1 eof\n", "", 0),
     (
         &["htmlp", "tokens", "--piece", "1"],

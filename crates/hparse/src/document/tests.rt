@@ -4,6 +4,8 @@ ghost use Rattle.std.specs.Prelude.{◌≤◌};
 
 use crate::document::tokens;
 use crate::lines::token_lines;
+use crate::options::Options;
+use charref::Table;
 use names::{ErrorCode, ParseError, Refusal};
 use std::alloc::Global;
 use std::process::Abort;
@@ -20,7 +22,12 @@ fn lines(
 ) -> Result<(Vec<u8>, Vec<ParseError>), Refusal>
     requires { input_limit ≤ 1_000 }
 {
-    let run = tokens(alloc, pieces, input_limit)?;
+    let table = Table::core(alloc)?;
+    let options = Options {
+        table: &table,
+        input_limit,
+    };
+    let run = tokens(alloc, pieces, &options)?;
     let text = token_lines(alloc, &run)?;
     Ok((text, run.errors))
 }

@@ -1,11 +1,13 @@
 //! Runs over readers and writers that move one byte a call, and that fail.
 
-ghost use Rattle.std.specs.Prelude.{◌<◌};
+ghost use Rattle.std.specs.Prelude.{◌<◌, ◌≤◌};
 
 use crate::command::{Command, Task};
 use crate::engine::run;
+use crate::options::Options;
 use crate::source::Source;
 use crate::target::Target;
+use charref::Table;
 use names::Refusal;
 use std::alloc::Global;
 use std::process::Abort;
@@ -140,8 +142,27 @@ fn expect_answer(
         task: Task::Tokens,
         piece,
     };
-    let found = run(alloc, command, 1_000, reader, writer);
+    let found = run_within(alloc, command, 1_000, reader, writer);
     assert_eq!(rt; found, answer);
+}
+
+/// Runs over an input of at most so many bytes, with the core table.
+fn run_within(
+    alloc: Global,
+    command: Command,
+    input_limit: u64,
+    reader: &mut Reader,
+    writer: &mut Writer,
+) -> Result<(), Refusal>
+    requires limit { input_limit ≤ 1_000 }
+    requires piece { 0 < command.piece }
+{
+    let table = Table::core(alloc)?;
+    let options = Options {
+        table: &table,
+        input_limit,
+    };
+    run(alloc, command, &options, reader, writer)
 }
 
 #[test]

@@ -69,6 +69,11 @@ returns-clause-file c =
     c.get_str-2.ensures ∙ value_read c.in_ok-command_line.field-0 c.in_ok-matches.matches c.unwrap.result.1.now (texts c.args.words.now) (codes "file")
     c.in_ok-command_line.ensures c.in_ok-matches.ensures.matches (ap (option_map entry_rows) (sym c.unwrap.ensures) ∙ c.subcommand.ensures.rows)
 
+pub returns-clause-entities : goal.returns-clause-entities
+returns-clause-entities c =
+    c.get_str-3.ensures ∙ value_read c.in_ok-command_line.field-0 c.in_ok-matches.matches c.unwrap.result.1.now (texts c.args.words.now) (codes "entities")
+    c.in_ok-command_line.ensures c.in_ok-matches.ensures.matches (ap (option_map entry_rows) (sym c.unwrap.ensures) ∙ c.subcommand.ensures.rows)
+
 pub returns-clause-taken : goal.returns-clause-taken
 returns-clause-taken c =
     let is = c.in_ok-command_line.ensures in

@@ -10,6 +10,6 @@ returns-in_err-words g c = line_missing c.in_err-words.field-0.0 c.in_err-words.
 pub returns : goal.returns
 returns g c =
     line_answered (map string_bytes c.in_ok-words.words.items) c.in_ok-words.ensures
-    (subst (λ words. AnswersWords g.R.Surroundings.opens g.R.Surroundings.cannot_open g.R.File.Source.left g.R.File.Source.failed g.S.Source.left g.S.Source.failed
+    (subst (λ words. AnswersWords g.R.Surroundings.opens g.R.Surroundings.cannot_open g.R.File.Source.left g.R.File.Source.failed g.R.Surroundings.has_text g.R.Surroundings.lacks_text g.S.Source.left g.S.Source.failed
     g.W.Target.written g.W.Target.failed MAX_INPUT c.args.surroundings.now words c.args.input.now c.answer_words.new.input c.args.output.now c.answer_words.new.output c.answer_words.result)
     (ap (map string_bytes) c.deref.ensures.value) c.answer_words.ensures)

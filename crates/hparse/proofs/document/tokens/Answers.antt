@@ -11,16 +11,16 @@ pub returns-in_err-feed : goal.returns-in_err-feed
 returns-in_err-feed c =
     let e = err_from_is_err_and c.from_residual-in_err-feed.result c.from_residual-in_err-feed.ensures.1 in
     let lt : c.loop-piece.piece-index < length c.args.pieces.now = omega arith in
-    rw (e.1, e.2) (shows_piece c.args.input_limit _ (joined (drop (c.loop-piece.piece-index + 1) c.args.pieces.now)) (joined c.args.pieces.now) c.in_err-feed.field-0.0 c.feed.new.self
-    (c.in_err-feed.ensures c.args.input_limit (joined (take c.loop-piece.piece-index c.args.pieces.now)) c.loop-piece.invariant) (joined_all c.args.pieces.now c.loop-piece.piece-index _ lt))
+    rw (e.1, e.2) (shows_piece c.args.options.now.table.now c.args.options.now.input_limit _ (joined (drop (c.loop-piece.piece-index + 1) c.args.pieces.now)) (joined c.args.pieces.now) c.in_err-feed.field-0.0 c.feed.new.self
+    (c.in_err-feed.ensures c.args.options.now.table.now c.args.options.now.input_limit (joined (take c.loop-piece.piece-index c.args.pieces.now)) c.loop-piece.invariant) (joined_all c.args.pieces.now c.loop-piece.piece-index _ lt))
 
 pub loop-piece-preserved : goal.loop-piece-preserved
 loop-piece-preserved c =
     let lt : c.loop-piece.piece-index < length c.args.pieces.now = omega arith in
-    subst (HasRead c.args.input_limit c.feed.new.self) (sym (joined_more c.args.pieces.now c.loop-piece.piece-index _ lt))
-    (has_read c.args.input_limit _ c.feed.new.self (c.in_ok-feed.ensures c.args.input_limit (joined (take c.loop-piece.piece-index c.args.pieces.now)) c.loop-piece.invariant))
+    subst (HasRead c.args.options.now.table.now c.args.options.now.input_limit c.feed.new.self) (sym (joined_more c.args.pieces.now c.loop-piece.piece-index _ lt))
+    (has_read c.args.options.now.table.now c.args.options.now.input_limit _ c.feed.new.self (c.in_ok-feed.ensures c.args.options.now.table.now c.args.options.now.input_limit (joined (take c.loop-piece.piece-index c.args.pieces.now)) c.loop-piece.invariant))
 
 pub returns : goal.returns
 returns c =
     let all : take c.loop-piece.piece-index c.args.pieces.now ≡ c.args.pieces.now = take_all c.loop-piece.piece-index c.args.pieces.now c.loop-piece-test.false in
-    subst (λ (ps : List (Bor (List ℕ))). Shows c.args.input_limit (joined ps) c.finish.result) all (c.finish.ensures c.args.input_limit (joined (take c.loop-piece.piece-index c.args.pieces.now)) c.loop-piece.invariant)
+    subst (λ (ps : List (Bor (List ℕ))). Shows c.args.options.now.table.now c.args.options.now.input_limit (joined ps) c.finish.result) all (c.finish.ensures c.args.options.now.table.now c.args.options.now.input_limit (joined (take c.loop-piece.piece-index c.args.pieces.now)) c.loop-piece.invariant)

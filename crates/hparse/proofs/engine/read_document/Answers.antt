@@ -10,13 +10,13 @@ returns-in-Some-eq0 g c =
     let buffer : List ℕ = c.read.new.buffer in
     let some : 0 < length buffer = omega arith in
     let none : take c.in-Some-eq0.field-0 buffer ≡ [] = ap (λ (n : ℕ). take n buffer) c.in-Some-eq0.field-0-test in
-    ended g.S.Source.left g.S.Source.failed c.args.input_limit c.loop-turn._turn c.args.source.now c.loop-turn.source c.read.new.self c.loop-turn.reading h (take c.in-Some-eq0.field-0 buffer)
-    c.in-Some-eq0.ensures.bytes.1 c.in-Some-eq0.ensures.count c.args.piece c.finish.result none (c.in-Some-eq0.ensures.bytes.2 c.in-Some-eq0.field-0-test some) (c.finish.ensures c.args.input_limit h.fed h.has_read)
+    ended g.S.Source.left g.S.Source.failed c.args.options.now.table.now c.args.options.now.input_limit c.loop-turn._turn c.args.source.now c.loop-turn.source c.read.new.self c.loop-turn.reading h (take c.in-Some-eq0.field-0 buffer)
+    c.in-Some-eq0.ensures.bytes.1 c.in-Some-eq0.ensures.count c.args.piece c.finish.result none (c.in-Some-eq0.ensures.bytes.2 c.in-Some-eq0.field-0-test some) (c.finish.ensures c.args.options.now.table.now c.args.options.now.input_limit h.fed h.has_read)
 
 pub returns-in-None : goal.returns-in-None
 returns-in-None g c =
     let h = c.loop-turn.invariant.0 in
-    failed_turn g.S.Source.left g.S.Source.failed c.args.input_limit c.loop-turn._turn c.args.source.now c.loop-turn.source c.read.new.self c.loop-turn.reading h c.args.piece
+    failed_turn g.S.Source.left g.S.Source.failed c.args.options.now.table.now c.args.options.now.input_limit c.loop-turn._turn c.args.source.now c.loop-turn.source c.read.new.self c.loop-turn.reading h c.args.piece
     c.in-None.ensures.bytes c.in-None.ensures.count
 
 pub returns-in_err-feed-in-Some : goal.returns-in_err-feed-in-Some
@@ -26,22 +26,22 @@ returns-in_err-feed-in-Some g c =
     let same = front_of_buffer c.in-Some.count c.loop-turn.buffer.len c.read.new.buffer (drop (length c.read.new.buffer) c.loop-turn.buffer.items) c.deref.result.now c.deref.ensures.value (c.read.auto.buffer ∙ c.deref_mut.ensures.len) in
     let few : length (take c.in-Some.count c.deref.result.now) ≤ c.args.piece =
     subst (λ (bytes : List ℕ). length bytes ≤ c.args.piece) (sym same) (few_of_buffer c.in-Some.count c.args.piece c.read.new.buffer (c.read.auto.buffer ∙ c.deref_mut.ensures.len ∙ c.loop-turn.invariant.1) c.in-Some.ensures.bytes.0) in
-    rw (e.1, e.2) (refused_turn g.S.Source.left g.S.Source.failed c.args.input_limit c.loop-turn._turn c.args.source.now c.loop-turn.source c.read.new.self c.loop-turn.reading h (take c.in-Some.count c.deref.result.now)
+    rw (e.1, e.2) (refused_turn g.S.Source.left g.S.Source.failed c.args.options.now.table.now c.args.options.now.input_limit c.loop-turn._turn c.args.source.now c.loop-turn.source c.read.new.self c.loop-turn.reading h (take c.in-Some.count c.deref.result.now)
     (subst (Consumes (g.S.Source.left c.loop-turn.source) (g.S.Source.left c.read.new.self)) (sym same) c.in-Some.ensures.bytes.1) c.in-Some.ensures.count c.args.piece c.feed.new.self c.in_err-feed-in-Some.field-0.0 few
-    (c.in_err-feed-in-Some.ensures c.args.input_limit h.fed h.has_read))
+    (c.in_err-feed-in-Some.ensures c.args.options.now.table.now c.args.options.now.input_limit h.fed h.has_read))
 
 pub loop-turn-preserved : goal.loop-turn-preserved
 loop-turn-preserved g c =
     let h = c.loop-turn.invariant.0 in
     let same = front_of_buffer c.in-Some.count c.loop-turn.buffer.len c.read.new.buffer (drop (length c.read.new.buffer) c.loop-turn.buffer.items) c.deref.result.now c.deref.ensures.value (c.read.auto.buffer ∙ c.deref_mut.ensures.len) in
     let some = some_of_buffer c.in-Some.count c.read.new.buffer c.deref.result.now same c.in-Some.count-test.1 c.in-Some.ensures.bytes.0 in (
-      turned g.S.Source.left g.S.Source.failed c.args.input_limit c.loop-turn._turn c.args.source.now c.loop-turn.source c.read.new.self c.loop-turn.reading h (take c.in-Some.count c.deref.result.now)
+      turned g.S.Source.left g.S.Source.failed c.args.options.now.table.now c.args.options.now.input_limit c.loop-turn._turn c.args.source.now c.loop-turn.source c.read.new.self c.loop-turn.reading h (take c.in-Some.count c.deref.result.now)
           (subst (Consumes (g.S.Source.left c.loop-turn.source) (g.S.Source.left c.read.new.self)) (sym same) c.in-Some.ensures.bytes.1) c.in-Some.ensures.count c.feed.new.self some
-          (c.in_ok-feed-in-Some.ensures c.args.input_limit h.fed h.has_read),
+          (c.in_ok-feed-in-Some.ensures c.args.options.now.table.now c.args.options.now.input_limit h.fed h.has_read),
       c.loop-turn.invariant.1,
     )
 
 pub unreachable-requires : goal.unreachable-requires
 unreachable-requires g c =
-    let few = few_turns g.S.Source.left g.S.Source.failed c.args.input_limit c.loop-turn._turn c.args.source.now c.loop-turn.source c.loop-turn.source c.loop-turn.reading c.loop-turn.invariant.0 in
+    let few = few_turns g.S.Source.left g.S.Source.failed c.args.options.now.table.now c.args.options.now.input_limit c.loop-turn._turn c.args.source.now c.loop-turn.source c.loop-turn.source c.loop-turn.reading c.loop-turn.invariant.0 in
     omega arith

@@ -1,7 +1,7 @@
 use Rattle.std.proofs.Common.{◌≡◌, ◌++◌, ℕ, List, drop}
 use Rattle.std.specs.List.{flat_map}
 use Rattle.std.specs.String.{string_bytes}
-use Rattle.htoken.specs.Token.{AttrsMean}
+use Rattle.htag.specs.Attributes.{AttrsMean}
 use Rattle.hparse.specs.TokenLines.{attribute_words}
 use Rattle.hparse.proofs.lines.push_attributes.Given as goal
 

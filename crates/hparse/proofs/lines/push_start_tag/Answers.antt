@@ -1,6 +1,7 @@
 use Rattle.std.proofs.Common.{◌≡◌, ◌++◌, ℕ, List, Some, slice_get, rules, string_bytes, codes, refl, if◌then◌else◌}
 use Rattle.std.specs.Char.{encode_utf8}
-use Rattle.htoken.specs.Token.{Start, AttrsMean}
+use Rattle.htag.specs.Attributes.{AttrsMean}
+use Rattle.htoken.specs.Token.{Start}
 use Rattle.hparse.specs.TokenLines.{line_of, line_text}
 use Rattle.hparse.proofs.StartTag.{before_end}
 use Rattle.hparse.proofs.lines.push_start_tag.Goals as goal

@@ -1,7 +1,8 @@
 use Rattle.std.proofs.Common.{List, [], ◌∷◌, true, refl, sym, subst, string_bytes, codes}
 use Rattle.names.specs.declared.attr.Attr.{Attr}
 use Rattle.htoken.specs.declared.token.Token.{Token}
-use Rattle.htoken.specs.Token.{Tok, Start, AttrsMean}
+use Rattle.htoken.specs.Token.{Tok, Start}
+use Rattle.htag.specs.Attributes.{AttrsMean}
 use Rattle.hparse.specs.TokenRun.{TokensMean}
 use Rattle.hparse.proofs.lines.tests.prints_attributes.Goals as goal
 

@@ -1,7 +1,8 @@
 use Rattle.std.proofs.Common.{List, [], ◌∷◌, false, refl, sym, subst, string_bytes, codes}
 use Rattle.names.specs.declared.attr.Attr.{Attr}
 use Rattle.htoken.specs.declared.token.Token.{Token}
-use Rattle.htoken.specs.Token.{Tok, Start, Char, Comment, End, Eof, AttrsMean}
+use Rattle.htoken.specs.Token.{Tok, Start, Char, Comment, End, Eof}
+use Rattle.htag.specs.Attributes.{AttrsMean}
 use Rattle.hparse.specs.TokenRun.{TokensMean}
 use Rattle.hparse.proofs.lines.tests.prints_each_kind.Goals as goal
 

@@ -1,0 +1,180 @@
+-- Plain trees come back, where what is written of them is read as their own tokens.
+use Rattle.std.proofs.Common.{◌≡◌, ℕ, ◌+◌, Bool, true, false, List, [], ◌∷◌, ◌++◌, map, Some, refl, sym, ◌∙◌, ap, subst, arith, ◌⊎◌, inl, inr}
+use Rattle.std.proofs.lemmas.Bool.{ne_eqb}
+use Rattle.charref.specs.Reference.{Entities}
+use Rattle.hnodes.specs.Forest.{Forest, none, tree, size, children_of}
+use Rattle.hnodes.proofs.Forests.{join-none}
+use Rattle.names.specs.Sets.{raw_kind}
+use Rattle.names.specs.Tags.{tag_named, tag_text}
+use Rattle.names.specs.declared.tag.Tag.{Tag}
+use Rattle.names.specs.declared.tag.Tag.TheVariants as tag
+use Rattle.htoken.specs.Token.{Tok}
+use Rattle.hadopt.specs.Naming.{texts}
+use Rattle.hadopt.specs.Site.{Goes, stack}
+use Rattle.hmodes.specs.declared.mode.Mode.{Mode}
+use Rattle.hmodes.specs.declared.mode.Mode.TheVariants.{InBody, InCaption, InCell, InTable, InTableBody, InRow}
+use Rattle.hmodes.specs.Beginning.{fragment_begins}
+use Rattle.hmodes.specs.Erased.{erased, node}
+use Rattle.hmodes.specs.Reset.{context_mode}
+use Rattle.hmodes.specs.Rules.{rule_of}
+use Rattle.hmodes.specs.Perform.{perform}
+use Rattle.hmodes.specs.Words.{Eof}
+use Rattle.hmodes.specs.State.{PlacedToken, State, eof, Done}
+use Rattle.hmodes.specs.Step.{Rule, begun, Chain, ends, Step, goes, Steps, and}
+use Rattle.hmodes.specs.Step as step
+use Rattle.hwrite.specs.declared.content.Content.{Content}
+use Rattle.hwrite.specs.declared.content.Content.TheVariants as content
+use Rattle.hwrite.specs.declared.content.Texts.TheVariants as allowed
+use Rattle.hwrite.specs.declared.escaping.Escaping.{Escaping}
+use Rattle.hlaws.specs.Building.{IsQuiet, Builds, fits_mode, fits_current, is_flow_mode, numbered}
+use Rattle.hlaws.specs.ComesBack.{AreTexts, AreRead, Allowed, Fits, Gives, PlainTokens, PlainComesBack, placed, taken}
+use Rattle.hwrite.specs.ContentTable.{row, texts_in}
+use Rattle.hwrite.specs.Plain.{Inside, are_content, are_content_if, in_context_of, is_form}
+use Rattle.hlaws.specs.PlainTokens.{tokens_of}
+use Rattle.hwrite.specs.Written.{written}
+use Rattle.hlaws.proofs.Builds.{AreTokens, parted, first, after}
+use Rattle.hlaws.proofs.PlainBuilds.{law}
+
+-- a list under other numbers
+erased-numbered : (k : ℕ) (l : Forest (List ℕ)) → erased (numbered k l) ≡ erased l
+erased-numbered k none = refl
+erased-numbered k (tree b w kids rest) = let x = erased-numbered (k + 1) kids in let y = erased-numbered (k + 1 + size kids) rest in λ i. node w (x i) (y i)
+
+-- the mode of a context is that of its content
+abbrev mode_ok : Content → Mode → Bool
+mode_ok content.TableParts m = fits_mode content.TableParts m
+mode_ok content.TableRows m = fits_mode content.TableRows m
+mode_ok content.Cells m = fits_mode content.Cells m
+mode_ok content.Columns m = true
+mode_ok content.Empty m = true
+mode_ok _ m = is_flow_mode m
+
+context_ok : (t : Tag) → mode_ok (row t).1 (context_mode t) ≡ true
+context_ok tag.A = refl
+context_ok _ = refl
+
+placed_token : (toks : List Tok) → map (λ t. t.token) (map placed toks) ≡ map taken toks
+placed_token [] = refl
+placed_token (t ∷ toks) = ap (λ ts. taken t ∷ ts) (placed_token toks)
+
+abbrev ends_body : Mode → Bool
+ends_body InBody = true
+ends_body InCaption = true
+ends_body InCell = true
+ends_body InTable = true
+ends_body InTableBody = true
+ends_body InRow = true
+ends_body _ = false
+
+eof_rule : (m : Mode) → ends_body m ≡ true → rule_of m Eof ≡ rule_of InBody Eof
+eof_rule InBody h = refl
+eof_rule InCaption h = refl
+eof_rule InCell h = refl
+eof_rule InTable h = refl
+eof_rule InTableBody h = refl
+eof_rule InRow h = refl
+eof_rule _ h = absurd cc
+
+flow_ends : (m : Mode) → is_flow_mode m ≡ true → ends_body m ≡ true
+flow_ends InBody h = refl
+flow_ends InCaption h = refl
+flow_ends InCell h = refl
+flow_ends _ h = absurd cc
+
+parts_end : (m : Mode) → fits_mode content.TableParts m ≡ true → ends_body m ≡ true
+parts_end InTable h = refl
+parts_end _ h = absurd cc
+
+rows_end : (m : Mode) → fits_mode content.TableRows m ≡ true → ends_body m ≡ true
+rows_end InTableBody h = refl
+rows_end _ h = absurd cc
+
+cells_end : (m : Mode) → fits_mode content.Cells m ≡ true → ends_body m ≡ true
+cells_end InRow h = refl
+cells_end _ h = absurd cc
+
+module _ (table : Entities) (bounds : Allowed) (escaping : Escaping) (context : List ℕ) (l : Forest (List ℕ)) (utf8 : AreTexts l) (fits : Fits bounds (written escaping (Some context) l) l)
+    (read : AreRead table (raw_kind (tag_named context)) (written escaping (Some context) l) (tokens_of texts l ++ eof ∷ [])) where
+  abbrev start_state : State (List ℕ)
+  start_state = fragment_begins texts context bounds.tree
+
+  abbrev mode : Mode
+  mode = context_mode (tag_named context)
+
+  begins : (inside : Inside) → fits_mode inside.content mode ≡ true → fits_current inside.content inside.texts (tag_named (tag_text tag.Html)) ≡ true → (inside.texts ≡ texts_in inside.content) ⊎ (inside.texts ≡ allowed.None)
+      → inside.in_form ≡ is_form (tag_named context) → IsQuiet texts inside start_state
+  begins inside m cur t form = record {
+    current = record { node = 1; name = tag_text tag.Html };
+    up = [];
+    stack_is = refl;
+    once = refl;
+    free = λ k h. rw (ne_eqb 0 k (λ e. omega arith), ne_eqb 1 k (λ e. omega arith)) (omega arith);
+    lower = (omega arith, tt);
+    listed = tt;
+    foster_off = refl;
+    mode_is = refl;
+    mode_fits = m;
+    current_fits = cur;
+    texts_fit = t;
+    no_p = λ h. refl;
+    no_button = λ h. refl;
+    no_a = λ h y e. refl;
+    no_form = λ h. rw (sym form ∙ h) refl;
+  }
+
+  -- the end of the input
+  at_end : (at : ℕ) (acted : State (List ℕ)) → stack acted.site ≡ stack start_state.site → ends_body acted.control.mode ≡ true → Rule texts at eof (begun acted) ≡ Done (begun acted)
+  at_end at acted opened m = ap (λ r. perform texts at eof r (begun acted)) (eof_rule acted.control.mode m) ∙ rw opened refl
+
+  from_inside : (inside : Inside) → fits_mode inside.content mode ≡ true → fits_current inside.content inside.texts (tag_named (tag_text tag.Html)) ≡ true → (inside.texts ≡ texts_in inside.content) ⊎ (inside.texts ≡ allowed.None)
+      → inside.in_form ≡ is_form (tag_named context) → ends_body mode ≡ true → are_content inside l ≡ true → Gives table bounds context (written escaping (Some context) l) l
+  unfolding begins
+  from_inside inside m cur t form ending plain =
+      let q = begins inside m cur t form in
+      let tokens_are : AreTokens (map placed read.toks) (tokens_of texts l ++ eof ∷ []) = placed_token read.toks ∙ read.are in
+      let p = parted (map placed read.toks) (tokens_of texts l) (eof ∷ []) tokens_are in
+      let e = first p.back eof [] p.backs in
+      let b : Builds texts l 1 p.front start_state = law inside l start_state p.front q utf8 plain
+      (record { text = λ h. refl; line_feed = λ h. absurd cc })
+      (record { nodes = let n = fits.nodes in omega arith; open_nodes = let o = fits.open_nodes in omega arith }) p.fronts in
+      let opened : stack b.acted.site ≡ stack start_state.site = ap (λ o. o.stack) b.built.open_same in
+      let done : Step texts e.at eof b.reached (Goes (begun b.acted)) = goes refl (b.acts e.at eof (Goes (begun b.acted)) refl (ends (at_end e.at b.acted opened (ap ends_body b.built.mode ∙ ending)))) in
+      let whole : Steps texts (p.front ++ record { token = eof; at = e.at } ∷ []) start_state (Goes (begun b.acted)) = after b.steps (and done step.none) in
+      let listed : map placed read.toks ≡ p.front ++ record { token = eof; at = e.at } ∷ [] = p.is ∙ ap (λ ts. p.front ++ ts) (e.is ∙ ap (λ ts. record { token = eof; at = e.at } ∷ ts) (ended e.others e.rest)) in
+      record {
+        utf8 = read.utf8;
+        within = fits.input;
+        toks = read.toks;
+        errors = read.errors;
+        state = begun b.acted;
+        read = read.read;
+        steps = subst (λ (ts : List (PlacedToken (List ℕ))). Steps texts ts start_state (Goes (begun b.acted))) (sym listed) whole;
+        children = ap (λ f. erased (children_of 1 f)) b.built.trees_are ∙ ap erased (join-none (numbered 2 l)) ∙ erased-numbered 2 l;
+      }
+    where
+      ended : (us : List (PlacedToken (List ℕ))) → AreTokens us [] → us ≡ []
+      ended [] e = refl
+      ended (u ∷ us) e = absurd cc
+
+  comes : (k : Content) → (row (tag_named context)).1 ≡ k → are_content_if (in_context_of k (is_form (tag_named context))) l ≡ true → Gives table bounds context (written escaping (Some context) l) l
+  comes k e h = go k (ap (λ c. mode_ok c mode) (sym e) ∙ context_ok (tag_named context)) h
+    where
+      go : (k : Content) → mode_ok k mode ≡ true → are_content_if (in_context_of k (is_form (tag_named context))) l ≡ true → Gives table bounds context (written escaping (Some context) l) l
+      go content.Flow m h = from_inside _ m refl (inl refl) refl (flow_ends mode m) h
+      go content.Phrasing m h = from_inside _ m refl (inl refl) refl (flow_ends mode m) h
+      go content.Around m h = from_inside _ m refl (inl refl) refl (flow_ends mode m) h
+      go content.ListItems m h = from_inside _ m refl (inl refl) refl (flow_ends mode m) h
+      go content.Definitions m h = from_inside _ m refl (inl refl) refl (flow_ends mode m) h
+      go content.Text m h = from_inside _ m refl (inl refl) refl (flow_ends mode m) h
+      go content.RawText m h = from_inside _ m refl (inl refl) refl (flow_ends mode m) h
+      go content.ScriptText m h = from_inside _ m refl (inl refl) refl (flow_ends mode m) h
+      go content.TableParts m h = from_inside _ m refl (inr refl) refl (parts_end mode m) h
+      go content.TableRows m h = from_inside _ m refl (inr refl) refl (rows_end mode m) h
+      go content.Cells m h = from_inside _ m refl (inr refl) refl (cells_end mode m) h
+      go content.Columns m h = absurd cc
+      go content.Empty m h = absurd cc
+
+-- the law of the whole from the law of tokens
+pub comes_back : PlainTokens → PlainComesBack
+comes_back tokens table bounds escaping context l is_table core utf8 plain fits =
+    comes table bounds escaping context l utf8 fits (tokens table escaping context l is_table core utf8 plain) (row (tag_named context)).1 refl plain

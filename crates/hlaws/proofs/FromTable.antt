@@ -1,0 +1,194 @@
+-- A list that the table calls content is good.
+use Rattle.std.proofs.Common.{◌≡◌, ℕ, zero, suc, ◌<◌, ◌≤◌, Bool, true, false, not, ◌&&◌, ◌||◌, leb, List, [], ◌∷◌, ◌++◌, refl, sym, ◌∙◌, ap, subst, arith, ◌⊎◌, inl, inr}
+use Rattle.std.proofs.lemmas.Bool.{eqb-true, lt-leb, cases_lt}
+use Rattle.std.proofs.lemmas.Str.{encodes-chars, encode_ascii, encodes-IsAscii, chars_from_encodes}
+use Rattle.std.proofs.lemmas.List.Folds.{list_all-append}
+use Rattle.std.specs.Prelude.{IsUtf8, IsAscii, chars, encode_utf8, encode_utf8_all, codes, ◌==◌}
+use Rattle.std.specs.Char.{is_ascii_whitespace}
+use Rattle.std.specs.List.{list_all}
+use Rattle.hnodes.specs.Forest as forest
+use Rattle.hnodes.specs.Forest.{Forest, none, tree, element, text}
+use Rattle.names.specs.Tags.{tag_named}
+use Rattle.hadopt.specs.Naming.{texts}
+use Rattle.hwrite.specs.declared.content.Content.{Content}
+use Rattle.hwrite.specs.declared.content.Content.TheVariants as content
+use Rattle.hwrite.specs.declared.content.Texts.TheVariants as allowed
+use Rattle.hwrite.specs.ContentTable.{row, takes_role, takes_comments, texts_in}
+use Rattle.hlaws.specs.Building.{takes_space}
+use Rattle.hlaws.specs.ComesBack.{AreTexts}
+use Rattle.hwrite.specs.Plain.{Inside, inside_element, inside_node, is_nested, are_content, is_plain_node, are_plain_attributes, is_plain_text, is_plain_comment, is_clean, is_empty, is_among_texts, begins_with, begins_with_text, begins_with_line_feed, drops_line_feed}
+use Rattle.hlaws.proofs.Builds.{IsText, NoNul}
+use Rattle.hlaws.proofs.Whole.{Good, LfSafe, TextFits, AllOk, and_left, and_right, or_nothing}
+
+-- TEXTS
+
+abbrev is_clean_byte : ℕ → Bool
+is_clean_byte b = not (b == 0 || b == 13)
+
+no_nul : (cs : List ℕ) → list_all is_clean_byte (encode_utf8_all cs) ≡ true → NoNul cs
+no_nul [] h = tt
+no_nul (c ∷ cs) h =
+    let both : (list_all is_clean_byte (encode_utf8 c) && list_all is_clean_byte (encode_utf8_all cs)) ≡ true = sym (list_all-append is_clean_byte (encode_utf8 c) (encode_utf8_all cs)) ∙ h in
+    (go (c == 0) refl (and_left _ _ both), no_nul cs (and_right (list_all is_clean_byte (encode_utf8 c)) _ both))
+  where
+    go : (b : Bool) → (c == 0) ≡ b → list_all is_clean_byte (encode_utf8 c) ≡ true → (c == 0) ≡ false
+    go false e k = e
+    go true e k =
+        let zero_is : c ≡ 0 = eqb-true c 0 e in
+        let bytes : encode_utf8 c ≡ 0 ∷ [] = ap encode_utf8 zero_is ∙ encode_ascii 0 (omega arith) in
+        absurd (let z = ap (list_all is_clean_byte) bytes in cc)
+
+is_text : (t : List ℕ) → IsUtf8 t → is_empty t ≡ false → is_clean t ≡ true → IsText t
+is_text t u some clean = go (chars t) refl
+  where
+    bytes_are : encode_utf8_all (chars t) ≡ t
+    bytes_are = encodes-chars t u
+
+    go : (cs : List ℕ) → chars t ≡ cs → IsText t
+    go [] e = absurd (let z : [] ≡ t = sym (ap encode_utf8_all e) ∙ bytes_are in let y = ap is_empty z in cc)
+    go (c ∷ cs) e =
+        let b : encode_utf8_all (c ∷ cs) ≡ t = sym (ap encode_utf8_all e) ∙ bytes_are in
+        record { one = c; more = cs; spelled = e; bytes = b; no_nul = no_nul (c ∷ cs) (ap (list_all is_clean_byte) b ∙ clean) }
+
+no_space : (b : ℕ) → 128 ≤ b → is_ascii_whitespace b ≡ false
+no_space b h = rw (lt-leb b 10 (omega arith), lt-leb b 13 (omega arith), lt-leb b 32 (omega arith)) (go (leb 9 b) (leb 12 b) (leb 32 b))
+  where
+    go : (x y z : Bool) → ((x && false || (y && false)) || (z && false)) ≡ false
+    go x y z = rw (or_nothing x, or_nothing y, or_nothing z) refl
+
+space_small : (b : ℕ) → is_ascii_whitespace b ≡ true → b < 128
+space_small b h = go (cases_lt b 128)
+  where
+    go : (b < 128) ⊎ (128 ≤ b) → b < 128
+    go (inl l) = l
+    go (inr g) = absurd (let z = no_space b g in cc)
+
+spaces_ascii : (t : List ℕ) → list_all is_ascii_whitespace t ≡ true → IsAscii t
+spaces_ascii [] h i = omega arith
+spaces_ascii (b ∷ bs) h zero = space_small b (and_left _ _ h)
+spaces_ascii (b ∷ bs) h (suc i) = spaces_ascii bs (and_right (is_ascii_whitespace b) _ h) i
+
+all_spaces : (cs : List ℕ) → list_all is_ascii_whitespace cs ≡ true → AllOk (λ ch. is_ascii_whitespace ch ≡ true) cs
+all_spaces [] h = tt
+all_spaces (c ∷ cs) h = (and_left _ _ h, all_spaces cs (and_right (is_ascii_whitespace c) _ h))
+
+spaced : (t : List ℕ) (is : IsText t) → IsUtf8 t → list_all is_ascii_whitespace t ≡ true → AllOk (λ ch. is_ascii_whitespace ch ≡ true) (is.one ∷ is.more)
+spaced t is u h =
+    let same : t ≡ chars t = chars_from_encodes t t u (encodes-IsAscii t (spaces_ascii t h)) in
+    all_spaces (is.one ∷ is.more) (sym (ap (list_all is_ascii_whitespace) (same ∙ is.spelled)) ∙ h)
+
+first_line_feed : (t : List ℕ) (is : IsText t) → begins_with (codes "\n") t ≡ false → (is.one == 10) ≡ false
+first_line_feed t is h = go (is.one == 10) refl
+  where
+    go : (b : Bool) → (is.one == 10) ≡ b → (is.one == 10) ≡ false
+    go false e = e
+    go true e =
+        let ten : is.one ≡ 10 = eqb-true is.one 10 e in
+        let bytes : 10 ∷ encode_utf8_all is.more ≡ t = sym (ap (λ c. encode_utf8 c ++ encode_utf8_all is.more) ten ∙ ap (λ l. l ++ encode_utf8_all is.more) (encode_ascii 10 (omega arith))) ∙ is.bytes in
+        absurd (let z = ap (begins_with (codes "\n")) bytes in cc)
+
+-- WHERE TEXTS STAND
+
+-- the texts of a list are those of its content, or it has none
+abbrev pub TextsFit : Inside → Type 0
+TextsFit i = (i.texts ≡ texts_in i.content) ⊎ (i.texts ≡ allowed.None)
+
+text_fits : (i : Inside) (t : List ℕ) (is : IsText t) → IsUtf8 t → TextsFit i → is_among_texts i.texts t ≡ true → TextFits i (is.one ∷ is.more)
+text_fits i t is u (inr e) h = absurd (let z = ap (λ v. is_among_texts v t) e in cc)
+text_fits i t is u (inl e) h = go i.content refl
+  where
+    among : (k : Content) → i.content ≡ k → is_among_texts (texts_in k) t ≡ true
+    among k c = ap (λ v. is_among_texts (texts_in v) t) (sym c) ∙ ap (λ v. is_among_texts v t) (sym e) ∙ h
+
+    space_in : (k : Content) → i.content ≡ k → takes_space i.texts ≡ takes_space (texts_in k)
+    space_in k c = ap takes_space e ∙ ap (λ v. takes_space (texts_in v)) c
+
+    back : (k : Content) → i.content ≡ k → TextFits (record i { content = k }) (is.one ∷ is.more) → TextFits i (is.one ∷ is.more)
+    back k c = subst (λ (v : Content). TextFits (record i { content = v }) (is.one ∷ is.more)) (sym c)
+
+    go : (k : Content) → i.content ≡ k → TextFits i (is.one ∷ is.more)
+    go content.TableParts c = back content.TableParts c (spaced t is u (among content.TableParts c), space_in content.TableParts c)
+    go content.TableRows c = back content.TableRows c (spaced t is u (among content.TableRows c), space_in content.TableRows c)
+    go content.Cells c = back content.Cells c (spaced t is u (among content.Cells c), space_in content.Cells c)
+    go content.Columns c = back content.Columns c (spaced t is u (among content.Columns c))
+    go content.Empty c = absurd (let z = among content.Empty c in cc)
+    go content.Flow c = back content.Flow c tt
+    go content.Phrasing c = back content.Phrasing c tt
+    go content.Around c = absurd (let z = among content.Around c in cc)
+    go content.ListItems c = back content.ListItems c tt
+    go content.Definitions c = back content.Definitions c tt
+    go content.Text c = back content.Text c tt
+    go content.RawText c = back content.RawText c tt
+    go content.ScriptText c = back content.ScriptText c tt
+
+-- LISTS OF TREES
+
+not_true : (a : Bool) → not a ≡ true → a ≡ false
+not_true true h = absurd cc
+not_true false h = refl
+
+not_among : (t : List ℕ) → is_plain_text allowed.None t ≡ true → ⊥
+not_among t h = let z = and_right (not (is_empty t) && is_clean t) false h in cc
+
+not_empty : (i : Inside) (b : ℕ) (w : forest.What (List ℕ)) (kids rest : Forest (List ℕ)) → is_plain_node (record i { content = content.Empty; texts = allowed.None }) w kids rest ≡ true → ⊥
+not_empty i b (element x attrs) kids rest h = cc
+not_empty i b (text t) kids rest h = not_among t (and_left (is_plain_text allowed.None t) (not (begins_with_text rest)) h)
+not_empty i b (forest.comment t) kids rest h = cc
+not_empty i b forest.document kids rest h = cc
+not_empty i b (forest.doctype a p s) kids rest h = cc
+
+pub lf_safe : (v : Bool) (kids : Forest (List ℕ)) → not (v && begins_with_line_feed kids) ≡ true → LfSafe v kids
+lf_safe v none h = tt
+lf_safe false (tree b (text t) kids rest) h = λ is. refl
+lf_safe true (tree b (text t) kids rest) h = λ is. first_line_feed t is (not_true _ h)
+lf_safe v (tree b (element x attrs) kids rest) h = tt
+lf_safe v (tree b (forest.comment t) kids rest) h = tt
+lf_safe v (tree b forest.document kids rest) h = tt
+lf_safe v (tree b (forest.doctype a p s) kids rest) h = tt
+
+-- a node, its children and what comes after it
+record Three (i : Inside) (w : forest.What (List ℕ)) (kids rest : Forest (List ℕ)) : Type 0 where
+  pub node : is_plain_node i w kids rest ≡ true
+  pub children : are_content (inside_node w i) kids ≡ true
+  pub others : are_content i rest ≡ true
+
+three : (i : Inside) (b : ℕ) (w : forest.What (List ℕ)) (kids rest : Forest (List ℕ)) → are_content i (tree b w kids rest) ≡ true → Three i w kids rest
+three i b w kids rest h = record {
+  node = and_left (is_plain_node i w kids rest) (are_content (inside_node w i) kids) (and_left (is_plain_node i w kids rest && are_content (inside_node w i) kids) (are_content i rest) h);
+  children = and_right (is_plain_node i w kids rest) (are_content (inside_node w i) kids) (and_left (is_plain_node i w kids rest && are_content (inside_node w i) kids) (are_content i rest) h);
+  others = and_right (is_plain_node i w kids rest && are_content (inside_node w i) kids) (are_content i rest) h;
+}
+
+pub good : (i : Inside) (l : Forest (List ℕ)) → TextsFit i → AreTexts l → are_content i l ≡ true → Good texts i l
+good i none fit u h = tt
+good i (tree b (element x attrs) kids rest) fit u h =
+    let h3 = three i b (element x attrs) kids rest h in
+    let takes : Bool = takes_role i.content (row (tag_named x)).0 in
+    let nests : Bool = not (is_nested i (tag_named x)) in
+    let named : Bool = are_plain_attributes attrs in
+    let feeds : Bool = not (drops_line_feed (tag_named x) && begins_with_line_feed kids) in
+    let two : (takes && nests) ≡ true = and_left (takes && nests) named (and_left (takes && nests && named) feeds h3.node) in (
+      and_left takes nests two,
+      not_true (is_nested i (tag_named x)) (and_right takes nests two),
+      lf_safe (drops_line_feed (tag_named x)) kids (and_right (takes && nests && named) feeds h3.node),
+      good (inside_element (tag_named x) i) kids (inl refl) u.2 h3.children,
+      good i rest fit u.3 h3.others,
+    )
+good i (tree b (text t) none rest) fit u h =
+    let h3 = three i b (text t) none rest h in
+    let plain : is_plain_text i.texts t ≡ true = and_left (is_plain_text i.texts t) (not (begins_with_text rest)) h3.node in
+    let some_clean : (not (is_empty t) && is_clean t) ≡ true = and_left (not (is_empty t) && is_clean t) (is_among_texts i.texts t) plain in
+    let is = is_text t u.0 (not_true (is_empty t) (and_left (not (is_empty t)) (is_clean t) some_clean)) (and_right (not (is_empty t)) (is_clean t) some_clean) in (
+      record { is = is; fits = text_fits i t is u.0 fit (and_right (not (is_empty t) && is_clean t) (is_among_texts i.texts t) plain) },
+      not_true (begins_with_text rest) (and_right (is_plain_text i.texts t) (not (begins_with_text rest)) h3.node),
+      good i rest fit u.2 h3.others,
+    )
+good i (tree b (text t) (tree b' w' kids' rest') rest) fit u h =
+    absurd (not_empty i b' w' kids' rest' (three (inside_node (text t) i) b' w' kids' rest' (three i b (text t) (tree b' w' kids' rest') rest h).children).node)
+good i (tree b (forest.comment t) none rest) fit u h =
+    let h3 = three i b (forest.comment t) none rest h in
+    (and_left (takes_comments i.content) (is_plain_comment t) h3.node, good i rest fit u.2 h3.others)
+good i (tree b (forest.comment t) (tree b' w' kids' rest') rest) fit u h =
+    absurd (not_empty i b' w' kids' rest' (three (inside_node (forest.comment t) i) b' w' kids' rest' (three i b (forest.comment t) (tree b' w' kids' rest') rest h).children).node)
+good i (tree b forest.document kids rest) fit u h = absurd cc
+good i (tree b (forest.doctype a p s) kids rest) fit u h = absurd cc

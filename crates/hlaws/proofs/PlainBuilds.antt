@@ -1,0 +1,78 @@
+-- The tokens of a plain list build it from each quiet state.
+use Rattle.std.proofs.Common.{◌≡◌, ℕ, suc, ◌+◌, ◌≤◌, Bool, true, false, not, List, ◌∷◌, length, refl, sym, ap, subst, arith}
+use Rattle.hnodes.specs.Forest.{Forest, size}
+use Rattle.hopen.specs.Formatting.{Item}
+use Rattle.hadopt.specs.Naming.{texts}
+use Rattle.hadopt.specs.Site.{trees}
+use Rattle.hmodes.specs.State.{State}
+use Rattle.hlaws.specs.Building as spec
+use Rattle.hlaws.specs.Building.{IsQuiet, Builds, IsBuilt, BeginsWell, HasRoom}
+use Rattle.hlaws.specs.ComesBack.{PlainBuilds}
+use Rattle.hwrite.specs.Plain.{begins_with_line_feed}
+use Rattle.hlaws.proofs.FromTable.{good, lf_safe}
+use Rattle.hlaws.proofs.NamesAsTexts.{text_laws}
+use Rattle.hlaws.proofs.Thinned as proof
+use Rattle.hlaws.proofs.Whole.{Quiet, LfSafe, builds, st, Built}
+
+thinned_too : {N : Type 0} {xs ys : List (Item N)} → proof.Thinned xs ys → spec.Thinned xs ys
+thinned_too proof.same = spec.same
+thinned_too (proof.kept t) = spec.kept (thinned_too t)
+thinned_too (proof.lost t) = spec.lost (thinned_too t)
+
+dropping : (v : Bool) (l : Forest (List ℕ)) → (v ≡ true → begins_with_line_feed l ≡ false) → LfSafe v l
+dropping false l h = lf_safe false l refl
+dropping true l h = lf_safe true l (ap not (h refl))
+
+pub law : PlainBuilds
+law inside l s ts q utf8 plain well room h = subst (λ (v : State (List ℕ)). Builds texts l q.current.node ts v) (sym same) at_literal
+  where
+    literal : State (List ℕ)
+    literal = st texts text_laws s.site.nodes.limit s.site.open_nodes.limit s.site.errors s.context s.quirks_list s.site.nodes.made (trees s.site) (q.current ∷ q.up) s.site.items s.control
+
+    same : s ≡ literal
+    same = λ i. record s { site = record s.site { open_nodes = record s.site.open_nodes { stack = q.stack_is i }; foster = q.foster_off i } }
+
+    quiet : Quiet texts s.context inside s.site.nodes.made (trees s.site) q.current q.up s.site.items s.control
+    quiet = record {
+      mode_is = sym q.mode_is;
+      mode_fits = q.mode_fits;
+      current_fits = q.current_fits;
+      once = q.once;
+      fresh = q.free;
+      lower = q.lower;
+      listed = q.listed;
+      no_p = q.no_p;
+      no_button = q.no_button;
+      no_a = q.no_a;
+      no_form = q.no_form;
+    }
+
+    deep : suc (length q.up) + spec.depth l ≤ s.site.open_nodes.limit
+    deep = let e = ap length q.stack_is in let r = room.open_nodes in omega arith
+
+    built : Built texts text_laws s.site.nodes.limit s.site.open_nodes.limit s.site.errors s.context s.quirks_list l s.site.nodes.made (trees s.site) q.current q.up s.site.items s.control literal ts
+    built = builds texts text_laws s.site.nodes.limit s.site.open_nodes.limit s.site.errors s.context s.quirks_list l inside s.site.nodes.made (trees s.site) q.current q.up s.site.items s.control literal ts
+        quiet (good inside l q.texts_fit utf8 plain) (λ at t o e chain. chain) (λ e. refl) well.text (dropping s.control.drop_lf l well.line_feed) room.nodes deep h
+
+    at_literal : Builds texts l q.current.node ts literal
+    at_literal = record {
+      reached = built.reached;
+      acted = st texts text_laws s.site.nodes.limit s.site.open_nodes.limit s.site.errors s.context s.quirks_list (s.site.nodes.made + size l) (spec.under q.current.node (spec.numbered s.site.nodes.made l) (trees s.site)) (q.current ∷ q.up) built.items' built.control';
+      steps = built.steps;
+      acts = built.acts;
+      built = record {
+        made = refl;
+        limit = refl;
+        trees_are = refl;
+        open_same = refl;
+        thinned = thinned_too built.thinned;
+        foster = refl;
+        errors = refl;
+        mode = built.keeps.mode;
+        head = built.keeps.head;
+        form = built.keeps.form;
+        quirks = built.keeps.quirks;
+        context = refl;
+        quirks_list = refl;
+      };
+    }

@@ -1,0 +1,148 @@
+-- A character as it is written, and the key that it is written by.
+use Rattle.std.proofs.Common.{◌≡◌, ℕ, zero, suc, ◌≤◌, Bool, true, false, not, cond, ◌&&◌, ◌||◌, nat_eq, bytes_eq, Contains, slice_get, Some, List, [], ◌∷◌, ◌++◌, length, refl, sym, ◌∙◌, ap, subst, arith}
+use Rattle.std.proofs.Math.Utf8.{scalar, scalars}
+use Rattle.std.proofs.lemmas.Bool.{and_parts, eqb-true}
+use Rattle.std.proofs.lemmas.Slice.Eq.{bytes_eq-Decides}
+use Rattle.std.specs.Prelude.{codes, flat_map, encode_utf8, ◌==◌}
+use Rattle.std.specs.List.{list_all, starts_with}
+use Rattle.names.specs.Placed.{is_alphanumeric}
+use Rattle.charref.specs.Reference.{Entry, Entities, IsTable, HasCore, longest, is_key, is_key_name, ends_in_semicolon}
+use Rattle.charref.specs.Table.{IsOver}
+use Rattle.charref.proofs.Keys.{longest-over}
+use Rattle.charref.proofs.Core.{has_found}
+use Rattle.hwrite.specs.declared.escaping.Escaping.{Escaping}
+use Rattle.hwrite.specs.declared.escaping.Escaping.TheVariants as escaping
+use Rattle.hwrite.specs.declared.escaping.Setting.{Setting}
+use Rattle.hwrite.specs.declared.escaping.Setting.TheVariants as setting
+use Rattle.hwrite.specs.Escaping.{written_char, escapes_quote, escapes_angles}
+use Rattle.hlaws.proofs.TokensText.{Spells, spells-nil, spells-append, spells_ascii, spells_char, is_no_return, is_clean_char, is_written_ascii, clean_no_return, clean_not_null}
+
+-- THE LONGEST KEY
+
+-- a key goes on past no `;`
+key_ends : (name front : List ℕ) → is_key_name name ≡ true → starts_with nat_eq name front ≡ true → ends_in_semicolon front ≡ true → length name ≤ length front
+key_ends name [] k s e = absurd cc
+key_ends [] (p ∷ front) k s e = absurd cc
+key_ends (c ∷ cs) (p ∷ []) k s e =
+    let same : p ≡ c = eqb-true p c (and_parts _ _ s).0 in
+    let semicolon : p ≡ 59 = eqb-true p 59 e in
+    absurd (let x = ap is_alphanumeric (sym same ∙ semicolon) in let y : is_alphanumeric c ≡ true = (and_parts (is_alphanumeric c) _ k).0 in cc)
+key_ends (c ∷ []) (p ∷ q ∷ front) k s e = omega arith
+key_ends (c ∷ d ∷ ds) (p ∷ q ∷ front) k s e =
+    go (bytes_eq (d ∷ ds) (codes ";")) refl (and_parts _ _ k).1 (λ h. key_ends (d ∷ ds) (q ∷ front) h (and_parts _ _ s).1 e)
+  where
+    go : (b : Bool) → bytes_eq (d ∷ ds) (codes ";") ≡ b → (b || is_key_name (d ∷ ds)) ≡ true → (is_key_name (d ∷ ds) ≡ true → length (d ∷ ds) ≤ length (q ∷ front)) → length (c ∷ d ∷ ds) ≤ length (p ∷ q ∷ front)
+    go true e h more = let x = ap length ((bytes_eq-Decides (d ∷ ds) (codes ";")).0 e) in omega (arith, x)
+    go false e h more = let x = more h in omega (arith, x)
+
+key_at : (table : Entities) (k : ℕ) (e : Entry) → list_all (λ entry. is_key entry.key) table ≡ true → slice_get table k ≡ Some e → is_key e.key ≡ true
+key_at [] k e all h = absurd cc
+key_at (x ∷ xs) zero e all h = let same : x ≡ e = cc in subst (λ (y : Entry). is_key y.key ≡ true) same (and_parts _ _ all).0
+key_at (x ∷ xs) (suc k) e all h = key_at xs k e (and_parts _ _ all).1 h
+
+no_longer_key : (key name : List ℕ) → is_key key ≡ true → ends_in_semicolon name ≡ true → starts_with nat_eq key (38 ∷ name) ≡ true → length key ≤ length (38 ∷ name)
+no_longer_key [] name k e s = omega arith
+no_longer_key (c ∷ cs) name k e s = let x : length cs ≤ length name = key_ends cs name (and_parts (c == 38) _ k).1 (and_parts (nat_eq 38 c) _ s).1 e in omega (arith, x)
+
+abbrev pub entry_of : List ℕ → ℕ → Entry
+entry_of name c = record { key = 38 ∷ name; stands_for = c ∷ [] }
+
+-- a key that ends in `;` is the longest one, whatever follows it
+pub longest-core : (table : Entities) (name : List ℕ) (c : ℕ) (rest : List ℕ) → IsTable table → Contains table (entry_of name c) → ends_in_semicolon name ≡ true
+    → longest table ((38 ∷ name) ++ rest) ≡ Some (entry_of name c)
+longest-core table name c rest is_table contains e =
+    let over : IsOver table (38 ∷ name) = record { no_more = λ k entry got starts. no_longer_key entry.key name (key_at table k entry is_table.keys got) e starts } in
+    longest-over table (38 ∷ name) rest over ∙ has_found table (entry_of name c) is_table contains
+
+-- HOW A CHARACTER IS WRITTEN
+
+abbrev pub begins_alphanumeric : List ℕ → Bool
+begins_alphanumeric [] = false
+begins_alphanumeric (c ∷ cs) = is_alphanumeric c
+
+-- a key after its `&`
+pub record IsCoreName (table : Entities) (name : List ℕ) (c : ℕ) : Type 0 where
+  pub contains : Contains table (entry_of name c)
+  pub begins : begins_alphanumeric name ≡ true
+  pub ends : ends_in_semicolon name ≡ true
+  pub ends_whole : ends_in_semicolon (38 ∷ name) ≡ true
+  pub no_quote : list_all (λ b. not (b == 34)) name ≡ true
+
+-- what is never written as it is
+abbrev pub is_mark : Setting → ℕ → Bool
+is_mark setting.Text c = c == 60
+is_mark setting.Value c = c == 34
+
+pub data Way (table : Entities) (where_is : Setting) (c : ℕ) (ds : List ℕ) : Type 0 where
+  by_name : (name : List ℕ) → ds ≡ 38 ∷ name → IsCoreName table name c → Way table where_is c ds
+  by_itself : ds ≡ c ∷ [] → (c == 38) ≡ false → is_mark where_is c ≡ false → Way table where_is c ds
+
+pub record Ways (table : Entities) (where_is : Setting) (c : ℕ) (bytes : List ℕ) : Type 0 where
+  pub codes_are : List ℕ
+  pub spells : Spells bytes codes_are
+  pub way : Way table where_is c codes_are
+
+-- `<` is escaped in texts, in each way of escaping
+less_escaped : (how : Escaping) → escapes_angles how setting.Text ≡ true
+less_escaped escaping.One = refl
+
+and_true : (a b : Bool) → b ≡ true → (a && b) ≡ false → a ≡ false
+and_true true b e h = absurd cc
+and_true false b e h = refl
+
+no_mark : (how : Escaping) (where_is : Setting) (c : ℕ) → (c == 34 && escapes_quote where_is) ≡ false → (c == 60 && escapes_angles how where_is) ≡ false → is_mark where_is c ≡ false
+no_mark how setting.Text c q l = and_true (c == 60) (escapes_angles how setting.Text) (less_escaped how) l
+no_mark how setting.Value c q l = and_true (c == 34) true refl q
+
+module _ (table : Entities) (core : HasCore table) (how : Escaping) (where_is : Setting) where
+  -- by one of the keys
+  a_key : (bytes name : List ℕ) (k c : ℕ) → bytes ≡ 38 ∷ name → (c == k) ≡ true → Contains table (entry_of name k) → list_all is_written_ascii (38 ∷ name) ≡ true
+      → begins_alphanumeric name ≡ true → ends_in_semicolon name ≡ true → ends_in_semicolon (38 ∷ name) ≡ true → list_all (λ b. not (b == 34)) name ≡ true → Ways table where_is c bytes
+  a_key bytes name k c is e contains small a b d q =
+      let same : c ≡ k = eqb-true c k e in
+      record {
+        codes_are = 38 ∷ name;
+        spells = subst (λ (x : List ℕ). Spells x (38 ∷ name)) (sym is) (spells_ascii (38 ∷ name) small);
+        way = by_name name refl (record { contains = subst (λ (x : ℕ). Contains table (entry_of name x)) (sym same) contains; begins = a; ends = b; ends_whole = d; no_quote = q });
+      }
+
+  of_both : (x y : Bool) → (x && y) ≡ true → x ≡ true
+  of_both x y h = (and_parts x y h).0
+
+  pub ways : (c : ℕ) → scalar c ≡ true → is_no_return c ≡ true → Ways table where_is c (written_char how where_is c)
+  ways c s r = go (c == 0x26) (c == 0xA0) (c == 0x22 && escapes_quote where_is) (c == 0x3C && escapes_angles how where_is) (c == 0x3E && escapes_angles how where_is) refl refl refl refl refl
+    where
+      go : (a n q l g : Bool) → (c == 0x26) ≡ a → (c == 0xA0) ≡ n → (c == 0x22 && escapes_quote where_is) ≡ q → (c == 0x3C && escapes_angles how where_is) ≡ l → (c == 0x3E && escapes_angles how where_is) ≡ g
+          → Ways table where_is c (cond a (codes "&amp;") (cond n (codes "&nbsp;") (cond q (codes "&quot;") (cond l (codes "&lt;") (cond g (codes "&gt;") (encode_utf8 c))))))
+      go true n q l g ea en eq el eg = a_key (codes "&amp;") (codes "amp;") 38 c refl ea core.0 refl refl refl refl refl
+      go false true q l g ea en eq el eg = a_key (codes "&nbsp;") (codes "nbsp;") 160 c refl en core.1.1.1.0 refl refl refl refl refl
+      go false false true l g ea en eq el eg = a_key (codes "&quot;") (codes "quot;") 34 c refl (of_both _ _ eq) core.1.1.1.1.0 refl refl refl refl refl
+      go false false false true g ea en eq el eg = a_key (codes "&lt;") (codes "lt;") 60 c refl (of_both _ _ el) core.1.1.0 refl refl refl refl refl
+      go false false false false true ea en eq el eg = a_key (codes "&gt;") (codes "gt;") 62 c refl (of_both _ _ eg) core.1.0 refl refl refl refl refl
+      go false false false false false ea en eq el eg = record { codes_are = c ∷ []; spells = spells_char c s r; way = by_itself refl ea (no_mark how where_is c eq el) }
+
+-- TEXTS
+
+-- these characters are written as those codes, one after another, and none of them is NUL
+abbrev pub AreWritten : Entities → Setting → List ℕ → List ℕ → Type 0
+AreWritten table where_is [] es = es ≡ []
+AreWritten table where_is (c ∷ cs) es = (ds : List ℕ) × (more : List ℕ) × (es ≡ ds ++ more) × Way table where_is c ds × ((c == 0) ≡ false) × AreWritten table where_is cs more
+
+pub record Escaped (table : Entities) (where_is : Setting) (cs bytes : List ℕ) : Type 0 where
+  pub codes_are : List ℕ
+  pub spells : Spells bytes codes_are
+  pub are : AreWritten table where_is cs codes_are
+
+module _ (table : Entities) (core : HasCore table) (how : Escaping) (where_is : Setting) where
+  pub escaped_as : (cs : List ℕ) → scalars cs ≡ true → list_all is_clean_char cs ≡ true → Escaped table where_is cs (flat_map (written_char how where_is) cs)
+  escaped_as [] s h = record { codes_are = []; spells = spells-nil; are = refl }
+  escaped_as (c ∷ cs) s h =
+      let clean = and_parts _ _ h in
+      let scalar_parts = and_parts _ _ s in
+      let first = ways table core how where_is c scalar_parts.0 (clean_no_return c clean.0) in
+      let others = escaped_as cs scalar_parts.1 clean.1 in
+      record {
+        codes_are = first.codes_are ++ others.codes_are;
+        spells = spells-append _ first.codes_are _ others.codes_are first.spells others.spells;
+        are = (first.codes_are, others.codes_are, refl, first.way, clean_not_null c clean.0, others.are);
+      }

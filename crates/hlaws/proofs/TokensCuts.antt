@@ -1,0 +1,210 @@
+-- Texts that are cut into spans, one after another, and the characters among them.
+use Rattle.std.proofs.Common.{◌≡◌, ℕ, ◌⊎◌, inl, inr, Bool, true, false, not, cond, ◌&&◌, ◌||◌, Some, List, [], ◌∷◌, ◌++◌, map, refl, sym, ◌∙◌, ap, subst, append-nil, append_assoc}
+use Rattle.std.proofs.lemmas.Bool.{and_right, or_from}
+use Rattle.std.proofs.lemmas.Grind.{flat_map-append}
+use Rattle.std.proofs.lemmas.List.{map-append}
+use Rattle.std.specs.Prelude.{◌==◌, Option, None}
+use Rattle.names.specs.declared.placed.Placed.{Placed}
+use Rattle.names.specs.declared.raw.RawKind.{RawKind}
+use Rattle.names.specs.declared.raw.RawKind.TheVariants as kind
+use Rattle.names.specs.Placed.{characters, begins, is_alphanumeric}
+use Rattle.charref.specs.Reference.{Entities, Piece, IsTable, IsReference, longest, named_piece, ends_in_semicolon, named}
+use Rattle.htoken.specs.Token.{Span, piece_span}
+use Rattle.htoken.specs.Standing.{Standing, next, standing_after}
+use Rattle.htoken.specs.Spans.{IsSpan, IsSpanOf, raw_character, raw_reference}
+use Rattle.htoken.specs.Raw.{is_raw_end, is_end_tag_of}
+use Rattle.htoken.specs.Value.{plain_piece}
+use Rattle.htoken.specs.Data.{IsDataSpan, character_span}
+use Rattle.htoken.specs.Data as production
+use Rattle.htoken.specs.Tokens.{Cut, spans_text, tokens_of, has_refused}
+use Rattle.htoken.proofs.Cutting.{refused-append}
+use Rattle.hmodes.specs.State.{Token, character}
+use Rattle.hlaws.specs.ComesBack.{taken}
+use Rattle.hwrite.specs.declared.escaping.Setting.TheVariants as setting
+use Rattle.hlaws.proofs.TokensCore.{IsCoreName, Way, by_name, by_itself, AreWritten, entry_of, longest-core, begins_alphanumeric}
+
+-- SPLITTING
+
+pub record Split (text : List Placed) (cs ds : List ℕ) : Type 0 where
+  pub front : List Placed
+  pub back : List Placed
+  pub is : text ≡ front ++ back
+  pub fronts : characters front ≡ cs
+  pub backs : characters back ≡ ds
+
+pub split : (text : List Placed) (cs ds : List ℕ) → characters text ≡ cs ++ ds → Split text cs ds
+split text [] ds e = record { front = []; back = text; is = refl; fronts = refl; backs = e }
+split [] (c ∷ cs) ds e = absurd cc
+split (p ∷ text) (c ∷ cs) ds e =
+    let same : p.ch ≡ c = cc in
+    let others : characters text ≡ cs ++ ds = cc in
+    let s = split text cs ds others in
+    record { front = p ∷ s.front; back = s.back; is = ap (λ (x : List Placed). p ∷ x) s.is; fronts = λ i. same i ∷ s.fronts i; backs = s.backs }
+
+pub no_characters : (text : List Placed) → characters text ≡ [] → text ≡ []
+no_characters [] e = refl
+no_characters (p ∷ ps) e = absurd cc
+
+-- CUTS
+
+-- The text is cut into spans where `rest` follows it, these are their tokens, and this is true of where they lead.
+pub record Cuts (table : Entities) (end : ℕ) (here : Standing) (text rest : List Placed) (tokens : List (Token (List ℕ))) (There : Standing → Type 0) : Type 0 where
+  pub spans : List Span
+  pub text_is : spans_text spans ≡ text
+  pub cut : Cut table end here spans rest
+  pub tokens_are : map taken (tokens_of spans) ≡ tokens
+  pub in_profile : has_refused (tokens_of spans) ≡ false
+  pub leads : There (standing_after here spans)
+
+module _ (table : Entities) (end : ℕ) where
+  cut-append : (here : Standing) (xs ys : List Span) (rest : List Placed) → Cut table end here xs (spans_text ys ++ rest) → Cut table end (standing_after here xs) ys rest → Cut table end here (xs ++ ys) rest
+  cut-append here [] ys rest a b = b
+  cut-append here (x ∷ xs) ys rest a b = (
+    subst (λ (z : List Placed). IsSpan table end here z x) (sym (append_assoc (spans_text xs) (spans_text ys) rest) ∙ ap (λ (z : List Placed). z ++ rest) (sym (flat_map-append (λ (s : Span). s.text) xs ys))) a.0,
+    cut-append (next here x) xs ys rest a.1 b,
+  )
+
+  standing-append : (here : Standing) (xs ys : List Span) → standing_after here (xs ++ ys) ≡ standing_after (standing_after here xs) ys
+  standing-append here [] ys = refl
+  standing-append here (x ∷ xs) ys = standing-append (next here x) xs ys
+
+  pub join : (here : Standing) (front back rest : List Placed) (ts us : List (Token (List ℕ))) (There Then : Standing → Type 0) (a : Cuts table end here front (back ++ rest) ts There)
+      → Cuts table end (standing_after here a.spans) back rest us Then → Cuts table end here (front ++ back) rest (ts ++ us) Then
+  join here front back rest ts us There Then a b = record {
+    spans = a.spans ++ b.spans;
+    text_is = flat_map-append (λ (s : Span). s.text) a.spans b.spans ∙ (λ i. a.text_is i ++ b.text_is i);
+    cut = cut-append here a.spans b.spans rest (subst (λ (z : List Placed). Cut table end here a.spans (z ++ rest)) (sym b.text_is) a.cut) b.cut;
+    tokens_are = ap (map taken) (flat_map-append (λ (s : Span). s.tokens) a.spans b.spans) ∙ map-append taken (tokens_of a.spans) (tokens_of b.spans) ∙ (λ i. a.tokens_are i ++ b.tokens_are i);
+    in_profile = ap has_refused (flat_map-append (λ (s : Span). s.tokens) a.spans b.spans) ∙ refused-append (tokens_of a.spans) (tokens_of b.spans) a.in_profile b.in_profile;
+    leads = subst Then (sym (standing-append here a.spans b.spans)) b.leads;
+  }
+
+  pub cuts_none : (here : Standing) (rest : List Placed) (There : Standing → Type 0) → There here → Cuts table end here [] rest [] There
+  cuts_none here rest There h = record { spans = []; text_is = refl; cut = tt; tokens_are = refl; in_profile = refl; leads = h }
+
+  pub one : (here : Standing) (rest : List Placed) (span : Span) (ts : List (Token (List ℕ))) (There : Standing → Type 0) → IsSpan table end here rest span → map taken span.tokens ≡ ts → has_refused span.tokens ≡ false → There (next here span)
+      → Cuts table end here span.text rest ts There
+  one here rest span ts There is tokens allowed leads = record {
+    spans = span ∷ [];
+    text_is = append-nil span.text;
+    cut = (is, tt);
+    tokens_are = ap (map taken) (append-nil span.tokens) ∙ tokens;
+    in_profile = ap has_refused (append-nil span.tokens) ∙ allowed;
+    leads = leads;
+  }
+
+  pub cuts_as : (here : Standing) (text other rest : List Placed) (ts : List (Token (List ℕ))) (There : Standing → Type 0) → text ≡ other → Cuts table end here text rest ts There → Cuts table end here other rest ts There
+  cuts_as here text other rest ts There e c = subst (λ (x : List Placed). Cuts table end here x rest ts There) e c
+
+-- characters lead to the same kind of text and the same name
+pub record Same (here there : Standing) : Type 0 where
+  pub kind_is : there.kind ≡ here.kind
+  pub name_is : there.name ≡ here.name
+
+-- A REFERENCE
+
+module _ (table : Entities) (is_table : IsTable table) where
+  pub a_reference : (in_value : Bool) (amp : Placed) (name : List Placed) (rest : List Placed) (bytes : List ℕ) (c : ℕ) → amp.ch ≡ 38 → characters name ≡ bytes → IsCoreName table bytes c
+      → IsReference table in_value rest (named_piece (amp ∷ name) (entry_of bytes c))
+  a_reference in_value amp name rest bytes c is_amp is_name key =
+      named amp name (entry_of bytes c) is_amp (begun name bytes is_name key.begins)
+      (ap (longest table) (whole name rest bytes is_name) ∙ longest-core table bytes c (characters rest) is_table key.contains key.ends)
+      (λ i. is_amp i ∷ is_name i) (not_kept in_value (ends_in_semicolon (38 ∷ bytes)) (begins (λ d. d == 61 || is_alphanumeric d) rest) key.ends_whole) refl
+    where
+      begun : (name : List Placed) (bytes : List ℕ) → characters name ≡ bytes → begins_alphanumeric bytes ≡ true → begins is_alphanumeric name ≡ true
+      begun [] [] e h = absurd cc
+      begun [] (b ∷ bytes) e h = absurd cc
+      begun (p ∷ name) [] e h = absurd cc
+      begun (p ∷ name) (b ∷ bytes) e h = let same : p.ch ≡ b = cc in ap is_alphanumeric same ∙ h
+
+      whole : (name rest : List Placed) (bytes : List ℕ) → characters name ≡ bytes → characters (amp ∷ name ++ rest) ≡ (38 ∷ bytes) ++ characters rest
+      whole name rest bytes e = let x : characters (name ++ rest) ≡ bytes ++ characters rest = map-append (λ (p : Placed). p.ch) name rest ∙ ap (λ (y : List ℕ). y ++ characters rest) e in λ i. is_amp i ∷ x i
+
+      not_kept : (a b d : Bool) → b ≡ true → (a && not b && d) ≡ false
+      not_kept true true d e = refl
+      not_kept false true d e = refl
+      not_kept a false d e = absurd cc
+
+  -- CHARACTERS
+
+  -- one character of data, and of text in which no more than references is read
+  data_span : (c : ℕ) (ds : List ℕ) (text rest : List Placed) (end : ℕ) (here : Standing) → here.kind ≡ kind.None → Way table setting.Text c ds → characters text ≡ ds
+      → Cuts table end here text rest (character c ∷ []) (Same here)
+  data_span c ds text rest end here is_data (by_name name d key) e = go text (e ∙ d)
+    where
+      go : (text : List Placed) → characters text ≡ 38 ∷ name → Cuts table end here text rest (character c ∷ []) (Same here)
+      go [] e = absurd cc
+      go (amp ∷ nm) e =
+          let is_amp : amp.ch ≡ 38 = cc in
+          let is_name : characters nm ≡ name = cc in
+          let piece : Piece = named_piece (amp ∷ nm) (entry_of name c) in
+          one table end here rest (piece_span piece) (character c ∷ []) (Same here)
+          (subst (λ (k : RawKind). IsSpanOf k table end here rest (piece_span piece)) (sym is_data) (production.reference piece (a_reference false amp nm rest name c is_amp is_name key) refl))
+          refl refl (record { kind_is = refl; name_is = refl })
+  data_span c ds text rest end here is_data (by_itself d no_amp no_less) e = go text (e ∙ d)
+    where
+      go : (text : List Placed) → characters text ≡ c ∷ [] → Cuts table end here text rest (character c ∷ []) (Same here)
+      go [] e = absurd cc
+      go (p ∷ q ∷ text) e = absurd cc
+      go (p ∷ []) e =
+          let is : p.ch ≡ c = cc in
+          one table end here rest (character_span p) (character c ∷ []) (Same here)
+          (subst (λ (k : RawKind). IsSpanOf k table end here rest (character_span p)) (sym is_data) (production.character p (ap (λ (x : ℕ). x == 60 || x == 38) is ∙ or_from _ _ no_less no_amp) refl))
+          (ap (λ (x : ℕ). character x ∷ []) is) refl (record { kind_is = refl; name_is = refl })
+
+  -- an end tag begins with `<`
+  pub no_raw_end : (here : Standing) (p : Placed) (rest : List Placed) → (p.ch == 60) ≡ false → is_raw_end here (p ∷ rest) ≡ false
+  no_raw_end here p rest h = and_right _ _ (go here.name)
+    where
+      go : (name : Option (List ℕ)) → is_end_tag_of name (p ∷ rest) ≡ false
+      go None = refl
+      go (Some name) = rw h refl
+
+  rcdata_span : (c : ℕ) (ds : List ℕ) (text rest : List Placed) (end : ℕ) (here : Standing) → here.kind ≡ kind.Rcdata → (c == 0) ≡ false → Way table setting.Text c ds → characters text ≡ ds
+      → Cuts table end here text rest (character c ∷ []) (Same here)
+  rcdata_span c ds text rest end here is_rcdata no_null (by_name name d key) e = go text (e ∙ d)
+    where
+      go : (text : List Placed) → characters text ≡ 38 ∷ name → Cuts table end here text rest (character c ∷ []) (Same here)
+      go [] e = absurd cc
+      go (amp ∷ nm) e =
+          let is_amp : amp.ch ≡ 38 = cc in
+          let is_name : characters nm ≡ name = cc in
+          let piece : Piece = named_piece (amp ∷ nm) (entry_of name c) in
+          one table end here rest (piece_span piece) (character c ∷ []) (Same here)
+          (subst (λ (k : RawKind). IsSpanOf k table end here rest (piece_span piece)) (sym is_rcdata) (raw_reference piece (rw is_rcdata refl) (a_reference false amp nm rest name c is_amp is_name key) refl))
+          refl refl (record { kind_is = refl; name_is = refl })
+  rcdata_span c ds text rest end here is_rcdata no_null (by_itself d no_amp no_less) e = go text (e ∙ d)
+    where
+      go : (text : List Placed) → characters text ≡ c ∷ [] → Cuts table end here text rest (character c ∷ []) (Same here)
+      go [] e = absurd cc
+      go (p ∷ q ∷ text) e = absurd cc
+      go (p ∷ []) e =
+          let is : p.ch ≡ c = cc in
+          one table end here rest (piece_span (plain_piece p)) (character c ∷ []) (Same here)
+          (subst (λ (k : RawKind). IsSpanOf k table end here rest (piece_span (plain_piece p))) (sym is_rcdata)
+          (raw_character p (no_raw_end here p rest (ap (λ (x : ℕ). x == 60) is ∙ no_less)) (and_right _ _ (ap (λ (x : ℕ). x == 38) is ∙ no_amp)) refl))
+          (ap (λ (b : Bool). character (cond b 0xFFFD p.ch) ∷ []) (ap (λ (x : ℕ). x == 0) is ∙ no_null) ∙ ap (λ (x : ℕ). character x ∷ []) is) refl (record { kind_is = refl; name_is = refl })
+
+  same_then : (here there last : Standing) → Same here there → Same there last → Same here last
+  same_then here there last a b = record { kind_is = b.kind_is ∙ a.kind_is; name_is = b.name_is ∙ a.name_is }
+
+  -- a text
+  pub text_cuts : (cs es : List ℕ) (text rest : List Placed) (end : ℕ) (here : Standing) → (here.kind ≡ kind.None) ⊎ (here.kind ≡ kind.Rcdata) → AreWritten table setting.Text cs es → characters text ≡ es
+      → Cuts table end here text rest (map (λ c. character c) cs) (Same here)
+  text_cuts [] es text rest end here k w e = cuts_as table end here [] text rest [] (Same here) (sym (no_characters text (e ∙ w))) (cuts_none table end here rest (Same here) (record { kind_is = refl; name_is = refl }))
+  text_cuts (c ∷ cs) es text rest end here k (ds, more, is, way, no_null, others) e =
+      let s = split text ds more (e ∙ is) in
+      let first : Cuts table end here s.front (s.back ++ rest) (character c ∷ []) (Same here) = span_of k s.front (s.back ++ rest) s.fronts in
+      let there : Standing = standing_after here first.spans in
+      let then : Cuts table end there s.back rest (map (λ c. character c) cs) (Same there) = text_cuts cs more s.back rest end there (kind_then k there first.leads) others s.backs in
+      let both : Cuts table end here (s.front ++ s.back) rest (character c ∷ map (λ c. character c) cs) (Same there) = join table end here s.front s.back rest (character c ∷ []) (map (λ c. character c) cs) (Same here) (Same there) first then in
+      cuts_as table end here (s.front ++ s.back) text rest (character c ∷ map (λ c. character c) cs) (Same here) (sym s.is)
+      (record { spans = both.spans; text_is = both.text_is; cut = both.cut; tokens_are = both.tokens_are; in_profile = both.in_profile; leads = same_then here there _ first.leads both.leads })
+    where
+      span_of : (here.kind ≡ kind.None) ⊎ (here.kind ≡ kind.Rcdata) → (text rest : List Placed) → characters text ≡ ds → Cuts table end here text rest (character c ∷ []) (Same here)
+      span_of (inl k) text rest e = data_span c ds text rest end here k way e
+      span_of (inr k) text rest e = rcdata_span c ds text rest end here k no_null way e
+
+      kind_then : (here.kind ≡ kind.None) ⊎ (here.kind ≡ kind.Rcdata) → (there : Standing) → Same here there → (there.kind ≡ kind.None) ⊎ (there.kind ≡ kind.Rcdata)
+      kind_then (inl k) there same = inl (same.kind_is ∙ k)
+      kind_then (inr k) there same = inr (same.kind_is ∙ k)

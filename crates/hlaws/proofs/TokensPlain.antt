@@ -1,0 +1,276 @@
+-- Plain lists are read as their own tokens.
+use Rattle.std.proofs.Common.{◌≡◌, ℕ, inl, Bool, true, false, not, ◌&&◌, ◌||◌, bytes_eq, List, [], ◌∷◌, ◌++◌, map, refl, sym, ◌∙◌, ap, subst, true≢false}
+use Rattle.std.proofs.lemmas.Bool.{and_parts, and_from, or_from, or_parts, false_from_ne_true}
+use Rattle.std.proofs.lemmas.Slice.Eq.{bytes_eq-Decides}
+use Rattle.std.proofs.lemmas.Str.{encodes-chars, scalars-chars}
+use Rattle.std.specs.Prelude.{codes, chars, IsUtf8, flat_map}
+use Rattle.std.specs.Char.{is_ascii_lowercase}
+use Rattle.std.specs.List.{list_all, list_any}
+use Rattle.names.specs.declared.placed.Placed.{Placed}
+use Rattle.names.specs.declared.raw.RawKind.{RawKind}
+use Rattle.names.specs.declared.raw.RawKind.TheVariants as kind
+use Rattle.names.specs.declared.tag.Tag.{Tag}
+use Rattle.names.specs.declared.tag.Tag.TheVariants as tag
+use Rattle.names.specs.Placed.{characters}
+use Rattle.names.specs.Sets.{raw_kind, is_refused, is_void}
+use Rattle.names.specs.Tags.{tag_named, tag_text, tags}
+use Rattle.charref.specs.Reference.{Entities, IsTable, HasCore}
+use Rattle.hnodes.specs.Forest.{Attribute}
+use Rattle.htoken.specs.Standing.{Standing, standing_after}
+use Rattle.htoken.specs.Tag.{is_known}
+use Rattle.hmodes.specs.State.{Token, start, end, comment, character}
+use Rattle.hwrite.specs.declared.content.Content.{Content}
+use Rattle.hwrite.specs.declared.content.Content.TheVariants as content
+use Rattle.hwrite.specs.declared.content.Role.{Role}
+use Rattle.hwrite.specs.declared.content.Role.TheVariants as role
+use Rattle.hwrite.specs.declared.escaping.Escaping.{Escaping}
+use Rattle.hwrite.specs.declared.escaping.Setting.TheVariants as setting
+use Rattle.hwrite.specs.Escaping.{escaped}
+use Rattle.hwrite.specs.ContentTable.{row, takes_role}
+use Rattle.hwrite.specs.Plain.{are_plain_attributes, is_plain_name, is_plain_comment, is_clean, is_name_byte, begins_with, has_part}
+use Rattle.hwrite.specs.Written.{attribute_text, start_tag_text, end_tag_text}
+use Rattle.hlaws.specs.ComesBack.{AreUtf8}
+use Rattle.hlaws.proofs.NamesAsTexts.{named_back}
+use Rattle.hlaws.proofs.TokensText.{Spells, spells-nil, spells-append, spells_ascii, spells_text, clean_text, no_part, no_front}
+use Rattle.hlaws.proofs.TokensCore.{escaped_as}
+use Rattle.hlaws.proofs.TokensCuts.{split, no_characters, Cuts, Same, join, cuts_none, cuts_as, text_cuts}
+use Rattle.hlaws.proofs.TokensTags.{is_good, names_good, goods_ascii, begins_letter, is_some_name, AreAttributes, AreNew, attribute_codes}
+use Rattle.hlaws.proofs.TokensMarks.{IsElementName, after_start, start_tag_cuts, end_tag_cuts, comment_cuts}
+
+-- THE TABLE
+
+abbrev is_nowhere : Role → Bool
+is_nowhere role.Nowhere = true
+is_nowhere _ = false
+
+-- how the text in an element is read, what it holds, and whether it is void
+abbrev pub fits : RawKind → Content → Bool → Bool
+fits kind.None c v = true
+fits kind.Rcdata content.Text false = true
+fits kind.Rawtext content.RawText false = true
+fits kind.Script content.ScriptText false = true
+fits _ _ _ = false
+
+abbrev is_fine : Tag → Bool
+is_fine t = (list_all is_good (tag_text t) && begins_letter (tag_text t)) && (not (is_refused t) && fits (raw_kind t) (row t).1 (is_void t))
+
+all_fine : (t : Tag) → (is_nowhere (row t).0 || is_fine t) ≡ true
+all_fine tag.A = refl
+all_fine _ = refl
+
+abbrev pub fits_context : RawKind → Content → Bool
+fits_context kind.None c = true
+fits_context kind.Rcdata content.Text = true
+fits_context kind.Rawtext content.RawText = true
+fits_context kind.Script content.ScriptText = true
+fits_context _ content.Columns = true
+fits_context _ content.Empty = true
+fits_context _ _ = false
+
+pub all_contexts : (t : Tag) → fits_context (raw_kind t) (row t).1 ≡ true
+all_contexts tag.A = refl
+all_contexts _ = refl
+
+somewhere : (c : Content) (r : Role) → takes_role c r ≡ true → is_nowhere r ≡ false
+somewhere c role.Phrasing h = refl
+somewhere c role.Flow h = refl
+somewhere c role.ListItem h = refl
+somewhere c role.Definition h = refl
+somewhere c role.TablePart h = refl
+somewhere c role.Column h = refl
+somewhere c role.TableRow h = refl
+somewhere c role.Cell h = refl
+somewhere content.Around role.Nowhere h = absurd cc
+somewhere _ role.Nowhere h = absurd cc
+
+or_second : (a b : Bool) → (a || b) ≡ true → a ≡ false → b ≡ true
+or_second true b h e = absurd cc
+or_second false b h e = h
+
+pub not_true : (b : Bool) → not b ≡ true → b ≡ false
+not_true true h = absurd cc
+not_true false h = refl
+
+-- a name that stands somewhere
+pub record IsKnownName (name : List ℕ) : Type 0 where
+  pub is_name : IsElementName name
+  pub fit : fits (raw_kind (tag_named name)) (row (tag_named name)).1 (is_void (tag_named name)) ≡ true
+
+pub known_name : (name : List ℕ) (c : Content) → takes_role c (row (tag_named name)).0 ≡ true → IsKnownName name
+known_name name c h =
+    let t : Tag = tag_named name in
+    let some : is_nowhere (row t).0 ≡ false = somewhere c (row t).0 h in
+    let fine : is_fine t ≡ true = or_second (is_nowhere (row t).0) (is_fine t) (all_fine t) some in
+    let proper : t ≡ tag.Other → ⊥ = λ e. let x = ap (λ (u : Tag). is_nowhere (row u).0) e in cc in
+    let is : name ≡ tag_text t = named_back tags name t refl proper in
+    let a = and_parts (list_all is_good (tag_text t) && begins_letter (tag_text t)) _ fine in
+    let b = and_parts (list_all is_good (tag_text t)) (begins_letter (tag_text t)) a.0 in
+    let d = and_parts (not (is_refused t)) (fits (raw_kind t) (row t).1 (is_void t)) a.1 in
+    record {
+      is_name = record { good = ap (list_all is_good) is ∙ b.0; letter = ap begins_letter is ∙ b.1; allowed = not_true _ d.0 };
+      fit = d.1;
+    }
+
+-- WHAT IS READ AS DATA
+
+abbrev pub InData : Standing → Type 0
+InData there = there.kind ≡ kind.None
+
+pub record Reads (table : Entities) (bytes : List ℕ) (tokens : List (Token (List ℕ))) : Type 0 where
+  pub codes_are : List ℕ
+  pub spells : Spells bytes codes_are
+  pub cuts : (end_at : ℕ) (here : Standing) (text rest : List Placed) → here.kind ≡ kind.None → characters text ≡ codes_are → Cuts table end_at here text rest tokens InData
+
+pub led : (table : Entities) (end_at : ℕ) (here : Standing) (text rest : List Placed) (ts : List (Token (List ℕ))) (There Then : Standing → Type 0) → ((there : Standing) → There there → Then there)
+    → Cuts table end_at here text rest ts There → Cuts table end_at here text rest ts Then
+led table end_at here text rest ts There Then f c = record { spans = c.spans; text_is = c.text_is; cut = c.cut; tokens_are = c.tokens_are; in_profile = c.in_profile; leads = f (standing_after here c.spans) c.leads }
+
+-- the same tokens, given in other words
+pub told : (table : Entities) (bytes : List ℕ) (ts us : List (Token (List ℕ))) → ts ≡ us → Reads table bytes ts → Reads table bytes us
+told table bytes ts us e r = subst (λ (x : List (Token (List ℕ))). Reads table bytes x) e r
+
+pub reads-nil : (table : Entities) → Reads table [] []
+reads-nil table = record {
+  codes_are = [];
+  spells = spells-nil;
+  cuts = λ end_at here text rest k e. cuts_as table end_at here [] text rest [] InData (sym (no_characters text e)) (cuts_none table end_at here rest InData k);
+}
+
+pub reads-append : (table : Entities) (bs cs : List ℕ) (ts us : List (Token (List ℕ))) → Reads table bs ts → Reads table cs us → Reads table (bs ++ cs) (ts ++ us)
+reads-append table bs cs ts us a b = record {
+  codes_are = a.codes_are ++ b.codes_are;
+  spells = spells-append bs a.codes_are cs b.codes_are a.spells b.spells;
+  cuts = λ end_at here text rest k e.
+      let s = split text a.codes_are b.codes_are e in
+      let first = a.cuts end_at here s.front (s.back ++ rest) k s.fronts in
+      let then = b.cuts end_at (standing_after here first.spans) s.back rest first.leads s.backs in
+      cuts_as table end_at here (s.front ++ s.back) text rest (ts ++ us) InData (sym s.is) (join table end_at here s.front s.back rest ts us InData InData first then);
+}
+
+-- NAMES AND ATTRIBUTES
+
+lower_name : (b : ℕ) → is_ascii_lowercase b ≡ true → is_name_byte b ≡ true
+lower_name b h = rw h refl
+
+good_attribute : (name : List ℕ) → is_plain_name name ≡ true → (list_all is_good name ≡ true) × (is_some_name name ≡ true)
+good_attribute [] h = absurd cc
+good_attribute (b ∷ bs) h =
+    let both = and_parts (is_ascii_lowercase b) (list_all is_name_byte bs) h in
+    (names_good (b ∷ bs) (and_from _ _ (lower_name b both.0) both.1), refl)
+
+eq_other : (a b : List ℕ) → bytes_eq a b ≡ false → bytes_eq b a ≡ false
+eq_other a b h = false_from_ne_true _ (λ e. let x : a ≡ b = sym ((bytes_eq-Decides b a).0 e) in true≢false (sym ((bytes_eq-Decides a b).1 x) ∙ h))
+
+-- names that are new among others are new with one more that none of them is
+new_more : (a : List ℕ) (before : List (List ℕ)) (names : List (List ℕ)) (attrs : List (Attribute (List ℕ))) → AreNew (before ++ names) attrs → list_any (λ b. bytes_eq a b.0) attrs ≡ false → AreNew (before ++ (a ∷ names)) attrs
+new_more a before names [] new h = tt
+new_more a before names (b ∷ others) new h =
+    let both = or_parts (bytes_eq a b.0) _ h in
+    (known_more before new.0 (eq_other a b.0 both.0), new_more a (b.0 ∷ before) names others new.1 both.1)
+  where
+    known_more : (before : List (List ℕ)) → is_known (before ++ names) b.0 ≡ false → bytes_eq b.0 a ≡ false → is_known (before ++ (a ∷ names)) b.0 ≡ false
+    known_more [] k e = or_from _ _ e k
+    known_more (x ∷ before) k e = let parts = or_parts (bytes_eq b.0 x) _ k in or_from _ _ parts.0 (known_more before parts.1 e)
+
+are_new : (attrs : List (Attribute (List ℕ))) → are_plain_attributes attrs ≡ true → AreNew [] attrs
+are_new [] h = tt
+are_new (a ∷ others) h =
+    let x = and_parts ((is_plain_name a.0 && is_clean a.1) && not (list_any (λ b. bytes_eq a.0 b.0) others)) _ h in
+    let y = and_parts (is_plain_name a.0 && is_clean a.1) _ x.0 in
+    (refl, new_more a.0 [] [] others (are_new others x.1) (not_true _ y.1))
+
+pub record AttributesRead (table : Entities) (attrs : List (Attribute (List ℕ))) (bytes : List ℕ) : Type 0 where
+  pub codes_are : List ℕ
+  pub spells : Spells bytes codes_are
+  pub are : AreAttributes table attrs codes_are
+
+module _ (table : Entities) (is_table : IsTable table) (core : HasCore table) (how : Escaping) where
+  attributes_read : (attrs : List (Attribute (List ℕ))) → AreUtf8 attrs → are_plain_attributes attrs ≡ true → AttributesRead table attrs (flat_map (attribute_text how) attrs)
+  attributes_read [] u h = record { codes_are = []; spells = spells-nil; are = refl }
+  attributes_read (a ∷ others) u h =
+      let x = and_parts ((is_plain_name a.0 && is_clean a.1) && not (list_any (λ b. bytes_eq a.0 b.0) others)) _ h in
+      let y = and_parts (is_plain_name a.0 && is_clean a.1) _ x.0 in
+      let z = and_parts (is_plain_name a.0) (is_clean a.1) y.0 in
+      let good = good_attribute a.0 z.0 in
+      let value = escaped_as table core how setting.Value (chars a.1) (scalars-chars a.1 u.1) (clean_text a.1 u.1 z.1) in
+      let more = attributes_read others u.2 x.1 in
+      let name_spelled : Spells a.0 a.0 = spells_ascii a.0 (goods_ascii a.0 good.0) in
+      let one : Spells (attribute_text how a) (attribute_codes a.0 value.codes_are) =
+      spells-append (((codes " " ++ a.0) ++ codes "=\"") ++ escaped how setting.Value a.1) (((codes " " ++ a.0) ++ codes "=\"") ++ value.codes_are) (codes "\"") (codes "\"")
+      (spells-append ((codes " " ++ a.0) ++ codes "=\"") ((codes " " ++ a.0) ++ codes "=\"") (escaped how setting.Value a.1) value.codes_are
+      (spells-append (codes " " ++ a.0) (codes " " ++ a.0) (codes "=\"") (codes "=\"") (spells-append (codes " ") (codes " ") a.0 a.0 (spells_ascii (codes " ") refl) name_spelled) (spells_ascii (codes "=\"") refl))
+      value.spells) (spells_ascii (codes "\"") refl) in
+      record {
+        codes_are = attribute_codes a.0 value.codes_are ++ more.codes_are;
+        spells = spells-append (attribute_text how a) (attribute_codes a.0 value.codes_are) (flat_map (attribute_text how) others) more.codes_are one more.spells;
+        are = (value.codes_are, more.codes_are, refl, record { good = good.0; named = good.1; characters_are = chars a.1; value_is = encodes-chars a.1 u.1; value = value.are }, more.are);
+      }
+
+  -- TAGS
+
+  pub record StartTag (name : List ℕ) (attrs : List (Attribute (List ℕ))) : Type 0 where
+    pub codes_are : List ℕ
+    pub spells : Spells (start_tag_text how name attrs) codes_are
+    pub cuts : (end_at : ℕ) (here : Standing) (text rest : List Placed) → here.kind ≡ kind.None → characters text ≡ codes_are → Cuts table end_at here text rest (start name attrs false ∷ []) (λ there. there ≡ after_start name)
+
+  pub a_start_tag : (name : List ℕ) (attrs : List (Attribute (List ℕ))) → IsElementName name → AreUtf8 attrs → are_plain_attributes attrs ≡ true → StartTag name attrs
+  a_start_tag name attrs is_name u h =
+      let read = attributes_read attrs u h in
+      let name_spelled : Spells name name = spells_ascii name (goods_ascii name is_name.good) in
+      record {
+        codes_are = ((codes "<" ++ name) ++ read.codes_are) ++ codes ">";
+        spells = spells-append ((codes "<" ++ name) ++ flat_map (attribute_text how) attrs) ((codes "<" ++ name) ++ read.codes_are) (codes ">") (codes ">")
+            (spells-append (codes "<" ++ name) (codes "<" ++ name) (flat_map (attribute_text how) attrs) read.codes_are (spells-append (codes "<") (codes "<") name name (spells_ascii (codes "<") refl) name_spelled) read.spells)
+            (spells_ascii (codes ">") refl);
+        cuts = λ end_at here text rest k e. start_tag_cuts table is_table end_at name attrs read.codes_are text rest here k is_name read.are (are_new attrs h) e;
+      }
+
+  pub end_spelled : (name : List ℕ) → IsElementName name → Spells (end_tag_text name) ((codes "</" ++ name) ++ codes ">")
+  end_spelled name is_name =
+      spells-append (codes "</" ++ name) (codes "</" ++ name) (codes ">") (codes ">") (spells-append (codes "</") (codes "</") name name (spells_ascii (codes "</") refl) (spells_ascii name (goods_ascii name is_name.good))) (spells_ascii (codes ">") refl)
+
+  pub end_tag_reads : (name : List ℕ) → IsElementName name → Reads table (end_tag_text name) (end name ∷ [])
+  end_tag_reads name is_name = record {
+    codes_are = (codes "</" ++ name) ++ codes ">";
+    spells = end_spelled name is_name;
+    cuts = λ end_at here text rest k e. end_tag_cuts table end_at name text rest here k is_name e;
+  }
+
+  -- a start tag after which data goes on
+  pub start_tag_reads : (name : List ℕ) (attrs : List (Attribute (List ℕ))) → StartTag name attrs → raw_kind (tag_named name) ≡ kind.None → Reads table (start_tag_text how name attrs) (start name attrs false ∷ [])
+  start_tag_reads name attrs s is_none = record {
+    codes_are = s.codes_are;
+    spells = s.spells;
+    cuts = λ end_at here text rest k e.
+        led table end_at here text rest (start name attrs false ∷ []) (λ there. there ≡ after_start name) InData (λ there is. ap (λ (x : Standing). x.kind) is ∙ is_none) (s.cuts end_at here text rest k e);
+  }
+
+  -- TEXTS AND COMMENTS
+
+  pub text_reads : (t : List ℕ) → IsUtf8 t → is_clean t ≡ true → Reads table (escaped how setting.Text t) (map (λ c. character c) (chars t))
+  text_reads t u clean =
+      let w = escaped_as table core how setting.Text (chars t) (scalars-chars t u) (clean_text t u clean) in
+      record {
+        codes_are = w.codes_are;
+        spells = w.spells;
+        cuts = λ end_at here text rest k e. led table end_at here text rest (map (λ c. character c) (chars t)) (Same here) InData (λ there same. same.kind_is ∙ k) (text_cuts table is_table (chars t) w.codes_are text rest end_at here (inl k) w.are e);
+      }
+
+  pub comment_reads : (t : List ℕ) → IsUtf8 t → is_plain_comment t ≡ true → Reads table ((codes "<!--" ++ t) ++ codes "-->") (comment t ∷ [])
+  comment_reads t u h =
+      let a = and_parts (((is_clean t && not (has_part (codes "-->") t)) && not (has_part (codes "--!>") t)) && not (begins_with (codes ">") t)) _ h in
+      let b = and_parts ((is_clean t && not (has_part (codes "-->") t)) && not (has_part (codes "--!>") t)) _ a.0 in
+      let c = and_parts (is_clean t && not (has_part (codes "-->") t)) _ b.0 in
+      let d = and_parts (is_clean t) _ c.0 in
+      record {
+        codes_are = (codes "<!--" ++ chars t) ++ codes "-->";
+        spells = spells-append (codes "<!--" ++ t) (codes "<!--" ++ chars t) (codes "-->") (codes "-->") (spells-append (codes "<!--") (codes "<!--") t (chars t) (spells_ascii (codes "<!--") refl) (spells_text t u d.0)) (spells_ascii (codes "-->") refl);
+        cuts = λ end_at here text rest k e. comment_cuts table end_at (chars t) t text rest here k (record {
+          bytes_are = encodes-chars t u;
+          clean = clean_text t u d.0;
+          closes_not = no_part (codes "-->") t refl u d.1;
+          bang_not = no_part (codes "--!>") t refl u c.1;
+          arrow_not = no_front (codes ">") t refl u b.1;
+          dash_not = no_front (codes "->") t refl u a.1;
+        }) e;
+      }

@@ -1,0 +1,197 @@
+-- Raw texts, and the end tags that end them.
+use Rattle.std.proofs.Common.{◌≡◌, ℕ, suc, ◌+◌, Bool, true, false, not, cond, ◌&&◌, Some, None, List, [], ◌∷◌, ◌++◌, map, length, drop, refl, sym, ◌∙◌, ap, subst, arith, append_assoc, true≢false}
+use Rattle.std.proofs.lemmas.Bool.{and_parts, and_from, and_right, or_parts, or_right, eqb-true, false_from_ne_true}
+use Rattle.std.proofs.lemmas.List.{map-append}
+use Rattle.std.specs.Prelude.{◌==◌, codes, Option}
+use Rattle.std.specs.Char.{to_ascii_lowercase}
+use Rattle.std.specs.List.{list_all}
+use Rattle.names.specs.declared.placed.Placed.{Placed}
+use Rattle.names.specs.declared.raw.RawKind.{RawKind}
+use Rattle.names.specs.declared.raw.RawKind.TheVariants as kind
+use Rattle.names.specs.Placed.{characters, begins, spells, spells_in_any_case, without_null}
+use Rattle.charref.specs.Reference.{Entities}
+use Rattle.htoken.specs.Token.{Span, piece_span}
+use Rattle.htoken.specs.Standing.{Standing}
+use Rattle.htoken.specs.Spans.{IsSpanOf, IsRawSpan, raw_character, raw_end, has_references}
+use Rattle.htoken.specs.Raw.{is_raw_end, is_end_tag_of, may_end, level, level_from, ended}
+use Rattle.htoken.specs.Tag.{ends_name, ends_attribute_name}
+use Rattle.htoken.specs.Value.{plain_piece}
+use Rattle.hmodes.specs.State.{end, character}
+use Rattle.hwrite.specs.Plain.{begins_with, has_part}
+use Rattle.hlaws.proofs.TokensText.{is_clean_char, clean_not_null, is_written_ascii}
+use Rattle.hlaws.proofs.TokensCuts.{split, Cuts, one, join, cuts_as, cuts_none}
+use Rattle.hlaws.proofs.TokensTags.{is_good}
+use Rattle.hlaws.proofs.TokensMarks.{IsElementName, an_end_tag, spells_is}
+
+-- a text after those that were read, the last character first
+abbrev pub pushed : List Placed → List Placed → List Placed
+pushed [] front = front
+pushed (p ∷ ps) front = pushed ps (p ∷ front)
+
+-- no end tag of this name stands in the text, where `rest` follows it
+abbrev pub NoEnd : Option (List ℕ) → List Placed → List Placed → Type 0
+NoEnd name [] rest = Unit {0}
+NoEnd name (p ∷ ps) rest = (is_end_tag_of name (p ∷ ps ++ rest) ≡ false) × NoEnd name ps rest
+
+pub no_end_of_none : (text rest : List Placed) → NoEnd None text rest
+no_end_of_none [] rest = tt
+no_end_of_none (p ∷ ps) rest = (refl, no_end_of_none ps rest)
+
+abbrev pub is_raw : RawKind → Bool
+is_raw kind.None = false
+is_raw _ = true
+
+pub raw_span : (table : Entities) (end_at : ℕ) (here : Standing) (rest : List Placed) (span : Span) (k : RawKind) → is_raw k ≡ true → IsRawSpan table end_at here rest span → IsSpanOf k table end_at here rest span
+raw_span table end_at here rest span kind.None h s = absurd cc
+raw_span table end_at here rest span kind.Rcdata h s = s
+raw_span table end_at here rest span kind.Rawtext h s = s
+raw_span table end_at here rest span kind.Script h s = s
+raw_span table end_at here rest span kind.Plaintext h s = s
+
+abbrev pub pushed_on : Standing → List Placed → Standing
+pushed_on here text = record { kind = here.kind; name = here.name; front = pushed text here.front }
+
+module _ (table : Entities) (end_at : ℕ) where
+  raw_char : (p : Placed) (c : ℕ) (rest : List Placed) (here : Standing) → is_raw here.kind ≡ true → has_references here.kind ≡ false → p.ch ≡ c → is_clean_char c ≡ true → is_end_tag_of here.name (p ∷ rest) ≡ false
+      → Cuts table end_at here (p ∷ []) rest (character c ∷ []) (λ there. there ≡ pushed_on here (p ∷ []))
+  raw_char p c rest here raw none same clean stays =
+      one table end_at here rest (piece_span (plain_piece p)) (character c ∷ []) (λ there. there ≡ pushed_on here (p ∷ []))
+      (raw_span table end_at here rest (piece_span (plain_piece p)) here.kind raw (raw_character p (and_right _ _ stays) (rw none refl) refl))
+      (ap (λ (b : Bool). character (cond b 0xFFFD p.ch) ∷ []) (ap (λ (x : ℕ). x == 0) same ∙ clean_not_null c clean) ∙ ap (λ (x : ℕ). character x ∷ []) same) refl refl
+
+  -- a text in which no reference is read
+  pub raw_cuts : (cs : List ℕ) (text rest : List Placed) (here : Standing) → is_raw here.kind ≡ true → has_references here.kind ≡ false → characters text ≡ cs → list_all is_clean_char cs ≡ true → NoEnd here.name text rest
+      → Cuts table end_at here text rest (map (λ c. character c) cs) (λ there. there ≡ pushed_on here text)
+  raw_cuts [] [] rest here raw none e clean stays = cuts_none table end_at here rest (λ there. there ≡ pushed_on here []) refl
+  raw_cuts (c ∷ cs) [] rest here raw none e clean stays = absurd cc
+  raw_cuts [] (p ∷ ps) rest here raw none e clean stays = absurd cc
+  raw_cuts (c ∷ cs) (p ∷ ps) rest here raw none e clean stays =
+      let same : p.ch ≡ c = cc in
+      let others : characters ps ≡ cs = cc in
+      let both = and_parts (is_clean_char c) (list_all is_clean_char cs) clean in
+      let first = raw_char p c (ps ++ rest) here raw none same both.0 stays.0 in
+      let then = raw_cuts cs ps rest (pushed_on here (p ∷ [])) raw none others both.1 stays.1 in
+      join table end_at here (p ∷ []) ps rest (character c ∷ []) (map (λ c. character c) cs) (λ there. there ≡ pushed_on here (p ∷ [])) (λ there. there ≡ pushed_on here (p ∷ ps)) first
+      (subst (λ (there : Standing). Cuts table end_at there ps rest (map (λ c. character c) cs) (λ there. there ≡ pushed_on here (p ∷ ps))) (sym first.leads) then)
+
+-- WHERE NO END TAG STANDS
+
+no_open_end : (c : ℕ) (cs more : List ℕ) → has_part (codes "</") (c ∷ cs) ≡ false → begins_with (codes "</") (c ∷ cs ++ 60 ∷ more) ≡ false
+no_open_end c [] more h = and_right _ _ refl
+no_open_end c (d ∷ cs) more h = (or_parts _ _ h).0
+
+-- a text without `</` before what begins with `<`
+pub no_end_in : (name : Option (List ℕ)) (text rest : List Placed) (cs more : List ℕ) → characters text ≡ cs → characters rest ≡ 60 ∷ more → has_part (codes "</") cs ≡ false → NoEnd name text rest
+no_end_in name [] rest cs more e k h = tt
+no_end_in name (p ∷ ps) rest [] more e k h = absurd cc
+no_end_in name (p ∷ ps) rest (c ∷ cs) more e k h =
+    let same : p.ch ≡ c = cc in
+    let others : characters ps ≡ cs = cc in
+    let whole : characters (p ∷ ps ++ rest) ≡ c ∷ cs ++ 60 ∷ more = let x : characters (ps ++ rest) ≡ cs ++ 60 ∷ more = map-append (λ (p : Placed). p.ch) ps rest ∙ (λ i. others i ++ k i) in λ i. same i ∷ x i in
+    (of_name name (spells_is (codes "</") (p ∷ ps ++ rest) ∙ ap (begins_with (codes "</")) whole ∙ no_open_end c cs more h), no_end_in name ps rest cs more others k (or_parts _ _ h).1)
+  where
+    of_name : (name : Option (List ℕ)) → spells (codes "</") (p ∷ ps ++ rest) ≡ false → is_end_tag_of name (p ∷ ps ++ rest) ≡ false
+    of_name None s = refl
+    of_name (Some n) s = rw s refl
+
+-- THE LEVEL OF A SCRIPT
+
+-- a text after those that were read, as characters
+abbrev pub put_back : List Placed → List ℕ → List ℕ
+put_back [] cs = cs
+put_back (p ∷ front) cs = put_back front (p.ch ∷ cs)
+
+has_part-put_back : (part : List ℕ) (front : List Placed) (cs : List ℕ) → has_part part cs ≡ true → has_part part (put_back front cs) ≡ true
+has_part-put_back part [] cs h = h
+has_part-put_back part (p ∷ front) cs h = has_part-put_back part front (p.ch ∷ cs) (or_right _ _ h)
+
+no_opening : (front : List Placed) (cs : List ℕ) → has_part (codes "<!--") (put_back front cs) ≡ false → spells (codes "--!<") front ≡ false
+no_opening [] cs h = refl
+no_opening (p ∷ []) cs h = and_right _ _ refl
+no_opening (p ∷ q ∷ []) cs h = and_right _ _ (and_right _ _ refl)
+no_opening (p ∷ q ∷ r ∷ []) cs h = and_right (p.ch == 45) _ (and_right (q.ch == 45) _ (and_right (r.ch == 33) _ refl))
+no_opening (p ∷ q ∷ r ∷ s ∷ front) cs h = false_from_ne_true _ (λ e.
+    let a = and_parts (p.ch == 45) _ e in
+    let b = and_parts (q.ch == 45) _ a.1 in
+    let c = and_parts (r.ch == 33) _ b.1 in
+    let d = and_parts (s.ch == 60) _ c.1 in
+    let p_is : p.ch ≡ 45 = eqb-true p.ch 45 a.0 in
+    let q_is : q.ch ≡ 45 = eqb-true q.ch 45 b.0 in
+    let r_is : r.ch ≡ 33 = eqb-true r.ch 33 c.0 in
+    let s_is : s.ch ≡ 60 = eqb-true s.ch 60 d.0 in
+    let here : has_part (codes "<!--") (s.ch ∷ r.ch ∷ q.ch ∷ p.ch ∷ cs) ≡ true = rw (p_is, q_is, r_is, s_is) refl in
+    true≢false (sym (has_part-put_back (codes "<!--") front (s.ch ∷ r.ch ∷ q.ch ∷ p.ch ∷ cs) here) ∙ h))
+
+level_stays : (p : Placed) (front : List Placed) → level front ≡ 0 → spells (codes "--!<") (p ∷ front) ≡ false → level (p ∷ front) ≡ 0
+level_stays p front z h = ap (λ (n : ℕ). level_from n (p ∷ front)) z ∙ go (ended (codes "-->") (p ∷ front)) (ended (codes "<!--") (p ∷ front)) h
+  where
+    go : (a b : Bool) → b ≡ false → ◌≡◌ {A = ℕ} (cond a 0 (cond b 1 0)) 0
+    go true b e = refl
+    go false b e = ap (λ (x : Bool). cond x 1 0) e
+
+pub level_zero : (text front : List Placed) (cs : List ℕ) → characters text ≡ cs → level front ≡ 0 → has_part (codes "<!--") (put_back front cs) ≡ false → level (pushed text front) ≡ 0
+level_zero [] front cs e z h = z
+level_zero (p ∷ ps) front [] e z h = absurd cc
+level_zero (p ∷ ps) front (c ∷ cs) e z h =
+    let same : p.ch ≡ c = cc in
+    let others : characters ps ≡ cs = cc in
+    let moved : has_part (codes "<!--") (put_back (p ∷ front) cs) ≡ false = ap (λ (x : ℕ). has_part (codes "<!--") (put_back front (x ∷ cs))) same ∙ h in
+    level_zero ps (p ∷ front) cs others (level_stays p front z (no_opening (p ∷ front) cs moved)) moved
+
+-- THE END TAG
+
+good_lower : (c : ℕ) → is_good c ≡ true → (to_ascii_lowercase c == c) ≡ true
+good_lower c h = go (c == 0) refl (and_parts _ _ (and_parts (not (ends_attribute_name c) && to_ascii_lowercase (without_null c) == c) (is_written_ascii c) h).0).1
+  where
+    go : (b : Bool) → (c == 0) ≡ b → (to_ascii_lowercase (cond b 0xFFFD c) == c) ≡ true → (to_ascii_lowercase c == c) ≡ true
+    go false e k = k
+    go true e k = let x : c ≡ 0 = eqb-true c 0 e in absurd (let y = ap (λ (n : ℕ). to_ascii_lowercase 0xFFFD == n) x in cc)
+
+spells_name : (name : List ℕ) (text rest : List Placed) → characters text ≡ name → list_all is_good name ≡ true → spells_in_any_case name (text ++ rest) ≡ true
+spells_name [] text rest e h = refl
+spells_name (c ∷ cs) [] rest e h = absurd cc
+spells_name (c ∷ cs) (p ∷ ps) rest e h =
+    let same : p.ch ≡ c = cc in
+    let others : characters ps ≡ cs = cc in
+    let both = and_parts (is_good c) (list_all is_good cs) h in
+    and_from _ _ (ap (λ (x : ℕ). to_ascii_lowercase x == c) same ∙ good_lower c both.0) (spells_name cs ps rest others both.1)
+
+past_name : (name : List ℕ) (text rest : List Placed) → characters text ≡ name → drop (length name) (text ++ rest) ≡ rest
+past_name [] [] rest e = refl
+past_name [] (p ∷ ps) rest e = absurd cc
+past_name (c ∷ cs) [] rest e = absurd cc
+past_name (c ∷ cs) (p ∷ ps) rest e = past_name cs ps rest (let x : characters ps ≡ cs = cc in x)
+
+two_more : (n : ℕ) → 2 + n ≡ suc (suc n)
+two_more n = omega arith
+
+stands_here : (name : List ℕ) (opening middle close rest : List Placed) → list_all is_good name ≡ true → characters opening ≡ codes "</" → characters middle ≡ name → characters close ≡ codes ">"
+    → is_end_tag_of (Some name) (opening ++ (middle ++ (close ++ rest))) ≡ true
+stands_here name [] middle close rest h e m k = absurd cc
+stands_here name (o ∷ []) middle close rest h e m k = absurd cc
+stands_here name (o ∷ q ∷ r ∷ opening) middle close rest h e m k = absurd cc
+stands_here name (o ∷ q ∷ []) middle [] rest h e m k = absurd cc
+stands_here name (o ∷ q ∷ []) middle (g ∷ close) rest h e m k =
+    let is_less : o.ch ≡ 60 = cc in
+    let is_solidus : q.ch ≡ 47 = cc in
+    let is_greater : g.ch ≡ 62 = cc in
+    let opens : spells (codes "</") (o ∷ q ∷ (middle ++ (g ∷ close ++ rest))) ≡ true = rw (is_less, is_solidus) refl in
+    let ends : begins ends_name (drop (2 + length name) (o ∷ q ∷ (middle ++ (g ∷ close ++ rest)))) ≡ true = ap (λ (n : ℕ). begins ends_name (drop n (o ∷ q ∷ (middle ++ (g ∷ close ++ rest))))) (two_more (length name)) ∙ ap (begins ends_name) (past_name name middle (g ∷ close ++ rest) m) ∙ ap ends_name is_greater in
+    and_from _ _ (and_from _ _ opens (spells_name name middle (g ∷ close ++ rest) m h)) ends
+
+pub end_tag_here : (name : List ℕ) (text rest : List Placed) → IsElementName name → characters text ≡ (codes "</" ++ name) ++ codes ">" → is_end_tag_of (Some name) (text ++ rest) ≡ true
+end_tag_here name text rest is_name e =
+    let s = split text (codes "</" ++ name) (codes ">") e in
+    let q = split s.front (codes "</") name s.fronts in
+    ap (is_end_tag_of (Some name)) (ap (λ (x : List Placed). x ++ rest) (s.is ∙ ap (λ (x : List Placed). x ++ s.back) q.is) ∙ append_assoc (q.front ++ q.back) s.back rest ∙ append_assoc q.front q.back (s.back ++ rest))
+    ∙ stands_here name q.front q.back s.back rest is_name.good q.fronts q.backs s.backs
+
+pub raw_end_cuts : (table : Entities) (end_at : ℕ) (name : List ℕ) (text rest : List Placed) (here : Standing) → is_raw here.kind ≡ true → may_end here.kind here.front ≡ true → here.name ≡ Some name → IsElementName name
+    → characters text ≡ (codes "</" ++ name) ++ codes ">" → Cuts table end_at here text rest (end name ∷ []) (λ there. there.kind ≡ kind.None)
+raw_end_cuts table end_at name text rest here raw may named is_name e =
+    let t = an_end_tag table end_at name text rest is_name e in
+    let ends : is_raw_end here (t.span.text ++ rest) ≡ true =
+    and_from _ _ may (ap (λ (n : Option (List ℕ)). is_end_tag_of n (t.span.text ++ rest)) named ∙ ap (λ (x : List Placed). is_end_tag_of (Some name) (x ++ rest)) t.text_is ∙ end_tag_here name text rest is_name e) in
+    cuts_as table end_at here t.span.text text rest (end name ∷ []) (λ there. there.kind ≡ kind.None) t.text_is
+    (one table end_at here rest t.span (end name ∷ []) (λ there. there.kind ≡ kind.None)
+    (raw_span table end_at here rest t.span here.kind raw (raw_end ends t.is_tag)) t.tokens_are t.in_profile (ap (λ (x : Standing). x.kind) (t.leads here)))

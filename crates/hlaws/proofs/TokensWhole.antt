@@ -1,0 +1,314 @@
+-- Plain lists are read as their own tokens, in every context.
+use Rattle.std.proofs.Common.{◌≡◌, ℕ, ◌⊎◌, inl, inr, Bool, true, false, not, cond, ◌&&◌, nat_lt, Option, Some, None, List, [], ◌∷◌, ◌++◌, map, length, refl, sym, ◌∙◌, ap, subst, append-nil, append_assoc}
+use Rattle.std.proofs.lemmas.Bool.{and_parts}
+use Rattle.std.proofs.lemmas.List.{map-append}
+use Rattle.std.proofs.lemmas.List.Sorted.{IsPermutation-refl}
+use Rattle.std.proofs.lemmas.Str.{chars-nil, scalars-chars, IsUtf8-nil}
+use Rattle.std.specs.Prelude.{codes, chars, IsUtf8, flat_map}
+use Rattle.names.specs.declared.placed.Placed.{Placed}
+use Rattle.names.specs.declared.raw.RawKind.{RawKind}
+use Rattle.names.specs.declared.raw.RawKind.TheVariants as kind
+use Rattle.names.specs.Placed.{characters}
+use Rattle.names.specs.Sets.{raw_kind, is_void}
+use Rattle.names.specs.Tags.{tag_named}
+use Rattle.charref.specs.Reference.{Entities, IsTable, HasCore}
+use Rattle.hnodes.specs.Forest as forest
+use Rattle.hnodes.specs.Forest.{Attribute, What, Forest, none, tree}
+use Rattle.htext.specs.declared.Bom.TheVariants.{Keep}
+use Rattle.htext.specs.Text as input
+use Rattle.htoken.specs.Token.{Eof}
+use Rattle.htoken.specs.Standing.{Standing, at_start, standing_after}
+use Rattle.htoken.specs.Spans.{has_references}
+use Rattle.htoken.specs.Raw.{end_errors, may_end}
+use Rattle.htoken.specs.Tokens as cut
+use Rattle.hadopt.specs.Naming.{texts}
+use Rattle.hmodes.specs.State.{Token, start, end, comment, character, eof}
+use Rattle.hwrite.specs.declared.content.Content.{Content}
+use Rattle.hwrite.specs.declared.content.Content.TheVariants as content
+use Rattle.hwrite.specs.declared.content.Role.{Role}
+use Rattle.hwrite.specs.declared.content.Texts.{Texts}
+use Rattle.hwrite.specs.declared.content.Texts.TheVariants as allowed
+use Rattle.hwrite.specs.declared.escaping.Escaping.{Escaping}
+use Rattle.hwrite.specs.declared.escaping.Setting.TheVariants as setting
+use Rattle.hwrite.specs.Escaping.{escaped, written_char}
+use Rattle.hwrite.specs.ContentTable.{row, takes_role, takes_comments}
+use Rattle.hwrite.specs.Plain.{Inside, inside_element, inside_node, in_context_of, is_form, are_content, are_content_if, is_plain_node, is_plain_text, is_plain_comment, are_plain_attributes, is_among_texts, is_clean, is_empty, begins_with_text, begins_with_line_feed, has_part, is_nested, drops_line_feed}
+use Rattle.hlaws.specs.PlainTokens.{tokens_of}
+use Rattle.hwrite.specs.Written.{has_no_references, start_tag_text, end_tag_text, element_text, written_among}
+use Rattle.hlaws.specs.ComesBack.{AreTexts, AreRead, PlainTokens, taken}
+use Rattle.hlaws.proofs.TokensText.{Spells, spells-append, spells_text, spells_utf8, clean_text, text_characters, no_part}
+use Rattle.hlaws.proofs.TokensCore.{escaped_as}
+use Rattle.hlaws.proofs.TokensCuts.{split, Cuts, Same, join, cuts_as, text_cuts}
+use Rattle.hlaws.proofs.TokensMarks.{IsElementName, after_start}
+use Rattle.hlaws.proofs.TokensRaw.{is_raw, raw_cuts, raw_end_cuts, pushed_on, pushed, no_end_in, no_end_of_none, level_zero}
+use Rattle.hlaws.proofs.TokensPlain.{fits, fits_context, all_contexts, not_true, IsKnownName, known_name, InData, Reads, led, told, reads-nil, reads-append, StartTag, a_start_tag, end_spelled, end_tag_reads, start_tag_reads, text_reads, comment_reads}
+
+-- ONE TEXT AT MOST
+
+abbrev pub holds_text : Content → Bool
+holds_text content.Text = true
+holds_text content.RawText = true
+holds_text content.ScriptText = true
+holds_text _ = false
+
+no_role : (c : Content) (r : Role) → holds_text c ≡ true → takes_role c r ≡ false
+no_role content.Text r h = refl
+no_role content.RawText r h = refl
+no_role content.ScriptText r h = refl
+no_role _ r h = absurd cc
+
+no_comment : (c : Content) → holds_text c ≡ true → takes_comments c ≡ false
+no_comment content.Text h = refl
+no_comment content.RawText h = refl
+no_comment content.ScriptText h = refl
+no_comment _ h = absurd cc
+
+-- A list that is one text, or nothing.
+pub record OneText (how : Escaping) (which : Texts) (l : Forest (List ℕ)) : Type 0 where
+  pub t : List ℕ
+  pub utf8 : IsUtf8 t
+  pub clean : is_clean t ≡ true
+  pub among : is_among_texts which t ≡ true
+  pub raw_is : written_among how true l ≡ t
+  pub text_is : written_among how false l ≡ escaped how setting.Text t
+  pub tokens_are : tokens_of texts l ≡ map (λ c. character c) (chars t)
+
+no_text_among : (which : Texts) → (which ≡ allowed.Any) ⊎ ((which ≡ allowed.Raw) ⊎ (which ≡ allowed.Script)) → is_among_texts which [] ≡ true
+no_text_among which (inl e) = ap (λ (x : Texts). is_among_texts x []) e
+no_text_among which (inr (inl e)) = ap (λ (x : Texts). is_among_texts x []) e
+no_text_among which (inr (inr e)) = ap (λ (x : Texts). is_among_texts x []) e
+
+-- only texts stand there
+only_text : (inside : Inside) (w : What (List ℕ)) (kids rest : Forest (List ℕ)) → holds_text inside.content ≡ true → is_plain_node inside w kids rest ≡ true → begins_with_text (tree 0 w kids rest) ≡ true
+only_text inside (forest.element name attrs) kids rest h p =
+    let a = and_parts ((takes_role inside.content (row (tag_named name)).0 && not (is_nested inside (tag_named name))) && are_plain_attributes attrs) (not (drops_line_feed (tag_named name) && begins_with_line_feed kids)) p in
+    let b = and_parts (takes_role inside.content (row (tag_named name)).0 && not (is_nested inside (tag_named name))) _ a.0 in
+    let c : takes_role inside.content (row (tag_named name)).0 ≡ true = (and_parts (takes_role inside.content (row (tag_named name)).0) _ b.0).0 in
+    absurd (let x = no_role inside.content (row (tag_named name)).0 h in cc)
+only_text inside (forest.text t) kids rest h p = refl
+only_text inside (forest.comment t) kids rest h p = absurd (let x = no_comment inside.content h in let y = (and_parts (takes_comments inside.content) (is_plain_comment t) p).0 in cc)
+only_text inside forest.document kids rest h p = absurd cc
+only_text inside (forest.doctype n s i) kids rest h p = absurd cc
+
+one_text : (how : Escaping) (inside : Inside) (l : Forest (List ℕ)) → holds_text inside.content ≡ true → (inside.texts ≡ allowed.Any) ⊎ ((inside.texts ≡ allowed.Raw) ⊎ (inside.texts ≡ allowed.Script)) → AreTexts l → are_content inside l ≡ true → OneText how inside.texts l
+one_text how inside none h which u p = record {
+  t = [];
+  utf8 = IsUtf8-nil;
+  clean = refl;
+  among = no_text_among inside.texts which;
+  raw_is = refl;
+  text_is = ap (flat_map (written_char how setting.Text)) (sym chars-nil);
+  tokens_are = ap (map (λ c. character c)) (sym chars-nil);
+}
+one_text how inside (tree n (forest.text t) kids none) h which u p =
+    let a = and_parts ((is_plain_text inside.texts t && true) && are_content (inside_node (forest.text t) inside) kids) true p in
+    let b = and_parts (is_plain_text inside.texts t && true) _ a.0 in
+    let c = and_parts (is_plain_text inside.texts t) true b.0 in
+    let d = and_parts (not (is_empty t) && is_clean t) (is_among_texts inside.texts t) c.0 in
+    record {
+      t = t;
+      utf8 = u.0;
+      clean = (and_parts (not (is_empty t)) (is_clean t) d.0).1;
+      among = d.1;
+      raw_is = append-nil t;
+      text_is = append-nil (escaped how setting.Text t);
+      tokens_are = append-nil (map (λ c. character c) (chars t));
+    }
+one_text how inside (tree n (forest.text t) kids (tree m w ks rest)) h which u p =
+    let a = and_parts (is_plain_node inside (forest.text t) kids (tree m w ks rest) && are_content (inside_node (forest.text t) inside) kids) (are_content inside (tree m w ks rest)) p in
+    let b = and_parts (is_plain_text inside.texts t && not (begins_with_text (tree m w ks rest))) _ a.0 in
+    let c = not_true _ (and_parts (is_plain_text inside.texts t) _ b.0).1 in
+    let d = and_parts (is_plain_node inside w ks rest && are_content (inside_node w inside) ks) _ a.1 in
+    absurd (is_text w (only_text inside w ks rest h (and_parts (is_plain_node inside w ks rest) _ d.0).0) c)
+  where
+    is_text : (w : What (List ℕ)) → begins_with_text (tree 0 w ks rest) ≡ true → begins_with_text (tree m w ks rest) ≡ false → ⊥
+    is_text (forest.text s) e f = cc
+    is_text (forest.element name attrs) e f = cc
+    is_text (forest.comment s) e f = cc
+    is_text forest.document e f = cc
+    is_text (forest.doctype a b d) e f = cc
+one_text how inside (tree n (forest.element name attrs) kids rest) h which u p = absurd (not_text inside (forest.element name attrs) kids rest h p refl)
+  where
+    not_text : (inside : Inside) (w : What (List ℕ)) (kids rest : Forest (List ℕ)) → holds_text inside.content ≡ true → are_content inside (tree n w kids rest) ≡ true → begins_with_text (tree 0 w kids rest) ≡ false → ⊥
+    not_text inside w kids rest h p e =
+        let a = and_parts (is_plain_node inside w kids rest && are_content (inside_node w inside) kids) (are_content inside rest) p in
+        let x = only_text inside w kids rest h (and_parts (is_plain_node inside w kids rest) _ a.0).0 in cc
+one_text how inside (tree n (forest.comment t) kids rest) h which u p =
+    absurd (let a = and_parts (is_plain_node inside (forest.comment t) kids rest && are_content (inside_node (forest.comment t) inside) kids) (are_content inside rest) p in
+    let x = only_text inside (forest.comment t) kids rest h (and_parts (is_plain_node inside (forest.comment t) kids rest) _ a.0).0 in cc)
+one_text how inside (tree n forest.document kids rest) h which u p = absurd cc
+one_text how inside (tree n (forest.doctype a b d) kids rest) h which u p = absurd cc
+
+-- RAW ELEMENTS
+
+-- the end of the text of an element of this name
+pub record EndsRaw (name : List ℕ) (there : Standing) : Type 0 where
+  pub raw : is_raw there.kind ≡ true
+  pub may : may_end there.kind there.front ≡ true
+  pub named : there.name ≡ Some name
+
+module _ (table : Entities) (is_table : IsTable table) (core : HasCore table) (how : Escaping) where
+  -- an element, given how its text is read
+  raw_element : (name : List ℕ) (attrs : List (Attribute (List ℕ))) (bytes cs : List ℕ) (ts : List (Token (List ℕ))) → IsElementName name → StartTag table is_table core how name attrs → Spells bytes cs
+      → ((end_at : ℕ) (text rest : List Placed) (more : List ℕ) → characters text ≡ cs → characters rest ≡ 60 ∷ more → Cuts table end_at (after_start name) text rest ts (EndsRaw name))
+      → Reads table (start_tag_text how name attrs ++ (bytes ++ end_tag_text name)) (start name attrs false ∷ (ts ++ end name ∷ []))
+  raw_element name attrs bytes cs ts is_name s spells inner = record {
+    codes_are = s.codes_are ++ (cs ++ ((codes "</" ++ name) ++ codes ">"));
+    spells = spells-append (start_tag_text how name attrs) s.codes_are (bytes ++ end_tag_text name) (cs ++ ((codes "</" ++ name) ++ codes ">")) s.spells
+        (spells-append bytes cs (end_tag_text name) ((codes "</" ++ name) ++ codes ">") spells (end_spelled table is_table core how name is_name));
+    cuts = λ end_at here text rest k e.
+        let a = split text s.codes_are (cs ++ ((codes "</" ++ name) ++ codes ">")) e in
+        let b = split a.back cs ((codes "</" ++ name) ++ codes ">") a.backs in
+        let first = s.cuts end_at here a.front (a.back ++ rest) k a.fronts in
+        let follows : characters (b.back ++ rest) ≡ ((codes "</" ++ name) ++ codes ">") ++ characters rest = map-append (λ (p : Placed). p.ch) b.back rest ∙ ap (λ (x : List ℕ). x ++ characters rest) b.backs in
+        let then = inner end_at b.front (b.back ++ rest) (codes "/" ++ name ++ codes ">" ++ characters rest) b.fronts follows in
+        let last = raw_end_cuts table end_at name b.back rest (standing_after (after_start name) then.spans) then.leads.raw then.leads.may then.leads.named is_name b.backs in
+        let both : Cuts table end_at (after_start name) a.back rest (ts ++ end name ∷ []) InData =
+        cuts_as table end_at (after_start name) (b.front ++ b.back) a.back rest (ts ++ end name ∷ []) InData (sym b.is) (join table end_at (after_start name) b.front b.back rest ts (end name ∷ []) (EndsRaw name) InData then last) in
+        cuts_as table end_at here (a.front ++ a.back) text rest (start name attrs false ∷ (ts ++ end name ∷ [])) InData (sym a.is)
+        (join table end_at here a.front a.back rest (start name attrs false ∷ []) (ts ++ end name ∷ []) (λ there. there ≡ after_start name) InData first
+        (subst (λ (there : Standing). Cuts table end_at there a.back rest (ts ++ end name ∷ []) InData) (sym first.leads) both));
+  }
+
+  -- its text, with references
+  rcdata_inner : (name : List ℕ) (l : Forest (List ℕ)) (attrs : List (Attribute (List ℕ))) (which : Texts) → raw_kind (tag_named name) ≡ kind.Rcdata → IsElementName name → StartTag table is_table core how name attrs → OneText how which l
+      → Reads table (start_tag_text how name attrs ++ (written_among how false l ++ end_tag_text name)) (start name attrs false ∷ (tokens_of texts l ++ end name ∷ []))
+  rcdata_inner name l attrs which is is_name s o =
+      let w = escaped_as table core how setting.Text (chars o.t) (scalars-chars o.t o.utf8) (clean_text o.t o.utf8 o.clean) in
+      raw_element name attrs (written_among how false l) w.codes_are (tokens_of texts l) is_name s (subst (λ (x : List ℕ). Spells x w.codes_are) (sym o.text_is) w.spells)
+      (λ end_at text rest more e f. subst (λ (x : List (Token (List ℕ))). Cuts table end_at (after_start name) text rest x (EndsRaw name)) (sym o.tokens_are)
+      (led table end_at (after_start name) text rest (map (λ c. character c) (chars o.t)) (Same (after_start name)) (EndsRaw name)
+      (λ there same. record {
+        raw = ap is_raw (same.kind_is ∙ is);
+        may = ap (λ (k : RawKind). may_end k there.front) (same.kind_is ∙ is);
+        named = same.name_is;
+      }) (text_cuts table is_table (chars o.t) w.codes_are text rest end_at (after_start name) (inr is) w.are e)))
+
+  -- and without
+  raw_inner : (name : List ℕ) (l : Forest (List ℕ)) (attrs : List (Attribute (List ℕ))) (which : Texts) → is_raw (raw_kind (tag_named name)) ≡ true → has_references (raw_kind (tag_named name)) ≡ false → IsElementName name → StartTag table is_table core how name attrs
+      → (o : OneText how which l) → not (has_part (codes "</") o.t) ≡ true → ((text : List Placed) → characters text ≡ chars o.t → may_end (raw_kind (tag_named name)) (pushed text []) ≡ true)
+      → Reads table (start_tag_text how name attrs ++ (written_among how true l ++ end_tag_text name)) (start name attrs false ∷ (tokens_of texts l ++ end name ∷ []))
+  raw_inner name l attrs which is no_refs is_name s o no_close may =
+      raw_element name attrs (written_among how true l) (chars o.t) (tokens_of texts l) is_name s (subst (λ (x : List ℕ). Spells x (chars o.t)) (sym o.raw_is) (spells_text o.t o.utf8 o.clean))
+      (λ end_at text rest more e f. subst (λ (x : List (Token (List ℕ))). Cuts table end_at (after_start name) text rest x (EndsRaw name)) (sym o.tokens_are)
+      (led table end_at (after_start name) text rest (map (λ c. character c) (chars o.t)) (λ there. there ≡ pushed_on (after_start name) text) (EndsRaw name)
+      (λ there same. record {
+        raw = ap (λ (x : Standing). is_raw x.kind) same ∙ is;
+        may = ap (λ (x : Standing). may_end x.kind x.front) same ∙ may text e;
+        named = ap (λ (x : Standing). x.name) same;
+      }) (raw_cuts table end_at (chars o.t) text rest (after_start name) is no_refs e (clean_text o.t o.utf8 o.clean)
+      (no_end_in (Some name) text rest (chars o.t) more e f (no_part (codes "</") o.t refl o.utf8 no_close)))))
+
+  -- A LIST
+
+  an_element : (name : List ℕ) (attrs : List (Attribute (List ℕ))) (kids : Forest (List ℕ)) (inside : Inside) (k : RawKind) (c : Content) (v : Bool) → raw_kind (tag_named name) ≡ k → (row (tag_named name)).1 ≡ c → fits k c v ≡ true
+      → IsElementName name → StartTag table is_table core how name attrs → AreTexts kids → are_content (inside_element (tag_named name) inside) kids ≡ true → Reads table (written_among how false kids) (tokens_of texts kids)
+      → Reads table (start_tag_text how name attrs ++ (cond v [] (written_among how (has_no_references k) kids ++ end_tag_text name))) (start name attrs false ∷ cond v [] (tokens_of texts kids ++ end name ∷ []))
+  an_element name attrs kids inside kind.None c true is_kind is_row fit is_name s u h kids_read =
+      reads-append table (start_tag_text how name attrs) [] (start name attrs false ∷ []) [] (start_tag_reads table is_table core how name attrs s is_kind) (reads-nil table)
+  an_element name attrs kids inside kind.None c false is_kind is_row fit is_name s u h kids_read =
+      reads-append table (start_tag_text how name attrs) (written_among how false kids ++ end_tag_text name) (start name attrs false ∷ []) (tokens_of texts kids ++ end name ∷ []) (start_tag_reads table is_table core how name attrs s is_kind)
+      (reads-append table (written_among how false kids) (end_tag_text name) (tokens_of texts kids) (end name ∷ []) kids_read (end_tag_reads table is_table core how name is_name))
+  an_element name attrs kids inside kind.Rcdata content.Text false is_kind is_row fit is_name s u h kids_read =
+      let within : Inside = inside_element (tag_named name) inside in
+      rcdata_inner name kids attrs within.texts is_kind is_name s (one_text how within kids (rw is_row refl) (inl (rw is_row refl)) u h)
+  an_element name attrs kids inside kind.Rawtext content.RawText false is_kind is_row fit is_name s u h kids_read =
+      let within : Inside = inside_element (tag_named name) inside in
+      let texts_are : within.texts ≡ allowed.Raw = rw is_row refl in
+      let o = one_text how within kids (rw is_row refl) (inr (inl texts_are)) u h in
+      let among : is_among_texts allowed.Raw o.t ≡ true = ap (λ (x : Texts). is_among_texts x o.t) (sym texts_are) ∙ o.among in
+      raw_inner name kids attrs within.texts (ap is_raw is_kind) (ap has_references is_kind) is_name s o among (λ text e. ap (λ (k : RawKind). may_end k (pushed text [])) is_kind)
+  an_element name attrs kids inside kind.Script content.ScriptText false is_kind is_row fit is_name s u h kids_read =
+      let within : Inside = inside_element (tag_named name) inside in
+      let texts_are : within.texts ≡ allowed.Script = rw is_row refl in
+      let o = one_text how within kids (rw is_row refl) (inr (inr texts_are)) u h in
+      let among : is_among_texts allowed.Script o.t ≡ true = ap (λ (x : Texts). is_among_texts x o.t) (sym texts_are) ∙ o.among in
+      let both = and_parts (not (has_part (codes "</") o.t)) (not (has_part (codes "<!--") o.t)) among in
+      raw_inner name kids attrs within.texts (ap is_raw is_kind) (ap has_references is_kind) is_name s o both.0
+      (λ text e. ap (λ (k : RawKind). may_end k (pushed text [])) is_kind ∙ ap (λ (n : ℕ). nat_lt n 2) (level_zero text [] (chars o.t) e refl (no_part (codes "<!--") o.t refl o.utf8 both.1)))
+  an_element name attrs kids inside _ _ _ is_kind is_row fit is_name s u h kids_read = absurd cc
+
+  again : (v : Bool) (name : List ℕ) (attrs : List (Attribute (List ℕ))) (kids rest : List (Token (List ℕ)))
+      → (start name attrs false ∷ cond v [] (kids ++ end name ∷ [])) ++ rest ≡ start name attrs false ∷ cond v rest (kids ++ end name ∷ rest)
+  again true name attrs kids rest = refl
+  again false name attrs kids rest = ap (λ (x : List (Token (List ℕ))). start name attrs false ∷ x) (append_assoc kids (end name ∷ []) rest)
+
+  pub list_reads : (inside : Inside) (l : Forest (List ℕ)) → AreTexts l → are_content inside l ≡ true → Reads table (written_among how false l) (tokens_of texts l)
+  list_reads inside none u h = reads-nil table
+  list_reads inside (tree n (forest.element name attrs) kids rest) u h =
+      let a = and_parts (is_plain_node inside (forest.element name attrs) kids rest && are_content (inside_element (tag_named name) inside) kids) (are_content inside rest) h in
+      let b = and_parts (is_plain_node inside (forest.element name attrs) kids rest) (are_content (inside_element (tag_named name) inside) kids) a.0 in
+      let c = and_parts ((takes_role inside.content (row (tag_named name)).0 && not (is_nested inside (tag_named name))) && are_plain_attributes attrs) (not (drops_line_feed (tag_named name) && begins_with_line_feed kids)) b.0 in
+      let d = and_parts (takes_role inside.content (row (tag_named name)).0 && not (is_nested inside (tag_named name))) (are_plain_attributes attrs) c.0 in
+      let known : IsKnownName name = known_name name inside.content (and_parts (takes_role inside.content (row (tag_named name)).0) _ d.0).0 in
+      let s = a_start_tag table is_table core how name attrs known.is_name u.1 d.1 in
+      let element = an_element name attrs kids inside (raw_kind (tag_named name)) (row (tag_named name)).1 (is_void (tag_named name)) refl refl known.fit known.is_name s u.2 b.1 (list_reads (inside_element (tag_named name) inside) kids u.2 b.1) in
+      told table _ _ _ (again (is_void (tag_named name)) name attrs (tokens_of texts kids) (tokens_of texts rest))
+      (reads-append table (element_text how name attrs (written_among how (has_no_references (raw_kind (tag_named name))) kids)) (written_among how false rest)
+      (start name attrs false ∷ cond (is_void (tag_named name)) [] (tokens_of texts kids ++ end name ∷ [])) (tokens_of texts rest) element (list_reads inside rest u.3 a.1))
+  list_reads inside (tree n (forest.text t) kids rest) u h =
+      let a = and_parts ((is_plain_text inside.texts t && not (begins_with_text rest)) && are_content (inside_node (forest.text t) inside) kids) (are_content inside rest) h in
+      let b = and_parts (is_plain_text inside.texts t && not (begins_with_text rest)) _ a.0 in
+      let c = and_parts (is_plain_text inside.texts t) (not (begins_with_text rest)) b.0 in
+      let d = and_parts (not (is_empty t) && is_clean t) (is_among_texts inside.texts t) c.0 in
+      reads-append table (escaped how setting.Text t) (written_among how false rest) (map (λ c. character c) (chars t)) (tokens_of texts rest)
+      (text_reads table is_table core how t u.0 (and_parts (not (is_empty t)) (is_clean t) d.0).1) (list_reads inside rest u.2 a.1)
+  list_reads inside (tree n (forest.comment t) kids rest) u h =
+      let a = and_parts ((takes_comments inside.content && is_plain_comment t) && are_content (inside_node (forest.comment t) inside) kids) (are_content inside rest) h in
+      let b = and_parts (takes_comments inside.content && is_plain_comment t) _ a.0 in
+      let c = and_parts (takes_comments inside.content) (is_plain_comment t) b.0 in
+      reads-append table ((codes "<!--" ++ t) ++ codes "-->") (written_among how false rest) (comment t ∷ []) (tokens_of texts rest) (comment_reads table is_table core how t u.0 c.1) (list_reads inside rest u.2 a.1)
+  list_reads inside (tree n forest.document kids rest) u h = absurd cc
+  list_reads inside (tree n (forest.doctype a b d) kids rest) u h = absurd cc
+
+  -- CONTEXTS
+
+  -- a cut of the whole text
+  whole_read : (k : RawKind) (bytes cs : List ℕ) (ts : List (Token (List ℕ))) (There : Standing → Type 0) → Spells bytes cs → Cuts table (length bytes) (at_start k) (input.text Keep bytes) [] ts There → AreRead table k bytes (ts ++ eof ∷ [])
+  whole_read k bytes cs ts There s c = record {
+    utf8 = spells_utf8 bytes cs s;
+    toks = cut.tokens_of c.spans ++ Eof (length bytes) ∷ [];
+    errors = cut.errors_of c.spans ++ end_errors (length bytes) (standing_after (at_start k) c.spans);
+    read = record { spans = c.spans; text_is = sym c.text_is; cut = c.cut; tokens_are = refl; errors_are = IsPermutation-refl _; in_profile = c.in_profile };
+    are = map-append taken (cut.tokens_of c.spans) (Eof (length bytes) ∷ []) ∙ ap (λ (x : List (Token (List ℕ))). x ++ eof ∷ []) c.tokens_are;
+  }
+
+  some_inside : (o : Option Inside) (l : Forest (List ℕ)) → are_content_if o l ≡ true → (inside : Inside) × (are_content inside l ≡ true)
+  some_inside None l h = absurd cc
+  some_inside (Some inside) l h = (inside, h)
+
+  raw_context : (k : RawKind) (l : Forest (List ℕ)) (which : Texts) → is_raw k ≡ true → has_references k ≡ false → OneText how which l → AreRead table k (written_among how true l) (tokens_of texts l ++ eof ∷ [])
+  raw_context k l which is no_refs o =
+      let s : Spells (written_among how true l) (chars o.t) = subst (λ (x : List ℕ). Spells x (chars o.t)) (sym o.raw_is) (spells_text o.t o.utf8 o.clean) in
+      let bytes : List ℕ = written_among how true l in
+      whole_read k bytes (chars o.t) (tokens_of texts l) (λ there. there ≡ pushed_on (at_start k) (input.text Keep bytes)) s
+      (subst (λ (x : List (Token (List ℕ))). Cuts table (length bytes) (at_start k) (input.text Keep bytes) [] x (λ there. there ≡ pushed_on (at_start k) (input.text Keep bytes))) (sym o.tokens_are)
+      (raw_cuts table (length bytes) (chars o.t) (input.text Keep bytes) [] (at_start k) is no_refs (text_characters bytes (chars o.t) s) (clean_text o.t o.utf8 o.clean) (no_end_of_none (input.text Keep bytes) [])))
+
+  pub in_kind : (k : RawKind) (c : Content) (form : Bool) (l : Forest (List ℕ)) → fits_context k c ≡ true → AreTexts l → are_content_if (in_context_of c form) l ≡ true
+      → AreRead table k (written_among how (has_no_references k) l) (tokens_of texts l ++ eof ∷ [])
+  in_kind kind.None c form l fit u h =
+      let i = some_inside (in_context_of c form) l h in
+      let r = list_reads i.0 l u i.1 in
+      let bytes : List ℕ = written_among how false l in
+      whole_read kind.None bytes r.codes_are (tokens_of texts l) InData r.spells (r.cuts (length bytes) (at_start kind.None) (input.text Keep bytes) [] refl (text_characters bytes r.codes_are r.spells))
+  in_kind kind.Rcdata content.Text form l fit u h =
+      let o = one_text how (record { content = content.Text; texts = allowed.Any; in_a = false; in_button = false; in_form = form }) l refl (inl refl) u h in
+      let w = escaped_as table core how setting.Text (chars o.t) (scalars-chars o.t o.utf8) (clean_text o.t o.utf8 o.clean) in
+      let bytes : List ℕ = written_among how false l in
+      let s : Spells bytes w.codes_are = subst (λ (x : List ℕ). Spells x w.codes_are) (sym o.text_is) w.spells in
+      whole_read kind.Rcdata bytes w.codes_are (tokens_of texts l) (Same (at_start kind.Rcdata)) s
+      (subst (λ (x : List (Token (List ℕ))). Cuts table (length bytes) (at_start kind.Rcdata) (input.text Keep bytes) [] x (Same (at_start kind.Rcdata))) (sym o.tokens_are)
+      (text_cuts table is_table (chars o.t) w.codes_are (input.text Keep bytes) [] (length bytes) (at_start kind.Rcdata) (inr refl) w.are (text_characters bytes w.codes_are s)))
+  in_kind kind.Rawtext content.RawText form l fit u h =
+      raw_context kind.Rawtext l allowed.Any refl refl (one_text how (record { content = content.Text; texts = allowed.Any; in_a = false; in_button = false; in_form = form }) l refl (inl refl) u h)
+  in_kind kind.Script content.ScriptText form l fit u h =
+      raw_context kind.Script l allowed.Any refl refl (one_text how (record { content = content.Text; texts = allowed.Any; in_a = false; in_button = false; in_form = form }) l refl (inl refl) u h)
+  in_kind _ content.Columns form l fit u h = absurd cc
+  in_kind _ content.Empty form l fit u h = absurd cc
+  in_kind _ _ form l fit u h = absurd cc
+
+-- the law
+pub tokens_law : PlainTokens
+tokens_law table escaping context l is_table core u plain =
+    in_kind table is_table core escaping (raw_kind (tag_named context)) (row (tag_named context)).1 (is_form (tag_named context)) l (all_contexts (tag_named context)) u plain

@@ -1,0 +1,3 @@
+pub mod PlainTokens
+pub mod Building
+pub mod ComesBack

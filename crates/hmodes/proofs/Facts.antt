@@ -1,0 +1,300 @@
+-- What each mode knows of the head.
+use Rattle.std.proofs.Common.{◌≡◌, ◌≢◌, ℕ, zero, suc, ◌+◌, ◌<◌, ◌≤◌, Bool, true, false, not, cond, leb, List, [], ◌∷◌, Option, Some, None, refl, sym, ◌∙◌, ap, subst, arith, ◌⊎◌, inl, inr, drop, length}
+use Rattle.std.specs.Prelude.{◌&&◌, ◌||◌, unwrap_or}
+use Rattle.hopen.specs.Stack.{OpenNode}
+use Rattle.hnodes.specs.Forest.{Forest}
+use Rattle.names.specs.declared.placed.Placed.{Placed}
+use Rattle.names.specs.declared.tag.Tag.{Tag}
+use Rattle.names.specs.declared.tag.Tag.TheVariants as tag
+use Rattle.hadopt.specs.Naming.{Naming}
+use Rattle.hadopt.specs.Site.{Outcome, Goes, SiteOf, stack, trees}
+use Rattle.hadopt.specs.Site as site
+use Rattle.hadopt.specs.Kept.{Each}
+use Rattle.hnodes.proofs.Deep.{deep}
+use Rattle.hmodes.specs.declared.mode.Mode.{Mode}
+use Rattle.hmodes.specs.declared.mode.Mode.TheVariants.{Initial, BeforeHtml, BeforeHead, InHead, InHeadNoscript, AfterHead, InBody, Text, InTable, InTableText, InCaption, InColumnGroup, InTableBody, InRow, InCell, AfterBody, AfterAfterBody}
+use Rattle.hmodes.specs.declared.family.Family.TheVariants as family
+use Rattle.hmodes.specs.Words.{Kind, Nul, Start, End, Do, ◌▸◌, when, unless, choose, fostered, each_pending, again, again_as, to, save_mode, to_saved, reset, insert, insert_named, insert_root, insert_root_named, insert_comment, comment_in_document, comment_in_first, insert_doctype, put, push_head, reconstruct, adopt, adopt_listed}
+use Rattle.hmodes.specs.State.{Token, character, Control, State, Flow, Done, Again, Refused, kind_of, flow_then, flow_map}
+use Rattle.hmodes.specs.Reset.{open_mode, context_mode, root_mode, reset_mode}
+use Rattle.hmodes.specs.Questions.{answer_of}
+use Rattle.hmodes.specs.Perform.{perform, with_foster, with_control, each_of, flow_of}
+use Rattle.hmodes.specs.Rules.{rule_of}
+use Rattle.hmodes.specs.Head.{initial, before_html}
+use Rattle.hmodes.specs.Body.{in_body, text, after_body, after_after_body}
+use Rattle.hmodes.specs.Table.{in_table, in_table_text, in_caption, in_column_group, in_table_body, in_row, in_cell}
+use Rattle.hmodes.proofs.Once.{both}
+
+-- the modes that know something of the head, and those that go back to the saved one
+abbrev pub is_early : Mode → Bool
+is_early InHead = true
+is_early InHeadNoscript = true
+is_early AfterHead = true
+is_early _ = false
+
+abbrev pub is_texty : Mode → Bool
+is_texty Text = true
+is_texty InTableText = true
+is_texty _ = false
+
+-- whether a program leaves the saved mode late, and goes to late modes alone
+abbrev pub leaves : Bool → Do → Bool
+leaves b (p ▸ q) = leaves (leaves b p) q
+leaves b save_mode = true
+leaves b _ = b
+
+abbrev pub lates : Bool → Do → Bool
+lates b (p ▸ q) = lates b p && lates (leaves b p) q
+lates b (when question p) = lates b p
+lates b (unless question p) = lates b p
+lates b (choose question p q) = lates b p && lates b q
+lates b (fostered p) = lates b p
+lates b (each_pending p) = lates b p
+lates b (to m) = not (is_early m) && (not (is_texty m) || b)
+lates b to_saved = b
+lates b _ = true
+
+pub lates-initial : (k : Kind) → lates false (initial k) ≡ true
+lates-initial Nul = refl
+lates-initial (Start family.Html) = refl
+lates-initial (Start _) = refl
+lates-initial (End family.Html) = refl
+lates-initial (End _) = refl
+lates-initial _ = refl
+
+pub lates-before_html : (k : Kind) → lates false (before_html k) ≡ true
+lates-before_html Nul = refl
+lates-before_html (Start family.Html) = refl
+lates-before_html (Start _) = refl
+lates-before_html (End family.Html) = refl
+lates-before_html (End _) = refl
+lates-before_html _ = refl
+
+pub lates-in_body : (k : Kind) → lates false (in_body k) ≡ true
+lates-in_body Nul = refl
+lates-in_body (Start family.Html) = refl
+lates-in_body (Start _) = refl
+lates-in_body (End family.Html) = refl
+lates-in_body (End _) = refl
+lates-in_body _ = refl
+
+pub lates-text : (k : Kind) → lates true (text k) ≡ true
+lates-text Nul = refl
+lates-text (Start family.Html) = refl
+lates-text (Start _) = refl
+lates-text (End family.Html) = refl
+lates-text (End _) = refl
+lates-text _ = refl
+
+pub lates-in_table : (k : Kind) → lates false (in_table k) ≡ true
+lates-in_table Nul = refl
+lates-in_table (Start family.Html) = refl
+lates-in_table (Start _) = refl
+lates-in_table (End family.Html) = refl
+lates-in_table (End _) = refl
+lates-in_table _ = refl
+
+pub lates-in_table_text : (k : Kind) → lates true (in_table_text k) ≡ true
+lates-in_table_text Nul = refl
+lates-in_table_text (Start family.Html) = refl
+lates-in_table_text (Start _) = refl
+lates-in_table_text (End family.Html) = refl
+lates-in_table_text (End _) = refl
+lates-in_table_text _ = refl
+
+pub lates-in_caption : (k : Kind) → lates false (in_caption k) ≡ true
+lates-in_caption Nul = refl
+lates-in_caption (Start family.Html) = refl
+lates-in_caption (Start _) = refl
+lates-in_caption (End family.Html) = refl
+lates-in_caption (End _) = refl
+lates-in_caption _ = refl
+
+pub lates-in_column_group : (k : Kind) → lates false (in_column_group k) ≡ true
+lates-in_column_group Nul = refl
+lates-in_column_group (Start family.Html) = refl
+lates-in_column_group (Start _) = refl
+lates-in_column_group (End family.Html) = refl
+lates-in_column_group (End _) = refl
+lates-in_column_group _ = refl
+
+pub lates-in_table_body : (k : Kind) → lates false (in_table_body k) ≡ true
+lates-in_table_body Nul = refl
+lates-in_table_body (Start family.Html) = refl
+lates-in_table_body (Start _) = refl
+lates-in_table_body (End family.Html) = refl
+lates-in_table_body (End _) = refl
+lates-in_table_body _ = refl
+
+pub lates-in_row : (k : Kind) → lates false (in_row k) ≡ true
+lates-in_row Nul = refl
+lates-in_row (Start family.Html) = refl
+lates-in_row (Start _) = refl
+lates-in_row (End family.Html) = refl
+lates-in_row (End _) = refl
+lates-in_row _ = refl
+
+pub lates-in_cell : (k : Kind) → lates false (in_cell k) ≡ true
+lates-in_cell Nul = refl
+lates-in_cell (Start family.Html) = refl
+lates-in_cell (Start _) = refl
+lates-in_cell (End family.Html) = refl
+lates-in_cell (End _) = refl
+lates-in_cell _ = refl
+
+pub lates-after_body : (k : Kind) → lates false (after_body k) ≡ true
+lates-after_body Nul = refl
+lates-after_body (Start family.Html) = refl
+lates-after_body (Start _) = refl
+lates-after_body (End family.Html) = refl
+lates-after_body (End _) = refl
+lates-after_body _ = refl
+
+pub lates-after_after_body : (k : Kind) → lates false (after_after_body k) ≡ true
+lates-after_after_body Nul = refl
+lates-after_after_body (Start family.Html) = refl
+lates-after_after_body (Start _) = refl
+lates-after_after_body (End family.Html) = refl
+lates-after_after_body (End _) = refl
+lates-after_after_body _ = refl
+
+leaves-true : (p : Do) → leaves true p ≡ true
+leaves-true (p ▸ q) = rw (leaves-true p) (leaves-true q)
+leaves-true save_mode = refl
+leaves-true p = refl
+
+-- a late mode
+pub record Late (b : Bool) (c : Control) : Type 0 where
+  pub mode : is_early c.mode ≡ false
+  pub saved : b ≡ true → is_early c.saved ≡ false
+  pub texty : is_texty c.mode ≡ true → is_early c.saved ≡ false
+
+pub less-late : (b v : Bool) (c : Control) → (b ≡ true → v ≡ true) → Late v c → Late b c
+less-late b v c h l = record { mode = l.mode; saved = λ e. l.saved (h e); texty = l.texty }
+
+-- what reset gives
+abbrev IsFound : Option Mode → Type 0
+IsFound None = Unit {0}
+IsFound (Some m) = (is_early m ≡ false) × (is_texty m ≡ false)
+
+open-found : (t : Tag) → IsFound (open_mode t)
+open-found tag.Td = (refl, refl)
+open-found tag.Th = (refl, refl)
+open-found tag.Tr = (refl, refl)
+open-found tag.Tbody = (refl, refl)
+open-found tag.Thead = (refl, refl)
+open-found tag.Tfoot = (refl, refl)
+open-found tag.Caption = (refl, refl)
+open-found tag.Colgroup = (refl, refl)
+open-found tag.Table = (refl, refl)
+open-found tag.Body = (refl, refl)
+open-found _ = tt
+
+context-found : (t : Tag) → IsFound (Some (context_mode t))
+context-found tag.Tr = (refl, refl)
+context-found tag.Tbody = (refl, refl)
+context-found tag.Thead = (refl, refl)
+context-found tag.Tfoot = (refl, refl)
+context-found tag.Caption = (refl, refl)
+context-found tag.Colgroup = (refl, refl)
+context-found tag.Table = (refl, refl)
+context-found tag.Html = (refl, refl)
+context-found _ = (refl, refl)
+
+or-found : (o : Option Mode) (m : Mode) → IsFound o → IsFound (Some m) → IsFound (Some (unwrap_or o m))
+or-found None m a b = b
+or-found (Some k) m a b = a
+
+module _ {N : Type 0} (n : Naming N) where
+  root-found : (c : Option N) (x : OpenNode N) → IsFound (Some (root_mode n c x))
+  root-found None x = or-found (open_mode (n.tag x.name)) InBody (open-found (n.tag x.name)) (refl, refl)
+  root-found (Some c) x = context-found (n.tag c)
+
+  pub reset-found : (c : Option N) (st : List (OpenNode N)) → IsFound (Some (reset_mode n c st))
+  reset-found c [] = (refl, refl)
+  reset-found c (x ∷ []) = root-found c x
+  reset-found c (x ∷ (y ∷ up)) = or-found (open_mode (n.tag x.name)) (reset_mode n c (y ∷ up)) (open-found (n.tag x.name)) (reset-found c (y ∷ up))
+
+  abbrev pub FlowLate : Bool → Flow N → Type 0
+  FlowLate b (Done s) = Late b s.control
+  FlowLate b (Again t s) = Late false s.control
+  FlowLate b (Refused r) = Unit {0}
+
+  flow-less : (b v : Bool) (f : Flow N) → (b ≡ true → v ≡ true) → FlowLate v f → FlowLate b f
+  flow-less b v (Done s) h l = less-late b v s.control h l
+  flow-less b v (Again t s) h l = l
+  flow-less b v (Refused r) h l = tt
+
+  late-then : (b v : Bool) (f : Flow N) (g : State N → Flow N) → FlowLate b f → ((s : State N) → Late b s.control → FlowLate v (g s)) → FlowLate v (flow_then f g)
+  late-then b v (Done s) g h k = k s h
+  late-then b v (Again t s) g h k = h
+  late-then b v (Refused r) g h k = tt
+
+  late-map : (b w : Bool) (f : Flow N) → FlowLate b f → FlowLate b (flow_map (with_foster w) f)
+  late-map b w (Done s) h = h
+  late-map b w (Again t s) h = h
+  late-map b w (Refused r) h = tt
+
+  late-each : (b : Bool) (f : Placed → State N → Flow N) → ((c : Placed) (s : State N) → Late b s.control → FlowLate b (f c s)) → (cs : List Placed) (s : State N) → Late b s.control → FlowLate b (each_of f cs s)
+  late-each b f k [] s h = h
+  late-each b f k (c ∷ cs) s h = late-then b b (f c s) (each_of f cs) (k c s h) (λ v m. late-each b f k cs v m)
+
+  late-site : (b : Bool) (s : State N) (o : Outcome (SiteOf N)) → Late b s.control → FlowLate b (flow_of s o)
+  late-site b s (Goes x) h = h
+  late-site b s (site.Refused r) h = tt
+
+  wider : (b : Bool) (p : Do) → b ≡ true → leaves b p ≡ true
+  wider b p e = rw e (leaves-true p)
+
+  pub perform-late : (b : Bool) (p : Do) → lates b p ≡ true → (at : ℕ) (t : Token N) (s : State N) → Late b s.control → FlowLate (leaves b p) (perform n at t p s)
+  perform-late b (p ▸ q) calm at t s h =
+      let parts = both (lates b p) (lates (leaves b p) q) calm in
+      late-then (leaves b p) (leaves (leaves b p) q) (perform n at t p s) (perform n at t q) (perform-late b p parts.0 at t s h) (λ u m. perform-late (leaves b p) q parts.1 at t u m)
+  perform-late b (when question p) calm at t s h = go (answer_of n t question s) (flow-less b (leaves b p) (perform n at t p s) (wider b p) (perform-late b p calm at t s h))
+    where
+      go : (x : Bool) → FlowLate b (perform n at t p s) → FlowLate b (cond x (perform n at t p s) (Done s))
+      go true m = m
+      go false m = h
+  perform-late b (unless question p) calm at t s h = go (answer_of n t question s) (flow-less b (leaves b p) (perform n at t p s) (wider b p) (perform-late b p calm at t s h))
+    where
+      go : (x : Bool) → FlowLate b (perform n at t p s) → FlowLate b (cond x (Done s) (perform n at t p s))
+      go true m = h
+      go false m = m
+  perform-late b (choose question p q) calm at t s h =
+      let parts = both (lates b p) (lates b q) calm in
+      go (answer_of n t question s) (flow-less b (leaves b p) (perform n at t p s) (wider b p) (perform-late b p parts.0 at t s h)) (flow-less b (leaves b q) (perform n at t q s) (wider b q) (perform-late b q parts.1 at t s h))
+    where
+      go : (x : Bool) → FlowLate b (perform n at t p s) → FlowLate b (perform n at t q s) → FlowLate b (cond x (perform n at t p s) (perform n at t q s))
+      go true m k = m
+      go false m k = k
+  perform-late b (fostered p) calm at t s h = late-map b false (perform n at t p (with_foster true s)) (flow-less b (leaves b p) (perform n at t p (with_foster true s)) (wider b p) (perform-late b p calm at t (with_foster true s) h))
+  perform-late b (each_pending p) calm at t s h =
+      late-each b (λ c. perform n c.at (character c.ch) p) (λ c u m. flow-less b (leaves b p) (perform n c.at (character c.ch) p u) (wider b p) (perform-late b p calm c.at (character c.ch) u m)) s.control.pending (with_control (record s.control { pending = [] }) s) (record { mode = h.mode; saved = h.saved; texty = h.texty })
+  perform-late b again calm at t s h = record { mode = h.mode; saved = λ e. cc; texty = h.texty }
+  perform-late b (again_as x) calm at t s h = record { mode = h.mode; saved = λ e. cc; texty = h.texty }
+  perform-late b (to m) calm at t s h = go (is_early m) (is_texty m) b calm h.saved refl refl
+    where
+      go : (u v w : Bool) → (not u && (not v || w)) ≡ true → (w ≡ true → is_early s.control.saved ≡ false) → is_early m ≡ u → is_texty m ≡ v → Late w (record s.control { mode = m })
+      go true v w c k e i = cc
+      go false true false c k e i = cc
+      go false true true c k e i = record { mode = e; saved = k; texty = λ j. k refl }
+      go false false w c k e i = record { mode = e; saved = k; texty = λ j. let clash = sym i ∙ j in cc }
+  perform-late b save_mode calm at t s h = record { mode = h.mode; saved = λ e. h.mode; texty = λ e. h.mode }
+  perform-late b to_saved calm at t s h = record { mode = h.saved calm; saved = h.saved; texty = λ e. h.saved calm }
+  perform-late b reset calm at t s h =
+      let r = reset-found s.context (stack s.site) in
+      record { mode = r.0; saved = h.saved; texty = λ e. let clash = sym r.1 ∙ e in cc }
+  perform-late b insert calm at t s h = late-site b s _ h
+  perform-late b (insert_named x) calm at t s h = late-site b s _ h
+  perform-late b insert_root calm at t s h = late-site b s _ h
+  perform-late b (insert_root_named x) calm at t s h = late-site b s _ h
+  perform-late b insert_comment calm at t s h = late-site b s _ h
+  perform-late b comment_in_document calm at t s h = late-site b s _ h
+  perform-late b comment_in_first calm at t s h = late-site b s _ h
+  perform-late b insert_doctype calm at t s h = late-site b s _ h
+  perform-late b put calm at t s h = late-site b s _ h
+  perform-late b push_head calm at t s h = late-site b s _ h
+  perform-late b reconstruct calm at t s h = late-site b s _ h
+  perform-late b adopt calm at t s h = late-site b s _ h
+  perform-late b adopt_listed calm at t s h = late-site b s _ h
+  perform-late b p calm at t s h = record { mode = h.mode; saved = h.saved; texty = h.texty }

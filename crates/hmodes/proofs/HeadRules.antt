@@ -1,0 +1,256 @@
+-- Every rule keeps what its mode knows of the head.
+use Rattle.std.proofs.Common.{◌≡◌, ◌≢◌, ℕ, zero, suc, ◌+◌, ◌<◌, ◌≤◌, Bool, true, false, not, cond, leb, List, [], ◌∷◌, Option, Some, None, refl, sym, ◌∙◌, ap, subst, arith, drop, length}
+use Rattle.std.specs.Prelude.{◌&&◌, ◌||◌}
+use Rattle.std.proofs.lemmas.Bool.{eq-eqb, ne_eqb}
+use Rattle.hnodes.specs.Forest.{Attribute, Forest, element}
+use Rattle.hnodes.specs.Forest as forest
+use Rattle.hnodes.specs.declared.node.Place.TheVariants.{LastIn}
+use Rattle.hopen.specs.Nearest.{without}
+use Rattle.hopen.specs.Stack.{OpenNode, is_node}
+use Rattle.names.specs.declared.refusal.Refusal.{Refusal}
+use Rattle.names.specs.declared.refusal.Refusal.TheVariants.{TooDeep}
+use Rattle.names.specs.declared.tag.Tag.TheVariants as tag
+use Rattle.hadopt.specs.Naming.{Naming}
+use Rattle.hadopt.specs.Site.{Outcome, Goes, SiteOf, stack, trees, with_stack, with_error, from_top, node_of}
+use Rattle.hadopt.specs.Site as site
+use Rattle.hadopt.specs.Places.{place}
+use Rattle.hadopt.specs.Inserts.{inserted}
+use Rattle.hadopt.specs.Kept.{Each, Pairs, TellsTables}
+use Rattle.hnodes.proofs.Deep.{deep}
+use Rattle.hnodes.proofs.Counted.{deep-there}
+use Rattle.hadopt.proofs.Lists.{each-map}
+use Rattle.hadopt.proofs.Climbing.{OnGoes}
+use Rattle.hadopt.proofs.Settling.{Well}
+use Rattle.hadopt.proofs.Turning.{erred}
+use Rattle.hadopt.proofs.Inserting.{inserted-well, place-fits}
+use Rattle.hmodes.specs.declared.mode.Mode.{Mode}
+use Rattle.hmodes.specs.declared.mode.Mode.TheVariants.{Initial, BeforeHtml, BeforeHead, InHead, InHeadNoscript, AfterHead, InBody, Text, InTable, InTableText, InCaption, InColumnGroup, InTableBody, InRow, InCell, AfterBody, AfterAfterBody}
+use Rattle.hmodes.specs.declared.family.Family.TheVariants as family
+use Rattle.hmodes.specs.Words.{Kind, Nul, Ws, Char, Comment, Doctype, Start, End, Eof, Do, ◌▸◌, nothing, again, error, to, save_mode, to_saved, head_pointer, acknowledge, insert, insert_named, insert_comment, put, pop, push_head, remove_head, add_missing_to_first}
+use Rattle.hmodes.specs.State.{Token, State, Flow, Done, Again, Refused, flow_then, kind_of, token_name, token_attrs, token_text, token_char}
+use Rattle.hmodes.specs.Programs.{void, raw, html_again}
+use Rattle.hmodes.specs.Rules.{rule_of, code_of}
+use Rattle.hmodes.specs.Step.{Rule}
+use Rattle.hmodes.specs.Head.{initial, before_html, before_head, in_head, in_head_noscript, after_head, head_ends, late}
+use Rattle.hmodes.specs.Body.{in_body, text, after_body, after_after_body}
+use Rattle.hmodes.specs.Table.{in_table, in_table_text, in_caption, in_column_group, in_table_body, in_row, in_cell}
+use Rattle.hmodes.specs.Perform.{perform, with_site, with_control, flow_of, current_node, head_pushed, removed}
+use Rattle.hmodes.proofs.Once.{both}
+use Rattle.hmodes.proofs.Stands.{tame, FlowWell, perform-well}
+use Rattle.hmodes.proofs.Heads.{Steady, steady-same, steady-then, added-steady, Deeper, inserted-steady, put-steady, missing-steady}
+use Rattle.hmodes.proofs.HeadFacts.{IsAt, OutOf, Knows, Facts, HeadFacts, FlowFacts, knows-steady, out-steady, Quiet, FlowQuiet, quiet-facts, quiet-flow, on-quiet, quiet-then}
+
+-- what leaves modes, head pointer and open nodes as they are
+abbrev quiet : Do → Bool
+quiet (p ▸ q) = quiet p && quiet q
+quiet nothing = true
+quiet put = true
+quiet (error m) = true
+quiet insert_comment = true
+quiet add_missing_to_first = true
+quiet _ = false
+
+quiet-tame : (p : Do) → quiet p ≡ true → tame false p ≡ true
+quiet-tame (p ▸ q) e = let parts = both (quiet p) (quiet q) e in rw (quiet-tame p parts.0, quiet-tame q parts.1) refl
+quiet-tame nothing e = refl
+quiet-tame put e = refl
+quiet-tame (error m) e = refl
+quiet-tame insert_comment e = refl
+quiet-tame add_missing_to_first e = refl
+quiet-tame _ e = cc
+
+module _ {N : Type 0} (n : Naming N) (tells : TellsTables n) (at : ℕ) (t : Token N) where
+  perform-quiet : (p : Do) → quiet p ≡ true → (s : State N) → Well n s.site → FlowQuiet n s (perform n at t p s)
+  perform-quiet (p ▸ q) e s w =
+      let parts = both (quiet p) (quiet q) e in
+      quiet-then n s (perform n at t p s) (perform n at t q) (perform-quiet p parts.0 s w) (perform-well n tells false p (quiet-tame p parts.0) at t (λ e. cc) s w) (λ u k. perform-quiet q parts.1 u k)
+  perform-quiet nothing e s w = record { mode = refl; saved = refl; head = refl; open_now = refl; steady = steady-same n s.site s.site refl }
+  perform-quiet put e s w = on-quiet n s _ (put-steady n at (token_char t) (place n s.site) s.site w)
+  perform-quiet (error m) e s w = record { mode = refl; saved = refl; head = refl; open_now = refl; steady = steady-same n s.site (with_error (code_of m) at s.site) refl }
+  perform-quiet insert_comment e s w = on-quiet n s _ (added-steady n (forest.comment (token_text t)) (LastIn (current_node s.site)) s.site w at)
+  perform-quiet add_missing_to_first e s w =
+      let k = missing-steady n (node_of (from_top 0 s.site)) (token_attrs t) s.site in
+      record { mode = refl; saved = refl; head = refl; open_now = refl; steady = k }
+  perform-quiet _ e s w = cc
+
+  after-insert : (P : Flow N → Type 0) (name : N) (attrs : List (Attribute N)) (s : State N) → Well n s.site → (g : State N → Flow N) → ((r : Refusal) → P (Refused r))
+      → ((x : SiteOf N) → Well n x → Deeper n s.site x → P (g (with_site x s))) → P (flow_then (flow_of s (inserted at name attrs (place n s.site) s.site)) g)
+  after-insert P name attrs s w g none k =
+      go (inserted at name attrs (place n s.site) s.site) (inserted-well n at name attrs (place n s.site) s.site w (place-fits n (element name attrs) s.site w)) (inserted-steady n at name attrs (place n s.site) s.site w)
+    where
+      go : (o : Outcome (SiteOf N)) → OnGoes (Well n) o → OnGoes (Deeper n s.site) o → P (flow_then (flow_of s o) g)
+      go (Goes x) a d = k x a d
+      go (site.Refused r) a d = none r
+
+  void-quiet : (s : State N) → Well n s.site → FlowQuiet n s (perform n at t void s)
+  void-quiet s w = after-insert (FlowQuiet n s) (token_name n t) (token_attrs t) s w _ (λ r. tt)
+      (λ x a d. record { mode = refl; saved = refl; head = refl; open_now = ap (drop 1) d.1.1; steady = record { out = d.0.out; stays = d.0.stays } })
+
+  raw-facts : (s : State N) → Well n s.site → Knows s.control.mode s.control.head (stack s.site) (trees s.site) → FlowFacts (perform n at t raw s)
+  raw-facts s w o = after-insert FlowFacts (token_name n t) (token_attrs t) s w _ (λ r. tt)
+      (λ x a d. rw d.1.1 (knows-steady n s.control.mode s.control.head (stack s.site) s.site x w.each d.0 o))
+
+  noscript-facts : (s : State N) → Well n s.site → IsAt s.control.head (stack s.site) → FlowFacts (perform n at t (insert ▸ to InHeadNoscript) s)
+  noscript-facts s w o = after-insert FlowFacts (token_name n t) (token_attrs t) s w _ (λ r. tt) (λ x a d. rw d.1.1 o)
+
+  body-facts : (s : State N) → Well n s.site → FlowFacts (perform n at t (insert ▸ to InBody) s)
+  body-facts s w = after-insert FlowFacts (token_name n t) (token_attrs t) s w _ (λ r. tt) (λ x a d. tt)
+
+  unwritten-facts : (s : State N) → Well n s.site → FlowFacts (perform n at t (insert_named tag.Body ▸ to InBody ▸ again) s)
+  unwritten-facts s w = after-insert FlowFacts (n.known tag.Body) [] s w _ (λ r. tt) (λ x a d. tt)
+
+  head-facts : (s : State N) → Well n s.site → FlowFacts (perform n at t (insert ▸ head_pointer ▸ to InHead) s)
+  head-facts s w = after-insert FlowFacts (token_name n t) (token_attrs t) s w _ (λ r. tt) (λ x a d. rw d.1.1 refl)
+
+  head-unwritten-facts : (s : State N) → Well n s.site → FlowFacts (perform n at t (insert_named tag.Head ▸ head_pointer ▸ to InHead ▸ again) s)
+  head-unwritten-facts s w = after-insert FlowFacts (n.known tag.Head) [] s w _ (λ r. tt) (λ x a d. rw d.1.1 refl)
+
+  pop-out : (hp : Option ℕ) (s : SiteOf N) → Well n s → IsAt hp (stack s) → OutOf hp (drop 1 (stack s)) (trees s)
+  pop-out hp s w o = go (stack s) w.each w.order o
+    where
+      go : (open_now : List (OpenNode N)) → Each (λ x. (0 < deep x.node 0 (trees s)) × (0 < x.node)) open_now → Pairs (λ x y. deep y.node x.node (trees s) ≡ 0) open_now → IsAt hp open_now → OutOf hp (drop 1 open_now) (trees s)
+      go [] e r i = absurd i
+      go (x ∷ up) e r i = λ h j.
+          let same : x.node ≡ h = some (sym i ∙ j) in
+          subst (λ (k : ℕ). ((0 < deep k 0 (trees s)) × (0 < k)) × Each (λ y. deep y.node k (trees s) ≡ 0) up) same (e.0, r.0)
+        where
+          some : {a b : ℕ} → Some a ≡ Some b → a ≡ b
+          some e = cc
+
+  by-quiet : (p : Do) → quiet p ≡ true → (s : State N) → Well n s.site → HeadFacts s → FlowFacts (perform n at t p s)
+  by-quiet p e s w f = quiet-flow n s (perform n at t p s) w (perform-quiet p e s w) f
+
+  -- by the rules of the head
+  pub in-head-rule : (k : Kind) (s : State N) → s.control.mode ≡ InHead → Well n s.site → IsAt s.control.head (stack s.site) → HeadFacts s → FlowFacts (perform n at t (in_head k) s)
+  in-head-rule Ws s is w o f = by-quiet put refl s w f
+  in-head-rule Comment s is w o f = by-quiet insert_comment refl s w f
+  in-head-rule Doctype s is w o f = by-quiet (error InHead) refl s w f
+  in-head-rule (Start family.Html) s is w o f = by-quiet html_again refl s w f
+  in-head-rule (Start family.Base) s is w o f = quiet-flow n s (perform n at t void s) w (void-quiet s w) f
+  in-head-rule (Start family.Link) s is w o f = quiet-flow n s (perform n at t void s) w (void-quiet s w) f
+  in-head-rule (Start family.Title) s is w o f = raw-facts s w (rw is o)
+  in-head-rule (Start family.Noframes) s is w o f = raw-facts s w (rw is o)
+  in-head-rule (Start family.Style) s is w o f = raw-facts s w (rw is o)
+  in-head-rule (Start family.Script) s is w o f = raw-facts s w (rw is o)
+  in-head-rule (Start family.Noscript) s is w o f = noscript-facts s w o
+  in-head-rule (Start family.Head) s is w o f = by-quiet (error InHead) refl s w f
+  in-head-rule (End family.Head) s is w o f = pop-out s.control.head s.site w o
+  in-head-rule (End family.Body) s is w o f = pop-out s.control.head s.site w o
+  in-head-rule (End family.Html) s is w o f = pop-out s.control.head s.site w o
+  in-head-rule (End family.Br) s is w o f = pop-out s.control.head s.site w o
+  in-head-rule (End _) s is w o f = by-quiet (error InHead) refl s w f
+  in-head-rule _ s is w o f = pop-out s.control.head s.site w o
+
+  pub noscript-rule : (k : Kind) (s : State N) → s.control.mode ≡ InHeadNoscript → Well n s.site → IsAt s.control.head (drop 1 (stack s.site)) → HeadFacts s → FlowFacts (perform n at t (in_head_noscript k) s)
+  noscript-rule Doctype s is w o f = by-quiet (error InHeadNoscript) refl s w f
+  noscript-rule (Start family.Html) s is w o f = by-quiet html_again refl s w f
+  noscript-rule (End family.Noscript) s is w o f = o
+  noscript-rule Ws s is w o f = by-quiet put refl s w f
+  noscript-rule Comment s is w o f = by-quiet insert_comment refl s w f
+  noscript-rule (Start family.Link) s is w o f = quiet-flow n s (perform n at t void s) w (void-quiet s w) f
+  noscript-rule (Start family.Noframes) s is w o f = raw-facts s w (rw is o)
+  noscript-rule (Start family.Style) s is w o f = raw-facts s w (rw is o)
+  noscript-rule (End family.Br) s is w o f = o
+  noscript-rule (Start family.Head) s is w o f = by-quiet (error InHeadNoscript) refl s w f
+  noscript-rule (Start family.Noscript) s is w o f = by-quiet (error InHeadNoscript) refl s w f
+  noscript-rule (End _) s is w o f = by-quiet (error InHeadNoscript) refl s w f
+  noscript-rule _ s is w o f = o
+
+  -- text whose saved mode is one of the head's
+  pub text-rule : (k : Kind) (s : State N) → s.control.mode ≡ Text → Well n s.site → Facts s.control.saved s.control.saved s.control.head (drop 1 (stack s.site)) (trees s.site) → HeadFacts s → FlowFacts (perform n at t (text k) s)
+  text-rule Nul s is w o f = by-quiet put refl s w f
+  text-rule Ws s is w o f = by-quiet put refl s w f
+  text-rule Char s is w o f = by-quiet put refl s w f
+  text-rule Eof s is w o f = o
+  text-rule (End _) s is w o f = o
+  text-rule _ s is w o f = by-quiet (error Text) refl s w f
+
+  -- the head, where it is set, on top of the open nodes
+  abbrev with_head : Option ℕ → List (OpenNode N) → List (OpenNode N)
+  with_head None open_now = open_now
+  with_head (Some h) open_now = record { node = h; name = n.known tag.Head } ∷ open_now
+
+  removed-head : (o : Option ℕ) (open_now : List (OpenNode N)) (x : SiteOf N) → stack x ≡ with_head o open_now → stack (removed o x) ≡ open_now
+  removed-head None open_now x e = e
+  removed-head (Some h) open_now x e = rw (e, eq-eqb h h refl) refl
+
+  removed-below : (o : Option ℕ) (y : OpenNode N) (open_now : List (OpenNode N)) (x : SiteOf N) → ((h : ℕ) → o ≡ Some h → y.node ≢ h) → stack x ≡ y ∷ with_head o open_now → stack (removed o x) ≡ y ∷ open_now
+  removed-below None y open_now x d e = e
+  removed-below (Some h) y open_now x d e = rw (e, ne_eqb y.node h (d h refl), eq-eqb h h refl) refl
+
+  removed-trees : (o : Option ℕ) (x : SiteOf N) → trees (removed o x) ≡ trees x
+  removed-trees None x = refl
+  removed-trees (Some h) x = refl
+
+  module _ (s : State N) (is : s.control.mode ≡ AfterHead) (w : Well n s.site) (o : OutOf s.control.head (stack s.site) (trees s.site)) where
+    -- after the head is pushed
+    after-push : (P : Flow N → Type 0) (g : State N → Flow N) → ((r : Refusal) → P (Refused r))
+        → ((x : SiteOf N) → Well n x → trees x ≡ trees s.site → stack x ≡ with_head s.control.head (stack s.site) → P (g (with_site x s))) → P (flow_then (perform n at t push_head (with_site (with_error (code_of AfterHead) at s.site) s)) g)
+    after-push P g none k = go s.control.head refl
+      where
+        go : (hp : Option ℕ) → s.control.head ≡ hp → P (flow_then (flow_of (with_site (with_error (code_of AfterHead) at s.site) s) (head_pushed n at hp (with_error (code_of AfterHead) at s.site))) g)
+        go None e = k (with_error (code_of AfterHead) at s.site) (erred n s.site (code_of AfterHead) at w) refl (rw e refl)
+        go (Some h) e = deepens (leb s.site.open_nodes.limit (length (stack s.site)))
+          where
+            deepens : (v : Bool) → P (flow_then (flow_of (with_site (with_error (code_of AfterHead) at s.site) s) (cond v (site.Refused (TooDeep at)) (Goes (with_stack (record { node = h; name = n.known tag.Head } ∷ stack s.site) (with_error (code_of AfterHead) at s.site))))) g)
+            deepens true = none (TooDeep at)
+            deepens false =
+                let q = o h e in
+                k (with_stack (record { node = h; name = n.known tag.Head } ∷ stack s.site) (with_error (code_of AfterHead) at s.site)) (record { counted = w.counted; each = (q.0, w.each); order = (q.1, w.order); plain = w.plain }) refl (rw e refl)
+
+    steady-after : (x y : SiteOf N) → trees x ≡ trees s.site → Steady n x y → Steady n s.site y
+    steady-after x y e k = steady-then n s.site x y (steady-same n s.site x (sym e)) k
+
+    late-void : FlowFacts (perform n at t (late void) s)
+    late-void = after-push FlowFacts (perform n at t (void ▸ remove_head)) (λ r. tt)
+        (λ x a e i. go x e i (perform n at t void (with_site x s)) (void-quiet (with_site x s) a))
+      where
+        go : (x : SiteOf N) → trees x ≡ trees s.site → stack x ≡ with_head s.control.head (stack s.site) → (f : Flow N) → FlowQuiet n (with_site x s) f → FlowFacts (flow_then f (perform n at t remove_head))
+        go x e i (Done u) q =
+            rw (q.mode, is, q.head, removed-trees s.control.head u.site, removed-head s.control.head (stack s.site) u.site (q.open_now ∙ i))
+            (out-steady n s.control.head (stack s.site) s.site u.site w.each (steady-after x u.site e q.steady) o)
+        go x e i (Again t' u) q = absurd q
+        go x e i (Refused r) q = tt
+
+    late-raw : FlowFacts (perform n at t (late raw) s)
+    late-raw = after-push FlowFacts (perform n at t (raw ▸ remove_head)) (λ r. tt)
+        (λ x a e i. after-insert (λ f. FlowFacts (flow_then f (perform n at t remove_head))) (token_name n t) (token_attrs t) (with_site x s) a (perform n at t (save_mode ▸ to Text)) (λ r. tt)
+        (λ y b d. rw (is, removed-trees s.control.head y, removed-below s.control.head d.1.0 (stack s.site) y (fresh x a e d.1.0 d.1.2) (d.1.1 ∙ ap (λ l. d.1.0 ∷ l) i))
+        (out-steady n s.control.head (stack s.site) s.site y w.each (steady-after x y e d.0) o)))
+      where
+        fresh : (x : SiteOf N) → Well n x → trees x ≡ trees s.site → (y : OpenNode N) → y.node ≡ x.nodes.made → (h : ℕ) → s.control.head ≡ Some h → y.node ≢ h
+        fresh x a e y c h j k =
+            let there : 0 < deep h 0 (trees x) = rw e (o h j).0.0 in
+            omega (arith, (deep-there x.nodes.made (trees x) a.counted h 0 there).0)
+
+    pub after-head-rule : (k : Kind) → HeadFacts s → FlowFacts (perform n at t (after_head k) s)
+    after-head-rule Ws f = by-quiet put refl s w f
+    after-head-rule Comment f = by-quiet insert_comment refl s w f
+    after-head-rule Doctype f = by-quiet (error AfterHead) refl s w f
+    after-head-rule (Start family.Html) f = by-quiet html_again refl s w f
+    after-head-rule (Start family.Body) f = body-facts s w
+    after-head-rule (Start family.Base) f = late-void
+    after-head-rule (Start family.Link) f = late-void
+    after-head-rule (Start family.Noframes) f = late-raw
+    after-head-rule (Start family.Script) f = late-raw
+    after-head-rule (Start family.Style) f = late-raw
+    after-head-rule (Start family.Title) f = late-raw
+    after-head-rule (End family.Body) f = unwritten-facts s w
+    after-head-rule (End family.Html) f = unwritten-facts s w
+    after-head-rule (End family.Br) f = unwritten-facts s w
+    after-head-rule (Start family.Head) f = by-quiet (error AfterHead) refl s w f
+    after-head-rule (End _) f = by-quiet (error AfterHead) refl s w f
+    after-head-rule _ f = unwritten-facts s w
+
+  pub before-head-rule : (k : Kind) (s : State N) → Well n s.site → HeadFacts s → FlowFacts (perform n at t (before_head k) s)
+  before-head-rule Ws s w f = by-quiet nothing refl s w f
+  before-head-rule Comment s w f = by-quiet insert_comment refl s w f
+  before-head-rule Doctype s w f = by-quiet (error BeforeHead) refl s w f
+  before-head-rule (Start family.Html) s w f = by-quiet html_again refl s w f
+  before-head-rule (Start family.Head) s w f = head-facts s w
+  before-head-rule (End family.Head) s w f = head-unwritten-facts s w
+  before-head-rule (End family.Body) s w f = head-unwritten-facts s w
+  before-head-rule (End family.Html) s w f = head-unwritten-facts s w
+  before-head-rule (End family.Br) s w f = head-unwritten-facts s w
+  before-head-rule (End _) s w f = by-quiet (error BeforeHead) refl s w f
+  before-head-rule _ s w f = head-unwritten-facts s w

@@ -1,0 +1,95 @@
+-- The modes of the head keep what they know of it.
+use Rattle.std.proofs.Common.{◌≡◌, ◌≢◌, ℕ, zero, suc, ◌+◌, ◌<◌, ◌≤◌, Bool, true, false, not, cond, leb, List, [], ◌∷◌, Option, Some, None, refl, sym, ◌∙◌, ap, subst, arith, drop, length, is_none}
+use Rattle.std.specs.Prelude.{◌&&◌, ◌||◌}
+use Rattle.std.specs.Char.{encode_utf8}
+use Rattle.hnodes.specs.Forest.{Attribute, What, element, text, Forest, none, tree, join, change_what}
+use Rattle.hnodes.specs.Edits.{graft, make, char_into, with_char, with_attribute, add_attribute, text_before}
+use Rattle.hnodes.specs.Spots.{attributes_of}
+use Rattle.hnodes.specs.declared.node.Place.{Place}
+use Rattle.hopen.specs.Stack.{OpenNode}
+use Rattle.names.specs.declared.refusal.Refusal.TheVariants.{TooManyNodes, TooDeep}
+use Rattle.hadopt.specs.Naming.{Naming}
+use Rattle.hadopt.specs.Site.{Outcome, Goes, Refused, SiteOf, and_then, stack, trees, with_stack, with_trees}
+use Rattle.hadopt.specs.Inserts.{added, inserted, pushed, put, has_attribute, with_missing}
+use Rattle.hadopt.specs.Kept.{Each}
+use Rattle.hnodes.proofs.Deep.{deep, deep-lower, deep-is}
+use Rattle.hnodes.proofs.Counted.{at-most, not-there, deep-there, counted-new}
+use Rattle.hnodes.proofs.Outside.{deep-what, deep-new, deep-newest, graft-apart}
+use Rattle.hadopt.proofs.Lists.{each-both}
+use Rattle.hadopt.proofs.Climbing.{OnGoes, goes-then}
+use Rattle.hadopt.proofs.Settling.{Well}
+
+module _ {N : Type 0} (n : Naming N) where
+  -- what stood in the document's tree stands there still, as much outside of the others
+  pub record Steady (s t : SiteOf N) : Type 0 where
+    pub out : (x h : ℕ) → 0 < deep x 0 (trees s) → 0 < deep h 0 (trees s) → deep x h (trees s) ≡ 0 → deep x h (trees t) ≡ 0
+    pub stays : (x : ℕ) → 0 < deep x 0 (trees s) → 0 < deep x 0 (trees t)
+
+  pub steady-same : (s t : SiteOf N) → trees s ≡ trees t → Steady s t
+  steady-same s t e = record { out = λ x h a b c. subst (λ (f : Forest N). deep x h f ≡ 0) e c; stays = λ x a. subst (λ (f : Forest N). 0 < deep x 0 f) e a }
+
+  pub steady-then : (s t u : SiteOf N) → Steady s t → Steady t u → Steady s u
+  steady-then s t u a b = record { out = λ x h p q r. b.out x h (a.stays x p) (a.stays h q) (a.out x h p q r); stays = λ x p. b.stays x (a.stays x p) }
+
+  module _ (w : What N) (p : Place) (s : SiteOf N) (h : Well n s) where
+    abbrev grown : SiteOf N
+    grown = with_trees (graft s.nodes.made p (join (trees s) (tree s.nodes.made w none none))) (record s { nodes = make w s.nodes })
+
+    same : (x y : ℕ) → 0 < deep x 0 (trees s) → y ≢ s.nodes.made → deep x y (trees grown) ≡ deep x y (trees s)
+    same x y a hy =
+        let f' = join (trees s) (tree s.nodes.made w none none) in
+        let hx : x ≢ s.nodes.made = λ e. omega (arith, (deep-there s.nodes.made (trees s) h.counted x 0 a).0) in
+        graft-apart x y s.nodes.made p f' (sym (deep-is x s.nodes.made f' (at-most (s.nodes.made + 1) f' (counted-new s.nodes.made w (trees s) h.counted) s.nodes.made)) ∙ deep-newest x s.nodes.made w (trees s) (not-there s.nodes.made (trees s) h.counted s.nodes.made (omega arith)) hx)
+        ∙ deep-new x y s.nodes.made w (trees s) hy
+
+    low : (x : ℕ) → 0 < deep x 0 (trees s) → (x ≢ s.nodes.made) × (0 ≢ s.nodes.made)
+    low x a = ((λ e. omega (arith, (deep-there s.nodes.made (trees s) h.counted x 0 a).0)), (λ e. omega (arith, (deep-there s.nodes.made (trees s) h.counted x 0 a).1)))
+
+    pub grown-steady : Steady s grown
+    grown-steady = record {
+      out = λ x y a b c. same x y a (low y b).0 ∙ c;
+      stays = λ x a. rw (same x 0 a (low x a).1) a;
+    }
+
+    pub added-steady : (at : ℕ) → OnGoes (λ t. Steady s t × (stack t ≡ stack s)) (added at w p s)
+    added-steady at = go (leb s.nodes.limit s.nodes.made)
+      where
+        go : (v : Bool) → OnGoes (λ t. Steady s t × (stack t ≡ stack s)) (and_then (cond v (Refused (TooManyNodes at)) (Goes (record s { nodes = make w s.nodes }))) (λ t. Goes (with_trees (graft s.nodes.made p (trees t)) t)))
+        go true = tt
+        go false = (grown-steady, refl)
+
+  abbrev pub Deeper : SiteOf N → SiteOf N → Type 0
+  Deeper s t = Steady s t × ((x : OpenNode N) × (stack t ≡ x ∷ stack s) × (x.node ≡ s.nodes.made))
+
+  pub inserted-steady : (at : ℕ) (name : N) (attrs : List (Attribute N)) (p : Place) (s : SiteOf N) → Well n s → OnGoes (Deeper s) (inserted at name attrs p s)
+  inserted-steady at name attrs p s h = go (leb s.nodes.limit s.nodes.made)
+    where
+      deepens : (v : Bool) → OnGoes (Deeper s) (cond v (Refused (TooDeep at)) (Goes (with_stack (record { node = s.nodes.made; name = name } ∷ stack s) (grown (element name attrs) p s h))))
+      deepens true = tt
+      deepens false = (record { out = (grown-steady (element name attrs) p s h).out; stays = (grown-steady (element name attrs) p s h).stays }, (record { node = s.nodes.made; name = name }, refl, refl))
+
+      go : (u : Bool) → OnGoes (Deeper s) (and_then (and_then (cond u (Refused (TooManyNodes at)) (Goes (record s { nodes = make (element name attrs) s.nodes }))) (λ t. Goes (with_trees (graft s.nodes.made p (trees t)) t))) (pushed at (record { node = s.nodes.made; name = name })))
+      go true = tt
+      go false = deepens (leb s.open_nodes.limit (length (stack s)))
+
+  what-steady : (k : ℕ) (g : What N → What N) (s t : SiteOf N) → trees t ≡ change_what k g (trees s) → Steady s t
+  what-steady k g s t e = record {
+    out = λ x h a b c. subst (λ (f : Forest N). deep x h f ≡ 0) (sym e) (deep-what x h k g (trees s) ∙ c);
+    stays = λ x a. subst (λ (f : Forest N). 0 < deep x 0 f) (sym e) (rw (deep-what x 0 k g (trees s)) a);
+  }
+
+  pub put-steady : (at c : ℕ) (p : Place) (s : SiteOf N) → Well n s → OnGoes (λ t. Steady s t × (stack t ≡ stack s)) (put at c p s)
+  put-steady at c p s h = go (text_before p (trees s)) (is_none (text_before p (trees s)) && leb s.nodes.limit s.nodes.made)
+    where
+      go : (o : Option ℕ) (v : Bool) → OnGoes (λ t. Steady s t × (stack t ≡ stack s)) (cond v (Refused (TooManyNodes at)) (Goes (record s { nodes = char_into c p o s.nodes })))
+      go o true = tt
+      go None false = (record { out = (grown-steady (text (encode_utf8 c)) p s h).out; stays = (grown-steady (text (encode_utf8 c)) p s h).stays }, refl)
+      go (Some k) false = (what-steady k (with_char c) s _ refl, refl)
+
+  pub missing-steady : (k : ℕ) (attrs : List (Attribute N)) (s : SiteOf N) → Steady s (with_trees (with_missing n k attrs (trees s)) s)
+  missing-steady k [] s = steady-same s s refl
+  missing-steady k (a ∷ attrs) s = go (λ f. missing-steady k attrs (with_trees f s)) (has_attribute n a.0 (attributes_of k (trees s)))
+    where
+      go : ((f : Forest N) → Steady (with_trees f s) (with_trees (with_missing n k attrs f) s)) → (v : Bool) → Steady s (with_trees (with_missing n k attrs (cond v (trees s) (add_attribute k a (trees s)))) s)
+      go rest true = rest (trees s)
+      go rest false = steady-then s (with_trees (add_attribute k a (trees s)) s) (with_trees (with_missing n k attrs (add_attribute k a (trees s))) s) (what-steady k (with_attribute a) s _ refl) (rest (add_attribute k a (trees s)))

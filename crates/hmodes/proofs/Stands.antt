@@ -1,0 +1,456 @@
+-- Every rule keeps what the open nodes need: they stand in the document's tree, each outside of those below it.
+use Rattle.std.proofs.Common.{◌≡◌, ℕ, ◌+◌, ◌<◌, ◌≤◌, Bool, true, false, not, cond, leb, List, [], ◌∷◌, ◌++◌, Option, Some, None, refl, sym, ◌∙◌, ap, subst, arith, length, filter, drop}
+use Rattle.std.specs.Prelude.{◌&&◌, ◌||◌, ◌==◌, nat_le}
+use Rattle.std.specs.Option.{option_map_or}
+use Rattle.std.specs.List.{list_any}
+use Rattle.hnodes.specs.Forest.{What, document, element}
+use Rattle.hnodes.specs.Forest as forest
+use Rattle.hnodes.specs.declared.node.Place.TheVariants.{LastIn}
+use Rattle.hopen.specs.Nearest.{without, after}
+use Rattle.hopen.specs.Stack.{OpenNode, is_node, current}
+use Rattle.hopen.specs.Formatting.{EntryOf, Item, entry, entries, cleared, find_entry, without_entry, with_room, without_earliest, is_equal, after_marker, most_equal}
+use Rattle.hopen.specs.Formatting as list
+use Rattle.names.specs.declared.placed.Placed.{Placed}
+use Rattle.names.specs.declared.tag.Tag.{Tag}
+use Rattle.names.specs.declared.tag.Tag.TheVariants as tag
+use Rattle.names.specs.declared.tag.Tag.TheVariants.{Html}
+use Rattle.names.specs.Placed.{is_space}
+use Rattle.names.specs.declared.error.ErrorCode.{ErrorCode}
+use Rattle.names.specs.declared.refusal.Refusal.TheVariants.{TooDeep}
+use Rattle.hadopt.specs.Naming.{Naming}
+use Rattle.hadopt.specs.Site.{Outcome, Goes, SiteOf, and_then, stack, trees, with_stack, with_error, with_items, from_top, node_of}
+use Rattle.hadopt.specs.Site as site
+use Rattle.hadopt.specs.Places.{place}
+use Rattle.hadopt.specs.Inserts.{added, inserted, pushed, listed}
+use Rattle.hadopt.specs.Closes.{is}
+use Rattle.hadopt.specs.Adopts.{adopted}
+use Rattle.hadopt.specs.Kept.{Each, Pairs, TellsTables, Kept}
+use Rattle.hnodes.proofs.Deep.{deep}
+use Rattle.hadopt.proofs.Lists.{each-map, Among, empty, skip, keep, among-all, among-after, among-without, each-among}
+use Rattle.hadopt.proofs.Climbing.{OnGoes, goes-then, Plain, PlainEntries, plain-without}
+use Rattle.hadopt.proofs.Settling.{Well}
+use Rattle.hadopt.proofs.Turning.{among-past, among-drop, fewer, listed-as, erred, closed-well, other-well, adopted-well, to-items, from-items}
+use Rattle.hadopt.proofs.Inserting.{missing-well, first-fits, here-fits, root-fits, place-fits, added-well, inserted-well, put-well, reconstructed-well}
+use Rattle.hmodes.specs.declared.mode.Mode.{Mode}
+use Rattle.hmodes.specs.declared.mode.Mode.TheVariants.{Initial, BeforeHtml, BeforeHead, InHead, InHeadNoscript, AfterHead, InBody, Text, InTable, InTableText, InCaption, InColumnGroup, InTableBody, InRow, InCell, AfterBody, AfterAfterBody}
+use Rattle.hmodes.specs.declared.family.Family.{Family}
+use Rattle.hmodes.specs.declared.family.Family.TheVariants as family
+use Rattle.hmodes.specs.Families.{family_of}
+use Rattle.hmodes.specs.Words.{Kind, Nul, Ws, Char, Start, End, Do, ◌▸◌, when, unless, choose, fostered, each_pending, error, insert, insert_named, insert_root, insert_root_named, insert_comment, comment_in_document, comment_in_first, insert_doctype, put, add_missing_to_first, add_missing_to_second, pop, pop_to, pop_to_name, pop_to_group, implied, implied_except, implied_except_name, clear_to_table, clear_to_body, clear_to_row, push_head, remove_head, remove_form, reconstruct, push_to_list, marker, clear_to_marker, close_p, adopt, adopt_listed, other_end}
+use Rattle.hmodes.specs.State.{Token, character, start, end, doctype, comment, eof, State, Flow, Done, Again, Refused, kind_of, flow_then, flow_map, token_name, token_attrs, token_text, token_char}
+use Rattle.hmodes.specs.Questions.{answer_of, is_token_name}
+use Rattle.hmodes.specs.Doctypes.{doctype_node}
+use Rattle.hmodes.specs.Perform.{perform, with_foster, with_control, with_site, each_of, flow_of, removed, forgotten, current_node, adopted_listed, head_pushed}
+use Rattle.hmodes.specs.Rules.{rule_of, code_of}
+use Rattle.hmodes.specs.Step.{Rule}
+use Rattle.hmodes.specs.Head.{initial, before_html, before_head, in_head, in_head_noscript, after_head, late}
+use Rattle.hmodes.specs.Body.{in_body, text, after_body, after_after_body}
+use Rattle.hmodes.specs.Table.{in_table, in_table_text, in_caption, in_column_group, in_table_body, in_row, in_cell}
+use Rattle.hmodes.proofs.Once.{both}
+
+-- a program opens the head again nowhere, and lists the current node only where it may
+abbrev pub tame : (may_list : Bool) → Do → Bool
+tame v (p ▸ q) = tame v p && tame v q
+tame v (when question p) = tame v p
+tame v (unless question p) = tame v p
+tame v (choose question p q) = tame v p && tame v q
+tame v (fostered p) = tame v p
+tame v (each_pending p) = tame false p
+tame v push_head = false
+tame v push_to_list = v
+tame v _ = true
+
+-- the tags that are listed
+abbrev may_list : Kind → Bool
+may_list (Start family.A) = true
+may_list (Start family.Formatting) = true
+may_list (Start family.Nobr) = true
+may_list _ = false
+
+tame-initial : (k : Kind) → tame (may_list k) (initial k) ≡ true
+tame-initial Nul = refl
+tame-initial (Start family.A) = refl
+tame-initial (Start family.Formatting) = refl
+tame-initial (Start family.Nobr) = refl
+tame-initial (Start _) = refl
+tame-initial (End family.Html) = refl
+tame-initial (End _) = refl
+tame-initial _ = refl
+
+tame-before_html : (k : Kind) → tame (may_list k) (before_html k) ≡ true
+tame-before_html Nul = refl
+tame-before_html (Start family.A) = refl
+tame-before_html (Start family.Formatting) = refl
+tame-before_html (Start family.Nobr) = refl
+tame-before_html (Start _) = refl
+tame-before_html (End family.Html) = refl
+tame-before_html (End _) = refl
+tame-before_html _ = refl
+
+tame-before_head : (k : Kind) → tame (may_list k) (before_head k) ≡ true
+tame-before_head Nul = refl
+tame-before_head (Start family.A) = refl
+tame-before_head (Start family.Formatting) = refl
+tame-before_head (Start family.Nobr) = refl
+tame-before_head (Start _) = refl
+tame-before_head (End family.Html) = refl
+tame-before_head (End _) = refl
+tame-before_head _ = refl
+
+tame-in_head : (k : Kind) → tame (may_list k) (in_head k) ≡ true
+tame-in_head Nul = refl
+tame-in_head (Start family.A) = refl
+tame-in_head (Start family.Formatting) = refl
+tame-in_head (Start family.Nobr) = refl
+tame-in_head (Start _) = refl
+tame-in_head (End family.Html) = refl
+tame-in_head (End _) = refl
+tame-in_head _ = refl
+
+tame-in_head_noscript : (k : Kind) → tame (may_list k) (in_head_noscript k) ≡ true
+tame-in_head_noscript Nul = refl
+tame-in_head_noscript (Start family.A) = refl
+tame-in_head_noscript (Start family.Formatting) = refl
+tame-in_head_noscript (Start family.Nobr) = refl
+tame-in_head_noscript (Start _) = refl
+tame-in_head_noscript (End family.Html) = refl
+tame-in_head_noscript (End _) = refl
+tame-in_head_noscript _ = refl
+
+tame-in_body : (k : Kind) → tame (may_list k) (in_body k) ≡ true
+tame-in_body Nul = refl
+tame-in_body (Start family.A) = refl
+tame-in_body (Start family.Formatting) = refl
+tame-in_body (Start family.Nobr) = refl
+tame-in_body (Start _) = refl
+tame-in_body (End family.Html) = refl
+tame-in_body (End _) = refl
+tame-in_body _ = refl
+
+tame-text : (k : Kind) → tame (may_list k) (text k) ≡ true
+tame-text Nul = refl
+tame-text (Start family.A) = refl
+tame-text (Start family.Formatting) = refl
+tame-text (Start family.Nobr) = refl
+tame-text (Start _) = refl
+tame-text (End family.Html) = refl
+tame-text (End _) = refl
+tame-text _ = refl
+
+tame-in_table : (k : Kind) → tame (may_list k) (in_table k) ≡ true
+tame-in_table Nul = refl
+tame-in_table (Start family.A) = refl
+tame-in_table (Start family.Formatting) = refl
+tame-in_table (Start family.Nobr) = refl
+tame-in_table (Start _) = refl
+tame-in_table (End family.Html) = refl
+tame-in_table (End _) = refl
+tame-in_table _ = refl
+
+tame-in_table_text : (k : Kind) → tame (may_list k) (in_table_text k) ≡ true
+tame-in_table_text Nul = refl
+tame-in_table_text (Start family.A) = refl
+tame-in_table_text (Start family.Formatting) = refl
+tame-in_table_text (Start family.Nobr) = refl
+tame-in_table_text (Start _) = refl
+tame-in_table_text (End family.Html) = refl
+tame-in_table_text (End _) = refl
+tame-in_table_text _ = refl
+
+tame-in_caption : (k : Kind) → tame (may_list k) (in_caption k) ≡ true
+tame-in_caption Nul = refl
+tame-in_caption (Start family.A) = refl
+tame-in_caption (Start family.Formatting) = refl
+tame-in_caption (Start family.Nobr) = refl
+tame-in_caption (Start _) = refl
+tame-in_caption (End family.Html) = refl
+tame-in_caption (End _) = refl
+tame-in_caption _ = refl
+
+tame-in_column_group : (k : Kind) → tame (may_list k) (in_column_group k) ≡ true
+tame-in_column_group Nul = refl
+tame-in_column_group (Start family.A) = refl
+tame-in_column_group (Start family.Formatting) = refl
+tame-in_column_group (Start family.Nobr) = refl
+tame-in_column_group (Start _) = refl
+tame-in_column_group (End family.Html) = refl
+tame-in_column_group (End _) = refl
+tame-in_column_group _ = refl
+
+tame-in_table_body : (k : Kind) → tame (may_list k) (in_table_body k) ≡ true
+tame-in_table_body Nul = refl
+tame-in_table_body (Start family.A) = refl
+tame-in_table_body (Start family.Formatting) = refl
+tame-in_table_body (Start family.Nobr) = refl
+tame-in_table_body (Start _) = refl
+tame-in_table_body (End family.Html) = refl
+tame-in_table_body (End _) = refl
+tame-in_table_body _ = refl
+
+tame-in_row : (k : Kind) → tame (may_list k) (in_row k) ≡ true
+tame-in_row Nul = refl
+tame-in_row (Start family.A) = refl
+tame-in_row (Start family.Formatting) = refl
+tame-in_row (Start family.Nobr) = refl
+tame-in_row (Start _) = refl
+tame-in_row (End family.Html) = refl
+tame-in_row (End _) = refl
+tame-in_row _ = refl
+
+tame-in_cell : (k : Kind) → tame (may_list k) (in_cell k) ≡ true
+tame-in_cell Nul = refl
+tame-in_cell (Start family.A) = refl
+tame-in_cell (Start family.Formatting) = refl
+tame-in_cell (Start family.Nobr) = refl
+tame-in_cell (Start _) = refl
+tame-in_cell (End family.Html) = refl
+tame-in_cell (End _) = refl
+tame-in_cell _ = refl
+
+tame-after_body : (k : Kind) → tame (may_list k) (after_body k) ≡ true
+tame-after_body Nul = refl
+tame-after_body (Start family.A) = refl
+tame-after_body (Start family.Formatting) = refl
+tame-after_body (Start family.Nobr) = refl
+tame-after_body (Start _) = refl
+tame-after_body (End family.Html) = refl
+tame-after_body (End _) = refl
+tame-after_body _ = refl
+
+tame-after_after_body : (k : Kind) → tame (may_list k) (after_after_body k) ≡ true
+tame-after_after_body Nul = refl
+tame-after_after_body (Start family.A) = refl
+tame-after_after_body (Start family.Formatting) = refl
+tame-after_after_body (Start family.Nobr) = refl
+tame-after_after_body (Start _) = refl
+tame-after_after_body (End family.Html) = refl
+tame-after_after_body (End _) = refl
+tame-after_after_body _ = refl
+
+module _ {N : Type 0} (n : Naming N) where
+  abbrev pub FlowWell : Flow N → Type 0
+  FlowWell (Done s) = Well n s.site
+  FlowWell (Again t s) = Well n s.site
+  FlowWell (Refused r) = Unit {0}
+
+  on-site : (s : State N) (o : Outcome (SiteOf N)) → OnGoes (Well n) o → FlowWell (flow_of s o)
+  on-site s (Goes x) h = h
+  on-site s (site.Refused r) h = tt
+
+  well-then : (f : Flow N) (g : State N → Flow N) → FlowWell f → ((s : State N) → Well n s.site → FlowWell (g s)) → FlowWell (flow_then f g)
+  well-then (Done s) g h k = k s h
+  well-then (Again t s) g h k = h
+  well-then (Refused r) g h k = tt
+
+  flagged : (v : Bool) (s : SiteOf N) → Well n s → Well n (record s { foster = v })
+  flagged v s h = record { counted = h.counted; each = h.each; order = h.order; plain = h.plain }
+
+  well-map : (v : Bool) (f : Flow N) → FlowWell f → FlowWell (flow_map (with_foster v) f)
+  well-map v (Done s) h = flagged v s.site h
+  well-map v (Again t s) h = flagged v s.site h
+  well-map v (Refused r) h = tt
+
+  well-each : (f : Placed → State N → Flow N) → ((c : Placed) (s : State N) → Well n s.site → FlowWell (f c s)) → (cs : List Placed) (s : State N) → Well n s.site → FlowWell (each_of f cs s)
+  well-each f k [] s h = h
+  well-each f k (c ∷ cs) s h = well-then (f c s) (each_of f cs) (k c s h) (λ v m. well-each f k cs v m)
+
+  removed-well : (o : Option ℕ) (s : SiteOf N) → Well n s → Well n (removed o s)
+  removed-well None s h = fewer n s (stack s) (among-all (stack s)) h
+  removed-well (Some k) s h = fewer n s _ (among-without (is_node k) (stack s)) h
+
+  forgotten-well : (k : ℕ) (s : SiteOf N) → Well n s → Well n (forgotten k s)
+  forgotten-well k s h = listed-as n (removed (Some k) s) (without_entry k s.items) (plain-without n k s.items h.plain) (removed-well (Some k) s h)
+
+  plain-cleared : (items : List (Item N)) → PlainEntries n items → PlainEntries n (cleared items)
+  plain-cleared [] h = tt
+  plain-cleared (list.marker ∷ items) h = h
+  plain-cleared (entry e ∷ items) h = plain-cleared items h.1
+
+  plain-earliest : (p : EntryOf N → Bool) (items : List (Item N)) → PlainEntries n items → PlainEntries n (without_earliest p items)
+  plain-earliest p [] h = tt
+  plain-earliest p (list.marker ∷ items) h = h
+  plain-earliest p (entry e ∷ items) h = go (p e && not (list_any p (after_marker items))) (plain-earliest p items h.1)
+    where
+      go : (v : Bool) → PlainEntries n (without_earliest p items) → PlainEntries n (cond v items (entry e ∷ without_earliest p items))
+      go true r = h.1
+      go false r = (h.0, r)
+
+  plain-room : (e : EntryOf N) (items : List (Item N)) → PlainEntries n items → PlainEntries n (with_room n.same e items)
+  plain-room e items h = go (nat_le most_equal (length (filter (is_equal n.same e) (after_marker items))))
+    where
+      go : (v : Bool) → PlainEntries n (cond v (without_earliest (is_equal n.same e) items) items)
+      go true = plain-earliest (is_equal n.same e) items h
+      go false = h
+
+  listed-well : (t : Token N) → Plain n (token_name n t) → (s : SiteOf N) → Well n s → Well n (listed n (token_name n t) (token_attrs t) s)
+  listed-well t name s h = listed-as n s _ (name, plain-room (record { node = current_node s; name = token_name n t; attrs = token_attrs t }) s.items h.plain) h
+
+  module _ (tells : TellsTables n) where
+    adopted-listed-well : (at : ℕ) (name : N) (s : SiteOf N) → Well n s → OnGoes (Well n) (adopted_listed n at name s)
+    adopted-listed-well at name s h = goes-then (Well n) (Well n) (adopted n at name s) _ (adopted-well n tells at name s h) (λ y k. go y k (find_entry n.same name s.items))
+      where
+        go : (y : SiteOf N) → Well n y → (o : Option (EntryOf N)) → Well n (option_map_or (λ e. forgotten e.node y) o y)
+        go y k None = k
+        go y k (Some e) = forgotten-well e.node y k
+
+    pub perform-well : (v : Bool) (p : Do) → tame v p ≡ true → (at : ℕ) (t : Token N) → (v ≡ true → Plain n (token_name n t)) → (s : State N) → Well n s.site → FlowWell (perform n at t p s)
+    perform-well v (p ▸ q) calm at t name s h =
+        let parts = both (tame v p) (tame v q) calm in
+        well-then (perform n at t p s) (perform n at t q) (perform-well v p parts.0 at t name s h) (λ u m. perform-well v q parts.1 at t name u m)
+    perform-well v (when question p) calm at t name s h = go (answer_of n t question s) (perform-well v p calm at t name s h)
+      where
+        go : (x : Bool) → FlowWell (perform n at t p s) → FlowWell (cond x (perform n at t p s) (Done s))
+        go true m = m
+        go false m = h
+    perform-well v (unless question p) calm at t name s h = go (answer_of n t question s) (perform-well v p calm at t name s h)
+      where
+        go : (x : Bool) → FlowWell (perform n at t p s) → FlowWell (cond x (Done s) (perform n at t p s))
+        go true m = h
+        go false m = m
+    perform-well v (choose question p q) calm at t name s h = go (answer_of n t question s) (perform-well v p (both (tame v p) (tame v q) calm).0 at t name s h) (perform-well v q (both (tame v p) (tame v q) calm).1 at t name s h)
+      where
+        go : (x : Bool) → FlowWell (perform n at t p s) → FlowWell (perform n at t q s) → FlowWell (cond x (perform n at t p s) (perform n at t q s))
+        go true m k = m
+        go false m k = k
+    perform-well v (fostered p) calm at t name s h = well-map false (perform n at t p (with_foster true s)) (perform-well v p calm at t name (with_foster true s) (flagged true s.site h))
+    perform-well v (each_pending p) calm at t name s h =
+        well-each (λ c. perform n c.at (character c.ch) p) (λ c u m. perform-well false p calm c.at (character c.ch) (λ e. cc) u m) s.control.pending (with_control (record s.control { pending = [] }) s) h
+    perform-well v (error m) calm at t name s h = erred n s.site _ at h
+    perform-well v insert calm at t name s h = on-site s _ (inserted-well n at (token_name n t) (token_attrs t) (place n s.site) s.site h (place-fits n (element (token_name n t) (token_attrs t)) s.site h))
+    perform-well v (insert_named x) calm at t name s h = on-site s _ (inserted-well n at (n.known x) [] (place n s.site) s.site h (place-fits n (element (n.known x) []) s.site h))
+    perform-well v insert_root calm at t name s h = on-site s _ (inserted-well n at (token_name n t) (token_attrs t) (LastIn 0) s.site h (root-fits n (element (token_name n t) (token_attrs t)) s.site h))
+    perform-well v (insert_root_named x) calm at t name s h = on-site s _ (inserted-well n at (n.known x) [] (LastIn 0) s.site h (root-fits n (element (n.known x) []) s.site h))
+    perform-well v insert_comment calm at t name s h = on-site s _ (added-well n (forest.comment (token_text t)) s.site h (LastIn (current_node s.site)) (here-fits n (forest.comment (token_text t)) s.site h) at)
+    perform-well v comment_in_document calm at t name s h = on-site s _ (added-well n (forest.comment (token_text t)) s.site h (LastIn 0) (root-fits n (forest.comment (token_text t)) s.site h) at)
+    perform-well v comment_in_first calm at t name s h = on-site s _ (added-well n (forest.comment (token_text t)) s.site h (LastIn (node_of (from_top 0 s.site))) (first-fits n (forest.comment (token_text t)) s.site h) at)
+    perform-well v insert_doctype calm at t name s h = on-site s _ (added-well n (doctype_node t) s.site h (LastIn 0) (root-fits n (doctype_node t) s.site h) at)
+    perform-well v put calm at t name s h = on-site s _ (put-well n at (token_char t) (place n s.site) s.site h (place-fits n _ s.site h))
+    perform-well v add_missing_to_first calm at t name s h = missing-well n (node_of (from_top 0 s.site)) (token_attrs t) s.site h
+    perform-well v add_missing_to_second calm at t name s h = missing-well n (node_of (from_top 1 s.site)) (token_attrs t) s.site h
+    perform-well v pop calm at t name s h = fewer n s.site _ (among-drop (stack s.site)) h
+    perform-well v (pop_to x) calm at t name s h = fewer n s.site _ (among-after _ (stack s.site)) h
+    perform-well v pop_to_name calm at t name s h = fewer n s.site _ (among-after _ (stack s.site)) h
+    perform-well v (pop_to_group group) calm at t name s h = fewer n s.site _ (among-after _ (stack s.site)) h
+    perform-well v implied calm at t name s h = fewer n s.site _ (among-past _ (stack s.site)) h
+    perform-well v (implied_except x) calm at t name s h = fewer n s.site _ (among-past _ (stack s.site)) h
+    perform-well v implied_except_name calm at t name s h = fewer n s.site _ (among-past _ (stack s.site)) h
+    perform-well v clear_to_table calm at t name s h = fewer n s.site _ (among-past _ (stack s.site)) h
+    perform-well v clear_to_body calm at t name s h = fewer n s.site _ (among-past _ (stack s.site)) h
+    perform-well v clear_to_row calm at t name s h = fewer n s.site _ (among-past _ (stack s.site)) h
+    perform-well v push_head calm at t name s h = cc
+    perform-well v remove_head calm at t name s h = removed-well s.control.head s.site h
+    perform-well v remove_form calm at t name s h = removed-well s.control.form s.site h
+    perform-well v reconstruct calm at t name s h = on-site s _ (reconstructed-well n at s.site h)
+    perform-well v push_to_list calm at t name s h = listed-well t (name calm) s.site h
+    perform-well v marker calm at t name s h = listed-as n s.site _ h.plain h
+    perform-well v clear_to_marker calm at t name s h = listed-as n s.site _ (plain-cleared s.site.items h.plain) h
+    perform-well v close_p calm at t name s h = closed-well n at (is n tag.P) s.site h
+    perform-well v adopt calm at t name s h = on-site s _ (adopted-well n tells at (token_name n t) s.site h)
+    perform-well v adopt_listed calm at t name s h = on-site s _ (adopted-listed-well at (token_name n t) s.site h)
+    perform-well v other_end calm at t name s h = other-well n at (token_name n t) s.site h
+    perform-well v p calm at t name s h = h
+
+-- what is late in the head
+abbrev is_late : Kind → Bool
+is_late (Start family.Base) = true
+is_late (Start family.Link) = true
+is_late (Start family.Noframes) = true
+is_late (Start family.Script) = true
+is_late (Start family.Style) = true
+is_late (Start family.Title) = true
+is_late _ = false
+
+tame-after_head : (k : Kind) → (is_late k || tame (may_list k) (after_head k)) ≡ true
+tame-after_head Nul = refl
+tame-after_head (Start family.A) = refl
+tame-after_head (Start _) = refl
+tame-after_head (End family.Html) = refl
+tame-after_head (End _) = refl
+tame-after_head _ = refl
+
+-- whether a rule opens the head again
+abbrev opens_head : Mode → Kind → Bool
+opens_head AfterHead k = is_late k
+opens_head _ k = false
+
+tame-rule : (m : Mode) (k : Kind) → (opens_head m k || tame (may_list k) (rule_of m k)) ≡ true
+tame-rule AfterHead k = tame-after_head k
+tame-rule Initial k = tame-initial k
+tame-rule BeforeHtml k = tame-before_html k
+tame-rule BeforeHead k = tame-before_head k
+tame-rule InHead k = tame-in_head k
+tame-rule InHeadNoscript k = tame-in_head_noscript k
+tame-rule InBody k = tame-in_body k
+tame-rule Text k = tame-text k
+tame-rule InTable k = tame-in_table k
+tame-rule InTableText k = tame-in_table_text k
+tame-rule InCaption k = tame-in_caption k
+tame-rule InColumnGroup k = tame-in_column_group k
+tame-rule InTableBody k = tame-in_table_body k
+tame-rule InRow k = tame-in_row k
+tame-rule InCell k = tame-in_cell k
+tame-rule AfterBody k = tame-after_body k
+tame-rule AfterAfterBody k = tame-after_after_body k
+
+-- none of them is for a table
+list-plain : (x : Tag) → may_list (Start (family_of x)) ≡ true → x ≡ tag.Table → ⊥
+list-plain x may is = let clash : may_list (Start (family_of tag.Table)) ≡ true = subst (λ (y : Tag). may_list (Start (family_of y)) ≡ true) is may in cc
+
+module _ {N : Type 0} (n : Naming N) (tells : TellsTables n) where
+  plain-token : (t : Token N) → may_list (kind_of n t) ≡ true → Plain n (token_name n t)
+  plain-token (start x attrs closing) may = go (n.same x (n.known tag.Table)) refl
+    where
+      go : (v : Bool) → n.same x (n.known tag.Table) ≡ v → v ≡ false
+      go false e = refl
+      go true e = absurd (list-plain (n.tag x) may (tells x e))
+  plain-token (end x) may = cc
+  plain-token (doctype a b c d) may = cc
+  plain-token (comment a) may = cc
+  plain-token eof may = cc
+  plain-token (character c) may = go (c == 0) (is_space c) may
+    where
+      go : (u v : Bool) → may_list (cond u Nul (cond v Ws Char)) ≡ true → Plain n (n.known Html)
+      go true v e = cc
+      go false true e = cc
+      go false false e = cc
+
+  -- what a rule that opens the head again asks: the head stands in the document's tree, and no open node is inside it
+  pub record HeadIsOut (h : ℕ) (s : SiteOf N) : Type 0 where
+    pub stands : (0 < deep h 0 (trees s)) × (0 < h)
+    pub out : Each (λ x. deep x.node h (trees s) ≡ 0) (stack s)
+
+  abbrev pub HeadOut : State N → Type 0
+  HeadOut s = (h : ℕ) → s.control.head ≡ Some h → HeadIsOut h s.site
+
+  pub head-pushed-well : (at : ℕ) (o : Option ℕ) (s : SiteOf N) → ((h : ℕ) → o ≡ Some h → HeadIsOut h s) → Well n s → OnGoes (Well n) (head_pushed n at o s)
+  head-pushed-well at None s out k = k
+  head-pushed-well at (Some h) s out k = go (leb s.open_nodes.limit (length (stack s)))
+    where
+      go : (v : Bool) → OnGoes (Well n) (cond v (site.Refused (TooDeep at)) (Goes (with_stack (record { node = h; name = n.known tag.Head } ∷ stack s) s)))
+      go true = tt
+      go false = let o = out h refl in record { counted = k.counted; each = (o.stands, k.each); order = (o.out, k.order); plain = k.plain }
+
+  late-well : (p : Do) → tame false p ≡ true → (at : ℕ) (t : Token N) (s : State N) → HeadOut s → Well n s.site → FlowWell n (perform n at t (late p) s)
+  late-well p calm at t s out h =
+      well-then n (perform n at t push_head (with_site (with_error (code_of AfterHead) at s.site) s)) (perform n at t (p ▸ remove_head))
+      (on-site n (with_site (with_error (code_of AfterHead) at s.site) s) _ (head-pushed-well at s.control.head (with_error (code_of AfterHead) at s.site) (λ h' e. let o = out h' e in record { stands = o.stands; out = o.out }) (erred n s.site (code_of AfterHead) at h)))
+      (λ u m. perform-well n tells false (p ▸ remove_head) (rw calm refl) at t (λ e. cc) u m)
+
+  -- what is late is late by name
+  late-rule : (k : Kind) → is_late k ≡ true → (at : ℕ) (t : Token N) (s : State N) → HeadOut s → Well n s.site → FlowWell n (perform n at t (after_head k) s)
+  late-rule (Start family.Base) e = late-well (in_head (Start family.Base)) refl
+  late-rule (Start family.Link) e = late-well (in_head (Start family.Link)) refl
+  late-rule (Start family.Noframes) e = late-well (in_head (Start family.Noframes)) refl
+  late-rule (Start family.Script) e = late-well (in_head (Start family.Script)) refl
+  late-rule (Start family.Style) e = late-well (in_head (Start family.Style)) refl
+  late-rule (Start family.Title) e = late-well (in_head (Start family.Title)) refl
+  late-rule _ e = cc
+
+  -- every rule keeps it
+  pub rule-well : (at : ℕ) (t : Token N) (s : State N) → (s.control.mode ≡ AfterHead → HeadOut s) → Well n s.site → FlowWell n (Rule n at t s)
+  rule-well at t s out h = go s.control.mode refl (opens_head s.control.mode (kind_of n t)) refl (tame-rule s.control.mode (kind_of n t))
+    where
+      go : (m : Mode) → s.control.mode ≡ m → (v : Bool) → opens_head m (kind_of n t) ≡ v → (v || tame (may_list (kind_of n t)) (rule_of m (kind_of n t))) ≡ true → FlowWell n (perform n at t (rule_of m (kind_of n t)) s)
+      go m is false e calm = perform-well n tells (may_list (kind_of n t)) (rule_of m (kind_of n t)) calm at t (plain-token t) s h
+      go AfterHead is true e calm = late-rule (kind_of n t) e at t s (out is) h
+      go _ is true e calm = cc

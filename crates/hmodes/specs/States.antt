@@ -1,0 +1,7 @@
+-- The state that a value of the program stands for.
+use Rattle.std.specs.Prelude.{ℕ}
+use Rattle.hmodes.specs.State.{State}
+use Rattle.hmodes.specs.declared.rules.Rules.{Rules}
+
+abbrev pub state_of : Rules → State ℕ
+state_of r = record { site = r.site; control = r.control; context = r.context; quirks_list = r.quirks_list.now }

@@ -1,0 +1,40 @@
+//! The state of the tree construction beside the tree (HTML Standard, 13.2.4).
+
+use crate::mode::Mode;
+use hnodes::NodeId;
+use names::Placed;
+use std::marker::Model;
+
+/// The mode, the pointers, the flags, and the pending table characters.
+#[derive(Drop)]
+pub(crate) struct Control {
+    pub(crate) mode: Mode,
+    pub(crate) saved: Mode,
+    /// The head element pointer.
+    pub(crate) head: Option<NodeId>,
+    /// The form element pointer; the document stands for a context, which is never open.
+    pub(crate) form: Option<NodeId>,
+    pub(crate) quirks: bool,
+    pub(crate) pending: Vec<Placed>,
+    /// Whether the next token is ignored if it is a LF.
+    pub(crate) drop_lf: bool,
+    /// Whether the solidus of this token was acknowledged.
+    pub(crate) acknowledged: bool,
+}
+
+impl Model for Control {
+    ghost use Rattle.hmodes.specs.State.{Control as ControlOf};
+
+    ghost Value = { ControlOf };
+
+    ghost view = { λ c. record {
+      mode = c.mode;
+      saved = c.saved;
+      head = c.head;
+      form = c.form;
+      quirks = c.quirks;
+      pending = c.pending.items;
+      drop_lf = c.drop_lf;
+      acknowledged = c.acknowledged;
+    } };
+}

@@ -1,0 +1,63 @@
+//! What the rules of all modes work with.
+
+ghost use Rattle.std.specs.Prelude.{◌≡◌, ◌⊎◌, ℕ};
+ghost use Rattle.hadopt.specs.Naming.{numbers};
+ghost use Rattle.hmodes.specs.Flows.{FlowGives, StateGives};
+ghost use Rattle.hmodes.specs.States.{state_of};
+ghost use Rattle.hmodes.specs.State.{Token as TokenOf};
+ghost use Rattle.hmodes.specs.Perform.{perform};
+ghost use Rattle.hmodes.specs.Programs.{close_p_in_scope};
+ghost use Rattle.hmodes.specs.Words.{error};
+ghost use Rattle.hmodes.specs.Rules.{code_of};
+
+use crate::control::Control;
+use crate::mode::Mode;
+use hadopt::{Site};
+use hopen::Scope;
+use hmarkup::Quirks;
+use names::{ErrorCode, NameId, Refusal, Tag};
+use std::alloc::Global;
+
+/// What comes of a rule: it ends, or the token goes again.
+#[derive(Clone, Copy, Debug, PartialEq, Eq)]
+pub(crate) enum Flow {
+    Done,
+    Again,
+}
+
+/// The state of the tree construction.
+#[derive(Drop)]
+pub(crate) struct Rules<'q> {
+    pub(crate) site: Site,
+    pub(crate) control: Control,
+    pub(crate) context: Option<NameId>,
+    pub(crate) quirks_list: &'q Quirks,
+    pub(crate) alloc: Global,
+}
+
+impl Mode {
+    /// The code of the errors of its rules.
+    pub(crate) fn code(self) -> ErrorCode
+        ensures { result ≡ code_of self }
+    {
+        match self {
+            Mode::Initial => ErrorCode::TreeInitial,
+            Mode::BeforeHtml => ErrorCode::TreeBeforeHtml,
+            Mode::BeforeHead => ErrorCode::TreeBeforeHead,
+            Mode::InHead => ErrorCode::TreeInHead,
+            Mode::InHeadNoscript => ErrorCode::TreeInHeadNoscript,
+            Mode::AfterHead => ErrorCode::TreeAfterHead,
+            Mode::InBody => ErrorCode::TreeInBody,
+            Mode::Text => ErrorCode::TreeText,
+            Mode::InTable => ErrorCode::TreeInTable,
+            Mode::InTableText => ErrorCode::TreeInTableText,
+            Mode::InCaption => ErrorCode::TreeInCaption,
+            Mode::InColumnGroup => ErrorCode::TreeInColumnGroup,
+            Mode::InTableBody => ErrorCode::TreeInTableBody,
+            Mode::InRow => ErrorCode::TreeInRow,
+            Mode::InCell => ErrorCode::TreeInCell,
+            Mode::AfterBody => ErrorCode::TreeAfterBody,
+            Mode::AfterAfterBody => ErrorCode::TreeAfterAfterBody,
+        }
+    }
+}

@@ -1,0 +1,51 @@
+-- What is held is a span where the input ends.
+use Rattle.std.proofs.Common.{◌≡◌, ℕ, true, false, List, [], ◌∷◌, ◌++◌, sym, ap, ◌∙◌, subst, append-nil}
+use Rattle.names.specs.declared.placed.Placed.{Placed}
+use Rattle.names.specs.declared.raw.RawKind.{RawKind}
+use Rattle.names.specs.declared.raw.RawKind.TheVariants as kind
+use Rattle.names.specs.Names.{Texts}
+use Rattle.charref.specs.Reference.{Entities}
+use Rattle.htoken.specs.declared.state.State.{State}
+use Rattle.htoken.specs.declared.state.State.TheVariants as state
+use Rattle.htoken.specs.declared.tokenizer.Tokenizer.{Tokenizer}
+use Rattle.htoken.specs.Token.{Span, Event}
+use Rattle.htoken.specs.Standing.{next}
+use Rattle.htoken.specs.Raw.{is_script}
+use Rattle.htoken.specs.Spans.{IsSpan}
+use Rattle.htoken.specs.Tokens.{events_of, has_refused}
+use Rattle.htoken.specs.Tokenizing.{Stands, Reads, IsHeld, IsIn}
+use Rattle.htoken.proofs.Cutting.{stands_more}
+
+-- in data there is no script
+pub no_script : {P : Type 0} (k : RawKind) → k ≡ kind.None → is_script k ≡ true → P
+no_script k e s = let never : false ≡ true = ap is_script (sym e) ∙ s in absurd cc
+
+module _ (table : Entities) (start : RawKind) (text : List Placed) (names : Texts) (taken : List Event) (t : Tokenizer) (h : Reads table start t names text [] taken) where
+  pub stands_whole : (end : ℕ) (span : Span) (after : List Placed) → h.held ≡ span.text ++ after → IsSpan table end h.here after span → has_refused span.tokens ≡ false
+      → Stands table start end (h.front ++ span.text) after (next h.here span) (taken ++ events_of span) []
+  stands_whole end span after held is allowed = stands_more table start end h.front after h.here taken span
+      (subst (λ (x : List Placed). Stands table start end h.front x h.here taken []) (append-nil h.held ∙ held) (h.stands end [])) is allowed
+
+  pub stands_at_end : (end : ℕ) (span : Span) → h.held ≡ span.text → IsSpan table end h.here [] span → has_refused span.tokens ≡ false → Stands table start end text [] (next h.here span) (taken ++ events_of span) []
+  stands_at_end end span held is allowed =
+      subst (λ (x : List Placed). Stands table start end x [] (next h.here span) (taken ++ events_of span) []) (ap (λ (x : List Placed). h.front ++ x) (sym held) ∙ sym h.text_is)
+      (stands_whole end span [] (held ∙ sym (append-nil span.text)) is allowed)
+
+  -- in a state
+  at_end : (s : State) → t.state ≡ s → IsHeld s table names h.here t h.held []
+  at_end s e = subst (λ (x : State). IsHeld x table names h.here t h.held []) e h.is_held
+
+  stands_in : (s : State) → t.state ≡ s → IsIn s h.here.kind
+  stands_in s e = subst (λ (x : State). IsIn x h.here.kind) e h.is_in
+
+  pub comment_end : t.state ≡ state.Comment → IsHeld state.Comment table names h.here t h.held []
+  comment_end e = at_end state.Comment e
+
+  pub doctype_end : t.state ≡ state.Doctype → IsHeld state.Doctype table names h.here t h.held []
+  doctype_end e = at_end state.Doctype e
+
+  pub comment_end_here : t.state ≡ state.Comment → h.here.kind ≡ kind.None
+  comment_end_here e = stands_in state.Comment e
+
+  pub doctype_end_here : t.state ≡ state.Doctype → h.here.kind ≡ kind.None
+  doctype_end_here e = stands_in state.Doctype e

@@ -1,0 +1,201 @@
+-- What the characters after `<!` begin, and what they do not.
+use Rattle.std.proofs.Common.{◌≡◌, ℕ, suc, ◌+◌, ◌<◌, get_or, take, Bool, true, false, ◌&&◌, ◌||◌, eqb, List, [], ◌∷◌, ◌++◌, map, length, sym, refl, ap, ◌∙◌, subst, Option, Some, None, arith, append_assoc, append-nil}
+use Rattle.std.proofs.lemmas.Bool.{eqb-true, eq-eqb}
+use Rattle.std.proofs.Math.Seq.{take-suc}
+use Rattle.std.specs.Prelude.{codes, slice_get, is_some}
+use Rattle.std.specs.Char.{to_ascii_lowercase}
+use Rattle.names.specs.declared.placed.Placed.{Placed}
+use Rattle.names.specs.Placed.{characters, lowered, all, begins, place, spells, spells_in_any_case}
+use Rattle.std.proofs.lemmas.Bool.Decides.{nat_tests}
+use Rattle.hmarkup.specs.Comment.{is_plain_in_bogus}
+use Rattle.hmarkup.proofs.Marks.{and_no, and_parts, and_both}
+use Rattle.htoken.specs.declared.declaration.Opened.{Opened}
+use Rattle.htoken.specs.declared.declaration.Opened.TheVariants as opened
+use Rattle.htoken.specs.declared.declaration.Opens.{Opens}
+use Rattle.htoken.specs.declared.declaration.Opens.TheVariants as opens
+use Rattle.htoken.specs.declared.declaration.Spelled.{Spelled}
+use Rattle.htoken.specs.declared.declaration.Spelled.TheVariants as spelled
+use Rattle.htoken.specs.Data.{is_declaration, is_cdata}
+use Rattle.htoken.specs.Declaration.{front_at, front_of, IsFrontOf, IsOpened, OpensAs}
+
+-- whether a text begins with a word, as each of its characters is read
+abbrev pub spells_as : (ℕ → ℕ) → List ℕ → List Placed → Bool
+spells_as read [] text = true
+spells_as read (c ∷ cs) [] = false
+spells_as read (c ∷ cs) (p ∷ ps) = eqb (read p.ch) c && spells_as read cs ps
+
+as_it_is : (cs : List ℕ) (text : List Placed) → spells cs text ≡ spells_as (λ c. c) cs text
+as_it_is [] text = refl
+as_it_is (c ∷ cs) [] = refl
+as_it_is (c ∷ cs) (p ∷ ps) = ap (λ (b : Bool). eqb p.ch c && b) (as_it_is cs ps)
+
+in_any_case : (cs : List ℕ) (text : List Placed) → spells_in_any_case cs text ≡ spells_as to_ascii_lowercase cs text
+in_any_case [] text = refl
+in_any_case (c ∷ cs) [] = refl
+in_any_case (c ∷ cs) (p ∷ ps) = ap (λ (b : Bool). eqb (to_ascii_lowercase p.ch) c && b) (in_any_case cs ps)
+
+module _ (read : ℕ → ℕ) where
+  abbrev pub as_read : List Placed → List ℕ
+  as_read text = map (λ p. read p.ch) text
+
+  -- a character that is not the word's next one, and a text that ends within the word
+  differs : (text : List Placed) (c : ℕ) (cs : List ℕ) (p : Placed) (more : List Placed) → eqb (read p.ch) c ≡ false → spells_as read (as_read text ++ c ∷ cs) (text ++ p ∷ more) ≡ false
+  differs [] c cs p more h = ap (λ (b : Bool). b && spells_as read cs more) h
+  differs (x ∷ xs) c cs p more h = and_no (eqb (read x.ch) (read x.ch)) (spells_as read (as_read xs ++ c ∷ cs) (xs ++ p ∷ more)) (differs xs c cs p more h)
+
+  cut_off : (text : List Placed) (c : ℕ) (cs : List ℕ) → spells_as read (as_read text ++ c ∷ cs) text ≡ false
+  cut_off [] c cs = refl
+  cut_off (x ∷ xs) c cs = and_no (eqb (read x.ch) (read x.ch)) (spells_as read (as_read xs ++ c ∷ cs) xs) (cut_off xs c cs)
+
+  whole : (text more : List Placed) → spells_as read (as_read text) (text ++ more) ≡ true
+  whole [] more = refl
+  whole (x ∷ xs) more = ap (λ (b : Bool). b && spells_as read (as_read xs) (xs ++ more)) (eq-eqb (read x.ch) (read x.ch) refl) ∙ whole xs more
+
+  next_is : (text : List Placed) (c : ℕ) (cs : List ℕ) → slice_get (as_read text ++ c ∷ cs) (length text) ≡ Some c
+  next_is [] c cs = refl
+  next_is (x ∷ xs) c cs = next_is xs c cs
+
+  one_more : (text : List Placed) (p : Placed) (left : List ℕ) → as_read (text ++ p ∷ []) ++ left ≡ as_read text ++ read p.ch ∷ left
+  one_more [] p left = refl
+  one_more (x ∷ xs) p left = ap (λ (cs : List ℕ). read x.ch ∷ cs) (one_more xs p left)
+
+  after_next : (text : List Placed) (c : ℕ) (cs : List ℕ) → slice_get (as_read text ++ c ∷ cs) (length text + 1) ≡ slice_get cs 0
+  after_next [] c cs = refl
+  after_next (x ∷ xs) c cs = let one : suc (length xs) + 1 ≡ suc (length xs + 1) = omega arith in ap (slice_get (read x.ch ∷ (as_read xs ++ c ∷ cs))) one ∙ after_next xs c cs
+
+  -- what a front of a word is with one more character
+  abbrev pub SpelledAs : List ℕ → Spelled → List Placed → Type 0
+  SpelledAs word spelled.Front text = IsFrontOf word (as_read text)
+  SpelledAs word spelled.Whole text = as_read text ≡ word
+  SpelledAs word spelled.Other text = (more : List Placed) → spells_as read word (text ++ more) ≡ false
+
+  spelled_at : (text : List Placed) (p : Placed) (c : ℕ) (left : List ℕ) (b : Bool) → eqb (read p.ch) c ≡ b → SpelledAs (as_read text ++ c ∷ left) (front_at (Some c) (is_some (slice_get left 0)) (read p.ch)) (text ++ p ∷ [])
+  spelled_at text p c left false e = rw e (λ more. subst (λ (x : List Placed). spells_as read (as_read text ++ c ∷ left) x ≡ false) (sym (append_assoc text (p ∷ []) more)) (differs text c left p more e))
+  spelled_at text p c [] true e = rw e (
+      sym (append-nil (as_read (text ++ p ∷ []))) ∙ one_more text p [] ∙ ap (λ (x : ℕ). as_read text ++ x ∷ []) (eqb-true (read p.ch) c e))
+  spelled_at text p c (d ∷ left) true e = rw e (d, left, one_more text p (d ∷ left) ∙ ap (λ (x : ℕ). as_read text ++ x ∷ d ∷ left) (eqb-true (read p.ch) c e))
+
+  pub spelled_is : (word : List ℕ) (text : List Placed) (p : Placed) → IsFrontOf word (as_read text) → SpelledAs word (front_of word (length text) (read p.ch)) (text ++ p ∷ [])
+  spelled_is word text p (c, left, is) =
+      subst (λ (w : List ℕ). SpelledAs w (front_of w (length text) (read p.ch)) (text ++ p ∷ [])) is
+      (rw (next_is text c left, after_next text c left) (spelled_at text p c left (eqb (read p.ch) c) refl))
+
+-- WHAT THEY ARE
+
+no_dashes : (x : Placed) (xs : List Placed) → eqb x.ch 45 ≡ false → spells (codes "--") (x ∷ xs) ≡ false
+no_dashes x xs e = rw e refl
+
+no_cdata : (x : Placed) (xs : List Placed) → eqb x.ch 91 ≡ false → is_cdata (x ∷ xs) ≡ false
+no_cdata x xs e = rw e refl
+
+no_doctype : (x : Placed) (xs : List Placed) → eqb (to_ascii_lowercase x.ch) 100 ≡ false → spells_in_any_case (codes "doctype") (x ∷ xs) ≡ false
+no_doctype x xs e = rw e refl
+
+three : (a b c : Bool) → a ≡ false → b ≡ false → c ≡ false → ((a || b) || c) ≡ false
+three a b c e f g = rw (e, f, g) refl
+
+-- by the first character
+other_letter : (x : ℕ) (k : ℕ) → eqb (to_ascii_lowercase x) 100 ≡ true → eqb (to_ascii_lowercase k) 100 ≡ false → eqb x k ≡ false
+other_letter x k h e = by (eqb x k) refl where
+  by : (b : Bool) → eqb x k ≡ b → eqb x k ≡ false
+  by false f = f
+  by true f = let never : true ≡ false = sym h ∙ ap (λ (c : ℕ). eqb (to_ascii_lowercase c) 100) (eqb-true x k f) ∙ e in absurd cc
+
+begins_in : (test : ℕ → Bool) (text : List Placed) (more : List Placed) → begins test text ≡ true → begins test (text ++ more) ≡ true
+begins_in test [] more h = absurd cc
+begins_in test (x ∷ xs) more h = h
+
+not_doctype : (text : List Placed) → begins (λ c. eqb (to_ascii_lowercase c) 100) text ≡ true → spells_in_any_case (codes "doctype") text ≡ false → is_declaration text ≡ false
+not_doctype [] h e = absurd cc
+not_doctype (x ∷ xs) h e = three (spells (codes "--") (x ∷ xs)) (spells_in_any_case (codes "doctype") (x ∷ xs)) (is_cdata (x ∷ xs)) (no_dashes x xs (other_letter x.ch 45 h refl)) e (no_cdata x xs (other_letter x.ch 91 h refl))
+
+not_cdata : (text : List Placed) → begins (λ c. eqb c 91) text ≡ true → is_cdata text ≡ false → is_declaration text ≡ false
+not_cdata [] h e = absurd cc
+not_cdata (x ∷ xs) h e =
+    let is : x.ch ≡ 91 = eqb-true x.ch 91 h in
+    three (spells (codes "--") (x ∷ xs)) (spells_in_any_case (codes "doctype") (x ∷ xs)) (is_cdata (x ∷ xs)) (no_dashes x xs (ap (λ (c : ℕ). eqb c 45) is)) (no_doctype x xs (ap (λ (c : ℕ). eqb (to_ascii_lowercase c) 100) is)) e
+
+one_dash : (text : List Placed) (p : Placed) (more : List Placed) → characters text ≡ codes "-" → eqb p.ch 45 ≡ false → is_declaration (text ++ p ∷ more) ≡ false
+one_dash [] p more h e = absurd cc
+one_dash (x ∷ y ∷ xs) p more h e = absurd cc
+one_dash (x ∷ []) p more h e =
+    let is : x.ch ≡ 45 = cc in
+    three (spells (codes "--") (x ∷ p ∷ more)) (spells_in_any_case (codes "doctype") (x ∷ p ∷ more)) (is_cdata (x ∷ p ∷ more)) (rw (is, e) refl) (no_doctype x (p ∷ more) (ap (λ (c : ℕ). eqb (to_ascii_lowercase c) 100) is)) (no_cdata x (p ∷ more) (ap (λ (c : ℕ). eqb c 91) is))
+
+-- the text that opens nothing where the input ends
+pub nothing_at_end : (so : Opened) (text : List Placed) → IsOpened so text → is_declaration text ≡ false
+nothing_at_end opened.Nothing text h = ap is_declaration h
+nothing_at_end opened.Dash [] h = absurd cc
+nothing_at_end opened.Dash (x ∷ y ∷ xs) h = absurd cc
+nothing_at_end opened.Dash (x ∷ []) h = let is : x.ch ≡ 45 = cc in
+    three (spells (codes "--") (x ∷ [])) (spells_in_any_case (codes "doctype") (x ∷ [])) (is_cdata (x ∷ [])) (rw is refl) (no_doctype x [] (ap (λ (c : ℕ). eqb (to_ascii_lowercase c) 100) is)) (no_cdata x [] (ap (λ (c : ℕ). eqb c 91) is))
+nothing_at_end opened.Doctype text (first, (c, left, is)) = not_doctype text first (in_any_case (codes "doctype") text ∙ subst (λ (w : List ℕ). spells_as to_ascii_lowercase w text ≡ false) is (cut_off to_ascii_lowercase text c left))
+nothing_at_end opened.Cdata text (first, (c, left, is)) = not_cdata text first (as_it_is (codes "[CDATA[") text ∙ subst (λ (w : List ℕ). spells_as (λ c. c) w text ≡ false) is (cut_off (λ c. c) text c left))
+
+-- a whole mark begins the text
+pub is_whole_cdata : (text more : List Placed) → characters text ≡ codes "[CDATA[" → is_cdata (text ++ more) ≡ true
+is_whole_cdata text more e = as_it_is (codes "[CDATA[") (text ++ more) ∙ subst (λ (w : List ℕ). spells_as (λ c. c) w (text ++ more) ≡ true) e (whole (λ c. c) text more)
+
+pub place_first : (end : ℕ) (text : List Placed) (p : Placed) (more : List Placed) → place end (text ++ p ∷ more) ≡ place p.at text
+place_first end [] p more = refl
+place_first end (x ∷ xs) p more = refl
+
+-- what a step makes of them
+abbrev by_spelled : Opened → Opens → Spelled → Opens
+by_spelled so whole spelled.Front = opens.Front so
+by_spelled so whole spelled.Whole = whole
+by_spelled so whole spelled.Other = opens.Bogus
+
+pub doctype_goes : (s : Spelled) (text : List Placed) (p : Placed) → begins (λ c. eqb (to_ascii_lowercase c) 100) text ≡ true → SpelledAs to_ascii_lowercase (codes "doctype") s (text ++ p ∷ []) → OpensAs (by_spelled opened.Doctype opens.Doctype s) (text ++ p ∷ [])
+doctype_goes spelled.Front text p first h = (begins_in _ text (p ∷ []) first, h)
+doctype_goes spelled.Whole text p first h = h
+doctype_goes spelled.Other text p first h = λ more. not_doctype ((text ++ p ∷ []) ++ more) (begins_in _ (text ++ p ∷ []) more (begins_in _ text (p ∷ []) first)) (in_any_case (codes "doctype") ((text ++ p ∷ []) ++ more) ∙ h more)
+
+pub cdata_goes : (s : Spelled) (text : List Placed) (p : Placed) → begins (λ c. eqb c 91) text ≡ true → SpelledAs (λ c. c) (codes "[CDATA[") s (text ++ p ∷ []) → OpensAs (by_spelled opened.Cdata opens.Cdata s) (text ++ p ∷ [])
+cdata_goes spelled.Front text p first h = (begins_in _ text (p ∷ []) first, h)
+cdata_goes spelled.Whole text p first h = h
+cdata_goes spelled.Other text p first h = λ more. not_cdata ((text ++ p ∷ []) ++ more) (begins_in _ (text ++ p ∷ []) more (begins_in _ text (p ∷ []) first)) (as_it_is (codes "[CDATA[") ((text ++ p ∷ []) ++ more) ∙ h more)
+
+pub dash_then : (text : List Placed) (p : Placed) → characters text ≡ codes "-" → p.ch ≡ 45 → characters (text ++ p ∷ []) ≡ codes "--"
+dash_then [] p h e = absurd cc
+dash_then (x ∷ y ∷ xs) p h e = absurd cc
+dash_then (x ∷ []) p h e = let is : x.ch ≡ 45 = cc in ap (λ (c : ℕ). c ∷ p.ch ∷ []) is ∙ ap (λ (c : ℕ). 45 ∷ c ∷ []) e
+
+pub dash_alone : (text : List Placed) (p : Placed) → characters text ≡ codes "-" → eqb p.ch 45 ≡ false → OpensAs opens.Bogus (text ++ p ∷ [])
+dash_alone text p h e = λ more. subst (λ (x : List Placed). is_declaration x ≡ false) (sym (append_assoc text (p ∷ []) more)) (one_dash text p more h e)
+
+pub first_alone : (text : List Placed) (p : Placed) → text ≡ [] → eqb p.ch 45 ≡ false → eqb p.ch 91 ≡ false → eqb (to_ascii_lowercase p.ch) 100 ≡ false → OpensAs opens.Bogus (text ++ p ∷ [])
+first_alone text p none dash bracket letter = λ more. subst (λ (x : List Placed). is_declaration ((x ++ p ∷ []) ++ more) ≡ false) (sym none)
+    (three (spells (codes "--") (p ∷ more)) (spells_in_any_case (codes "doctype") (p ∷ more)) (is_cdata (p ∷ more)) (no_dashes p more dash) (no_doctype p more letter) (no_cdata p more bracket))
+
+pub doctype_after : (s : Spelled) (text : List Placed) (p : Placed) (c count : ℕ) → p.ch ≡ c → count ≡ length text → IsOpened opened.Doctype text → s ≡ front_of (codes "doctype") count (to_ascii_lowercase c) → OpensAs (by_spelled opened.Doctype opens.Doctype s) (text ++ p ∷ [])
+doctype_after s text p c count is long h e = doctype_goes s text p h.0
+    (subst (λ (x : Spelled). SpelledAs to_ascii_lowercase (codes "doctype") x (text ++ p ∷ [])) (sym (e ∙ ap (λ (n : ℕ). front_of (codes "doctype") n (to_ascii_lowercase c)) long ∙ ap (λ (x : ℕ). front_of (codes "doctype") (length text) (to_ascii_lowercase x)) (sym is)))
+    (spelled_is to_ascii_lowercase (codes "doctype") text p h.1))
+
+pub cdata_after : (s : Spelled) (text : List Placed) (p : Placed) (c count : ℕ) → p.ch ≡ c → count ≡ length text → IsOpened opened.Cdata text → s ≡ front_of (codes "[CDATA[") count c → OpensAs (by_spelled opened.Cdata opens.Cdata s) (text ++ p ∷ [])
+cdata_after s text p c count is long h e = cdata_goes s text p h.0
+    (subst (λ (x : Spelled). SpelledAs (λ c. c) (codes "[CDATA[") x (text ++ p ∷ [])) (sym (e ∙ ap (λ (n : ℕ). front_of (codes "[CDATA[") n c) long ∙ ap (λ (x : ℕ). front_of (codes "[CDATA[") (length text) x) (sym is)))
+    (spelled_is (λ c. c) (codes "[CDATA[") text p h.1))
+
+-- the first character of them
+pub first_doctype : (text : List Placed) (p : Placed) → text ≡ [] → eqb (to_ascii_lowercase p.ch) 100 ≡ true → IsOpened opened.Doctype (text ++ p ∷ [])
+first_doctype text p none is = subst (λ (x : List Placed). IsOpened opened.Doctype (x ++ p ∷ [])) (sym none) (is, (111, codes "ctype", ap (λ (c : ℕ). c ∷ codes "octype") (eqb-true (to_ascii_lowercase p.ch) 100 is)))
+
+pub first_bracket : (text : List Placed) (p : Placed) → text ≡ [] → p.ch ≡ 91 → IsOpened opened.Cdata (text ++ p ∷ [])
+first_bracket text p none is = subst (λ (x : List Placed). IsOpened opened.Cdata (x ++ p ∷ [])) (sym none) (ap (λ (c : ℕ). eqb c 91) is, (67, codes "DATA[", ap (λ (c : ℕ). c ∷ codes "CDATA[") is))
+
+pub first_dash : (text : List Placed) (p : Placed) → text ≡ [] → p.ch ≡ 45 → IsOpened opened.Dash (text ++ p ∷ [])
+first_dash text p none is = subst (λ (x : List Placed). IsOpened opened.Dash (x ++ p ∷ [])) (sym none) (ap (λ (c : ℕ). c ∷ []) is)
+
+pub all_more : (test : ℕ → Bool) (xs : List Placed) (p : Placed) → all test xs ≡ true → test p.ch ≡ true → all test (xs ++ p ∷ []) ≡ true
+all_more test [] p h k = rw k refl
+all_more test (x ∷ xs) p h k = let parts = and_parts (test x.ch) (all test xs) h in and_both (test x.ch) (all test (xs ++ p ∷ [])) parts.0 (all_more test xs p parts.1 k)
+
+all_take : (test : ℕ → Bool) (ps : List Placed) (i c : ℕ) (d : Placed) → i < length ps → c ≡ (get_or ps i d).ch → test c ≡ true → all test (take i ps) ≡ true → all test (take (i + 1) ps) ≡ true
+all_take test ps i c d l is one h =
+    let more : i + 1 ≡ suc i = omega arith in
+    rw (more, take-suc ps i d l) (all_more test (take i ps) (get_or ps i d) h (sym (ap test is) ∙ one))
+
+pub plain_take : (ps : List Placed) (i c : ℕ) (d : Placed) → i < length ps → c ≡ (get_or ps i d).ch → (c ≡ 62 → ⊥) → (c ≡ 0 → ⊥) → all is_plain_in_bogus (take i ps) ≡ true → all is_plain_in_bogus (take (i + 1) ps) ≡ true
+plain_take ps i c d l is greater null h = all_take is_plain_in_bogus ps i c d l is (grind (arith, nat_tests)) h

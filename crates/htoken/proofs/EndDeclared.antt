@@ -1,0 +1,69 @@
+-- The input's end after `<!`: what came after it is read as a comment.
+use Rattle.std.proofs.Common.{◌≡◌, ℕ, false, List, [], ◌∷◌, ◌++◌, sym, refl, ap, ◌∙◌, subst, Result, Ok, Err, append-nil}
+use Rattle.names.specs.declared.error.ErrorCode.TheVariants.{IncorrectlyOpenedComment}
+use Rattle.names.specs.declared.error.ParseError.{ParseError}
+use Rattle.names.specs.declared.placed.Placed.{Placed}
+use Rattle.names.specs.declared.raw.RawKind.{RawKind}
+use Rattle.names.specs.declared.raw.RawKind.TheVariants as kind
+use Rattle.names.specs.declared.refusal.Refusal.{Refusal}
+use Rattle.names.specs.Names.{Texts}
+use Rattle.names.specs.Placed.{place, error}
+use Rattle.charref.specs.Reference.{Entities}
+use Rattle.hmarkup.specs.declared.comment.CommentKind.TheVariants.{Bogus}
+use Rattle.hmarkup.specs.CommentWalk.{IsSpan as IsCommentOf}
+use Rattle.hmarkup.specs.Walk.{Ends as WalkEnds}
+use Rattle.htoken.specs.declared.declaration.Opened.{Opened}
+use Rattle.htoken.specs.declared.state.Raised.{Raised}
+use Rattle.htoken.specs.declared.state.State.{State}
+use Rattle.htoken.specs.declared.state.State.TheVariants as state
+use Rattle.htoken.specs.declared.token.Token.{Token}
+use Rattle.htoken.specs.declared.tokenizer.Tokenizer.{Tokenizer}
+use Rattle.htoken.specs.Data.{IsDataSpan, is_declaration, bogus_declaration}
+use Rattle.htoken.specs.Declaration.{IsOpened}
+use Rattle.htoken.specs.Token.{Span, Event, Comment, TokenMeans, gives_item}
+use Rattle.htoken.specs.Tokenizing.{Reads, IsHeld, IsIn, EndsHeld, held_ran_out, held_ended, less}
+use Rattle.htoken.specs.Steps.{Keeps, BeginsBogus, GivesSpan}
+use Rattle.htoken.proofs.AtEnd.{no_script, stands_at_end}
+use Rattle.htoken.proofs.Declaring.{nothing_at_end}
+use Rattle.htoken.proofs.Handing.{span_given}
+use Rattle.htoken.proofs.InData.{in_data}
+use Rattle.htoken.proofs.InMarkup.{keeps, kept, refused}
+
+module _ {S : Type 0} (gives : S → ParseError → Result (Unit {0}) Refusal → S → Type 0) (gives_token : S → Token → Result (Unit {0}) Refusal → S → Type 0) (table : Entities) (start : RawKind) (end : ℕ) (text : List Placed) (names : Texts)
+    (taken : List Event) (t : Tokenizer) (h : Reads table start t names text [] taken) (at : ℕ) (so : Opened) (after_bang : t.state ≡ state.Declaration at so) where
+  abbrev body : List Placed
+  body = t.held.items
+
+  abbrev mark : List Placed
+  mark = less t ∷ record { ch = 33; at = at } ∷ []
+
+  abbrev e : ParseError
+  e = error IncorrectlyOpenedComment (place end body)
+
+  abbrev declared : IsHeld (state.Declaration at so) table names h.here t h.held []
+  declared = subst (λ (x : State). IsHeld x table names h.here t h.held []) after_bang h.is_held
+
+  here_is : h.here.kind ≡ kind.None
+  here_is = subst (λ (x : State). IsIn x h.here.kind) after_bang h.is_in
+
+  abbrev pub EndsIn : Tokenizer → Result (Unit {0}) Refusal → Raised → Type 0
+  EndsIn begun answer raised = WalkEnds keeps (IsCommentOf Bogus) body [] end begun.comment.data begun.raised answer raised
+
+  pub declared_stopped : (begun then : Tokenizer) (raised : Raised) (r : Refusal) (s : S) → EndsIn begun (Err r) raised → EndsHeld (gives_item gives gives_token) table start end text taken names s (Err r) then s
+  declared_stopped begun then raised r s k = held_ran_out (ap (λ (x : Refusal). Err x) (refused begun.raised raised k.reported r k.handed)) refl
+
+  pub declared_cut : (begun mid new : Tokenizer) (old s : S) (answer : Result (Unit {0}) Refusal) → BeginsBogus t body e begun → Keeps begun mid → mid.comment ≡ begun.comment → EndsIn begun (Ok tt) mid.raised
+      → GivesSpan (gives_item gives gives_token) (λ names x. TokenMeans names x (Comment mid.comment.data mid.at)) mid old answer new s → EndsHeld (gives_item gives gives_token) table start end text taken names old answer new s
+  declared_cut begun mid new old s answer b keep same k g =
+      let raised : mid.raised.errors.items ≡ e ∷ k.reported = kept begun.raised mid.raised k.reported k.handed ∙ ap (λ (x : List ParseError). x ++ k.reported) (b.raised_is ∙ ap (λ (x : List ParseError). x ++ e ∷ []) declared.1) in
+      let span : Span = record { text = mark ++ body; tokens = Comment mid.comment.data mid.at ∷ []; errors = mid.raised.errors.items } in
+      let data_is : mid.comment.data ≡ begun.comment.data = ap (λ x. x.data) same in
+      held_ended _ _ (g.ends.keeps.kind_is ∙ keep.kind_is ∙ b.keeps.kind_is ∙ h.kind_is ∙ here_is) (no_script _ refl)
+      (stands_at_end table start text names taken t h end span declared.0
+      (in_data table end h.here [] span here_is
+      (subst (λ (x : List ParseError). IsDataSpan table end [] (record { text = mark ++ body; tokens = Comment mid.comment.data mid.at ∷ []; errors = x })) (sym raised)
+      (subst (λ (a : ℕ). IsDataSpan table end [] (record { text = mark ++ body; tokens = Comment mid.comment.data a ∷ []; errors = e ∷ k.reported })) (sym (keep.at_is ∙ b.keeps.at_is))
+      (subst (λ (x : List Placed). IsDataSpan table end [] (record { text = mark ++ body; tokens = Comment mid.comment.data t.at ∷ []; errors = error IncorrectlyOpenedComment (place end x) ∷ k.reported })) (append-nil body)
+      (subst (λ (x : List ℕ). IsDataSpan table end [] (record { text = mark ++ body; tokens = Comment x t.at ∷ []; errors = error IncorrectlyOpenedComment (place end (body ++ [])) ∷ k.reported })) (sym data_is)
+      (bogus_declaration mark body begun.comment.data k.reported refl (subst (λ (x : List Placed). is_declaration x ≡ false) (sym (append-nil body)) (nothing_at_end so body declared.2)) k.is_span refl)))))) refl)
+      (span_given gives gives_token names mid.raised.errors.items g.token (Comment mid.comment.data mid.at) old s answer (g.means names) g.handed)

@@ -1,0 +1,134 @@
+-- A character of a comment or a doctype, and the input's end in it.
+use Rattle.std.proofs.Common.{◌≡◌, ℕ, Bool, true, false, List, [], ◌∷◌, ◌++◌, sym, refl, ap, ◌∙◌, subst, Result, Ok, Err, Option, append_assoc, append-nil}
+use Rattle.names.specs.declared.error.ParseError.{ParseError}
+use Rattle.names.specs.declared.placed.Placed.{Placed}
+use Rattle.names.specs.declared.raw.RawKind.{RawKind}
+use Rattle.names.specs.declared.raw.RawKind.TheVariants as kind
+use Rattle.names.specs.declared.refusal.Refusal.{Refusal}
+use Rattle.names.specs.declared.refusal.Refusal.TheVariants.{Memory}
+use Rattle.names.specs.Names.{Texts}
+use Rattle.names.specs.Sink.{Hands}
+use Rattle.charref.specs.Reference.{Entities}
+use Rattle.hmarkup.specs.Walk.{Ends as WalkEnds, Takes as WalkTakes, ran_out as walk_ran_out, sink_refused, goes_on as walk_goes_on, ended as walk_ended}
+use Rattle.htoken.specs.declared.state.Raised.{Raised}
+use Rattle.htoken.specs.declared.state.State.{State}
+use Rattle.htoken.specs.declared.state.State.TheVariants as state
+use Rattle.htoken.specs.declared.token.Token.{Token}
+use Rattle.htoken.specs.declared.tokenizer.Tokenizer.{Tokenizer}
+use Rattle.htoken.specs.Token.{Tok, Span, Event, TokenMeans, gives_item}
+use Rattle.htoken.specs.Standing.{Standing, next}
+use Rattle.htoken.specs.Tokens.{has_refused, events_of}
+use Rattle.htoken.specs.Data.{IsDataSpan}
+use Rattle.htoken.specs.Giving.{raises}
+use Rattle.htoken.specs.Tokenizing.{Reads, Takes, IsHeld, IsIn, IsLast, IsInMarkup, EndsHeld, held_ran_out, held_ended, Stands}
+use Rattle.htoken.specs.Steps.{Keeps, GivesSpan}
+use Rattle.htoken.proofs.Going.{stays_both, ran_out, goes_on, span_ends}
+use Rattle.htoken.proofs.Handing.{span_given}
+use Rattle.htoken.proofs.InData.{in_data, between_data}
+use Rattle.htoken.proofs.AtEnd.{no_script, stands_at_end}
+
+-- a step of the errors that are kept
+abbrev pub keeps : Raised → ParseError → Result (Unit {0}) Refusal → Raised → Type 0
+keeps s error r t = raises s.errors.items error r t.errors.items
+
+pub kept : (s t : Raised) (es : List ParseError) → Hands keeps s es (Ok tt) t → t.errors.items ≡ s.errors.items ++ es
+kept s t [] h = ap (λ (x : Raised). x.errors.items) (sym h.1) ∙ sym (append-nil s.errors.items)
+kept s t (e ∷ es) (Ok u, next, given, more) = kept next t es more ∙ ap (λ (x : List ParseError). x ++ es) given ∙ append_assoc s.errors.items (e ∷ []) es
+kept s t (e ∷ es) (Err x, next, given, more) = let never = more.0 in absurd cc
+
+pub refused : (s t : Raised) (es : List ParseError) (x : Refusal) → Hands keeps s es (Err x) t → x ≡ Memory
+refused s t [] x h = let never = h.0 in absurd cc
+refused s t (e ∷ es) x (Ok u, next, given, more) = refused next t es x more
+refused s t (e ∷ es) x (Err y, next, given, more) = let is = more.0 in let why : y ≡ Memory = given in cc
+
+abbrev Same : Bool → Bool → Type 0
+Same n m = let l : Result Bool Refusal = Ok n in let r : Result Bool Refusal = Ok m in l ≡ r
+
+true_not_false : Same true false → ⊥
+true_not_false e = cc
+
+false_not_true : Same false true → ⊥
+false_not_true e = cc
+
+module _ {S W V : Type 0} (gives : S → ParseError → Result (Unit {0}) Refusal → S → Type 0) (gives_token : S → Token → Result (Unit {0}) Refusal → S → Type 0)
+    (HasRead : W → List Placed → List ParseError → Type 0) (IsOne : ℕ → List Placed → List Placed → V → List ParseError → Type 0) (token : V → ℕ → Tok)
+    (given : (here : Standing) (text : List Placed) (value : V) (at : ℕ) (errors : List ParseError) → ((next here (record { text = text; tokens = token value at ∷ []; errors = errors })).kind ≡ kind.None)
+    × ((next here (record { text = text; tokens = token value at ∷ []; errors = errors })).name ≡ here.name) × (has_refused (token value at ∷ []) ≡ false))
+    (table : Entities) (start : RawKind) (text : List Placed) (names : Texts) (taken : List Event) (t : Tokenizer) where
+  module _ (p : Placed) (h : Reads table start t names text (p ∷ []) taken) (here_is : h.here.kind ≡ kind.None) (walk : W) (i : IsInMarkup HasRead IsOne token walk table t h.held (p ∷ [])) where
+    abbrev pub Took : Result Bool Refusal → W → V → Raised → Type 0
+    Took answer new value raised = WalkTakes keeps HasRead IsOne i.body i.own p t.raised answer new value raised
+
+    pub markup_stopped : (r : Refusal) (new : W) (value : V) (raised : Raised) (s : S) (last : Tokenizer) → Took (Err r) new value raised → Takes (gives_item gives gives_token) table start text (p ∷ []) taken names s (Err r) s last
+    markup_stopped r new value raised s last (walk_ran_out reported e hd b) = ran_out (gives_item gives gives_token) table start text p names taken t h last s (Err r) (ap (λ (x : Refusal). Err x) cc)
+    markup_stopped r new value raised s last (sink_refused x reported e hd b) = let why : x ≡ Memory = refused t.raised raised reported x hd in ran_out (gives_item gives gives_token) table start text p names taken t h last s (Err r) (ap (λ (y : Refusal). Err y) cc)
+    markup_stopped r new value raised s last (walk_goes_on reported e hd has) = absurd cc
+    markup_stopped r new value raised s last (walk_ended reported e hd is) = absurd cc
+
+    pub markup_goes_on : (new : Tokenizer) (then : W) (value : V) (s : S) → Keeps t new → IsIn new.state h.here.kind
+        → (IsInMarkup HasRead IsOne token then table new (h.held ++ p ∷ []) [] → IsHeld new.state table names h.here new (h.held ++ p ∷ []) [])
+        → Took (Ok false) then value new.raised → Takes (gives_item gives gives_token) table start text (p ∷ []) taken names s (Ok tt) s new
+    markup_goes_on new then value s keep is_in holds (walk_ran_out reported e hd b) = absurd cc
+    markup_goes_on new then value s keep is_in holds (sink_refused x reported e hd b) = absurd cc
+    markup_goes_on new then value s keep is_in holds (walk_ended reported e hd is) = absurd (false_not_true e)
+    markup_goes_on new then value s keep is_in holds (walk_goes_on reported e hd has) =
+        goes_on (gives_item gives gives_token) table start text p names taken t h new s keep.stays keep.kind_is keep.last_is is_in (holds (record {
+          opening = i.opening;
+          body = i.body ++ p ∷ [];
+          first = i.first;
+          own = i.own ++ reported;
+          others = i.others ++ p ∷ [];
+          starts = ap (λ (x : List Placed). x ++ p ∷ []) i.starts ∙ ap (λ (a : ℕ). record { ch = 60; at = a } ∷ (i.others ++ p ∷ [])) (sym keep.at_is);
+          held_is = ap (λ (x : List Placed). x ++ p ∷ []) i.held_is ∙ append_assoc i.opening i.body (p ∷ []);
+          has_read = has;
+          raised_is = kept t.raised new.raised reported hd ∙ ap (λ (x : List ParseError). x ++ reported) i.raised_is ∙ append_assoc i.first i.own reported;
+          opens = λ end rest more contents errors is.
+              let same_text : (i.body ++ p ∷ []) ++ more ≡ i.body ++ ((p ∷ []) ++ more) = append_assoc i.body (p ∷ []) more in
+              subst (λ (x : List Placed). IsDataSpan table end rest (record { text = i.opening ++ x; tokens = token contents new.at ∷ []; errors = i.first ++ errors })) (sym same_text)
+              (subst (λ (a : ℕ). IsDataSpan table end rest (record { text = i.opening ++ (i.body ++ ((p ∷ []) ++ more)); tokens = token contents a ∷ []; errors = i.first ++ errors })) (sym keep.at_is)
+              (i.opens end rest more contents errors (subst (λ (x : List Placed). IsOne end rest x contents errors) same_text is)));
+        }))
+
+    pub markup_ends : (mid new : Tokenizer) (then : W) (value : V) (old s : S) (answer : Result (Unit {0}) Refusal) → Keeps t mid → Took (Ok true) then value mid.raised
+        → GivesSpan (gives_item gives gives_token) (λ names x. TokenMeans names x (token value mid.at)) mid old answer new s → Takes (gives_item gives gives_token) table start text (p ∷ []) taken names old answer s new
+    markup_ends mid new then value old s answer keep (walk_ran_out reported e hd b) g = absurd cc
+    markup_ends mid new then value old s answer keep (sink_refused x reported e hd b) g = absurd cc
+    markup_ends mid new then value old s answer keep (walk_goes_on reported e hd has) g = absurd (true_not_false e)
+    markup_ends mid new then value old s answer keep (walk_ended reported e hd is) g =
+        let raised : mid.raised.errors.items ≡ i.first ++ (i.own ++ reported) = kept t.raised mid.raised reported hd ∙ ap (λ (x : List ParseError). x ++ reported) i.raised_is ∙ append_assoc i.first i.own reported in
+        let span : Span = record { text = i.opening ++ (i.body ++ p ∷ []); tokens = token value mid.at ∷ []; errors = mid.raised.errors.items } in
+        let k = given h.here span.text value mid.at span.errors in
+        span_ends (gives_item gives gives_token) table start text p names taken t h span
+        (sym (ap (λ (x : List Placed). x ++ p ∷ []) i.held_is ∙ append_assoc i.opening i.body (p ∷ [])))
+        (λ end more. in_data table end h.here more span here_is
+        (subst (λ (x : List ParseError). IsDataSpan table end more (record { text = i.opening ++ (i.body ++ p ∷ []); tokens = token value mid.at ∷ []; errors = x })) (sym raised)
+        (subst (λ (a : ℕ). IsDataSpan table end more (record { text = i.opening ++ (i.body ++ p ∷ []); tokens = token value a ∷ []; errors = i.first ++ (i.own ++ reported) })) (sym keep.at_is)
+        (i.opens end more [] value (i.own ++ reported) (is end more))))) k.2
+        new old s answer (stays_both t mid new keep.stays g.ends.keeps.stays) (g.ends.keeps.kind_is ∙ keep.kind_is ∙ h.kind_is ∙ here_is ∙ sym k.0)
+        (subst (λ (x : Option ℕ). IsLast names x (next h.here span).name) (sym (g.ends.keeps.last_is ∙ keep.last_is)) (subst (IsLast names t.last) (sym k.1) h.name_is)) g.ends.state_is g.ends.raised_is (between_data _ new k.0)
+        (span_given gives gives_token names mid.raised.errors.items g.token (token value mid.at) old s answer (g.means names) g.handed)
+
+  -- where the input ends
+  module _ (end : ℕ) (h : Reads table start t names text [] taken) (here_is : h.here.kind ≡ kind.None) (walk : W) (i : IsInMarkup HasRead IsOne token walk table t h.held []) where
+    abbrev pub Ended : Result (Unit {0}) Refusal → V → Raised → Type 0
+    Ended answer value raised = WalkEnds keeps IsOne i.body i.own end value t.raised answer raised
+
+    pub markup_end_stopped : (r : Refusal) (value : V) (raised : Raised) (then : Tokenizer) (s : S) → Ended (Err r) value raised → EndsHeld (gives_item gives gives_token) table start end text taken names s (Err r) then s
+    markup_end_stopped r value raised then s e = held_ran_out (ap (λ (x : Refusal). Err x) (refused t.raised raised e.reported r e.handed)) refl
+
+    pub markup_cut : (mid new : Tokenizer) (value : V) (old s : S) (answer : Result (Unit {0}) Refusal) → Keeps t mid → Ended (Ok tt) value mid.raised
+        → GivesSpan (gives_item gives gives_token) (λ names x. TokenMeans names x (token value mid.at)) mid old answer new s
+        → EndsHeld (gives_item gives gives_token) table start end text taken names old answer new s
+    markup_cut mid new value old s answer keep e g =
+        let raised : mid.raised.errors.items ≡ i.first ++ (i.own ++ e.reported) = kept t.raised mid.raised e.reported e.handed ∙ ap (λ (x : List ParseError). x ++ e.reported) i.raised_is ∙ append_assoc i.first i.own e.reported in
+        let span : Span = record { text = i.opening ++ i.body; tokens = token value mid.at ∷ []; errors = mid.raised.errors.items } in
+        let k = given h.here span.text value mid.at span.errors in
+        held_ended _ _ (g.ends.keeps.kind_is ∙ keep.kind_is ∙ h.kind_is ∙ here_is ∙ sym k.0) (no_script _ k.0)
+        (stands_at_end table start text names taken t h end span i.held_is
+        (in_data table end h.here [] span here_is
+        (subst (λ (x : List ParseError). IsDataSpan table end [] (record { text = i.opening ++ i.body; tokens = token value mid.at ∷ []; errors = x })) (sym raised)
+        (subst (λ (a : ℕ). IsDataSpan table end [] (record { text = i.opening ++ i.body; tokens = token value a ∷ []; errors = i.first ++ (i.own ++ e.reported) })) (sym keep.at_is)
+        (subst (λ (x : List Placed). IsDataSpan table end [] (record { text = i.opening ++ x; tokens = token value t.at ∷ []; errors = i.first ++ (i.own ++ e.reported) })) (append-nil i.body)
+        (i.opens end [] [] value (i.own ++ e.reported)
+        (subst (λ (x : List Placed). IsOne end [] x value (i.own ++ e.reported)) (sym (append-nil i.body)) e.is_span)))))) k.2)
+        (span_given gives gives_token names mid.raised.errors.items g.token (token value mid.at) old s answer (g.means names) g.handed)

@@ -1,0 +1,45 @@
+use Rattle.std.proofs.Common.{◌≡◌, true, false, eqb, sym, ap, ◌∙◌, subst, arith}
+use Rattle.std.proofs.lemmas.Bool.Decides.{nat_tests}
+use Rattle.std.specs.Prelude.{codes}
+use Rattle.std.specs.Char.{to_ascii_lowercase}
+use Rattle.htoken.specs.declared.declaration.Spelled.TheVariants as spelled
+use Rattle.htoken.specs.Declaration.{IsOpened, front_of}
+use Rattle.htoken.proofs.Declaring.{first_doctype, first_bracket, dash_alone, doctype_after, cdata_after}
+use Rattle.htoken.proofs.declaration.Opened.after.Goals as goal
+
+pub returns-in-d : goal.returns-in-d
+returns-in-d c = λ text p is long h.
+    let letter : eqb (to_ascii_lowercase c.args.ch) 100 ≡ true = grind (arith, nat_tests, c.in-d.is) in
+    first_doctype text p (subst (λ s. IsOpened s text) c.in-Nothing.is h) (ap (λ x. eqb (to_ascii_lowercase x) 100) is ∙ letter)
+
+pub returns-in-91 : goal.returns-in-91
+returns-in-91 c = λ text p is long h. first_bracket text p (subst (λ s. IsOpened s text) c.in-Nothing.is h) (is ∙ c.in-91.is)
+
+pub returns-else-ch-eq45 : goal.returns-else-ch-eq45
+returns-else-ch-eq45 c = λ text p is long h.
+    let other : eqb c.args.ch 45 ≡ false = grind (arith, nat_tests) in
+    dash_alone text p (subst (λ s. IsOpened s text) c.in-Dash.is h) (ap (λ x. eqb x 45) is ∙ other)
+
+pub returns-in-Front : goal.returns-in-Front
+returns-in-Front c = λ text p is long h.
+    doctype_after spelled.Front text p c.args.ch c.args.count is long (subst (λ s. IsOpened s text) c.in-Doctype.is h) (c.in-Front.ensures ∙ ap (λ x. front_of (codes "doctype") c.args.count x) c.to_ascii_lowercase.ensures.value)
+
+pub returns-in-Front-spell : goal.returns-in-Front-spell
+returns-in-Front-spell c = λ text p is long h.
+    cdata_after spelled.Front text p c.args.ch c.args.count is long (subst (λ s. IsOpened s text) c.in-Cdata.is h) c.in-Front-spell.ensures
+
+pub returns-in-Whole : goal.returns-in-Whole
+returns-in-Whole c = λ text p is long h.
+    doctype_after spelled.Whole text p c.args.ch c.args.count is long (subst (λ s. IsOpened s text) c.in-Doctype.is h) (c.in-Whole.ensures ∙ ap (λ x. front_of (codes "doctype") c.args.count x) c.to_ascii_lowercase.ensures.value)
+
+pub returns-in-Whole-spell : goal.returns-in-Whole-spell
+returns-in-Whole-spell c = λ text p is long h.
+    cdata_after spelled.Whole text p c.args.ch c.args.count is long (subst (λ s. IsOpened s text) c.in-Cdata.is h) c.in-Whole-spell.ensures
+
+pub returns-in-Other : goal.returns-in-Other
+returns-in-Other c = λ text p is long h.
+    doctype_after spelled.Other text p c.args.ch c.args.count is long (subst (λ s. IsOpened s text) c.in-Doctype.is h) (c.in-Other.ensures ∙ ap (λ x. front_of (codes "doctype") c.args.count x) c.to_ascii_lowercase.ensures.value)
+
+pub returns-in-Other-spell : goal.returns-in-Other-spell
+returns-in-Other-spell c = λ text p is long h.
+    cdata_after spelled.Other text p c.args.ch c.args.count is long (subst (λ s. IsOpened s text) c.in-Cdata.is h) c.in-Other-spell.ensures

@@ -1,0 +1,18 @@
+use Rattle.std.proofs.Common.{List, refl, ap, ◌∙◌, subst, Err, None}
+use Rattle.std.proofs.lemmas.Result.{err_from_is_err_and}
+use Rattle.names.specs.declared.error.ParseError.{ParseError}
+use Rattle.names.specs.declared.refusal.Refusal.{Refusal}
+use Rattle.names.specs.Sink.{Hands}
+use Rattle.htoken.specs.Giving.{items_of}
+use Rattle.htoken.specs.Token.{gives_item}
+use Rattle.htoken.specs.Steps.{cut_ran_out, cut_given}
+use Rattle.htoken.proofs.tokenizer.Tokenizer.cut_off.Goals as goal
+
+pub returns-in_err-end-clause-cuts : goal.returns-in_err-end-clause-cuts
+returns-in_err-end-clause-cuts g c =
+    let e = err_from_is_err_and c.from_residual.result c.from_residual.ensures.1 in
+    rw (e.1, e.2) (λ table body h. cut_ran_out (ap (λ (x : Refusal). Err x) (c.in_err-end.ensures.cut table body h)) refl)
+
+pub returns-clause-cuts : goal.returns-clause-cuts
+returns-clause-cuts g c = λ table body h. cut_given _ (c.in_ok-end.ensures.cut table body h)
+    (subst (λ (x : List ParseError). Hands (gives_item g.S.ErrorSink.gives g.S.TokenSink.gives_token) c.args.sink.now (items_of x None) c.hand_over.result c.hand_over.new.sink) (c.deref.ensures.value ∙ c.in_ok-push.ensures.items) c.hand_over.ensures) refl

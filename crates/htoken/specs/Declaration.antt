@@ -1,0 +1,39 @@
+-- What the characters after `<!` begin (HTML Standard, 13.2.5.42).
+use Rattle.std.specs.Prelude.{◌≡◌, ℕ, ◌+◌, Bool, true, false, ◌==◌, if◌then◌else◌, List, [], ◌∷◌, ◌++◌, codes, Option, Some, None, is_some, slice_get}
+use Rattle.std.specs.Char.{to_ascii_lowercase}
+use Rattle.names.specs.declared.placed.Placed.{Placed}
+use Rattle.names.specs.Placed.{characters, lowered, begins}
+use Rattle.htoken.specs.declared.declaration.Opened.{Opened}
+use Rattle.htoken.specs.declared.declaration.Opened.TheVariants as opened
+use Rattle.htoken.specs.declared.declaration.Opens.{Opens}
+use Rattle.htoken.specs.declared.declaration.Opens.TheVariants as opens
+use Rattle.htoken.specs.declared.declaration.Spelled.{Spelled}
+use Rattle.htoken.specs.declared.declaration.Spelled.TheVariants as spelled
+use Rattle.htoken.specs.Data.{is_declaration}
+
+-- a word's first characters with one more
+abbrev pub front_at : Option ℕ → Bool → ℕ → Spelled
+front_at None more c = spelled.Other
+front_at (Some byte) more c = if c == byte then (if more then spelled.Front else spelled.Whole) else spelled.Other
+
+abbrev pub front_of : List ℕ → ℕ → ℕ → Spelled
+front_of word count c = front_at (slice_get word count) (is_some (slice_get word (count + 1))) c
+
+-- these are the first characters of a word, and not all of it
+abbrev pub IsFrontOf : List ℕ → List ℕ → Type 0
+IsFrontOf word read = (c : ℕ) × (left : List ℕ) × (read ++ c ∷ left ≡ word)
+
+-- The text after `<!` is such a front.
+abbrev pub IsOpened : Opened → List Placed → Type 0
+IsOpened opened.Nothing text = text ≡ []
+IsOpened opened.Dash text = characters text ≡ codes "-"
+IsOpened opened.Doctype text = (begins (λ c. to_ascii_lowercase c == 100) text ≡ true) × IsFrontOf (codes "doctype") (lowered text)
+IsOpened opened.Cdata text = (begins (λ c. c == 91) text ≡ true) × IsFrontOf (codes "[CDATA[") (characters text)
+
+-- The text after `<!` opens this.
+abbrev pub OpensAs : Opens → List Placed → Type 0
+OpensAs (opens.Front so) text = IsOpened so text
+OpensAs opens.Comment text = characters text ≡ codes "--"
+OpensAs opens.Doctype text = lowered text ≡ codes "doctype"
+OpensAs opens.Cdata text = characters text ≡ codes "[CDATA["
+OpensAs opens.Bogus text = (more : List Placed) → is_declaration (text ++ more) ≡ false

@@ -1,0 +1,108 @@
+//! What `<!` begins: a comment, a doctype, or what is read as a comment (HTML Standard, 13.2.5.42).
+
+ghost use Rattle.std.specs.Prelude.{◌≡◌, ◌∷◌, ◌++◌, [], List, length, true, MatchBool};
+ghost use Rattle.names.specs.declared.placed.Placed.{Placed as Character};
+ghost use Rattle.names.specs.Placed.{all};
+ghost use Rattle.hmarkup.specs.Comment.{is_plain_in_bogus};
+ghost use Rattle.htoken.specs.Declaration.{IsOpened, OpensAs, front_of};
+
+use names::Placed;
+
+/// What the characters after `<!` are a front of.
+#[derive(Clone, Copy, Debug, PartialEq, Eq)]
+pub(crate) enum Opened {
+    /// Of anything: there are none.
+    Nothing,
+    /// `-` of `--`
+    Dash,
+    /// `DOCTYPE`, in any case.
+    Doctype,
+    /// `[CDATA[`
+    Cdata,
+}
+
+/// What they are with one more character.
+#[derive(Clone, Copy, Debug, PartialEq, Eq)]
+pub(crate) enum Opens {
+    /// A front of this.
+    Front(Opened),
+    /// The mark of a comment.
+    Comment,
+    /// The mark of a doctype.
+    Doctype,
+    /// The mark of a CDATA section.
+    Cdata,
+    /// None of them.
+    Bogus,
+}
+
+/// What a word's front is with one more character.
+#[derive(Clone, Copy, Debug, PartialEq, Eq)]
+pub(crate) enum Spelled {
+    Front,
+    Whole,
+    Other,
+}
+
+/// What the first characters of a word, so many of them, are with this one.
+fn spell(word: &[u8], count: usize, ch: char) -> Spelled
+    ensures { result ≡ front_of word.now count ch }
+{
+    match word.get(count) {
+        None => Spelled::Other,
+        Some(byte) => {
+            if u32::from(ch) != u32::from(*byte) {
+                Spelled::Other
+            } else if word.get(count + 1).is_some() {
+                Spelled::Front
+            } else {
+                Spelled::Whole
+            }
+        }
+    }
+}
+
+impl Opened {
+    /// What so many characters are with one more.
+    pub fn after(self, count: usize, ch: char) -> Opens
+        ensures { (text : List Character) (p : Character) → p.ch ≡ ch → count ≡ length text → IsOpened self text → OpensAs result (text ++ p ∷ []) }
+    {
+        match self {
+            Opened::Nothing => match ch {
+                '-' => Opens::Front(Opened::Dash),
+                'd' | 'D' => Opens::Front(Opened::Doctype),
+                '[' => Opens::Front(Opened::Cdata),
+                _ => Opens::Bogus,
+            },
+            Opened::Dash => {
+                if ch == '-' {
+                    Opens::Comment
+                } else {
+                    Opens::Bogus
+                }
+            }
+            Opened::Doctype => match spell(b"doctype", count, ch.to_ascii_lowercase()) {
+                Spelled::Front => Opens::Front(Opened::Doctype),
+                Spelled::Whole => Opens::Doctype,
+                Spelled::Other => Opens::Bogus,
+            },
+            Opened::Cdata => match spell(b"[CDATA[", count, ch) {
+                Spelled::Front => Opens::Front(Opened::Cdata),
+                Spelled::Whole => Opens::Cdata,
+                Spelled::Other => Opens::Bogus,
+            },
+        }
+    }
+}
+
+/// Whether a text has neither `>` nor NUL.
+pub(crate) fn is_plain(text: &[Placed]) -> bool
+    ensures { MatchBool result (all is_plain_in_bogus text.now ≡ true) (Unit {0}) }
+{
+    for p in text {
+        if p.ch == '>' || p.ch == '\0' {
+            return false;
+        }
+    }
+    true
+}

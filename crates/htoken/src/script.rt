@@ -1,0 +1,232 @@
+//! The level of script data (HTML Standard, 13.2.5.15 to 13.2.5.31).
+
+ghost use Rattle.std.specs.Prelude.{◌≡◌, [], ◌∷◌, ◌==◌, ◌&&◌, ℕ, List, nat_lt};
+ghost use Rattle.std.specs.Char.{to_ascii_lowercase};
+ghost use Rattle.names.specs.declared.placed.Placed.{Placed as Character};
+ghost use Rattle.hmarkup.specs.CommentWalk.{backwards};
+ghost use Rattle.htag.specs.Tag.{ends_name};
+ghost use Rattle.htoken.specs.Script.{HasFront, FollowsAll, level_number, mark_after, word_after, level_after, is_dashes, is_less_bang_dash, is_read};
+
+use names::Placed;
+
+/// How deep script data is in comment-like text.
+#[derive(Clone, Copy, Debug, PartialEq, Eq)]
+pub(crate) enum Level {
+    /// Not at all.
+    Plain,
+    /// After `<!--`.
+    Escaped,
+    /// .. and `<script`.
+    DoubleEscaped,
+}
+
+/// The beginning of `<!--` or `-->` that ends the text.
+#[derive(Clone, Copy, Debug, PartialEq, Eq)]
+pub(crate) enum Mark {
+    /// Nothing.
+    Nothing,
+    /// `<`
+    Less,
+    /// `<!`
+    LessBang,
+    /// `<!-`
+    LessBangDash,
+    /// `-`
+    Dash,
+    /// `--`, or `<!--`
+    Dashes,
+}
+
+/// The beginning of a tag of a given name that ends the text.
+#[derive(Clone, Copy, Debug, PartialEq, Eq)]
+pub(crate) enum Word {
+    /// Nothing.
+    Nothing,
+    /// `<` and this many characters of the name.
+    Read(usize),
+}
+
+/// Follows script data, a character at a time.
+#[derive(Clone, Copy, Debug, PartialEq, Eq)]
+pub(crate) struct Script {
+    pub level: Level,
+    pub mark: Mark,
+    pub opening: Word,
+    pub closing: Word,
+}
+
+/// Whether a character is this byte of a name, in any case.
+pub(crate) fn agrees(ch: char, byte: u8) -> bool
+    ensures { result ≡ (to_ascii_lowercase ch == byte) }
+{
+    u32::from(ch.to_ascii_lowercase()) == u32::from(byte)
+}
+
+/// Whether a character ends a tag's name.
+pub(crate) fn ends_name(ch: char) -> bool
+    ensures { result ≡ ends_name ch }
+{
+    ch.is_ascii_whitespace() || ch == '/' || ch == '>'
+}
+
+impl Level {
+    /// The level after a character that ends `-->`, `<!--`, `<script` or `</script`, or none of them.
+    fn after(self, ends: bool, begins: bool, opens: bool, closes: bool) -> Level
+        ensures { result ≡ level_after self ends begins opens closes }
+    {
+        if ends {
+            return Level::Plain;
+        }
+        match self {
+            Level::Plain => { if begins { Level::Escaped } else { Level::Plain } }
+            Level::Escaped => {
+                if opens {
+                    Level::DoubleEscaped
+                } else {
+                    Level::Escaped
+                }
+            }
+            Level::DoubleEscaped => {
+                if closes {
+                    Level::Escaped
+                } else {
+                    Level::DoubleEscaped
+                }
+            }
+        }
+    }
+}
+
+impl Mark {
+    fn after(self, ch: char) -> Mark
+        ensures { result ≡ mark_after self ch }
+    {
+        match ch {
+            '-' => match self {
+                Mark::Nothing | Mark::Less => Mark::Dash,
+                Mark::LessBang => Mark::LessBangDash,
+                Mark::LessBangDash | Mark::Dash | Mark::Dashes => Mark::Dashes,
+            },
+            '!' => match self {
+                Mark::Less => Mark::LessBang,
+                _ => Mark::Nothing,
+            },
+            '<' => Mark::Less,
+            _ => Mark::Nothing,
+        }
+    }
+
+    /// Whether a character ends `-->`.
+    fn ends(self, ch: char) -> bool
+        ensures { result ≡ (ch == 62 && is_dashes self) }
+    {
+        ch == '>' && matches!(self, Mark::Dashes)
+    }
+
+    /// Whether a character ends `<!--`.
+    fn begins(self, ch: char) -> bool
+        ensures { result ≡ (ch == 45 && is_less_bang_dash self) }
+    {
+        ch == '-' && matches!(self, Mark::LessBangDash)
+    }
+}
+
+impl Word {
+    fn after(self, name: &[u8], ch: char) -> Word
+        ensures { result ≡ word_after name.now self ch }
+    {
+        if ch == '<' {
+            return Word::Read(0);
+        }
+        match self {
+            Word::Nothing => Word::Nothing,
+            Word::Read(n) => match name.get(n) {
+                Some(byte) => {
+                    if agrees(ch, *byte) {
+                        Word::Read(n + 1)
+                    } else {
+                        Word::Nothing
+                    }
+                }
+                None => Word::Nothing,
+            },
+        }
+    }
+
+    fn is_read(self, count: usize) -> bool
+        ensures { result ≡ is_read count self }
+    {
+        match self {
+            Word::Nothing => false,
+            Word::Read(n) => n == count,
+        }
+    }
+
+    /// Whether a character ends `<` and the name, which is this long.
+    fn ends(self, count: usize, ch: char) -> bool
+        ensures { result ≡ (ends_name ch && is_read count self) }
+    {
+        ends_name(ch) && self.is_read(count)
+    }
+}
+
+impl Script {
+    pub fn new() -> Script
+        ensures { HasFront result [] }
+    {
+        Script {
+            level: Level::Plain,
+            mark: Mark::Nothing,
+            opening: Word::Nothing,
+            closing: Word::Nothing,
+        }
+    }
+
+    /// The script after more characters.
+    pub fn after_all(self, text: &[Placed]) -> Script
+        ensures { FollowsAll self text.now result }
+    {
+        let mut script = self;
+        for p in text {
+            script = script.after(p.ch);
+        }
+        script
+    }
+
+    /// Whether an end tag may end the script here.
+    pub fn may_end(self) -> bool
+        ensures { result ≡ nat_lt (level_number self.level) 2 }
+    {
+        match self.level {
+            Level::Plain | Level::Escaped => true,
+            Level::DoubleEscaped => false,
+        }
+    }
+
+    /// Whether it stands in comment-like text.
+    pub fn is_inside(self) -> bool
+        ensures { result ≡ nat_lt 0 (level_number self.level) }
+    {
+        match self.level {
+            Level::Plain => false,
+            Level::Escaped | Level::DoubleEscaped => true,
+        }
+    }
+
+    /// The script after one more character.
+    pub fn after(self, ch: char) -> Script
+        ensures { (at : ℕ) (front : List Character) → HasFront self front → HasFront result (record { ch = ch; at = at } ∷ front) }
+    {
+        Script {
+            level: self.level.after(
+                self.mark.ends(ch),
+                self.mark.begins(ch),
+                self.opening.ends(6, ch),
+                self.closing.ends(7, ch),
+            ),
+            mark: self.mark.after(ch),
+            opening: self.opening.after(b"script", ch),
+            closing: self.closing.after(b"/script", ch),
+        }
+    }
+}
