@@ -13,7 +13,7 @@ use Rattle.htoken.specs.Token.{Span, piece_span}
 use Rattle.htoken.specs.Standing.{Standing, next, standing_after}
 use Rattle.htoken.specs.Spans.{IsSpan, IsSpanOf, raw_character, raw_reference}
 use Rattle.htoken.specs.Raw.{is_raw_end, is_end_tag_of}
-use Rattle.htoken.specs.Value.{plain_piece}
+use Rattle.htag.specs.Value.{plain_piece}
 use Rattle.htoken.specs.Data.{IsDataSpan, character_span}
 use Rattle.htoken.specs.Data as production
 use Rattle.htoken.specs.Tokens.{Cut, spans_text, tokens_of, has_refused}

@@ -18,7 +18,8 @@ use Rattle.hmarkup.specs.Comment as text_of_comment
 use Rattle.hmarkup.proofs.Marks.{before-avoids, before-here}
 use Rattle.htoken.specs.Token.{Span, Start, End}
 use Rattle.htoken.specs.Standing.{Standing, next}
-use Rattle.htoken.specs.Tag.{parts_text, attributes_after, tag_errors, end_tag_errors, IsTag, start_tag, end_tag, ends_name}
+use Rattle.htoken.specs.Tag.{IsTag, start_tag, end_tag}
+use Rattle.htag.specs.Tag.{parts_text, attributes_after, tag_errors, end_tag_errors, ends_name}
 use Rattle.htoken.specs.Spans.{IsSpanOf}
 use Rattle.htoken.specs.Data.{comment_span}
 use Rattle.htoken.specs.Data as production

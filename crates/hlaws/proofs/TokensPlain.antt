@@ -17,7 +17,7 @@ use Rattle.names.specs.Tags.{tag_named, tag_text, tags}
 use Rattle.charref.specs.Reference.{Entities, IsTable, HasCore}
 use Rattle.hnodes.specs.Forest.{Attribute}
 use Rattle.htoken.specs.Standing.{Standing, standing_after}
-use Rattle.htoken.specs.Tag.{is_known}
+use Rattle.htag.specs.Tag.{is_known}
 use Rattle.hmodes.specs.State.{Token, start, end, comment, character}
 use Rattle.hwrite.specs.declared.content.Content.{Content}
 use Rattle.hwrite.specs.declared.content.Content.TheVariants as content

@@ -14,8 +14,8 @@ use Rattle.htoken.specs.Token.{Span, piece_span}
 use Rattle.htoken.specs.Standing.{Standing}
 use Rattle.htoken.specs.Spans.{IsSpanOf, IsRawSpan, raw_character, raw_end, has_references}
 use Rattle.htoken.specs.Raw.{is_raw_end, is_end_tag_of, may_end, level, level_from, ended}
-use Rattle.htoken.specs.Tag.{ends_name, ends_attribute_name}
-use Rattle.htoken.specs.Value.{plain_piece}
+use Rattle.htag.specs.Tag.{ends_name, ends_attribute_name}
+use Rattle.htag.specs.Value.{plain_piece}
 use Rattle.hmodes.specs.State.{end, character}
 use Rattle.hwrite.specs.Plain.{begins_with, has_part}
 use Rattle.hlaws.proofs.TokensText.{is_clean_char, clean_not_null, is_written_ascii}

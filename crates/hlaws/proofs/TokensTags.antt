@@ -10,10 +10,10 @@ use Rattle.names.specs.declared.placed.Placed.{Placed}
 use Rattle.names.specs.Placed.{characters, place, error_if, begins, stops, all, is_letter, is_space, without_null, name_bytes}
 use Rattle.charref.specs.Reference.{Entities, Piece, IsTable, named_piece}
 use Rattle.hnodes.specs.Forest.{Attribute}
-use Rattle.htoken.specs.Value.{IsPiece, plain, plain_piece, pieces_text, AreValue, value_bytes}
-use Rattle.htoken.specs.Value as piece
+use Rattle.htag.specs.Value.{IsPiece, plain, plain_piece, pieces_text, AreValue, value_bytes}
+use Rattle.htag.specs.Value as piece
 use Rattle.names.specs.declared.error.ErrorCode.TheVariants.{MissingWhitespaceBetweenAttributes}
-use Rattle.htoken.specs.Tag.{Part, attribute_part, value_errors, is_sign, space, quoted, AreParts, parts_text, ends_name, ends_attribute_name, is_known, kept, attributes_after}
+use Rattle.htag.specs.Tag.{Part, attribute_part, value_errors, is_sign, space, quoted, AreParts, parts_text, ends_name, ends_attribute_name, is_known, kept, attributes_after}
 use Rattle.hwrite.specs.declared.escaping.Setting.TheVariants as setting
 use Rattle.hwrite.specs.Plain.{is_name_byte}
 use Rattle.hlaws.proofs.TokensText.{is_written_ascii}
