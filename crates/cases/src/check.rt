@@ -3,7 +3,7 @@
 ghost use Rattle.std.specs.Prelude.{◌≡◌, ◌<◌, ◌≤◌, vec_len};
 
 use crate::case::Case;
-use anyhow::Result;
+use anyhow::{Result, bail};
 use charref::Table;
 use hparse::{Command, Counted, Options, Task, run, token_lines, tokens};
 use htext::MAX_INPUT;
@@ -28,7 +28,15 @@ pub fn check(alloc: Global, case: &Case) -> Result<bool> {
     Ok(true)
 }
 
-/// The core table of references, and the greatest limit.
+/// The core table of references.
+fn core_table(alloc: Global) -> Result<Table> {
+    match Table::core(alloc) {
+        Ok(table) => Ok(table),
+        Err(refusal) => bail!("no table: {refusal}"),
+    }
+}
+
+/// That table, and the greatest limit.
 fn options_of<'t>(table: &'t Table) -> Options<'t>
     ensures { result.input_limit ≡ MAX_INPUT }
 {
@@ -48,7 +56,7 @@ fn runs(alloc: Global, case: &Case, piece: usize) -> Result<bool>
     };
     let mut source = Counted::new(case.input.as_slice());
     let mut target = Counted::new(Vec::new(alloc));
-    let table = Table::core(alloc)?;
+    let table = core_table(alloc)?;
     let options = options_of(&table);
     let refusal = run(alloc, command, &options, &mut source, &mut target).err();
     is_of(alloc, case, refusal, &target.into_inner())
@@ -59,7 +67,7 @@ fn comes(alloc: Global, case: &Case, cut: usize) -> Result<bool>
     requires { cut ≤ vec_len case.now.input }
 {
     let (front, back) = case.input.split_at(cut);
-    let table = Table::core(alloc)?;
+    let table = core_table(alloc)?;
     match tokens(alloc, &[front, back], &options_of(&table)) {
         Ok(found) => match token_lines(alloc, &found) {
             Ok(text) => is_of(alloc, case, None, &text),

@@ -1,21 +1,18 @@
 //! An example of the crates as a library: prints the parse errors of a page, each with its byte.
 #![tactic(auto)]
 
-use anyhow::{Context, Result};
+use anyhow::Context;
 use charref::Table;
-use hparse::{Options, tokens};
+use hparse::{Options, TokenRun, tokens};
 use htext::MAX_INPUT;
+use names::Refusal;
+use std::alloc::Global;
 use std::{env, fs};
 
-fn main(rt: HostRuntime) -> Result<()> {
+fn main(rt: HostRuntime) -> anyhow::Result<()> {
     let name = env::args(&rt)?.nth(1).context("name a page")?;
     let page = fs::read(&rt, name.as_str())?;
-    let table = Table::core(rt.alloc())?;
-    let options = Options {
-        table: &table,
-        input_limit: MAX_INPUT,
-    };
-    match tokens(rt.alloc(), &[&page], &options) {
+    match parse(rt.alloc(), &page) {
         Ok(run) => {
             for error in &run.errors {
                 println!(rt; "{} {}", error.at, error.code.text())?;
@@ -25,4 +22,14 @@ fn main(rt: HostRuntime) -> Result<()> {
         Err(refusal) => println!(rt; "refused: {refusal}")?,
     }
     Ok(())
+}
+
+/// The tokens and the parse errors of a page, with the core table of references.
+fn parse(alloc: Global, page: &[u8]) -> Result<TokenRun, Refusal> {
+    let table = Table::core(alloc)?;
+    let options = Options {
+        table: &table,
+        input_limit: MAX_INPUT,
+    };
+    tokens(alloc, &[page], &options)
 }

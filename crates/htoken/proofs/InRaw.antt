@@ -37,7 +37,7 @@ use Rattle.htoken.specs.Tokenizing.{Stands, Reads, Takes, take_sink_refused, IsH
 use Rattle.htoken.specs.Steps.{Stays, Keeps, Holds}
 use Rattle.htag.specs.TagWalk.{IsInTag}
 use Rattle.htoken.specs.Tag.{tag_mark}
-use Rattle.htoken.proofs.TagKept.{tag_ahead}
+use Rattle.htag.proofs.Keeping.{looks_ahead as tag_ahead}
 use Rattle.htoken.proofs.Cutting.{stands_more}
 use Rattle.htoken.proofs.Going.{ran_out, goes_on, span_ends}
 use Rattle.htag.proofs.Parts.{all-snoc}
@@ -360,8 +360,8 @@ module _ {S : Type 0} (gives : S → Item → Result (Unit {0}) Refusal → S �
               body = t.held.items;
               held_is = i.held_is;
               opens = sym (ap tag_mark kind);
-              in_tag = tag_ahead table names new.tag t.held.items t.raised.errors.items p (subst (IsInTag table names new.tag t.held.items []) (sym i.raises_none)
-                  (begun t.held.items some i.letters (sym name_whole ∙ sym (name_is_lowered t.held.items i.letters))));
+              in_tag = tag_ahead table names new.tag t.held.items t.raised.errors.items (subst (IsInTag table names new.tag t.held.items []) (sym i.raises_none)
+                  (begun t.held.items some i.letters (sym name_whole ∙ sym (name_is_lowered t.held.items i.letters)))) p;
               fits = λ end rest more span e is. in_raw table end h.here rest span raw_here (raw_end (whole rest more span e) is);
             };
           }) where

@@ -1,6 +1,6 @@
 //! Characters in, tokens out.
 
-ghost use Rattle.std.specs.Prelude.{◌≡◌, ◌∷◌, ◌++◌, ℕ, List, [], slice_get, Some, Err, IfErr, OnOk, MatchBool, true, false, ◌||◌, ◌==◌};
+ghost use Rattle.std.specs.Prelude.{◌≡◌, ◌∷◌, ◌++◌, ◌+◌, ◌-◌, ℕ, List, [], slice_get, Some, Err, IfErr, OnOk, MatchBool, true, false, ◌||◌, ◌==◌};
 ghost use Rattle.names.specs.declared.placed.Placed.{Placed as Character};
 ghost use Rattle.names.specs.declared.raw.RawKind.{RawKind as Kind};
 ghost use Rattle.names.specs.declared.refusal.Refusal.{Refusal as Refused};
@@ -8,12 +8,13 @@ ghost use Rattle.names.specs.Names.{Texts, Grows};
 ghost use Rattle.names.specs.Placed.{error, place};
 ghost use Rattle.names.specs.Sink.{Hands};
 ghost use Rattle.charref.specs.Reference.{Entities};
+ghost use Rattle.charref.specs.Pieces.{IsRead};
 ghost use Rattle.htoken.specs.Script.{HasFront, level_number};
 ghost use Rattle.hmarkup.specs.CommentWalk.{backwards};
 ghost use Rattle.htoken.specs.Token.{Event, Gives, Reports, Eof, Comment, End, TokenMeans, gives_item};
 ghost use Rattle.names.specs.declared.error.ErrorCode.TheVariants.{EofBeforeTagName};
 ghost use Rattle.htoken.specs.Data.{character_span, less_span};
-ghost use Rattle.htoken.specs.Giving.{items_of};
+ghost use Rattle.htoken.specs.Giving.{items_of, read_events};
 ghost use Rattle.htoken.specs.Handing.{HandsEvents};
 ghost use Rattle.htoken.specs.Tokens.{events_of};
 ghost use Rattle.htoken.specs.Standing.{start_kind};
@@ -25,16 +26,16 @@ ghost use Rattle.htag.specs.TagWalk.{IsInTag};
 ghost use Rattle.std.specs.Prelude.{◌&&◌, is_some, length, string_bytes, MatchResult, map, nat_lt};
 ghost use Rattle.std.specs.Char.{to_ascii_lowercase};
 ghost use Rattle.names.specs.Placed.{all, placed};
-ghost use Rattle.htoken.specs.Tokenizing.{after_place, Reads, HasTaken, Takes, Finishes, EndsHeld, less, doctype_token};
-ghost use Rattle.htoken.specs.Steps.{held_in_raw, script_errors, Holds, CutsOff, KeepsFaults, BeginsBogus, BeginsTag, EndsSpan, GivesSpan, EndsStartTag, EndsTag};
+ghost use Rattle.htoken.specs.Tokenizing.{after_place, IsInRun, Reads, HasTaken, Takes, Finishes, EndsHeld, less, doctype_token};
+ghost use Rattle.htoken.specs.Steps.{held_in_raw, script_errors, Holds, CutsOff, KeepsFaults, BeginsReference, BeginsBogus, BeginsTag, EndsSpan, GivesSpan, EndsStartTag, EndsTag};
 
 use crate::declaration::{Opened, Opens, is_plain as is_plain_text};
-use crate::hand::{give, give_all, give_faulty, hand_over};
+use crate::hand::{after_first, give, give_all, give_faulty, give_piece, hand_over, tell_unknown};
 use crate::script::{Script, agrees, ends_name};
 use crate::sink::TokenSink;
 use crate::state::{Raised, State};
 use crate::token::{Start, Token};
-use charref::Table;
+use charref::{Reference, Table, Walk};
 use hmarkup::{CommentWalk, DoctypeWalk};
 use htag::{TagKind, TagWalk};
 use names::{ErrorCode, NameId, Names, ParseError, Placed, RawKind, Refusal};
@@ -55,6 +56,7 @@ pub struct Tokenizer<'t> {
     pub(crate) held: Vec<Placed>,
     pub(crate) comment: CommentWalk,
     pub(crate) doctype: DoctypeWalk,
+    pub(crate) reference: Walk<'t>,
     pub(crate) tag: TagWalk<'t>,
     pub(crate) script: Script,
     pub(crate) raised: Raised,
@@ -91,6 +93,7 @@ impl<'t> Tokenizer<'t> {
             held: Vec::new(alloc),
             comment: CommentWalk::bogus(alloc),
             doctype: DoctypeWalk::new(alloc),
+            reference: Walk::new(table, false),
             tag: TagWalk::new(alloc),
             script: Script::new(),
             raised: Raised {
@@ -254,6 +257,8 @@ impl<'t> Tokenizer<'t> {
             State::Declaration(bang, so) => self.end_declaration(bang, so, end, sink),
             State::Comment => self.end_in_comment(end, sink),
             State::Doctype => self.end_in_doctype(end, sink),
+            State::Reference => self.end_in_reference(sink),
+            State::Run(_) => Ok(()),
             State::Tag => self.cut_off(names, end, sink),
             State::RawLess => self.end_raw_less(sink),
             State::RawName(solidus) => self.give_held(solidus, sink),
@@ -279,6 +284,16 @@ impl<'t> Tokenizer<'t> {
     {
         self.comment.end(end, &mut self.raised)?;
         self.end_comment(sink)
+    }
+
+    /// A reference ends where the input does; what does not belong to it is text.
+    fn end_in_reference<S: TokenSink>(&mut self, sink: &mut S) -> Result<(), Refusal>
+        requires { self.old.state ≡ State.Reference }
+        ensures { (table : Entities) (start : Kind) (names : Texts) (end : ℕ) (text : List Character) (taken : List Event) → Reads table start self.old names text [] taken
+            → EndsHeld (gives_item S.gives S.gives_token) table start end text taken names sink.old result self.new sink.new }
+    {
+        let found = self.reference.end();
+        self.give_reference(&found, self.left_at_end(found.left), sink)
     }
 
     /// What comes after `<!` is read as a comment that ends where the input does.
@@ -362,6 +377,8 @@ impl<'t> Tokenizer<'t> {
             State::Declaration(bang, so) => self.in_declaration(bang, so, ch, at, sink),
             State::Comment => self.in_comment(ch, at, sink),
             State::Doctype => self.in_doctype(ch, at, sink),
+            State::Reference => self.in_reference(ch, at, sink),
+            State::Run(amp) => self.in_run(amp, ch, at, sink),
             State::Tag => self.in_tag(names, ch, at, sink),
             State::RawLess => self.after_raw_less(ch, at, sink),
             State::RawName(solidus) => self.in_raw_name(solidus, names, ch, at, sink),
@@ -401,7 +418,8 @@ impl<'t> Tokenizer<'t> {
             }
             '&' => {
                 if self.has_references() {
-                    return Err(Refusal::Memory);
+                    self.begin_reference(at);
+                    return Ok(());
                 }
                 self.follow(ch);
                 give(ch, at, sink)
@@ -557,7 +575,10 @@ impl<'t> Tokenizer<'t> {
                 self.at = at;
                 Ok(())
             }
-            '&' => Err(Refusal::Memory),
+            '&' => {
+                self.begin_reference(at);
+                Ok(())
+            }
             '\0' => give_faulty(ErrorCode::UnexpectedNullCharacter, at, ch, at, sink),
             _ => give(ch, at, sink),
         }
@@ -623,6 +644,100 @@ impl<'t> Tokenizer<'t> {
                 self.in_comment(ch, at, sink)
             }
         }
+    }
+
+    /// Begins a reference at an `&`.
+    fn begin_reference(&mut self, at: u64)
+        ensures { BeginsReference self.old at self.new }
+    {
+        self.state = State::Reference;
+        self.at = at;
+        self.held.clear();
+        self.reference = Walk::new(self.table, false);
+    }
+
+    /// After `&` (13.2.5.72 to 13.2.5.80).
+    fn in_reference<S: TokenSink>(&mut self, ch: char, at: u64, sink: &mut S) -> Result<(), Refusal>
+        requires { self.old.state ≡ State.Reference }
+        ensures { (table : Entities) (start : Kind) (names : Texts) (text : List Character) (taken : List Event) → Reads table start self.old names text (record { ch = ch; at = at } ∷ []) taken
+            → Takes (gives_item S.gives S.gives_token) table start text (record { ch = ch; at = at } ∷ []) taken names sink.old result sink.new self.new }
+    {
+        match self.reference.take(ch) {
+            Some(found) => self.end_reference(&found, ch, at, sink),
+            None => {
+                self.held.push(Placed { ch, at })?;
+                Ok(())
+            }
+        }
+    }
+
+    /// Ends the reference that this character has shown, and reads again what does not belong to it.
+    fn end_reference<S: TokenSink>(&mut self, found: &Reference, ch: char, at: u64, sink: &mut S) -> Result<(), Refusal>
+        requires { self.old.state ≡ State.Reference }
+        ensures { (table : Entities) (start : Kind) (names : Texts) (text : List Character) (taken : List Event) → ((after : List Character) → IsRead table false (self.old.held.items ++ record { ch = ch; at = at } ∷ []) after found.now)
+            → Reads table start self.old names text (record { ch = ch; at = at } ∷ []) taken → Takes (gives_item S.gives S.gives_token) table start text (record { ch = ch; at = at } ∷ []) taken names sink.old result sink.new self.new }
+    {
+        if found.in_run {
+            return self.end_in_run(found, ch, at, sink);
+        }
+        self.state = State::Text;
+        if found.left == 0 {
+            return give_piece(found, self.at, sink);
+        }
+        self.give_reference(found, self.given_back(found.left), sink)?;
+        self.in_text(ch, at, sink)
+    }
+
+    /// How many of the characters that are held belong to a reference, where so many are read again, the one after them among them.
+    fn given_back(&self, left: usize) -> usize
+        ensures { result ≡ length self.now.held.items + 1 - left }
+    {
+        (self.held.len() + 1).saturating_sub(left)
+    }
+
+    /// .. where the input ends after them.
+    fn left_at_end(&self, left: usize) -> usize
+        ensures { result ≡ length self.now.held.items - left }
+    {
+        self.held.len().saturating_sub(left)
+    }
+
+    /// Hands over a reference, and what is held after so many characters, which do not belong to it.
+    fn give_reference<S: TokenSink>(&self, found: &Reference, count: usize, sink: &mut S) -> Result<(), Refusal>
+        ensures { (names : Texts) → HandsEvents (gives_item S.gives S.gives_token) names sink.old (read_events found.now self.now.at self.now.held.items count) result sink.new }
+    {
+        give_piece(found, self.at, sink)?;
+        give_all(after_first(&self.held, count), sink)
+    }
+
+    /// Ends an `&` that no key begins, in the run of alphanumerics after it.
+    fn end_in_run<S: TokenSink>(&mut self, found: &Reference, ch: char, at: u64, sink: &mut S) -> Result<(), Refusal>
+        requires state { self.old.state ≡ State.Reference }
+        requires run { found.now.in_run ≡ true }
+        ensures { (table : Entities) (start : Kind) (names : Texts) (text : List Character) (taken : List Event) → ((after : List Character) → IsRead table false (self.old.held.items ++ record { ch = ch; at = at } ∷ []) after found.now)
+            → Reads table start self.old names text (record { ch = ch; at = at } ∷ []) taken → Takes (gives_item S.gives S.gives_token) table start text (record { ch = ch; at = at } ∷ []) taken names sink.old result sink.new self.new }
+    {
+        if found.left == 0 || !ch.is_ascii_alphanumeric() {
+            return Err(Refusal::Memory);
+        }
+        let amp = self.at;
+        self.state = State::Run(amp);
+        self.give_reference(found, self.given_back(found.left), sink)?;
+        self.in_run(amp, ch, at, sink)
+    }
+
+    /// In the run of alphanumerics after an `&` that no key begins (13.2.5.74).
+    fn in_run<S: TokenSink>(&mut self, amp: u64, ch: char, at: u64, sink: &mut S) -> Result<(), Refusal>
+        requires { self.old.state ≡ State.Run amp }
+        ensures { (table : Entities) (start : Kind) (names : Texts) (text : List Character) (taken : List Event) → IsInRun table start self.old names text (record { ch = ch; at = at } ∷ []) taken
+            → Takes (gives_item S.gives S.gives_token) table start text (record { ch = ch; at = at } ∷ []) taken names sink.old result sink.new self.new }
+    {
+        if ch.is_ascii_alphanumeric() {
+            return give(ch, at, sink);
+        }
+        self.state = State::Text;
+        tell_unknown(ch, amp, sink)?;
+        self.in_text(ch, at, sink)
     }
 
     /// After `<!` (13.2.5.42).

@@ -6,7 +6,7 @@ use crate::document::tokens;
 use crate::lines::token_lines;
 use crate::options::Options;
 use charref::Table;
-use names::{ErrorCode, ParseError, Refusal};
+use names::{ErrorCode, ParseError, Refusal, RefusedName};
 use std::alloc::Global;
 use std::process::Abort;
 use std::test::Fail;
@@ -158,21 +158,19 @@ fn errors_at_one_place(rt: HostRuntime) -> Result<(), Fail> {
 }
 
 #[test]
-fn what_is_not_read_yet(rt: HostRuntime) -> Result<(), Fail> {
+fn what_is_left_out(rt: HostRuntime) -> Result<(), Fail> {
+    let left_out = Refusal::OutOfProfile {
+        name: RefusedName::Svg,
+        at: 0,
+    };
+    expect_refusal(&rt, rt.alloc(), b"<svg a=1>b", ENOUGH, left_out)?;
+    expect_refusal(&rt, rt.alloc(), b"<svg>\xFF", ENOUGH, left_out)?;
     expect_refusal(
         &rt,
         rt.alloc(),
-        b"<title>",
+        b"<svg\xFF",
         ENOUGH,
-        Refusal::NotYet { at: 0 },
-    )?;
-    expect_refusal(&rt, rt.alloc(), b"<!-", ENOUGH, Refusal::NotYet { at: 0 })?;
-    expect_refusal(
-        &rt,
-        rt.alloc(),
-        b"a<p x\xFF",
-        ENOUGH,
-        Refusal::NotYet { at: 1 },
+        Refusal::NotUtf8 { at: 4 },
     )
 }
 

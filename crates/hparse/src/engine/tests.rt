@@ -8,7 +8,7 @@ use crate::options::Options;
 use crate::source::Source;
 use crate::target::Target;
 use charref::Table;
-use names::Refusal;
+use names::{Refusal, RefusedName};
 use std::alloc::Global;
 use std::process::Abort;
 use std::test::Fail;
@@ -223,11 +223,16 @@ fn a_write_that_fails(rt: HostRuntime) -> Result<(), Fail> {
 }
 
 #[test]
-fn a_refusal_writes_nothing(rt: HostRuntime) -> Result<(), Fail> {
-    let mut reader = Reader::new(b"a<title>b", NEVER);
+fn reading_stops_where_a_tag_is_left_out(rt: HostRuntime) -> Result<(), Fail> {
+    // The call after the one that gives the `>` fails, and is not made.
+    let mut reader = Reader::new(b"a<svg>b", 7);
     let mut writer = Writer::new(rt.alloc(), NEVER);
-    let refusal = Err(Refusal::NotYet { at: 1 });
+    let refusal = Err(Refusal::OutOfProfile {
+        name: RefusedName::Svg,
+        at: 1,
+    });
     expect_answer(&rt, rt.alloc(), &mut reader, &mut writer, 4, refusal);
+    assert_eq!(rt; reader.calls, 6);
     assert_eq!(rt; writer.calls, 0);
     Ok(())
 }

@@ -1,0 +1,321 @@
+-- A character after an `&`, and the input's end there.
+use Rattle.std.proofs.Common.{◌≡◌, ℕ, ◌+◌, ◌-◌, ◌<◌, ◌≤◌, Bool, true, false, ◌&&◌, eqb, List, [], ◌∷◌, ◌++◌, map, length, drop, take, reverse, sym, refl, ap, ◌∙◌, subst, Result, Ok, Err, Option, Some, None, arith, append_assoc, append-nil}
+use Rattle.std.proofs.lemmas.List.{drop-append-le, take-append-le}
+use Rattle.std.proofs.Math.Seq.{drop-append_seam, take-append_seam}
+use Rattle.std.proofs.Math.ListN.{length-append}
+use Rattle.std.specs.String.{string_bytes}
+use Rattle.names.specs.declared.error.ErrorCode.TheVariants.{UnknownNamedCharacterReference}
+use Rattle.names.specs.declared.error.ParseError.{ParseError}
+use Rattle.names.specs.declared.placed.Placed.{Placed}
+use Rattle.names.specs.declared.raw.RawKind.{RawKind}
+use Rattle.names.specs.declared.raw.RawKind.TheVariants as kind
+use Rattle.names.specs.declared.refusal.Refusal.{Refusal}
+use Rattle.names.specs.Names.{Texts}
+use Rattle.names.specs.Placed.{all, begins, past, is_alphanumeric, error, error_if}
+use Rattle.charref.specs.declared.reference.Reference.{Reference}
+use Rattle.charref.specs.Pieces.{IsRead, characters_of, errors_of}
+use Rattle.charref.specs.Reference.{Entities, IsTable, IsReference}
+use Rattle.charref.specs.Walk.{HasTaken as WalkHasTaken}
+use Rattle.hmarkup.proofs.Marks.{and_no}
+use Rattle.htoken.specs.declared.state.State.{State}
+use Rattle.htoken.specs.declared.state.State.TheVariants as state
+use Rattle.htoken.specs.declared.tokenizer.Tokenizer.{Tokenizer}
+use Rattle.htoken.specs.Token.{Tok, Span, Item, Event, Gives, Reports, Char, piece_span}
+use Rattle.htoken.specs.Standing.{Standing, next}
+use Rattle.htoken.specs.Raw.{is_raw, is_script}
+use Rattle.htoken.specs.Script.{HasFront}
+use Rattle.htoken.specs.Spans.{IsSpan, has_references}
+use Rattle.htoken.specs.Giving.{known_errors, piece_events, read_events}
+use Rattle.htoken.specs.Run.{run_events}
+use Rattle.htoken.specs.Tokens.{tokens_in, errors_in, AreFront, eof_of, tokens_of, events_of}
+use Rattle.htoken.specs.Handing.{HandsEvents}
+use Rattle.htoken.specs.Steps.{Stays, Keeps, BeginsReference}
+use Rattle.htoken.specs.Tokenizing.{Stands, Reads, IsInRun, Takes, take_took, take_sink_refused, holds, in_run, IsHeld, IsIn, IsLast, IsBetween, IsInReference, EndsHeld, held_ended, later_errors, next_place}
+use Rattle.htoken.proofs.Going.{goes_on, span_ends}
+use Rattle.htoken.proofs.InRaw.{after_characters}
+use Rattle.htoken.proofs.Pending.{stands_on, stands_told, later_on, later_told}
+use Rattle.htoken.proofs.Referring.{is_kept, all-drop, held_kept, run_errors, after_reference, stands_read, plain_span, plain_is, alphanumeric_kept, reference_is, no_tag, gives_some, next_is}
+
+-- where references may stand no script does
+no_script : (k : RawKind) → has_references k ≡ true → is_script k ≡ true → ⊥
+no_script kind.None e f = absurd cc
+no_script kind.Rcdata e f = absurd cc
+no_script kind.Rawtext e f = absurd cc
+no_script kind.Script e f = absurd cc
+no_script kind.Plaintext e f = absurd cc
+
+same_between : (here after : Standing) (t new : Tokenizer) → has_references here.kind ≡ true → after.kind ≡ here.kind → after.name ≡ here.name → new.tag ≡ t.tag → IsBetween here t → IsBetween after new
+same_between here after t new may kind name tag b = record {
+  named = λ raw bytes e. b.named (ap is_raw (sym kind) ∙ raw) bytes (sym name ∙ e) ∙ ap (λ x. string_bytes x.name) (sym tag);
+  leveled = λ s. absurd (no_script here.kind may (ap is_script (sym kind) ∙ s));
+}
+
+-- the part of the text that a reference has, where one character more was taken
+split_at : (text : List Placed) (p : Placed) (left : ℕ) → left ≤ length (text ++ p ∷ []) → (left ≡ 0 → ⊥) → (drop (length (text ++ p ∷ []) - left) (text ++ p ∷ []) ≡ drop (length text + 1 - left) text ++ p ∷ []) × (take (length (text ++ p ∷ []) - left) (text ++ p ∷ []) ≡ take (length text + 1 - left) text)
+split_at text p left within some =
+    let long : length (text ++ p ∷ []) ≡ length text + 1 = length-append text (p ∷ []) in
+    let count : ℕ = length text + 1 - left in
+    let small : count ≤ length text = omega arith in
+    let same : length (text ++ p ∷ []) - left ≡ count = ap (λ (n : ℕ). n - left) long in
+    (ap (λ (n : ℕ). drop n (text ++ p ∷ [])) same ∙ drop-append-le count text (p ∷ []) small, ap (λ (n : ℕ). take n (text ++ p ∷ [])) same ∙ take-append-le count text (p ∷ []) small)
+
+module _ {S : Type 0} (gives : S → Item → Result (Unit {0}) Refusal → S → Type 0) (table : Entities) (start : RawKind) (text : List Placed) (p : Placed) (names : Texts) (taken : List Event) (t : Tokenizer) (h : Reads table start t names text (p ∷ []) taken) (after_amp : t.state ≡ state.Reference) where
+  abbrev inside : IsInReference table h.here t h.held
+  inside = subst (λ (s : State). IsHeld s table names h.here t h.held (p ∷ [])) after_amp h.is_held
+
+  pub may : has_references h.here.kind ≡ true
+  may = subst (λ (s : State). IsIn s h.here.kind) after_amp h.is_in
+
+  pub taken_by_walk : WalkHasTaken t.reference table false t.held.items
+  taken_by_walk = inside.has_taken
+
+  -- the reference goes on
+  pub reference_goes_on : (new : Tokenizer) (s : S) → Keeps t new → new.state ≡ state.Reference → new.tag ≡ t.tag → new.held.items ≡ t.held.items ++ p ∷ [] → new.raised.errors.items ≡ t.raised.errors.items → WalkHasTaken new.reference table false (t.held.items ++ p ∷ [])
+      → Takes gives table start text (p ∷ []) taken names s (Ok tt) s new
+  reference_goes_on new s keeps same tag more raised walk =
+      let i = inside in
+      goes_on gives table start text p names taken t h new s keeps.stays keeps.kind_is keeps.last_is
+      (subst (λ (x : State). IsIn x h.here.kind) (sym same) may)
+      (subst (λ (x : State). IsHeld x table names h.here new (h.held ++ p ∷ []) []) (sym same) (record {
+        held_is = ap (λ (x : List Placed). x ++ p ∷ []) i.held_is ∙ ap (λ (a : ℕ). record { ch = 38; at = a } ∷ (t.held.items ++ p ∷ [])) (sym keeps.at_is) ∙ ap (λ (x : List Placed). record { ch = 38; at = new.at } ∷ x) (sym more);
+        raises_none = raised ∙ i.raises_none;
+        is_table = i.is_table;
+        has_taken = subst (WalkHasTaken new.reference table false) (sym more) walk;
+        between = same_between h.here h.here t new may refl refl tag i.between;
+      }))
+
+  module _ (found : Reference) (r : (after : List Placed) → IsRead table false (t.held.items ++ p ∷ []) after found) where
+    abbrev amp : Placed
+    amp = record { ch = 38; at = t.at }
+
+    -- it ends with the character
+    module _ (none : found.left ≡ 0) (told : found.in_run ≡ false) where
+      abbrev whole : List Placed
+      whole = amp ∷ (t.held.items ++ p ∷ [])
+
+      abbrev span : Span
+      span = piece_span (record { text = whole; gives = characters_of found.characters; errors = known_errors found t.at })
+
+      all_of : (xs : List Placed) (n : ℕ) → n ≡ 0 → (drop (length xs - n) xs ≡ []) × (take (length xs - n) xs ≡ xs)
+      all_of xs n e =
+          let same : length xs - n ≡ length xs = omega arith in
+          (ap (λ (k : ℕ). drop k xs) same ∙ ap (drop (length xs)) (sym (append-nil xs)) ∙ drop-append_seam xs [], ap (λ (k : ℕ). take k xs) same ∙ ap (take (length xs)) (sym (append-nil xs)) ∙ take-append_seam xs [])
+
+      known : (after : List Placed) → errors_of found t.at after ≡ known_errors found t.at
+      known after = ap (λ (b : Bool). known_errors found t.at ++ error_if (b && begins (λ c. eqb c 59) (past is_alphanumeric after)) UnknownNamedCharacterReference t.at) told ∙ append-nil (known_errors found t.at)
+
+      is_reference : (after : List Placed) → IsReference table false after (record { text = whole; gives = characters_of found.characters; errors = known_errors found t.at })
+      is_reference after =
+          let a = all_of (t.held.items ++ p ∷ []) found.left none in
+          subst (λ (x : List ParseError). IsReference table false after (record { text = whole; gives = characters_of found.characters; errors = x })) (known after)
+          (subst (λ (x : List Placed). IsReference table false after (record { text = amp ∷ x; gives = characters_of found.characters; errors = errors_of found t.at after })) a.1
+          (subst (λ (x : List Placed). IsReference table false (x ++ after) (record { text = amp ∷ take (length (t.held.items ++ p ∷ []) - found.left) (t.held.items ++ p ∷ []); gives = characters_of found.characters; errors = errors_of found t.at after })) a.0
+          ((r after).reads amp refl)))
+
+      pub reference_ends : (new : Tokenizer) (old s : S) (answer : Result (Unit {0}) Refusal) → Stays t new → new.kind ≡ t.kind → new.last ≡ t.last → new.state ≡ state.Text → new.raised.errors.items ≡ t.raised.errors.items → new.tag ≡ t.tag
+          → HandsEvents gives names old (piece_events found t.at) answer s → Takes gives table start text (p ∷ []) taken names old answer s new
+      reference_ends new old s answer stays kind last in_text raised tag handed =
+          let i = inside in
+          let there : next h.here span ≡ record h.here { front = reverse whole ++ h.here.front } = next_is h.here whole (known_errors found t.at) (characters_of found.characters) (gives_some table [] _ i.is_table (is_reference [])) in
+          span_ends gives table start text p names taken t h span (ap (λ (x : List Placed). x ++ p ∷ []) (sym i.held_is))
+          (λ end more. reference_is table end h.here more (record { text = whole; gives = characters_of found.characters; errors = known_errors found t.at }) may (is_reference more)) (no_tag (characters_of found.characters) t.at)
+          new old s answer stays (kind ∙ h.kind_is ∙ sym (ap (λ x. x.kind) there)) (subst (λ (x : Option (List ℕ)). IsLast names new.last x) (sym (ap (λ x. x.name) there)) (subst (λ (x : Option ℕ). IsLast names x h.here.name) (sym last) h.name_is)) in_text (raised ∙ i.raises_none)
+          (same_between h.here (next h.here span) t new may (ap (λ x. x.kind) there) (ap (λ x. x.name) there) tag i.between) handed
+
+    -- it ends before
+    module _ (some : found.left ≡ 0 → ⊥) where
+      abbrev pub count : ℕ
+      count = length t.held.items + 1 - found.left
+
+      abbrev pub back : List Placed
+      back = drop count t.held.items
+
+      abbrev after : Standing
+      after = after_reference h.here t.at t.held.items count
+
+      abbrev pub given : List Event
+      given = read_events found t.at t.held.items count
+
+      is_before : (more : List Placed) → IsReference table false (back ++ (p ∷ more)) (record { text = amp ∷ take count t.held.items; gives = characters_of found.characters; errors = errors_of found t.at more })
+      is_before more =
+          let k = split_at t.held.items p found.left (r more).within some in
+          subst (λ (x : List Placed). IsReference table false x (record { text = amp ∷ take count t.held.items; gives = characters_of found.characters; errors = errors_of found t.at more })) (append_assoc back (p ∷ []) more)
+          (subst (λ (x : List Placed). IsReference table false (x ++ more) (record { text = amp ∷ take count t.held.items; gives = characters_of found.characters; errors = errors_of found t.at more })) k.0
+          (subst (λ (x : List Placed). IsReference table false (drop (length (t.held.items ++ p ∷ []) - found.left) (t.held.items ++ p ∷ []) ++ more) (record { text = amp ∷ x; gives = characters_of found.characters; errors = errors_of found t.at more })) k.1
+          ((r more).reads amp refl)))
+
+      stands_before : (end : ℕ) (more : List Placed) → Stands table start end text (p ∷ more) after (taken ++ given) (run_errors found t.at more)
+      stands_before end more =
+          let i = inside in
+          subst (λ (x : List Placed). Stands table start end x (p ∷ more) after (taken ++ given) (run_errors found t.at more)) (ap (λ (x : List Placed). h.front ++ x) (sym i.held_is) ∙ sym h.text_is)
+          (stands_read table start end h.front h.here taken t.at t.held.items count found may i.is_table (all-drop is_kept count t.held.items (held_kept table false _ t.held.items i.has_taken.held)) (p ∷ more) more (is_before more)
+          (subst (λ (x : List Placed). Stands table start end h.front (x ++ (p ∷ more)) h.here taken []) i.held_is (h.stands end more)))
+
+      pub reference_refused : (new : Tokenizer) (old s : S) (e : Refusal) → HandsEvents gives names old given (Err e) s → Takes gives table start text (p ∷ []) taken names old (Err e) s new
+      reference_refused new old s e handed = take_sink_refused e given refl handed (λ more end.
+          let then = stands_before end more in
+          record {
+            spans = then.spans;
+            rest = p ∷ more;
+            others = [];
+            text_is = ap (λ (x : List Placed). x ++ p ∷ more) then.front_is;
+            cut = then.cut;
+            in_profile = then.in_profile;
+            front_is = append-nil (tokens_in (taken ++ given)) ∙ then.tokens_are ∙ sym (append-nil (tokens_of then.spans));
+          })
+
+      -- what does not belong to it is read again
+      pub reference_ended : (new : Tokenizer) → found.in_run ≡ false → Stays t new → new.kind ≡ t.kind → new.last ≡ t.last → new.state ≡ state.Text → new.raised.errors.items ≡ t.raised.errors.items → new.tag ≡ t.tag
+          → Reads table start new names text (p ∷ []) (taken ++ given)
+      reference_ended new told stays kind last in_text raised tag = record {
+        accepts = stays.0 ∙ h.accepts;
+        front = text;
+        held = [];
+        here = after;
+        table_is = ap (λ x. x.now) stays.1 ∙ h.table_is;
+        text_is = sym (append-nil text);
+        next_is = stays.2 ∙ h.next_is;
+        stands = λ end more. subst (λ (b : Bool). Stands table start end text (p ∷ more) after (taken ++ given) (error_if (b && begins (λ c. eqb c 59) (past is_alphanumeric more)) UnknownNamedCharacterReference t.at)) told (stands_before end more);
+        kind_is = kind ∙ h.kind_is;
+        name_is = subst (λ (x : Option ℕ). IsLast names x h.here.name) (sym last) h.name_is;
+        is_in = subst (λ (x : State). IsIn x h.here.kind) (sym in_text) tt;
+        is_held = subst (λ (x : State). IsHeld x table names after new [] (p ∷ [])) (sym in_text) (refl, raised ∙ inside.raises_none, same_between h.here after t new may refl refl tag inside.between);
+      }
+
+      -- a run of alphanumerics goes on, and its error comes later
+      pub run_begins : (new : Tokenizer) → found.in_run ≡ true → is_alphanumeric p.ch ≡ true → Stays t new → new.kind ≡ t.kind → new.last ≡ t.last → new.state ≡ state.Run t.at → new.raised.errors.items ≡ t.raised.errors.items → new.tag ≡ t.tag
+          → IsInRun table start new names text (p ∷ []) (taken ++ given)
+      run_begins new told letter stays kind last is_run raised tag = record {
+        accepts = stays.0 ∙ h.accepts;
+        here = after;
+        amp = t.at;
+        state_is = is_run;
+        table_is = ap (λ x. x.now) stays.1 ∙ h.table_is;
+        next_is = stays.2 ∙ h.next_is;
+        stands = λ end more. subst (Stands table start end text (p ∷ more) after (taken ++ given)) (sym (later_on t.at p more letter))
+            (subst (λ (b : Bool). Stands table start end text (p ∷ more) after (taken ++ given) (error_if (b && begins (λ c. eqb c 59) (past is_alphanumeric more)) UnknownNamedCharacterReference t.at)) told (stands_before end more));
+        kind_is = kind ∙ h.kind_is;
+        name_is = subst (λ (x : Option ℕ). IsLast names x h.here.name) (sym last) h.name_is;
+        may = may;
+        raises_none = raised ∙ inside.raises_none;
+        between = same_between h.here after t new may refl refl tag inside.between;
+      }
+
+-- THE INPUT'S END
+
+module _ {S : Type 0} (gives : S → Item → Result (Unit {0}) Refusal → S → Type 0) (table : Entities) (start : RawKind) (end : ℕ) (text : List Placed) (names : Texts) (taken : List Event) (t : Tokenizer) (h : Reads table start t names text [] taken) (after_amp : t.state ≡ state.Reference) where
+  abbrev pub at_end : IsInReference table h.here t h.held
+  at_end = subst (λ (s : State). IsHeld s table names h.here t h.held []) after_amp h.is_held
+
+  end_may : has_references h.here.kind ≡ true
+  end_may = subst (λ (s : State). IsIn s h.here.kind) after_amp h.is_in
+
+  pub reference_cut : (found : Reference) (then : Tokenizer) (old s : S) (answer : Result (Unit {0}) Refusal) → IsRead table false t.held.items [] found → then.kind ≡ t.kind → then.script ≡ t.script → HandsEvents gives names old (read_events found t.at t.held.items (length t.held.items - found.left)) answer s
+      → EndsHeld gives table start end text taken names old answer then s
+  reference_cut found then old s answer r kind script handed =
+      let i = at_end in
+      let count : ℕ = length t.held.items - found.left in
+      held_ended (read_events found t.at t.held.items count) (after_reference h.here t.at t.held.items count) (kind ∙ h.kind_is) (λ e. absurd (no_script h.here.kind end_may e))
+      (subst (Stands table start end text [] (after_reference h.here t.at t.held.items count) (taken ++ read_events found t.at t.held.items count)) (ap (λ (b : Bool). error_if b UnknownNamedCharacterReference t.at) (and_no found.in_run false refl))
+      (subst (λ (x : List Placed). Stands table start end x [] (after_reference h.here t.at t.held.items count) (taken ++ read_events found t.at t.held.items count) (run_errors found t.at [])) (ap (λ (x : List Placed). h.front ++ x) (sym i.held_is) ∙ sym h.text_is)
+      (stands_read table start end h.front h.here taken t.at t.held.items count found end_may i.is_table (all-drop is_kept count t.held.items (held_kept table false _ t.held.items i.has_taken.held)) [] [] (r.reads (record { ch = 38; at = t.at }) refl)
+      (subst (λ (x : List Placed). Stands table start end h.front (x ++ []) h.here taken []) i.held_is (h.stands end [])))))
+      handed
+
+-- A REFERENCE BEGINS
+
+pub reference_begins : {S : Type 0} (gives : S → Item → Result (Unit {0}) Refusal → S → Type 0) (table : Entities) (start : RawKind) (text : List Placed) (p : Placed) (names : Texts) (taken : List Event) (t : Tokenizer) (h : Reads table start t names text (p ∷ []) taken) (new : Tokenizer) (s : S)
+    → t.state ≡ state.Text → has_references t.kind ≡ true → p.ch ≡ 38 → BeginsReference t p.at new → Takes gives table start text (p ∷ []) taken names s (Ok tt) s new
+reference_begins gives table start text p names taken t h new s in_text refers is b =
+    let nothing = subst (λ (x : State). IsHeld x table names h.here t h.held (p ∷ [])) in_text h.is_held in
+    let may : has_references h.here.kind ≡ true = ap has_references (sym h.kind_is) ∙ refers in
+    goes_on gives table start text p names taken t h new s (ap (λ x. x.refused) b.then, ap (λ x. x.table) b.then, ap (λ x. x.next) b.then) (ap (λ x. x.kind) b.then) (ap (λ x. x.last) b.then)
+    (subst (λ (x : State). IsIn x h.here.kind) (sym (ap (λ x. x.state) b.then)) may)
+    (subst (λ (x : State). IsHeld x table names h.here new (h.held ++ p ∷ []) []) (sym (ap (λ x. x.state) b.then)) (record {
+      held_is = ap (λ (x : List Placed). x ++ p ∷ []) nothing.0 ∙ ap (λ (c : ℕ). record { ch = c; at = p.at } ∷ []) is ∙ ap (λ (a : ℕ). record { ch = 38; at = a } ∷ []) (sym (ap (λ x. x.at) b.then)) ∙ ap (λ (x : List Placed). record { ch = 38; at = new.at } ∷ x) (sym b.held_is);
+      raises_none = ap (λ x. x.raised.errors.items) b.then ∙ nothing.1;
+      is_table = subst IsTable h.table_is b.is_table;
+      has_taken = subst (λ (x : Entities). WalkHasTaken new.reference x false new.held.items) h.table_is (subst (WalkHasTaken new.reference t.table.now false) (sym b.held_is) b.has_taken);
+      between = same_between h.here h.here t new may refl refl (ap (λ x. x.tag) b.then) nothing.2;
+    }))
+
+-- IN A RUN
+
+module _ {S : Type 0} (gives : S → Item → Result (Unit {0}) Refusal → S → Type 0) (table : Entities) (start : RawKind) (text : List Placed) (p : Placed) (names : Texts) (taken : List Event) (t : Tokenizer) (amp : ℕ) (same : t.state ≡ state.Run amp) (h : IsInRun table start t names text (p ∷ []) taken) where
+  amp_is : h.amp ≡ amp
+  amp_is = let e : state.Run h.amp ≡ state.Run amp = sym h.state_is ∙ same in cc
+
+  stands_now : (end : ℕ) (more : List Placed) → Stands table start end text (p ∷ more) h.here taken (later_errors amp (p ∷ more))
+  stands_now end more = subst (λ (a : ℕ). Stands table start end text (p ∷ more) h.here taken (later_errors a (p ∷ more))) amp_is (h.stands end more)
+
+  abbrev one : List Event
+  one = Gives (Char p.ch p.at) ∷ []
+
+  module _ (letter : is_alphanumeric p.ch ≡ true) where
+    stands_then : (end : ℕ) (more : List Placed) → Stands table start end (text ++ p ∷ []) more (record h.here { front = p ∷ h.here.front }) (taken ++ one) (later_errors amp more)
+    stands_then end more =
+        subst (Stands table start end (text ++ p ∷ []) more (record h.here { front = p ∷ h.here.front }) (taken ++ one)) (append-nil (later_errors amp (p ∷ more)) ∙ later_on amp p more letter)
+        (stands_on table start end text more h.here taken (plain_span p) (later_errors amp (p ∷ more)) (stands_now end more) (plain_is table end h.here more p h.may (alphanumeric_kept p.ch letter)) refl)
+
+    pub run_goes_on : (old s : S) (answer : Result (Unit {0}) Refusal) → HandsEvents gives names old one answer s → Takes gives table start text (p ∷ []) taken names old answer s t
+    run_goes_on old s (Ok u) handed = take_took one refl handed (in_run (record {
+      accepts = h.accepts;
+      here = record h.here { front = p ∷ h.here.front };
+      amp = amp;
+      state_is = same;
+      table_is = h.table_is;
+      next_is = h.next_is ∙ ap next_place (sym (append-nil (text ++ p ∷ [])));
+      stands = λ end more. stands_then end more;
+      kind_is = h.kind_is;
+      name_is = h.name_is;
+      may = h.may;
+      raises_none = h.raises_none;
+      between = same_between h.here (record h.here { front = p ∷ h.here.front }) t t h.may refl refl refl h.between;
+    }))
+    run_goes_on old s (Err e) handed = take_sink_refused e one refl handed (λ more end.
+        let then = stands_then end more in
+        record {
+          spans = then.spans;
+          rest = more;
+          others = eof_of end more;
+          text_is = sym (append_assoc text (p ∷ []) more) ∙ ap (λ (x : List Placed). x ++ more) then.front_is;
+          cut = then.cut;
+          in_profile = then.in_profile;
+          front_is = ap (λ (x : List Tok). x ++ eof_of end more) then.tokens_are;
+        })
+
+  module _ (other : is_alphanumeric p.ch ≡ false) where
+    abbrev told : List ParseError
+    told = error_if (eqb p.ch 59) UnknownNamedCharacterReference amp
+
+    stands_told_now : (end : ℕ) (more : List Placed) → Stands table start end text (p ∷ more) h.here (taken ++ map Reports told) []
+    stands_told_now end more = stands_told table start end text (p ∷ more) h.here taken told (subst (Stands table start end text (p ∷ more) h.here taken) (later_told amp p more other) (stands_now end more))
+
+    pub run_ended : (new : Tokenizer) → Stays t new → new.kind ≡ t.kind → new.last ≡ t.last → new.state ≡ state.Text → new.raised.errors.items ≡ t.raised.errors.items → new.tag ≡ t.tag → Reads table start new names text (p ∷ []) (taken ++ map Reports told)
+    run_ended new stays kind last in_text raised tag = record {
+      accepts = stays.0 ∙ h.accepts;
+      front = text;
+      held = [];
+      here = h.here;
+      table_is = ap (λ x. x.now) stays.1 ∙ h.table_is;
+      text_is = sym (append-nil text);
+      next_is = stays.2 ∙ h.next_is;
+      stands = λ end more. stands_told_now end more;
+      kind_is = kind ∙ h.kind_is;
+      name_is = subst (λ (x : Option ℕ). IsLast names x h.here.name) (sym last) h.name_is;
+      is_in = subst (λ (x : State). IsIn x h.here.kind) (sym in_text) tt;
+      is_held = subst (λ (x : State). IsHeld x table names h.here new [] (p ∷ [])) (sym in_text) (refl, raised ∙ h.raises_none, same_between h.here h.here t new h.may refl refl tag h.between);
+    }
+
+    pub run_refused : (new : Tokenizer) (old s : S) (e : Refusal) → HandsEvents gives names old (map Reports told) (Err e) s → Takes gives table start text (p ∷ []) taken names old (Err e) s new
+    run_refused new old s e handed = take_sink_refused e (map Reports told) refl handed (λ more end.
+        let then = stands_told_now end more in
+        record {
+          spans = then.spans;
+          rest = p ∷ more;
+          others = [];
+          text_is = ap (λ (x : List Placed). x ++ p ∷ more) then.front_is;
+          cut = then.cut;
+          in_profile = then.in_profile;
+          front_is = append-nil (tokens_in (taken ++ map Reports told)) ∙ then.tokens_are ∙ sym (append-nil (tokens_of then.spans));
+        })

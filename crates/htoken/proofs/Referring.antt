@@ -1,0 +1,224 @@
+-- Where a reference stands, and what follows it as text.
+use Rattle.std.proofs.Common.{◌≡◌, ℕ, suc, ◌+◌, ◌-◌, ◌<◌, ◌≤◌, Bool, true, false, not, cond, ◌&&◌, ◌||◌, eqb, List, [], ◌∷◌, ◌++◌, map, length, drop, take, reverse, zero, sym, refl, ap, ◌∙◌, subst, Result, Ok, Err, Option, Some, None, arith, append_assoc, append-nil}
+use Rattle.std.proofs.lemmas.Bool.Decides.{nat_tests}
+use Rattle.std.proofs.lemmas.List.{take-append-drop, drop-append-le, take-append-le}
+use Rattle.std.specs.Prelude.{nat_eq, nat_lt}
+use Rattle.std.specs.List.{list_all, starts_with}
+use Rattle.names.specs.declared.error.ErrorCode.TheVariants.{UnknownNamedCharacterReference}
+use Rattle.names.specs.declared.error.ParseError.{ParseError}
+use Rattle.names.specs.declared.placed.Placed.{Placed}
+use Rattle.names.specs.declared.raw.RawKind.{RawKind}
+use Rattle.names.specs.declared.raw.RawKind.TheVariants as kind
+use Rattle.names.specs.declared.refusal.Refusal.{Refusal}
+use Rattle.names.specs.Names.{Texts}
+use Rattle.names.specs.Placed.{all, begins, past, is_alphanumeric, error_if, without_null}
+use Rattle.charref.specs.declared.number.Base.{Base}
+use Rattle.charref.specs.declared.number.Base.TheVariants.{Decimal, Hexadecimal}
+use Rattle.charref.specs.declared.reference.Reference.{Reference}
+use Rattle.charref.specs.declared.state.State.{State as WalkState}
+use Rattle.charref.specs.Held.{IsHeld as IsWalkHeld, IsSign, in_name, after_sign, after_x, in_number, number_sign, small_x, capital_x}
+use Rattle.charref.specs.Number.{is_digit_of}
+use Rattle.charref.specs.Pieces.{IsRead, characters_of, errors_of}
+use Rattle.charref.specs.Reference.{Entities, Entry, Piece, IsTable, IsReference, longest, longer, is_empty_list, named, kept, unknown, decimal, hexadecimal, no_digits, alone}
+use Rattle.hmarkup.specs.CommentWalk.{backwards}
+use Rattle.hmarkup.proofs.Marks.{and_parts, and_both, and_no}
+use Rattle.hmarkup.proofs.Characters.{no_null_error}
+use Rattle.htoken.specs.declared.state.State.{State}
+use Rattle.htoken.specs.declared.state.State.TheVariants as state
+use Rattle.htoken.specs.declared.tokenizer.Tokenizer.{Tokenizer}
+use Rattle.htoken.specs.Token.{Tok, Span, Item, Event, Gives, Reports, Char, piece_span}
+use Rattle.htoken.specs.Standing.{Standing, next}
+use Rattle.htoken.specs.Data as d
+use Rattle.htoken.specs.Data.{character_span}
+use Rattle.htoken.specs.Raw.{is_raw, is_script}
+use Rattle.htoken.specs.Spans.{IsSpan, IsSpanOf, has_references, raw_character, raw_reference}
+use Rattle.htoken.specs.Giving.{known_errors, piece_events, read_events}
+use Rattle.htoken.specs.Run.{run_events}
+use Rattle.htoken.specs.Tokens.{has_refused, tokens_in, errors_in, AreFront, eof_of}
+use Rattle.htoken.specs.Handing.{HandsEvents}
+use Rattle.htoken.specs.Tokenizing.{Stands}
+use Rattle.htoken.proofs.Cutting.{tokens_in-append, errors_in-append, tokens_in-map, errors_in-map}
+use Rattle.htoken.proofs.InRaw.{after_characters, raw_span}
+use Rattle.htoken.proofs.Pending.{stands_on, stands_same}
+use Rattle.htoken.proofs.RawEnds.{other_goes_on}
+
+-- PLAIN CHARACTERS
+
+-- a character that stands for itself wherever references may stand
+abbrev pub is_kept : ℕ → Bool
+is_kept c = not (eqb c 60) && (not (eqb c 38) && not (eqb c 0))
+
+negated : (b : Bool) → not b ≡ true → b ≡ false
+negated true e = absurd cc
+negated false e = refl
+
+abbrev pub plain_span : Placed → Span
+plain_span q = record { text = q ∷ []; tokens = Char q.ch q.at ∷ []; errors = [] }
+
+neither : (a b : Bool) → a ≡ false → b ≡ false → a || b ≡ false
+neither a b e f = rw (e, f) refl
+
+plain_of : (k : RawKind) (table : Entities) (end : ℕ) (here : Standing) (rest : List Placed) (q : Placed) → has_references k ≡ true → eqb q.ch 60 ≡ false → eqb q.ch 38 ≡ false → eqb q.ch 0 ≡ false → IsSpanOf k table end here rest (plain_span q)
+plain_of kind.None table end here rest q may less sign null = d.character q (neither (eqb q.ch 60) (eqb q.ch 38) less sign)
+    (ap (λ (x : List ParseError). record { text = q ∷ []; tokens = Char q.ch q.at ∷ []; errors = x }) (sym (no_null_error q null)))
+plain_of kind.Rcdata table end here rest q may less sign null = raw_character q (other_goes_on here q rest less) (and_no (has_references here.kind) (eqb q.ch 38) sign)
+    (ap (λ (x : List ParseError). record { text = q ∷ []; tokens = Char q.ch q.at ∷ []; errors = x }) (sym (no_null_error q null))
+    ∙ ap (λ (b : Bool). record { text = q ∷ []; tokens = Char (cond b 0xFFFD q.ch) q.at ∷ []; errors = (raw_span q).errors }) (sym null))
+plain_of kind.Rawtext table end here rest q may less sign null = absurd cc
+plain_of kind.Script table end here rest q may less sign null = absurd cc
+plain_of kind.Plaintext table end here rest q may less sign null = absurd cc
+
+pub plain_is : (table : Entities) (end : ℕ) (here : Standing) (rest : List Placed) (q : Placed) → has_references here.kind ≡ true → is_kept q.ch ≡ true → IsSpan table end here rest (plain_span q)
+plain_is table end here rest q may k =
+    let one = and_parts (not (eqb q.ch 60)) (not (eqb q.ch 38) && not (eqb q.ch 0)) k in
+    let two = and_parts (not (eqb q.ch 38)) (not (eqb q.ch 0)) one.1 in
+    plain_of here.kind table end here rest q may (negated (eqb q.ch 60) one.0) (negated (eqb q.ch 38) two.0) (negated (eqb q.ch 0) two.1)
+
+pub stands_plain : (table : Entities) (start : RawKind) (end : ℕ) (qs front rest : List Placed) (here : Standing) (taken : List Event) (later : List ParseError) → has_references here.kind ≡ true → all is_kept qs ≡ true → Stands table start end front (qs ++ rest) here taken later
+    → Stands table start end (front ++ qs) rest (after_characters here qs) (taken ++ run_events qs) later
+stands_plain table start end [] front rest here taken later may k s =
+    subst (λ (x : List Placed). Stands table start end x rest here (taken ++ []) later) (sym (append-nil front)) (subst (λ (x : List Event). Stands table start end front rest here x later) (sym (append-nil taken)) s)
+stands_plain table start end (q ∷ qs) front rest here taken later may k s =
+    let parts = and_parts (is_kept q.ch) (all is_kept qs) k in
+    let one : Stands table start end (front ++ q ∷ []) (qs ++ rest) (record here { front = q ∷ here.front }) (taken ++ Gives (Char q.ch q.at) ∷ []) later =
+    subst (λ (x : List ParseError). Stands table start end (front ++ q ∷ []) (qs ++ rest) (record here { front = q ∷ here.front }) (taken ++ Gives (Char q.ch q.at) ∷ []) x) (append-nil later)
+    (stands_on table start end front (qs ++ rest) here taken (plain_span q) later s (plain_is table end here (qs ++ rest) q may parts.0) refl) in
+    let many = stands_plain table start end qs (front ++ q ∷ []) rest (record here { front = q ∷ here.front }) (taken ++ Gives (Char q.ch q.at) ∷ []) later may parts.1 one in
+    subst (λ (x : List Placed). Stands table start end x rest (after_characters here (q ∷ qs)) (taken ++ run_events (q ∷ qs)) later) (append_assoc front (q ∷ []) qs)
+    (subst (λ (x : List Event). Stands table start end ((front ++ q ∷ []) ++ qs) rest (after_characters here (q ∷ qs)) x later) (append_assoc taken (Gives (Char q.ch q.at) ∷ []) (run_events qs)) many)
+
+-- what a walk has taken is plain
+all_imp : (f g : ℕ → Bool) (xs : List Placed) → ((c : ℕ) → f c ≡ true → g c ≡ true) → all f xs ≡ true → all g xs ≡ true
+all_imp f g [] i h = refl
+all_imp f g (x ∷ xs) i h = let parts = and_parts (f x.ch) (all f xs) h in and_both (g x.ch) (all g xs) (i x.ch parts.0) (all_imp f g xs i parts.1)
+
+all-append : (f : ℕ → Bool) (xs ys : List Placed) → all f xs ≡ true → all f ys ≡ true → all f (xs ++ ys) ≡ true
+all-append f [] ys h k = k
+all-append f (x ∷ xs) ys h k = let parts = and_parts (f x.ch) (all f xs) h in and_both (f x.ch) (all f (xs ++ ys)) parts.0 (all-append f xs ys parts.1 k)
+
+pub all-drop : (f : ℕ → Bool) (n : ℕ) (xs : List Placed) → all f xs ≡ true → all f (drop n xs) ≡ true
+all-drop f zero xs h = h
+all-drop f (suc n) [] h = refl
+all-drop f (suc n) (x ∷ xs) h = all-drop f n xs (and_parts (f x.ch) (all f xs) h).1
+
+pub alphanumeric_kept : (c : ℕ) → is_alphanumeric c ≡ true → is_kept c ≡ true
+alphanumeric_kept c h = grind (arith, nat_tests)
+
+digit_kept : (base : Base) (c : ℕ) → is_digit_of base c ≡ true → is_kept c ≡ true
+digit_kept Decimal c h = grind (arith, nat_tests)
+digit_kept Hexadecimal c h = grind (arith, nat_tests)
+
+sign_kept : (base : Base) (text : List Placed) → IsSign base text → all is_kept text ≡ true
+sign_kept Decimal text (number_sign p e) = ap (λ (c : ℕ). is_kept c && true) e
+sign_kept Hexadecimal text (small_x p q e f) = rw (e, f) refl
+sign_kept Hexadecimal text (capital_x p q e f) = rw (e, f) refl
+
+pub held_kept : (table : Entities) (in_value : Bool) (s : WalkState) (text : List Placed) → IsWalkHeld table in_value s text → all is_kept text ≡ true
+held_kept table in_value s text (in_name search x read plain goes) = all_imp is_alphanumeric is_kept text alphanumeric_kept plain
+held_kept table in_value s text (after_sign x sign) = sign_kept Decimal text sign
+held_kept table in_value s text (after_x x sign) = sign_kept Hexadecimal text sign
+held_kept table in_value s text (in_number base value sign digits x is signed first digit v) =
+    ap (all is_kept) is ∙ all-append is_kept sign digits (sign_kept base sign signed) (all_imp (is_digit_of base) is_kept digits (digit_kept base) digit)
+
+-- A REFERENCE
+
+reference_of : (k : RawKind) (table : Entities) (end : ℕ) (here : Standing) (rest : List Placed) (piece : Piece) → has_references k ≡ true → has_references here.kind ≡ true → IsReference table false rest piece → IsSpanOf k table end here rest (piece_span piece)
+reference_of kind.None table end here rest piece may here_may is = d.reference piece is refl
+reference_of kind.Rcdata table end here rest piece may here_may is = raw_reference piece here_may is refl
+reference_of kind.Rawtext table end here rest piece may here_may is = absurd cc
+reference_of kind.Script table end here rest piece may here_may is = absurd cc
+reference_of kind.Plaintext table end here rest piece may here_may is = absurd cc
+
+pub reference_is : (table : Entities) (end : ℕ) (here : Standing) (rest : List Placed) (piece : Piece) → has_references here.kind ≡ true → IsReference table false rest piece → IsSpan table end here rest (piece_span piece)
+reference_is table end here rest piece may is = reference_of here.kind table end here rest piece may may is
+
+pub no_tag : (cs : List ℕ) (at : ℕ) → has_refused (map (λ c. Char c at) cs) ≡ false
+no_tag [] at = refl
+no_tag (c ∷ cs) at = no_tag cs at
+
+-- it gives a character at least
+longest_in : (test : Entry → Bool) (entries : Entities) (text : List ℕ) (e : Entry) → longest entries text ≡ Some e → list_all test entries ≡ true → test e ≡ true
+longest_in test [] text e is h = absurd cc
+longest_in test (x ∷ xs) text e is h = by (starts_with nat_eq text x.key) (longest xs text) (λ o same. longest_in test xs text o same parts.1) is where
+  parts : (test x ≡ true) × (list_all test xs ≡ true)
+  parts = and_parts (test x) (list_all test xs) h
+
+  last : (b : Bool) (o : Entry) → test o ≡ true → cond b (Some x) (Some o) ≡ Some e → test e ≡ true
+  last true o k f = let same : x ≡ e = cc in ap test (sym same) ∙ parts.0
+  last false o k f = let same : o ≡ e = cc in ap test (sym same) ∙ k
+
+  by : (b : Bool) (o : Option Entry) → ((y : Entry) → o ≡ Some y → test y ≡ true) → cond b (longer x o) o ≡ Some e → test e ≡ true
+  by true None k f = let same : x ≡ e = cc in ap test (sym same) ∙ parts.0
+  by true (Some o) k f = last (nat_lt (length o.key) (length x.key)) o (k o refl) f
+  by false None k f = absurd cc
+  by false (Some o) k f = k e f
+
+abbrev pub IsSomeText : List ℕ → Type 0
+IsSomeText cs = (c : ℕ) × (others : List ℕ) × (cs ≡ c ∷ others)
+
+not_empty : (cs : List ℕ) → not (is_empty_list cs) ≡ true → IsSomeText cs
+not_empty [] e = absurd cc
+not_empty (c ∷ cs) e = (c, cs, refl)
+
+pub gives_some : (table : Entities) (rest : List Placed) (piece : Piece) → IsTable table → IsReference table false rest piece → IsSomeText piece.gives
+gives_some table rest piece t (named amp name entry a b found is k e) = subst (λ (x : Piece). IsSomeText x.gives) (sym e) (not_empty entry.stands_for (longest_in (λ x. not (is_empty_list x.stands_for)) table _ entry found t.characters))
+gives_some table rest piece t (kept amp entry a b c k e) = subst (λ (x : Piece). IsSomeText x.gives) (sym e) (38, [], refl)
+gives_some table rest piece t (unknown amp a b c e) = subst (λ (x : Piece). IsSomeText x.gives) (sym e) (38, [], refl)
+gives_some table rest piece t (decimal opening digits close a b c k e) = subst (λ (x : Piece). IsSomeText x.gives) (sym e) (_, [], refl)
+gives_some table rest piece t (hexadecimal opening digits close a b c k e) = subst (λ (x : Piece). IsSomeText x.gives) (sym e) (_, [], refl)
+gives_some table rest piece t (no_digits amp a b c e) = subst (λ (x : Piece). IsSomeText x.gives) (sym e) (38, [], refl)
+gives_some table rest piece t (alone amp a b e) = subst (λ (x : Piece). IsSomeText x.gives) (sym e) (38, [], refl)
+
+pub next_is : (here : Standing) (text : List Placed) (errors : List ParseError) (cs : List ℕ) → IsSomeText cs → next here (piece_span (record { text = text; gives = cs; errors = errors })) ≡ record here { front = reverse text ++ here.front }
+next_is here text errors cs (c, others, e) = subst (λ (x : List ℕ). next here (piece_span (record { text = text; gives = x; errors = errors })) ≡ record here { front = reverse text ++ here.front }) (sym e) refl
+
+-- ITS EVENTS
+
+pub piece_tokens : (found : Reference) (at : ℕ) → tokens_in (piece_events found at) ≡ map (λ c. Char c at) (characters_of found.characters)
+piece_tokens found at = tokens_in-map (known_errors found at) (map (λ c. Char c at) (characters_of found.characters))
+
+pub piece_errors : (found : Reference) (at : ℕ) → errors_in (piece_events found at) ≡ known_errors found at
+piece_errors found at = errors_in-map (known_errors found at) (map (λ c. Char c at) (characters_of found.characters))
+
+-- the error of a run that is not known yet
+abbrev pub run_errors : Reference → ℕ → List Placed → List ParseError
+run_errors found at after = error_if (found.in_run && begins (λ c. eqb c 59) (past is_alphanumeric after)) UnknownNamedCharacterReference at
+
+-- where the text stands after a reference of so many characters, and the others
+abbrev pub after_reference : Standing → ℕ → List Placed → ℕ → Standing
+after_reference here at text count = record here { front = backwards (reverse (record { ch = 38; at = at } ∷ take count text) ++ here.front) (drop count text) }
+
+-- A reference has been read: `count` characters of the text after the `&` belong to it, and the others are plain; `after` follows.
+module _ (table : Entities) (start : RawKind) (end : ℕ) (front : List Placed) (here : Standing) (taken : List Event) (at : ℕ) (text : List Placed) (count : ℕ) (found : Reference) (may : has_references here.kind ≡ true) (is_table : IsTable table)
+    (plain : all is_kept (drop count text) ≡ true) (rest after : List Placed) where
+  abbrev amp : Placed
+  amp = record { ch = 38; at = at }
+
+  abbrev piece : Piece
+  piece = record { text = amp ∷ take count text; gives = characters_of found.characters; errors = errors_of found at after }
+
+  abbrev there : Standing
+  there = record here { front = reverse (amp ∷ take count text) ++ here.front }
+
+  stands_piece : IsReference table false (drop count text ++ rest) piece → Stands table start end front ((amp ∷ take count text) ++ (drop count text ++ rest)) here taken []
+      → Stands table start end (front ++ (amp ∷ take count text)) (drop count text ++ rest) there (taken ++ piece_events found at) (run_errors found at after)
+  stands_piece is s =
+      let span : Span = piece_span piece in
+      let one = stands_on table start end front (drop count text ++ rest) here taken span [] s (reference_is table end here (drop count text ++ rest) piece may is) (no_tag (characters_of found.characters) at) in
+      let two = subst (λ (x : Standing). Stands table start end (front ++ (amp ∷ take count text)) (drop count text ++ rest) x (taken ++ map Gives span.tokens) (errors_of found at after))
+          (next_is here (amp ∷ take count text) (errors_of found at after) (characters_of found.characters) (gives_some table (drop count text ++ rest) piece is_table is)) one in
+      stands_same table start end (front ++ (amp ∷ take count text)) (drop count text ++ rest) there (taken ++ map Gives span.tokens) (taken ++ piece_events found at) (errors_of found at after) (run_errors found at after)
+      (tokens_in-append taken (piece_events found at) ∙ ap (λ (x : List Tok). tokens_in taken ++ x) (piece_tokens found at ∙ sym (tokens_in-map [] span.tokens)) ∙ sym (tokens_in-append taken (map Gives span.tokens)))
+      (ap (λ (x : List ParseError). x ++ run_errors found at after) (errors_in-append taken (piece_events found at) ∙ ap (λ (x : List ParseError). errors_in taken ++ x) (piece_errors found at)) ∙ append_assoc (errors_in taken) (known_errors found at) (run_errors found at after)
+      ∙ ap (λ (x : List ParseError). x ++ errors_of found at after) (sym (append-nil (errors_in taken)) ∙ ap (λ (x : List ParseError). errors_in taken ++ x) (sym (errors_in-map [] span.tokens)) ∙ sym (errors_in-append taken (map Gives span.tokens))))
+      two
+
+  pub stands_read : IsReference table false (drop count text ++ rest) piece → Stands table start end front ((amp ∷ text) ++ rest) here taken []
+      → Stands table start end (front ++ (amp ∷ text)) rest (after_reference here at text count) (taken ++ read_events found at text count) (run_errors found at after)
+  stands_read is s =
+      let whole : (amp ∷ take count text) ++ drop count text ≡ amp ∷ text = ap (λ (x : List Placed). amp ∷ x) (take-append-drop count text) in
+      let split : (amp ∷ text) ++ rest ≡ (amp ∷ take count text) ++ (drop count text ++ rest) = ap (λ (x : List Placed). x ++ rest) (sym whole) ∙ append_assoc (amp ∷ take count text) (drop count text) rest in
+      let two = stands_plain table start end (drop count text) (front ++ (amp ∷ take count text)) rest there (taken ++ piece_events found at) (run_errors found at after) may plain
+      (stands_piece is (subst (λ (x : List Placed). Stands table start end front x here taken []) split s)) in
+      subst (λ (x : List Placed). Stands table start end x rest (after_reference here at text count) (taken ++ read_events found at text count) (run_errors found at after)) (append_assoc front (amp ∷ take count text) (drop count text) ∙ ap (λ (x : List Placed). front ++ x) whole)
+      (subst (λ (x : List Event). Stands table start end ((front ++ (amp ∷ take count text)) ++ drop count text) rest (after_reference here at text count) x (run_errors found at after)) (append_assoc taken (piece_events found at) (run_events (drop count text))) two)

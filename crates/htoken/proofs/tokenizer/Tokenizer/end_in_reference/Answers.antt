@@ -1,0 +1,12 @@
+use Rattle.std.proofs.Common.{refl, subst, ap}
+use Rattle.htoken.specs.Giving.{read_events}
+use Rattle.htoken.specs.Handing.{HandsEvents}
+use Rattle.htoken.specs.Token.{gives_item}
+use Rattle.htoken.proofs.InReference.{at_end, reference_cut}
+use Rattle.htoken.proofs.tokenizer.Tokenizer.end_in_reference.Goals as goal
+
+pub returns : goal.returns
+returns g c = λ table start names end text taken h.
+    let i = at_end (gives_item g.S.ErrorSink.gives g.S.TokenSink.gives_token) table start end text names taken _ h c.requires in
+    reference_cut (gives_item g.S.ErrorSink.gives g.S.TokenSink.gives_token) table start end text names taken _ h c.requires c.end-found.result _ _ _ _ (c.end-found.ensures table _ _ i.has_taken) refl refl
+    (subst (λ n. HandsEvents (gives_item g.S.ErrorSink.gives g.S.TokenSink.gives_token) names c.args.sink.now (read_events c.end-found.result c.args.self.now.at c.args.self.now.held.items n) c.give_reference.result c.give_reference.new.sink) c.left_at_end.ensures (c.give_reference.ensures names))

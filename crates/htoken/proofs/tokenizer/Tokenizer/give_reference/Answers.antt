@@ -1,0 +1,18 @@
+use Rattle.std.proofs.Common.{subst, drop, sym, ◌∙◌, ap}
+use Rattle.std.proofs.lemmas.Result.{err_from_is_err_and}
+use Rattle.names.specs.Sink.{Hands}
+use Rattle.htoken.specs.Run.{run_tokens}
+use Rattle.htoken.specs.Token.{gives_item}
+use Rattle.htoken.proofs.Handing.{HandsEvents-append}
+use Rattle.htoken.proofs.Running.{run_given, first_refused}
+use Rattle.htoken.proofs.tokenizer.Tokenizer.give_reference.Goals as goal
+
+pub returns-in_err-give_piece : goal.returns-in_err-give_piece
+returns-in_err-give_piece g c =
+    let e = err_from_is_err_and c.from_residual.result c.from_residual.ensures.1 in
+    rw (e.1, e.2) (λ names. first_refused g.S.ErrorSink.gives g.S.TokenSink.gives_token names _ _ _ (drop c.args.count c.args.self.now.held.items) _ (c.in_err-give_piece.ensures names))
+
+pub returns : goal.returns
+returns g c = λ names. HandsEvents-append (gives_item g.S.ErrorSink.gives g.S.TokenSink.gives_token) names _ _ _ _ _ _ (c.in_ok-give_piece.ensures names)
+    (run_given g.S.ErrorSink.gives g.S.TokenSink.gives_token names _ _ (drop c.args.count c.args.self.now.held.items) _
+    (subst (λ x. Hands g.S.TokenSink.gives_token c.give_piece.new.sink (run_tokens x) c.give_all.result c.give_all.new.sink) (c.after_first.ensures ∙ ap (drop c.args.count) c.deref.ensures.value) c.give_all.ensures))
