@@ -2,7 +2,10 @@
 use Rattle.std.specs.Prelude.{◌≡◌, ℕ, ◌⊎◌, Result, Ok, Err}
 use Rattle.names.specs.declared.refusal.Refusal.{Refusal}
 use Rattle.names.specs.declared.refusal.Refusal.TheVariants.{Memory}
-use Rattle.hmodes.specs.State.{Token, State, Flow, Done, Again, Refused}
+use Rattle.hadopt.specs.Naming.{numbers}
+use Rattle.hmodes.specs.Perform.{perform}
+use Rattle.hmodes.specs.State.{Token, end, eof, State, Flow, Done, Again, Refused}
+use Rattle.hmodes.specs.Words.{Do}
 use Rattle.hmodes.specs.declared.rules.Flow.{Flow as Answer}
 use Rattle.hmodes.specs.declared.rules.Flow.TheVariants as answer
 
@@ -16,3 +19,11 @@ FlowGives (Err e) t new flow = (e ≡ Memory) ⊎ (flow ≡ Refused e)
 abbrev pub StateGives : {A : Type 0} → Result A Refusal → State ℕ → Flow ℕ → Type 0
 StateGives (Ok _) new flow = flow ≡ Done new
 StateGives (Err e) new flow = (e ≡ Memory) ⊎ (flow ≡ Refused e)
+
+-- what a program does that does not look at the token: so any will do
+abbrev pub performed : ℕ → Do → State ℕ → Flow ℕ
+performed at program s = perform numbers at eof program s
+
+-- .. that looks at its name alone
+abbrev pub performed_for : ℕ → ℕ → Do → State ℕ → Flow ℕ
+performed_for name at program s = perform numbers at (end name) program s

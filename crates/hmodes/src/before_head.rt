@@ -2,14 +2,14 @@
 
 ghost use Rattle.std.specs.Prelude.{◌≡◌, ℕ};
 ghost use Rattle.hadopt.specs.Naming.{numbers};
-ghost use Rattle.hmodes.specs.Flows.{FlowGives, StateGives};
+ghost use Rattle.hmodes.specs.Flows.{FlowGives};
 ghost use Rattle.hmodes.specs.Perform.{perform};
 ghost use Rattle.hmodes.specs.State.{Token as TokenOf};
 ghost use Rattle.hmodes.specs.States.{state_of};
 ghost use Rattle.hmodes.specs.Tokens.{token_of};
 ghost use Rattle.hmodes.specs.Head.{before_html, html_unwritten, before_head, head_unwritten};
-ghost use Rattle.hmodes.specs.Programs.{html_again};
-ghost use Rattle.hmodes.specs.Words.{insert_root, insert_root_named};
+ghost use Rattle.hmodes.specs.Words.{Start, ◌▸◌, to, insert, head_pointer};
+ghost use Rattle.hmodes.specs.declared.mode.Mode.TheVariants.{InHead};
 
 use crate::family::Family;
 use crate::kind::Kind;
@@ -29,28 +29,71 @@ impl<'q> Rules<'q> {
         ensures { FlowGives result (token_of token.new) (state_of self.new) (perform numbers at (token_of token.old) (before_html kind) (state_of self.old)) }
     {
         match kind {
-            Kind::Doctype => self.error(Mode::BeforeHtml, at)?,
-            Kind::Comment => self.comment_in_document(token, at)?,
-            Kind::Ws => {}
+            Kind::Doctype => self.ignore(Mode::BeforeHtml, at),
+            Kind::Comment => self.comment_in_document(token, at),
+            Kind::Ws => Ok(Flow::Done),
             Kind::Start(Family::Html) => {
                 self.insert_root(token, at)?;
                 self.control.mode = Mode::BeforeHead;
+                Ok(Flow::Done)
             }
             Kind::End(Family::Head | Family::Body | Family::Html | Family::Br) => {
-                return self.html_unwritten(at);
+                self.html_unwritten(at)
             }
-            Kind::End(_) => self.error(Mode::BeforeHtml, at)?,
-            _ => return self.html_unwritten(at),
+            Kind::End(_) => self.ignore(Mode::BeforeHtml, at),
+            _ => self.html_unwritten(at),
         }
-        Ok(Flow::Done)
     }
 
     /// An html that no tag began.
     fn html_unwritten(&mut self, at: u64) -> Result<Flow, Refusal>
         ensures { (t : TokenOf ℕ) → FlowGives result t (state_of self.new) (perform numbers at t html_unwritten (state_of self.old)) }
     {
-        self.insert_root_named(Tag::Html, at)?;
+        self.insert_root_named(Tag::Html.number(), at)?;
         self.control.mode = Mode::BeforeHead;
+        Ok(Flow::Again)
+    }
+
+    /// The "before head" insertion mode.
+    pub(crate) fn before_head(
+        &mut self,
+        kind: Kind,
+        token: &mut Token,
+        at: u64,
+    ) -> Result<Flow, Refusal>
+        ensures { FlowGives result (token_of token.new) (state_of self.new) (perform numbers at (token_of token.old) (before_head kind) (state_of self.old)) }
+    {
+        match kind {
+            Kind::Ws => Ok(Flow::Done),
+            Kind::Comment => self.insert_comment(token, at),
+            Kind::Doctype => self.ignore(Mode::BeforeHead, at),
+            Kind::Start(Family::Html) => self.html_again(token, at),
+            Kind::Start(Family::Head) => self.head(token, at),
+            Kind::End(Family::Head | Family::Body | Family::Html | Family::Br) => {
+                self.head_unwritten(at)
+            }
+            Kind::End(_) => self.ignore(Mode::BeforeHead, at),
+            _ => self.head_unwritten(at),
+        }
+    }
+
+    /// The head.
+    fn head(&mut self, token: &mut Token, at: u64) -> Result<Flow, Refusal>
+        ensures { FlowGives result (token_of token.new) (state_of self.new) (perform numbers at (token_of token.old) (insert ▸ head_pointer ▸ to InHead) (state_of self.old)) }
+    {
+        self.insert(token, at)?;
+        self.control.head = Some(self.current_node());
+        self.control.mode = Mode::InHead;
+        Ok(Flow::Done)
+    }
+
+    /// A head that no tag began.
+    fn head_unwritten(&mut self, at: u64) -> Result<Flow, Refusal>
+        ensures { (t : TokenOf ℕ) → FlowGives result t (state_of self.new) (perform numbers at t head_unwritten (state_of self.old)) }
+    {
+        self.insert_named(Tag::Head.number(), at)?;
+        self.control.head = Some(self.current_node());
+        self.control.mode = Mode::InHead;
         Ok(Flow::Again)
     }
 }

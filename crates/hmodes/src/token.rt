@@ -3,8 +3,10 @@
 ghost use Rattle.std.specs.Prelude.{◌≡◌, map, string_bytes};
 ghost use Rattle.hnodes.specs.Rows.{attribute_of};
 ghost use Rattle.hadopt.specs.Naming.{numbers};
-ghost use Rattle.hmodes.specs.State.{token_name, token_attrs, token_text, token_char};
+ghost use Rattle.hmodes.specs.State.{token_name, token_attrs, token_text, token_char, renamed};
 ghost use Rattle.hmodes.specs.Tokens.{token_of};
+ghost use Rattle.hmodes.specs.Questions.{is_hidden};
+ghost use Rattle.std.specs.List.{list_any};
 
 use htoken::Token;
 use names::{Attr, NameId, Tag};
@@ -39,4 +41,40 @@ pub(crate) fn take_text(alloc: Global, token: &mut Token) -> String
         Token::Comment { text, .. } => mem::replace(text, String::new(alloc)),
         _ => String::new(alloc),
     }
+}
+
+/// The character of a token; NUL for any other token, where no rule asks.
+pub(crate) fn token_char(token: &Token) -> char
+    ensures { result ≡ token_char (token_of token.now) }
+{
+    match token {
+        Token::Char { ch, .. } => *ch,
+        _ => '\0',
+    }
+}
+
+/// The same start tag under another name.
+pub(crate) fn rename(token: &mut Token, to: NameId)
+    ensures { token_of token.new ≡ renamed to (token_of token.old) }
+{
+    if let Token::Start { name, .. } = token {
+        *name = to;
+    }
+}
+
+/// Whether the token has an attribute type that is `hidden`, without ASCII case.
+pub(crate) fn is_hidden(token: &Token) -> bool
+    ensures { result ≡ list_any (is_hidden numbers) (token_attrs (token_of token.now)) }
+{
+    match token {
+        Token::Start { attrs, .. } => attrs.iter().any(is_hidden_type),
+        _ => false,
+    }
+}
+
+/// Whether it is an attribute type that is `hidden`.
+fn is_hidden_type(attr: &Attr) -> bool
+    ensures { result ≡ is_hidden numbers (attribute_of attr.now) }
+{
+    attr.name == NameId::type_attribute() && attr.value.eq_ignore_ascii_case("hidden")
 }

@@ -1,31 +1,43 @@
 //! The steps that the rules are made of.
 
-ghost use Rattle.std.specs.Prelude.{◌≡◌, ◌≢◌, ℕ, IfOk};
+ghost use Rattle.std.specs.Prelude.{◌≡◌, ℕ, IfOk, []};
 ghost use Rattle.hadopt.specs.Kept.{Kept};
 ghost use Rattle.hadopt.specs.Naming.{numbers};
-ghost use Rattle.names.specs.declared.tag.Tag.{Tag as Known};
-ghost use Rattle.hmodes.specs.Flows.{StateGives};
-ghost use Rattle.hmodes.specs.Perform.{perform};
+ghost use Rattle.hadopt.specs.Site.{from_top};
+ghost use Rattle.hnodes.specs.declared.node.Place.TheVariants.{LastIn};
+ghost use Rattle.hadopt.specs.Inserts.{inserted};
+ghost use Rattle.hmodes.specs.Flows.{FlowGives, StateGives, performed, performed_for};
+ghost use Rattle.hmodes.specs.Perform.{perform, on_site, site_becomes, inserted_here, completed};
 ghost use Rattle.hmodes.specs.Programs.{void, raw, html_again, close_p_in_scope};
-ghost use Rattle.hmodes.specs.State.{Token as TokenOf};
+ghost use Rattle.hmodes.specs.State.{Token as TokenOf, character, token_attrs};
 ghost use Rattle.hmodes.specs.States.{state_of};
 ghost use Rattle.hmodes.specs.Tokens.{token_of};
-ghost use Rattle.hmodes.specs.Words.{error, insert, insert_named, insert_root, insert_root_named, insert_comment, comment_in_document, comment_in_first, put, pop, acknowledge, reconstruct, ◌▸◌};
+ghost use Rattle.hmodes.specs.declared.mode.Mode.TheVariants.{InBody};
+ghost use Rattle.hmodes.specs.Words.{error, insert, insert_root, insert_comment, comment_in_document, comment_in_first, put, unless, current_is_name, pop_to_name, implied_except_name, ◌▸◌};
 
 use crate::mode::Mode;
-use crate::rules::Rules;
-use crate::token::{take_attrs, take_text, token_name};
+use crate::rules::{Flow, Rules};
+use crate::token::{take_attrs, take_text, token_char, token_name};
+use hadopt::Passing;
 use hopen::Scope;
 use htoken::Token;
-use names::{Refusal, Tag};
+use names::{NameId, Refusal, Tag};
 
 impl<'q> Rules<'q> {
     /// One more parse error, by the rules of a mode.
     pub(crate) fn error(&mut self, mode: Mode, at: u64) -> Result<(), Refusal>
-        ensures done { (t : TokenOf ℕ) → StateGives result (state_of self.new) (perform numbers at t (error mode) (state_of self.old)) }
+        ensures done { StateGives result (state_of self.new) (performed at (error mode) (state_of self.old)) }
         ensures kept { Kept numbers self.old.site → IfOk result (λ _. Kept numbers self.new.site) }
     {
         self.site.error(mode.code(), at)
+    }
+
+    /// A parse error, by the rules of a mode, and the token is ignored.
+    pub(crate) fn ignore(&mut self, mode: Mode, at: u64) -> Result<Flow, Refusal>
+        ensures { (t : TokenOf ℕ) → FlowGives result t (state_of self.new) (perform numbers at t (error mode) (state_of self.old)) }
+    {
+        self.error(mode, at)?;
+        Ok(Flow::Done)
     }
 
     /// An element for a start tag at the appropriate place.
@@ -40,15 +52,14 @@ impl<'q> Rules<'q> {
         Ok(())
     }
 
-    /// An element of a known name, without attributes.
-    pub(crate) fn insert_named(&mut self, tag: Tag, at: u64) -> Result<(), Refusal>
-        requires { tag ≢ Known.Other }
-        ensures done { (t : TokenOf ℕ) → StateGives result (state_of self.new) (perform numbers at t (insert_named tag) (state_of self.old)) }
+    /// An element of a name, without attributes.
+    pub(crate) fn insert_named(&mut self, name: NameId, at: u64) -> Result<(), Refusal>
+        ensures done { StateGives result (state_of self.new) (on_site (inserted_here numbers at name []) (state_of self.old)) }
         ensures kept { Kept numbers self.old.site → IfOk result (λ _. Kept numbers self.new.site) }
     {
         let place = self.site.place();
         self.site
-            .insert_element(tag.number(), Vec::new(self.alloc), place, at)?;
+            .insert_element(name, Vec::new(self.alloc), place, at)?;
         Ok(())
     }
 
@@ -63,45 +74,81 @@ impl<'q> Rules<'q> {
         Ok(())
     }
 
-    /// An element of a known name in the document, without attributes.
-    pub(crate) fn insert_root_named(&mut self, tag: Tag, at: u64) -> Result<(), Refusal>
-        requires { tag ≢ Known.Other }
-        ensures done { (t : TokenOf ℕ) → StateGives result (state_of self.new) (perform numbers at t (insert_root_named tag) (state_of self.old)) }
+    /// An element of a name in the document, without attributes.
+    pub(crate) fn insert_root_named(&mut self, name: NameId, at: u64) -> Result<(), Refusal>
+        ensures { StateGives result (state_of self.new) (on_site (inserted at name [] (LastIn 0)) (state_of self.old)) }
     {
         let place = self.site.place_in_document();
         self.site
-            .insert_element(tag.number(), Vec::new(self.alloc), place, at)?;
+            .insert_element(name, Vec::new(self.alloc), place, at)?;
         Ok(())
     }
 
     /// A comment last in the current node.
-    pub(crate) fn insert_comment(&mut self, token: &mut Token, at: u64) -> Result<(), Refusal>
-        ensures done { StateGives result (state_of self.new) (perform numbers at (token_of token.old) insert_comment (state_of self.old)) }
+    pub(crate) fn insert_comment(&mut self, token: &mut Token, at: u64) -> Result<Flow, Refusal>
+        ensures done { FlowGives result (token_of token.new) (state_of self.new) (perform numbers at (token_of token.old) insert_comment (state_of self.old)) }
     {
         let text = take_text(self.alloc, token);
         let place = self.site.place_in_current();
         self.site.insert_comment(text, place, at)?;
-        Ok(())
+        Ok(Flow::Done)
     }
 
     /// A comment last in the document.
-    pub(crate) fn comment_in_document(&mut self, token: &mut Token, at: u64) -> Result<(), Refusal>
-        ensures done { StateGives result (state_of self.new) (perform numbers at (token_of token.old) comment_in_document (state_of self.old)) }
+    pub(crate) fn comment_in_document(&mut self, token: &mut Token, at: u64) -> Result<Flow, Refusal>
+        ensures done { FlowGives result (token_of token.new) (state_of self.new) (perform numbers at (token_of token.old) comment_in_document (state_of self.old)) }
     {
         let text = take_text(self.alloc, token);
         let place = self.site.place_in_document();
         self.site.insert_comment(text, place, at)?;
-        Ok(())
+        Ok(Flow::Done)
     }
 
     /// A comment last in the first open node.
-    pub(crate) fn comment_in_first(&mut self, token: &mut Token, at: u64) -> Result<(), Refusal>
-        ensures done { StateGives result (state_of self.new) (perform numbers at (token_of token.old) comment_in_first (state_of self.old)) }
+    pub(crate) fn comment_in_first(&mut self, token: &mut Token, at: u64) -> Result<Flow, Refusal>
+        ensures done { FlowGives result (token_of token.new) (state_of self.new) (perform numbers at (token_of token.old) comment_in_first (state_of self.old)) }
     {
         let text = take_text(self.alloc, token);
         let place = self.site.place_in_first();
         self.site.insert_comment(text, place, at)?;
-        Ok(())
+        Ok(Flow::Done)
+    }
+
+    /// The token's character at the appropriate place.
+    pub(crate) fn put(&mut self, token: &Token, at: u64) -> Result<Flow, Refusal>
+        ensures { FlowGives result (token_of token.now) (state_of self.new) (perform numbers at (token_of token.now) put (state_of self.old)) }
+    {
+        self.put_char(token_char(token), at)?;
+        Ok(Flow::Done)
+    }
+
+    /// A character at the appropriate place.
+    pub(crate) fn put_char(&mut self, ch: char, at: u64) -> Result<(), Refusal>
+        ensures { StateGives result (state_of self.new) (perform numbers at (character ch) put (state_of self.old)) }
+    {
+        let place = self.site.place();
+        self.site.put(ch, place, at)
+    }
+
+    /// An open node, counted from the first, gets those of the token's attributes that it lacks.
+    pub(crate) fn add_missing(&mut self, down: usize, token: &mut Token) -> Result<(), Refusal>
+        ensures { StateGives result (state_of self.new) (site_becomes (completed numbers (from_top down self.old.site) (token_attrs (token_of token.old))) (state_of self.old)) }
+    {
+        let attrs = take_attrs(self.alloc, token);
+        let node = match self.site.from_top(down) {
+            Some(open_node) => open_node.node,
+            None => self.site.tree().document(),
+        };
+        self.site.add_missing(node, attrs)
+    }
+
+    /// The start tag html where it is not the first.
+    pub(crate) fn html_again(&mut self, token: &mut Token, at: u64) -> Result<Flow, Refusal>
+        ensures { FlowGives result (token_of token.new) (state_of self.new) (perform numbers at (token_of token.old) html_again (state_of self.old)) }
+    {
+        self.error(Mode::InBody, at)?;
+        self.add_missing(0, token)?;
+        Ok(Flow::Done)
     }
 
     /// A start tag whose element has no content.
@@ -126,11 +173,30 @@ impl<'q> Rules<'q> {
 
     /// Closes an open p in button scope.
     pub(crate) fn close_p_in_scope(&mut self, at: u64) -> Result<(), Refusal>
-        ensures done { (t : TokenOf ℕ) → StateGives result (state_of self.new) (perform numbers at t close_p_in_scope (state_of self.old)) }
+        ensures done { StateGives result (state_of self.new) (performed at close_p_in_scope (state_of self.old)) }
     {
         if self.site.in_scope(Scope::Button, Tag::P.number()) {
             return self.site.close_p(at);
         }
         Ok(())
+    }
+
+    /// Pops up to and with the nearest element of a name; it is an error unless that is the current node.
+    pub(crate) fn pop_to(&mut self, mode: Mode, name: NameId, at: u64) -> Result<(), Refusal>
+        ensures { StateGives result (state_of self.new) (performed_for name at (unless current_is_name (error mode) ▸ pop_to_name) (state_of self.old)) }
+    {
+        if !self.site.current_is(name) {
+            self.error(mode, at)?;
+        }
+        self.site.pop_to(name);
+        Ok(())
+    }
+
+    /// Closes the nearest element of a name, all whose implied end tags are generated but for its own.
+    pub(crate) fn close_item(&mut self, name: NameId, at: u64) -> Result<(), Refusal>
+        ensures { StateGives result (state_of self.new) (performed_for name at (implied_except_name ▸ unless current_is_name (error InBody) ▸ pop_to_name) (state_of self.old)) }
+    {
+        self.site.pop_past(Passing::Implied(Some(name)));
+        self.pop_to(Mode::InBody, name, at)
     }
 }

@@ -1,0 +1,121 @@
+//! The insertion modes of raw text (HTML Standard, 13.2.6.4.8) and after the body.
+
+ghost use Rattle.std.specs.Prelude.{◌≡◌, ℕ, IfOk};
+ghost use Rattle.hadopt.specs.Kept.{Kept};
+ghost use Rattle.hadopt.specs.Naming.{numbers};
+ghost use Rattle.hopen.specs.declared.scope.Scope.TheVariants as scope;
+ghost use Rattle.hopen.specs.declared.scope.Group.TheVariants as group;
+ghost use Rattle.names.specs.declared.tag.Tag.TheVariants as tag;
+ghost use Rattle.hmodes.specs.Flows.{FlowGives, StateGives, performed, performed_for};
+ghost use Rattle.hmodes.specs.Perform.{perform};
+ghost use Rattle.hmodes.specs.State.{Token as TokenOf};
+ghost use Rattle.hmodes.specs.States.{state_of};
+ghost use Rattle.hmodes.specs.Tokens.{token_of};
+ghost use Rattle.hmodes.specs.Body.{text, after_body, after_after_body};
+ghost use Rattle.hmodes.specs.Words.{◌▸◌, choose, again, error, to, to_saved, pop, is_fragment};
+ghost use Rattle.hmodes.specs.declared.mode.Mode.TheVariants.{Text, InBody, AfterBody, AfterAfterBody};
+
+use crate::family::Family;
+use crate::kind::Kind;
+use crate::mode::Mode;
+use crate::rules::{Flow, Rules};
+use htoken::Token;
+use names::Refusal;
+
+impl<'q> Rules<'q> {
+    /// The "text" insertion mode.
+    pub(crate) fn text(
+        &mut self,
+        kind: Kind,
+        token: &mut Token,
+        at: u64,
+    ) -> Result<Flow, Refusal>
+        ensures { FlowGives result (token_of token.new) (state_of self.new) (perform numbers at (token_of token.old) (text kind) (state_of self.old)) }
+    {
+        match kind {
+            Kind::Nul | Kind::Ws | Kind::Char => self.put(token, at),
+            Kind::Eof => self.text_unended(at),
+            Kind::End(_) => self.text_ends(),
+            _ => self.ignore(Mode::Text, at),
+        }
+    }
+
+    /// Text that no end tag ended.
+    pub(crate) fn text_unended(&mut self, at: u64) -> Result<Flow, Refusal>
+        ensures { (t : TokenOf ℕ) → FlowGives result t (state_of self.new) (perform numbers at t (error Text ▸ pop ▸ to_saved ▸ again) (state_of self.old)) }
+    {
+        let saved = self.control.saved;
+        self.error(Mode::Text, at)?;
+        self.site.pop();
+        self.control.mode = saved;
+        Ok(Flow::Again)
+    }
+
+    /// The end of a text.
+    pub(crate) fn text_ends(&mut self) -> Result<Flow, Refusal>
+        ensures { (t : TokenOf ℕ) → FlowGives result t (state_of self.new) (perform numbers 0 t (pop ▸ to_saved) (state_of self.old)) }
+    {
+        self.site.pop();
+        self.control.mode = self.control.saved;
+        Ok(Flow::Done)
+    }
+
+    /// The "after body" insertion mode.
+    pub(crate) fn after_body(
+        &mut self,
+        kind: Kind,
+        token: &mut Token,
+        at: u64,
+    ) -> Result<Flow, Refusal>
+        ensures { FlowGives result (token_of token.new) (state_of self.new) (perform numbers at (token_of token.old) (after_body kind) (state_of self.old)) }
+    {
+        match kind {
+            Kind::Ws => self.character_in_body(token, at),
+            Kind::Comment => self.comment_in_first(token, at),
+            Kind::Doctype => self.ignore(Mode::AfterBody, at),
+            Kind::Start(Family::Html) => self.html_again(token, at),
+            Kind::End(Family::Html) => self.document_ends(at),
+            Kind::Eof => Ok(Flow::Done),
+            _ => self.back_to_body(Mode::AfterBody, at),
+        }
+    }
+
+    /// The end tag html after the body.
+    pub(crate) fn document_ends(&mut self, at: u64) -> Result<Flow, Refusal>
+        ensures { (t : TokenOf ℕ) → FlowGives result t (state_of self.new) (perform numbers at t (choose is_fragment (error AfterBody) (to AfterAfterBody)) (state_of self.old)) }
+    {
+        if self.context.is_some() {
+            return self.ignore(Mode::AfterBody, at);
+        }
+        self.control.mode = Mode::AfterAfterBody;
+        Ok(Flow::Done)
+    }
+
+    /// What belongs in the body comes after it.
+    fn back_to_body(&mut self, mode: Mode, at: u64) -> Result<Flow, Refusal>
+        ensures { (t : TokenOf ℕ) → FlowGives result t (state_of self.new) (perform numbers at t (error mode ▸ to InBody ▸ again) (state_of self.old)) }
+    {
+        self.error(mode, at)?;
+        self.control.mode = Mode::InBody;
+        Ok(Flow::Again)
+    }
+
+    /// The "after after body" insertion mode.
+    pub(crate) fn after_after_body(
+        &mut self,
+        kind: Kind,
+        token: &mut Token,
+        at: u64,
+    ) -> Result<Flow, Refusal>
+        ensures { FlowGives result (token_of token.new) (state_of self.new) (perform numbers at (token_of token.old) (after_after_body kind) (state_of self.old)) }
+    {
+        match kind {
+            Kind::Comment => self.comment_in_document(token, at),
+            Kind::Doctype => self.ignore(Mode::InBody, at),
+            Kind::Ws => self.character_in_body(token, at),
+            Kind::Start(Family::Html) => self.html_again(token, at),
+            Kind::Eof => Ok(Flow::Done),
+            _ => self.back_to_body(Mode::AfterAfterBody, at),
+        }
+    }
+}

@@ -1,0 +1,203 @@
+//! The "in body" insertion mode (HTML Standard, 13.2.6.4.7).
+
+ghost use Rattle.std.specs.Prelude.{◌≡◌, ℕ, IfOk};
+ghost use Rattle.hadopt.specs.Kept.{Kept};
+ghost use Rattle.hadopt.specs.Naming.{numbers};
+ghost use Rattle.hopen.specs.declared.scope.Scope.TheVariants as scope;
+ghost use Rattle.hopen.specs.declared.scope.Group.TheVariants as group;
+ghost use Rattle.names.specs.declared.tag.Tag.TheVariants as tag;
+ghost use Rattle.hmodes.specs.Flows.{FlowGives, StateGives, performed, performed_for};
+ghost use Rattle.hmodes.specs.Perform.{perform};
+ghost use Rattle.hmodes.specs.State.{Token as TokenOf};
+ghost use Rattle.hmodes.specs.States.{state_of};
+ghost use Rattle.hmodes.specs.Tokens.{token_of};
+ghost use Rattle.hmodes.specs.Body.{in_body, body_ends, character_in_body};
+ghost use Rattle.hmodes.specs.Words.{Start, End, ◌▸◌, when, choose, error, again, to, insert, reconstruct, add_missing_to_second, second_is_body, has_in, other_end};
+ghost use Rattle.hmodes.specs.declared.mode.Mode.TheVariants.{InBody, AfterBody};
+
+use crate::family::Family;
+use crate::kind::Kind;
+use crate::mode::Mode;
+use crate::rules::{Flow, Rules};
+use crate::token::token_name;
+use hopen::Scope;
+use htoken::Token;
+use names::{Refusal, Tag};
+
+impl<'q> Rules<'q> {
+    /// The "in body" insertion mode.
+    pub(crate) fn in_body(
+        &mut self,
+        kind: Kind,
+        token: &mut Token,
+        at: u64,
+    ) -> Result<Flow, Refusal>
+        requires { Kept numbers self.old.site }
+        ensures { FlowGives result (token_of token.new) (state_of self.new) (perform numbers at (token_of token.old) (in_body kind) (state_of self.old)) }
+    {
+        match kind {
+            Kind::Nul => self.ignore(Mode::InBody, at),
+            Kind::Ws | Kind::Char => self.character_in_body(token, at),
+            Kind::Comment => self.insert_comment(token, at),
+            Kind::Doctype => self.ignore(Mode::InBody, at),
+            Kind::Start(family) => self.start_in_body(family, token, at),
+            Kind::End(family) => self.end_in_body(family, token, at),
+            Kind::Eof => self.end_in_open(at),
+        }
+    }
+
+    /// A start tag.
+    fn start_in_body(
+        &mut self,
+        family: Family,
+        token: &mut Token,
+        at: u64,
+    ) -> Result<Flow, Refusal>
+        requires { Kept numbers self.old.site }
+        ensures { FlowGives result (token_of token.new) (state_of self.new) (perform numbers at (token_of token.old) (in_body (Start family)) (state_of self.old)) }
+    {
+        match family {
+            Family::Html => self.html_again(token, at),
+            Family::Base
+            | Family::Link
+            | Family::Noframes
+            | Family::Script
+            | Family::Style
+            | Family::Title => self.in_head(Kind::Start(family), token, at),
+            Family::Body => self.body_again(token, at),
+            Family::Block | Family::P | Family::Plaintext => self.block(token, at),
+            Family::Heading => self.heading(token, at),
+            Family::Pre => self.pre(token, at),
+            Family::Form => self.form(token, at),
+            Family::Li => self.li(token, at),
+            Family::Dd => self.dd(token, at),
+            Family::Button => self.button(token, at),
+            Family::A => self.anchor(token, at),
+            Family::Formatting => self.formatting(token, at),
+            Family::Nobr => self.nobr(token, at),
+            Family::Object => self.object(token, at),
+            Family::Table => self.table(token, at),
+            Family::Area | Family::Br | Family::Input => self.void_in_text(token, at),
+            Family::Param => self.param(token, at),
+            Family::Hr => self.hr(token, at),
+            Family::Image => self.image(token, at),
+            Family::Textarea => self.textarea(token, at),
+            Family::Xmp => self.xmp(token, at),
+            Family::Iframe => self.iframe(token, at),
+            Family::Rb => self.rb(token, at),
+            Family::Rp => self.rp(token, at),
+            Family::Caption
+            | Family::Col
+            | Family::Colgroup
+            | Family::Head
+            | Family::Section
+            | Family::Cell
+            | Family::Row => self.ignore(Mode::InBody, at),
+            _ => self.other_start(token, at),
+        }
+    }
+
+    /// An end tag.
+    fn end_in_body(
+        &mut self,
+        family: Family,
+        token: &mut Token,
+        at: u64,
+    ) -> Result<Flow, Refusal>
+        requires { Kept numbers self.old.site }
+        ensures { FlowGives result (token_of token.new) (state_of self.new) (perform numbers at (token_of token.old) (in_body (End family)) (state_of self.old)) }
+    {
+        match family {
+            Family::Body => self.end_body(at),
+            Family::Html => self.end_html(at),
+            Family::Block | Family::Button | Family::Pre => self.close_block(token, at),
+            Family::Form => self.end_form(at),
+            Family::P => self.end_p(at),
+            Family::Li => self.end_item(Scope::ListItem, token, at),
+            Family::Dd => self.end_item(Scope::Default, token, at),
+            Family::Heading => self.end_heading(token, at),
+            Family::A | Family::Formatting | Family::Nobr => self.adopt(token, at),
+            Family::Object => self.end_object(token, at),
+            Family::Br => self.end_br(at),
+            _ => self.other_end(token, at),
+        }
+    }
+
+    /// A character other than NUL.
+    pub(crate) fn character_in_body(&mut self, token: &Token, at: u64) -> Result<Flow, Refusal>
+        ensures { FlowGives result (token_of token.now) (state_of self.new) (perform numbers at (token_of token.now) (character_in_body) (state_of self.old)) }
+    {
+        self.site.reconstruct(at)?;
+        self.put(token, at)
+    }
+
+    /// A parse error if an element is open that may not be at the end of the body.
+    pub(crate) fn check_open(&mut self, at: u64) -> Result<(), Refusal>
+        ensures { StateGives result (state_of self.new) (performed at (body_ends) (state_of self.old)) }
+    {
+        if self.site.all_may_stay_open() {
+            return Ok(());
+        }
+        self.error(Mode::InBody, at)
+    }
+
+    /// The end of the input in the body.
+    pub(crate) fn end_in_open(&mut self, at: u64) -> Result<Flow, Refusal>
+        ensures { (t : TokenOf ℕ) → FlowGives result t (state_of self.new) (perform numbers at t (body_ends) (state_of self.old)) }
+    {
+        self.check_open(at)?;
+        Ok(Flow::Done)
+    }
+
+    /// The start tag body where it is not the first.
+    pub(crate) fn body_again(&mut self, token: &mut Token, at: u64) -> Result<Flow, Refusal>
+        ensures { FlowGives result (token_of token.new) (state_of self.new) (perform numbers at (token_of token.old) (error InBody ▸ when second_is_body add_missing_to_second) (state_of self.old)) }
+    {
+        self.error(Mode::InBody, at)?;
+        if self.second_is_body() {
+            self.add_missing(1, token)?;
+        }
+        Ok(Flow::Done)
+    }
+
+    /// The end tag body.
+    pub(crate) fn end_body(&mut self, at: u64) -> Result<Flow, Refusal>
+        ensures { (t : TokenOf ℕ) → FlowGives result t (state_of self.new) (perform numbers at t (choose (has_in scope.Default tag.Body) (body_ends ▸ to AfterBody) (error InBody)) (state_of self.old)) }
+    {
+        if !self.site.in_scope(Scope::Default, Tag::Body.number()) {
+            return self.ignore(Mode::InBody, at);
+        }
+        self.check_open(at)?;
+        self.control.mode = Mode::AfterBody;
+        Ok(Flow::Done)
+    }
+
+    /// The end tag html.
+    pub(crate) fn end_html(&mut self, at: u64) -> Result<Flow, Refusal>
+        ensures { (t : TokenOf ℕ) → FlowGives result t (state_of self.new) (perform numbers at t (choose (has_in scope.Default tag.Body) (body_ends ▸ to AfterBody ▸ again) (error InBody)) (state_of self.old)) }
+    {
+        if !self.site.in_scope(Scope::Default, Tag::Body.number()) {
+            return self.ignore(Mode::InBody, at);
+        }
+        self.check_open(at)?;
+        self.control.mode = Mode::AfterBody;
+        Ok(Flow::Again)
+    }
+
+    /// Any other start tag.
+    pub(crate) fn other_start(&mut self, token: &mut Token, at: u64) -> Result<Flow, Refusal>
+        ensures { FlowGives result (token_of token.new) (state_of self.new) (perform numbers at (token_of token.old) (reconstruct ▸ insert) (state_of self.old)) }
+    {
+        self.site.reconstruct(at)?;
+        self.insert(token, at)?;
+        Ok(Flow::Done)
+    }
+
+    /// Any other end tag.
+    pub(crate) fn other_end(&mut self, token: &Token, at: u64) -> Result<Flow, Refusal>
+        ensures { FlowGives result (token_of token.now) (state_of self.new) (perform numbers at (token_of token.now) (other_end) (state_of self.old)) }
+    {
+        self.site.other_end(token_name(token), at)?;
+        Ok(Flow::Done)
+    }
+}

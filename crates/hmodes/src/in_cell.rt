@@ -1,0 +1,103 @@
+//! The "in cell" insertion mode (HTML Standard, 13.2.6.4.15).
+
+ghost use Rattle.std.specs.Prelude.{◌≡◌, ℕ, IfOk};
+ghost use Rattle.hadopt.specs.Kept.{Kept};
+ghost use Rattle.hadopt.specs.Naming.{numbers};
+ghost use Rattle.hopen.specs.declared.scope.Scope.TheVariants as scope;
+ghost use Rattle.hopen.specs.declared.scope.Group.TheVariants as group;
+ghost use Rattle.names.specs.declared.tag.Tag.TheVariants as tag;
+ghost use Rattle.hmodes.specs.Flows.{FlowGives, StateGives, performed, performed_for};
+ghost use Rattle.hmodes.specs.Perform.{perform};
+ghost use Rattle.hmodes.specs.State.{Token as TokenOf};
+ghost use Rattle.hmodes.specs.States.{state_of};
+ghost use Rattle.hmodes.specs.Tokens.{token_of};
+ghost use Rattle.hmodes.specs.Table.{in_cell, close_cell, cell_ends};
+ghost use Rattle.hmodes.specs.Words.{◌▸◌, unless, choose, error, again, to, implied, pop_to_name, clear_to_marker, current_is_name, has_name_in};
+ghost use Rattle.hmodes.specs.declared.mode.Mode.TheVariants.{InCell, InRow};
+
+use crate::family::Family;
+use crate::kind::Kind;
+use crate::mode::Mode;
+use crate::rules::{Flow, Rules};
+use crate::token::token_name;
+use hadopt::Passing;
+use hopen::{Group, Scope};
+use htoken::Token;
+use names::{Refusal};
+
+impl<'q> Rules<'q> {
+    /// The "in cell" insertion mode.
+    pub(crate) fn in_cell(
+        &mut self,
+        kind: Kind,
+        token: &mut Token,
+        at: u64,
+    ) -> Result<Flow, Refusal>
+        requires { Kept numbers self.old.site }
+        ensures { FlowGives result (token_of token.new) (state_of self.new) (perform numbers at (token_of token.old) (in_cell kind) (state_of self.old)) }
+    {
+        match kind {
+            Kind::End(Family::Cell) => self.end_cell(token, at),
+            Kind::Start(
+                Family::Caption
+                | Family::Col
+                | Family::Colgroup
+                | Family::Section
+                | Family::Cell
+                | Family::Row,
+            ) => self.cell_ends(at),
+            Kind::End(
+                Family::Body | Family::Caption | Family::Col | Family::Colgroup | Family::Html,
+            ) => self.ignore(Mode::InCell, at),
+            Kind::End(Family::Table | Family::Section | Family::Row) => self.cell_ends_in(token, at),
+            _ => self.in_body(kind, token, at),
+        }
+    }
+
+    /// The end tags td and th.
+    pub(crate) fn end_cell(&mut self, token: &Token, at: u64) -> Result<Flow, Refusal>
+        ensures { FlowGives result (token_of token.now) (state_of self.new) (perform numbers at (token_of token.now) (choose (has_name_in scope.Table) (implied ▸ unless current_is_name (error InCell) ▸ pop_to_name ▸ clear_to_marker ▸ to InRow) (error InCell)) (state_of self.old)) }
+    {
+        let name = token_name(token);
+        if !self.site.in_scope(Scope::Table, name) {
+            return self.ignore(Mode::InCell, at);
+        }
+        self.site.pop_past(Passing::Implied(None));
+        self.pop_to(Mode::InCell, name, at)?;
+        self.site.clear_to_marker();
+        self.control.mode = Mode::InRow;
+        Ok(Flow::Done)
+    }
+
+    /// Closes the cell.
+    pub(crate) fn close_cell(&mut self, at: u64) -> Result<(), Refusal>
+        ensures { StateGives result (state_of self.new) (performed at (close_cell) (state_of self.old)) }
+    {
+        self.site.pop_past(Passing::Implied(None));
+        if !self.site.current_is_of(Group::Cell) {
+            self.error(Mode::InCell, at)?;
+        }
+        self.site.pop_to_group(Group::Cell);
+        self.site.clear_to_marker();
+        self.control.mode = Mode::InRow;
+        Ok(())
+    }
+
+    /// A cell that no end tag closed.
+    pub(crate) fn cell_ends(&mut self, at: u64) -> Result<Flow, Refusal>
+        ensures { (t : TokenOf ℕ) → FlowGives result t (state_of self.new) (perform numbers at t (close_cell ▸ again) (state_of self.old)) }
+    {
+        self.close_cell(at)?;
+        Ok(Flow::Again)
+    }
+
+    /// An end tag that ends the cell, if its element is open.
+    pub(crate) fn cell_ends_in(&mut self, token: &Token, at: u64) -> Result<Flow, Refusal>
+        ensures { FlowGives result (token_of token.now) (state_of self.new) (perform numbers at (token_of token.now) (cell_ends) (state_of self.old)) }
+    {
+        if !self.site.in_scope(Scope::Table, token_name(token)) {
+            return self.ignore(Mode::InCell, at);
+        }
+        self.cell_ends(at)
+    }
+}

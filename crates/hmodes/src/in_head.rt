@@ -1,0 +1,207 @@
+//! The insertion modes of the head (HTML Standard, 13.2.6.4.4 to 13.2.6.4.6).
+
+ghost use Rattle.std.specs.Prelude.{◌≡◌, ◌<◌, ℕ, IfSome};
+ghost use Rattle.hadopt.specs.Naming.{numbers};
+ghost use Rattle.hmodes.specs.Flows.{FlowGives, StateGives, performed};
+ghost use Rattle.hmodes.specs.Perform.{perform, removed, with_site};
+ghost use Rattle.hmodes.specs.State.{Token as TokenOf};
+ghost use Rattle.hmodes.specs.States.{state_of};
+ghost use Rattle.hmodes.specs.Tokens.{token_of};
+ghost use Rattle.hmodes.specs.Head.{in_head, head_ends, in_head_noscript, noscript_ends, after_head, body_unwritten, late};
+ghost use Rattle.hmodes.specs.Programs.{void, raw};
+ghost use Rattle.hmodes.specs.Words.{◌▸◌, error, to, insert, pop, push_head};
+ghost use Rattle.hmodes.specs.declared.mode.Mode.TheVariants.{InHead, InHeadNoscript, AfterHead, InBody};
+
+use crate::family::Family;
+use crate::kind::Kind;
+use crate::mode::Mode;
+use crate::rules::{Flow, Rules};
+use hopen::Open;
+use htoken::Token;
+use names::{Refusal, Tag};
+
+impl<'q> Rules<'q> {
+    /// The "in head" insertion mode.
+    pub(crate) fn in_head(
+        &mut self,
+        kind: Kind,
+        token: &mut Token,
+        at: u64,
+    ) -> Result<Flow, Refusal>
+        ensures { FlowGives result (token_of token.new) (state_of self.new) (perform numbers at (token_of token.old) (in_head kind) (state_of self.old)) }
+    {
+        match kind {
+            Kind::Ws => self.put(token, at),
+            Kind::Comment => self.insert_comment(token, at),
+            Kind::Doctype => self.ignore(Mode::InHead, at),
+            Kind::Start(Family::Html) => self.html_again(token, at),
+            Kind::Start(Family::Base | Family::Link) => {
+                self.void(token, at)?;
+                Ok(Flow::Done)
+            }
+            Kind::Start(Family::Title | Family::Noframes | Family::Style | Family::Script) => {
+                self.raw(token, at)?;
+                Ok(Flow::Done)
+            }
+            Kind::Start(Family::Noscript) => self.insert_and_go(Mode::InHeadNoscript, token, at),
+            Kind::End(Family::Head) => self.pop_and_go(Mode::AfterHead),
+            Kind::End(Family::Body | Family::Html | Family::Br) => self.head_ends(),
+            Kind::Start(Family::Head) => self.ignore(Mode::InHead, at),
+            Kind::End(_) => self.ignore(Mode::InHead, at),
+            _ => self.head_ends(),
+        }
+    }
+
+    /// An element, whose content goes by another mode.
+    pub(crate) fn insert_and_go(
+        &mut self,
+        mode: Mode,
+        token: &mut Token,
+        at: u64,
+    ) -> Result<Flow, Refusal>
+        ensures { FlowGives result (token_of token.new) (state_of self.new) (perform numbers at (token_of token.old) (insert ▸ to mode) (state_of self.old)) }
+    {
+        self.insert(token, at)?;
+        self.control.mode = mode;
+        Ok(Flow::Done)
+    }
+
+    /// The current node is closed, and another mode comes.
+    pub(crate) fn pop_and_go(&mut self, mode: Mode) -> Result<Flow, Refusal>
+        ensures { (t : TokenOf ℕ) → FlowGives result t (state_of self.new) (perform numbers 0 t (pop ▸ to mode) (state_of self.old)) }
+    {
+        self.site.pop();
+        self.control.mode = mode;
+        Ok(Flow::Done)
+    }
+
+    /// A head that no tag closed.
+    fn head_ends(&mut self) -> Result<Flow, Refusal>
+        ensures { (t : TokenOf ℕ) → FlowGives result t (state_of self.new) (perform numbers 0 t head_ends (state_of self.old)) }
+    {
+        self.site.pop();
+        self.control.mode = Mode::AfterHead;
+        Ok(Flow::Again)
+    }
+
+    /// The "in head noscript" insertion mode.
+    pub(crate) fn in_head_noscript(
+        &mut self,
+        kind: Kind,
+        token: &mut Token,
+        at: u64,
+    ) -> Result<Flow, Refusal>
+        ensures { FlowGives result (token_of token.new) (state_of self.new) (perform numbers at (token_of token.old) (in_head_noscript kind) (state_of self.old)) }
+    {
+        match kind {
+            Kind::Doctype => self.ignore(Mode::InHeadNoscript, at),
+            Kind::Start(Family::Html) => self.html_again(token, at),
+            Kind::End(Family::Noscript) => self.pop_and_go(Mode::InHead),
+            Kind::Ws => self.put(token, at),
+            Kind::Comment => self.insert_comment(token, at),
+            Kind::Start(Family::Link) => {
+                self.void(token, at)?;
+                Ok(Flow::Done)
+            }
+            Kind::Start(Family::Noframes | Family::Style) => {
+                self.raw(token, at)?;
+                Ok(Flow::Done)
+            }
+            Kind::End(Family::Br) => self.noscript_ends(at),
+            Kind::Start(Family::Head | Family::Noscript) => self.ignore(Mode::InHeadNoscript, at),
+            Kind::End(_) => self.ignore(Mode::InHeadNoscript, at),
+            _ => self.noscript_ends(at),
+        }
+    }
+
+    /// A noscript that no tag closed.
+    fn noscript_ends(&mut self, at: u64) -> Result<Flow, Refusal>
+        ensures { (t : TokenOf ℕ) → FlowGives result t (state_of self.new) (perform numbers at t noscript_ends (state_of self.old)) }
+    {
+        self.error(Mode::InHeadNoscript, at)?;
+        self.site.pop();
+        self.control.mode = Mode::InHead;
+        Ok(Flow::Again)
+    }
+
+    /// The "after head" insertion mode.
+    pub(crate) fn after_head(
+        &mut self,
+        kind: Kind,
+        token: &mut Token,
+        at: u64,
+    ) -> Result<Flow, Refusal>
+        requires { IfSome self.old.control.head (λ k. (0 < k) × (k < self.old.site.nodes.made)) }
+        ensures { FlowGives result (token_of token.new) (state_of self.new) (perform numbers at (token_of token.old) (after_head kind) (state_of self.old)) }
+    {
+        match kind {
+            Kind::Ws => self.put(token, at),
+            Kind::Comment => self.insert_comment(token, at),
+            Kind::Doctype => self.ignore(Mode::AfterHead, at),
+            Kind::Start(Family::Html) => self.html_again(token, at),
+            Kind::Start(Family::Body) => self.insert_and_go(Mode::InBody, token, at),
+            Kind::Start(Family::Base | Family::Link) => self.late_void(token, at),
+            Kind::Start(Family::Noframes | Family::Script | Family::Style | Family::Title) => {
+                self.late_raw(token, at)
+            }
+            Kind::End(Family::Body | Family::Html | Family::Br) => self.body_unwritten(at),
+            Kind::Start(Family::Head) => self.ignore(Mode::AfterHead, at),
+            Kind::End(_) => self.ignore(Mode::AfterHead, at),
+            _ => self.body_unwritten(at),
+        }
+    }
+
+    /// The head is open again.
+    fn open_head(&mut self, at: u64) -> Result<(), Refusal>
+        requires { IfSome self.old.control.head (λ k. (0 < k) × (k < self.old.site.nodes.made)) }
+        ensures { StateGives result (state_of self.new) (performed at (error AfterHead ▸ push_head) (state_of self.old)) }
+    {
+        let head = self.control.head;
+        self.error(Mode::AfterHead, at)?;
+        if let Some(node) = head {
+            let name = Tag::Head.number();
+            self.site.push(Open { node, name }, at)?;
+        }
+        Ok(())
+    }
+
+    /// The head is no longer open.
+    fn remove_head(&mut self)
+        ensures { state_of self.new ≡ with_site (removed self.old.control.head self.old.site) (state_of self.old) }
+    {
+        if let Some(node) = self.control.head {
+            self.site.leave(node);
+        }
+    }
+
+    /// A void element that belongs in the head.
+    fn late_void(&mut self, token: &mut Token, at: u64) -> Result<Flow, Refusal>
+        requires { IfSome self.old.control.head (λ k. (0 < k) × (k < self.old.site.nodes.made)) }
+        ensures { FlowGives result (token_of token.new) (state_of self.new) (perform numbers at (token_of token.old) (late void) (state_of self.old)) }
+    {
+        self.open_head(at)?;
+        self.void(token, at)?;
+        self.remove_head();
+        Ok(Flow::Done)
+    }
+
+    /// An element with raw text that belongs in the head.
+    fn late_raw(&mut self, token: &mut Token, at: u64) -> Result<Flow, Refusal>
+        requires { IfSome self.old.control.head (λ k. (0 < k) × (k < self.old.site.nodes.made)) }
+        ensures { FlowGives result (token_of token.new) (state_of self.new) (perform numbers at (token_of token.old) (late raw) (state_of self.old)) }
+    {
+        self.open_head(at)?;
+        self.raw(token, at)?;
+        self.remove_head();
+        Ok(Flow::Done)
+    }
+
+    /// A body that no tag began.
+    fn body_unwritten(&mut self, at: u64) -> Result<Flow, Refusal>
+        ensures { (t : TokenOf ℕ) → FlowGives result t (state_of self.new) (perform numbers at t body_unwritten (state_of self.old)) }
+    {
+        self.insert_named(Tag::Body.number(), at)?;
+        self.control.mode = Mode::InBody;
+        Ok(Flow::Again)
+    }
+}

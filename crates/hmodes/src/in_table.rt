@@ -1,0 +1,235 @@
+//! The "in table" insertion mode (HTML Standard, 13.2.6.4.9).
+
+ghost use Rattle.std.specs.Prelude.{◌≡◌, ℕ, IfOk};
+ghost use Rattle.hadopt.specs.Kept.{Kept};
+ghost use Rattle.hadopt.specs.Naming.{numbers};
+ghost use Rattle.hopen.specs.declared.scope.Scope.TheVariants as scope;
+ghost use Rattle.hopen.specs.declared.scope.Group.TheVariants as group;
+ghost use Rattle.names.specs.declared.tag.Tag.TheVariants as tag;
+ghost use Rattle.hmodes.specs.Flows.{FlowGives, StateGives, performed, performed_for};
+ghost use Rattle.hmodes.specs.Perform.{perform};
+ghost use Rattle.hmodes.specs.State.{Token as TokenOf};
+ghost use Rattle.hmodes.specs.States.{state_of};
+ghost use Rattle.hmodes.specs.Tokens.{token_of};
+ghost use Rattle.hmodes.specs.declared.family.Family.TheVariants as family;
+ghost use Rattle.hmodes.specs.Table.{in_table, other_in_table, character_in_table, row_unwritten};
+ghost use Rattle.hmodes.specs.Words.{Start, End, ◌▸◌, when, unless, choose, error, again, to, reset, insert, insert_named, pop, pop_to, form_pointer, marker, clear_to_table, has_in, form_is_set};
+ghost use Rattle.hmodes.specs.declared.mode.Mode.TheVariants.{InTable, InTableText, InTableBody, InCaption, InColumnGroup};
+
+use crate::family::Family;
+use crate::kind::Kind;
+use crate::mode::Mode;
+use crate::rules::{Flow, Rules};
+use crate::token::is_hidden;
+use hadopt::Passing;
+use hopen::Scope;
+use htoken::Token;
+use names::{Refusal, Tag};
+
+impl<'q> Rules<'q> {
+    /// The "in table" insertion mode.
+    pub(crate) fn in_table(
+        &mut self,
+        kind: Kind,
+        token: &mut Token,
+        at: u64,
+    ) -> Result<Flow, Refusal>
+        requires { Kept numbers self.old.site }
+        ensures { FlowGives result (token_of token.new) (state_of self.new) (perform numbers at (token_of token.old) (in_table kind) (state_of self.old)) }
+    {
+        match kind {
+            Kind::Nul | Kind::Ws | Kind::Char => self.character_in_table(kind, token, at),
+            Kind::Comment => self.insert_comment(token, at),
+            Kind::Doctype => self.ignore(Mode::InTable, at),
+            Kind::Start(family) => self.start_in_table(family, token, at),
+            Kind::End(family) => self.end_in_table(family, token, at),
+            Kind::Eof => self.end_in_open(at),
+        }
+    }
+
+    /// A start tag in a table.
+    fn start_in_table(
+        &mut self,
+        family: Family,
+        token: &mut Token,
+        at: u64,
+    ) -> Result<Flow, Refusal>
+        requires { Kept numbers self.old.site }
+        ensures { FlowGives result (token_of token.new) (state_of self.new) (perform numbers at (token_of token.old) (in_table (Start family)) (state_of self.old)) }
+    {
+        match family {
+            Family::Caption => self.caption(token, at),
+            Family::Colgroup => self.insert_in_table(Mode::InColumnGroup, token, at),
+            Family::Col => self.colgroup_unwritten(at),
+            Family::Section => self.insert_in_table(Mode::InTableBody, token, at),
+            Family::Cell | Family::Row => self.row_unwritten(at),
+            Family::Table => self.table_again(at),
+            Family::Style | Family::Script => self.in_head(Kind::Start(family), token, at),
+            Family::Input => self.input_in_table(token, at),
+            Family::Form => self.form_in_table(token, at),
+            _ => self.other_in_table(Kind::Start(family), token, at),
+        }
+    }
+
+    /// An end tag in a table.
+    fn end_in_table(
+        &mut self,
+        family: Family,
+        token: &mut Token,
+        at: u64,
+    ) -> Result<Flow, Refusal>
+        requires { Kept numbers self.old.site }
+        ensures { FlowGives result (token_of token.new) (state_of self.new) (perform numbers at (token_of token.old) (in_table (End family)) (state_of self.old)) }
+    {
+        match family {
+            Family::Table => self.end_table(at),
+            Family::Body
+            | Family::Caption
+            | Family::Col
+            | Family::Colgroup
+            | Family::Html
+            | Family::Section
+            | Family::Cell
+            | Family::Row
+            | Family::Template => self.ignore(Mode::InTable, at),
+            _ => self.other_in_table(Kind::End(family), token, at),
+        }
+    }
+
+    /// Anything else in a table: by the rules of the body, with foster parenting on.
+    pub(crate) fn other_in_table(
+        &mut self,
+        kind: Kind,
+        token: &mut Token,
+        at: u64,
+    ) -> Result<Flow, Refusal>
+        requires { Kept numbers self.old.site }
+        ensures { FlowGives result (token_of token.new) (state_of self.new) (perform numbers at (token_of token.old) (other_in_table kind) (state_of self.old)) }
+    {
+        self.error(Mode::InTable, at)?;
+        self.site.set_foster(true);
+        let flow = self.in_body(kind, token, at)?;
+        self.site.set_foster(false);
+        Ok(flow)
+    }
+
+    /// A character in a table.
+    pub(crate) fn character_in_table(
+        &mut self,
+        kind: Kind,
+        token: &mut Token,
+        at: u64,
+    ) -> Result<Flow, Refusal>
+        requires { Kept numbers self.old.site }
+        ensures { FlowGives result (token_of token.new) (state_of self.new) (perform numbers at (token_of token.old) (character_in_table kind) (state_of self.old)) }
+    {
+        if !self.site.current_fosters() {
+            return self.other_in_table(kind, token, at);
+        }
+        self.control.pending.clear();
+        self.control.saved = self.control.mode;
+        self.control.mode = Mode::InTableText;
+        Ok(Flow::Again)
+    }
+
+    /// The start tag caption.
+    pub(crate) fn caption(&mut self, token: &mut Token, at: u64) -> Result<Flow, Refusal>
+        ensures { FlowGives result (token_of token.new) (state_of self.new) (perform numbers at (token_of token.old) (clear_to_table ▸ marker ▸ insert ▸ to InCaption) (state_of self.old)) }
+    {
+        self.site.pop_past(Passing::Table);
+        self.site.marker()?;
+        self.insert(token, at)?;
+        self.control.mode = Mode::InCaption;
+        Ok(Flow::Done)
+    }
+
+    /// A part of a table, whose content goes by another mode.
+    fn insert_in_table(
+        &mut self,
+        mode: Mode,
+        token: &mut Token,
+        at: u64,
+    ) -> Result<Flow, Refusal>
+        ensures { FlowGives result (token_of token.new) (state_of self.new) (perform numbers at (token_of token.old) (clear_to_table ▸ insert ▸ to mode) (state_of self.old)) }
+    {
+        self.site.pop_past(Passing::Table);
+        self.insert(token, at)?;
+        self.control.mode = mode;
+        Ok(Flow::Done)
+    }
+
+    /// A column group that no tag began.
+    pub(crate) fn colgroup_unwritten(&mut self, at: u64) -> Result<Flow, Refusal>
+        ensures { (t : TokenOf ℕ) → FlowGives result t (state_of self.new) (perform numbers at t (clear_to_table ▸ insert_named tag.Colgroup ▸ to InColumnGroup ▸ again) (state_of self.old)) }
+    {
+        self.site.pop_past(Passing::Table);
+        self.insert_named(Tag::Colgroup.number(), at)?;
+        self.control.mode = Mode::InColumnGroup;
+        Ok(Flow::Again)
+    }
+
+    /// A table body that no tag began.
+    pub(crate) fn row_unwritten(&mut self, at: u64) -> Result<Flow, Refusal>
+        ensures { (t : TokenOf ℕ) → FlowGives result t (state_of self.new) (perform numbers at t (row_unwritten) (state_of self.old)) }
+    {
+        self.site.pop_past(Passing::Table);
+        self.insert_named(Tag::Tbody.number(), at)?;
+        self.control.mode = Mode::InTableBody;
+        Ok(Flow::Again)
+    }
+
+    /// The start tag table in a table.
+    pub(crate) fn table_again(&mut self, at: u64) -> Result<Flow, Refusal>
+        ensures { (t : TokenOf ℕ) → FlowGives result t (state_of self.new) (perform numbers at t (error InTable ▸ when (has_in scope.Table tag.Table) (pop_to tag.Table ▸ reset ▸ again)) (state_of self.old)) }
+    {
+        let table = Tag::Table.number();
+        self.error(Mode::InTable, at)?;
+        if !self.site.in_scope(Scope::Table, table) {
+            return Ok(Flow::Done);
+        }
+        self.site.pop_to(table);
+        self.control.mode = self.reset_mode();
+        Ok(Flow::Again)
+    }
+
+    /// The end tag table.
+    pub(crate) fn end_table(&mut self, at: u64) -> Result<Flow, Refusal>
+        ensures { (t : TokenOf ℕ) → FlowGives result t (state_of self.new) (perform numbers at t (choose (has_in scope.Table tag.Table) (pop_to tag.Table ▸ reset) (error InTable)) (state_of self.old)) }
+    {
+        let table = Tag::Table.number();
+        if !self.site.in_scope(Scope::Table, table) {
+            return self.ignore(Mode::InTable, at);
+        }
+        self.site.pop_to(table);
+        self.control.mode = self.reset_mode();
+        Ok(Flow::Done)
+    }
+
+    /// The start tag input in a table.
+    pub(crate) fn input_in_table(&mut self, token: &mut Token, at: u64) -> Result<Flow, Refusal>
+        requires { Kept numbers self.old.site }
+        ensures { FlowGives result (token_of token.new) (state_of self.new) (perform numbers at (token_of token.old) (in_table (Start family.Input)) (state_of self.old)) }
+    {
+        if !is_hidden(token) {
+            return self.other_in_table(Kind::Start(Family::Input), token, at);
+        }
+        self.error(Mode::InTable, at)?;
+        self.void(token, at)?;
+        Ok(Flow::Done)
+    }
+
+    /// The start tag form in a table.
+    pub(crate) fn form_in_table(&mut self, token: &mut Token, at: u64) -> Result<Flow, Refusal>
+        ensures { FlowGives result (token_of token.new) (state_of self.new) (perform numbers at (token_of token.old) (error InTable ▸ unless form_is_set (insert ▸ form_pointer ▸ pop)) (state_of self.old)) }
+    {
+        let is_set = self.control.form.is_some();
+        self.error(Mode::InTable, at)?;
+        if is_set {
+            return Ok(Flow::Done);
+        }
+        self.insert(token, at)?;
+        self.control.form = Some(self.current_node());
+        self.site.pop();
+        Ok(Flow::Done)
+    }
+}

@@ -1,0 +1,284 @@
+//! Formatting and other elements among text in the body (HTML Standard, 13.2.6.4.7).
+
+ghost use Rattle.std.specs.Prelude.{◌≡◌, ℕ, IfOk};
+ghost use Rattle.hadopt.specs.Kept.{Kept};
+ghost use Rattle.hadopt.specs.Naming.{numbers};
+ghost use Rattle.hopen.specs.declared.scope.Scope.TheVariants as scope;
+ghost use Rattle.hopen.specs.declared.scope.Group.TheVariants as group;
+ghost use Rattle.names.specs.declared.tag.Tag.TheVariants as tag;
+ghost use Rattle.hmodes.specs.Flows.{FlowGives, StateGives, performed, performed_for};
+ghost use Rattle.hmodes.specs.Perform.{perform};
+ghost use Rattle.hmodes.specs.State.{Token as TokenOf};
+ghost use Rattle.hmodes.specs.States.{state_of};
+ghost use Rattle.hmodes.specs.Tokens.{token_of};
+ghost use Rattle.hmodes.specs.Body.{formatting, void_in_text};
+ghost use Rattle.hmodes.specs.Programs.{close_p_in_scope, void, raw};
+ghost use Rattle.hmodes.specs.Words.{◌▸◌, when, unless, choose, error, again_as, to, insert, insert_named, push_to_list, pop, pop_to_name, implied, implied_except, reconstruct, drop_lf, marker, clear_to_marker, adopt, adopt_listed, current_is, current_is_name, has_in, has_name_in, name_is_listed, is_in_quirks};
+ghost use Rattle.hmodes.specs.declared.mode.Mode.TheVariants.{InBody, InTable};
+
+use crate::mode::Mode;
+use crate::rules::{Flow, Rules};
+use crate::token::{rename, take_attrs, token_name};
+use hadopt::Passing;
+use hopen::Scope;
+use htoken::Token;
+use names::{NameId, Refusal, Tag};
+
+impl<'q> Rules<'q> {
+    /// An element for a start tag, which is also a formatting element.
+    pub(crate) fn insert_formatting(&mut self, token: &mut Token, at: u64) -> Result<(), Refusal>
+        ensures { StateGives result (state_of self.new) (perform numbers at (token_of token.old) (insert ▸ push_to_list) (state_of self.old)) }
+    {
+        let name = token_name(token);
+        let attrs = take_attrs(self.alloc, token);
+        let place = self.site.place();
+        self.site.insert_formatting(name, attrs, place, at)?;
+        Ok(())
+    }
+
+    /// The start tag of a formatting element.
+    pub(crate) fn formatting(&mut self, token: &mut Token, at: u64) -> Result<Flow, Refusal>
+        ensures { FlowGives result (token_of token.new) (state_of self.new) (perform numbers at (token_of token.old) (formatting) (state_of self.old)) }
+    {
+        self.site.reconstruct(at)?;
+        self.insert_formatting(token, at)?;
+        Ok(Flow::Done)
+    }
+
+    /// The adoption agency runs.
+    fn run_adoption(&mut self, name: NameId, at: u64) -> Result<(), Refusal>
+        requires { Kept numbers self.old.site }
+        ensures { StateGives result (state_of self.new) (performed_for name at adopt (state_of self.old)) }
+    {
+        self.site.adopt(name, at)
+    }
+
+    /// The adoption agency runs for a listed element of the name, which leaves then.
+    pub(crate) fn close_listed(&mut self, name: NameId, at: u64) -> Result<(), Refusal>
+        requires { Kept numbers self.old.site }
+        ensures { StateGives result (state_of self.new) (performed_for name at (when name_is_listed (error InBody ▸ adopt_listed)) (state_of self.old)) }
+    {
+        let Some(node) = self.site.find(name) else {
+            return Ok(());
+        };
+        self.error(Mode::InBody, at)?;
+        self.site.adopt(name, at)?;
+        self.site.leave(node);
+        self.site.remove_entry(node);
+        Ok(())
+    }
+
+    /// The start tag a.
+    pub(crate) fn anchor(&mut self, token: &mut Token, at: u64) -> Result<Flow, Refusal>
+        requires { Kept numbers self.old.site }
+        ensures { FlowGives result (token_of token.new) (state_of self.new) (perform numbers at (token_of token.old) (when name_is_listed (error InBody ▸ adopt_listed) ▸ formatting) (state_of self.old)) }
+    {
+        self.close_listed(token_name(token), at)?;
+        self.formatting(token, at)
+    }
+
+    /// The adoption agency runs for a nobr in scope.
+    pub(crate) fn close_nobr(&mut self, name: NameId, at: u64) -> Result<(), Refusal>
+        requires { Kept numbers self.old.site }
+        ensures { StateGives result (state_of self.new) (performed_for name at (when (has_in scope.Default tag.Nobr) (error InBody ▸ adopt ▸ reconstruct)) (state_of self.old)) }
+    {
+        if !self.site.in_scope(Scope::Default, Tag::Nobr.number()) {
+            return Ok(());
+        }
+        self.error(Mode::InBody, at)?;
+        self.site.adopt(name, at)?;
+        self.site.reconstruct(at)
+    }
+
+    /// The start tag nobr.
+    pub(crate) fn nobr(&mut self, token: &mut Token, at: u64) -> Result<Flow, Refusal>
+        requires { Kept numbers self.old.site }
+        ensures { FlowGives result (token_of token.new) (state_of self.new) (perform numbers at (token_of token.old) (reconstruct ▸ when (has_in scope.Default tag.Nobr) (error InBody ▸ adopt ▸ reconstruct) ▸ insert ▸ push_to_list) (state_of self.old)) }
+    {
+        self.site.reconstruct(at)?;
+        self.close_nobr(token_name(token), at)?;
+        self.insert_formatting(token, at)?;
+        Ok(Flow::Done)
+    }
+
+    /// The end tag of a formatting element.
+    pub(crate) fn adopt(&mut self, token: &Token, at: u64) -> Result<Flow, Refusal>
+        requires { Kept numbers self.old.site }
+        ensures { FlowGives result (token_of token.now) (state_of self.new) (perform numbers at (token_of token.now) (adopt) (state_of self.old)) }
+    {
+        self.run_adoption(token_name(token), at)?;
+        Ok(Flow::Done)
+    }
+
+    /// The start tags applet, marquee and object.
+    pub(crate) fn object(&mut self, token: &mut Token, at: u64) -> Result<Flow, Refusal>
+        ensures { FlowGives result (token_of token.new) (state_of self.new) (perform numbers at (token_of token.old) (reconstruct ▸ insert ▸ marker) (state_of self.old)) }
+    {
+        self.site.reconstruct(at)?;
+        self.insert(token, at)?;
+        self.site.marker()?;
+        Ok(Flow::Done)
+    }
+
+    /// The end tags applet, marquee and object.
+    pub(crate) fn end_object(&mut self, token: &Token, at: u64) -> Result<Flow, Refusal>
+        ensures { FlowGives result (token_of token.now) (state_of self.new) (perform numbers at (token_of token.now) (choose (has_name_in scope.Default) (implied ▸ unless current_is_name (error InBody) ▸ pop_to_name ▸ clear_to_marker) (error InBody)) (state_of self.old)) }
+    {
+        let name = token_name(token);
+        if !self.site.in_scope(Scope::Default, name) {
+            return self.ignore(Mode::InBody, at);
+        }
+        self.site.pop_past(Passing::Implied(None));
+        self.pop_to(Mode::InBody, name, at)?;
+        self.site.clear_to_marker();
+        Ok(Flow::Done)
+    }
+
+    /// A p is closed before a table, but not in quirks mode.
+    pub(crate) fn close_p_before_table(&mut self, at: u64) -> Result<(), Refusal>
+        ensures { StateGives result (state_of self.new) (performed at (unless is_in_quirks close_p_in_scope) (state_of self.old)) }
+    {
+        if self.control.quirks {
+            return Ok(());
+        }
+        self.close_p_in_scope(at)
+    }
+
+    /// The start tag table.
+    pub(crate) fn table(&mut self, token: &mut Token, at: u64) -> Result<Flow, Refusal>
+        ensures { FlowGives result (token_of token.new) (state_of self.new) (perform numbers at (token_of token.old) (unless is_in_quirks close_p_in_scope ▸ insert ▸ to InTable) (state_of self.old)) }
+    {
+        self.close_p_before_table(at)?;
+        self.insert(token, at)?;
+        self.control.mode = Mode::InTable;
+        Ok(Flow::Done)
+    }
+
+    /// The end tag br.
+    pub(crate) fn end_br(&mut self, at: u64) -> Result<Flow, Refusal>
+        ensures { (t : TokenOf ℕ) → FlowGives result t (state_of self.new) (perform numbers at t (error InBody ▸ reconstruct ▸ insert_named tag.Br ▸ pop) (state_of self.old)) }
+    {
+        self.error(Mode::InBody, at)?;
+        self.site.reconstruct(at)?;
+        self.br_unwritten(at)?;
+        Ok(Flow::Done)
+    }
+
+    /// A br without attributes.
+    fn br_unwritten(&mut self, at: u64) -> Result<(), Refusal>
+        ensures { StateGives result (state_of self.new) (performed at (insert_named tag.Br ▸ pop) (state_of self.old)) }
+    {
+        self.insert_named(Tag::Br.number(), at)?;
+        self.site.pop();
+        Ok(())
+    }
+
+    /// A void element among formatting elements.
+    pub(crate) fn void_in_text(&mut self, token: &mut Token, at: u64) -> Result<Flow, Refusal>
+        ensures { FlowGives result (token_of token.new) (state_of self.new) (perform numbers at (token_of token.old) (void_in_text) (state_of self.old)) }
+    {
+        self.site.reconstruct(at)?;
+        self.void(token, at)?;
+        Ok(Flow::Done)
+    }
+
+    /// The start tags param, source and track.
+    pub(crate) fn param(&mut self, token: &mut Token, at: u64) -> Result<Flow, Refusal>
+        ensures { FlowGives result (token_of token.new) (state_of self.new) (perform numbers at (token_of token.old) (void) (state_of self.old)) }
+    {
+        self.void(token, at)?;
+        Ok(Flow::Done)
+    }
+
+    /// The start tag hr.
+    pub(crate) fn hr(&mut self, token: &mut Token, at: u64) -> Result<Flow, Refusal>
+        ensures { FlowGives result (token_of token.new) (state_of self.new) (perform numbers at (token_of token.old) (close_p_in_scope ▸ void) (state_of self.old)) }
+    {
+        self.close_p_in_scope(at)?;
+        self.void(token, at)?;
+        Ok(Flow::Done)
+    }
+
+    /// The start tag image, which goes again as img.
+    pub(crate) fn image(&mut self, token: &mut Token, at: u64) -> Result<Flow, Refusal>
+        ensures { FlowGives result (token_of token.new) (state_of self.new) (perform numbers at (token_of token.old) (error InBody ▸ again_as tag.Img) (state_of self.old)) }
+    {
+        self.error(Mode::InBody, at)?;
+        rename(token, Tag::Img.number());
+        Ok(Flow::Again)
+    }
+
+    /// The start tag textarea.
+    pub(crate) fn textarea(&mut self, token: &mut Token, at: u64) -> Result<Flow, Refusal>
+        ensures { FlowGives result (token_of token.new) (state_of self.new) (perform numbers at (token_of token.old) (raw ▸ drop_lf) (state_of self.old)) }
+    {
+        self.raw(token, at)?;
+        self.control.drop_lf = true;
+        Ok(Flow::Done)
+    }
+
+    /// The start tag xmp.
+    pub(crate) fn xmp(&mut self, token: &mut Token, at: u64) -> Result<Flow, Refusal>
+        ensures { FlowGives result (token_of token.new) (state_of self.new) (perform numbers at (token_of token.old) (close_p_in_scope ▸ reconstruct ▸ raw) (state_of self.old)) }
+    {
+        self.close_p_in_scope(at)?;
+        self.site.reconstruct(at)?;
+        self.raw(token, at)?;
+        Ok(Flow::Done)
+    }
+
+    /// The start tags iframe and noembed.
+    pub(crate) fn iframe(&mut self, token: &mut Token, at: u64) -> Result<Flow, Refusal>
+        ensures { FlowGives result (token_of token.new) (state_of self.new) (perform numbers at (token_of token.old) (raw) (state_of self.old)) }
+    {
+        self.raw(token, at)?;
+        Ok(Flow::Done)
+    }
+
+    /// Implied end tags in a ruby, which should be the current node then.
+    pub(crate) fn in_ruby(&mut self, at: u64) -> Result<(), Refusal>
+        ensures { StateGives result (state_of self.new) (performed at (when (has_in scope.Default tag.Ruby) implied ▸ unless (current_is tag.Ruby) (error InBody)) (state_of self.old)) }
+    {
+        let ruby = Tag::Ruby.number();
+        if self.site.in_scope(Scope::Default, ruby) {
+            self.site.pop_past(Passing::Implied(None));
+        }
+        if self.site.current_is(ruby) {
+            return Ok(());
+        }
+        self.error(Mode::InBody, at)
+    }
+
+    /// The start tags rb and rtc.
+    pub(crate) fn rb(&mut self, token: &mut Token, at: u64) -> Result<Flow, Refusal>
+        ensures { FlowGives result (token_of token.new) (state_of self.new) (perform numbers at (token_of token.old) (when (has_in scope.Default tag.Ruby) implied ▸ unless (current_is tag.Ruby) (error InBody) ▸ insert) (state_of self.old)) }
+    {
+        self.in_ruby(at)?;
+        self.insert(token, at)?;
+        Ok(Flow::Done)
+    }
+
+    /// Implied end tags but rtc in a ruby; it or an rtc should be the current node then.
+    pub(crate) fn in_ruby_text(&mut self, at: u64) -> Result<(), Refusal>
+        ensures { StateGives result (state_of self.new) (performed at (when (has_in scope.Default tag.Ruby) (implied_except tag.Rtc) ▸ unless (current_is tag.Rtc) (unless (current_is tag.Ruby) (error InBody))) (state_of self.old)) }
+    {
+        let ruby = Tag::Ruby.number();
+        let rtc = Tag::Rtc.number();
+        if self.site.in_scope(Scope::Default, ruby) {
+            self.site.pop_past(Passing::Implied(Some(rtc)));
+        }
+        if self.site.current_is(rtc) || self.site.current_is(ruby) {
+            return Ok(());
+        }
+        self.error(Mode::InBody, at)
+    }
+
+    /// The start tags rp and rt.
+    pub(crate) fn rp(&mut self, token: &mut Token, at: u64) -> Result<Flow, Refusal>
+        ensures { FlowGives result (token_of token.new) (state_of self.new) (perform numbers at (token_of token.old) (when (has_in scope.Default tag.Ruby) (implied_except tag.Rtc) ▸ unless (current_is tag.Rtc) (unless (current_is tag.Ruby) (error InBody)) ▸ insert) (state_of self.old)) }
+    {
+        self.in_ruby_text(at)?;
+        self.insert(token, at)?;
+        Ok(Flow::Done)
+    }
+}

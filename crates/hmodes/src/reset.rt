@@ -1,0 +1,85 @@
+//! Resetting the insertion mode (HTML Standard, 13.2.4.1).
+
+ghost use Rattle.std.specs.Prelude.{◌≡◌, option_and_then, slice_get};
+ghost use Rattle.hadopt.specs.Naming.{numbers};
+ghost use Rattle.hadopt.specs.Site.{stack, from_top};
+ghost use Rattle.std.specs.Option.{option_map_or};
+ghost use Rattle.names.specs.Tags.{tag_of};
+ghost use Rattle.hmodes.specs.declared.mode.Mode.TheVariants.{InBody};
+ghost use Rattle.hmodes.specs.Reset.{open_mode, context_mode, root_mode, reset_mode};
+
+use crate::mode::Mode;
+use crate::rules::Rules;
+use names::Tag;
+
+/// The mode that an open node decides on.
+fn open_mode(tag: Tag) -> Option<Mode>
+    ensures { result ≡ open_mode tag }
+{
+    match tag {
+        Tag::Td | Tag::Th => Some(Mode::InCell),
+        Tag::Tr => Some(Mode::InRow),
+        Tag::Tbody | Tag::Thead | Tag::Tfoot => Some(Mode::InTableBody),
+        Tag::Caption => Some(Mode::InCaption),
+        Tag::Colgroup => Some(Mode::InColumnGroup),
+        Tag::Table => Some(Mode::InTable),
+        Tag::Body => Some(Mode::InBody),
+        _ => None,
+    }
+}
+
+/// The mode that a context decides on.
+fn context_mode(tag: Tag) -> Mode
+    ensures { result ≡ context_mode tag }
+{
+    match tag {
+        Tag::Tr => Mode::InRow,
+        Tag::Tbody | Tag::Thead | Tag::Tfoot => Mode::InTableBody,
+        Tag::Caption => Mode::InCaption,
+        Tag::Colgroup => Mode::InColumnGroup,
+        Tag::Table => Mode::InTable,
+        Tag::Html => Mode::BeforeHead,
+        _ => Mode::InBody,
+    }
+}
+
+impl<'q> Rules<'q> {
+    /// The mode that fits the open nodes: going up from the current one, the first that decides.
+    pub(crate) fn reset_mode(&self) -> Mode
+        ensures { result ≡ reset_mode numbers self.now.context (stack self.now.site) }
+    {
+        let mut down = self.site.open_count();
+        let mut up = 0;
+        while down > 1 {
+            if let Some(mode) = self.mode_at(up) {
+                return mode;
+            }
+            up += 1;
+            down -= 1;
+        }
+        self.root_mode()
+    }
+
+    /// The mode that the open node with so many below it decides on.
+    fn mode_at(&self, up: usize) -> Option<Mode>
+        ensures { result ≡ option_and_then (λ x. open_mode (tag_of x.name)) (slice_get (stack self.now.site) up) }
+    {
+        match self.site.get(up) {
+            Some(node) => open_mode(node.name.tag()),
+            None => None,
+        }
+    }
+
+    /// The mode that the first open node decides on, which is read as the context, where there is one.
+    fn root_mode(&self) -> Mode
+        ensures { result ≡ option_map_or (root_mode numbers self.now.context) (from_top 0 self.now.site) InBody }
+    {
+        match self.site.from_top(0) {
+            Some(root) => match self.context {
+                Some(context) => context_mode(context.tag()),
+                None => open_mode(root.name.tag()).unwrap_or(Mode::InBody),
+            },
+            None => Mode::InBody,
+        }
+    }
+}

@@ -1,0 +1,105 @@
+//! The "in table text" insertion mode (HTML Standard, 13.2.6.4.10).
+
+ghost use Rattle.std.specs.Prelude.{◌≡◌, ℕ, IfOk};
+ghost use Rattle.hadopt.specs.Kept.{Kept};
+ghost use Rattle.hadopt.specs.Naming.{numbers};
+ghost use Rattle.hopen.specs.declared.scope.Scope.TheVariants as scope;
+ghost use Rattle.hopen.specs.declared.scope.Group.TheVariants as group;
+ghost use Rattle.names.specs.declared.tag.Tag.TheVariants as tag;
+ghost use Rattle.hmodes.specs.Flows.{FlowGives, StateGives, performed, performed_for};
+ghost use Rattle.hmodes.specs.Perform.{perform};
+ghost use Rattle.hmodes.specs.State.{Token as TokenOf};
+ghost use Rattle.hmodes.specs.States.{state_of};
+ghost use Rattle.hmodes.specs.Tokens.{token_of};
+ghost use Rattle.hmodes.specs.Table.{in_table_text, other_in_table};
+ghost use Rattle.hmodes.specs.Perform.{each_of};
+ghost use Rattle.hmodes.specs.State.{character};
+ghost use Rattle.hmodes.specs.Words.{Char, ◌▸◌, choose, each_pending, again, to_saved, put, pend, pending_is_ws};
+
+use crate::kind::Kind;
+use crate::mode::Mode;
+use crate::rules::{Flow, Rules};
+use crate::token::token_char;
+use htoken::Token;
+use names::{Placed, Refusal};
+use std::mem;
+
+impl<'q> Rules<'q> {
+    /// The "in table text" insertion mode.
+    pub(crate) fn in_table_text(
+        &mut self,
+        kind: Kind,
+        token: &mut Token,
+        at: u64,
+    ) -> Result<Flow, Refusal>
+        ensures { FlowGives result (token_of token.new) (state_of self.new) (perform numbers at (token_of token.old) (in_table_text kind) (state_of self.old)) }
+    {
+        match kind {
+            Kind::Nul => self.ignore(Mode::InTableText, at),
+            Kind::Ws | Kind::Char => self.pend(token, at),
+            _ => self.pending_ends(),
+        }
+    }
+
+    /// The character is pending.
+    pub(crate) fn pend(&mut self, token: &Token, at: u64) -> Result<Flow, Refusal>
+        ensures { FlowGives result (token_of token.now) (state_of self.new) (perform numbers at (token_of token.now) (pend) (state_of self.old)) }
+    {
+        let ch = token_char(token);
+        self.control.pending.push(Placed { ch, at })?;
+        Ok(Flow::Done)
+    }
+
+    /// The pending characters are put: where all are white space as they are, else as anything else in a table.
+    fn pending_ends(&mut self) -> Result<Flow, Refusal>
+        ensures { (t : TokenOf ℕ) → FlowGives result t (state_of self.new) (perform numbers 0 t (choose pending_is_ws (each_pending put) (each_pending (other_in_table Char)) ▸ to_saved ▸ again) (state_of self.old)) }
+    {
+        self.put_pending()?;
+        self.control.mode = self.control.saved;
+        Ok(Flow::Again)
+    }
+
+    /// All pending characters are put.
+    fn put_pending(&mut self) -> Result<(), Refusal>
+        ensures { StateGives result (state_of self.new) (performed 0 (choose pending_is_ws (each_pending put) (each_pending (other_in_table Char))) (state_of self.old)) }
+    {
+        let pending = mem::replace(&mut self.control.pending, Vec::new(self.alloc));
+        if pending.iter().all(|c| c.ch.is_ascii_whitespace()) {
+            self.put_each(pending)
+        } else {
+            self.foster_each(pending)
+        }
+    }
+
+    /// Each character is put at its own place.
+    fn put_each(&mut self, pending: Vec<Placed>) -> Result<(), Refusal>
+        ensures { StateGives result (state_of self.new) (each_of (λ c. perform numbers c.at (character c.ch) put) pending.items (state_of self.old)) }
+    {
+        for c in pending {
+            self.put_char(c.ch, c.at)?;
+        }
+        Ok(())
+    }
+
+    /// Each character goes as anything else in a table.
+    fn foster_each(&mut self, pending: Vec<Placed>) -> Result<(), Refusal>
+        ensures { StateGives result (state_of self.new) (each_of (λ c. perform numbers c.at (character c.ch) (other_in_table Char)) pending.items (state_of self.old)) }
+    {
+        for c in pending {
+            self.foster_char(c.ch, c.at)?;
+        }
+        Ok(())
+    }
+
+    /// A character that is foster parented.
+    fn foster_char(&mut self, ch: char, at: u64) -> Result<(), Refusal>
+        ensures { StateGives result (state_of self.new) (perform numbers at (character ch) (other_in_table Char) (state_of self.old)) }
+    {
+        self.error(Mode::InTable, at)?;
+        self.site.set_foster(true);
+        self.site.reconstruct(at)?;
+        self.put_char(ch, at)?;
+        self.site.set_foster(false);
+        Ok(())
+    }
+}
