@@ -6,97 +6,101 @@ ghost use Rattle.hadopt.specs.Naming.{numbers};
 
 use crate::site::Site;
 use hnodes::{NodeId, Tree};
-use names::{Attr, Refusal, Tag};
+use names::{NameId, Names, Refusal, Tag};
 use std::alloc::{AllocError, Global};
 
 pub(crate) const AT: u64 = 5;
 
-/// A tag or a text of a page.
-#[derive(Clone, Copy)]
-pub(crate) enum Step {
-    /// The start tag of a formatting element.
-    Formatting(Tag),
-    /// The start tag of another element.
-    Start(Tag),
-    /// The end tag of a formatting element.
-    Adopt(Tag),
-    /// Another end tag.
-    End(Tag),
-    Text(&'static str),
+/// The number of a name.
+fn named(name: &str, alloc: Global) -> Result<NameId, Refusal> {
+    let mut names = Names::new(alloc)?;
+    Ok(names.intern(alloc, name)?)
 }
 
-pub(crate) use Step::{Adopt, End, Formatting, Start, Text};
-
-/// A formatting element at the appropriate place.
-pub(crate) fn format(site: &mut Site, tag: Tag, attrs: Vec<Attr>) -> Result<(), Refusal>
+/// A start tag: a formatting element goes into the list, too.
+fn start(site: &mut Site, name: NameId, alloc: Global) -> Result<(), Refusal>
     requires { Kept numbers site.old }
     ensures { IfOk result (λ _. Kept numbers site.new) }
 {
-    let name = tag.number();
-    if name == Tag::Table.number() {
+    if !name.tag().is_formatting() || name == Tag::Table.number() {
+        let place = site.place();
+        site.insert_element(name, Vec::new(alloc), place, AT)?;
         return Ok(());
     }
     site.reconstruct(AT)?;
     let place = site.place();
-    site.insert_formatting(name, attrs, place, AT)?;
+    site.insert_formatting(name, Vec::new(alloc), place, AT)?;
     Ok(())
 }
 
-/// Another element at the appropriate place.
-pub(crate) fn start(site: &mut Site, tag: Tag, alloc: Global) -> Result<NodeId, Refusal>
+/// An end tag.
+fn end(site: &mut Site, name: NameId) -> Result<(), Refusal>
     requires { Kept numbers site.old }
     ensures { IfOk result (λ _. Kept numbers site.new) }
 {
-    let place = site.place();
-    site.insert_element(tag.number(), Vec::new(alloc), place, AT)
+    if name.tag().is_formatting() {
+        site.adopt(name, AT)
+    } else {
+        site.close(name, AT)
+    }
 }
 
-/// A text at the appropriate place.
-pub(crate) fn text(site: &mut Site, text: &str) -> Result<(), Refusal>
+fn text(site: &mut Site, characters: &str) -> Result<(), Refusal>
     requires { Kept numbers site.old }
     ensures { IfOk result (λ _. Kept numbers site.new) }
 {
+    if characters.is_empty() {
+        return Ok(());
+    }
     site.reconstruct(AT)?;
     let place = site.place();
-    site.put_text(text, place, AT)
+    site.put_text(characters, place, AT)
 }
 
-fn take(site: &mut Site, step: Step, alloc: Global) -> Result<(), Refusal>
+/// What stands between `<` and `>`.
+fn take(site: &mut Site, between: &str, alloc: Global) -> Result<(), Refusal>
     requires { Kept numbers site.old }
     ensures { IfOk result (λ _. Kept numbers site.new) }
 {
-    match step {
-        Step::Formatting(tag) => format(site, tag, Vec::new(alloc)),
-        Step::Start(tag) => {
-            start(site, tag, alloc)?;
-            Ok(())
-        }
-        Step::Adopt(tag) => site.adopt(tag.number(), AT),
-        Step::End(tag) => site.close(tag.number(), AT),
-        Step::Text(characters) => text(site, characters),
+    match between.strip_prefix('/') {
+        Some(name) => end(site, named(name, alloc)?),
+        None => start(site, named(between, alloc)?, alloc),
     }
 }
 
-/// Takes the steps of a page.
-pub(crate) fn run(site: &mut Site, steps: &[Step], alloc: Global) -> Result<(), Refusal>
+/// Takes the tags and the texts of a page.
+pub(crate) fn run(site: &mut Site, page: &str, alloc: Global) -> Result<(), Refusal>
     requires { Kept numbers site.old }
     ensures { IfOk result (λ _. Kept numbers site.new) }
 {
-    for step in steps {
-        take(site, *step, alloc)?;
+    let mut rest = page;
+    for _ in 0..1000 {
+        let Some((characters, tags)) = rest.split_once('<') else {
+            return text(site, rest);
+        };
+        text(site, characters)?;
+        let Some((between, more)) = tags.split_once('>') else {
+            return Ok(());
+        };
+        take(site, between, alloc)?;
+        rest = more;
     }
     Ok(())
 }
 
-/// A document with html, body and div open.
-pub(crate) fn page(alloc: Global, most_nodes: u32, most_open: u32) -> Result<Site, Refusal>
+/// A page in html, body and div. At most so many nodes may be made, and so many be open.
+pub(crate) fn opened(
+    page: &str,
+    most_nodes: u32,
+    most_open: u32,
+    alloc: Global,
+) -> Result<Site, Refusal>
     requires { 0 < most_nodes }
     ensures { IfOk result (λ s. Kept numbers s) }
 {
     let mut site = Site::new(alloc, most_nodes, most_open)?;
-    start(&mut site, Tag::Html, alloc)?;
-    start(&mut site, Tag::Body, alloc)?;
-    start(&mut site, Tag::Div, alloc)?;
+    run(&mut site, "<html><body><div>", alloc)?;
+    run(&mut site, page, alloc)?;
     Ok(site)
 }
 
@@ -115,20 +119,18 @@ fn show(tree: &Tree, node: NodeId, after: bool, shown: &mut String) -> Result<()
     }
 }
 
-/// The children of a node as a text, without attributes.
-pub(crate) fn shown(tree: &Tree, top: NodeId, alloc: Global) -> Result<String, AllocError> {
+/// The nodes of a document as a text, without attributes.
+pub(crate) fn shown(tree: &Tree, alloc: Global) -> Result<String, AllocError> {
     let mut shown = String::new(alloc);
-    let mut node = top;
+    let mut node = tree.document();
     let mut after = false;
     for _ in 0..10_000 {
         if !tree.has(node) {
             break;
         }
-        if node != top {
-            show(tree, node, after, &mut shown)?;
-        }
+        show(tree, node, after, &mut shown)?;
         let next = if after {
-            if node == top { None } else { tree.next(node) }
+            tree.next(node)
         } else {
             tree.first_child(node)
         };
@@ -139,8 +141,8 @@ pub(crate) fn shown(tree: &Tree, top: NodeId, alloc: Global) -> Result<String, A
             }
             None if !after => after = true,
             None => match tree.parent(node) {
-                Some(parent) if node != top => node = parent,
-                _ => break,
+                Some(parent) => node = parent,
+                None => break,
             },
         }
     }
