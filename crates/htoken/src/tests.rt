@@ -259,3 +259,52 @@ fn a_sink_may_refuse(rt: HostRuntime) -> Result<(), Fail> {
     assert_eq!(rt; answer, Err(Refusal::Write));
     Ok(())
 }
+
+/// What is held of a text that has not ended: from where on, and what was given.
+fn held(alloc: Global, text: &str) -> Result<(u64, String), Refusal> {
+    let table = Table::read(alloc, NOT)?;
+    let mut names = Names::new(alloc)?;
+    let mut lines = Lines {
+        alloc,
+        text: String::new(alloc),
+        in_text: false,
+        left: u32::MAX,
+    };
+    let mut tokenizer = Tokenizer::new(alloc, &table, Start::Document);
+    for (place, ch) in text.char_indices() {
+        tokenizer.feed_char(&mut names, ch, place as u64, &mut lines)?;
+    }
+    Ok((tokenizer.held_from(), lines.text))
+}
+
+#[test]
+fn the_unfinished_span_alone_is_held(rt: HostRuntime) -> Result<(), Fail> {
+    let rows = [
+        ("", 0, ""),
+        ("a&not", 1, "0 chars a"),
+        ("a&noti", 1, "0 chars a"),
+        (
+            "a&notit",
+            7,
+            "0 chars a\n1 missing-semicolon-after-character-reference\n1 chars ¬it",
+        ),
+        ("a&z", 3, "0 chars a&z"),
+        ("a<", 1, "0 chars a"),
+        ("a</", 1, "0 chars a"),
+        (
+            "a< ",
+            3,
+            "0 chars a\n2 invalid-first-character-of-tag-name\n1 chars < ",
+        ),
+        ("<title>x</ti", 8, "0 start title false\n7 chars x"),
+        ("<!--a--", 0, ""),
+        ("<p a=\"b", 0, ""),
+        ("&#6", 0, ""),
+    ];
+    for (text, from, given) in rows {
+        let (at, lines) = held(rt.alloc(), text)?;
+        assert_eq!(rt; at, from, "after {text}");
+        assert_eq!(rt; lines.as_str(), given, "after {text}");
+    }
+    Ok(())
+}

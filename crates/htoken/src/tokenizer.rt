@@ -117,7 +117,7 @@ impl<'t> Tokenizer<'t> {
             → Takes (gives_item S.gives S.gives_token) table start text (record { ch = ch; at = place } ∷ []) taken names.new sink.old result sink.new self.new }
         ensures grows { Grows names.old names.new }
 
-        // Where it answers a refusal, it answers the same to every later call, and hands over nothing.
+        // After a refusal every later call returns the same one, and hands over nothing.
         ensures refused { IfErr result (λ refusal. self.new.refused ≡ Some refusal) }
         ensures again { (refusal : Refused) → self.old.refused ≡ Some refusal → (result ≡ Err refusal) × (sink.new ≡ sink.old) × (names.new ≡ names.old) }
     {
@@ -192,7 +192,7 @@ impl<'t> Tokenizer<'t> {
         answer
     }
 
-    /// Says that the input ends; `end` is its length. Nothing is known of a call after one that answered Ok.
+    /// Says that the input ends; `end` is its length. Nothing is known of a call after one that returned Ok.
     pub fn finish<S: TokenSink>(
         &mut self,
         names: &mut Names,
@@ -203,7 +203,7 @@ impl<'t> Tokenizer<'t> {
             → Finishes (gives_item S.gives S.gives_token) table start end text taken names.new sink.old result sink.new }
         ensures grows { Grows names.old names.new }
 
-        // Where it answers a refusal, it answers the same to every later call, and hands over nothing.
+        // After a refusal every later call returns the same one, and hands over nothing.
         ensures refused { IfErr result (λ refusal. self.new.refused ≡ Some refusal) }
         ensures again { (refusal : Refused) → self.old.refused ≡ Some refusal → (result ≡ Err refusal) × (sink.new ≡ sink.old) × (names.new ≡ names.old) }
     {
