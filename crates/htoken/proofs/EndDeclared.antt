@@ -19,7 +19,6 @@ use Rattle.htoken.specs.declared.state.State.TheVariants as state
 use Rattle.htoken.specs.declared.token.Token.{Token}
 use Rattle.htoken.specs.declared.tokenizer.Tokenizer.{Tokenizer}
 use Rattle.htoken.specs.Data.{IsDataSpan, is_declaration, bogus_declaration}
-use Rattle.htoken.specs.Declaration.{IsOpened}
 use Rattle.htoken.specs.Token.{Span, Event, Comment, TokenMeans, gives_item}
 use Rattle.htoken.specs.Tokenizing.{Reads, IsHeld, IsIn, EndsHeld, held_ran_out, held_ended, less}
 use Rattle.htoken.specs.Steps.{Keeps, BeginsBogus, GivesSpan}

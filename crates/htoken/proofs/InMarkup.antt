@@ -11,16 +11,14 @@ use Rattle.names.specs.Sink.{Hands}
 use Rattle.charref.specs.Reference.{Entities}
 use Rattle.hmarkup.specs.Walk.{Ends as WalkEnds, Takes as WalkTakes, ran_out as walk_ran_out, sink_refused, goes_on as walk_goes_on, ended as walk_ended}
 use Rattle.htoken.specs.declared.state.Raised.{Raised}
-use Rattle.htoken.specs.declared.state.State.{State}
-use Rattle.htoken.specs.declared.state.State.TheVariants as state
 use Rattle.htoken.specs.declared.token.Token.{Token}
 use Rattle.htoken.specs.declared.tokenizer.Tokenizer.{Tokenizer}
 use Rattle.htoken.specs.Token.{Tok, Span, Event, TokenMeans, gives_item}
 use Rattle.htoken.specs.Standing.{Standing, next}
-use Rattle.htoken.specs.Tokens.{has_refused, events_of}
+use Rattle.htoken.specs.Tokens.{has_refused}
 use Rattle.htoken.specs.Data.{IsDataSpan}
 use Rattle.htoken.specs.Giving.{raises}
-use Rattle.htoken.specs.Tokenizing.{Reads, Takes, IsHeld, IsIn, IsLast, IsInMarkup, EndsHeld, held_ran_out, held_ended, Stands}
+use Rattle.htoken.specs.Tokenizing.{Reads, Takes, IsHeld, IsIn, IsLast, IsInMarkup, EndsHeld, held_ran_out, held_ended}
 use Rattle.htoken.specs.Steps.{Keeps, GivesSpan}
 use Rattle.htoken.proofs.Going.{stays_both, ran_out, goes_on, span_ends}
 use Rattle.htoken.proofs.Handing.{span_given}

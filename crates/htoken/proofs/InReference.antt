@@ -1,5 +1,5 @@
 -- A character after an `&`, and the input's end there.
-use Rattle.std.proofs.Common.{◌≡◌, ℕ, ◌+◌, ◌-◌, ◌<◌, ◌≤◌, Bool, true, false, ◌&&◌, eqb, List, [], ◌∷◌, ◌++◌, map, length, drop, take, reverse, sym, refl, ap, ◌∙◌, subst, Result, Ok, Err, Option, Some, None, arith, append_assoc, append-nil}
+use Rattle.std.proofs.Common.{◌≡◌, ℕ, ◌+◌, ◌-◌, ◌≤◌, Bool, true, false, ◌&&◌, eqb, List, [], ◌∷◌, ◌++◌, map, length, drop, take, reverse, sym, refl, ap, ◌∙◌, subst, Result, Ok, Err, Option, arith, append_assoc, append-nil}
 use Rattle.std.proofs.lemmas.List.{drop-append-le, take-append-le}
 use Rattle.std.proofs.Math.Seq.{drop-append_seam, take-append_seam}
 use Rattle.std.proofs.Math.ListN.{length-append}
@@ -11,7 +11,7 @@ use Rattle.names.specs.declared.raw.RawKind.{RawKind}
 use Rattle.names.specs.declared.raw.RawKind.TheVariants as kind
 use Rattle.names.specs.declared.refusal.Refusal.{Refusal}
 use Rattle.names.specs.Names.{Texts}
-use Rattle.names.specs.Placed.{all, begins, past, is_alphanumeric, error, error_if}
+use Rattle.names.specs.Placed.{begins, past, is_alphanumeric, error_if}
 use Rattle.charref.specs.declared.reference.Reference.{Reference}
 use Rattle.charref.specs.Pieces.{IsRead, characters_of, errors_of}
 use Rattle.charref.specs.Reference.{Entities, IsTable, IsReference}
@@ -23,16 +23,13 @@ use Rattle.htoken.specs.declared.tokenizer.Tokenizer.{Tokenizer}
 use Rattle.htoken.specs.Token.{Tok, Span, Item, Event, Gives, Reports, Char, piece_span}
 use Rattle.htoken.specs.Standing.{Standing, next}
 use Rattle.htoken.specs.Raw.{is_raw, is_script}
-use Rattle.htoken.specs.Script.{HasFront}
-use Rattle.htoken.specs.Spans.{IsSpan, has_references}
+use Rattle.htoken.specs.Spans.{has_references}
 use Rattle.htoken.specs.Giving.{known_errors, piece_events, read_events}
-use Rattle.htoken.specs.Run.{run_events}
-use Rattle.htoken.specs.Tokens.{tokens_in, errors_in, AreFront, eof_of, tokens_of, events_of}
+use Rattle.htoken.specs.Tokens.{tokens_in, eof_of, tokens_of}
 use Rattle.htoken.specs.Handing.{HandsEvents}
 use Rattle.htoken.specs.Steps.{Stays, Keeps, BeginsReference}
-use Rattle.htoken.specs.Tokenizing.{Stands, Reads, IsInRun, Takes, take_took, take_sink_refused, holds, in_run, IsHeld, IsIn, IsLast, IsBetween, IsInReference, EndsHeld, held_ended, later_errors, next_place}
+use Rattle.htoken.specs.Tokenizing.{Stands, Reads, IsInRun, Takes, take_took, take_sink_refused, in_run, IsHeld, IsIn, IsLast, IsBetween, IsInReference, EndsHeld, held_ended, later_errors, next_place}
 use Rattle.htoken.proofs.Going.{goes_on, span_ends}
-use Rattle.htoken.proofs.InRaw.{after_characters}
 use Rattle.htoken.proofs.Pending.{stands_on, stands_told, later_on, later_told}
 use Rattle.htoken.proofs.Referring.{is_kept, all-drop, held_kept, run_errors, after_reference, stands_read, plain_span, plain_is, alphanumeric_kept, reference_is, no_tag, gives_some, next_is}
 

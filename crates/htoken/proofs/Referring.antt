@@ -1,7 +1,7 @@
 -- Where a reference stands, and what follows it as text.
-use Rattle.std.proofs.Common.{◌≡◌, ℕ, suc, ◌+◌, ◌-◌, ◌<◌, ◌≤◌, Bool, true, false, not, cond, ◌&&◌, ◌||◌, eqb, List, [], ◌∷◌, ◌++◌, map, length, drop, take, reverse, zero, sym, refl, ap, ◌∙◌, subst, Result, Ok, Err, Option, Some, None, arith, append_assoc, append-nil}
+use Rattle.std.proofs.Common.{◌≡◌, ℕ, suc, Bool, true, false, not, cond, ◌&&◌, ◌||◌, eqb, List, [], ◌∷◌, ◌++◌, map, length, drop, take, reverse, zero, sym, refl, ap, ◌∙◌, subst, Option, Some, None, arith, append_assoc, append-nil}
 use Rattle.std.proofs.lemmas.Bool.Decides.{nat_tests}
-use Rattle.std.proofs.lemmas.List.{take-append-drop, drop-append-le, take-append-le}
+use Rattle.std.proofs.lemmas.List.{take-append-drop}
 use Rattle.std.specs.Prelude.{nat_eq, nat_lt}
 use Rattle.std.specs.List.{list_all, starts_with}
 use Rattle.names.specs.declared.error.ErrorCode.TheVariants.{UnknownNamedCharacterReference}
@@ -9,33 +9,26 @@ use Rattle.names.specs.declared.error.ParseError.{ParseError}
 use Rattle.names.specs.declared.placed.Placed.{Placed}
 use Rattle.names.specs.declared.raw.RawKind.{RawKind}
 use Rattle.names.specs.declared.raw.RawKind.TheVariants as kind
-use Rattle.names.specs.declared.refusal.Refusal.{Refusal}
-use Rattle.names.specs.Names.{Texts}
-use Rattle.names.specs.Placed.{all, begins, past, is_alphanumeric, error_if, without_null}
+use Rattle.names.specs.Placed.{all, begins, past, is_alphanumeric, error_if}
 use Rattle.charref.specs.declared.number.Base.{Base}
 use Rattle.charref.specs.declared.number.Base.TheVariants.{Decimal, Hexadecimal}
 use Rattle.charref.specs.declared.reference.Reference.{Reference}
 use Rattle.charref.specs.declared.state.State.{State as WalkState}
 use Rattle.charref.specs.Held.{IsHeld as IsWalkHeld, IsSign, in_name, after_sign, after_x, in_number, number_sign, small_x, capital_x}
 use Rattle.charref.specs.Number.{is_digit_of}
-use Rattle.charref.specs.Pieces.{IsRead, characters_of, errors_of}
+use Rattle.charref.specs.Pieces.{characters_of, errors_of}
 use Rattle.charref.specs.Reference.{Entities, Entry, Piece, IsTable, IsReference, longest, longer, is_empty_list, named, kept, unknown, decimal, hexadecimal, no_digits, alone}
 use Rattle.hmarkup.specs.CommentWalk.{backwards}
 use Rattle.hmarkup.proofs.Marks.{and_parts, and_both, and_no}
 use Rattle.hmarkup.proofs.Characters.{no_null_error}
-use Rattle.htoken.specs.declared.state.State.{State}
-use Rattle.htoken.specs.declared.state.State.TheVariants as state
-use Rattle.htoken.specs.declared.tokenizer.Tokenizer.{Tokenizer}
-use Rattle.htoken.specs.Token.{Tok, Span, Item, Event, Gives, Reports, Char, piece_span}
+use Rattle.htoken.specs.Token.{Tok, Span, Event, Gives, Char, piece_span}
 use Rattle.htoken.specs.Standing.{Standing, next}
 use Rattle.htoken.specs.Data as d
 use Rattle.htoken.specs.Data.{character_span}
-use Rattle.htoken.specs.Raw.{is_raw, is_script}
 use Rattle.htoken.specs.Spans.{IsSpan, IsSpanOf, has_references, raw_character, raw_reference}
 use Rattle.htoken.specs.Giving.{known_errors, piece_events, read_events}
 use Rattle.htoken.specs.Run.{run_events}
-use Rattle.htoken.specs.Tokens.{has_refused, tokens_in, errors_in, AreFront, eof_of}
-use Rattle.htoken.specs.Handing.{HandsEvents}
+use Rattle.htoken.specs.Tokens.{has_refused, tokens_in, errors_in}
 use Rattle.htoken.specs.Tokenizing.{Stands}
 use Rattle.htoken.proofs.Cutting.{tokens_in-append, errors_in-append, tokens_in-map, errors_in-map}
 use Rattle.htoken.proofs.InRaw.{after_characters, raw_span}
@@ -206,7 +199,7 @@ module _ (table : Entities) (start : RawKind) (end : ℕ) (front : List Placed) 
       let span : Span = piece_span piece in
       let one = stands_on table start end front (drop count text ++ rest) here taken span [] s (reference_is table end here (drop count text ++ rest) piece may is) (no_tag (characters_of found.characters) at) in
       let two = subst (λ (x : Standing). Stands table start end (front ++ (amp ∷ take count text)) (drop count text ++ rest) x (taken ++ map Gives span.tokens) (errors_of found at after))
-          (next_is here (amp ∷ take count text) (errors_of found at after) (characters_of found.characters) (gives_some table (drop count text ++ rest) piece is_table is)) one in
+      (next_is here (amp ∷ take count text) (errors_of found at after) (characters_of found.characters) (gives_some table (drop count text ++ rest) piece is_table is)) one in
       stands_same table start end (front ++ (amp ∷ take count text)) (drop count text ++ rest) there (taken ++ map Gives span.tokens) (taken ++ piece_events found at) (errors_of found at after) (run_errors found at after)
       (tokens_in-append taken (piece_events found at) ∙ ap (λ (x : List Tok). tokens_in taken ++ x) (piece_tokens found at ∙ sym (tokens_in-map [] span.tokens)) ∙ sym (tokens_in-append taken (map Gives span.tokens)))
       (ap (λ (x : List ParseError). x ++ run_errors found at after) (errors_in-append taken (piece_events found at) ∙ ap (λ (x : List ParseError). errors_in taken ++ x) (piece_errors found at)) ∙ append_assoc (errors_in taken) (known_errors found at) (run_errors found at after)

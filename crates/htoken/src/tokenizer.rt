@@ -15,6 +15,7 @@ ghost use Rattle.htoken.specs.Token.{Event, Gives, Reports, Eof, Comment, End, T
 ghost use Rattle.names.specs.declared.error.ErrorCode.TheVariants.{EofBeforeTagName};
 ghost use Rattle.htoken.specs.Data.{character_span, less_span};
 ghost use Rattle.htoken.specs.Giving.{items_of, read_events};
+ghost use Rattle.htoken.specs.HeldFrom.{HoldsFrom};
 ghost use Rattle.htoken.specs.Handing.{HandsEvents};
 ghost use Rattle.htoken.specs.Tokens.{events_of};
 ghost use Rattle.htoken.specs.Standing.{start_kind};
@@ -116,7 +117,7 @@ impl<'t> Tokenizer<'t> {
             → Takes (gives_item S.gives S.gives_token) table start text (record { ch = ch; at = place } ∷ []) taken names.new sink.old result sink.new self.new }
         ensures grows { Grows names.old names.new }
 
-        // Where it answers a refusal, it answers the same to every later call, and hands over nothing.
+        // After a refusal every later call returns the same one, and hands over nothing.
         ensures refused { IfErr result (λ refusal. self.new.refused ≡ Some refusal) }
         ensures again { (refusal : Refused) → self.old.refused ≡ Some refusal → (result ≡ Err refusal) × (sink.new ≡ sink.old) × (names.new ≡ names.old) }
     {
@@ -134,8 +135,28 @@ impl<'t> Tokenizer<'t> {
         }
     }
 
+    /// The place of the first character that is held back, or, where none is, one more than the last place fed. Whatever comes
+    /// after, every token before it has been handed over.
+    pub fn held_from(&self) -> u64
+        ensures { (table : Entities) (start : Kind) (names : Texts) (text : List Character) (taken : List Event) → HasTaken table start self.now names text taken → HoldsFrom table start text taken result }
+    {
+        match self.state {
+            State::Text => self.next,
+            State::Run(_) => self.next,
+            State::Less => self.at,
+            State::LessSolidus(_) => self.at,
+            State::Declaration(_, _) => self.at,
+            State::Comment => self.at,
+            State::Doctype => self.at,
+            State::Tag => self.at,
+            State::Reference => self.at,
+            State::RawLess => self.at,
+            State::RawName(_) => self.at,
+        }
+    }
+
     /// Whether nothing is held, and data stands here.
-    pub fn is_in_data(&self) -> bool
+    fn is_in_data(&self) -> bool
         ensures { MatchBool result ((self.now.state ≡ State.Text) × (self.now.kind ≡ RawKind.None)) (Unit {0}) }
     {
         matches!(self.state, State::Text) && matches!(self.kind, RawKind::None)
@@ -171,7 +192,7 @@ impl<'t> Tokenizer<'t> {
         answer
     }
 
-    /// Says that the input ends; `end` is its length. Nothing is known of a call after one that answered Ok.
+    /// Says that the input ends; `end` is its length. Nothing is known of a call after one that returned Ok.
     pub fn finish<S: TokenSink>(
         &mut self,
         names: &mut Names,
@@ -182,7 +203,7 @@ impl<'t> Tokenizer<'t> {
             → Finishes (gives_item S.gives S.gives_token) table start end text taken names.new sink.old result sink.new }
         ensures grows { Grows names.old names.new }
 
-        // Where it answers a refusal, it answers the same to every later call, and hands over nothing.
+        // After a refusal every later call returns the same one, and hands over nothing.
         ensures refused { IfErr result (λ refusal. self.new.refused ≡ Some refusal) }
         ensures again { (refusal : Refused) → self.old.refused ≡ Some refusal → (result ≡ Err refusal) × (sink.new ≡ sink.old) × (names.new ≡ names.old) }
     {
@@ -672,7 +693,13 @@ impl<'t> Tokenizer<'t> {
     }
 
     /// Ends the reference that this character has shown, and reads again what does not belong to it.
-    fn end_reference<S: TokenSink>(&mut self, found: &Reference, ch: char, at: u64, sink: &mut S) -> Result<(), Refusal>
+    fn end_reference<S: TokenSink>(
+        &mut self,
+        found: &Reference,
+        ch: char,
+        at: u64,
+        sink: &mut S,
+    ) -> Result<(), Refusal>
         requires { self.old.state ≡ State.Reference }
         ensures { (table : Entities) (start : Kind) (names : Texts) (text : List Character) (taken : List Event) → ((after : List Character) → IsRead table false (self.old.held.items ++ record { ch = ch; at = at } ∷ []) after found.now)
             → Reads table start self.old names text (record { ch = ch; at = at } ∷ []) taken → Takes (gives_item S.gives S.gives_token) table start text (record { ch = ch; at = at } ∷ []) taken names sink.old result sink.new self.new }
@@ -703,7 +730,12 @@ impl<'t> Tokenizer<'t> {
     }
 
     /// Hands over a reference, and what is held after so many characters, which do not belong to it.
-    fn give_reference<S: TokenSink>(&self, found: &Reference, count: usize, sink: &mut S) -> Result<(), Refusal>
+    fn give_reference<S: TokenSink>(
+        &self,
+        found: &Reference,
+        count: usize,
+        sink: &mut S,
+    ) -> Result<(), Refusal>
         ensures { (names : Texts) → HandsEvents (gives_item S.gives S.gives_token) names sink.old (read_events found.now self.now.at self.now.held.items count) result sink.new }
     {
         give_piece(found, self.at, sink)?;
@@ -711,7 +743,13 @@ impl<'t> Tokenizer<'t> {
     }
 
     /// Ends an `&` that no key begins, in the run of alphanumerics after it.
-    fn end_in_run<S: TokenSink>(&mut self, found: &Reference, ch: char, at: u64, sink: &mut S) -> Result<(), Refusal>
+    fn end_in_run<S: TokenSink>(
+        &mut self,
+        found: &Reference,
+        ch: char,
+        at: u64,
+        sink: &mut S,
+    ) -> Result<(), Refusal>
         requires state { self.old.state ≡ State.Reference }
         requires run { found.now.in_run ≡ true }
         ensures { (table : Entities) (start : Kind) (names : Texts) (text : List Character) (taken : List Event) → ((after : List Character) → IsRead table false (self.old.held.items ++ record { ch = ch; at = at } ∷ []) after found.now)
@@ -727,7 +765,13 @@ impl<'t> Tokenizer<'t> {
     }
 
     /// In the run of alphanumerics after an `&` that no key begins (13.2.5.74).
-    fn in_run<S: TokenSink>(&mut self, amp: u64, ch: char, at: u64, sink: &mut S) -> Result<(), Refusal>
+    fn in_run<S: TokenSink>(
+        &mut self,
+        amp: u64,
+        ch: char,
+        at: u64,
+        sink: &mut S,
+    ) -> Result<(), Refusal>
         requires { self.old.state ≡ State.Run amp }
         ensures { (table : Entities) (start : Kind) (names : Texts) (text : List Character) (taken : List Event) → IsInRun table start self.old names text (record { ch = ch; at = at } ∷ []) taken
             → Takes (gives_item S.gives S.gives_token) table start text (record { ch = ch; at = at } ∷ []) taken names sink.old result sink.new self.new }

@@ -1,4 +1,4 @@
-use Rattle.std.proofs.Common.{ℕ, List, ◌++◌, map, sym, ap, ◌∙◌, subst, append_assoc, Err}
+use Rattle.std.proofs.Common.{ℕ, List, ◌++◌, map, sym, ◌∙◌, subst, append_assoc, Err}
 use Rattle.std.specs.Prelude.{option_to_list}
 use Rattle.std.proofs.lemmas.Result.{err_from_is_err_and}
 use Rattle.names.specs.declared.error.ErrorCode.TheVariants.{MissingSemicolonAfterCharacterReference}
@@ -7,7 +7,7 @@ use Rattle.names.specs.Sink.{Hands}
 use Rattle.charref.specs.Pieces.{characters_of}
 use Rattle.htoken.specs.declared.token.Token.TheVariants as code
 use Rattle.htoken.specs.Handing.{HandsEvents}
-use Rattle.htoken.specs.Token.{gives_item, Event, Reports, Gives, Char}
+use Rattle.htoken.specs.Token.{gives_item, Event, Reports}
 use Rattle.htoken.proofs.Handing.{HandsEvents-append}
 use Rattle.htoken.proofs.Running.{place_given, in_three, tokens_left, errors_left}
 use Rattle.htoken.proofs.hand.give_piece.Goals as goal

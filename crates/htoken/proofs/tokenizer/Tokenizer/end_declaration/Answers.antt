@@ -1,8 +1,6 @@
-use Rattle.std.proofs.Common.{refl, rules, ap, Err, []}
+use Rattle.std.proofs.Common.{refl, []}
 use Rattle.std.proofs.lemmas.Result.{err_from_is_err_and}
 use Rattle.hmarkup.specs.declared.comment.CommentKind.TheVariants.{Bogus}
-use Rattle.names.specs.declared.refusal.Refusal.{Refusal}
-use Rattle.htoken.specs.Tokenizing.{held_ran_out}
 use Rattle.htoken.proofs.EndDeclared.{declared_stopped, declared_cut}
 use Rattle.htoken.proofs.tokenizer.Tokenizer.end_declaration.Goals as goal
 

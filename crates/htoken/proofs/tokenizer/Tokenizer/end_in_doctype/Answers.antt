@@ -1,6 +1,5 @@
 use Rattle.std.proofs.Common.{refl}
 use Rattle.std.proofs.lemmas.Result.{err_from_is_err_and}
-use Rattle.htoken.specs.Token.{gives_item}
 use Rattle.htoken.specs.Tokenizing.{doctype_token}
 use Rattle.hmarkup.specs.Doctype.{IsDoctype}
 use Rattle.hmarkup.specs.DoctypeWalk.{HasReadDoctype}

@@ -1,4 +1,4 @@
-use Rattle.std.proofs.Common.{refl, subst, ap}
+use Rattle.std.proofs.Common.{refl, subst}
 use Rattle.htoken.specs.Giving.{read_events}
 use Rattle.htoken.specs.Handing.{HandsEvents}
 use Rattle.htoken.specs.Token.{gives_item}

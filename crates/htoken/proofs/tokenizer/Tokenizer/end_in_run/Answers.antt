@@ -1,4 +1,4 @@
-use Rattle.std.proofs.Common.{◌≡◌, true, refl, subst, arith, rules, Ok, Err}
+use Rattle.std.proofs.Common.{◌≡◌, true, refl, subst, arith, Ok, Err}
 use Rattle.std.proofs.lemmas.Bool.Decides.{nat_tests}
 use Rattle.std.proofs.lemmas.Result.{err_from_is_err_and}
 use Rattle.names.specs.Placed.{is_alphanumeric}

@@ -1,4 +1,4 @@
-use Rattle.std.proofs.Common.{subst, drop, sym, ◌∙◌, ap}
+use Rattle.std.proofs.Common.{subst, drop, ◌∙◌, ap}
 use Rattle.std.proofs.lemmas.Result.{err_from_is_err_and}
 use Rattle.names.specs.Sink.{Hands}
 use Rattle.htoken.specs.Run.{run_tokens}

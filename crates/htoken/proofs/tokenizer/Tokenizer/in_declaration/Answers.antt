@@ -1,7 +1,5 @@
-use Rattle.std.proofs.Common.{◌≡◌, refl, rules, subst, [], ◌∷◌, ◌++◌}
-use Rattle.names.specs.declared.placed.Placed.{Placed}
+use Rattle.std.proofs.Common.{refl, rules}
 use Rattle.htoken.specs.Token.{gives_item}
-use Rattle.htoken.specs.Declaration.{IsOpened, OpensAs}
 use Rattle.htoken.proofs.Going.{ran_out}
 use Rattle.htoken.proofs.InData.{opened_by, front_grows, comment_begins, doctype_begins, cdata_opened, declaration_follows}
 use Rattle.htoken.proofs.tokenizer.Tokenizer.in_declaration.Goals as goal
