@@ -96,7 +96,7 @@ module _ {N : Type 0} where
       go l r (in_kids e a z) = rw (e, spot_below-absent m p (Some b) rest z, either-none (spot_below m (Some b) None kids), children_of-absent m rest z, join-none (children_of m kids)) (l a)
       go l r (in_rest e a z) = rw (e, spot_below-absent m (Some b) None kids a, children_of-absent m kids a) (r z)
 
-  spot-children : (m : ℕ) (f : Forest N) → times m f ≡ 1 → option_map (λ s. s.children) (spot_of m f) ≡ Some (children_of m f)
+  pub spot-children : (m : ℕ) (f : Forest N) → times m f ≡ 1 → option_map (λ s. s.children) (spot_of m f) ≡ Some (children_of m f)
   spot-children m none h = absurd (omega arith)
   spot-children m (tree b w kids rest) h = go (spot-children m rest) (times m rest) refl
     where

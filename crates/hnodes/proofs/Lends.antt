@@ -1,9 +1,10 @@
 -- What the calls that lend answer.
-use Rattle.std.proofs.Common.{◌≡◌, ℕ, ◌<◌, Option, Some, None, length, get_or, refl, sym, ◌∙◌, ap, arith, option_and_then, IfSome, Vec, Global, String, Box}
+use Rattle.std.proofs.Common.{◌≡◌, ℕ, ◌<◌, [], Option, Some, None, length, get_or, refl, sym, ◌∙◌, ap, arith, option_and_then, IfSome, Vec, Global, String, Box}
 use Rattle.std.specs.Option.{option_map}
 use Rattle.hnodes.specs.Forest.{times}
 use Rattle.hnodes.specs.Spots.{Spot, spot_of, parent_of, what_of, name_in, attributes_in, text_in, doctype_in}
 use Rattle.hnodes.specs.Edits.{Nodes}
+use Rattle.hnodes.specs.Passed.{own_text}
 use Rattle.hnodes.specs.Links.{Row, Look, row_at, parent_in, first_in, last_in, previous_in, next_in}
 use Rattle.hnodes.specs.Rows.{row_of, look_in, content_is}
 use Rattle.hnodes.specs.View.{nodes_of, IsTree}
@@ -110,6 +111,13 @@ no_text (content.Doctype d) h i = refl
 no_text (content.Element a b) h i = refl
 no_text (content.Comment a) h i = absurd (h a refl)
 no_text (content.Text a) h i = absurd (i a refl)
+
+pub no_characters : (w : Content) → ((a : String Global) → w ≡ content.Text a → ⊥) → [] ≡ own_text (content_is w)
+no_characters content.Document i = refl
+no_characters (content.Doctype d) i = refl
+no_characters (content.Element a b) i = refl
+no_characters (content.Comment a) i = refl
+no_characters (content.Text a) i = absurd (i a refl)
 
 pub no_doctype : (w : Content) → ((a : Box DoctypeOf Global) → w ≡ content.Doctype a → ⊥) → None ≡ doctype_in (content_is w)
 no_doctype content.Document h = refl

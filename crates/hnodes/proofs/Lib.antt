@@ -34,3 +34,5 @@ pub mod Placed
 pub mod Runs
 pub mod Siblings
 pub mod WaysUp
+pub mod TreeOrder
+pub mod TextOrder

@@ -1,10 +1,10 @@
 -- Worked rows of the definitions, which the prover computes.
 use Rattle.std.specs.Prelude.{◌≡◌, refl, ℕ, [], ◌∷◌, ◌++◌, Some, None}
 use Rattle.std.specs.Char.{encode_utf8}
-use Rattle.hnodes.specs.Forest.{Forest, none, tree, document, element, text}
+use Rattle.hnodes.specs.Forest.{Forest, none, tree, document, element, text, children_of}
 use Rattle.hnodes.specs.Spots.{parent_of, first_child_of, next_of, previous_of}
 use Rattle.hnodes.specs.Edits.{Nodes, graft_last, graft_before, move_all, add_char, add_chars, text_before}
-use Rattle.hnodes.specs.Passed.{siblings_from, ancestors_of}
+use Rattle.hnodes.specs.Passed.{siblings_from, ancestors_of, order, inside_from, texts}
 use Rattle.hnodes.specs.declared.node.Place.TheVariants.{LastIn, Before}
 
 -- an element of one name, and a text of one byte
@@ -97,3 +97,16 @@ nearest_first = refl
 
 root_in_none : ancestors_of 6 forest ≡ []
 root_in_none = refl
+
+-- each node comes before those inside it
+in_tree_order : order (children_of 0 forest) ≡ 1 ∷ 2 ∷ 3 ∷ 4 ∷ 5 ∷ []
+in_tree_order = refl
+
+from_the_middle : inside_from 0 (Some 3) forest ≡ 3 ∷ 4 ∷ 5 ∷ []
+from_the_middle = refl
+
+not_past_the_top : inside_from 1 (Some 3) forest ≡ 3 ∷ 4 ∷ []
+not_past_the_top = refl
+
+texts_joined : texts (children_of 0 (graft_last 6 3 (tree 0 document (t 2 97 (e 3 (t 4 98 none) (t 5 99 none))) (e 6 none none)))) ≡ 97 ∷ 98 ∷ 99 ∷ []
+texts_joined = refl

@@ -14,4 +14,4 @@ mod walks;
 pub use laws::{edits_know_no_names, questions_know_no_names};
 pub use node::{Doctype, Kind, NodeId, Place};
 pub use tree::Tree;
-pub use walks::{Ancestors, Children};
+pub use walks::{Ancestors, Children, Descendants};

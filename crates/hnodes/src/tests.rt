@@ -330,6 +330,45 @@ fn children_and_ancestors_come_in_their_order(rt: HostRuntime) -> Result<(), Fai
     Ok(())
 }
 
+#[test]
+fn descendants_come_in_tree_order(rt: HostRuntime) -> Result<(), Fail> {
+    let mut tree = family(4, rt.alloc())?;
+    let second = NodeId { number: 2 };
+    let document = NodeId { number: 0 };
+    for c in ['a', 'b'] {
+        if tree.has(second) {
+            tree.put_char(c, Place::LastIn(second), 0)?;
+        }
+    }
+    let comment = String::from_str(rt.alloc(), "no text")?;
+    let comment = tree.create_comment(comment, 0)?;
+    if tree.has(document)
+        && tree.has(comment)
+        && !tree.is_inside(document, comment)
+        && comment.index() > 0
+    {
+        tree.append(comment, document);
+    }
+    if tree.has(document) {
+        tree.put_text("cd", Place::LastIn(document), 0)?;
+    }
+    let mut found = Vec::new(rt.alloc());
+    let first = NodeId { number: 1 };
+    if tree.has(first) {
+        for node in tree.descendants(first) {
+            found.push(node.index())?;
+        }
+    }
+    assert!(rt; found.as_slice() == [2, 5, 3, 4].as_slice());
+    for node in tree.descendants(tree.document()) {
+        found.push(node.index())?;
+    }
+    assert!(rt; found.as_slice() == [2, 5, 3, 4, 1, 2, 5, 3, 4, 6, 7].as_slice());
+    let text = tree.text_content(rt.alloc(), tree.document())?;
+    assert_eq!(rt; text.as_str(), "abcd");
+    Ok(())
+}
+
 #[derive(Clone, Copy)]
 enum Move {
     Append,

@@ -3,9 +3,10 @@
 ghost use Rattle.std.specs.Prelude.{◌≡◌, ◌<◌, ◌≤◌, ◌↔◌, ◌⊎◌, ℕ, Some, None, OnOk, OnErr, IfOk, IfErr, IfSome, IsSome, IsFalse, IsTrue, map, string_bytes, length, leb, nat_eq, if◌then◌else◌};
 ghost use Rattle.std.specs.Option.{option_map};
 ghost use Rattle.hnodes.specs.Forest.{document, doctype, element, comment, text, tree, none, change_what, IsOutside};
-ghost use Rattle.hnodes.specs.Spots.{parent_of, first_child_of, last_child_of, next_of, previous_of, kind_of, name_of, attributes_of, value_of, text_of, doctype_of};
+ghost use Rattle.hnodes.specs.Spots.{parent_of, first_child_of, last_child_of, next_of, previous_of, kind_of, what_of, name_of, attributes_of, value_of, text_of, doctype_of};
 ghost use Rattle.hnodes.specs.Edits.{make, graft, graft_last, graft_before, move_all, add_attribute, add_char, add_chars, with_char, with_text, text_before, IsPlace, place_node, AreNodes};
 ghost use Rattle.hnodes.specs.Makes.{Makes};
+ghost use Rattle.hnodes.specs.Passed.{own_text as own_text_of};
 ghost use Rattle.hnodes.specs.declared.node.Place.{Place};
 ghost use Rattle.hnodes.specs.Rows.{attribute_of, content_is, doctype_texts};
 ghost use Rattle.names.specs.Tags.{tag_of};
@@ -453,6 +454,17 @@ impl Tree {
             Content::Text(text) => Some(text),
             Content::Comment(text) => Some(text),
             _ => None,
+        }
+    }
+
+    /// The characters of a text; nothing of another node.
+    pub(crate) fn own_text(&self, at: NodeId) -> &str
+        requires { at < self.now.made }
+        ensures { Some result.now ≡ option_map own_text_of (what_of at self.now.trees) }
+    {
+        match &self.nodes[at.number as usize].content {
+            Content::Text(text) => text,
+            _ => "",
         }
     }
 

@@ -1,11 +1,14 @@
 //! Walks over the nodes of a tree.
 
-ghost use Rattle.std.specs.Prelude.{◌≡◌, ◌<◌};
+ghost use Rattle.std.specs.Prelude.{◌≡◌, ◌<◌, ◌∷◌, Some, IfOk, IfSome, IsTrue, string_bytes};
+ghost use Rattle.std.specs.List.{All};
+ghost use Rattle.hnodes.specs.Edits.{AreNodes};
 ghost use Rattle.hnodes.specs.Forest.{roots, children_of};
-ghost use Rattle.hnodes.specs.Passed.{ancestors_of};
+ghost use Rattle.hnodes.specs.Passed.{ancestors_of, way_up, order, after_each, inside_from, is_among, texts};
 
 use crate::node::NodeId;
 use crate::tree::Tree;
+use std::alloc::{AllocError, Global};
 use std::marker::Model;
 
 /// The children of a node, in their order. From [`Tree::children`].
@@ -47,6 +50,68 @@ impl Tree {
             tree: self,
             next: self.parent(at),
         }
+    }
+
+    /// The nodes inside a node in tree order: its first child, what is inside that, then the next child, and so on. The whole walk
+    /// takes as many steps as there are nodes.
+    pub fn descendants(&self, at: NodeId) -> Descendants
+        requires { at < self.now.made }
+        ensures order { result ≡ order (children_of at self.now.trees) }
+        ensures within { All (λ n. n < self.now.made) result }
+        ensures nodes { AreNodes self.now }
+    {
+        let next = self.first_child(at);
+        Descendants {
+            tree: self,
+            top: at,
+            next,
+        }
+    }
+
+    /// The characters of all texts inside a node in tree order, one after another. Takes as many steps as there are nodes inside it
+    /// and bytes in their texts.
+    pub fn text_content(&self, alloc: Global, at: NodeId) -> Result<String, AllocError>
+        requires { at < self.now.made }
+        ensures { IfOk result (λ t. string_bytes t ≡ texts (children_of at self.now.trees)) }
+    {
+        let mut all = String::new(alloc);
+        for node in self.descendants(at) {
+            all.push_str(self.own_text(node))?;
+        }
+        Ok(all)
+    }
+
+    /// The node after another in tree order, of those inside `top`.
+    fn next_inside(&self, at: NodeId, top: NodeId) -> Option<NodeId>
+        requires made { at < self.now.made }
+        requires inside { IsTrue (is_among top (ancestors_of at self.now.trees)) }
+        ensures next { inside_from top (Some at) self.now.trees ≡ at ∷ inside_from top result self.now.trees }
+        ensures inside { IfSome result (λ n. (n < self.now.made) × IsTrue (is_among top (ancestors_of n self.now.trees))) }
+    {
+        match self.first_child(at) {
+            Some(child) => Some(child),
+            None => self.next_outside(at, top),
+        }
+    }
+
+    /// The first node in tree order after another and all those inside it, of those inside `top`.
+    fn next_outside(&self, at: NodeId, top: NodeId) -> Option<NodeId>
+        requires made { at < self.now.made }
+        requires inside { IsTrue (is_among top (way_up (Some at) self.now.trees)) }
+        ensures next { after_each top (way_up (Some at) self.now.trees) self.now.trees ≡ inside_from top result self.now.trees }
+        ensures inside { IfSome result (λ n. (n < self.now.made) × IsTrue (is_among top (ancestors_of n self.now.trees))) }
+    {
+        let mut above = at;
+        while above != top {
+            if let Some(next) = self.next(above) {
+                return Some(next);
+            }
+            match self.parent(above) {
+                Some(parent) => above = parent,
+                None => return None,
+            }
+        }
+        None
     }
 }
 
@@ -98,6 +163,42 @@ impl<'a> Iterator for Ancestors<'a> {
     fn next(&mut self) -> Option<NodeId> {
         let node = self.next?;
         self.next = self.tree.parent(node);
+        Some(node)
+    }
+}
+
+/// The nodes inside a node, in tree order. From [`Tree::descendants`].
+#[derive(Drop)]
+pub struct Descendants<'a> {
+    tree: &'a Tree,
+    top: NodeId,
+    next: Option<NodeId>,
+}
+
+impl<'a> Model for Descendants<'a> {
+    ghost use Rattle.std.specs.Prelude.{ℕ, List, ◌<◌, IfSome, IsTrue};
+    ghost use Rattle.hnodes.specs.Passed.{inside_from, is_among, ancestors_of};
+
+    ghost Value = { List ℕ };
+
+    ghost view = { λ s. inside_from s.top s.next s.tree.now.trees };
+
+    ghost invariant = { λ s. IfSome s.next (λ n. (n < s.tree.now.made) × IsTrue (is_among s.top (ancestors_of n s.tree.now.trees))) };
+}
+
+impl<'a> Iterator for Descendants<'a> {
+    ghost use Rattle.std.specs.Prelude.{length};
+    ghost use Rattle.std.specs.Iterator.{YieldsFirst, at_most};
+
+    type Item = NodeId;
+
+    ghost next_gives = { YieldsFirst (λ s. s) };
+
+    ghost remaining = { λ s. at_most (length s) };
+
+    fn next(&mut self) -> Option<NodeId> {
+        let node = self.next?;
+        self.next = self.tree.next_inside(node, self.top);
         Some(node)
     }
 }

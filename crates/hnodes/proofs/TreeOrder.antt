@@ -1,0 +1,195 @@
+-- A walk in tree order.
+use Rattle.std.proofs.Common.{◌≡◌, ℕ, ◌<◌, Bool, true, false, eqb, cond, not, List, [], ◌∷◌, ◌++◌, length, Option, Some, None, refl, sym, ◌∙◌, ap, subst, arith, drop, option_and_then, unwrap_or, ◌⊎◌, inl, inr}
+use Rattle.std.proofs.lemmas.Bool.{eqb-true, eq-eqb}
+use Rattle.std.proofs.lemmas.List.{append_assoc, append-nil}
+use Rattle.std.specs.Prelude.{IfSome, IsTrue}
+use Rattle.std.specs.Option.{option_map}
+use Rattle.hnodes.specs.Forest.{What, Forest, none, tree, times, join, children_of}
+use Rattle.hnodes.specs.Spots.{Spot, spot_of, either_of, first_or, first_child_of, next_of, parent_of, what_of}
+use Rattle.hnodes.specs.Edits.{AreCounted}
+use Rattle.hnodes.specs.Passed.{above, ancestors_of, way_up, order, trees_after, after_each, inside_from, is_among}
+use Rattle.hnodes.proofs.Forests.{some_inj, times-join, join-assoc}
+use Rattle.hnodes.proofs.Levels.{level, Here, Below}
+use Rattle.hnodes.proofs.Families.{first_child-is, spot-children, children-among}
+use Rattle.hnodes.proofs.Counted.{at-most, is-there, one-there, was-made}
+use Rattle.hnodes.proofs.ChildSpots.{spot_among, child-spot, root-spot}
+use Rattle.hnodes.proofs.WaysUp.{way-step}
+
+pub differ : (a b : ℕ) → true ≡ not (eqb a b) → eqb a b ≡ false
+differ a b e = go (eqb a b) e
+  where
+    go : (u : Bool) → true ≡ not u → u ≡ false
+    go true j = cc
+    go false j = refl
+
+module _ {N : Type 0} where
+  above-other : (n : ℕ) (up ups : List ℕ) (g : Forest N) → is_among n up ≡ false → above n up g ≡ Some ups → is_among n ups ≡ false
+  above-other n up ups none h e = cc
+  above-other n up ups (tree b w kids rest) h e = go (above-other n (b ∷ up) ups kids) (above-other n up ups rest) (eqb b n) refl e
+    where
+      go : (is_among n (b ∷ up) ≡ false → above n (b ∷ up) kids ≡ Some ups → is_among n ups ≡ false) → (is_among n up ≡ false → above n up rest ≡ Some ups → is_among n ups ≡ false)
+          → (u : Bool) → eqb b n ≡ u → cond u (Some up) (either_of (above n (b ∷ up) kids) (above n up rest)) ≡ Some ups → is_among n ups ≡ false
+      go l r true i e' = subst (λ (xs : List ℕ). is_among n xs ≡ false) (some_inj e') h
+      go l r false i e' = under (above n (b ∷ up) kids) refl e'
+        where
+          under : (o : Option (List ℕ)) → above n (b ∷ up) kids ≡ o → either_of o (above n up rest) ≡ Some ups → is_among n ups ≡ false
+          under None j k = r h k
+          under (Some xs) j k = l (rw i h) (j ∙ k)
+
+  -- no node is inside itself
+  not-own : (n : ℕ) (f : Forest N) → is_among n (ancestors_of n f) ≡ false
+  not-own n f = go (above n [] f) refl
+    where
+      go : (o : Option (List ℕ)) → above n [] f ≡ o → is_among n (unwrap_or o []) ≡ false
+      go None e = refl
+      go (Some ups) e = above-other n [] ups f refl e
+
+  pub apart : (n top : ℕ) (f : Forest N) → is_among top (ancestors_of n f) ≡ true → eqb n top ≡ false
+  apart n top f h = go (eqb n top) refl
+    where
+      go : (u : Bool) → eqb n top ≡ u → u ≡ false
+      go false e = refl
+      go true e = let same : n ≡ top = eqb-true n top e in let no : is_among top (ancestors_of n f) ≡ false = subst (λ (m : ℕ). is_among m (ancestors_of n f) ≡ false) same (not-own n f) in cc
+
+  -- a node is inside top
+  abbrev pub IsInside : (made top : ℕ) → Forest N → ℕ → Type 0
+  IsInside made top f n = (n < made) × IsTrue (is_among top (ancestors_of n f))
+
+  -- a child of node q
+  pub record Entered (made top q m : ℕ) (w : What N) (k R f : Forest N) : Type 0 where
+    pub made_is : m < made
+    pub what : what_of m f ≡ Some w
+    pub kids : children_of m f ≡ k
+    pub up : ancestors_of m f ≡ q ∷ ancestors_of q f
+    pub is : inside_from top (Some m) f ≡ order (tree m w k R) ++ after_each top (q ∷ ancestors_of q f) f
+
+  module _ (made : ℕ) (f : Forest N) (counted : AreCounted made f) (top : ℕ) where
+    parents : (n : ℕ) → n < made → ancestors_of n f ≡ way_up (parent_of n f) f
+    parents n h = ap (λ (xs : List ℕ). drop 1 xs) (way-step made f counted n h)
+
+    pub entered : (q m : ℕ) (w : What N) (L k R : Forest N) → q < made → children_of q f ≡ join L (tree m w k R) → Entered made top q m w k R f
+    entered q m w L k R h is = record { made_is = low; what = ap (option_map (λ (s : Spot N). s.what)) spot; kids = kids; up = up; is = whole }
+      where
+        some : 0 < times m (join L (tree m w k R))
+        some = rw (times-join m L (tree m w k R), eq-eqb m m refl) (omega arith)
+
+        there : 0 < times m f
+        there = let a : 0 < times m (children_of q f) = rw is some in omega (arith, children-among m q f)
+
+        once : times m f ≡ 1
+        once = one-there made f counted m there
+
+        low : m < made
+        low = was-made made f counted m there
+
+        spot : spot_of m f ≡ Some (spot_among m q w L k R (Some q) None)
+        spot = child-spot m q w L k R f (is-there made f counted q h) once is
+
+        kids : children_of m f ≡ k
+        kids = sym (some_inj (ap (option_map (λ (s : Spot N). s.children)) (sym spot) ∙ spot-children m f once))
+
+        up : ancestors_of m f ≡ q ∷ ancestors_of q f
+        up = parents m low ∙ ap (λ o. way_up (option_and_then (λ (s : Spot N). s.parent) o) f) spot
+
+        whole : inside_from top (Some m) f ≡ order (tree m w k R) ++ after_each top (q ∷ ancestors_of q f) f
+        whole = (λ i. (m ∷ order (kids i)) ++ (order (trees_after (spot i)) ++ after_each top (up i) f)) ∙ sym (append_assoc (m ∷ order k) (order R) (after_each top (q ∷ ancestors_of q f) f))
+
+    -- the first child
+    pub begins : top < made → inside_from top (first_child_of top f) f ≡ order (children_of top f)
+    begins h = ap (λ o. inside_from top o f) (first_child-is top f (is-there made f counted top h)) ∙ go (children_of top f) refl
+      where
+        go : (g : Forest N) → children_of top f ≡ g → inside_from top (first_or g None) f ≡ order g
+        go none e = refl
+        go (tree b w k R) e = (entered top b w none k R h e).is ∙ rw (eq-eqb top top refl) (append-nil (order (tree b w k R)))
+
+    -- a child of a node is inside it
+    pub child-inside : (n c : ℕ) → n < made → first_child_of n f ≡ Some c → IsTrue (is_among top (way_up (Some n) f)) → IsInside made top f c
+    child-inside n c h is inside = go (children_of n f) refl (sym (first_child-is n f (is-there made f counted n h)) ∙ is)
+      where
+        go : (g : Forest N) → children_of n f ≡ g → first_or g None ≡ Some c → IsInside made top f c
+        go none e j = cc
+        go (tree b w k R) e j = subst (λ (m : ℕ). IsInside made top f m) (some_inj j) (let a = entered n b w none k R h e in (a.made_is, rw a.up inside))
+
+    pub first-inside : top < made → IfSome (first_child_of top f) (λ c. IsInside made top f c)
+    first-inside h = go (first_child_of top f) refl
+      where
+        go : (o : Option ℕ) → first_child_of top f ≡ o → IfSome o (λ c. IsInside made top f c)
+        go None e = tt
+        go (Some c) e = child-inside top c h e (rw (eq-eqb top top refl) refl)
+
+    pub descends : (n c : ℕ) → n < made → first_child_of n f ≡ Some c → IsTrue (is_among top (ancestors_of n f)) → inside_from top (Some n) f ≡ n ∷ inside_from top (Some c) f
+    descends n c h is inside = go (children_of n f) refl (sym (first_child-is n f (is-there made f counted n h)) ∙ is)
+      where
+        go : (g : Forest N) → children_of n f ≡ g → first_or g None ≡ Some c → inside_from top (Some n) f ≡ n ∷ inside_from top (Some c) f
+        go none e j = cc
+        go (tree b w k R) e j =
+            let below : inside_from top (Some c) f ≡ order (tree b w k R) ++ (order (trees_after (spot_of n f)) ++ after_each top (ancestors_of n f) f) =
+            subst (λ (m : ℕ). inside_from top (Some m) f ≡ order (tree b w k R) ++ (order (trees_after (spot_of n f)) ++ after_each top (ancestors_of n f) f)) (some_inj j)
+            ((entered n b w none k R h e).is ∙ ap (λ u. order (tree b w k R) ++ cond u [] (order (trees_after (spot_of n f)) ++ after_each top (ancestors_of n f) f)) (apart n top f inside)) in
+            ap (λ g. n ∷ (order g ++ (order (trees_after (spot_of n f)) ++ after_each top (ancestors_of n f) f))) e ∙ ap (λ xs. n ∷ xs) (sym below)
+
+    pub leaf : (n : ℕ) → n < made → first_child_of n f ≡ None → IsTrue (is_among top (ancestors_of n f)) → inside_from top (Some n) f ≡ n ∷ after_each top (way_up (Some n) f) f
+    leaf n h is inside = go (children_of n f) refl (sym (first_child-is n f (is-there made f counted n h)) ∙ is)
+      where
+        go : (g : Forest N) → children_of n f ≡ g → first_or g None ≡ None → inside_from top (Some n) f ≡ n ∷ after_each top (way_up (Some n) f) f
+        go (tree b w k R) e j = cc
+        go none e j =
+            ap (λ g. n ∷ (order g ++ (order (trees_after (spot_of n f)) ++ after_each top (ancestors_of n f) f))) e
+            ∙ ap (λ u. n ∷ cond u [] (order (trees_after (spot_of n f)) ++ after_each top (ancestors_of n f) f)) (sym (apart n top f inside))
+
+    -- the next sibling
+    pub passes : (n m : ℕ) → n < made → next_of n f ≡ Some m → eqb n top ≡ false → IsTrue (is_among top (way_up (Some n) f))
+        → (after_each top (way_up (Some n) f) f ≡ inside_from top (Some m) f) × IsInside made top f m
+    passes n m h is other inside = go (level n f (is-there made f counted n h) (at-most made f counted))
+      where
+        Goal : Type 0
+        Goal = (after_each top (way_up (Some n) f) f ≡ inside_from top (Some m) f) × IsInside made top f m
+
+        go : Here n f ⊎ Below n f → Goal
+        go (inl p) = absurd (let no : None ≡ Some m = ap (option_and_then (λ (s : Spot N). first_or s.after None)) (sym (root-spot n p.what p.left p.kids p.right f (at-most made f counted n) p.is)) ∙ is in cc)
+        go (inr p) = rest p.right p.is (ap (option_and_then (λ (s : Spot N). first_or s.after None)) (sym spot) ∙ is) (ap trees_after spot)
+          where
+            spot : spot_of n f ≡ Some (spot_among n p.parent p.what p.left p.kids p.right (Some p.parent) None)
+            spot = child-spot n p.parent p.what p.left p.kids p.right f p.one (is-there made f counted n h) p.is
+
+            low : p.parent < made
+            low = was-made made f counted p.parent (omega (arith, p.one))
+
+            up : ancestors_of n f ≡ p.parent ∷ ancestors_of p.parent f
+            up = (entered p.parent n p.what p.left p.kids p.right low p.is).up
+
+            above : IsTrue (is_among top (ancestors_of n f))
+            above = subst (λ (u : Bool). IsTrue (cond u true (is_among top (ancestors_of n f)))) other inside
+
+            rest : (R : Forest N) → children_of p.parent f ≡ join p.left (tree n p.what p.kids R) → first_or R None ≡ Some m → trees_after (spot_of n f) ≡ R → Goal
+            rest none e j t = absurd (let no : None ≡ Some m = j in cc)
+            rest (tree b w k R) e j t =
+                let a = entered p.parent b w (join p.left (tree n p.what p.kids none)) k R low (e ∙ sym (join-assoc p.left (tree n p.what p.kids none) (tree b w k R))) in
+                subst (λ (x : ℕ). (after_each top (way_up (Some n) f) f ≡ inside_from top (Some x) f) × IsInside made top f x) (some_inj j)
+                (rw other (λ i. order (t i) ++ after_each top (up i) f) ∙ sym a.is, (a.made_is, subst (λ (xs : List ℕ). IsTrue (is_among top xs)) (up ∙ sym a.up) above))
+
+    -- no sibling
+    pub climbs : (n : ℕ) → n < made → next_of n f ≡ None → eqb n top ≡ false → after_each top (way_up (Some n) f) f ≡ after_each top (way_up (parent_of n f) f) f
+    climbs n h is other = rw other (ap (λ g. order g ++ after_each top (ancestors_of n f) f) (last (spot_of n f) is)) ∙ ap (λ xs. after_each top xs f) (parents n h)
+      where
+        last : (o : Option (Spot N)) → option_and_then (λ (s : Spot N). first_or s.after None) o ≡ None → trees_after o ≡ none
+        last None e = refl
+        last (Some s) e = under s.after e
+          where
+            under : (g : Forest N) → first_or g None ≡ None → g ≡ none
+            under none j = refl
+            under (tree b w k R) j = cc
+
+    pub shorter : (n q : ℕ) → n < made → parent_of n f ≡ Some q → length (ancestors_of q f) < length (ancestors_of n f)
+    shorter n q h is = rw (parents n h, is) (omega arith)
+
+    pub still-inside : (n : ℕ) → n < made → eqb n top ≡ false → IsTrue (is_among top (way_up (Some n) f)) → IsTrue (is_among top (way_up (parent_of n f) f))
+    still-inside n h other inside =
+        subst (λ (xs : List ℕ). IsTrue (is_among top xs)) (parents n h) (subst (λ (u : Bool). IsTrue (cond u true (is_among top (ancestors_of n f)))) other inside)
+
+    pub own-inside : (n : ℕ) → IsTrue (is_among top (ancestors_of n f)) → IsTrue (is_among top (way_up (Some n) f))
+    own-inside n h = go (eqb n top)
+      where
+        go : (u : Bool) → cond u true (is_among top (ancestors_of n f)) ≡ true
+        go true = refl
+        go false = h
