@@ -79,12 +79,9 @@ pub(crate) fn detach(nodes: &mut Vec<Node>, child: NodeId)
 {
     let node = &nodes[child.number as usize];
     let (parent, previous, next) = (node.parent, node.previous, node.next);
-    // Copies for the second call.
-    let before = previous;
-    let after = next;
     if let Some(parent) = parent.get() {
         link_after(nodes, parent, previous, next);
-        link_before(nodes, parent, after, before);
+        link_before(nodes, parent, next, previous);
         let none = Link::none();
         set_place(nodes, child, none, none, none);
     }
@@ -99,10 +96,7 @@ pub(crate) fn hook(nodes: &mut Vec<Node>, child: NodeId, parent: NodeId, previou
     requires few { length nodes.old.items ≤ u32.MAX }
     ensures { IsSeenAs (hooked child parent previous next) nodes.old.items nodes.new.items }
 {
-    // Copies for the third call.
-    let before = previous;
-    let after = next;
     link_after(nodes, parent, previous, Link::to(child));
     link_before(nodes, parent, next, Link::to(child));
-    set_place(nodes, child, Link::to(parent), before, after);
+    set_place(nodes, child, Link::to(parent), previous, next);
 }
