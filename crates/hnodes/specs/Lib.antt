@@ -5,6 +5,7 @@ pub mod Edits
 pub mod Makes
 pub mod Spelled
 pub mod Links
+pub mod Raw
 pub mod Coding
 pub mod Rows
 pub mod View

@@ -9,6 +9,8 @@ mod plain;
 #[cfg(test)]
 mod tests;
 mod tree;
+#[cfg(test)]
+mod walk_tests;
 mod walks;
 
 pub use laws::{edits_know_no_names, questions_know_no_names};

@@ -1,33 +1,33 @@
 //! The links between nodes of a vector.
 
-ghost use Rattle.std.specs.Prelude.{◌≡◌, ◌<◌, length};
+ghost use Rattle.std.specs.Prelude.{◌≡◌, ◌<◌, ◌≤◌, length};
 ghost use Rattle.hnodes.specs.Links.{with_next, with_previous, with_first, with_last, with_place, after_link, before_link, detached, hooked, parent_in, previous_in, next_in};
 ghost use Rattle.hnodes.specs.Rows.{IsChanged, IsSeenAs, IsWithin, look_in};
 
-use crate::node::{Node, NodeId};
+use crate::node::{Link, Node, NodeId};
 
-fn set_next(nodes: &mut Vec<Node>, at: NodeId, to: Option<NodeId>)
+fn set_next(nodes: &mut Vec<Node>, at: NodeId, to: Link)
     requires { at < length nodes.old.items }
     ensures { IsChanged at (with_next to) nodes.old.items nodes.new.items }
 {
     nodes[at.number as usize].next = to;
 }
 
-fn set_previous(nodes: &mut Vec<Node>, at: NodeId, to: Option<NodeId>)
+fn set_previous(nodes: &mut Vec<Node>, at: NodeId, to: Link)
     requires { at < length nodes.old.items }
     ensures { IsChanged at (with_previous to) nodes.old.items nodes.new.items }
 {
     nodes[at.number as usize].previous = to;
 }
 
-fn set_first(nodes: &mut Vec<Node>, at: NodeId, to: Option<NodeId>)
+fn set_first(nodes: &mut Vec<Node>, at: NodeId, to: Link)
     requires { at < length nodes.old.items }
     ensures { IsChanged at (with_first to) nodes.old.items nodes.new.items }
 {
     nodes[at.number as usize].first = to;
 }
 
-fn set_last(nodes: &mut Vec<Node>, at: NodeId, to: Option<NodeId>)
+fn set_last(nodes: &mut Vec<Node>, at: NodeId, to: Link)
     requires { at < length nodes.old.items }
     ensures { IsChanged at (with_last to) nodes.old.items nodes.new.items }
 {
@@ -35,13 +35,7 @@ fn set_last(nodes: &mut Vec<Node>, at: NodeId, to: Option<NodeId>)
 }
 
 /// Sets the parent of a node, and the siblings beside it.
-fn set_place(
-    nodes: &mut Vec<Node>,
-    at: NodeId,
-    parent: Option<NodeId>,
-    previous: Option<NodeId>,
-    next: Option<NodeId>,
-)
+fn set_place(nodes: &mut Vec<Node>, at: NodeId, parent: Link, previous: Link, next: Link)
     requires { at < length nodes.old.items }
     ensures { IsChanged at (with_place parent previous next) nodes.old.items nodes.new.items }
 {
@@ -52,24 +46,24 @@ fn set_place(
 }
 
 /// Sets what comes after a sibling, or first below a parent.
-fn link_after(nodes: &mut Vec<Node>, parent: NodeId, before: Option<NodeId>, to: Option<NodeId>)
+fn link_after(nodes: &mut Vec<Node>, parent: NodeId, before: Link, to: Link)
     requires parent_in { parent < length nodes.old.items }
     requires before_in { IsWithin (length nodes.old.items) before }
     ensures { IsSeenAs (after_link parent before to) nodes.old.items nodes.new.items }
 {
-    match before {
+    match before.get() {
         Some(before) => set_next(nodes, before, to),
         None => set_first(nodes, parent, to),
     }
 }
 
 /// Sets what comes before a sibling, or last below a parent.
-fn link_before(nodes: &mut Vec<Node>, parent: NodeId, after: Option<NodeId>, to: Option<NodeId>)
+fn link_before(nodes: &mut Vec<Node>, parent: NodeId, after: Link, to: Link)
     requires parent_in { parent < length nodes.old.items }
     requires after_in { IsWithin (length nodes.old.items) after }
     ensures { IsSeenAs (before_link parent after to) nodes.old.items nodes.new.items }
 {
-    match after {
+    match after.get() {
         Some(after) => set_previous(nodes, after, to),
         None => set_last(nodes, parent, to),
     }
@@ -85,34 +79,24 @@ pub(crate) fn detach(nodes: &mut Vec<Node>, child: NodeId)
 {
     let node = &nodes[child.number as usize];
     let (parent, previous, next) = (node.parent, node.previous, node.next);
-    // Copies for the second call.
-    let before = previous;
-    let after = next;
-    if let Some(parent) = parent {
+    if let Some(parent) = parent.get() {
         link_after(nodes, parent, previous, next);
-        link_before(nodes, parent, after, before);
-        set_place(nodes, child, None, None, None);
+        link_before(nodes, parent, next, previous);
+        let none = Link::none();
+        set_place(nodes, child, none, none, none);
     }
 }
 
 /// Puts a loose node below a parent, between two siblings.
-pub(crate) fn hook(
-    nodes: &mut Vec<Node>,
-    child: NodeId,
-    parent: NodeId,
-    previous: Option<NodeId>,
-    next: Option<NodeId>,
-)
+pub(crate) fn hook(nodes: &mut Vec<Node>, child: NodeId, parent: NodeId, previous: Link, next: Link)
     requires child_in { child < length nodes.old.items }
     requires parent_in { parent < length nodes.old.items }
     requires previous_in { IsWithin (length nodes.old.items) previous }
     requires next_in { IsWithin (length nodes.old.items) next }
+    requires few { length nodes.old.items ≤ u32.MAX }
     ensures { IsSeenAs (hooked child parent previous next) nodes.old.items nodes.new.items }
 {
-    // Copies for the third call.
-    let before = previous;
-    let after = next;
-    link_after(nodes, parent, previous, Some(child));
-    link_before(nodes, parent, next, Some(child));
-    set_place(nodes, child, Some(parent), before, after);
+    link_after(nodes, parent, previous, Link::to(child));
+    link_before(nodes, parent, next, Link::to(child));
+    set_place(nodes, child, Link::to(parent), previous, next);
 }

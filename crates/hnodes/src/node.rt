@@ -1,6 +1,6 @@
 //! Nodes and their numbers.
 
-ghost use Rattle.std.specs.Prelude.{◌≡◌, ◌<◌, OnOk, OnErr, IfErr, length};
+ghost use Rattle.std.specs.Prelude.{◌≡◌, ◌<◌, Some, None, OnOk, OnErr, IfErr, length};
 ghost use Rattle.hnodes.specs.Edits.{with_char, with_text, with_attribute};
 ghost use Rattle.hnodes.specs.Links.{alone, with_what};
 ghost use Rattle.hnodes.specs.Rows.{attribute_of, content_is, row_of, IsChanged, IsUnchanged};
@@ -70,15 +70,66 @@ pub(crate) enum Content {
     Text(String),
 }
 
+/// A link to a node, or none, in four bytes.
+#[derive(Clone, Copy)]
+pub(crate) struct Link {
+    /// 0 for none; one more than the number of the node.
+    raw: u32,
+}
+
+impl Model for Link {
+    ghost use Rattle.std.specs.Prelude.{ℕ, Option};
+    ghost use Rattle.hnodes.specs.Raw.{link_of, raw_of, raw_back};
+
+    ghost Value = { Option ℕ };
+
+    ghost view = { λ l. link_of l.raw };
+
+    ghost inverse = { λ o. record { raw = raw_of o } };
+
+    ghost inverse_ok = { λ a h. λ i. record { raw = raw_back a.raw i } };
+}
+
+impl Link {
+    /// No link.
+    pub(crate) fn none() -> Self
+        ensures { result ≡ None }
+    {
+        Link { raw: 0 }
+    }
+
+    /// A link to a node.
+    pub(crate) fn to(node: NodeId) -> Self
+        requires { node < u32.MAX }
+        ensures { result ≡ Some node }
+    {
+        Link {
+            raw: node.number + 1,
+        }
+    }
+
+    /// The node.
+    pub(crate) fn get(self) -> Option<NodeId>
+        ensures { result ≡ self }
+    {
+        if self.raw == 0 {
+            return None;
+        }
+        Some(NodeId {
+            number: self.raw - 1,
+        })
+    }
+}
+
 /// A node and its neighbours.
 #[derive(Drop)]
 pub(crate) struct Node {
     pub(crate) content: Content,
-    pub(crate) parent: Option<NodeId>,
-    pub(crate) first: Option<NodeId>,
-    pub(crate) last: Option<NodeId>,
-    pub(crate) previous: Option<NodeId>,
-    pub(crate) next: Option<NodeId>,
+    pub(crate) parent: Link,
+    pub(crate) first: Link,
+    pub(crate) last: Link,
+    pub(crate) previous: Link,
+    pub(crate) next: Link,
 }
 
 impl Node {
@@ -88,11 +139,11 @@ impl Node {
     {
         Node {
             content,
-            parent: None,
-            first: None,
-            last: None,
-            previous: None,
-            next: None,
+            parent: Link::none(),
+            first: Link::none(),
+            last: Link::none(),
+            previous: Link::none(),
+            next: Link::none(),
         }
     }
 }

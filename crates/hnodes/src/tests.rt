@@ -173,7 +173,7 @@ fn edit(
 
 #[test]
 fn a_node_is_small(rt: HostRuntime) {
-    assert_eq!(rt; std::mem::size_of::<Node>(), 80);
+    assert_eq!(rt; std::mem::size_of::<Node>(), 64);
 }
 
 #[test]
@@ -233,7 +233,7 @@ fn a_million_nodes_wide_are_built_moved_and_dropped(rt: HostRuntime) -> Result<(
     Ok(())
 }
 
-fn append_tested(tree: &mut Tree, child: NodeId, parent: NodeId) -> bool {
+pub(crate) fn append_tested(tree: &mut Tree, child: NodeId, parent: NodeId) -> bool {
     let fits = tree.has(child)
         && tree.has(parent)
         && child != tree.document()
@@ -309,66 +309,6 @@ fn text_tested(tree: &Tree, node: NodeId) -> Option<&str> {
     }
 }
 
-#[test]
-fn children_and_ancestors_come_in_their_order(rt: HostRuntime) -> Result<(), Fail> {
-    let tree = family(4, rt.alloc())?;
-    let mut found = Vec::new(rt.alloc());
-    let first = NodeId { number: 1 };
-    if tree.has(first) {
-        for child in tree.children(first) {
-            found.push(child.index())?;
-        }
-    }
-    assert!(rt; found.as_slice() == [2, 3, 4].as_slice());
-    let last = NodeId { number: 4 };
-    if tree.has(last) {
-        for node in tree.ancestors(last) {
-            found.push(node.index())?;
-        }
-    }
-    assert!(rt; found.as_slice() == [2, 3, 4, 1, 0].as_slice());
-    Ok(())
-}
-
-#[test]
-fn descendants_come_in_tree_order(rt: HostRuntime) -> Result<(), Fail> {
-    let mut tree = family(4, rt.alloc())?;
-    let second = NodeId { number: 2 };
-    let document = NodeId { number: 0 };
-    for c in ['a', 'b'] {
-        if tree.has(second) {
-            tree.put_char(c, Place::LastIn(second), 0)?;
-        }
-    }
-    let comment = String::from_str(rt.alloc(), "no text")?;
-    let comment = tree.create_comment(comment, 0)?;
-    if tree.has(document)
-        && tree.has(comment)
-        && !tree.is_inside(document, comment)
-        && comment.index() > 0
-    {
-        tree.append(comment, document);
-    }
-    if tree.has(document) {
-        tree.put_text("cd", Place::LastIn(document), 0)?;
-    }
-    let mut found = Vec::new(rt.alloc());
-    let first = NodeId { number: 1 };
-    if tree.has(first) {
-        for node in tree.descendants(first) {
-            found.push(node.index())?;
-        }
-    }
-    assert!(rt; found.as_slice() == [2, 5, 3, 4].as_slice());
-    for node in tree.descendants(tree.document()) {
-        found.push(node.index())?;
-    }
-    assert!(rt; found.as_slice() == [2, 5, 3, 4, 1, 2, 5, 3, 4, 6, 7].as_slice());
-    let text = tree.text_content(rt.alloc(), tree.document())?;
-    assert_eq!(rt; text.as_str(), "abcd");
-    Ok(())
-}
-
 #[derive(Clone, Copy)]
 enum Move {
     Append,
@@ -388,7 +328,7 @@ fn move_numbered(tree: &mut Tree, edit: Move, moved: u32, to: u32) -> bool {
 }
 
 /// Elements numbered from 1 on, the first one below the document and the others below the first.
-fn family(count: u32, alloc: Global) -> Result<Tree, Refusal> {
+pub(crate) fn family(count: u32, alloc: Global) -> Result<Tree, Refusal> {
     let mut names = Names::new(alloc)?;
     let name = names.intern(alloc, "p")?;
     let mut tree = Tree::new(alloc, LIMIT)?;

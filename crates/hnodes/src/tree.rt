@@ -15,13 +15,15 @@ ghost use Rattle.std.specs.Char.{encode_utf8};
 ghost use Rattle.std.specs.Str.{chars};
 
 use crate::links::{detach, hook};
-use crate::node::{Content, Doctype, Kind, Node, NodeId, Place, push_attr, push_char, push_text};
+use crate::node::{
+    Content, Doctype, Kind, Link, Node, NodeId, Place, push_attr, push_char, push_text,
+};
 use names::{Attr, NameId, Refusal, Tag};
 use std::alloc::{AllocError, Global};
 use std::fmt;
 use std::marker::Model;
 
-/// The tree of a document, and the loose nodes: those that were made and are not in it yet. Each node takes 80 bytes, beside what
+/// The tree of a document, and the loose nodes: those that were made and are not in it yet. Each node takes 64 bytes, beside what
 /// its texts and attributes hold. Making a node and moving one take the same time in a tree of any size, amortized. No call
 /// recurses, nor does the drop, and the moves and the questions allocate nothing.
 ///
@@ -176,9 +178,11 @@ impl Tree {
         requires not_inside { IsOutside parent child self.old.trees }
         ensures { self.new ≡ record self.old { trees = graft_last child parent self.old.trees } }
     {
+        // So the number of each node fits in a link.
+        prove!(self.nodes.len() <= self.limit as usize);
         detach(&mut self.nodes, child);
         let last = self.nodes[parent.number as usize].last;
-        hook(&mut self.nodes, child, parent, last, None);
+        hook(&mut self.nodes, child, parent, last, Link::none());
     }
 
     /// Moves a node from where it stands to right before another, which has a parent.
@@ -190,11 +194,13 @@ impl Tree {
         requires not_inside { IsOutside sibling child self.old.trees }
         ensures { self.new ≡ record self.old { trees = graft_before child sibling self.old.trees } }
     {
+        // So the number of each node fits in a link.
+        prove!(self.nodes.len() <= self.limit as usize);
         detach(&mut self.nodes, child);
         let node = &self.nodes[sibling.number as usize];
         let (parent, previous) = (node.parent, node.previous);
-        if let Some(parent) = parent {
-            hook(&mut self.nodes, child, parent, previous, Some(sibling));
+        if let Some(parent) = parent.get() {
+            hook(&mut self.nodes, child, parent, previous, Link::to(sibling));
         }
     }
 
@@ -327,7 +333,7 @@ impl Tree {
     {
         let mut above = node;
         while above != top {
-            match self.nodes[above.number as usize].parent {
+            match self.nodes[above.number as usize].parent.get() {
                 Some(parent) => above = parent,
                 None => return false,
             }
@@ -342,7 +348,7 @@ impl Tree {
         ensures within { IfSome result (λ n. n < self.now.made) }
         ensures nodes { AreNodes self.now }
     {
-        self.nodes[at.number as usize].parent
+        self.nodes[at.number as usize].parent.get()
     }
 
     /// The first child of a node.
@@ -352,7 +358,7 @@ impl Tree {
         ensures within { IfSome result (λ n. n < self.now.made) }
         ensures nodes { AreNodes self.now }
     {
-        self.nodes[at.number as usize].first
+        self.nodes[at.number as usize].first.get()
     }
 
     /// The last child of a node.
@@ -362,7 +368,7 @@ impl Tree {
         ensures within { IfSome result (λ n. n < self.now.made) }
         ensures nodes { AreNodes self.now }
     {
-        self.nodes[at.number as usize].last
+        self.nodes[at.number as usize].last.get()
     }
 
     /// The sibling after a node.
@@ -372,7 +378,7 @@ impl Tree {
         ensures within { IfSome result (λ n. n < self.now.made) }
         ensures nodes { AreNodes self.now }
     {
-        self.nodes[at.number as usize].next
+        self.nodes[at.number as usize].next.get()
     }
 
     /// The sibling before a node.
@@ -382,7 +388,7 @@ impl Tree {
         ensures within { IfSome result (λ n. n < self.now.made) }
         ensures nodes { AreNodes self.now }
     {
-        self.nodes[at.number as usize].previous
+        self.nodes[at.number as usize].previous.get()
     }
 
     /// The kind of a node.

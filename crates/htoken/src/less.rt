@@ -1,0 +1,86 @@
+//! After `<` and `</` in data (HTML Standard, 13.2.5.6 and 13.2.5.7).
+
+ghost use Rattle.std.specs.Prelude.{◌≡◌, ◌∷◌, ℕ, List, []};
+ghost use Rattle.names.specs.declared.placed.Placed.{Placed as Character};
+ghost use Rattle.names.specs.declared.raw.RawKind.{RawKind as Kind};
+ghost use Rattle.names.specs.Names.{Texts};
+ghost use Rattle.charref.specs.Reference.{Entities};
+ghost use Rattle.htoken.specs.Token.{Event, gives_item};
+ghost use Rattle.htoken.specs.Tokenizing.{Reads, Takes};
+
+use crate::declaration::Opened;
+use crate::hand::give_faulty;
+use crate::sink::TokenSink;
+use crate::state::State;
+use crate::tokenizer::Tokenizer;
+use htag::TagKind;
+use names::{ErrorCode, ParseError, Refusal};
+
+impl<'t> Tokenizer<'t> {
+    /// After `<` (13.2.5.6).
+    pub(crate) fn after_less<S: TokenSink>(
+        &mut self,
+        ch: char,
+        at: u64,
+        sink: &mut S,
+    ) -> Result<(), Refusal>
+        requires { self.old.state ≡ State.Less }
+        ensures { (table : Entities) (start : Kind) (names : Texts) (text : List Character) (taken : List Event) → Reads table start self.old names text (record { ch = ch; at = at } ∷ []) taken
+            → Takes (gives_item S.gives S.gives_token) table start text (record { ch = ch; at = at } ∷ []) taken names sink.old result sink.new self.new }
+    {
+        match ch {
+            '/' => {
+                self.state = State::LessSolidus(at);
+                Ok(())
+            }
+            '!' => {
+                self.state = State::Declaration(at, Opened::Nothing);
+                self.held.clear();
+                Ok(())
+            }
+            '?' => {
+                self.begin_bogus(ErrorCode::UnexpectedQuestionMarkInsteadOfTagName, at)?;
+                self.in_comment(ch, at, sink)
+            }
+            _ if ch.is_ascii_alphabetic() => Ok(self.begin_tag(TagKind::Start, ch)?),
+            _ => {
+                self.state = State::Text;
+                give_faulty(
+                    ErrorCode::InvalidFirstCharacterOfTagName,
+                    at,
+                    '<',
+                    self.at,
+                    sink,
+                )?;
+                self.in_text(ch, at, sink)
+            }
+        }
+    }
+
+    /// After `</` (13.2.5.7).
+    pub(crate) fn after_solidus<S: TokenSink>(
+        &mut self,
+        ch: char,
+        at: u64,
+        sink: &mut S,
+    ) -> Result<(), Refusal>
+        requires { (solidus : ℕ) × (self.old.state ≡ State.LessSolidus solidus) }
+        ensures { (table : Entities) (start : Kind) (names : Texts) (text : List Character) (taken : List Event) → Reads table start self.old names text (record { ch = ch; at = at } ∷ []) taken
+            → Takes (gives_item S.gives S.gives_token) table start text (record { ch = ch; at = at } ∷ []) taken names sink.old result sink.new self.new }
+    {
+        match ch {
+            '>' => {
+                self.state = State::Text;
+                sink.take_error(ParseError {
+                    code: ErrorCode::MissingEndTagName,
+                    at,
+                })
+            }
+            _ if ch.is_ascii_alphabetic() => Ok(self.begin_tag(TagKind::End, ch)?),
+            _ => {
+                self.begin_bogus(ErrorCode::InvalidFirstCharacterOfTagName, at)?;
+                self.in_comment(ch, at, sink)
+            }
+        }
+    }
+}

@@ -1,0 +1,169 @@
+//! What follows `<!`, comments and doctypes (HTML Standard, 13.2.5.41 to 13.2.5.68).
+
+ghost use Rattle.std.specs.Prelude.{◌≡◌, ◌∷◌, List, [], OnOk, length, MatchResult};
+ghost use Rattle.names.specs.declared.placed.Placed.{Placed as Character};
+ghost use Rattle.names.specs.declared.raw.RawKind.{RawKind as Kind};
+ghost use Rattle.names.specs.Names.{Texts};
+ghost use Rattle.names.specs.Placed.{error, place};
+ghost use Rattle.charref.specs.Reference.{Entities};
+ghost use Rattle.htoken.specs.Token.{Event, Comment, TokenMeans, gives_item};
+ghost use Rattle.htoken.specs.Tokenizing.{Reads, Takes, doctype_token};
+ghost use Rattle.htoken.specs.Steps.{BeginsBogus, GivesSpan};
+
+use crate::declaration::{Opened, Opens, is_plain as is_plain_text};
+use crate::sink::TokenSink;
+use crate::state::State;
+use crate::token::Token;
+use crate::tokenizer::Tokenizer;
+use hmarkup::{CommentWalk, DoctypeWalk};
+use names::{ErrorCode, ParseError, Placed, Refusal};
+use std::alloc::AllocError;
+use std::mem;
+
+impl<'t> Tokenizer<'t> {
+    /// After `<!` (13.2.5.42).
+    pub(crate) fn in_declaration<S: TokenSink>(
+        &mut self,
+        bang: u64,
+        so: Opened,
+        ch: char,
+        at: u64,
+        sink: &mut S,
+    ) -> Result<(), Refusal>
+        requires { self.old.state ≡ State.Declaration bang so }
+        ensures { (table : Entities) (start : Kind) (names : Texts) (text : List Character) (taken : List Event) → Reads table start self.old names text (record { ch = ch; at = at } ∷ []) taken
+            → Takes (gives_item S.gives S.gives_token) table start text (record { ch = ch; at = at } ∷ []) taken names sink.old result sink.new self.new }
+    {
+        match so.after(self.held_count(), ch) {
+            Opens::Front(so) => {
+                self.state = State::Declaration(bang, so);
+                self.held.push(Placed { ch, at })?;
+                Ok(())
+            }
+            Opens::Comment => {
+                self.comment = CommentWalk::comment(self.alloc);
+                self.state = State::Comment;
+                Ok(())
+            }
+            Opens::Doctype => {
+                self.doctype = DoctypeWalk::new(self.alloc);
+                self.state = State::Doctype;
+                Ok(())
+            }
+            Opens::Cdata => {
+                self.held.push(Placed { ch, at })?;
+                self.begin_held(ErrorCode::CdataInHtmlContent, at)
+            }
+            Opens::Bogus => {
+                self.begin_held(ErrorCode::IncorrectlyOpenedComment, at)?;
+                self.in_comment(ch, at, sink)
+            }
+        }
+    }
+
+    /// Begins what is read as a comment with the characters that are held after `<!`. The error stands at the first of them, or here.
+    pub(crate) fn begin_held(&mut self, code: ErrorCode, at: u64) -> Result<(), Refusal>
+        ensures { MatchResult result (λ _. BeginsBogus self.old self.old.held.items (error code (place at self.old.held.items)) self.new) (λ refusal. refusal ≡ Refusal.Memory) }
+    {
+        if !is_plain_text(&self.held) {
+            return Err(Refusal::Memory);
+        }
+        let at = self.first_held(at);
+        self.raised.errors.push(ParseError { code, at })?;
+        self.comment = CommentWalk::bogus_after(self.alloc, &self.held)?;
+        self.state = State::Comment;
+        Ok(())
+    }
+
+    /// Begins what is read as a comment up to the first `>`, with an error.
+    pub(crate) fn begin_bogus(&mut self, code: ErrorCode, at: u64) -> Result<(), AllocError>
+        ensures { OnOk result (BeginsBogus self.old [] (error code at) self.new) }
+    {
+        self.raised.errors.push(ParseError { code, at })?;
+        self.comment = CommentWalk::bogus(self.alloc);
+        self.state = State::Comment;
+        Ok(())
+    }
+
+    /// How many characters are held after a mark.
+    fn held_count(&self) -> usize
+        ensures { result ≡ length self.now.held.items }
+    {
+        self.held.len()
+    }
+
+    /// The place of the first character that is held after `<!`, or this one.
+    fn first_held(&self, at: u64) -> u64
+        ensures { result ≡ place at self.now.held.items }
+    {
+        match self.held.first() {
+            Some(first) => first.at,
+            None => at,
+        }
+    }
+
+    /// Takes a character of a comment.
+    pub(crate) fn in_comment<S: TokenSink>(
+        &mut self,
+        ch: char,
+        at: u64,
+        sink: &mut S,
+    ) -> Result<(), Refusal>
+        requires { self.old.state ≡ State.Comment }
+        ensures { (table : Entities) (start : Kind) (names : Texts) (text : List Character) (taken : List Event) → Reads table start self.old names text (record { ch = ch; at = at } ∷ []) taken
+            → Takes (gives_item S.gives S.gives_token) table start text (record { ch = ch; at = at } ∷ []) taken names sink.old result sink.new self.new }
+    {
+        if self.comment.take_char(ch, at, &mut self.raised)? {
+            self.end_comment(sink)
+        } else {
+            Ok(())
+        }
+    }
+
+    /// Hands over the comment that has ended.
+    pub(crate) fn end_comment<S: TokenSink>(&mut self, sink: &mut S) -> Result<(), Refusal>
+        ensures { GivesSpan (gives_item S.gives S.gives_token) (λ names token. TokenMeans names token (Comment self.old.comment.data self.old.at)) self.old sink.old result self.new sink.new }
+    {
+        let walk = mem::replace(&mut self.comment, CommentWalk::bogus(self.alloc));
+        let text = walk.into_data();
+        let at = self.at;
+        self.end_span(Token::Comment { text, at }, sink)
+    }
+
+    /// Takes a character of a doctype.
+    pub(crate) fn in_doctype<S: TokenSink>(
+        &mut self,
+        ch: char,
+        at: u64,
+        sink: &mut S,
+    ) -> Result<(), Refusal>
+        requires { self.old.state ≡ State.Doctype }
+        ensures { (table : Entities) (start : Kind) (names : Texts) (text : List Character) (taken : List Event) → Reads table start self.old names text (record { ch = ch; at = at } ∷ []) taken
+            → Takes (gives_item S.gives S.gives_token) table start text (record { ch = ch; at = at } ∷ []) taken names sink.old result sink.new self.new }
+    {
+        if self.doctype.take_char(ch, at, &mut self.raised)? {
+            self.end_doctype(sink)
+        } else {
+            Ok(())
+        }
+    }
+
+    /// Hands over the doctype that has ended.
+    pub(crate) fn end_doctype<S: TokenSink>(&mut self, sink: &mut S) -> Result<(), Refusal>
+        ensures { GivesSpan (gives_item S.gives S.gives_token) (λ names token. TokenMeans names token (doctype_token self.old.doctype.found self.old.at)) self.old sink.old result self.new sink.new }
+    {
+        let walk = mem::replace(&mut self.doctype, DoctypeWalk::new(self.alloc));
+        let doctype = walk.into_doctype();
+        let at = self.at;
+        self.end_span(
+            Token::Doctype {
+                name: doctype.name,
+                public_id: doctype.public_id,
+                system_id: doctype.system_id,
+                forced: doctype.forced,
+                at,
+            },
+            sink,
+        )
+    }
+}

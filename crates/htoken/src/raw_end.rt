@@ -1,0 +1,121 @@
+//! The end tag of raw text (HTML Standard, 13.2.5.9 to 13.2.5.17).
+
+ghost use Rattle.std.specs.Prelude.{◌≡◌, ◌∷◌, List, [], slice_get, true, length, string_bytes, MatchResult};
+ghost use Rattle.names.specs.declared.placed.Placed.{Placed as Character};
+ghost use Rattle.names.specs.declared.raw.RawKind.{RawKind as Kind};
+ghost use Rattle.names.specs.Names.{Texts, Grows};
+ghost use Rattle.charref.specs.Reference.{Entities};
+ghost use Rattle.htoken.specs.Script.{HasFront};
+ghost use Rattle.hmarkup.specs.CommentWalk.{backwards};
+ghost use Rattle.htoken.specs.Token.{Event, gives_item};
+ghost use Rattle.htoken.specs.Handing.{HandsEvents};
+ghost use Rattle.htoken.specs.Raw.{is_script};
+ghost use Rattle.htoken.specs.Run.{run_events};
+ghost use Rattle.htoken.specs.Tokenizing.{Reads, Takes};
+ghost use Rattle.htoken.specs.Steps.{held_in_raw, Holds};
+
+use crate::hand::{give, give_all};
+use crate::script::{agrees, ends_name};
+use crate::sink::TokenSink;
+use crate::state::State;
+use crate::tokenizer::Tokenizer;
+use names::{Names, Placed, Refusal};
+
+impl<'t> Tokenizer<'t> {
+    /// After `<` in raw text (13.2.5.9, 13.2.5.12, 13.2.5.15).
+    pub(crate) fn after_raw_less<S: TokenSink>(
+        &mut self,
+        ch: char,
+        at: u64,
+        sink: &mut S,
+    ) -> Result<(), Refusal>
+        requires { self.old.state ≡ State.RawLess }
+        ensures { (table : Entities) (start : Kind) (names : Texts) (text : List Character) (taken : List Event) → Reads table start self.old names text (record { ch = ch; at = at } ∷ []) taken
+            → Takes (gives_item S.gives S.gives_token) table start text (record { ch = ch; at = at } ∷ []) taken names sink.old result sink.new self.new }
+    {
+        if ch == '/' {
+            self.state = State::RawName(at);
+            self.held.clear();
+            return Ok(());
+        }
+        let less = self.at;
+        self.state = State::Text;
+        self.follow('<');
+        give('<', less, sink)?;
+        self.in_text(ch, at, sink)
+    }
+
+    /// After `</` and letters of the last start tag's name (13.2.5.10, 13.2.5.11 and their like).
+    pub(crate) fn in_raw_name<S: TokenSink>(
+        &mut self,
+        solidus: u64,
+        names: &mut Names,
+        ch: char,
+        at: u64,
+        sink: &mut S,
+    ) -> Result<(), Refusal>
+        requires { self.old.state ≡ State.RawName solidus }
+        ensures takes { (table : Entities) (start : Kind) (before : Texts) (text : List Character) (taken : List Event) → Grows before names.old → Reads table start self.old before text (record { ch = ch; at = at } ∷ []) taken
+            → Takes (gives_item S.gives S.gives_token) table start text (record { ch = ch; at = at } ∷ []) taken names.new sink.old result sink.new self.new }
+        ensures grows { Grows names.old names.new }
+    {
+        match self.expected() {
+            Some(byte) => {
+                if agrees(ch, byte) {
+                    self.hold(ch, at)
+                } else {
+                    self.give_held(solidus, sink)?;
+                    self.in_text(ch, at, sink)
+                }
+            }
+            None => {
+                if ends_name(ch) {
+                    if self.held.is_empty() {
+                        return Err(Refusal::Memory);
+                    }
+                    self.tag.begin_end();
+                    self.state = State::Tag;
+                    self.in_tag(names, ch, at, sink)
+                } else {
+                    self.give_held(solidus, sink)?;
+                    self.in_text(ch, at, sink)
+                }
+            }
+        }
+    }
+
+    /// Holds a letter of the name. All names of raw texts are letters.
+    fn hold(&mut self, ch: char, at: u64) -> Result<(), Refusal>
+        ensures { MatchResult result (λ _. Holds self.old (record { ch = ch; at = at }) self.new) (λ refusal. refusal ≡ Refusal.Memory) }
+    {
+        if !ch.is_ascii_alphabetic() {
+            return Err(Refusal::Memory);
+        }
+        self.held.push(Placed { ch, at })?;
+        Ok(())
+    }
+
+    /// What comes next in the name of the end tag, if anything is left of it.
+    fn expected(&self) -> Option<u8>
+        ensures { result ≡ slice_get (string_bytes self.now.tag.name) (length self.now.held.items) }
+    {
+        self.tag.name().as_bytes().get(self.held.len()).copied()
+    }
+
+    /// Hands over what is held in raw text as characters: it is no end tag.
+    pub(crate) fn give_held<S: TokenSink>(
+        &mut self,
+        solidus: u64,
+        sink: &mut S,
+    ) -> Result<(), Refusal>
+        ensures handed { (names : Texts) → HandsEvents (gives_item S.gives S.gives_token) names sink.old (run_events (held_in_raw solidus self.old)) result sink.new }
+        ensures then { self.new ≡ record self.old { state = State.Text; script = self.new.script } }
+        ensures follows { (front : List Character) → is_script self.old.kind ≡ true → HasFront self.old.script front → HasFront self.new.script (backwards front (held_in_raw solidus self.old)) }
+    {
+        self.state = State::Text;
+        self.script = self.script.after('<').after('/').after_all(&self.held);
+        give('<', self.at, sink)?;
+        give('/', solidus, sink)?;
+        give_all(&self.held, sink)
+    }
+}

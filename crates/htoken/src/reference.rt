@@ -1,0 +1,144 @@
+//! References in text, and the runs of alphanumerics after an `&` (HTML Standard, 13.2.5.72 to 13.2.5.80).
+
+ghost use Rattle.std.specs.Prelude.{◌≡◌, ◌∷◌, ◌++◌, ◌+◌, ◌-◌, List, [], true, false, length};
+ghost use Rattle.names.specs.declared.placed.Placed.{Placed as Character};
+ghost use Rattle.names.specs.declared.raw.RawKind.{RawKind as Kind};
+ghost use Rattle.names.specs.Names.{Texts};
+ghost use Rattle.charref.specs.Reference.{Entities};
+ghost use Rattle.charref.specs.Pieces.{IsRead};
+ghost use Rattle.htoken.specs.Token.{Event, gives_item};
+ghost use Rattle.htoken.specs.Giving.{read_events};
+ghost use Rattle.htoken.specs.Handing.{HandsEvents};
+ghost use Rattle.htoken.specs.Tokenizing.{IsInRun, Reads, Takes};
+ghost use Rattle.htoken.specs.Steps.{BeginsReference};
+
+use crate::hand::{after_first, give, give_all, give_piece, tell_unknown};
+use crate::sink::TokenSink;
+use crate::state::State;
+use crate::tokenizer::Tokenizer;
+use charref::{Reference, Walk};
+use names::{Placed, Refusal};
+
+impl<'t> Tokenizer<'t> {
+    /// Begins a reference at an `&`.
+    pub(crate) fn begin_reference(&mut self, at: u64)
+        ensures { BeginsReference self.old at self.new }
+    {
+        self.state = State::Reference;
+        self.at = at;
+        self.held.clear();
+        self.reference = Walk::new(self.table, false);
+    }
+
+    /// After `&` (13.2.5.72 to 13.2.5.80).
+    pub(crate) fn in_reference<S: TokenSink>(
+        &mut self,
+        ch: char,
+        at: u64,
+        sink: &mut S,
+    ) -> Result<(), Refusal>
+        requires { self.old.state ≡ State.Reference }
+        ensures { (table : Entities) (start : Kind) (names : Texts) (text : List Character) (taken : List Event) → Reads table start self.old names text (record { ch = ch; at = at } ∷ []) taken
+            → Takes (gives_item S.gives S.gives_token) table start text (record { ch = ch; at = at } ∷ []) taken names sink.old result sink.new self.new }
+    {
+        match self.reference.take(ch) {
+            Some(found) => self.end_reference(&found, ch, at, sink),
+            None => {
+                self.held.push(Placed { ch, at })?;
+                Ok(())
+            }
+        }
+    }
+
+    /// Ends the reference that this character has shown, and reads again what does not belong to it.
+    fn end_reference<S: TokenSink>(
+        &mut self,
+        found: &Reference,
+        ch: char,
+        at: u64,
+        sink: &mut S,
+    ) -> Result<(), Refusal>
+        requires { self.old.state ≡ State.Reference }
+        ensures { (table : Entities) (start : Kind) (names : Texts) (text : List Character) (taken : List Event) → ((after : List Character) → IsRead table false (self.old.held.items ++ record { ch = ch; at = at } ∷ []) after found.now)
+            → Reads table start self.old names text (record { ch = ch; at = at } ∷ []) taken → Takes (gives_item S.gives S.gives_token) table start text (record { ch = ch; at = at } ∷ []) taken names sink.old result sink.new self.new }
+    {
+        if found.in_run {
+            return self.end_in_run(found, ch, at, sink);
+        }
+        self.state = State::Text;
+        if found.left == 0 {
+            return give_piece(found, self.at, sink);
+        }
+        self.give_reference(found, self.given_back(found.left), sink)?;
+        self.in_text(ch, at, sink)
+    }
+
+    /// How many of the characters that are held belong to a reference, where so many are read again, the one after them among them.
+    fn given_back(&self, left: usize) -> usize
+        ensures { result ≡ length self.now.held.items + 1 - left }
+    {
+        (self.held.len() + 1).saturating_sub(left)
+    }
+
+    /// .. where the input ends after them.
+    pub(crate) fn left_at_end(&self, left: usize) -> usize
+        ensures { result ≡ length self.now.held.items - left }
+    {
+        self.held.len().saturating_sub(left)
+    }
+
+    /// Hands over a reference, and what is held after so many characters, which do not belong to it.
+    pub(crate) fn give_reference<S: TokenSink>(
+        &self,
+        found: &Reference,
+        count: usize,
+        sink: &mut S,
+    ) -> Result<(), Refusal>
+        ensures { (names : Texts) → HandsEvents (gives_item S.gives S.gives_token) names sink.old (read_events found.now self.now.at self.now.held.items count) result sink.new }
+    {
+        give_piece(found, self.at, sink)?;
+        give_all(after_first(&self.held, count), sink)
+    }
+
+    /// Ends an `&` that no key begins, in the run of alphanumerics after it.
+    fn end_in_run<S: TokenSink>(
+        &mut self,
+        found: &Reference,
+        ch: char,
+        at: u64,
+        sink: &mut S,
+    ) -> Result<(), Refusal>
+        requires state { self.old.state ≡ State.Reference }
+        requires run { found.now.in_run ≡ true }
+        ensures { (table : Entities) (start : Kind) (names : Texts) (text : List Character) (taken : List Event) → ((after : List Character) → IsRead table false (self.old.held.items ++ record { ch = ch; at = at } ∷ []) after found.now)
+            → Reads table start self.old names text (record { ch = ch; at = at } ∷ []) taken → Takes (gives_item S.gives S.gives_token) table start text (record { ch = ch; at = at } ∷ []) taken names sink.old result sink.new self.new }
+    {
+        if found.left == 0 || !ch.is_ascii_alphanumeric() {
+            return Err(Refusal::Memory);
+        }
+        let amp = self.at;
+        self.state = State::Run(amp);
+        self.give_reference(found, self.given_back(found.left), sink)?;
+        self.in_run(amp, ch, at, sink)
+    }
+
+    /// In the run of alphanumerics after an `&` that no key begins (13.2.5.74).
+    pub(crate) fn in_run<S: TokenSink>(
+        &mut self,
+        amp: u64,
+        ch: char,
+        at: u64,
+        sink: &mut S,
+    ) -> Result<(), Refusal>
+        requires { self.old.state ≡ State.Run amp }
+        ensures { (table : Entities) (start : Kind) (names : Texts) (text : List Character) (taken : List Event) → IsInRun table start self.old names text (record { ch = ch; at = at } ∷ []) taken
+            → Takes (gives_item S.gives S.gives_token) table start text (record { ch = ch; at = at } ∷ []) taken names sink.old result sink.new self.new }
+    {
+        if ch.is_ascii_alphanumeric() {
+            return give(ch, at, sink);
+        }
+        self.state = State::Text;
+        tell_unknown(ch, amp, sink)?;
+        self.in_text(ch, at, sink)
+    }
+}

@@ -1,0 +1,121 @@
+//! Tags (HTML Standard, 13.2.5.8 and 13.2.5.32 to 13.2.5.40).
+
+ghost use Rattle.std.specs.Prelude.{◌≡◌, ◌∷◌, ℕ, List, [], slice_get, Some, OnOk};
+ghost use Rattle.names.specs.declared.placed.Placed.{Placed as Character};
+ghost use Rattle.names.specs.declared.raw.RawKind.{RawKind as Kind};
+ghost use Rattle.names.specs.Names.{Texts, Grows};
+ghost use Rattle.charref.specs.Reference.{Entities};
+ghost use Rattle.htoken.specs.Token.{Event, End, TokenMeans, gives_item};
+ghost use Rattle.htoken.specs.Tokenizing.{Reads, Takes};
+ghost use Rattle.htoken.specs.Steps.{KeepsFaults, BeginsTag, GivesSpan, EndsStartTag, EndsTag};
+
+use crate::script::Script;
+use crate::sink::TokenSink;
+use crate::state::State;
+use crate::token::Token;
+use crate::tokenizer::Tokenizer;
+use htag::TagKind;
+use names::{ErrorCode, NameId, Names, ParseError, RawKind, Refusal};
+use std::alloc::AllocError;
+
+impl<'t> Tokenizer<'t> {
+    /// Begins a tag with the first letter of its name.
+    pub(crate) fn begin_tag(&mut self, kind: TagKind, ch: char) -> Result<(), AllocError>
+        ensures { OnOk result (BeginsTag self.old kind ch self.new) }
+    {
+        self.tag.begin(kind, ch)?;
+        self.state = State::Tag;
+        Ok(())
+    }
+
+    /// Takes a character of a tag.
+    pub(crate) fn in_tag<S: TokenSink>(
+        &mut self,
+        names: &mut Names,
+        ch: char,
+        at: u64,
+        sink: &mut S,
+    ) -> Result<(), Refusal>
+        requires { self.old.state ≡ State.Tag }
+        ensures takes { (table : Entities) (start : Kind) (before : Texts) (text : List Character) (taken : List Event) → Grows before names.old → Reads table start self.old before text (record { ch = ch; at = at } ∷ []) taken
+            → Takes (gives_item S.gives S.gives_token) table start text (record { ch = ch; at = at } ∷ []) taken names.new sink.old result sink.new self.new }
+        ensures grows { Grows names.old names.new }
+    {
+        if self
+            .tag
+            .take_char(self.table, names, ch, at, &mut self.raised.errors)?
+        {
+            self.end_tag(names, sink)
+        } else {
+            Ok(())
+        }
+    }
+
+    /// Hands over the tag that has ended.
+    fn end_tag<S: TokenSink>(&mut self, names: &mut Names, sink: &mut S) -> Result<(), Refusal>
+        ensures tag { EndsTag (gives_item S.gives S.gives_token) self.old names.new sink.old result self.new sink.new }
+        ensures grows { Grows names.old names.new }
+    {
+        let name = names.intern(self.alloc, self.tag.name())?;
+        match self.tag.kind() {
+            TagKind::Start => self.end_start_tag(name, sink),
+            TagKind::End => {
+                self.keep_faults()?;
+                self.end_end_tag(name, sink)
+            }
+        }
+    }
+
+    /// Keeps the errors of an end tag that has attributes or a solidus. It drops them.
+    fn keep_faults(&mut self) -> Result<(), AllocError>
+        ensures { OnOk result (KeepsFaults self.old self.new) }
+    {
+        let at = self.at;
+        if self.tag.has_attributes() {
+            self.raised.errors.push(ParseError {
+                code: ErrorCode::EndTagWithAttributes,
+                at,
+            })?;
+        }
+        if self.tag.is_closing() {
+            self.raised.errors.push(ParseError {
+                code: ErrorCode::EndTagWithTrailingSolidus,
+                at,
+            })?;
+        }
+        Ok(())
+    }
+
+    fn end_end_tag<S: TokenSink>(&mut self, name: NameId, sink: &mut S) -> Result<(), Refusal>
+        ensures { (text : List ℕ) → GivesSpan (gives_item S.gives S.gives_token) (λ names token. slice_get names name ≡ Some text → TokenMeans names token (End text self.old.at)) (record self.old { kind = RawKind.None }) sink.old result self.new sink.new }
+    {
+        let at = self.at;
+        self.kind = RawKind::None;
+        self.end_span(Token::End { name, at }, sink)
+    }
+
+    /// Hands over a start tag of this name, unless it is left out of the profile.
+    fn end_start_tag<S: TokenSink>(&mut self, name: NameId, sink: &mut S) -> Result<(), Refusal>
+        ensures { (text : List ℕ) (attrs : List (List ℕ × List ℕ)) → EndsStartTag (gives_item S.gives S.gives_token) self.old name text attrs sink.old result self.new sink.new }
+    {
+        let at = self.at;
+        let tag = name.tag();
+        if let Some(name) = tag.refused_name() {
+            return Err(Refusal::OutOfProfile { name, at });
+        }
+        self.kind = tag.raw_kind();
+        self.last = Some(name);
+        self.script = Script::new();
+        let closing = self.tag.is_closing();
+        let attrs = self.tag.take_attributes();
+        self.end_span(
+            Token::Start {
+                name,
+                attrs,
+                closing,
+                at,
+            },
+            sink,
+        )
+    }
+}
