@@ -1,25 +1,21 @@
 -- What each mode knows of the head.
-use Rattle.std.proofs.Common.{◌≡◌, ◌≢◌, ℕ, zero, suc, ◌+◌, ◌<◌, ◌≤◌, Bool, true, false, not, cond, leb, List, [], ◌∷◌, Option, Some, None, refl, sym, ◌∙◌, ap, subst, arith, ◌⊎◌, inl, inr, drop, length}
+use Rattle.std.proofs.Common.{◌≡◌, ℕ, Bool, true, false, not, cond, List, [], ◌∷◌, Option, Some, None, refl, sym, ◌∙◌}
 use Rattle.std.specs.Prelude.{◌&&◌, ◌||◌, unwrap_or}
 use Rattle.hopen.specs.Stack.{OpenNode}
-use Rattle.hnodes.specs.Forest.{Forest}
 use Rattle.names.specs.declared.placed.Placed.{Placed}
 use Rattle.names.specs.declared.tag.Tag.{Tag}
 use Rattle.names.specs.declared.tag.Tag.TheVariants as tag
 use Rattle.hadopt.specs.Naming.{Naming}
 use Rattle.hadopt.specs.Site.{Outcome, Goes, SiteOf, stack, trees}
 use Rattle.hadopt.specs.Site as site
-use Rattle.hadopt.specs.Kept.{Each}
-use Rattle.hnodes.proofs.Deep.{deep}
 use Rattle.hmodes.specs.declared.mode.Mode.{Mode}
-use Rattle.hmodes.specs.declared.mode.Mode.TheVariants.{Initial, BeforeHtml, BeforeHead, InHead, InHeadNoscript, AfterHead, InBody, Text, InTable, InTableText, InCaption, InColumnGroup, InTableBody, InRow, InCell, AfterBody, AfterAfterBody}
+use Rattle.hmodes.specs.declared.mode.Mode.TheVariants.{InHead, InHeadNoscript, AfterHead, InBody, Text, InTableText}
 use Rattle.hmodes.specs.declared.family.Family.TheVariants as family
 use Rattle.hmodes.specs.Words.{Kind, Nul, Start, End, Do, ◌▸◌, when, unless, choose, fostered, each_pending, again, again_as, to, save_mode, to_saved, reset, insert, insert_named, insert_root, insert_root_named, insert_comment, comment_in_document, comment_in_first, insert_doctype, put, push_head, reconstruct, adopt, adopt_listed}
-use Rattle.hmodes.specs.State.{Token, character, Control, State, Flow, Done, Again, Refused, kind_of, flow_then, flow_map}
+use Rattle.hmodes.specs.State.{Token, character, Control, State, Flow, Done, Again, Refused, flow_then, flow_map}
 use Rattle.hmodes.specs.Reset.{open_mode, context_mode, root_mode, reset_mode}
 use Rattle.hmodes.specs.Questions.{answer_of}
 use Rattle.hmodes.specs.Perform.{perform, with_foster, with_control, each_of, flow_of}
-use Rattle.hmodes.specs.Rules.{rule_of}
 use Rattle.hmodes.specs.Head.{initial, before_html}
 use Rattle.hmodes.specs.Body.{in_body, text, after_body, after_after_body}
 use Rattle.hmodes.specs.Table.{in_table, in_table_text, in_caption, in_column_group, in_table_body, in_row, in_cell}

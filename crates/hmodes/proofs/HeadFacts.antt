@@ -1,35 +1,23 @@
 -- What holds of the head pointer in each mode, and that every rule keeps it.
-use Rattle.std.proofs.Common.{◌≡◌, ◌≢◌, ℕ, zero, suc, ◌+◌, ◌<◌, ◌≤◌, Bool, true, false, not, cond, List, [], ◌∷◌, Option, Some, None, refl, sym, ◌∙◌, ap, subst, arith, drop}
-use Rattle.std.specs.Prelude.{◌&&◌, ◌||◌}
-use Rattle.std.proofs.lemmas.Bool.{eq-eqb, ne_eqb}
-use Rattle.hnodes.specs.Forest.{Attribute, Forest, element}
-use Rattle.hnodes.specs.Forest as forest
-use Rattle.hnodes.specs.declared.node.Place.TheVariants.{LastIn}
-use Rattle.hopen.specs.Nearest.{without}
-use Rattle.hopen.specs.Stack.{OpenNode, is_node}
-use Rattle.names.specs.declared.tag.Tag.TheVariants as tag
+use Rattle.std.proofs.Common.{◌≡◌, ℕ, ◌<◌, true, false, List, [], ◌∷◌, Option, Some, refl, ◌∙◌, drop}
+use Rattle.hnodes.specs.Forest.{Forest}
+use Rattle.hopen.specs.Stack.{OpenNode}
 use Rattle.hadopt.specs.Naming.{Naming}
 use Rattle.hadopt.specs.Site.{Outcome, Goes, SiteOf, stack, trees, with_stack, from_top, node_of}
 use Rattle.hadopt.specs.Site as site
-use Rattle.hadopt.specs.Places.{place}
-use Rattle.hadopt.specs.Inserts.{inserted}
-use Rattle.hadopt.specs.Kept.{Each, TellsTables}
+use Rattle.hadopt.specs.Kept.{Each}
 use Rattle.hnodes.proofs.Deep.{deep}
-use Rattle.hadopt.proofs.Lists.{each-both, each-map, each-among}
+use Rattle.hadopt.proofs.Lists.{each-both, each-among}
 use Rattle.hadopt.proofs.Climbing.{OnGoes}
 use Rattle.hadopt.proofs.Settling.{Well}
 use Rattle.hadopt.proofs.Turning.{among-drop}
-use Rattle.hadopt.proofs.Inserting.{inserted-well, place-fits}
 use Rattle.hmodes.specs.declared.mode.Mode.{Mode}
-use Rattle.hmodes.specs.declared.mode.Mode.TheVariants.{Initial, BeforeHtml, BeforeHead, InHead, InHeadNoscript, AfterHead, InBody, Text, InTable, InTableText, InCaption, InColumnGroup, InTableBody, InRow, InCell, AfterBody, AfterAfterBody}
-use Rattle.hmodes.specs.Words.{Do, ◌▸◌, nothing, again, error, to, save_mode, to_saved, head_pointer, acknowledge, insert, insert_named, insert_comment, put, pop, add_missing_to_first}
-use Rattle.hmodes.specs.State.{Token, State, Flow, Done, Again, Refused, flow_then, token_name, token_attrs, token_text, token_char}
-use Rattle.hmodes.specs.Programs.{void, raw}
-use Rattle.hmodes.specs.Perform.{perform, with_site, flow_of, current_node}
-use Rattle.hmodes.proofs.Once.{both}
-use Rattle.hmodes.proofs.Stands.{tame, FlowWell, perform-well}
+use Rattle.hmodes.specs.declared.mode.Mode.TheVariants.{InHead, InHeadNoscript, AfterHead, Text, InTableText}
+use Rattle.hmodes.specs.State.{State, Flow, Done, Again, Refused, flow_then}
+use Rattle.hmodes.specs.Perform.{flow_of}
+use Rattle.hmodes.proofs.Stands.{FlowWell}
 use Rattle.hmodes.proofs.Facts.{is_early, is_texty, Late}
-use Rattle.hmodes.proofs.Heads.{Steady, steady-same, steady-then, added-steady, Deeper, inserted-steady, put-steady, missing-steady}
+use Rattle.hmodes.proofs.Heads.{Steady, steady-then}
 
 module _ {N : Type 0} where
   -- the current node is the head
@@ -129,4 +117,3 @@ module _ {N : Type 0} (n : Naming N) where
       go (Refused r) q = tt
   quiet-then s (Again t u) g h w k = h
   quiet-then s (Refused r) g h w k = tt
-

@@ -1,12 +1,11 @@
 -- Every rule keeps what its mode knows of the head.
-use Rattle.std.proofs.Common.{◌≡◌, ◌≢◌, ℕ, zero, suc, ◌+◌, ◌<◌, ◌≤◌, Bool, true, false, not, cond, leb, List, [], ◌∷◌, Option, Some, None, refl, sym, ◌∙◌, ap, subst, arith, drop, length}
-use Rattle.std.specs.Prelude.{◌&&◌, ◌||◌}
+use Rattle.std.proofs.Common.{◌≡◌, ◌≢◌, ℕ, ◌<◌, Bool, true, false, cond, leb, List, [], ◌∷◌, Option, Some, None, refl, sym, ◌∙◌, ap, subst, arith, drop, length}
+use Rattle.std.specs.Prelude.{◌&&◌}
 use Rattle.std.proofs.lemmas.Bool.{eq-eqb, ne_eqb}
 use Rattle.hnodes.specs.Forest.{Attribute, Forest, element}
 use Rattle.hnodes.specs.Forest as forest
 use Rattle.hnodes.specs.declared.node.Place.TheVariants.{LastIn}
-use Rattle.hopen.specs.Nearest.{without}
-use Rattle.hopen.specs.Stack.{OpenNode, is_node}
+use Rattle.hopen.specs.Stack.{OpenNode}
 use Rattle.names.specs.declared.refusal.Refusal.{Refusal}
 use Rattle.names.specs.declared.refusal.Refusal.TheVariants.{TooDeep}
 use Rattle.names.specs.declared.tag.Tag.TheVariants as tag
@@ -18,27 +17,23 @@ use Rattle.hadopt.specs.Inserts.{inserted}
 use Rattle.hadopt.specs.Kept.{Each, Pairs, TellsTables}
 use Rattle.hnodes.proofs.Deep.{deep}
 use Rattle.hnodes.proofs.Counted.{deep-there}
-use Rattle.hadopt.proofs.Lists.{each-map}
 use Rattle.hadopt.proofs.Climbing.{OnGoes}
 use Rattle.hadopt.proofs.Settling.{Well}
 use Rattle.hadopt.proofs.Turning.{erred}
 use Rattle.hadopt.proofs.Inserting.{inserted-well, place-fits}
-use Rattle.hmodes.specs.declared.mode.Mode.{Mode}
-use Rattle.hmodes.specs.declared.mode.Mode.TheVariants.{Initial, BeforeHtml, BeforeHead, InHead, InHeadNoscript, AfterHead, InBody, Text, InTable, InTableText, InCaption, InColumnGroup, InTableBody, InRow, InCell, AfterBody, AfterAfterBody}
+use Rattle.hmodes.specs.declared.mode.Mode.TheVariants.{BeforeHead, InHead, InHeadNoscript, AfterHead, InBody, Text}
 use Rattle.hmodes.specs.declared.family.Family.TheVariants as family
-use Rattle.hmodes.specs.Words.{Kind, Nul, Ws, Char, Comment, Doctype, Start, End, Eof, Do, ◌▸◌, nothing, again, error, to, save_mode, to_saved, head_pointer, acknowledge, insert, insert_named, insert_comment, put, pop, push_head, remove_head, add_missing_to_first}
-use Rattle.hmodes.specs.State.{Token, State, Flow, Done, Again, Refused, flow_then, kind_of, token_name, token_attrs, token_text, token_char}
+use Rattle.hmodes.specs.Words.{Kind, Nul, Ws, Char, Comment, Doctype, Start, End, Eof, Do, ◌▸◌, nothing, again, error, to, save_mode, head_pointer, insert, insert_named, insert_comment, put, push_head, remove_head, add_missing_to_first}
+use Rattle.hmodes.specs.State.{Token, State, Flow, Done, Again, Refused, flow_then, token_name, token_attrs, token_text, token_char}
 use Rattle.hmodes.specs.Programs.{void, raw, html_again}
-use Rattle.hmodes.specs.Rules.{rule_of, code_of}
-use Rattle.hmodes.specs.Step.{Rule}
-use Rattle.hmodes.specs.Head.{initial, before_html, before_head, in_head, in_head_noscript, after_head, head_ends, late}
-use Rattle.hmodes.specs.Body.{in_body, text, after_body, after_after_body}
-use Rattle.hmodes.specs.Table.{in_table, in_table_text, in_caption, in_column_group, in_table_body, in_row, in_cell}
-use Rattle.hmodes.specs.Perform.{perform, with_site, with_control, flow_of, current_node, head_pushed, removed}
+use Rattle.hmodes.specs.Rules.{code_of}
+use Rattle.hmodes.specs.Head.{before_head, in_head, in_head_noscript, after_head, late}
+use Rattle.hmodes.specs.Body.{text}
+use Rattle.hmodes.specs.Perform.{perform, with_site, flow_of, current_node, head_pushed, removed}
 use Rattle.hmodes.proofs.Once.{both}
-use Rattle.hmodes.proofs.Stands.{tame, FlowWell, perform-well}
+use Rattle.hmodes.proofs.Stands.{tame, perform-well}
 use Rattle.hmodes.proofs.Heads.{Steady, steady-same, steady-then, added-steady, Deeper, inserted-steady, put-steady, missing-steady}
-use Rattle.hmodes.proofs.HeadFacts.{IsAt, OutOf, Knows, Facts, HeadFacts, FlowFacts, knows-steady, out-steady, Quiet, FlowQuiet, quiet-facts, quiet-flow, on-quiet, quiet-then}
+use Rattle.hmodes.proofs.HeadFacts.{IsAt, OutOf, Knows, Facts, HeadFacts, FlowFacts, knows-steady, out-steady, FlowQuiet, quiet-flow, on-quiet, quiet-then}
 
 -- what leaves modes, head pointer and open nodes as they are
 abbrev quiet : Do → Bool

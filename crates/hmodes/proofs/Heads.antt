@@ -1,6 +1,6 @@
 -- The modes of the head keep what they know of it.
-use Rattle.std.proofs.Common.{◌≡◌, ◌≢◌, ℕ, zero, suc, ◌+◌, ◌<◌, ◌≤◌, Bool, true, false, not, cond, leb, List, [], ◌∷◌, Option, Some, None, refl, sym, ◌∙◌, ap, subst, arith, drop, length, is_none}
-use Rattle.std.specs.Prelude.{◌&&◌, ◌||◌}
+use Rattle.std.proofs.Common.{◌≡◌, ◌≢◌, ℕ, ◌+◌, ◌<◌, Bool, true, false, cond, leb, List, [], ◌∷◌, Option, Some, None, refl, sym, ◌∙◌, subst, arith, length, is_none}
+use Rattle.std.specs.Prelude.{◌&&◌}
 use Rattle.std.specs.Char.{encode_utf8}
 use Rattle.hnodes.specs.Forest.{Attribute, What, element, text, Forest, none, tree, join, change_what}
 use Rattle.hnodes.specs.Edits.{graft, make, char_into, with_char, with_attribute, add_attribute, text_before}
@@ -9,14 +9,12 @@ use Rattle.hnodes.specs.declared.node.Place.{Place}
 use Rattle.hopen.specs.Stack.{OpenNode}
 use Rattle.names.specs.declared.refusal.Refusal.TheVariants.{TooManyNodes, TooDeep}
 use Rattle.hadopt.specs.Naming.{Naming}
-use Rattle.hadopt.specs.Site.{Outcome, Goes, Refused, SiteOf, and_then, stack, trees, with_stack, with_trees}
+use Rattle.hadopt.specs.Site.{Goes, Refused, SiteOf, and_then, stack, trees, with_stack, with_trees}
 use Rattle.hadopt.specs.Inserts.{added, inserted, pushed, put, has_attribute, with_missing}
-use Rattle.hadopt.specs.Kept.{Each}
-use Rattle.hnodes.proofs.Deep.{deep, deep-lower, deep-is}
+use Rattle.hnodes.proofs.Deep.{deep, deep-is}
 use Rattle.hnodes.proofs.Counted.{at-most, not-there, deep-there, counted-new}
 use Rattle.hnodes.proofs.Outside.{deep-what, deep-new, deep-newest, graft-apart}
-use Rattle.hadopt.proofs.Lists.{each-both}
-use Rattle.hadopt.proofs.Climbing.{OnGoes, goes-then}
+use Rattle.hadopt.proofs.Climbing.{OnGoes}
 use Rattle.hadopt.proofs.Settling.{Well}
 
 module _ {N : Type 0} (n : Naming N) where

@@ -1,20 +1,18 @@
 -- A run keeps that the open nodes stand, from the beginning of a document or a fragment on.
-use Rattle.std.proofs.Common.{◌≡◌, ℕ, zero, suc, ◌+◌, ◌<◌, ◌≤◌, Bool, true, false, not, cond, eqb, ltb, if◌then◌else◌, List, [], ◌∷◌, Option, Some, None, refl, sym, ◌∙◌, ap, subst, arith, ◌⊎◌, inl, inr}
+use Rattle.std.proofs.Common.{◌≡◌, ℕ, zero, suc, ◌+◌, Bool, true, false, not, cond, eqb, ltb, if◌then◌else◌, List, [], ◌∷◌, refl, subst, arith}
 use Rattle.std.specs.Prelude.{◌&&◌}
-use Rattle.std.proofs.lemmas.Bool.{cases_lt, le-leb, lt-leb, ne_eqb, eq-eqb}
+use Rattle.std.proofs.lemmas.Bool.{lt-leb, ne_eqb}
 use Rattle.hnodes.specs.Forest.{document, element, tree, times}
 use Rattle.hnodes.specs.Forest as forest
 use Rattle.hmarkup.specs.Quirks.{QuirkLine}
 use Rattle.names.specs.declared.tag.Tag.TheVariants as tag
 use Rattle.names.specs.declared.error.ErrorCode.TheVariants.{NonVoidHtmlElementStartTagWithTrailingSolidus}
 use Rattle.hadopt.specs.Naming.{Naming}
-use Rattle.hadopt.specs.Site.{Outcome, Goes, SiteOf, stack, trees, with_error}
-use Rattle.hadopt.specs.Site as site
-use Rattle.hadopt.specs.Kept.{TellsTables, Kept}
+use Rattle.hadopt.specs.Site.{Outcome, Goes, with_error}
+use Rattle.hadopt.specs.Kept.{TellsTables}
 use Rattle.hadopt.proofs.Climbing.{OnGoes}
 use Rattle.hadopt.proofs.Settling.{Well}
 use Rattle.hadopt.proofs.Turning.{erred}
-use Rattle.hadopt.proofs.Keeping.{from-well, to-well}
 use Rattle.hmodes.specs.declared.mode.Mode.TheVariants.{AfterHead}
 use Rattle.hmodes.specs.State.{Token, PlacedToken, State, Flow, Done, Again, Refused, is_self_closing}
 use Rattle.hmodes.specs.Step.{Rule, Chain, ends, refuses, goes_again, Step, drops, goes, Steps, none, and, refused, begun, finished}

@@ -1,13 +1,12 @@
 -- Every rule keeps what the open nodes need: they stand in the document's tree, each outside of those below it.
-use Rattle.std.proofs.Common.{◌≡◌, ℕ, ◌+◌, ◌<◌, ◌≤◌, Bool, true, false, not, cond, leb, List, [], ◌∷◌, ◌++◌, Option, Some, None, refl, sym, ◌∙◌, ap, subst, arith, length, filter, drop}
+use Rattle.std.proofs.Common.{◌≡◌, ℕ, ◌<◌, Bool, true, false, not, cond, leb, List, [], ◌∷◌, Option, Some, None, refl, subst, length, filter}
 use Rattle.std.specs.Prelude.{◌&&◌, ◌||◌, ◌==◌, nat_le}
 use Rattle.std.specs.Option.{option_map_or}
 use Rattle.std.specs.List.{list_any}
 use Rattle.hnodes.specs.Forest.{What, document, element}
 use Rattle.hnodes.specs.Forest as forest
 use Rattle.hnodes.specs.declared.node.Place.TheVariants.{LastIn}
-use Rattle.hopen.specs.Nearest.{without, after}
-use Rattle.hopen.specs.Stack.{OpenNode, is_node, current}
+use Rattle.hopen.specs.Stack.{is_node}
 use Rattle.hopen.specs.Formatting.{EntryOf, Item, entry, entries, cleared, find_entry, without_entry, with_room, without_earliest, is_equal, after_marker, most_equal}
 use Rattle.hopen.specs.Formatting as list
 use Rattle.names.specs.declared.placed.Placed.{Placed}
@@ -15,30 +14,28 @@ use Rattle.names.specs.declared.tag.Tag.{Tag}
 use Rattle.names.specs.declared.tag.Tag.TheVariants as tag
 use Rattle.names.specs.declared.tag.Tag.TheVariants.{Html}
 use Rattle.names.specs.Placed.{is_space}
-use Rattle.names.specs.declared.error.ErrorCode.{ErrorCode}
 use Rattle.names.specs.declared.refusal.Refusal.TheVariants.{TooDeep}
 use Rattle.hadopt.specs.Naming.{Naming}
 use Rattle.hadopt.specs.Site.{Outcome, Goes, SiteOf, and_then, stack, trees, with_stack, with_error, with_items, from_top, node_of}
 use Rattle.hadopt.specs.Site as site
 use Rattle.hadopt.specs.Places.{place}
-use Rattle.hadopt.specs.Inserts.{added, inserted, pushed, listed}
+use Rattle.hadopt.specs.Inserts.{listed}
 use Rattle.hadopt.specs.Closes.{is}
 use Rattle.hadopt.specs.Adopts.{adopted}
-use Rattle.hadopt.specs.Kept.{Each, Pairs, TellsTables, Kept}
+use Rattle.hadopt.specs.Kept.{Each, TellsTables}
 use Rattle.hnodes.proofs.Deep.{deep}
-use Rattle.hadopt.proofs.Lists.{each-map, Among, empty, skip, keep, among-all, among-after, among-without, each-among}
+use Rattle.hadopt.proofs.Lists.{among-all, among-after, among-without}
 use Rattle.hadopt.proofs.Climbing.{OnGoes, goes-then, Plain, PlainEntries, plain-without}
 use Rattle.hadopt.proofs.Settling.{Well}
-use Rattle.hadopt.proofs.Turning.{among-past, among-drop, fewer, listed-as, erred, closed-well, other-well, adopted-well, to-items, from-items}
+use Rattle.hadopt.proofs.Turning.{among-past, among-drop, fewer, listed-as, erred, closed-well, other-well, adopted-well}
 use Rattle.hadopt.proofs.Inserting.{missing-well, first-fits, here-fits, root-fits, place-fits, added-well, inserted-well, put-well, reconstructed-well}
 use Rattle.hmodes.specs.declared.mode.Mode.{Mode}
 use Rattle.hmodes.specs.declared.mode.Mode.TheVariants.{Initial, BeforeHtml, BeforeHead, InHead, InHeadNoscript, AfterHead, InBody, Text, InTable, InTableText, InCaption, InColumnGroup, InTableBody, InRow, InCell, AfterBody, AfterAfterBody}
-use Rattle.hmodes.specs.declared.family.Family.{Family}
 use Rattle.hmodes.specs.declared.family.Family.TheVariants as family
 use Rattle.hmodes.specs.Families.{family_of}
 use Rattle.hmodes.specs.Words.{Kind, Nul, Ws, Char, Start, End, Do, ◌▸◌, when, unless, choose, fostered, each_pending, error, insert, insert_named, insert_root, insert_root_named, insert_comment, comment_in_document, comment_in_first, insert_doctype, put, add_missing_to_first, add_missing_to_second, pop, pop_to, pop_to_name, pop_to_group, implied, implied_except, implied_except_name, clear_to_table, clear_to_body, clear_to_row, push_head, remove_head, remove_form, reconstruct, push_to_list, marker, clear_to_marker, close_p, adopt, adopt_listed, other_end}
 use Rattle.hmodes.specs.State.{Token, character, start, end, doctype, comment, eof, State, Flow, Done, Again, Refused, kind_of, flow_then, flow_map, token_name, token_attrs, token_text, token_char}
-use Rattle.hmodes.specs.Questions.{answer_of, is_token_name}
+use Rattle.hmodes.specs.Questions.{answer_of}
 use Rattle.hmodes.specs.Doctypes.{doctype_node}
 use Rattle.hmodes.specs.Perform.{perform, with_foster, with_control, with_site, each_of, flow_of, removed, forgotten, current_node, adopted_listed, head_pushed}
 use Rattle.hmodes.specs.Rules.{rule_of, code_of}

@@ -1,5 +1,5 @@
 -- What the words of the rules mean.
-use Rattle.std.specs.Prelude.{ℕ, Bool, true, false, not, drop, List, [], ◌∷◌, ◌++◌, Option, Some, None, if◌then◌else◌}
+use Rattle.std.specs.Prelude.{ℕ, Bool, true, false, drop, List, [], ◌∷◌, ◌++◌, Option, Some, None, if◌then◌else◌}
 use Rattle.std.specs.Option.{option_map_or}
 use Rattle.hnodes.specs.Forest.{Attribute}
 use Rattle.hnodes.specs.Forest as forest
@@ -9,7 +9,6 @@ use Rattle.hopen.specs.Stack.{OpenNode, is_node, current}
 use Rattle.hopen.specs.Scopes.{is_of}
 use Rattle.hopen.specs.Formatting.{find_entry, without_entry, pushed, cleared}
 use Rattle.hopen.specs.Formatting as list
-use Rattle.names.specs.declared.tag.Tag.{Tag}
 use Rattle.names.specs.declared.tag.Tag.TheVariants as tag
 use Rattle.names.specs.declared.placed.Placed.{Placed}
 use Rattle.hadopt.specs.Naming.{Naming}

@@ -9,10 +9,9 @@ use Rattle.hopen.specs.Scopes.{stops, is_named, is_of}
 use Rattle.hopen.specs.declared.scope.Scope.{Scope}
 use Rattle.hopen.specs.declared.scope.Scope.TheVariants.{Default}
 use Rattle.hopen.specs.Formatting.{find_entry}
-use Rattle.names.specs.declared.tag.Tag.{Tag}
 use Rattle.names.specs.declared.tag.Tag.TheVariants as tag
 use Rattle.names.specs.Placed.{is_space}
-use Rattle.names.specs.Sets.{is_special, may_stay_open}
+use Rattle.names.specs.Sets.{may_stay_open}
 use Rattle.hadopt.specs.Naming.{Naming}
 use Rattle.hadopt.specs.Site.{stack, from_top}
 use Rattle.hadopt.specs.Site as site

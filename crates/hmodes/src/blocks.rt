@@ -1,7 +1,6 @@
 //! Blocks, items, headings and forms in the body (HTML Standard, 13.2.6.4.7).
 
-ghost use Rattle.std.specs.Prelude.{◌≡◌, ℕ, IfOk};
-ghost use Rattle.hadopt.specs.Kept.{Kept};
+ghost use Rattle.std.specs.Prelude.{ℕ};
 ghost use Rattle.hadopt.specs.Naming.{numbers};
 ghost use Rattle.hopen.specs.declared.scope.Scope.TheVariants as scope;
 ghost use Rattle.hopen.specs.declared.scope.Group.TheVariants as group;
@@ -162,12 +161,7 @@ impl<'q> Rules<'q> {
     }
 
     /// The end tags li, dd and dt.
-    pub(crate) fn end_item(
-        &mut self,
-        scope: Scope,
-        token: &Token,
-        at: u64,
-    ) -> Result<Flow, Refusal>
+    pub(crate) fn end_item(&mut self, scope: Scope, token: &Token, at: u64) -> Result<Flow, Refusal>
         ensures { FlowGives result (token_of token.now) (state_of self.new) (perform numbers at (token_of token.now) (end_item scope) (state_of self.old)) }
     {
         let name = token_name(token);

@@ -1,14 +1,13 @@
 //! The "in body" insertion mode (HTML Standard, 13.2.6.4.7).
 
-ghost use Rattle.std.specs.Prelude.{◌≡◌, ℕ, IfOk};
+ghost use Rattle.std.specs.Prelude.{ℕ};
 ghost use Rattle.hadopt.specs.Kept.{Kept};
 ghost use Rattle.hadopt.specs.Naming.{numbers};
 ghost use Rattle.hopen.specs.declared.scope.Scope.TheVariants as scope;
-ghost use Rattle.hopen.specs.declared.scope.Group.TheVariants as group;
 ghost use Rattle.names.specs.declared.tag.Tag.TheVariants as tag;
-ghost use Rattle.hmodes.specs.Flows.{FlowGives, StateGives, performed, performed_for};
+ghost use Rattle.hmodes.specs.Flows.{FlowGives, StateGives, performed};
 ghost use Rattle.hmodes.specs.Perform.{perform};
-ghost use Rattle.hmodes.specs.State.{Token as TokenOf};
+ghost use Rattle.hmodes.specs.State.{Token as TokenOf, character};
 ghost use Rattle.hmodes.specs.States.{state_of};
 ghost use Rattle.hmodes.specs.Tokens.{token_of};
 ghost use Rattle.hmodes.specs.Body.{in_body, body_ends, character_in_body};
@@ -19,7 +18,7 @@ use crate::family::Family;
 use crate::kind::Kind;
 use crate::mode::Mode;
 use crate::rules::{Flow, Rules};
-use crate::token::token_name;
+use crate::token::{token_char, token_name};
 use hopen::Scope;
 use htoken::Token;
 use names::{Refusal, Tag};
@@ -47,12 +46,7 @@ impl<'q> Rules<'q> {
     }
 
     /// A start tag.
-    fn start_in_body(
-        &mut self,
-        family: Family,
-        token: &mut Token,
-        at: u64,
-    ) -> Result<Flow, Refusal>
+    fn start_in_body(&mut self, family: Family, token: &mut Token, at: u64) -> Result<Flow, Refusal>
         requires { Kept numbers self.old.site }
         ensures { FlowGives result (token_of token.new) (state_of self.new) (perform numbers at (token_of token.old) (in_body (Start family)) (state_of self.old)) }
     {
@@ -98,12 +92,7 @@ impl<'q> Rules<'q> {
     }
 
     /// An end tag.
-    fn end_in_body(
-        &mut self,
-        family: Family,
-        token: &mut Token,
-        at: u64,
-    ) -> Result<Flow, Refusal>
+    fn end_in_body(&mut self, family: Family, token: &mut Token, at: u64) -> Result<Flow, Refusal>
         requires { Kept numbers self.old.site }
         ensures { FlowGives result (token_of token.new) (state_of self.new) (perform numbers at (token_of token.old) (in_body (End family)) (state_of self.old)) }
     {
@@ -127,8 +116,16 @@ impl<'q> Rules<'q> {
     pub(crate) fn character_in_body(&mut self, token: &Token, at: u64) -> Result<Flow, Refusal>
         ensures { FlowGives result (token_of token.now) (state_of self.new) (perform numbers at (token_of token.now) (character_in_body) (state_of self.old)) }
     {
+        self.put_in_body(token_char(token), at)?;
+        Ok(Flow::Done)
+    }
+
+    /// The character, after the formatting elements.
+    pub(crate) fn put_in_body(&mut self, ch: char, at: u64) -> Result<(), Refusal>
+        ensures { StateGives result (state_of self.new) (perform numbers at (character ch) character_in_body (state_of self.old)) }
+    {
         self.site.reconstruct(at)?;
-        self.put(token, at)
+        self.put_char(ch, at)
     }
 
     /// A parse error if an element is open that may not be at the end of the body.

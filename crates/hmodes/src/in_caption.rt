@@ -1,12 +1,9 @@
 //! The insertion modes of captions and column groups (HTML Standard, 13.2.6.4.11 and 13.2.6.4.12).
 
-ghost use Rattle.std.specs.Prelude.{◌≡◌, ℕ, IfOk};
+ghost use Rattle.std.specs.Prelude.{ℕ};
 ghost use Rattle.hadopt.specs.Kept.{Kept};
 ghost use Rattle.hadopt.specs.Naming.{numbers};
-ghost use Rattle.hopen.specs.declared.scope.Scope.TheVariants as scope;
-ghost use Rattle.hopen.specs.declared.scope.Group.TheVariants as group;
-ghost use Rattle.names.specs.declared.tag.Tag.TheVariants as tag;
-ghost use Rattle.hmodes.specs.Flows.{FlowGives, StateGives, performed, performed_for};
+ghost use Rattle.hmodes.specs.Flows.{FlowGives};
 ghost use Rattle.hmodes.specs.Perform.{perform};
 ghost use Rattle.hmodes.specs.State.{Token as TokenOf};
 ghost use Rattle.hmodes.specs.States.{state_of};

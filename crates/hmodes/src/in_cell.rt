@@ -1,18 +1,17 @@
 //! The "in cell" insertion mode (HTML Standard, 13.2.6.4.15).
 
-ghost use Rattle.std.specs.Prelude.{◌≡◌, ℕ, IfOk};
+ghost use Rattle.std.specs.Prelude.{ℕ};
 ghost use Rattle.hadopt.specs.Kept.{Kept};
 ghost use Rattle.hadopt.specs.Naming.{numbers};
 ghost use Rattle.hopen.specs.declared.scope.Scope.TheVariants as scope;
 ghost use Rattle.hopen.specs.declared.scope.Group.TheVariants as group;
-ghost use Rattle.names.specs.declared.tag.Tag.TheVariants as tag;
-ghost use Rattle.hmodes.specs.Flows.{FlowGives, StateGives, performed, performed_for};
+ghost use Rattle.hmodes.specs.Flows.{FlowGives, StateGives, performed};
 ghost use Rattle.hmodes.specs.Perform.{perform};
 ghost use Rattle.hmodes.specs.State.{Token as TokenOf};
 ghost use Rattle.hmodes.specs.States.{state_of};
 ghost use Rattle.hmodes.specs.Tokens.{token_of};
 ghost use Rattle.hmodes.specs.Table.{in_cell, close_cell, cell_ends};
-ghost use Rattle.hmodes.specs.Words.{◌▸◌, unless, choose, error, again, to, implied, pop_to_name, clear_to_marker, current_is_name, has_name_in};
+ghost use Rattle.hmodes.specs.Words.{◌▸◌, unless, choose, error, again, to, implied, pop_to_name, clear_to_marker, current_is_name, current_is_group, has_name_in};
 ghost use Rattle.hmodes.specs.declared.mode.Mode.TheVariants.{InCell, InRow};
 
 use crate::family::Family;
@@ -23,7 +22,7 @@ use crate::token::token_name;
 use hadopt::Passing;
 use hopen::{Group, Scope};
 use htoken::Token;
-use names::{Refusal};
+use names::Refusal;
 
 impl<'q> Rules<'q> {
     /// The "in cell" insertion mode.
@@ -49,7 +48,9 @@ impl<'q> Rules<'q> {
             Kind::End(
                 Family::Body | Family::Caption | Family::Col | Family::Colgroup | Family::Html,
             ) => self.ignore(Mode::InCell, at),
-            Kind::End(Family::Table | Family::Section | Family::Row) => self.cell_ends_in(token, at),
+            Kind::End(Family::Table | Family::Section | Family::Row) => self.cell_ends_in(
+                token, at,
+            ),
             _ => self.in_body(kind, token, at),
         }
     }
@@ -69,14 +70,22 @@ impl<'q> Rules<'q> {
         Ok(Flow::Done)
     }
 
+    /// A parse error if the current node is no cell.
+    fn expect_cell(&mut self, at: u64) -> Result<(), Refusal>
+        ensures { StateGives result (state_of self.new) (performed at (unless (current_is_group group.Cell) (error InCell)) (state_of self.old)) }
+    {
+        if self.site.current_is_of(Group::Cell) {
+            return Ok(());
+        }
+        self.error(Mode::InCell, at)
+    }
+
     /// Closes the cell.
     pub(crate) fn close_cell(&mut self, at: u64) -> Result<(), Refusal>
         ensures { StateGives result (state_of self.new) (performed at (close_cell) (state_of self.old)) }
     {
         self.site.pop_past(Passing::Implied(None));
-        if !self.site.current_is_of(Group::Cell) {
-            self.error(Mode::InCell, at)?;
-        }
+        self.expect_cell(at)?;
         self.site.pop_to_group(Group::Cell);
         self.site.clear_to_marker();
         self.control.mode = Mode::InRow;

@@ -1,12 +1,11 @@
 //! The "in row" insertion mode (HTML Standard, 13.2.6.4.14).
 
-ghost use Rattle.std.specs.Prelude.{◌≡◌, ℕ, IfOk};
+ghost use Rattle.std.specs.Prelude.{ℕ};
 ghost use Rattle.hadopt.specs.Kept.{Kept};
 ghost use Rattle.hadopt.specs.Naming.{numbers};
 ghost use Rattle.hopen.specs.declared.scope.Scope.TheVariants as scope;
-ghost use Rattle.hopen.specs.declared.scope.Group.TheVariants as group;
 ghost use Rattle.names.specs.declared.tag.Tag.TheVariants as tag;
-ghost use Rattle.hmodes.specs.Flows.{FlowGives, StateGives, performed, performed_for};
+ghost use Rattle.hmodes.specs.Flows.{FlowGives};
 ghost use Rattle.hmodes.specs.Perform.{perform};
 ghost use Rattle.hmodes.specs.State.{Token as TokenOf};
 ghost use Rattle.hmodes.specs.States.{state_of};
@@ -27,12 +26,7 @@ use names::{Refusal, Tag};
 
 impl<'q> Rules<'q> {
     /// The "in row" insertion mode.
-    pub(crate) fn in_row(
-        &mut self,
-        kind: Kind,
-        token: &mut Token,
-        at: u64,
-    ) -> Result<Flow, Refusal>
+    pub(crate) fn in_row(&mut self, kind: Kind, token: &mut Token, at: u64) -> Result<Flow, Refusal>
         requires { Kept numbers self.old.site }
         ensures { FlowGives result (token_of token.new) (state_of self.new) (perform numbers at (token_of token.old) (in_row kind) (state_of self.old)) }
     {

@@ -1,12 +1,11 @@
 //! The "in table" insertion mode (HTML Standard, 13.2.6.4.9).
 
-ghost use Rattle.std.specs.Prelude.{◌≡◌, ℕ, IfOk};
+ghost use Rattle.std.specs.Prelude.{ℕ};
 ghost use Rattle.hadopt.specs.Kept.{Kept};
 ghost use Rattle.hadopt.specs.Naming.{numbers};
 ghost use Rattle.hopen.specs.declared.scope.Scope.TheVariants as scope;
-ghost use Rattle.hopen.specs.declared.scope.Group.TheVariants as group;
 ghost use Rattle.names.specs.declared.tag.Tag.TheVariants as tag;
-ghost use Rattle.hmodes.specs.Flows.{FlowGives, StateGives, performed, performed_for};
+ghost use Rattle.hmodes.specs.Flows.{FlowGives};
 ghost use Rattle.hmodes.specs.Perform.{perform};
 ghost use Rattle.hmodes.specs.State.{Token as TokenOf};
 ghost use Rattle.hmodes.specs.States.{state_of};
@@ -72,12 +71,7 @@ impl<'q> Rules<'q> {
     }
 
     /// An end tag in a table.
-    fn end_in_table(
-        &mut self,
-        family: Family,
-        token: &mut Token,
-        at: u64,
-    ) -> Result<Flow, Refusal>
+    fn end_in_table(&mut self, family: Family, token: &mut Token, at: u64) -> Result<Flow, Refusal>
         requires { Kept numbers self.old.site }
         ensures { FlowGives result (token_of token.new) (state_of self.new) (perform numbers at (token_of token.old) (in_table (End family)) (state_of self.old)) }
     {
@@ -144,12 +138,7 @@ impl<'q> Rules<'q> {
     }
 
     /// A part of a table, whose content goes by another mode.
-    fn insert_in_table(
-        &mut self,
-        mode: Mode,
-        token: &mut Token,
-        at: u64,
-    ) -> Result<Flow, Refusal>
+    fn insert_in_table(&mut self, mode: Mode, token: &mut Token, at: u64) -> Result<Flow, Refusal>
         ensures { FlowGives result (token_of token.new) (state_of self.new) (perform numbers at (token_of token.old) (clear_to_table ▸ insert ▸ to mode) (state_of self.old)) }
     {
         self.site.pop_past(Passing::Table);

@@ -1,13 +1,13 @@
 //! Formatting and other elements among text in the body (HTML Standard, 13.2.6.4.7).
 
-ghost use Rattle.std.specs.Prelude.{◌≡◌, ℕ, IfOk};
+ghost use Rattle.std.specs.Prelude.{◌≡◌, ℕ};
 ghost use Rattle.hadopt.specs.Kept.{Kept};
 ghost use Rattle.hadopt.specs.Naming.{numbers};
 ghost use Rattle.hopen.specs.declared.scope.Scope.TheVariants as scope;
-ghost use Rattle.hopen.specs.declared.scope.Group.TheVariants as group;
 ghost use Rattle.names.specs.declared.tag.Tag.TheVariants as tag;
 ghost use Rattle.hmodes.specs.Flows.{FlowGives, StateGives, performed, performed_for};
-ghost use Rattle.hmodes.specs.Perform.{perform};
+ghost use Rattle.hmodes.specs.Perform.{perform, forgotten, with_site};
+ghost use Rattle.std.specs.Option.{option_map_or};
 ghost use Rattle.hmodes.specs.State.{Token as TokenOf};
 ghost use Rattle.hmodes.specs.States.{state_of};
 ghost use Rattle.hmodes.specs.Tokens.{token_of};
@@ -20,6 +20,7 @@ use crate::mode::Mode;
 use crate::rules::{Flow, Rules};
 use crate::token::{rename, take_attrs, token_name};
 use hadopt::Passing;
+use hnodes::NodeId;
 use hopen::Scope;
 use htoken::Token;
 use names::{NameId, Refusal, Tag};
@@ -53,19 +54,37 @@ impl<'q> Rules<'q> {
         self.site.adopt(name, at)
     }
 
+    /// An element leaves the stack and the list.
+    fn forget(&mut self, found: Option<NodeId>)
+        ensures { state_of self.new ≡ with_site (option_map_or (λ k. forgotten k self.old.site) found self.old.site) (state_of self.old) }
+    {
+        if let Some(node) = found {
+            self.site.leave(node);
+            self.site.remove_entry(node);
+        }
+    }
+
     /// The adoption agency runs for a listed element of the name, which leaves then.
-    pub(crate) fn close_listed(&mut self, name: NameId, at: u64) -> Result<(), Refusal>
+    fn adopt_listed(&mut self, name: NameId, at: u64) -> Result<(), Refusal>
+        requires { Kept numbers self.old.site }
+        ensures { StateGives result (state_of self.new) (performed_for name at (error InBody ▸ adopt_listed) (state_of self.old)) }
+    {
+        self.error(Mode::InBody, at)?;
+        let found = self.site.find(name);
+        self.site.adopt(name, at)?;
+        self.forget(found);
+        Ok(())
+    }
+
+    /// A listed element of the name is closed.
+    fn close_listed(&mut self, name: NameId, at: u64) -> Result<(), Refusal>
         requires { Kept numbers self.old.site }
         ensures { StateGives result (state_of self.new) (performed_for name at (when name_is_listed (error InBody ▸ adopt_listed)) (state_of self.old)) }
     {
-        let Some(node) = self.site.find(name) else {
+        if self.site.find(name).is_none() {
             return Ok(());
-        };
-        self.error(Mode::InBody, at)?;
-        self.site.adopt(name, at)?;
-        self.site.leave(node);
-        self.site.remove_entry(node);
-        Ok(())
+        }
+        self.adopt_listed(name, at)
     }
 
     /// The start tag a.
@@ -77,17 +96,25 @@ impl<'q> Rules<'q> {
         self.formatting(token, at)
     }
 
-    /// The adoption agency runs for a nobr in scope.
-    pub(crate) fn close_nobr(&mut self, name: NameId, at: u64) -> Result<(), Refusal>
+    /// The adoption agency runs for a nobr that is open.
+    fn adopt_nobr(&mut self, name: NameId, at: u64) -> Result<(), Refusal>
+        requires { Kept numbers self.old.site }
+        ensures { StateGives result (state_of self.new) (performed_for name at (error InBody ▸ adopt ▸ reconstruct) (state_of self.old)) }
+    {
+        self.error(Mode::InBody, at)?;
+        self.run_adoption(name, at)?;
+        self.site.reconstruct(at)
+    }
+
+    /// A nobr in scope is closed.
+    fn close_nobr(&mut self, name: NameId, at: u64) -> Result<(), Refusal>
         requires { Kept numbers self.old.site }
         ensures { StateGives result (state_of self.new) (performed_for name at (when (has_in scope.Default tag.Nobr) (error InBody ▸ adopt ▸ reconstruct)) (state_of self.old)) }
     {
         if !self.site.in_scope(Scope::Default, Tag::Nobr.number()) {
             return Ok(());
         }
-        self.error(Mode::InBody, at)?;
-        self.site.adopt(name, at)?;
-        self.site.reconstruct(at)
+        self.adopt_nobr(name, at)
     }
 
     /// The start tag nobr.

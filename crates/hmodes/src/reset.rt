@@ -48,9 +48,9 @@ impl<'q> Rules<'q> {
     pub(crate) fn reset_mode(&self) -> Mode
         ensures { result ≡ reset_mode numbers self.now.context (stack self.now.site) }
     {
-        let mut down = self.site.open_count();
+        let mut down = self.site.open_count().saturating_sub(1);
         let mut up = 0;
-        while down > 1 {
+        while down > 0 {
             if let Some(mode) = self.mode_at(up) {
                 return mode;
             }

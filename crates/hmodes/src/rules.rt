@@ -1,20 +1,13 @@
 //! What the rules of all modes work with.
 
-ghost use Rattle.std.specs.Prelude.{◌≡◌, ◌⊎◌, ℕ};
-ghost use Rattle.hadopt.specs.Naming.{numbers};
-ghost use Rattle.hmodes.specs.Flows.{FlowGives, StateGives};
-ghost use Rattle.hmodes.specs.States.{state_of};
-ghost use Rattle.hmodes.specs.State.{Token as TokenOf};
-ghost use Rattle.hmodes.specs.Perform.{perform};
-ghost use Rattle.hmodes.specs.Programs.{close_p_in_scope};
-ghost use Rattle.hmodes.specs.Words.{error};
+ghost use Rattle.std.specs.Prelude.{◌≡◌};
 ghost use Rattle.hmodes.specs.Rules.{code_of};
 
 use crate::control::Control;
 use crate::mode::Mode;
-use hadopt::{Site};
-use hopen::Scope;
+use hadopt::Site;
 use hmarkup::Quirks;
+use hopen::Scope;
 use names::{ErrorCode, NameId, Refusal, Tag};
 use std::alloc::Global;
 

@@ -1,18 +1,16 @@
 //! The "in table text" insertion mode (HTML Standard, 13.2.6.4.10).
 
-ghost use Rattle.std.specs.Prelude.{◌≡◌, ℕ, IfOk};
-ghost use Rattle.hadopt.specs.Kept.{Kept};
+ghost use Rattle.std.specs.Prelude.{◌≡◌, ℕ, [], if◌then◌else◌};
+ghost use Rattle.std.specs.List.{list_all};
+ghost use Rattle.names.specs.Placed.{is_space};
 ghost use Rattle.hadopt.specs.Naming.{numbers};
-ghost use Rattle.hopen.specs.declared.scope.Scope.TheVariants as scope;
-ghost use Rattle.hopen.specs.declared.scope.Group.TheVariants as group;
-ghost use Rattle.names.specs.declared.tag.Tag.TheVariants as tag;
-ghost use Rattle.hmodes.specs.Flows.{FlowGives, StateGives, performed, performed_for};
+ghost use Rattle.hmodes.specs.Flows.{FlowGives, StateGives, performed};
 ghost use Rattle.hmodes.specs.Perform.{perform};
 ghost use Rattle.hmodes.specs.State.{Token as TokenOf};
 ghost use Rattle.hmodes.specs.States.{state_of};
 ghost use Rattle.hmodes.specs.Tokens.{token_of};
 ghost use Rattle.hmodes.specs.Table.{in_table_text, other_in_table};
-ghost use Rattle.hmodes.specs.Perform.{each_of};
+ghost use Rattle.hmodes.specs.Perform.{each_of, with_control};
 ghost use Rattle.hmodes.specs.State.{character};
 ghost use Rattle.hmodes.specs.Words.{Char, ◌▸◌, choose, each_pending, again, to_saved, put, pend, pending_is_ws};
 
@@ -23,6 +21,13 @@ use crate::token::token_char;
 use htoken::Token;
 use names::{Placed, Refusal};
 use std::mem;
+
+/// Whether all of them are white space.
+fn are_ws(pending: &[Placed]) -> bool
+    ensures { result ≡ list_all (λ c. is_space c.ch) pending.now }
+{
+    pending.iter().all(|c| c.ch.is_ascii_whitespace())
+}
 
 impl<'q> Rules<'q> {
     /// The "in table text" insertion mode.
@@ -63,12 +68,26 @@ impl<'q> Rules<'q> {
     fn put_pending(&mut self) -> Result<(), Refusal>
         ensures { StateGives result (state_of self.new) (performed 0 (choose pending_is_ws (each_pending put) (each_pending (other_in_table Char))) (state_of self.old)) }
     {
-        let pending = mem::replace(&mut self.control.pending, Vec::new(self.alloc));
-        if pending.iter().all(|c| c.ch.is_ascii_whitespace()) {
-            self.put_each(pending)
-        } else {
-            self.foster_each(pending)
+        let pending = self.take_pending();
+        self.put_all(pending)
+    }
+
+    /// Takes the pending characters out.
+    fn take_pending(&mut self) -> Vec<Placed>
+        ensures taken { result.items ≡ self.old.control.pending }
+        ensures rest { state_of self.new ≡ with_control (record self.old.control { pending = [] }) (state_of self.old) }
+    {
+        mem::replace(&mut self.control.pending, Vec::new(self.alloc))
+    }
+
+    /// Characters that were pending: white space is put as it is, others go as anything else in a table.
+    fn put_all(&mut self, pending: Vec<Placed>) -> Result<(), Refusal>
+        ensures { StateGives result (state_of self.new) (if list_all (λ c. is_space c.ch) pending.items then each_of (λ c. perform numbers c.at (character c.ch) put) pending.items (state_of self.old) else each_of (λ c. perform numbers c.at (character c.ch) (other_in_table Char)) pending.items (state_of self.old)) }
+    {
+        if are_ws(&pending) {
+            return self.put_each(pending);
         }
+        self.foster_each(pending)
     }
 
     /// Each character is put at its own place.
@@ -97,8 +116,7 @@ impl<'q> Rules<'q> {
     {
         self.error(Mode::InTable, at)?;
         self.site.set_foster(true);
-        self.site.reconstruct(at)?;
-        self.put_char(ch, at)?;
+        self.put_in_body(ch, at)?;
         self.site.set_foster(false);
         Ok(())
     }

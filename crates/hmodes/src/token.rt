@@ -67,9 +67,16 @@ pub(crate) fn is_hidden(token: &Token) -> bool
     ensures { result ≡ list_any (is_hidden numbers) (token_attrs (token_of token.now)) }
 {
     match token {
-        Token::Start { attrs, .. } => attrs.iter().any(is_hidden_type),
+        Token::Start { attrs, .. } => has_hidden(attrs),
         _ => false,
     }
+}
+
+/// Whether one of them is an attribute type that is `hidden`.
+fn has_hidden(attrs: &[Attr]) -> bool
+    ensures { result ≡ list_any (λ a. is_hidden numbers (attribute_of a)) attrs.now }
+{
+    attrs.iter().any(|attr| is_hidden_type(attr))
 }
 
 /// Whether it is an attribute type that is `hidden`.

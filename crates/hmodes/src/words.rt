@@ -1,6 +1,6 @@
 //! The steps that the rules are made of.
 
-ghost use Rattle.std.specs.Prelude.{◌≡◌, ℕ, IfOk, []};
+ghost use Rattle.std.specs.Prelude.{ℕ, IfOk, []};
 ghost use Rattle.hadopt.specs.Kept.{Kept};
 ghost use Rattle.hadopt.specs.Naming.{numbers};
 ghost use Rattle.hadopt.specs.Site.{from_top};
@@ -95,7 +95,11 @@ impl<'q> Rules<'q> {
     }
 
     /// A comment last in the document.
-    pub(crate) fn comment_in_document(&mut self, token: &mut Token, at: u64) -> Result<Flow, Refusal>
+    pub(crate) fn comment_in_document(
+        &mut self,
+        token: &mut Token,
+        at: u64,
+    ) -> Result<Flow, Refusal>
         ensures done { FlowGives result (token_of token.new) (state_of self.new) (perform numbers at (token_of token.old) comment_in_document (state_of self.old)) }
     {
         let text = take_text(self.alloc, token);

@@ -1,0 +1,162 @@
+//! The "initial" insertion mode (HTML Standard, 13.2.6.4.1).
+
+ghost use Rattle.std.specs.Prelude.{◌≡◌, ℕ, [], string_bytes, unwrap_or};
+ghost use Rattle.hnodes.specs.Forest as forest;
+ghost use Rattle.hmarkup.specs.DoctypeWalk.{text_of};
+ghost use Rattle.hadopt.specs.Naming.{numbers};
+ghost use Rattle.hmodes.specs.Doctypes.{is_text, conforms, forces_quirks, doctype_node};
+ghost use Rattle.hmodes.specs.Flows.{FlowGives, StateGives};
+ghost use Rattle.hmodes.specs.Head.{initial};
+ghost use Rattle.hmodes.specs.Perform.{perform};
+ghost use Rattle.hmodes.specs.State.{Token as TokenOf};
+ghost use Rattle.hmodes.specs.States.{state_of};
+ghost use Rattle.hmodes.specs.Tokens.{token_of};
+ghost use Rattle.hmodes.specs.Words.{◌▸◌, unless, again, error, to, go_quirks, judge_quirks, insert_doctype, doctype_conforms};
+ghost use Rattle.hmodes.specs.declared.mode.Mode.TheVariants.{Initial, BeforeHtml};
+
+use crate::kind::Kind;
+use crate::mode::Mode;
+use crate::rules::{Flow, Rules};
+use hnodes::Doctype;
+use htoken::Token;
+use names::Refusal;
+use std::alloc::Global;
+
+/// The system identifier that is no error.
+const LEGACY_COMPAT: &str = "about:legacy-compat";
+
+/// Whether a name or an identifier is there and is this text.
+fn is_text(text: &str, found: &Option<String>) -> bool
+    ensures { result ≡ is_text text.now (text_of found.now) }
+{
+    match found {
+        Some(found) => text == found.as_str(),
+        None => false,
+    }
+}
+
+/// Whether a doctype is no error.
+fn conforms(token: &Token) -> bool
+    ensures { result ≡ conforms (token_of token.now) }
+{
+    match token {
+        Token::Doctype {
+            name,
+            public_id,
+            system_id,
+            ..
+        } => {
+            is_text("html", name)
+                && public_id.is_none()
+                && (system_id.is_none() || is_text(LEGACY_COMPAT, system_id))
+        }
+        _ => false,
+    }
+}
+
+/// Takes a text out, an empty one where there is none.
+fn take_text(alloc: Global, text: &mut Option<String>) -> String
+    ensures { string_bytes result ≡ unwrap_or (text_of text.old) [] }
+{
+    match text.take() {
+        Some(text) => text,
+        None => String::new(alloc),
+    }
+}
+
+/// Takes the texts out of a doctype; what is missing is empty.
+fn take_doctype(alloc: Global, token: &mut Token) -> Doctype
+    ensures { forest.doctype (string_bytes result.name) (string_bytes result.public_id) (string_bytes result.system_id) ≡ doctype_node (token_of token.old) }
+{
+    match token {
+        Token::Doctype {
+            name,
+            public_id,
+            system_id,
+            ..
+        } => Doctype {
+            name: take_text(alloc, name),
+            public_id: take_text(alloc, public_id),
+            system_id: take_text(alloc, system_id),
+        },
+        _ => Doctype {
+            name: String::new(alloc),
+            public_id: String::new(alloc),
+            system_id: String::new(alloc),
+        },
+    }
+}
+
+impl<'q> Rules<'q> {
+    /// The "initial" insertion mode.
+    pub(crate) fn initial(
+        &mut self,
+        kind: Kind,
+        token: &mut Token,
+        at: u64,
+    ) -> Result<Flow, Refusal>
+        ensures { FlowGives result (token_of token.new) (state_of self.new) (perform numbers at (token_of token.old) (initial kind) (state_of self.old)) }
+    {
+        match kind {
+            Kind::Ws => Ok(Flow::Done),
+            Kind::Comment => self.comment_in_document(token, at),
+            Kind::Doctype => self.doctype(token, at),
+            _ => self.no_doctype(at),
+        }
+    }
+
+    /// Whether a doctype is one for quirks mode.
+    fn forces_quirks(&self, token: &Token) -> bool
+        ensures { result ≡ forces_quirks (state_of self.now) (token_of token.now) }
+    {
+        match token {
+            Token::Doctype {
+                name,
+                public_id,
+                system_id,
+                forced,
+                ..
+            } => {
+                *forced
+                    || !is_text("html", name)
+                    || self
+                        .quirks_list
+                        .matches(public_id.as_deref(), system_id.as_deref())
+            }
+            _ => false,
+        }
+    }
+
+    /// A parse error if the doctype is one.
+    fn judge(&mut self, token: &Token, at: u64) -> Result<(), Refusal>
+        ensures { StateGives result (state_of self.new) (perform numbers at (token_of token.now) (unless doctype_conforms (error Initial)) (state_of self.old)) }
+    {
+        if conforms(token) {
+            return Ok(());
+        }
+        self.error(Mode::Initial, at)
+    }
+
+    /// A doctype.
+    fn doctype(&mut self, token: &mut Token, at: u64) -> Result<Flow, Refusal>
+        ensures { FlowGives result (token_of token.new) (state_of self.new) (perform numbers at (token_of token.old) (unless doctype_conforms (error Initial) ▸ insert_doctype ▸ judge_quirks ▸ to BeforeHtml) (state_of self.old)) }
+    {
+        self.judge(token, at)?;
+        let quirks = self.forces_quirks(token);
+        let texts = take_doctype(self.alloc, token);
+        self.site.insert_doctype(texts, at)?;
+        self.control.quirks = quirks;
+        self.control.mode = Mode::BeforeHtml;
+        Ok(Flow::Done)
+    }
+
+    /// A document without a doctype.
+    fn no_doctype(&mut self, at: u64) -> Result<Flow, Refusal>
+        ensures { (t : TokenOf ℕ) → FlowGives result t (state_of self.new) (perform numbers at t (error Initial ▸ go_quirks ▸ to BeforeHtml ▸ again) (state_of self.old)) }
+    {
+        self.error(Mode::Initial, at)?;
+        self.control.quirks = true;
+        self.control.mode = Mode::BeforeHtml;
+        Ok(Flow::Again)
+    }
+}

@@ -1,0 +1,45 @@
+//! How a token begins and ends (HTML Standard, 13.2.6).
+
+ghost use Rattle.std.specs.Prelude.{◌≡◌};
+ghost use Rattle.hadopt.specs.Gives.{Gives};
+ghost use Rattle.hadopt.specs.Site.{Goes};
+ghost use Rattle.hmodes.specs.Step.{is_dropped, begun, finished};
+ghost use Rattle.hmodes.specs.States.{state_of};
+ghost use Rattle.hmodes.specs.Tokens.{token_of};
+
+use crate::rules::Rules;
+use htoken::Token;
+use names::{ErrorCode, Refusal};
+
+impl<'q> Rules<'q> {
+    /// Whether a token is the LF that is to be dropped.
+    pub(crate) fn is_dropped(&self, token: &Token) -> bool
+        ensures { result ≡ is_dropped (token_of token.now) (state_of self.now) }
+    {
+        match token {
+            Token::Char { ch, .. } => self.control.drop_lf && *ch == '\n',
+            _ => false,
+        }
+    }
+
+    /// A token begins.
+    pub(crate) fn begin(&mut self)
+        ensures { state_of self.new ≡ begun (state_of self.old) }
+    {
+        self.control.drop_lf = false;
+        self.control.acknowledged = false;
+    }
+
+    /// A token ends: a self-closing start tag that no rule acknowledged is a parse error.
+    pub(crate) fn end(&mut self, token: &Token, at: u64) -> Result<(), Refusal>
+        ensures { Gives result (state_of self.new) (Goes (finished at (token_of token.now) (state_of self.old))) }
+    {
+        if let Token::Start { closing: true, .. } = token {
+            if !self.control.acknowledged {
+                let code = ErrorCode::NonVoidHtmlElementStartTagWithTrailingSolidus;
+                return self.site.error(code, at);
+            }
+        }
+        Ok(())
+    }
+}
