@@ -18,7 +18,7 @@ use Rattle.hmodes.specs.Erased.{erased, node}
 use Rattle.hmodes.specs.Reset.{context_mode}
 use Rattle.hmodes.specs.Rules.{rule_of}
 use Rattle.hmodes.specs.Perform.{perform}
-use Rattle.hmodes.specs.Words.{Eof}
+use Rattle.hmodes.specs.declared.kind.Kind.TheVariants.{Eof}
 use Rattle.hmodes.specs.State.{PlacedToken, State, eof, Done}
 use Rattle.hmodes.specs.Step.{Rule, begun, Chain, ends, Step, goes, Steps, and}
 use Rattle.hmodes.specs.Step as step

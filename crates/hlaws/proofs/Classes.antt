@@ -9,7 +9,7 @@ use Rattle.hmodes.specs.declared.family.Family.TheVariants as family
 use Rattle.hmodes.specs.declared.mode.Mode.{Mode}
 use Rattle.hmodes.specs.declared.mode.Mode.TheVariants.{InTable, InCaption, InColumnGroup, InTableBody, InRow, InCell}
 use Rattle.hmodes.specs.Families.{family_of}
-use Rattle.hmodes.specs.Perform.{is_table_context, is_body_context, is_row_context}
+use Rattle.hadopt.specs.Closes.{is_table_context, is_body_context, is_row_context}
 use Rattle.hmodes.specs.Reset.{open_mode}
 use Rattle.hwrite.specs.declared.content.Content.{Content}
 use Rattle.hwrite.specs.declared.content.Content.TheVariants as content

@@ -27,12 +27,15 @@ use Rattle.hadopt.specs.Places.{is_fostering}
 use Rattle.hmodes.specs.declared.family.Family.TheVariants as family
 use Rattle.hmodes.specs.declared.mode.Mode.{Mode}
 use Rattle.hmodes.specs.declared.mode.Mode.TheVariants.{InBody, InCaption, InCell, Text, InTable, InTableText, InTableBody, InRow, InColumnGroup}
-use Rattle.hmodes.specs.Words.{Kind, Nul, Ws, Char, put, Comment, Start, End}
+use Rattle.hmodes.specs.declared.kind.Kind.{Kind}
+use Rattle.hmodes.specs.declared.kind.Kind.TheVariants.{Nul, Ws, Char, Comment, Start, End}
+use Rattle.hmodes.specs.Words.{put}
 use Rattle.hmodes.specs.Families.{family_of}
 use Rattle.hmodes.specs.Rules.{rule_of}
 use Rattle.hmodes.specs.Reset.{reset_mode}
-use Rattle.hmodes.specs.Perform.{perform, each_of, is_table_context, is_body_context, is_row_context}
-use Rattle.hmodes.specs.Questions.{stops_item}
+use Rattle.hmodes.specs.Perform.{perform, each_of}
+use Rattle.hadopt.specs.Closes.{is_table_context, is_body_context, is_row_context}
+use Rattle.hadopt.specs.Closes.{stops_item}
 use Rattle.hmodes.specs.State.{Token, start, end, comment, character, Control, State, Flow, Done, Again, flow_then, kind_of}
 use Rattle.hmodes.specs.Step.{Rule, Chain, goes_again, begun}
 use Rattle.hadopt.specs.Site.{Outcome}

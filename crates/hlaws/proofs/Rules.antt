@@ -22,7 +22,8 @@ use Rattle.hadopt.specs.Reconstructs.{reconstructed}
 use Rattle.hmodes.specs.declared.family.Family.TheVariants as family
 use Rattle.hmodes.specs.declared.mode.Mode.{Mode}
 use Rattle.hmodes.specs.declared.mode.Mode.TheVariants.{InBody, InCaption, InCell}
-use Rattle.hmodes.specs.Words.{Kind, Ws, Char, Comment, Start, End}
+use Rattle.hmodes.specs.declared.kind.Kind.{Kind}
+use Rattle.hmodes.specs.declared.kind.Kind.TheVariants.{Ws, Char, Comment, Start, End}
 use Rattle.hmodes.specs.Families.{family_of}
 use Rattle.hmodes.specs.Body.{in_body, character_in_body}
 use Rattle.hmodes.specs.Rules.{rule_of}

@@ -27,12 +27,14 @@ use Rattle.hmodes.specs.declared.family.Family.TheVariants as family
 use Rattle.hmodes.specs.declared.mode.Mode.{Mode}
 use Rattle.hmodes.specs.declared.mode.Mode.TheVariants.{InBody, InCaption, InCell, Text, InTable, InTableText, InTableBody, InRow, InColumnGroup}
 use Rattle.hmodes.specs.Families.{family_of}
-use Rattle.hmodes.specs.Perform.{perform, is_table_context, is_body_context, is_row_context}
-use Rattle.hmodes.specs.Questions.{stops_item}
+use Rattle.hmodes.specs.Perform.{perform}
+use Rattle.hadopt.specs.Closes.{is_table_context, is_body_context, is_row_context}
+use Rattle.hadopt.specs.Closes.{stops_item}
 use Rattle.hmodes.specs.Rules.{rule_of}
 use Rattle.hmodes.specs.State.{Token, start, end, comment, character, doctype, eof, PlacedToken, Control, State, Done, kind_of}
 use Rattle.hmodes.specs.Reset.{reset_mode, open_mode}
-use Rattle.hmodes.specs.Words.{Comment, insert_comment, put}
+use Rattle.hmodes.specs.declared.kind.Kind.TheVariants.{Comment}
+use Rattle.hmodes.specs.Words.{insert_comment, put}
 use Rattle.hmodes.specs.Step.{Rule, begun, is_dropped, Chain, ends, goes_again, Step, goes, Steps, and}
 use Rattle.hmodes.specs.Step as step
 use Rattle.hwrite.specs.declared.content.Content.{Content}
