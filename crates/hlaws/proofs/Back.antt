@@ -32,7 +32,7 @@ use Rattle.hwrite.specs.ContentTable.{row, texts_in}
 use Rattle.hwrite.specs.Plain.{Inside, are_content, are_content_if, in_context_of, is_form}
 use Rattle.hlaws.specs.PlainTokens.{tokens_of}
 use Rattle.hwrite.specs.Written.{written}
-use Rattle.hlaws.proofs.Builds.{AreTokens, parted, first, after}
+use Rattle.hlaws.proofs.TokenLists.{AreTokens, parted, first, after}
 use Rattle.hlaws.proofs.PlainBuilds.{law}
 
 -- a list under other numbers

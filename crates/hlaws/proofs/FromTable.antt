@@ -17,7 +17,7 @@ use Rattle.hwrite.specs.ContentTable.{row, takes_role, takes_comments, texts_in}
 use Rattle.hlaws.specs.Building.{takes_space}
 use Rattle.hlaws.specs.ComesBack.{AreTexts}
 use Rattle.hwrite.specs.Plain.{Inside, inside_element, inside_node, is_nested, are_content, is_plain_node, are_plain_attributes, is_plain_text, is_plain_comment, is_clean, is_empty, is_among_texts, begins_with, begins_with_text, begins_with_line_feed, drops_line_feed}
-use Rattle.hlaws.proofs.Builds.{IsText, NoNul}
+use Rattle.hlaws.proofs.TokenLists.{IsText, NoNul}
 use Rattle.hlaws.proofs.Whole.{Good, LfSafe, TextFits, AllOk, and_left, and_right, or_nothing}
 
 -- TEXTS

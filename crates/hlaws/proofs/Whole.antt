@@ -53,7 +53,7 @@ use Rattle.hlaws.proofs.Profiles.{is_p}
 use Rattle.hlaws.proofs.Rules as rules
 use Rattle.hlaws.proofs.Rules.{Laws, is_flow_mode, state, node}
 use Rattle.hlaws.proofs.MoreRules as more
-use Rattle.hlaws.proofs.Builds.{AreTokens, first, parted, after, AllLower, IsText, NoNul, begins_text, depth}
+use Rattle.hlaws.proofs.TokenLists.{AreTokens, first, parted, after, AllLower, IsText, NoNul, begins_text, depth}
 
 -- WHAT IS USED OF A KIND OF NAMES
 
