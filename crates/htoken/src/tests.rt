@@ -98,10 +98,6 @@ impl TokenSink for Lines {
         self.text.push(ch)?;
         Ok(())
     }
-
-    fn take_run(&mut self, run: &[u8], at: u64) -> Result<(), Refusal> {
-        Ok(())
-    }
 }
 
 /// The lines of a text, of which the sink takes this many, and the answer.
