@@ -4,5 +4,6 @@ pub mod Refusals
 pub mod Deciding
 pub mod Texts
 pub mod Handing
+pub mod Lanes
 pub mod Runs
 pub mod Feeding

@@ -1,14 +1,14 @@
 -- Runs of plain characters in a text.
-use Rattle.std.proofs.Common.{◌≡◌, ℕ, ◌<◌, ◌≤◌, ◌+◌, ◌%◌, zero, suc, Bool, true, false, cond, eqb, List, [], ◌∷◌, ◌++◌, length, take, drop, get_or, add-one, drop-cons, sym, refl, ap, ◌∙◌, subst, arith, Result, Ok, Err}
-use Rattle.std.specs.Prelude.{nat_le, ◌&&◌, ◌||◌}
-use Rattle.std.specs.List.{list_all, prefix_len}
+use Rattle.std.proofs.Common.{◌≡◌, ℕ, ◌<◌, ◌≤◌, ◌+◌, ◌-◌, ◌%◌, zero, suc, Bool, true, false, cond, eqb, List, [], ◌∷◌, ◌++◌, length, take, drop, get_or, add-one, drop-cons, sym, refl, ap, ◌∙◌, subst, arith, append-nil, Result, Ok, Err}
+use Rattle.std.specs.Prelude.{nat_le, ◌&&◌, ◌||◌, encode_utf8_all}
+use Rattle.std.specs.List.{list_all, prefix_len, slice_range}
 use Rattle.std.proofs.lemmas.Bool.Decides.{nat_tests}
 use Rattle.std.proofs.lemmas.List.{length-take-le, take-append-drop}
 use Rattle.std.proofs.lemmas.Bool.{and_parts, and_from}
-use Rattle.std.proofs.lemmas.Str.{encode_ascii, len_utf8_ascii, IsUtf8-past_char, chars_past_char}
-use Rattle.std.specs.Str.{chars, IsUtf8}
+use Rattle.std.proofs.lemmas.Str.{encode_ascii, len_utf8_ascii, IsUtf8-past_char, chars_past_char, chars-nil, IsCharBoundary-from_drop}
+use Rattle.std.specs.Str.{chars, IsUtf8, IsCharBoundary}
 use Rattle.std.specs.Char.{encode_utf8, len_utf8}
-use Rattle.names.specs.Placed.{placed, is_noncharacter}
+use Rattle.names.specs.Placed.{placed, all, is_noncharacter}
 use Rattle.names.specs.Sink.{Hands, Continues}
 use Rattle.names.specs.declared.placed.Placed.{Placed}
 use Rattle.names.specs.declared.refusal.Refusal.{Refusal}
@@ -52,7 +52,7 @@ as_it_came Keep x at h = rw (no_return x h) refl
 item_alone : (x at : ℕ) → is_plain_byte x ≡ true → items_of (record { ch = x; at = at }) ≡ Character (record { ch = x; at = at }) ∷ []
 item_alone x at h = rw (no_stray x h, no_nonchar x h) refl
 
-one_long : (x : ℕ) → is_plain_byte x ≡ true → len_utf8 x ≡ 1
+pub one_long : (x : ℕ) → is_plain_byte x ≡ true → len_utf8 x ≡ 1
 one_long x h = let small : x < 127 = plain_small x h in len_utf8_ascii x (omega arith)
 
 -- the characters of a text that begins with a run
@@ -96,6 +96,64 @@ pub counted : (xs : List ℕ) → list_all is_plain_byte (take (prefix_len is_pl
 counted [] = refl
 counted (x ∷ xs) = counted_by (is_plain_byte x) x xs refl (counted xs)
 
+-- the front of a slice
+pub front_of : (n : ℕ) (xs : List ℕ) → slice_range xs 0 n ≡ take n xs
+front_of n xs = let all : n - 0 ≡ n = omega arith in ap (λ (k : ℕ). take k xs) all
+
+-- a run as placed characters
+pub all_placed : (at : ℕ) (run : List ℕ) → list_all is_plain_byte run ≡ true → all is_plain_byte (placed at run) ≡ true
+all_placed at [] h = refl
+all_placed at (x ∷ xs) h = let k = and_parts (is_plain_byte x) (list_all is_plain_byte xs) h in and_from _ _ k.0 (all_placed (at + len_utf8 x) xs k.1)
+
+pub placed-append : (at : ℕ) (xs ys : List ℕ) → list_all is_plain_byte xs ≡ true → placed at (xs ++ ys) ≡ placed at xs ++ placed (at + length xs) ys
+placed-append at [] ys h = let same : at ≡ at + 0 = omega arith in ap (λ (n : ℕ). placed n ys) same
+placed-append at (x ∷ xs) ys h =
+    let k = and_parts (is_plain_byte x) (list_all is_plain_byte xs) h in
+    let end : (at + len_utf8 x) + length xs ≡ at + length (x ∷ xs) = omega (arith, one_long x k.0) in
+    ap (λ (ps : List Placed). record { ch = x; at = at } ∷ ps) (placed-append (at + len_utf8 x) xs ys k.1)
+    ∙ ap (λ (n : ℕ). record { ch = x; at = at } ∷ (placed (at + len_utf8 x) xs ++ placed n ys)) end
+
+pub plain_take : (n : ℕ) (xs : List ℕ) → list_all is_plain_byte xs ≡ true → list_all is_plain_byte (take n xs) ≡ true
+plain_take zero xs h = refl
+plain_take (suc n) [] h = refl
+plain_take (suc n) (x ∷ xs) h = let k = and_parts (is_plain_byte x) (list_all is_plain_byte xs) h in and_from _ _ k.0 (plain_take n xs k.1)
+
+pub plain_drop : (n : ℕ) (xs : List ℕ) → list_all is_plain_byte xs ≡ true → list_all is_plain_byte (drop n xs) ≡ true
+plain_drop zero xs h = h
+plain_drop (suc n) [] h = refl
+plain_drop (suc n) (x ∷ xs) h = plain_drop n xs (and_parts (is_plain_byte x) (list_all is_plain_byte xs) h).1
+
+-- a run that goes on with the part between two places
+pub placed_part : (at i n : ℕ) (run : List ℕ) → list_all is_plain_byte run ≡ true → i ≤ length run → placed at (take (i + n) run) ≡ placed at (take i run) ++ placed (at + i) (take n (drop i run))
+placed_part at i n run h l =
+    ap (placed at) (take_more i n run) ∙ placed-append at (take i run) (take n (drop i run)) (plain_take i run h) ∙ ap (λ (k : ℕ). placed at (take i run) ++ placed (at + k) (take n (drop i run))) (length-take-le i run l) where
+  nothing : (n : ℕ) → take {A = ℕ} n [] ≡ []
+  nothing zero = refl
+  nothing (suc n) = refl
+
+  take_more : (i n : ℕ) (xs : List ℕ) → take (i + n) xs ≡ take i xs ++ take n (drop i xs)
+  take_more zero n xs = let none : 0 + n ≡ n = omega arith in ap (λ (k : ℕ). take k xs) none
+  take_more (suc i) n [] = let one : suc i + n ≡ suc (i + n) = omega arith in ap (λ (k : ℕ). take {A = ℕ} k []) one ∙ sym (nothing n)
+  take_more (suc i) n (x ∷ xs) = let one : suc i + n ≡ suc (i + n) = omega arith in ap (λ (k : ℕ). take k (x ∷ xs)) one ∙ ap (λ (ys : List ℕ). x ∷ ys) (take_more i n xs)
+
+pub placed_rest : (at i : ℕ) (run : List ℕ) → list_all is_plain_byte run ≡ true → i ≤ length run → placed at run ≡ placed at (take i run) ++ placed (at + i) (drop i run)
+placed_rest at i run h l =
+    ap (placed at) (sym (take-append-drop i run)) ∙ placed-append at (take i run) (drop i run) (plain_take i run h) ∙ ap (λ (k : ℕ). placed at (take i run) ++ placed (at + k) (drop i run)) (length-take-le i run l)
+
+-- the text of a run
+pub plain_chars : (xs : List ℕ) → list_all is_plain_byte xs ≡ true → IsUtf8 xs → chars xs ≡ xs
+plain_chars xs h u = ap chars (sym (append-nil xs)) ∙ (run_chars xs [] h (subst IsUtf8 (sym (append-nil xs)) u)).1 ∙ ap (λ (ys : List ℕ). xs ++ ys) chars-nil ∙ append-nil xs
+
+pub plain_bytes : (xs : List ℕ) → list_all is_plain_byte xs ≡ true → encode_utf8_all xs ≡ xs
+plain_bytes [] h = refl
+plain_bytes (x ∷ xs) h =
+    let k = and_parts (is_plain_byte x) (list_all is_plain_byte xs) h in
+    let small : x < 127 = plain_small x k.0 in
+    ap (λ (e : List ℕ). e ++ encode_utf8_all xs) (encode_ascii x (omega arith)) ∙ ap (λ (ys : List ℕ). x ∷ ys) (plain_bytes xs k.1)
+
+pub plain_boundary : (n : ℕ) (xs : List ℕ) → list_all is_plain_byte xs ≡ true → IsUtf8 xs → n ≤ length xs → IsCharBoundary xs n
+plain_boundary n xs h u l = IsCharBoundary-from_drop xs n l (run_chars (take n xs) (drop n xs) (plain_take n xs h) (subst IsUtf8 (sym (take-append-drop n xs)) u)).0
+
 -- one byte of a run after another
 all_at : (xs : List ℕ) (i : ℕ) → list_all is_plain_byte xs ≡ true → i < length xs → is_plain_byte (get_or xs i 0) ≡ true
 all_at [] i a h = absurd (omega (arith, h))
@@ -103,7 +161,7 @@ all_at (x ∷ xs) zero a h = (and_parts (is_plain_byte x) (list_all is_plain_byt
 all_at (x ∷ xs) (suc i) a h = all_at xs i (and_parts (is_plain_byte x) (list_all is_plain_byte xs) a).1 (omega (arith, h))
 
 pub run_step : (at i : ℕ) (run : List ℕ) → list_all is_plain_byte run ≡ true → i < length run
-    → run_items (at + i) (drop i run) ≡ Character (record { ch = get_or run i 0; at = at + i }) ∷ run_items (at + (i + 1)) (drop (i + 1) run)
+    → placed (at + i) (drop i run) ≡ record { ch = get_or run i 0; at = at + i } ∷ placed (at + (i + 1)) (drop (i + 1) run)
 run_step at i run a h =
     let b : ℕ = get_or run i 0 in
     let next : (at + i) + len_utf8 b ≡ at + suc i = omega (arith, one_long b (all_at run i a h)) in

@@ -10,3 +10,6 @@ is_plain_byte byte = (byte == 9 || byte == 10 || byte == 12 || (nat_le 32 byte &
 -- the characters of such bytes, one after another, the first at the place `at`
 abbrev pub run_items : ℕ → List ℕ → List CharItem
 run_items at run = map Character (placed at run)
+
+abbrev pub is_no_plain_byte : ℕ → Bool
+is_no_plain_byte byte = not (is_plain_byte byte)

@@ -78,9 +78,9 @@ impl Reading {
         let mut place = self.read;
         let mut after_return = self.after_return;
         while let Some(ch) = rest.chars().next() {
-            let run = run_at(rest, after_return);
+            let run = run_at(rest, ch, after_return);
             if run > 0 {
-                sink.take_run(&rest.as_bytes()[..run], place)?;
+                sink.take_run(&rest[..run], place)?;
                 place += run as u64;
                 rest = &rest[run..];
                 continue;
@@ -96,14 +96,15 @@ impl Reading {
     }
 }
 
-/// How many plain characters stand at the front of a text; none after a CR, where an LF is not handed over.
+/// How many plain characters stand at the front of a text that begins with this one; none after a CR, where an LF is not handed
+/// over.
 #[inline]
-fn run_at(text: &str, after_return: bool) -> usize
+fn run_at(text: &str, first: char, after_return: bool) -> usize
     ensures within { result ≤ length text.now }
     ensures plain { list_all is_plain_byte (take result text.now) ≡ true }
     ensures after_return { 0 < result → after_return ≡ false }
 {
-    if after_return {
+    if after_return || first > '~' {
         0
     } else {
         plain_run(text.as_bytes())

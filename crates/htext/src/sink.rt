@@ -26,12 +26,12 @@ pub trait CharSink {
 
     /// Takes a run of plain characters, each a byte, the first of which is at `at`. It is the same as taking them one by one,
     /// up to the first that is refused.
-    fn take_run(&mut self, run: &[u8], at: u64) -> Result<(), Refusal>
+    fn take_run(&mut self, run: &str, at: u64) -> Result<(), Refusal>
         requires plain { list_all is_plain_byte run.now ≡ true }
         requires within { at + length run.now ≤ MAX_INPUT }
         ensures { Hands gives self.old (run_items at run.now) result self.new }
     {
-        for (index, byte) in run.iter().enumerate() {
+        for (index, byte) in run.as_bytes().iter().enumerate() {
             self.take_char(char::from(*byte), at + index as u64)?;
         }
         Ok(())

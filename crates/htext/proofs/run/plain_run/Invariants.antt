@@ -1,7 +1,13 @@
-use Rattle.std.proofs.Common.{◌≡◌, ◌+◌, drop}
+use Rattle.std.proofs.Common.{◌≡◌, ◌+◌, ◌-◌, ◌≤◌, length, drop}
 use Rattle.std.specs.List.{prefix_len}
 use Rattle.htext.specs.Run.{is_plain_byte}
 use Rattle.htext.proofs.run.plain_run.Given as goal
 
-abbrev pub invariant-loop-index : goal.invariant-loop-index
-invariant-loop-index l = prefix_len is_plain_byte l.bytes ≡ l.index + prefix_len is_plain_byte (drop l.index l.bytes)
+abbrev pub invariant-loop-count : goal.invariant-loop-count
+invariant-loop-count l = record {
+  counted : prefix_len is_plain_byte l.bytes ≡ l.count + prefix_len is_plain_byte (drop l.count l.bytes);
+  within : l.count ≤ length l.bytes;
+}
+
+abbrev pub decreases-loop-count : goal.decreases-loop-count
+decreases-loop-count l = length l.bytes - l.count

@@ -6,15 +6,19 @@ use Rattle.std.specs.Char.{encode_utf8}
 use Rattle.std.specs.Str.{chars}
 use Rattle.htext.specs.Text.{ends_in_return}
 use Rattle.htext.proofs.Handing.{hand_more, hand_refused, hand_all}
-use Rattle.htext.proofs.Runs.{run_utf8, run_more, run_refused, ends_after}
+use Rattle.htext.proofs.Runs.{front_of, run_utf8, run_more, run_refused, ends_after}
 use Rattle.htext.proofs.reading.Reading.hand_text.Goals as goal
 
 pub returns-in_err-take_run-clause-handed : goal.returns-in_err-take_run-clause-handed
 returns-in_err-take_run-clause-handed g c =
     let e = err_from_is_err_and c.from_residual.result c.from_residual.ensures.1 in
     let here = rw (c.run_at-run.ensures.after_return c.if-run-gt0.true) at c.loop-ch.invariant.handed in
-    let taken = rw (c.as_bytes.ensures.value) at c.in_err-take_run.ensures in
+    let taken = rw (c.range.ensures.value ∙ front_of c.run_at-run.result c.loop-ch.rest.now) at c.in_err-take_run.ensures in
     rw (e.1, e.2) (run_refused g.S.CharSink.gives _ _ _ c.loop-ch.sink _ c.run_at-run.result c.loop-ch.rest.now here c.loop-ch.invariant.utf8 c.run_at-run.ensures.within c.run_at-run.ensures.plain _ c.in_err-take_run.field-0.0 taken)
+
+pub range-requires-clause-end_boundary : goal.range-requires-clause-end_boundary
+range-requires-clause-end_boundary g c =
+    IsCharBoundary-from_drop c.loop-ch.rest.now c.run_at-run.result c.run_at-run.ensures.within (run_utf8 c.run_at-run.result c.loop-ch.rest.now c.loop-ch.invariant.utf8 c.run_at-run.ensures.plain)
 
 pub range_from-rest-requires : goal.range_from-rest-requires
 range_from-rest-requires g c = λ _.
@@ -25,7 +29,7 @@ loop-ch-preserved-then-run-gt0 g c =
     let free = c.run_at-run.ensures.after_return c.if-run-gt0.true in
     let here = rw free at c.loop-ch.invariant.handed in
     let ended = rw free at c.loop-ch.invariant.ends in
-    let taken = rw (c.as_bytes.ensures.value) at c.in_ok-take_run.ensures in
+    let taken = rw (c.range.ensures.value ∙ front_of c.run_at-run.result c.loop-ch.rest.now) at c.in_ok-take_run.ensures in
     let n = c.run_at-run.result in
     let bytes = c.loop-ch.rest.now in
     let left = c.range_from-rest.ensures.value in

@@ -1,0 +1,106 @@
+-- Runs of bytes, seen a vector at a time through the mask of those that end them.
+use Rattle.std.proofs.Common.{◌≡◌, ℕ, zero, suc, ◌+◌, ◌-◌, ◌*◌, ◌%◌, ◌^◌, ◌<◌, ◌≤◌, ltb, leb, Bool, true, false, not, cond, eqb, T, ◌&&◌, List, [], ◌∷◌, map, length, drop, replicate, refl, sym, ap, ap₂, ◌∙◌, subst, arith, w8, Fits}
+use Rattle.std.proofs.lemmas.Simd.{chunk-drop, length-chunk, zip2_splat, zip2_of_maps, map-map, mask_l-mod, leading_from_mask_l, trailing_mask_l}
+use Rattle.std.proofs.lemmas.List.{length-map}
+use Rattle.std.proofs.lemmas.List.Folds.{prefix_len-append}
+use Rattle.std.proofs.lemmas.List.Sums.{prefix_len-le-length}
+use Rattle.std.proofs.lemmas.Bool.{eq-eqb, ne_eqb, eqb-true, eqb-false}
+use Rattle.std.specs.List.{prefix_len}
+use lib.Bits.{bit_or}
+use lib.Lanes.{zip2, chunk, mask_l, top, Each1}
+use lib.Count.{count_trailing_zeros}
+
+-- COMPARISONS, LANE BY LANE
+
+abbrev pub hit : ℕ → ℕ → ℕ
+hit a b = cond (eqb a b) 255 0
+
+abbrev pub below : ℕ → ℕ → ℕ
+below a b = cond (ltb a b) 255 0
+
+abbrev pub at_most : ℕ → ℕ → ℕ
+at_most a b = cond (leb a b) 255 0
+
+abbrev pub less_by : ℕ → ℕ → ℕ
+less_by a b = (a + (256 - b)) % 256
+
+pub either : (f g : ℕ → ℕ) (v : List ℕ) {a b : List ℕ} → a ≡ map f v → b ≡ map g v → zip2 bit_or a b ≡ map (λ x. bit_or (f x) (g x)) v
+either f g v p q = zip2_of_maps bit_or f g v p q
+
+pub under : (f : ℕ → ℕ) (y n : ℕ) (v : List ℕ) {a : List ℕ} → length v ≡ n → a ≡ map f v → zip2 below a (replicate n y) ≡ map (λ x. below (f x) y) v
+under f y n v long p = ap (λ a. zip2 below a (replicate n y)) p ∙ zip2_splat below (map f v) n y (length-map v f ∙ long) ∙ map-map (λ x. below x y) f v
+
+-- A TEST OF EACH BYTE
+
+abbrev pub upto : (ℕ → Bool) → ℕ → Bool
+upto p zero = true
+upto p (suc n) = p n && upto p n
+
+abbrev pub same : Bool → Bool → Bool
+same true b = b
+same false b = not b
+
+both : (a b : Bool) → T (a && b) → T a × T b
+both true b h = (tt, h)
+both false b h = absurd h
+
+same_is : (a b : Bool) → T (same a b) → a ≡ b
+same_is true true h = refl
+same_is false false h = refl
+same_is true false h = absurd h
+same_is false true h = absurd h
+
+here_or_below : (p : ℕ → Bool) (n i : ℕ) (b : Bool) → eqb i n ≡ b → i < suc n → T (p n) → ((i < n) → T (p i)) → T (p i)
+here_or_below p n i true e lt here more = subst (λ (x : ℕ). T (p x)) (sym (eqb-true i n e)) here
+here_or_below p n i false e lt here more = let not_it = eqb-false i n e in more (omega arith)
+
+upto_sound : (p : ℕ → Bool) (n : ℕ) → T (upto p n) → (i : ℕ) → i < n → T (p i)
+upto_sound p zero h i lt = absurd (omega (arith, lt))
+upto_sound p (suc n) h i lt = here_or_below p n i (eqb i n) refl lt (both (p n) (upto p n) h).0 (upto_sound p n (both (p n) (upto p n) h).1 i)
+
+each_byte : (f : ℕ → ℕ) (p : ℕ → Bool) → T (upto (λ x. same (top 7 (f x)) (p x)) 256) → (v : List ℕ) → Each1 (Fits w8) v → map (top 7) (map f v) ≡ map p v
+each_byte f p all [] fits = refl
+each_byte f p all (x ∷ xs) fits = ap₂ (λ a b. a ∷ b) (same_is _ _ (upto_sound (λ y. same (top 7 (f y)) (p y)) 256 all x fits.0.fits)) (each_byte f p all xs fits.1)
+
+-- a mask that is computed lane by lane is that of a test, where the two agree at each of the 256 bytes
+pub masked : (f : ℕ → ℕ) (p : ℕ → Bool) (v z : List ℕ) → length v ≤ 64 → Each1 (Fits w8) v → z ≡ map f v → T (upto (λ x. same (top 7 (f x)) (p x)) 256)
+    → mask_l (map (top 7) z) % 2 ^ 64 ≡ mask_l (map p v)
+masked f p v z short fits e all =
+    ap (λ l. mask_l l % 2 ^ 64) (ap (map (top 7)) e ∙ each_byte f p all v fits) ∙ mask_l-mod (map p v) 64 (omega (arith, length-map v p))
+
+-- RUNS
+
+none_fails : (b : Bool) (n l m : ℕ) → n ≤ l → cond (not b) (1 + n) 0 ≡ 1 + l → (n ≡ l → m ≡ 0) → cond b 1 0 + 2 * m ≡ 0
+none_fails true n l m le e ih = let no : ⊥ = omega arith in absurd no
+none_fails false n l m le e ih = let z = ih (omega arith) in omega arith
+
+module _ (q : ℕ → Bool) where
+  abbrev pub fails : ℕ → Bool
+  fails x = not (q x)
+
+  twice : (b : Bool) → b ≡ not (not b)
+  twice true = refl
+  twice false = refl
+
+  same_run : (xs : List ℕ) → prefix_len q xs ≡ prefix_len (λ x. not (fails x)) xs
+  same_run [] = refl
+  same_run (x ∷ xs) = ap₂ (λ b n. cond b (1 + n) 0) (twice (q x)) (same_run xs)
+
+  all_pass : (xs : List ℕ) → prefix_len (λ x. not (fails x)) xs ≡ length xs → mask_l (map fails xs) ≡ 0
+  all_pass [] e = refl
+  all_pass (x ∷ xs) e = none_fails (fails x) _ (length xs) _ (prefix_len-le-length (λ y. not (fails y)) xs) (omega arith) (all_pass xs)
+
+  split : (d : List ℕ) (i n : ℕ) → prefix_len q (drop i d) ≡ cond (eqb (prefix_len q (chunk i n d)) (length (chunk i n d))) (length (chunk i n d) + prefix_len q (drop (i + n) d)) (prefix_len q (chunk i n d))
+  split d i n = ap (prefix_len q) (chunk-drop i n d) ∙ prefix_len-append q (chunk i n d) (drop (i + n) d)
+
+  pub run_through : (d : List ℕ) (i n : ℕ) → i + n ≤ length d → mask_l (map fails (chunk i n d)) ≡ 0 → prefix_len q (drop i d) ≡ n + prefix_len q (drop (i + n) d)
+  run_through d i n room none =
+      let c = chunk i n d in
+      split d i n ∙ ap (λ b. cond b (length c + prefix_len q (drop (i + n) d)) (prefix_len q c)) (eq-eqb _ _ (same_run c ∙ leading_from_mask_l fails c none))
+      ∙ ap (λ k. k + prefix_len q (drop (i + n) d)) (length-chunk i n d room)
+
+  pub run_stops : (d : List ℕ) (i n : ℕ) → i + n ≤ length d → n ≤ 64 → 0 < mask_l (map fails (chunk i n d)) → prefix_len q (drop i d) ≡ count_trailing_zeros 64 (mask_l (map fails (chunk i n d)))
+  run_stops d i n room short some =
+      let c = chunk i n d in
+      split d i n ∙ ap (λ b. cond b (length c + prefix_len q (drop (i + n) d)) (prefix_len q c)) (ne_eqb _ _ (λ (e : prefix_len q c ≡ length c). omega (arith, all_pass c (sym (same_run c) ∙ e))))
+      ∙ same_run c ∙ sym (trailing_mask_l fails 64 c (omega (arith, length-chunk i n d room)) some)
