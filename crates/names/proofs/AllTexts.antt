@@ -14,20 +14,20 @@ use Rattle.names.specs.Spelling.{IsSpelled, total, spelling}
 use Rattle.names.proofs.KnownTags.{different, after_tags, tag_of-named}
 use Rattle.names.proofs.TableLemmas.{bytes_eq-same}
 
-abbrev beyond : Texts → ℕ → List ℕ
+abbrev pub beyond : Texts → ℕ → List ℕ
 beyond names id = replicate (1 + (total names + id)) 0
 
 -- no text of a table is longer than all of them
-length-text_of : (names : Texts) (id : ℕ) → id < length names → length (text_of names id) ≤ total names
+pub length-text_of : (names : Texts) (id : ℕ) → id < length names → length (text_of names id) ≤ total names
 length-text_of [] id within = absurd (omega (arith, within))
 length-text_of (text ∷ names) zero within = omega arith
 length-text_of (text ∷ names) (suc id) within = omega (arith, length-text_of names id (omega (arith, within)))
 
 -- what the spelling is, within the table and beyond it
-spelled_within : (names : Texts) (id : ℕ) → id < length names → spelling names id ≡ text_of names id
+pub spelled_within : (names : Texts) (id : ℕ) → id < length names → spelling names id ≡ text_of names id
 spelled_within names id within = ap (λ (v : Bool). cond v (text_of names id) (beyond names id)) (lt-ltb id (length names) within)
 
-spelled_beyond : (names : Texts) (id : ℕ) → length names ≤ id → spelling names id ≡ beyond names id
+pub spelled_beyond : (names : Texts) (id : ℕ) → length names ≤ id → spelling names id ≡ beyond names id
 spelled_beyond names id past = ap (λ (v : Bool). cond v (text_of names id) (beyond names id)) (le-ltb id (length names) past)
 
 -- so no two numbers have one text

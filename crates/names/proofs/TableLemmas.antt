@@ -1,22 +1,22 @@
 -- Laws of a table's texts.
-use Rattle.std.proofs.Common.{◌≡◌, ℕ, ◌<◌, ◌≤◌, true, false, List, [], ◌∷◌, ◌++◌, length, map, get_or, Option, Some, None, sym, refl, ap, ◌∙◌, arith, rules}
-use Rattle.std.proofs.lemmas.List.{map-append, take-append-le, length-take}
+use Rattle.std.proofs.Common.{◌≡◌, ℕ, ◌<◌, ◌≤◌, ◌^◌, true, false, List, [], ◌∷◌, ◌++◌, length, map, get_or, Option, Some, None, sym, refl, ap, ◌∙◌, arith, rules}
+use Rattle.std.proofs.lemmas.List.{map-append, take-append-le, length-take, length-append}
 use Rattle.std.proofs.lemmas.Map.Keys.{apart_from_distinct}
 use Rattle.std.proofs.lemmas.Slice.Eq.{bytes_eq-Decides}
 use Rattle.std.proofs.lemmas.List.Quantifiers.{position-Some}
 use Rattle.std.proofs.lemmas.Grind.{common_steps}
 use Rattle.std.specs.Prelude.{String, slice_get}
-use Rattle.std.specs.Option.{option_map}
 use Rattle.std.specs.List.{IsDistinct, position, list_any}
 use Rattle.indexmap.specs.IndexSet.{insert_key}
-use Rattle.std.proofs.Common.{cond, is_some}
+use Rattle.std.proofs.Common.{cond, is_some, nat_lt}
+use Rattle.std.proofs.lemmas.Bool.Decides.{nat_tests}
 use Rattle.std.specs.Str.{bytes_eq}
 use Rattle.std.specs.String.{string_bytes, string_eq}
 use Rattle.std.proofs.Math.ListN.{length-map}
 use Rattle.std.proofs.lemmas.Bool.{cases_lt}
-use Rattle.std.proofs.lemmas.Option.{slice_get-get_or, slice_get-map}
+use Rattle.std.proofs.lemmas.Option.{slice_get-get_or}
 use Rattle.std.proofs.Common.{inl, inr}
-use Rattle.names.specs.Names.{text_of, AreDistinct, AreNames}
+use Rattle.names.specs.Names.{Texts, interned, text_of, AreDistinct, AreNames}
 use Rattle.names.specs.Tags.{known}
 use Rattle.names.specs.Table.{IsTable}
 
@@ -65,12 +65,13 @@ pub grown : {A : Type 0} (old new : List (String A)) (key : String A) → list_a
 grown old new key absent e = e ∙ ap (λ b. cond b old (old ++ key ∷ [])) absent
 
 -- the table with a new key last
-pub table_grown : {A : Type 0} (old new : List (String A)) (key : String A) → IsTable old → IsDistinct string_eq new → new ≡ old ++ key ∷ [] → IsTable new
-table_grown old new key h distinct e = record {
+pub table_grown : {A : Type 0} (old new : List (String A)) (key : String A) → IsTable old → length old < 2 ^ 32 → IsDistinct string_eq new → new ≡ old ++ key ∷ [] → IsTable new
+table_grown old new key h room distinct e = record {
   known_first =
-      let room : length known ≤ length (map string_bytes old) = omega (arith, length-take (length known) (map string_bytes old), ap length h.known_first) in
+      let long : length known ≤ length (map string_bytes old) = omega (arith, length-take (length known) (map string_bytes old), ap length h.known_first) in
       rw (e, map-append) (rw take-append-le h.known_first);
   distinct = distinct;
+  fits = rw (e, length-append) (omega (arith, room));
 }
 
 -- no key has the text that was looked for in vain
@@ -87,11 +88,21 @@ number_from_position (k ∷ ks) i text h =
     let e : text_of (map string_bytes (k ∷ ks)) i ≡ text = text_of-position (k ∷ ks) i text h in
     slice_get-get_or (map string_bytes (k ∷ ks)) i [] within ∙ ap Some e
 
--- the number of a text that was put in
-pub number_stored : {A : Type 0} (keys : List (String A)) (i : ℕ) (key : String A) (text : List ℕ) → string_bytes key ≡ text → (k : String A) × (slice_get keys i ≡ Some k) × (string_eq key k ≡ true) → slice_get (map string_bytes keys) i ≡ Some text
-number_stored keys i key text is (k, at, same) =
-    slice_get-map string_bytes keys i ∙ ap (option_map string_bytes) at ∙ ap Some (sym (bytes_eq-true _ _ same) ∙ is)
+-- the number of a text that was put in last
+pub number_last : {A : Type 0} (old new : List (String A)) (key : String A) (text : List ℕ) → string_bytes key ≡ text → new ≡ old ++ key ∷ [] → slice_get (map string_bytes new) (length old) ≡ Some text
+number_last {A = A} old new key text is e = rw e (go old)
+  where
+    go : (ks : List (String A)) → slice_get (map string_bytes (ks ++ key ∷ [])) (length ks) ≡ Some text
+    go [] = ap Some is
+    go (k ∷ ks) = go ks
 
 -- a table's texts are names
 pub are_names : {A : Type 0} (keys : List (String A)) → IsTable keys → AreNames (map string_bytes keys)
 are_names keys h = record { known_first = h.known_first; distinct = distinct_from keys h.distinct }
+
+-- a number that was there, and the next one
+pub interned-there : (names : Texts) (id : ℕ) (text : List ℕ) → id < length names → names ≡ interned text id names
+interned-there names id text less = let t : nat_lt id (length names) ≡ true = grind (arith, nat_tests) in rw t refl
+
+pub interned-last : (names : Texts) (id : ℕ) (text : List ℕ) → length names ≤ id → interned text id names ≡ names ++ text ∷ []
+interned-last names id text past = let f : nat_lt id (length names) ≡ false = grind (arith, nat_tests) in rw f refl

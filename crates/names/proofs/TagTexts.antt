@@ -1,6 +1,6 @@
 -- The texts of tags, put into a table one by one.
 use Rattle.std.proofs.Common.{arith, ◌≡◌, ℕ, ◌<◌, ◌≤◌, ◌+◌, Bool, true, false, not, ◌&&◌, ◌||◌, List, [], ◌∷◌, ◌++◌, take, drop, length, map, get_or, sym, refl, ap, ◌∙◌, subst}
-use Rattle.std.proofs.lemmas.List.{take_more, drop_more, map-append, take_all}
+use Rattle.std.proofs.lemmas.List.{length-map, take_more, drop_more, map-append, take_all}
 use Rattle.std.proofs.lemmas.Bool.{false≢true}
 use Rattle.std.specs.Prelude.{String, bytes_eq}
 use Rattle.std.specs.List.{IsDistinct, list_any}
@@ -60,4 +60,4 @@ filled_all keys tags i h past = record { texts_are = h.holds.texts_are ∙ ap (m
 
 -- with the known texts and no others it is a table
 pub whole_table : {A : Type 0} (keys : List (String A)) → HoldsTexts keys known → IsTable keys
-whole_table keys h = record { known_first = ap (take (length known)) h.texts_are ∙ take_all (length known) known (omega arith); distinct = h.distinct }
+whole_table keys h = record { known_first = ap (take (length known)) h.texts_are ∙ take_all (length known) known (omega arith); distinct = h.distinct; fits = omega (arith, sym (length-map keys string_bytes) ∙ ap length h.texts_are) }

@@ -1,5 +1,5 @@
 -- Names as numbers: a table is the list of its texts, each by its bytes in UTF-8, and a number is a place in it.
-use Rattle.std.specs.Prelude.{◌≡◌, ℕ, ◌<◌, List, ◌++◌, take, length, slice_index_or, []}
+use Rattle.std.specs.Prelude.{◌≡◌, ℕ, ◌<◌, nat_lt, if◌then◌else◌, List, ◌∷◌, ◌++◌, take, length, slice_index_or, []}
 use Rattle.names.specs.Tags.{known}
 
 abbrev pub Texts : Type 0
@@ -16,6 +16,10 @@ IsOf names id = id < length names
 -- the new table has all numbers of the old one, with their texts
 abbrev pub Grows : Texts → Texts → Type 0
 Grows old new = (more : Texts) × (new ≡ old ++ more)
+
+-- the table once this text has this number: as it was if the number was there, else with the text as its last
+abbrev pub interned : List ℕ → ℕ → Texts → Texts
+interned text id names = if nat_lt id (length names) then names else names ++ text ∷ []
 
 -- equal texts have equal numbers
 abbrev pub AreDistinct : Texts → Type 0

@@ -19,7 +19,6 @@ name_of (refusal.BadTable cause) = codes "BadTable"
 name_of (refusal.BadQuirks line) = codes "BadQuirks"
 name_of refusal.BadLimits = codes "BadLimits"
 name_of refusal.Write = codes "Write"
-name_of (refusal.NotYet at) = codes "NotYet"
 
 abbrev pub cause_text : TableFault → List ℕ
 cause_text cause.Json = codes "Json"
@@ -41,7 +40,6 @@ number_of (refusal.OutOfProfile name at) = Some (codes "at", at)
 number_of (refusal.TooLarge at) = Some (codes "at", at)
 number_of (refusal.TooManyNodes at) = Some (codes "at", at)
 number_of (refusal.TooDeep at) = Some (codes "at", at)
-number_of (refusal.NotYet at) = Some (codes "at", at)
 number_of (refusal.BadQuirks line) = Some (codes "line", line)
 number_of _ = None
 

@@ -1,13 +1,14 @@
 -- How a table keeps its texts.
-use Rattle.std.specs.Prelude.{◌≡◌, ℕ, Bool, true, not, ◌&&◌, List, [], ◌∷◌, ◌++◌, length, take, map, String, bytes_eq}
+use Rattle.std.specs.Prelude.{◌≡◌, ◌≤◌, ◌^◌, ℕ, Bool, true, not, ◌&&◌, List, [], ◌∷◌, ◌++◌, length, take, map, String, bytes_eq}
 use Rattle.std.specs.List.{IsDistinct, list_any}
 use Rattle.std.specs.String.{string_bytes, string_eq}
 use Rattle.names.specs.Tags.{known}
 
--- the known texts come first, and no two texts are equal
+-- the known texts come first, no two texts are equal, and the place of each is a number of 32 bits
 pub record IsTable {A : Type 0} (keys : List (String A)) : Type 0 where
   pub known_first : take (length known) (map string_bytes keys) ≡ known
   pub distinct : IsDistinct string_eq keys
+  pub fits : length keys ≤ 2 ^ 32
 
 -- keys with these texts, no two of which are equal
 pub record HoldsTexts {A : Type 0} (keys : List (String A)) (texts : List (List ℕ)) : Type 0 where

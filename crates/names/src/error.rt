@@ -73,7 +73,7 @@ pub enum ErrorCode {
     TreeText,
 }
 
-/// A parse error, and its place: a byte of the input (from 0).
+/// A parse error, and where it is: a byte offset of the input, from 0.
 #[derive(Clone, Copy, Debug, PartialEq, Eq)]
 pub struct ParseError {
     pub code: ErrorCode,

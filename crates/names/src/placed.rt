@@ -3,7 +3,7 @@
 ghost use Rattle.std.specs.Prelude.{◌≡◌};
 ghost use Rattle.names.specs.Placed.{is_noncharacter};
 
-/// A character of an input, and the place of its first byte (from 0).
+/// A character of an input, and the byte offset of its first byte, from 0.
 #[derive(Clone, Copy, Debug, PartialEq, Eq)]
 pub struct Placed {
     pub ch: char,

@@ -13,46 +13,44 @@ use std::fmt;
 pub enum TableFault {
     /// The text is not JSON.
     Json,
-    /// The whole, or the value of a key, is not an object with the required fields.
+    /// The JSON value, or the value of a key, is not an object with the required fields.
     Shape,
     /// A key is not `&`, then letters and digits, then at most one `;`.
     Key,
-    /// A list is not one or two numbers of characters other than NUL.
+    /// A `codepoints` is not a list of one or two numbers of characters other than NUL.
     Codepoints,
-    /// A text is not that of its list.
+    /// A `characters` is not the text of its `codepoints`.
     Characters,
 }
 
-/// Why there is no result. Places are bytes of the input, from 0. It is displayed as its name, what it names, and its place or
-/// line: `NotUtf8 at 1`, `OutOfProfile svg at 4`, `BadTable Codepoints`, `BadQuirks line 2`, `Memory`.
+/// Why there is no result. `at` is a byte offset of the input, from 0. It is displayed as its name, what it names, and its offset
+/// or line: `NotUtf8 at 1`, `OutOfProfile svg at 4`, `BadTable Codepoints`, `BadQuirks line 2`, `Memory`.
 #[derive(Clone, Copy, Debug, PartialEq, Eq)]
 pub enum Refusal {
-    /// The first byte of the first sequence that is not UTF-8, or that the input cuts off.
+    /// The input is not UTF-8: `at` is the first byte of the first sequence that is invalid, or that the input cuts off.
     NotUtf8 { at: u64 },
-    /// The `<` of a complete start tag that is left out of the profile.
+    /// A complete start tag that the profile leaves out: `at` is its `<`.
     OutOfProfile { name: RefusedName, at: u64 },
-    /// The first character past the input limit.
+    /// The input is longer than its limit: `at` is the first character past it.
     TooLarge { at: u64 },
-    /// The token that would make one node more than the limit.
+    /// `at` is the token that would make one node more than the limit.
     TooManyNodes { at: u64 },
-    /// The token that would open one element more than the limit.
+    /// `at` is the token that would open one element more than the limit.
     TooDeep { at: u64 },
     /// Out of memory.
     Memory,
-    /// The reader failed.
+    /// A read failed.
     Read,
-    /// The name is no context element of a fragment.
+    /// The name is not that of a context element of a fragment.
     BadContext,
     /// The entity table is refused.
     BadTable { cause: TableFault },
-    /// The first line of the quirks list that has none of its forms, from 1.
+    /// The quirks list is refused: `line` is the first line, from 1, that has none of its forms.
     BadQuirks { line: u64 },
     /// A limit is out of its range.
     BadLimits,
-    /// The writer failed; a beginning of the text may have been written.
+    /// A write failed; the beginning of the text may have been written.
     Write,
-    /// The first byte of markup that this version does not read yet.
-    NotYet { at: u64 },
 }
 
 impl From<AllocError> for Refusal {
@@ -104,7 +102,6 @@ impl Refusal {
             Refusal::BadQuirks { .. } => "BadQuirks",
             Refusal::BadLimits => "BadLimits",
             Refusal::Write => "Write",
-            Refusal::NotYet { .. } => "NotYet",
         }
     }
 
@@ -119,7 +116,7 @@ impl Refusal {
         }
     }
 
-    /// Its number, after the word that says what it counts: a byte of the input, or a line.
+    /// Its byte offset or its line, after the word that says which: `at` or `line`.
     fn number(self) -> Option<(&'static str, u64)>
         ensures { option_map (λ p. (p.0.now, p.1)) result ≡ number_of self }
     {
@@ -128,8 +125,7 @@ impl Refusal {
             | Refusal::OutOfProfile { at, .. }
             | Refusal::TooLarge { at }
             | Refusal::TooManyNodes { at }
-            | Refusal::TooDeep { at }
-            | Refusal::NotYet { at } => Some(("at", at)),
+            | Refusal::TooDeep { at } => Some(("at", at)),
             Refusal::BadQuirks { line } => Some(("line", line)),
             _ => None,
         }

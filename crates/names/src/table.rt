@@ -1,7 +1,7 @@
 //! Names as numbers.
 
 ghost use Rattle.std.specs.Prelude.{◌≡◌, ◌≢◌, ℕ, ◌<◌, List, [], IfOk, OnErr, length, map, slice_get, Some, true};
-ghost use Rattle.names.specs.Names.{Texts, IsOf, Grows, AreNames};
+ghost use Rattle.names.specs.Names.{Texts, IsOf, Grows, interned, AreNames};
 ghost use Rattle.names.specs.Table.{are_new, HoldsTexts};
 ghost use Rattle.names.specs.Tags.{known, tags, type_name, tag_of, number_of, tag_named, tag_text};
 ghost use Rattle.names.specs.declared.tag.Tag.{Tag as KnownTag};
@@ -11,10 +11,10 @@ use indexmap::IndexSet;
 use std::alloc::{AllocError, Global};
 use std::marker::Model;
 
-/// The number of a name. Known names have the same number in every table.
+/// The number of a name, in four bytes. Known names have the same number in every table.
 #[derive(Clone, Copy, Debug, PartialEq, Eq)]
 pub struct NameId {
-    index: usize,
+    index: u32,
 }
 
 impl Model for NameId {
@@ -32,7 +32,7 @@ impl NameId {
     pub fn index(self) -> usize
         ensures { result ≡ self }
     {
-        self.index
+        self.index as usize
     }
 
     /// The number of the attribute name `type`, the same in every table.
@@ -41,15 +41,18 @@ impl NameId {
         ensures text { (names : Texts) → AreNames names → slice_get names result ≡ Some type_name }
         ensures tag { tag_of result ≡ Tag.Other }
     {
-        NameId { index: TAGS.len() }
+        NameId {
+            index: TAGS.len() as u32,
+        }
     }
 
     /// The known name with this number, or `Tag::Other`.
     pub fn tag(self) -> Tag
         ensures { result ≡ tag_of self }
     {
-        if self.index < TAGS.len() {
-            TAGS[self.index]
+        let index = self.index();
+        if index < TAGS.len() {
+            TAGS[index]
         } else {
             Tag::Other
         }
@@ -63,9 +66,7 @@ impl Tag {
         ensures number { result ≡ number_of self }
         ensures tag { tag_of result ≡ self }
     {
-        NameId {
-            index: self as usize,
-        }
+        NameId { index: self as u32 }
     }
 }
 
@@ -114,18 +115,24 @@ impl Names {
         Ok(Names { texts })
     }
 
-    /// The number of a text. A new text is added to the table.
+    /// The number of a text. A new text is added to the table, which has room for 2³² texts; beyond that it is out of memory.
     pub fn intern(&mut self, alloc: Global, text: &str) -> Result<NameId, AllocError>
         ensures number { IfOk result (λ id. slice_get self.new id ≡ Some text.now) }
         ensures tag { IfOk result (λ id. tag_of id ≡ tag_named text.now) }
         ensures grows { Grows self.old self.new }
+        ensures added { IfOk result (λ id. self.new ≡ interned text.now id self.old) }
         ensures names { AreNames self.new }
         ensures unchanged { OnErr result (self.new ≡ self.old) }
     {
         match self.texts.get_index_of(text) {
-            Some(index) => Ok(NameId { index }),
+            Some(index) => Ok(NameId {
+                index: index as u32,
+            }),
             None => {
-                let (index, _) = self.texts.insert_full(String::from_str(alloc, text)?)?;
+                let Ok(index) = u32::try_from(self.texts.len()) else {
+                    return Err(AllocError);
+                };
+                self.texts.insert(String::from_str(alloc, text)?)?;
                 Ok(NameId { index })
             }
         }
@@ -137,7 +144,7 @@ impl Names {
         ensures text { slice_get self.now id ≡ Some result.now }
         ensures names { AreNames self.now }
     {
-        self.texts[id.index].as_str()
+        self.texts[id.index()].as_str()
     }
 }
 

@@ -3,7 +3,7 @@
 ghost use Rattle.std.specs.Prelude.{◌≡◌};
 ghost use Rattle.names.specs.Tags.{tag_text};
 
-/// The name of a tag: one that a rule, a set or the table of plain content mentions, or another.
+/// The name of a tag: one that a parsing rule, a set of names or the table of plain content mentions, or any other.
 #[derive(Clone, Copy, Debug, PartialEq, Eq)]
 pub enum Tag {
     A,

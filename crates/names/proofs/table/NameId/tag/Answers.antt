@@ -4,8 +4,8 @@ use Rattle.names.specs.Tags.{tags, tag_of}
 use Rattle.names.specs.declared.tag.Tag.TheVariants.{A, Other}
 use Rattle.names.proofs.table.NameId.tag.Goals as goal
 
-pub returns-else-self-lt127 : goal.returns-else-self-lt127
-returns-else-self-lt127 c = sym (get_or_past tags c.self.inside.index Other c.if-self-lt127.false) ∙ ap tag_of c.self.view_is
+pub returns-else-index-lt127 : goal.returns-else-index-lt127
+returns-else-index-lt127 c = sym (get_or_past tags c.index-index.result Other c.if-index-lt127.false) ∙ ap tag_of c.index-index.ensures
 
-pub returns-then-self-lt127 : goal.returns-then-self-lt127
-returns-then-self-lt127 c = get_or_default tags c.self.inside.index A Other c.if-self-lt127.true ∙ ap tag_of c.self.view_is
+pub returns-then-index-lt127 : goal.returns-then-index-lt127
+returns-then-index-lt127 c = get_or_default tags c.index-index.result A Other c.if-index-lt127.true ∙ ap tag_of c.index-index.ensures
