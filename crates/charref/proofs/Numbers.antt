@@ -16,7 +16,7 @@ use Rattle.charref.specs.Number.{is_digit_of, radix}
 use Rattle.charref.specs.Held.{IsSign, number_sign, small_x, capital_x, IsHeld, after_sign, after_x, in_number}
 use Rattle.charref.specs.Pieces.{IsRead, errors_of, number_of}
 use Rattle.charref.proofs.Naming.{drop-seam}
-use Rattle.charref.proofs.Telling.{begins-append, read_text, drop-all}
+use Rattle.charref.proofs.Telling.{begins-append, no_run, read_text, drop-all}
 
 -- SIGNS
 
@@ -34,13 +34,13 @@ begins_sign q rest is = grind (arith, nat_tests)
 pub no_decimal : (table : Entities) (in_value : Bool) (text after : List Placed) (p : Placed) → IsSign Decimal text → is_digit p.ch ≡ false → nat_eq p.ch 120 ≡ false → nat_eq p.ch 88 ≡ false
     → IsRead table in_value (text ++ p ∷ []) after (record { characters = One 38; left = 2; missing_semicolon = false; fault = Some AbsenceOfDigitsInNumericCharacterReference; in_run = false })
 no_decimal table in_value _ after p (number_sign q is) digit x capital =
-    read_text table in_value (q ∷ p ∷ []) after _ refl (λ amp amp-is. no_digits amp amp-is (begins_sign q (p ∷ after) is)
+    read_text table in_value (q ∷ p ∷ []) after _ refl refl (λ amp amp-is. no_digits amp amp-is (begins_sign q (p ∷ after) is)
     (let first : nat_eq q.ch 35 ≡ true = grind (arith, nat_tests) in rw (first, digit, x, capital) refl) refl)
 
 pub no_sign : (table : Entities) (in_value : Bool) (text : List Placed) → IsSign Decimal text
     → IsRead table in_value text [] (record { characters = One 38; left = 1; missing_semicolon = false; fault = Some AbsenceOfDigitsInNumericCharacterReference; in_run = false })
 no_sign table in_value _ (number_sign q is) =
-    read_text table in_value (q ∷ []) [] _ refl (λ amp amp-is. no_digits amp amp-is (begins_sign q [] is)
+    read_text table in_value (q ∷ []) [] _ refl refl (λ amp amp-is. no_digits amp amp-is (begins_sign q [] is)
     (let first : nat_eq q.ch 35 ≡ true = grind (arith, nat_tests) in rw first refl) refl)
 
 no_number_after : (q r : Placed) (rest : List Placed) → q.ch ≡ 35 → is_digit r.ch ≡ false → begins is_hex_digit rest ≡ false → begins_number (q ∷ r ∷ rest) ≡ false
@@ -59,25 +59,25 @@ capital_no_digit r is = ap is_digit is
 pub no_hexadecimal : (table : Entities) (in_value : Bool) (text after : List Placed) (p : Placed) → IsSign Hexadecimal text → is_hex_digit p.ch ≡ false
     → IsRead table in_value (text ++ p ∷ []) after (record { characters = One 38; left = 3; missing_semicolon = false; fault = Some AbsenceOfDigitsInNumericCharacterReference; in_run = false })
 no_hexadecimal table in_value _ after p (small_x q r is x) digit =
-    read_text table in_value (q ∷ r ∷ p ∷ []) after _ refl (λ amp amp-is. no_digits amp amp-is (begins_sign q (r ∷ p ∷ after) is) (no_number_after q r (p ∷ after) is (x_no_digit r x) digit) refl)
+    read_text table in_value (q ∷ r ∷ p ∷ []) after _ refl refl (λ amp amp-is. no_digits amp amp-is (begins_sign q (r ∷ p ∷ after) is) (no_number_after q r (p ∷ after) is (x_no_digit r x) digit) refl)
 no_hexadecimal table in_value _ after p (capital_x q r is x) digit =
-    read_text table in_value (q ∷ r ∷ p ∷ []) after _ refl (λ amp amp-is. no_digits amp amp-is (begins_sign q (r ∷ p ∷ after) is) (no_number_after q r (p ∷ after) is (capital_no_digit r x) digit) refl)
+    read_text table in_value (q ∷ r ∷ p ∷ []) after _ refl refl (λ amp amp-is. no_digits amp amp-is (begins_sign q (r ∷ p ∷ after) is) (no_number_after q r (p ∷ after) is (capital_no_digit r x) digit) refl)
 
 pub no_x : (table : Entities) (in_value : Bool) (text : List Placed) → IsSign Hexadecimal text
     → IsRead table in_value text [] (record { characters = One 38; left = 2; missing_semicolon = false; fault = Some AbsenceOfDigitsInNumericCharacterReference; in_run = false })
 no_x table in_value _ (small_x q r is x) =
-    read_text table in_value (q ∷ r ∷ []) [] _ refl (λ amp amp-is. no_digits amp amp-is (begins_sign q (r ∷ []) is) (no_number_after q r [] is (x_no_digit r x) refl) refl)
+    read_text table in_value (q ∷ r ∷ []) [] _ refl refl (λ amp amp-is. no_digits amp amp-is (begins_sign q (r ∷ []) is) (no_number_after q r [] is (x_no_digit r x) refl) refl)
 no_x table in_value _ (capital_x q r is x) =
-    read_text table in_value (q ∷ r ∷ []) [] _ refl (λ amp amp-is. no_digits amp amp-is (begins_sign q (r ∷ []) is) (no_number_after q r [] is (capital_no_digit r x) refl) refl)
+    read_text table in_value (q ∷ r ∷ []) [] _ refl refl (λ amp amp-is. no_digits amp amp-is (begins_sign q (r ∷ []) is) (no_number_after q r [] is (capital_no_digit r x) refl) refl)
 
 -- an `&` before something else, or before nothing
 pub alone_before : (table : Entities) (in_value : Bool) (p : Placed) (after : List Placed) → is_alphanumeric p.ch ≡ false → nat_eq p.ch 35 ≡ false
     → IsRead table in_value (p ∷ []) after (record { characters = One 38; left = 1; missing_semicolon = false; fault = None; in_run = false })
 alone_before table in_value p after letter sign =
-    read_text table in_value (p ∷ []) after _ refl (λ amp amp-is. alone amp amp-is (rw (letter, sign) refl) refl)
+    read_text table in_value (p ∷ []) after _ refl refl (λ amp amp-is. alone amp amp-is (rw (letter, sign) refl) refl)
 
 pub alone_at_end : (table : Entities) (in_value : Bool) → IsRead table in_value [] [] (record { characters = One 38; left = 0; missing_semicolon = false; fault = None; in_run = false })
-alone_at_end table in_value = read_text table in_value [] [] _ refl (λ amp amp-is. alone amp amp-is refl refl)
+alone_at_end table in_value = read_text table in_value [] [] _ refl refl (λ amp amp-is. alone amp amp-is refl refl)
 
 -- DIGITS
 
@@ -200,6 +200,7 @@ number_closed table in_value _ _ _ after p (in_number base value sign digits tex
     let gone : drop (length (text ++ p ∷ []) - 0) (text ++ p ∷ []) ≡ [] = drop-all (text ++ p ∷ []) (length (text ++ p ∷ []) - 0) (omega arith) in
     record {
       within = omega arith;
+      run = no_run false refl;
       reads = λ amp amp-is. rw (belongs, gone) (number_reads table in_value base sign digits (p ∷ []) after after value 0 is opens run value-is
           (ap not (ap (is_digit_of base) semicolon ∙ no_digit_semicolon base)) (let test : nat_eq p.ch 59 ≡ true = grind (arith, nat_tests) in and_from _ _ test refl) amp amp-is);
     }
@@ -213,6 +214,7 @@ number_open table in_value _ _ _ after p (in_number base value sign digits text 
     let gone : drop (length (text ++ p ∷ []) - 1) (text ++ p ∷ []) ≡ p ∷ [] = drop-seam text (p ∷ []) (length (text ++ p ∷ []) - 1) (omega arith) in
     record {
       within = omega arith;
+      run = no_run false refl;
       reads = λ amp amp-is. rw (belongs, gone) (number_reads table in_value base sign digits [] (p ∷ after) after value 1 is opens run value-is (ap not digit) (ap not semicolon) amp amp-is);
     }
 
@@ -223,5 +225,6 @@ number_at_end table in_value _ _ _ (in_number base value sign digits text text-i
     let gone : drop (length text - 0) text ≡ [] = drop-all text (length text - 0) (omega arith) in
     record {
       within = omega arith;
+      run = no_run false refl;
       reads = λ amp amp-is. rw (belongs, gone) (number_reads table in_value base sign digits [] [] [] value 0 is opens run value-is refl refl amp amp-is);
     }

@@ -18,7 +18,7 @@ use Rattle.charref.specs.Last.{IsSettled, last_of, goes_on_name, is_kept_before}
 use Rattle.charref.specs.Pieces.{IsRead, characters_of, errors_of, unknown_of}
 use Rattle.charref.proofs.Keys.{no_longer}
 use Rattle.charref.proofs.Core.{longest_among}
-use Rattle.charref.proofs.Naming.{key_of, take-map, past-run, begins-drop, drop-seam, drop-within, is_key_of, Opens, key_opens}
+use Rattle.charref.proofs.Naming.{all-append, key_of, take-map, past-run, begins-drop, drop-seam, drop-within, is_key_of, Opens, key_opens}
 
 begins_first : (test : ℕ → Bool) (name : List Placed) (c : ℕ) (cs : List ℕ) → characters name ≡ c ∷ cs → begins test name ≡ test c
 begins_first test [] c cs h = absurd (cc)
@@ -37,15 +37,25 @@ begins_or (p ∷ ps) h = by (is_equals p.ch)
     by false = h
 
 -- an `&` that is text: all that was read is left
-pub read_text : (table : Entities) (in_value : Bool) (text after : List Placed) (found : Reference) → found.left ≡ length text
+read_run : (table : Entities) (in_value : Bool) (text after : List Placed) (found : Reference) → found.left ≡ length text
+    → (found.in_run ≡ true → all is_alphanumeric text ≡ true)
     → ((amp : Placed) → amp.ch ≡ 38 → IsReference table in_value (text ++ after) (record { text = amp ∷ []; gives = characters_of found.characters; errors = errors_of found amp.at after }))
     → IsRead table in_value text after found
-read_text table in_value text after found left reads =
+read_run table in_value text after found left run reads =
     let none : length text - found.left ≡ 0 = omega arith in
     record {
       within = omega arith;
+      run = λ told. (left, run told);
       reads = λ amp is. rw none (reads amp is);
     }
+
+pub no_run : {A : Type 0} (in_run : Bool) → in_run ≡ false → in_run ≡ true → A
+no_run in_run quiet told = absurd (true≢false (sym told ∙ quiet))
+
+pub read_text : (table : Entities) (in_value : Bool) (text after : List Placed) (found : Reference) → found.left ≡ length text → found.in_run ≡ false
+    → ((amp : Placed) → amp.ch ≡ 38 → IsReference table in_value (text ++ after) (record { text = amp ∷ []; gives = characters_of found.characters; errors = errors_of found amp.at after }))
+    → IsRead table in_value text after found
+read_text table in_value text after found left quiet reads = read_run table in_value text after found left (no_run found.in_run quiet) reads
 
 module _ (table : Entities) (in_value : Bool) (text after : List Placed) (is_table : IsTable table) (e : Entry)
     (found : longest table (key_bytes text) ≡ Some e) (same : longest table (key_bytes text ++ characters after) ≡ longest table (key_bytes text)) where
@@ -96,6 +106,7 @@ module _ (table : Entities) (in_value : Bool) (text after : List Placed) (is_tab
       let belongs : length text - left ≡ length e.key - 1 = omega arith in
       record {
         within = omega arith;
+        run = no_run false refl;
         reads = λ amp is. rw belongs (named amp (take (length e.key - 1) text) e is name_opens
             (always amp is (take (length e.key - 1) text ++ (drop (length e.key - 1) text ++ after)) joined)
             (ap (λ c. c ∷ characters (take (length e.key - 1) text)) is ∙ sym key_is) free
@@ -105,7 +116,7 @@ module _ (table : Entities) (in_value : Bool) (text after : List Placed) (is_tab
   pub read_kept : (left : ℕ) → left ≡ length text → is_kept in_value e.key (drop (length e.key - 1) text ++ after) ≡ true
       → IsRead table in_value text after (record { characters = One 38; left = left; missing_semicolon = false; fault = None; in_run = false })
   read_kept left left-is keeps =
-      read_text table in_value text after _ left-is (λ amp is.
+      read_text table in_value text after _ left-is refl (λ amp is.
       kept amp e is text_opens (always amp is (text ++ after) refl)
       (let size : length e.key ≤ length text + 1 = most in ap (is_kept in_value e.key) (drop-within text after (length e.key - 1) (omega arith)) ∙ keeps) refl)
 
@@ -186,10 +197,19 @@ run_opens : (front : List Placed) (p : Placed) (after : List Placed) → all is_
 run_opens [] p after run first = first refl
 run_opens (q ∷ qs) p after run first = (and_parts _ _ run).0
 
+unknown_run : (left : ℕ) (front : List Placed) (p : Placed) → all is_alphanumeric front ≡ true → (unknown_of left (last_of p.ch)).in_run ≡ true → all is_alphanumeric (front ++ p ∷ []) ≡ true
+unknown_run left front p run = by (is_alphanumeric p.ch) (nat_eq p.ch 59) (is_equals p.ch) refl
+  where
+    by : (a b d : Bool) → is_alphanumeric p.ch ≡ a → (unknown_of left (cond a Alphanumeric (cond b Semicolon (cond d Equals Other)))).in_run ≡ true → all is_alphanumeric (front ++ p ∷ []) ≡ true
+    by true b d is told = all-append is_alphanumeric front (p ∷ []) run (rw is refl)
+    by false true d is told = absurd (true≢false (sym told))
+    by false false true is told = absurd (true≢false (sym told))
+    by false false false is told = absurd (true≢false (sym told))
+
 pub read_unknown : (table : Entities) (in_value : Bool) (front : List Placed) (p : Placed) (after : List Placed) (left : ℕ) → all is_alphanumeric front ≡ true → (is_empty front ≡ true → is_alphanumeric p.ch ≡ true)
     → left ≡ length (front ++ p ∷ []) → longest table (key_bytes (front ++ p ∷ [])) ≡ None → IsSettled table in_value (front ++ p ∷ []) after → IsRead table in_value (front ++ p ∷ []) after (unknown_of left (last_of p.ch))
 read_unknown table in_value front p after left run first left-is none settled =
-    read_text table in_value (front ++ p ∷ []) after (unknown_of left (last_of p.ch)) (unknown_left left (last_of p.ch) ∙ left-is) (λ amp is.
+    read_run table in_value (front ++ p ∷ []) after (unknown_of left (last_of p.ch)) (unknown_left left (last_of p.ch) ∙ left-is) (unknown_run left front p run) (λ amp is.
     unknown amp is (run_opens front p after run first)
     (ap (λ c. longest table (c ∷ characters (front ++ p ∷ [] ++ after))) is ∙ ap (λ cs. longest table (38 ∷ cs)) (map-append (λ (q : Placed). q.ch) (front ++ p ∷ []) after) ∙ settled.same ∙ none)
     (λ i. record { text = amp ∷ []; gives = unknown_gives left (last_of p.ch) i; errors = unknown_errors front p after amp.at left run i }))

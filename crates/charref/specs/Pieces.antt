@@ -3,7 +3,7 @@ use Rattle.std.specs.Prelude.{◌≡◌, ℕ, ◌-◌, ◌≤◌, Bool, true, fa
 use Rattle.names.specs.declared.error.ParseError.{ParseError}
 use Rattle.names.specs.declared.error.ErrorCode.TheVariants.{MissingSemicolonAfterCharacterReference, UnknownNamedCharacterReference}
 use Rattle.names.specs.declared.placed.Placed.{Placed}
-use Rattle.names.specs.Placed.{begins, past, is_alphanumeric, error, error_if}
+use Rattle.names.specs.Placed.{all, begins, past, is_alphanumeric, error, error_if}
 use Rattle.charref.specs.declared.last.Last.{Last}
 use Rattle.charref.specs.declared.last.Last.TheVariants.{Alphanumeric, Semicolon, Equals, Other}
 use Rattle.charref.specs.declared.reference.Characters.{Characters}
@@ -25,6 +25,8 @@ errors_of found at after =
 -- This reference stands at the `&` before `text` and `after`, and leaves the last `left` characters of the text to be read again.
 pub record IsRead (table : Entities) (in_value : Bool) (text after : List Placed) (found : Reference) : Type 0 where
   pub within : found.left ≤ length text
+  -- in a run, only alphanumerics were read, and all of them are read again
+  pub run : found.in_run ≡ true → (found.left ≡ length text) × (all is_alphanumeric text ≡ true)
   pub reads : (amp : Placed) → amp.ch ≡ 38 → IsReference table in_value (drop (length text - found.left) text ++ after)
       (record { text = amp ∷ take (length text - found.left) text; gives = characters_of found.characters; errors = errors_of found amp.at after })
 

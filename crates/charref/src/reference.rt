@@ -16,12 +16,12 @@ pub enum Characters<'t> {
 /// What stands at an `&`: a reference, or an `&` that is text.
 ///
 /// Its parse errors are placed at the `&`: missing-semicolon-after-character-reference if `missing_semicolon` is set, and
-/// then `fault`. If `in_run` is set, no key matches and the run of alphanumerics after the `&` may go on: the error is
-/// unknown-named-character-reference if a `;` follows that run.
+/// then `fault`. If `in_run` is set, no key matches, all characters taken are alphanumerics to be read again, and their run may
+/// go on: the error is unknown-named-character-reference if a `;` follows that run.
 #[derive(Clone, Copy, Debug)]
 pub struct Reference<'t> {
     pub characters: Characters<'t>,
-    /// How many of the characters taken, the last ones, are not part of it and must be read again. The `&` is part of it.
+    /// How many characters at the end of those taken are not part of it and must be read again. The `&` is part of it.
     pub left: usize,
     pub missing_semicolon: bool,
     pub fault: Option<ErrorCode>,

@@ -11,8 +11,8 @@ use std::alloc::Global;
 use std::marker::Model;
 
 /// A table of named character references, sorted by the bytes of the keys, so that the keys with a common beginning are a
-/// range. A look-up narrows this range byte by byte, each time by a binary search: it takes at most as many searches as the
-/// longest key has bytes, twice, and allocates nothing.
+/// range. A look-up narrows this range byte by byte, with two binary searches for each, until no key goes on with what was read.
+/// It allocates nothing.
 #[derive(Debug, Drop)]
 pub struct Table {
     pub(crate) entities: Vec<Entity>,
