@@ -1,12 +1,12 @@
 -- What a walk has read, and the characters that close it.
-use Rattle.std.proofs.Common.{◌≡◌, ℕ, true, false, eqb, List, [], ◌∷◌, ◌++◌, sym, refl, ap, ◌∙◌, subst, codes, None, append_assoc}
+use Rattle.std.proofs.Common.{◌≡◌, ◌<◌, ℕ, arith, true, false, eqb, List, [], ◌∷◌, ◌++◌, sym, refl, ap, ◌∙◌, subst, codes, None, append_assoc}
+use Rattle.std.proofs.lemmas.Bool.{ne_eqb}
 use Rattle.names.specs.declared.error.ParseError.{ParseError}
 use Rattle.names.specs.declared.placed.Placed.{Placed}
 use Rattle.names.specs.Placed.{characters, is_quote}
 use Rattle.hmarkup.specs.declared.comment.CommentKind.{CommentKind}
 use Rattle.hmarkup.specs.declared.comment.CommentKind.TheVariants.{Comment, Bogus}
 use Rattle.hmarkup.specs.declared.keyword.Letters.{Letters}
-use Rattle.hmarkup.specs.declared.keyword.Letters.TheVariants.{P, Pu, Pub, Publ, Publi, S, Sy, Sys, Syst, Syste}
 use Rattle.hmarkup.specs.declared.phase.Phase.{Phase}
 use Rattle.hmarkup.specs.declared.phase.Phase.TheVariants as phase
 use Rattle.hmarkup.specs.declared.tail.Ending.{Ending}
@@ -14,12 +14,13 @@ use Rattle.hmarkup.specs.declared.tail.Ending.TheVariants.{Plain, Dash, Dashes, 
 use Rattle.hmarkup.specs.Comment.{errors_here, IsComment}
 use Rattle.hmarkup.specs.CommentWalk.{Progress, HasReadOf, IsInComment, IsSpan, closing_mark, is_whole}
 use Rattle.hmarkup.specs.Doctype.{Found, IsDoctype}
-use Rattle.hmarkup.specs.DoctypeSteps.{step}
+use Rattle.hmarkup.specs.DoctypeSteps.{next_letter, step}
 use Rattle.hmarkup.specs.DoctypeWalk.{Reading, Fits, HasReadDoctype}
 use Rattle.hmarkup.specs.Steps.{next, next_ending}
 use Rattle.hmarkup.specs.Walk.{ClosedBy}
 use Rattle.hmarkup.proofs.Characters.{quote_is}
 use Rattle.hmarkup.proofs.InBogus.{bogus_closed}
+use Rattle.hmarkup.proofs.Keywords.{next_is_letter}
 use Rattle.hmarkup.proofs.Marks.{first_is}
 use Rattle.hmarkup.proofs.Reading.{read_whole}
 use Rattle.hmarkup.proofs.Walking.{kept_other, closed_now}
@@ -83,23 +84,14 @@ closed_span Bogus w text (p ∷ q ∷ more) errs h is = absurd cc
 no_quote : (mark : ℕ) → is_quote mark ≡ true → eqb 62 mark ≡ false
 no_quote mark h = quote_is mark h (λ n. eqb 62 n ≡ false) refl refl
 
-no_letter : (letters : Letters) (first at : ℕ) → (step (phase.Keyword letters first) (record { ch = 62; at = at })).next ≡ None
-no_letter P first at = refl
-no_letter Pu first at = refl
-no_letter Pub first at = refl
-no_letter Publ first at = refl
-no_letter Publi first at = refl
-no_letter S first at = refl
-no_letter Sy first at = refl
-no_letter Sys first at = refl
-no_letter Syst first at = refl
-no_letter Syste first at = refl
+no_letter : (letters : Letters) → letters.read < 6 → eqb 62 (next_letter letters) ≡ false
+no_letter letters fits = let far = next_is_letter letters fits in ne_eqb 62 (next_letter letters) (λ e. absurd (omega (arith, e)))
 
 ends_doctype : (phase : Phase) (known : Found) (at : ℕ) → Fits phase known → (step phase (record { ch = 62; at = at })).next ≡ None
 ends_doctype (phase.BeforeName spaced) known at fits = refl
 ends_doctype phase.Name known at fits = refl
 ends_doctype phase.AfterName known at fits = refl
-ends_doctype (phase.Keyword letters first) known at fits = no_letter letters first at
+ends_doctype (phase.Keyword letters first) known at fits = simp (no_letter letters fits)
 ends_doctype (phase.AfterKeyword which spaced) known at fits = refl
 ends_doctype (phase.Quoted which mark) known at fits = simp (no_quote mark fits.0)
 ends_doctype (phase.AfterPublic spaced) known at fits = refl

@@ -1,7 +1,10 @@
 -- What stands after the name of a doctype, and letters of its keywords: each character.
-use Rattle.std.proofs.Common.{◌≡◌, ℕ, ◌≤◌, Bool, true, false, ◌&&◌, eqb, if◌then◌else◌, List, [], ◌∷◌, ◌++◌, sym, refl, ap, ◌∙◌, subst, codes, Option, Some, None, arith}
+use Rattle.std.proofs.Common.{◌≡◌, ℕ, zero, suc, ◌+◌, ◌≤◌, ◌<◌, nat_le, nat_lt, drop, length, get_or, Bool, true, false, ◌&&◌, eqb, if◌then◌else◌, List, [], ◌∷◌, ◌++◌, sym, refl, ap, ◌∙◌, subst, codes, Option, Some, None, arith}
 use Rattle.std.specs.Char.{to_ascii_lowercase}
-use Rattle.std.proofs.lemmas.Bool.{false≢true, eqb-true, and_from, and_left, and_right, or_from, or_parts}
+use Rattle.std.proofs.lemmas.Bool.{false≢true, eqb-true, and_from, and_left, and_parts, and_right, or_from, or_parts}
+use Rattle.std.proofs.lemmas.Bool.Decides.{nat_tests}
+use Rattle.std.proofs.lemmas.List.{drop_all, drop_more}
+use Rattle.std.specs.List.{list_all}
 use Rattle.names.specs.declared.error.ParseError.{ParseError}
 use Rattle.names.specs.declared.error.ErrorCode.TheVariants.{InvalidCharacterSequenceAfterDoctypeName}
 use Rattle.names.specs.declared.placed.Placed.{Placed}
@@ -9,9 +12,8 @@ use Rattle.names.specs.Placed.{characters, lowered, begins, is_space, is_greater
 use Rattle.hmarkup.specs.declared.keyword.Identifier.{Identifier}
 use Rattle.hmarkup.specs.declared.keyword.Identifier.TheVariants.{Public, System}
 use Rattle.hmarkup.specs.declared.keyword.Letters.{Letters}
-use Rattle.hmarkup.specs.declared.keyword.Letters.TheVariants.{P, Pu, Pub, Publ, Publi, S, Sy, Sys, Syst, Syste}
 use Rattle.hmarkup.specs.Doctype.{Found, closed, force, IsSkipped, AfterName, name_ends, name_skips, names_identifier, is_keyword, keyword, FollowsKeyword, FollowsName}
-use Rattle.hmarkup.specs.DoctypeSteps.{after_name, begins_keyword, first_letter, goes_on_with, in_keyword, next_letter, letters_after, letters_of, step_errors, found_by}
+use Rattle.hmarkup.specs.DoctypeSteps.{begun, after_name, begins_keyword, first_letter, goes_on_with, in_keyword, next_letter, letters_after, step_errors, found_by}
 use Rattle.hmarkup.specs.DoctypeWalk.{left, IsInKeyword, whole, fails}
 use Rattle.hmarkup.proofs.Marks.{eqb_self}
 use Rattle.hmarkup.proofs.Characters.{lower_is_far, far_not_space, far_not_greater, far_not_null, no_null_error}
@@ -24,46 +26,42 @@ pub left_after : Option Letters → List ℕ
 left_after None = []
 left_after (Some letters) = left letters
 
-pub left_is : (letters : Letters) → left letters ≡ next_letter letters ∷ left_after (letters_after letters)
+six : (which : Identifier) → length (keyword which) ≡ 6
+six Public = refl
+six System = refl
+
+pub left_is : (letters : Letters) → letters.read < 6 → left letters ≡ next_letter letters ∷ left_after (letters_after letters)
 unfolding left_after
-left_is P = refl
-left_is Pu = refl
-left_is Pub = refl
-left_is Publ = refl
-left_is Publi = refl
-left_is S = refl
-left_is Sy = refl
-left_is Sys = refl
-left_is Syst = refl
-left_is Syste = refl
+left_is letters fits =
+    drop_more (keyword letters.which) letters.read 0 (omega (arith, six letters.which)) ∙ ap (λ (x : List ℕ). next_letter letters ∷ x) (sym (by (nat_lt letters.read 5) refl))
+  where
+    by : (b : Bool) → nat_lt letters.read 5 ≡ b → left_after (if b then Some (record { which = letters.which; read = letters.read + 1 }) else None) ≡ drop (letters.read + 1) (keyword letters.which)
+    by true e = refl
+    by false e = let last : 5 ≤ letters.read = grind (arith, nat_tests) in sym (drop_all (letters.read + 1) (keyword letters.which) (omega (arith, six letters.which)))
 
-pub next_is_letter : (letters : Letters) → 97 ≤ next_letter letters
-next_is_letter P = omega arith
-next_is_letter Pu = omega arith
-next_is_letter Pub = omega arith
-next_is_letter Publ = omega arith
-next_is_letter Publi = omega arith
-next_is_letter S = omega arith
-next_is_letter Sy = omega arith
-next_is_letter Sys = omega arith
-next_is_letter Syst = omega arith
-next_is_letter Syste = omega arith
+are_letters : (which : Identifier) → list_all (λ c. nat_le 97 c) (keyword which) ≡ true
+are_letters Public = refl
+are_letters System = refl
 
-abbrev pub KeepsWhich : Letters → Option Letters → Type 0
-KeepsWhich letters None = Unit {0}
-KeepsWhich letters (Some next) = letters_of next ≡ letters_of letters
+at_letter : (xs : List ℕ) (n : ℕ) → list_all (λ c. nat_le 97 c) xs ≡ true → n < length xs → 97 ≤ get_or xs n 0
+at_letter [] n h less = absurd (omega arith)
+at_letter (x ∷ xs) zero h less = let first : nat_le 97 x ≡ true = (and_parts _ _ h).0 in grind (arith, nat_tests)
+at_letter (x ∷ xs) (suc n) h less = at_letter xs n (and_parts _ _ h).1 (omega arith)
 
-pub keeps_which : (letters : Letters) → KeepsWhich letters (letters_after letters)
-keeps_which P = refl
-keeps_which Pu = refl
-keeps_which Pub = refl
-keeps_which Publ = refl
-keeps_which Publi = tt
-keeps_which S = refl
-keeps_which Sy = refl
-keeps_which Sys = refl
-keeps_which Syst = refl
-keeps_which Syste = tt
+pub next_is_letter : (letters : Letters) → letters.read < 6 → 97 ≤ next_letter letters
+next_is_letter letters fits = at_letter (keyword letters.which) letters.read (are_letters letters.which) (omega (arith, six letters.which))
+
+-- the letters after one more are those of the same keyword, and not all
+abbrev pub GoesOnAs : Identifier → Option Letters → Type 0
+GoesOnAs which None = Unit {0}
+GoesOnAs which (Some next) = (next.which ≡ which) × (next.read < 6)
+
+pub goes_on_as : (letters : Letters) → GoesOnAs letters.which (letters_after letters)
+goes_on_as letters = by (nat_lt letters.read 5) refl
+  where
+    by : (b : Bool) → nat_lt letters.read 5 ≡ b → GoesOnAs letters.which (if b then Some (record { which = letters.which; read = letters.read + 1 }) else None)
+    by true e = (refl, (let less : letters.read < 5 = grind (arith, nat_tests) in omega arith))
+    by false e = tt
 
 -- a letter of a keyword in either case
 pub letter_error : (p : Placed) (c : ℕ) → to_ascii_lowercase p.ch ≡ c → 97 ≤ c → null_errors (p ∷ []) ≡ []
@@ -81,7 +79,7 @@ rest_no false b e h = absurd (false≢true e)
 
 -- the first letter of a keyword, if it is one
 abbrev pub first_by : Bool → Bool → Option Letters
-first_by a b = if a then Some P else (if b then Some S else None)
+first_by a b = if a then Some (begun Public) else (if b then Some (begun System) else None)
 
 -- a text that begins with a word in either case
 record Worded (p : Placed) (ps : List Placed) (c : ℕ) (cs : List ℕ) (after : List Placed) : Type 0 where
@@ -200,13 +198,13 @@ module _ (known : Found) (end : ℕ) (rest : List Placed) (p : Placed) (ps : Lis
       (plain_errors p (letter_error p c l far) (Some (error InvalidCharacterSequenceAfterDoctypeName p.at)) more ∙ sym e)
       (name_skips (skips_from (force known) end rest found p ps more is_keyword InvalidCharacterSequenceAfterDoctypeName (letter_not_space p c l far) (letter_not_greater p c l far) none h))
 
-  to_public : (later : List ParseError) → to_ascii_lowercase p.ch ≡ 112 → IsInKeyword P p.at known end rest ps found later → AfterName known end rest (p ∷ ps) found later
+  to_public : (later : List ParseError) → to_ascii_lowercase p.ch ≡ 112 → IsInKeyword (begun Public) p.at known end rest ps found later → AfterName known end rest (p ∷ ps) found later
   to_public later l (whole word after t w k) =
       names_identifier Public (p ∷ word) after (ap (λ (x : List Placed). p ∷ x) t) (ap (λ (c : ℕ). c ∷ lowered word) l ∙ ap (λ (x : List ℕ). 112 ∷ x) w) k
   to_public later l (fails more sp h e) =
       skips_letter later more 112 l (omega arith) (or_from _ _ (same_letter 112 (codes "ublic") ps sp) (other_letter 112 (codes "ystem") ps l 115 refl)) h e
 
-  to_system : (later : List ParseError) → to_ascii_lowercase p.ch ≡ 115 → IsInKeyword S p.at known end rest ps found later → AfterName known end rest (p ∷ ps) found later
+  to_system : (later : List ParseError) → to_ascii_lowercase p.ch ≡ 115 → IsInKeyword (begun System) p.at known end rest ps found later → AfterName known end rest (p ∷ ps) found later
   to_system later l (whole word after t w k) =
       names_identifier System (p ∷ word) after (ap (λ (x : List Placed). p ∷ x) t) (ap (λ (c : ℕ). c ∷ lowered word) l ∙ ap (λ (x : List ℕ). 115 ∷ x) w) k
   to_system later l (fails more sp h e) =
@@ -237,24 +235,24 @@ module _ (known : Found) (end : ℕ) (rest : List Placed) (p : Placed) (ps : Lis
   to_after_name later false false es eg h = with_none (λ spaced. AfterName known) false end rest found _ (p ∷ ps) (to_name_core later _ _ es eg refl refl h)
 
   -- letters of a keyword
-  keyword_goes : (letters : Letters) (first : ℕ) (errors : List ParseError) (next : Option Letters) (word after : List Placed) → KeepsWhich letters next → ps ≡ word ++ after → lowered word ≡ left_after next
-      → FollowsKeyword (letters_of letters) known end rest after found errors → null_errors (p ∷ []) ≡ []
-      → Stepped (goes_on_with (letters_of letters) next first) known end rest p ps found errors
+  keyword_goes : (letters : Letters) (first : ℕ) (errors : List ParseError) (next : Option Letters) (word after : List Placed) → GoesOnAs letters.which next → ps ≡ word ++ after → lowered word ≡ left_after next
+      → FollowsKeyword letters.which known end rest after found errors → null_errors (p ∷ []) ≡ []
+      → Stepped (goes_on_with letters.which next first) known end rest p ps found errors
   unfolding left_after
   keyword_goes letters first errors None (x ∷ xs) after w t l k n = absurd cc
   keyword_goes letters first errors None [] after w t l k n = record {
     later = errors;
     errors_are = sym (plain_errors p n None errors);
-    goes = subst (λ (x : List Placed). FollowsKeyword (letters_of letters) known end rest x found errors) (sym t) k;
+    goes = subst (λ (x : List Placed). FollowsKeyword letters.which known end rest x found errors) (sym t) k;
   }
   keyword_goes letters first errors (Some next) word after w t l k n = record {
     later = errors;
     errors_are = sym (plain_errors p n None errors);
-    goes = whole word after t l (subst (λ (x : Identifier). FollowsKeyword x known end rest after found errors) (sym w) k);
+    goes = whole word after t l (subst (λ (x : Identifier). FollowsKeyword x known end rest after found errors) (sym w.0) k);
   }
 
   keyword_fails : (letters : Letters) (first : ℕ) (errors later : List ParseError) (next : Option Letters) → spells_in_any_case (left_after next) ps ≡ false → IsSkipped (force known) end rest ps found later
-      → errors ≡ error InvalidCharacterSequenceAfterDoctypeName first ∷ later → null_errors (p ∷ []) ≡ [] → Stepped (goes_on_with (letters_of letters) next first) known end rest p ps found errors
+      → errors ≡ error InvalidCharacterSequenceAfterDoctypeName first ∷ later → null_errors (p ∷ []) ≡ [] → Stepped (goes_on_with letters.which next first) known end rest p ps found errors
   unfolding left_after
   keyword_fails letters first errors later None sp h e n = absurd (false≢true (sym sp))
   keyword_fails letters first errors later (Some next) sp h e n = record {
@@ -263,67 +261,67 @@ module _ (known : Found) (end : ℕ) (rest : List Placed) (p : Placed) (ps : Lis
     goes = fails later sp h e;
   }
 
-  pub from_keyword : (letters : Letters) (first : ℕ) (errors : List ParseError) (m g : Bool) → eqb (to_ascii_lowercase p.ch) (next_letter letters) ≡ m → is_greater p.ch ≡ g
+  pub from_keyword : (letters : Letters) (first : ℕ) (errors : List ParseError) → letters.read < 6 → (m g : Bool) → eqb (to_ascii_lowercase p.ch) (next_letter letters) ≡ m → is_greater p.ch ≡ g
       → IsInKeyword letters first known end rest (p ∷ ps) found errors → Stepped (in_keyword letters first m g) known end rest p ps found errors
-  from_keyword letters first errors true g em eg (whole word after t w k) =
-      let v : Worded p ps (next_letter letters) (left_after (letters_after letters)) after = worded p ps word after _ _ t (w ∙ left_is letters) in
-      keyword_goes letters first errors (letters_after letters) v.more after (keeps_which letters) v.text_is v.others k (letter_error p _ v.letter (next_is_letter letters))
-  from_keyword letters first errors false g em eg (whole word after t w k) =
-      let v : Worded p ps (next_letter letters) (left_after (letters_after letters)) after = worded p ps word after _ _ t (w ∙ left_is letters) in
+  from_keyword letters first errors fits true g em eg (whole word after t w k) =
+      let v : Worded p ps (next_letter letters) (left_after (letters_after letters)) after = worded p ps word after _ _ t (w ∙ left_is letters fits) in
+      keyword_goes letters first errors (letters_after letters) v.more after (goes_on_as letters) v.text_is v.others k (letter_error p _ v.letter (next_is_letter letters fits))
+  from_keyword letters first errors fits false g em eg (whole word after t w k) =
+      let v : Worded p ps (next_letter letters) (left_after (letters_after letters)) after = worded p ps word after _ _ t (w ∙ left_is letters fits) in
       absurd (false≢true (sym em ∙ subst (λ (n : ℕ). eqb n (next_letter letters) ≡ true) (sym v.letter) (eqb_self (next_letter letters))))
-  from_keyword letters first errors true g em eg (fails later sp h e) =
+  from_keyword letters first errors fits true g em eg (fails later sp h e) =
       let l : to_ascii_lowercase p.ch ≡ next_letter letters = eqb-true _ _ em in
-      let far : 97 ≤ next_letter letters = next_is_letter letters in
+      let far : 97 ≤ next_letter letters = next_is_letter letters fits in
       let k = skipped_goes (force known) end rest found p ps later h (letter_not_greater p _ l far) in
       let n : null_errors (p ∷ []) ≡ [] = letter_error p _ l far in
-      let sp' : spells_in_any_case (next_letter letters ∷ left_after (letters_after letters)) (p ∷ ps) ≡ false = ap (λ (x : List ℕ). spells_in_any_case x (p ∷ ps)) (sym (left_is letters)) ∙ sp in
+      let sp' : spells_in_any_case (next_letter letters ∷ left_after (letters_after letters)) (p ∷ ps) ≡ false = ap (λ (x : List ℕ). spells_in_any_case x (p ∷ ps)) (sym (left_is letters fits)) ∙ sp in
       keyword_fails letters first errors k.0 (letters_after letters) (rest_no _ _ em sp') k.2 (e ∙ ap (λ (x : List ParseError). error InvalidCharacterSequenceAfterDoctypeName first ∷ x) (k.1 ∙ ap (λ (x : List ParseError). x ++ k.0) n)) n
-  from_keyword letters first errors false true em eg (fails later sp h e) =
+  from_keyword letters first errors fits false true em eg (fails later sp h e) =
       let k = skipped_ends (force known) end rest found p ps later h eg in
       record {
         later = [];
         errors_are = e ∙ ap (λ (x : List ParseError). error InvalidCharacterSequenceAfterDoctypeName first ∷ x) k.1 ∙ sym (plain_errors p (greater_error p eg) (Some (error InvalidCharacterSequenceAfterDoctypeName first)) []);
         goes = (k.0, h.found_is, refl);
       }
-  from_keyword letters first errors false false em eg (fails later sp h e) =
+  from_keyword letters first errors fits false false em eg (fails later sp h e) =
       let k = skipped_goes (force known) end rest found p ps later h eg in
       record { later = k.0; errors_are = e ∙ ap (λ (x : List ParseError). error InvalidCharacterSequenceAfterDoctypeName first ∷ x) k.1; goes = k.2 }
 
   -- backwards
-  word_more : (letters : Letters) (word : List Placed) → to_ascii_lowercase p.ch ≡ next_letter letters → lowered word ≡ left_after (letters_after letters) → lowered (p ∷ word) ≡ left letters
-  word_more letters word l w = ap (λ (c : ℕ). c ∷ lowered word) l ∙ ap (λ (x : List ℕ). next_letter letters ∷ x) w ∙ sym (left_is letters)
+  word_more : (letters : Letters) (word : List Placed) → letters.read < 6 → to_ascii_lowercase p.ch ≡ next_letter letters → lowered word ≡ left_after (letters_after letters) → lowered (p ∷ word) ≡ left letters
+  word_more letters word fits l w = ap (λ (c : ℕ). c ∷ lowered word) l ∙ ap (λ (x : List ℕ). next_letter letters ∷ x) w ∙ sym (left_is letters fits)
 
-  keyword_on : (letters : Letters) (first : ℕ) (later : List ParseError) (next : Option Letters) → letters_after letters ≡ next → KeepsWhich letters next → to_ascii_lowercase p.ch ≡ next_letter letters
-      → Goes (goes_on_with (letters_of letters) next first).next (found_by (goes_on_with (letters_of letters) next first) p known) end rest ps found later → IsInKeyword letters first known end rest (p ∷ ps) found later
+  keyword_on : (letters : Letters) (first : ℕ) (later : List ParseError) (next : Option Letters) → letters.read < 6 → letters_after letters ≡ next → GoesOnAs letters.which next → to_ascii_lowercase p.ch ≡ next_letter letters
+      → Goes (goes_on_with letters.which next first).next (found_by (goes_on_with letters.which next first) p known) end rest ps found later → IsInKeyword letters first known end rest (p ∷ ps) found later
   unfolding left_after
-  keyword_on letters first later None o w l h =
-      whole (p ∷ []) ps refl (word_more letters [] l (ap left_after (sym o))) h
-  keyword_on letters first later (Some next) o w l (whole word after t s k) =
-      whole (p ∷ word) after (ap (λ (x : List Placed). p ∷ x) t) (word_more letters word l (s ∙ ap left_after (sym o))) (subst (λ (x : Identifier). FollowsKeyword x known end rest after found later) w k)
-  keyword_on letters first later (Some next) o w l (fails more sp h e) =
-      let far : 97 ≤ next_letter letters = next_is_letter letters in
+  keyword_on letters first later None fits o w l h =
+      whole (p ∷ []) ps refl (word_more letters [] fits l (ap left_after (sym o))) h
+  keyword_on letters first later (Some next) fits o w l (whole word after t s k) =
+      whole (p ∷ word) after (ap (λ (x : List Placed). p ∷ x) t) (word_more letters word fits l (s ∙ ap left_after (sym o))) (subst (λ (x : Identifier). FollowsKeyword x known end rest after found later) w.0 k)
+  keyword_on letters first later (Some next) fits o w l (fails more sp h e) =
+      let far : 97 ≤ next_letter letters = next_is_letter letters fits in
       let n : null_errors (p ∷ []) ≡ [] = letter_error p _ l far in
       let all_no : spells_in_any_case (next_letter letters ∷ left next) (p ∷ ps) ≡ false = same_letter (next_letter letters) (left next) ps sp in
-      fails more (ap (λ (x : List ℕ). spells_in_any_case x (p ∷ ps)) (left_is letters ∙ ap (λ (x : Option Letters). next_letter letters ∷ left_after x) o) ∙ all_no)
+      fails more (ap (λ (x : List ℕ). spells_in_any_case x (p ∷ ps)) (left_is letters fits ∙ ap (λ (x : Option Letters). next_letter letters ∷ left_after x) o) ∙ all_no)
       (subst (λ (x : List ParseError). IsSkipped (force known) end rest (p ∷ ps) found x) (ap (λ (x : List ParseError). x ++ more) n) (skipped_more (force known) end rest found p ps more h (letter_not_greater p _ l far))) e
 
-  other_no : (letters : Letters) → eqb (to_ascii_lowercase p.ch) (next_letter letters) ≡ false → spells_in_any_case (left letters) (p ∷ ps) ≡ false
-  other_no letters em = ap (λ (x : List ℕ). spells_in_any_case x (p ∷ ps)) (left_is letters) ∙ and_left (eqb (to_ascii_lowercase p.ch) (next_letter letters)) (spells_in_any_case (left_after (letters_after letters)) ps) em
+  other_no : (letters : Letters) → letters.read < 6 → eqb (to_ascii_lowercase p.ch) (next_letter letters) ≡ false → spells_in_any_case (left letters) (p ∷ ps) ≡ false
+  other_no letters fits em = ap (λ (x : List ℕ). spells_in_any_case x (p ∷ ps)) (left_is letters fits) ∙ and_left (eqb (to_ascii_lowercase p.ch) (next_letter letters)) (spells_in_any_case (left_after (letters_after letters)) ps) em
 
-  pub to_keyword : (letters : Letters) (first : ℕ) (later : List ParseError) (m g : Bool) → eqb (to_ascii_lowercase p.ch) (next_letter letters) ≡ m → is_greater p.ch ≡ g
+  pub to_keyword : (letters : Letters) (first : ℕ) (later : List ParseError) → letters.read < 6 → (m g : Bool) → eqb (to_ascii_lowercase p.ch) (next_letter letters) ≡ m → is_greater p.ch ≡ g
       → Goes (in_keyword letters first m g).next (found_by (in_keyword letters first m g) p known) end rest ps found later
       → IsInKeyword letters first known end rest (p ∷ ps) found (step_errors (in_keyword letters first m g) p ++ later)
-  to_keyword letters first later true g em eg h =
+  to_keyword letters first later fits true g em eg h =
       let l : to_ascii_lowercase p.ch ≡ next_letter letters = eqb-true _ _ em in
-      subst (λ (x : List ParseError). IsInKeyword letters first known end rest (p ∷ ps) found x) (sym (no_errors letters first later (letters_after letters) (letter_error p _ l (next_is_letter letters))))
-      (keyword_on letters first later (letters_after letters) refl (keeps_which letters) l h)
+      subst (λ (x : List ParseError). IsInKeyword letters first known end rest (p ∷ ps) found x) (sym (no_errors letters first later (letters_after letters) (letter_error p _ l (next_is_letter letters fits))))
+      (keyword_on letters first later (letters_after letters) fits refl (goes_on_as letters) l h)
     where
-      no_errors : (letters : Letters) (first : ℕ) (later : List ParseError) (next : Option Letters) → null_errors (p ∷ []) ≡ [] → step_errors (goes_on_with (letters_of letters) next first) p ++ later ≡ later
+      no_errors : (letters : Letters) (first : ℕ) (later : List ParseError) (next : Option Letters) → null_errors (p ∷ []) ≡ [] → step_errors (goes_on_with letters.which next first) p ++ later ≡ later
       no_errors letters first later None n = plain_errors p n None later
       no_errors letters first later (Some next) n = plain_errors p n None later
-  to_keyword letters first later false true em eg (t, f, e) =
-      fails [] (other_no letters em)
+  to_keyword letters first later fits false true em eg (t, f, e) =
+      fails [] (other_no letters fits em)
       (record { skipped = []; close = p ∷ ps; text_is = refl; without = refl; closes = subst (λ (x : List Placed). is_greater_or_end (p ∷ x) rest ≡ true) (sym t) (and_from (is_greater p.ch) true eg refl); found_is = f; errors_are = refl })
       (plain_errors p (greater_error p eg) (Some (error InvalidCharacterSequenceAfterDoctypeName first)) later ∙ ap (λ (x : List ParseError). error InvalidCharacterSequenceAfterDoctypeName first ∷ x) e)
-  to_keyword letters first later false false em eg h =
-      fails (null_errors (p ∷ []) ++ later) (other_no letters em) (skipped_more (force known) end rest found p ps later h eg) refl
+  to_keyword letters first later fits false false em eg h =
+      fails (null_errors (p ∷ []) ++ later) (other_no letters fits em) (skipped_more (force known) end rest found p ps later h eg) refl

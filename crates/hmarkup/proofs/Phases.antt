@@ -1,6 +1,7 @@
 -- Each character of a doctype, and its end, in each phase.
-use Rattle.std.proofs.Common.{◌≡◌, ℕ, Bool, true, false, List, [], ◌∷◌, ◌++◌, sym, refl, ap, ◌∙◌, subst, Option, Some, None}
+use Rattle.std.proofs.Common.{◌≡◌, ◌<◌, ℕ, arith, eqb, Bool, true, false, List, [], ◌∷◌, ◌++◌, sym, refl, ap, ◌∙◌, subst, Option, Some, None}
 use Rattle.std.specs.Prelude.{is_some}
+use Rattle.std.specs.Char.{to_ascii_lowercase}
 use Rattle.std.proofs.lemmas.Bool.{false≢true}
 use Rattle.names.specs.declared.error.ParseError.{ParseError}
 use Rattle.names.specs.declared.error.ErrorCode.TheVariants.{EofInDoctype, InvalidCharacterSequenceAfterDoctypeName}
@@ -12,14 +13,14 @@ use Rattle.hmarkup.specs.declared.keyword.Letters.{Letters}
 use Rattle.hmarkup.specs.declared.phase.Phase.{Phase}
 use Rattle.hmarkup.specs.declared.phase.Phase.TheVariants as phase
 use Rattle.hmarkup.specs.Doctype.{Found, IsEnd, cut_off, force, named, IsInside, quoted, abrupt, unclosed, AfterSystemIdentifier, system_ends, system_skips, AfterPublicIdentifier, public_ends, public_skips, second, Follows, AfterKeyword, identifier, missing, keyword_skips, keyword_cut_off, AfterName, name_ends, name_skips, names_identifier, FollowsName, AfterOpening, begins_name, nameless, unfinished}
-use Rattle.hmarkup.specs.DoctypeSteps.{before_name, in_name, begins_keyword, after_name, goes_on_with, in_keyword, after_keyword, follows, in_quotes, after_public, after_system, in_skipped, letters_of, step, step_errors, found_by, fault_errors, end_fault, found_at_end, letters_after}
+use Rattle.hmarkup.specs.DoctypeSteps.{first_letter, before_name, in_name, begins_keyword, after_name, goes_on_with, in_keyword, after_keyword, follows, in_quotes, after_public, after_system, in_skipped, step, step_errors, found_by, fault_errors, end_fault, found_at_end, letters_after}
 use Rattle.hmarkup.specs.DoctypeWalk.{GoesOn, Fits, identifier_of, IsInKeyword, whole, fails}
 use Rattle.hmarkup.proofs.Parts.{named_not, identified_not, is_identified}
 use Rattle.hmarkup.proofs.Spaces.{at_once, with_none}
 use Rattle.hmarkup.proofs.Endings.{end_at_end, skipped_at_end, skips_not_at_end}
 use Rattle.hmarkup.proofs.Stepping.{Goes, Stepped}
 use Rattle.hmarkup.proofs.Skipping.{from_skipped, to_skipped, from_system, to_system}
-use Rattle.hmarkup.proofs.Keywords.{left_is, no_keyword, from_after_name, to_after_name, from_keyword, to_keyword}
+use Rattle.hmarkup.proofs.Keywords.{first_by, GoesOnAs, goes_on_as, left_is, no_keyword, from_after_name, to_after_name, from_keyword, to_keyword}
 use Rattle.hmarkup.proofs.Naming.{from_name, to_name, from_before, to_before}
 use Rattle.hmarkup.proofs.Quoting.{from_inside, to_inside, from_after_keyword, to_after_keyword, from_public, to_public}
 
@@ -29,7 +30,7 @@ module _ (known : Found) (end : ℕ) (rest : List Placed) (p : Placed) (ps : Lis
   from_phase (phase.BeforeName spaced) errors fits h = from_before known end rest p ps found errors spaced _ _ refl refl h
   from_phase phase.Name errors fits h = from_name known end rest p ps found errors _ _ refl refl fits h
   from_phase phase.AfterName errors fits h = from_after_name known end rest p ps found errors _ _ refl refl h
-  from_phase (phase.Keyword letters first) errors fits h = from_keyword known end rest p ps found letters first errors _ _ refl refl h
+  from_phase (phase.Keyword letters first) errors fits h = from_keyword known end rest p ps found letters first errors fits _ _ refl refl h
   from_phase (phase.AfterKeyword which spaced) errors fits h = from_after_keyword which known end rest p ps found errors spaced _ _ _ refl refl refl h
   from_phase (phase.Quoted which mark) errors fits h = from_inside which mark known end rest p ps found fits.0 fits.1 errors _ _ refl refl h
   from_phase (phase.AfterPublic spaced) errors fits h = from_public known end rest p ps found errors spaced _ _ _ refl refl refl h
@@ -42,7 +43,7 @@ module _ (known : Found) (end : ℕ) (rest : List Placed) (p : Placed) (ps : Lis
   to_phase (phase.BeforeName spaced) later fits h = to_before known end rest p ps found later spaced _ _ refl refl h
   to_phase phase.Name later fits h = to_name known end rest p ps found later _ _ refl refl fits h
   to_phase phase.AfterName later fits h = to_after_name known end rest p ps found later _ _ refl refl h
-  to_phase (phase.Keyword letters first) later fits h = to_keyword known end rest p ps found letters first later _ _ refl refl h
+  to_phase (phase.Keyword letters first) later fits h = to_keyword known end rest p ps found letters first later fits _ _ refl refl h
   to_phase (phase.AfterKeyword which spaced) later fits h = to_after_keyword which known end rest p ps found later spaced _ _ _ refl refl refl h
   to_phase (phase.Quoted which mark) later fits h = to_inside which mark known end rest p ps found fits.0 fits.1 later _ _ refl refl h
   to_phase (phase.AfterPublic spaced) later fits h = to_public known end rest p ps found later spaced _ _ _ refl refl refl h
@@ -53,6 +54,18 @@ module _ (known : Found) (end : ℕ) (rest : List Placed) (p : Placed) (ps : Lis
 abbrev pub FitsNext : Option Phase → Found → Type 0
 FitsNext None known = Unit {0}
 FitsNext (Some phase) known = Fits phase known
+
+abbrev AreLeft : Option Letters → Type 0
+AreLeft None = Unit {0}
+AreLeft (Some letters) = letters.read < 6
+
+first_left : (c : ℕ) → AreLeft (first_letter c)
+first_left c = by (eqb (to_ascii_lowercase c) 112) (eqb (to_ascii_lowercase c) 115)
+  where
+    by : (a b : Bool) → AreLeft (first_by a b)
+    by true b = omega arith
+    by false true = omega arith
+    by false false = tt
 
 module _ (known : Found) (p : Placed) where
   fits_before : (spaced s g : Bool) → FitsNext (before_name spaced s g p.at).next (found_by (before_name spaced s g p.at) p known)
@@ -65,21 +78,21 @@ module _ (known : Found) (p : Placed) where
   fits_name false true = tt
   fits_name false false = refl
 
-  fits_letters : (letters : Option Letters) → FitsNext (begins_keyword letters p.at).next (found_by (begins_keyword letters p.at) p known)
-  fits_letters None = tt
-  fits_letters (Some letters) = tt
+  fits_letters : (letters : Option Letters) → AreLeft letters → FitsNext (begins_keyword letters p.at).next (found_by (begins_keyword letters p.at) p known)
+  fits_letters None left = tt
+  fits_letters (Some letters) left = left
 
-  fits_after_name : (s g : Bool) (letters : Option Letters) → FitsNext (after_name s g letters p.at).next (found_by (after_name s g letters p.at) p known)
-  fits_after_name true g letters = tt
-  fits_after_name false true letters = tt
-  fits_after_name false false letters = fits_letters letters
+  fits_after_name : (s g : Bool) (letters : Option Letters) → AreLeft letters → FitsNext (after_name s g letters p.at).next (found_by (after_name s g letters p.at) p known)
+  fits_after_name true g letters left = tt
+  fits_after_name false true letters left = tt
+  fits_after_name false false letters left = fits_letters letters left
 
-  fits_goes_on : (which : Identifier) (letters : Option Letters) (first : ℕ) → FitsNext (goes_on_with which letters first).next (found_by (goes_on_with which letters first) p known)
-  fits_goes_on which None first = tt
-  fits_goes_on which (Some letters) first = tt
+  fits_goes_on : (which : Identifier) (letters : Option Letters) (first : ℕ) → GoesOnAs which letters → FitsNext (goes_on_with which letters first).next (found_by (goes_on_with which letters first) p known)
+  fits_goes_on which None first same = tt
+  fits_goes_on which (Some letters) first same = same.1
 
   fits_keyword : (letters : Letters) (first : ℕ) (m g : Bool) → FitsNext (in_keyword letters first m g).next (found_by (in_keyword letters first m g) p known)
-  fits_keyword letters first true g = fits_goes_on (letters_of letters) (letters_after letters) first
+  fits_keyword letters first true g = fits_goes_on letters.which (letters_after letters) first (goes_on_as letters)
   fits_keyword letters first false true = tt
   fits_keyword letters first false false = tt
 
@@ -116,7 +129,7 @@ module _ (known : Found) (p : Placed) where
   pub fits_next : (phase : Phase) → Fits phase known → FitsNext (step phase p).next (found_by (step phase p) p known)
   fits_next (phase.BeforeName spaced) fits = fits_before spaced _ _
   fits_next phase.Name fits = fits_name _ _
-  fits_next phase.AfterName fits = fits_after_name _ _ _
+  fits_next phase.AfterName fits = fits_after_name _ _ _ (first_left p.ch)
   fits_next (phase.Keyword letters first) fits = fits_keyword letters first _ _
   fits_next (phase.AfterKeyword which spaced) fits = fits_after_keyword which spaced _ _ _ refl
   fits_next (phase.Quoted which mark) fits = fits_quotes which mark _ _ fits.0
@@ -142,10 +155,10 @@ module _ (known : Found) (end : ℕ) (rest : List Placed) (found : Found) (error
   after_name_at_end (name_skips h) = absurd (skips_not_at_end _ _ (force known) end rest found errors h)
   after_name_at_end (names_identifier which word after t w k) = absurd (no_keyword which word after t w)
 
-  letters_at_end : (letters : Letters) (first : ℕ) → IsInKeyword letters first known end rest [] found errors → (rest ≡ []) × (found ≡ force known) × (errors ≡ error InvalidCharacterSequenceAfterDoctypeName first ∷ [])
-  letters_at_end letters first (whole [] after t w k) = let l = w ∙ left_is letters in absurd cc
-  letters_at_end letters first (whole (x ∷ xs) after t w k) = absurd cc
-  letters_at_end letters first (fails later sp h e) =
+  letters_at_end : (letters : Letters) (first : ℕ) → letters.read < 6 → IsInKeyword letters first known end rest [] found errors → (rest ≡ []) × (found ≡ force known) × (errors ≡ error InvalidCharacterSequenceAfterDoctypeName first ∷ [])
+  letters_at_end letters first fits (whole [] after t w k) = let l = w ∙ left_is letters fits in absurd cc
+  letters_at_end letters first fits (whole (x ∷ xs) after t w k) = absurd cc
+  letters_at_end letters first fits (fails later sp h e) =
       let k = skipped_at_end (force known) end rest found later h in
       (k.0, k.1, e ∙ ap (λ (x : List ParseError). error InvalidCharacterSequenceAfterDoctypeName first ∷ x) k.2)
 
@@ -185,7 +198,7 @@ pub end_of : (phase : Phase) (known : Found) (end : ℕ) (rest : List Placed) (f
 end_of (phase.BeforeName spaced) known end rest found errors fits h = opening_at_end known end rest found errors spaced (at_once (AfterOpening known) spaced end rest found errors [] h refl)
 end_of phase.Name known end rest found errors fits h = name_at_end known end rest found errors fits h.name h.after h.later h.text_is h.follows h.errors_are
 end_of phase.AfterName known end rest found errors fits h = after_name_at_end known end rest found errors (at_once (λ spaced. AfterName known) false end rest found errors [] h refl)
-end_of (phase.Keyword letters first) known end rest found errors fits h = letters_at_end known end rest found errors letters first h
+end_of (phase.Keyword letters first) known end rest found errors fits h = letters_at_end known end rest found errors letters first fits h
 end_of (phase.AfterKeyword which spaced) known end rest found errors fits h = keyword_at_end known end rest found errors which spaced (at_once (AfterKeyword which known) spaced end rest found errors [] h refl)
 end_of (phase.Quoted which mark) known end rest found errors fits h = inside_at_end known end rest found errors which mark fits.1 h
 end_of (phase.AfterPublic spaced) known end rest found errors fits h = public_at_end known end rest found errors spaced (at_once (AfterPublicIdentifier known) spaced end rest found errors [] h refl)
@@ -209,7 +222,7 @@ ends_in phase.Name known end fits = record {
 }
 ends_in phase.AfterName known end fits = with_none (λ spaced. AfterName known) false end [] _ _ [] (name_ends (cut_off_here known end))
 ends_in (phase.Keyword letters first) known end fits =
-    fails [] (ap (λ (x : List ℕ). spells_in_any_case x []) (left_is letters)) (record { skipped = []; close = []; text_is = refl; without = refl; closes = refl; found_is = refl; errors_are = refl }) refl
+    fails [] (ap (λ (x : List ℕ). spells_in_any_case x []) (left_is letters fits)) (record { skipped = []; close = []; text_is = refl; without = refl; closes = refl; found_is = refl; errors_are = refl }) refl
 ends_in (phase.AfterKeyword which spaced) known end fits = with_none (AfterKeyword which known) spaced end [] _ _ [] (keyword_cut_off refl refl refl refl)
 ends_in (phase.Quoted which mark) known end fits = unclosed refl refl (ap force (sym (identified_not which known fits.1))) refl
 ends_in (phase.AfterPublic spaced) known end fits = with_none (AfterPublicIdentifier known) spaced end [] _ _ [] (public_ends (cut_off_here known end))

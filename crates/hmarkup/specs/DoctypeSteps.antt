@@ -1,5 +1,5 @@
 -- What a character does to a doctype walk. Only contracts of private functions cite this.
-use Rattle.std.specs.Prelude.{ℕ, Bool, true, false, ◌==◌, if◌then◌else◌, List, [], ◌∷◌, ◌++◌, Option, Some, None}
+use Rattle.std.specs.Prelude.{ℕ, ◌+◌, nat_lt, get_or, Bool, true, false, ◌==◌, if◌then◌else◌, List, [], ◌∷◌, ◌++◌, Option, Some, None}
 use Rattle.std.specs.Char.{to_ascii_lowercase}
 use Rattle.names.specs.declared.error.ParseError.{ParseError}
 use Rattle.names.specs.declared.error.ErrorCode.{ErrorCode}
@@ -9,53 +9,25 @@ use Rattle.names.specs.Placed.{is_space, is_greater, is_quote, error, null_error
 use Rattle.hmarkup.specs.declared.keyword.Identifier.{Identifier}
 use Rattle.hmarkup.specs.declared.keyword.Identifier.TheVariants.{Public, System}
 use Rattle.hmarkup.specs.declared.keyword.Letters.{Letters}
-use Rattle.hmarkup.specs.declared.keyword.Letters.TheVariants.{P, Pu, Pub, Publ, Publi, S, Sy, Sys, Syst, Syste}
 use Rattle.hmarkup.specs.declared.phase.Phase.{Phase}
 use Rattle.hmarkup.specs.declared.phase.Phase.TheVariants as phase
 use Rattle.hmarkup.specs.declared.phase.Keeps.{Keeps}
 use Rattle.hmarkup.specs.declared.phase.Keeps.TheVariants as keeps
 use Rattle.hmarkup.specs.declared.phase.Step.{Step}
-use Rattle.hmarkup.specs.Doctype.{Found, named, identified, force, no_space_after_keyword, no_identifier, no_quote, abrupt_identifier}
+use Rattle.hmarkup.specs.Doctype.{Found, keyword, named, identified, force, no_space_after_keyword, no_identifier, no_quote, abrupt_identifier}
 
--- keywords, letter for letter
+-- keywords, letter for letter: each has six
+abbrev pub begun : Identifier → Letters
+begun which = record { which = which; read = 1 }
+
 abbrev pub first_letter : ℕ → Option Letters
-first_letter c = if to_ascii_lowercase c == 112 then Some P else (if to_ascii_lowercase c == 115 then Some S else None)
+first_letter c = if to_ascii_lowercase c == 112 then Some (begun Public) else (if to_ascii_lowercase c == 115 then Some (begun System) else None)
 
 abbrev pub next_letter : Letters → ℕ
-next_letter P = 117
-next_letter Pu = 98
-next_letter Pub = 108
-next_letter Publ = 105
-next_letter Publi = 99
-next_letter S = 121
-next_letter Sy = 115
-next_letter Sys = 116
-next_letter Syst = 101
-next_letter Syste = 109
+next_letter letters = get_or (keyword letters.which) letters.read 0
 
 abbrev pub letters_after : Letters → Option Letters
-letters_after P = Some Pu
-letters_after Pu = Some Pub
-letters_after Pub = Some Publ
-letters_after Publ = Some Publi
-letters_after Publi = None
-letters_after S = Some Sy
-letters_after Sy = Some Sys
-letters_after Sys = Some Syst
-letters_after Syst = Some Syste
-letters_after Syste = None
-
-abbrev pub letters_of : Letters → Identifier
-letters_of P = Public
-letters_of Pu = Public
-letters_of Pub = Public
-letters_of Publ = Public
-letters_of Publi = Public
-letters_of S = System
-letters_of Sy = System
-letters_of Sys = System
-letters_of Syst = System
-letters_of Syste = System
+letters_after letters = if nat_lt letters.read 5 then Some (record { which = letters.which; read = letters.read + 1 }) else None
 
 -- the forms of a step
 abbrev pub goes_to : Phase → Step
@@ -99,7 +71,7 @@ goes_on_with which None first = goes_to (phase.AfterKeyword which false)
 
 abbrev pub in_keyword : Letters → ℕ → Bool → Bool → Step
 in_keyword letters first matches greater =
-    if matches then goes_on_with (letters_of letters) (letters_after letters) first
+    if matches then goes_on_with letters.which (letters_after letters) first
     else (if greater then refuses InvalidCharacterSequenceAfterDoctypeName first
     else skips InvalidCharacterSequenceAfterDoctypeName first true)
 

@@ -1,5 +1,5 @@
 -- What a doctype walk has read.
-use Rattle.std.specs.Prelude.{◌≡◌, ℕ, true, false, List, ◌∷◌, ◌++◌, codes, Option, Some, None, is_some, String, string_bytes}
+use Rattle.std.specs.Prelude.{◌≡◌, ◌<◌, ℕ, drop, true, false, List, ◌∷◌, ◌++◌, Option, Some, None, is_some, String, string_bytes}
 use Rattle.names.specs.declared.error.ParseError.{ParseError}
 use Rattle.names.specs.declared.error.ErrorCode.TheVariants.{InvalidCharacterSequenceAfterDoctypeName}
 use Rattle.names.specs.declared.placed.Placed.{Placed}
@@ -7,11 +7,9 @@ use Rattle.names.specs.Placed.{lowered, spells_in_any_case, is_quote, error}
 use Rattle.hmarkup.specs.declared.keyword.Identifier.{Identifier}
 use Rattle.hmarkup.specs.declared.keyword.Identifier.TheVariants.{Public, System}
 use Rattle.hmarkup.specs.declared.keyword.Letters.{Letters}
-use Rattle.hmarkup.specs.declared.keyword.Letters.TheVariants.{P, Pu, Pub, Publ, Publi, S, Sy, Sys, Syst, Syste}
 use Rattle.hmarkup.specs.declared.phase.Phase.{Phase}
 use Rattle.hmarkup.specs.declared.phase.Phase.TheVariants as phase
-use Rattle.hmarkup.specs.Doctype.{Found, Stands, force, AfterSpace, IsSkipped, IsInside, AfterSystemIdentifier, AfterPublicIdentifier, Follows, AfterKeyword, FollowsKeyword, AfterName, IsName, AfterOpening, IsDoctype}
-use Rattle.hmarkup.specs.DoctypeSteps.{letters_of}
+use Rattle.hmarkup.specs.Doctype.{Found, keyword, Stands, force, AfterSpace, IsSkipped, IsInside, AfterSystemIdentifier, AfterPublicIdentifier, Follows, AfterKeyword, FollowsKeyword, AfterName, IsName, AfterOpening, IsDoctype}
 use Rattle.hmarkup.specs.Walk.{Begins}
 
 -- a text in UTF-8, if there is one
@@ -26,22 +24,13 @@ pub record Reading : Type 0 where
 
 -- the letters of the keyword that are still to come
 abbrev pub left : Letters → List ℕ
-left P = codes "ublic"
-left Pu = codes "blic"
-left Pub = codes "lic"
-left Publ = codes "ic"
-left Publi = codes "c"
-left S = codes "ystem"
-left Sy = codes "stem"
-left Sys = codes "tem"
-left Syst = codes "em"
-left Syste = codes "m"
+left letters = drop letters.read (keyword letters.which)
 
 -- After letters of a keyword, the first of which is at `first`: the other letters, or a skipped rest.
 pub data IsInKeyword (letters : Letters) (first : ℕ) (known : Found) (end : ℕ) (rest text : List Placed) (found : Found)
     (errors : List ParseError) : Type 0 where
   whole : (word after : List Placed) → text ≡ word ++ after → lowered word ≡ left letters
-      → FollowsKeyword (letters_of letters) known end rest after found errors
+      → FollowsKeyword letters.which known end rest after found errors
       → IsInKeyword letters first known end rest text found errors
   fails : (later : List ParseError) → spells_in_any_case (left letters) text ≡ false → IsSkipped (force known) end rest text found later
       → errors ≡ error InvalidCharacterSequenceAfterDoctypeName first ∷ later → IsInKeyword letters first known end rest text found errors
@@ -62,9 +51,10 @@ abbrev pub identifier_of : Identifier → Found → Option (List ℕ)
 identifier_of Public known = known.public
 identifier_of System known = known.system
 
--- in a name or an identifier, that part is present
+-- in a name or an identifier, that part is present; of a keyword a letter is still to come
 abbrev pub Fits : Phase → Found → Type 0
 Fits phase.Name known = is_some known.name ≡ true
+Fits (phase.Keyword letters first) known = letters.read < 6
 Fits (phase.Quoted which mark) known = (is_quote mark ≡ true) × (is_some (identifier_of which known) ≡ true)
 Fits _ known = Unit {0}
 

@@ -1,5 +1,7 @@
 //! The error sink of the tests.
 
+ghost use Rattle.std.specs.Prelude.{◌≡◌, []};
+
 use crate::sink::ErrorSink;
 use names::{ErrorCode, ParseError, Refusal};
 use std::alloc::Global;
@@ -12,7 +14,11 @@ pub struct Errors {
 }
 
 impl Errors {
-    pub fn new(alloc: Global, room: usize) -> Errors {
+    /// A sink with room for so many errors, which has none yet.
+    pub fn new(alloc: Global, room: usize) -> Errors
+        ensures room { result.room ≡ room }
+        ensures none { result.kept.items ≡ [] }
+    {
         Errors {
             room,
             kept: Vec::new(alloc),

@@ -1,8 +1,8 @@
 //! The keywords of a doctype, and the identifiers they announce.
 
 ghost use Rattle.std.specs.Prelude.{◌≡◌};
-ghost use Rattle.hmarkup.specs.DoctypeSteps.{first_letter, next_letter, letters_after, letters_of};
-ghost use Rattle.hmarkup.specs.Doctype.{no_space_after_keyword, no_identifier, no_quote, abrupt_identifier};
+ghost use Rattle.hmarkup.specs.DoctypeSteps.{first_letter, next_letter, letters_after};
+ghost use Rattle.hmarkup.specs.Doctype.{keyword, no_space_after_keyword, no_identifier, no_quote, abrupt_identifier};
 
 use names::ErrorCode;
 
@@ -14,6 +14,16 @@ pub enum Identifier {
 }
 
 impl Identifier {
+    /// The keyword that announces it, in lower case.
+    fn keyword(self) -> &'static str
+        ensures { result.now ≡ keyword self }
+    {
+        match self {
+            Identifier::Public => "public",
+            Identifier::System => "system",
+        }
+    }
+
     /// The error when no white space separates the keyword from the identifier.
     pub fn not_spaced(self) -> ErrorCode
         ensures { result ≡ no_space_after_keyword self }
@@ -55,19 +65,13 @@ impl Identifier {
     }
 }
 
-/// The letters read so far of `PUBLIC` or `SYSTEM`: at least one, and not all.
+/// The letters read so far of a keyword: at least one, and not all.
 #[derive(Clone, Copy, Debug, PartialEq, Eq)]
-pub enum Letters {
-    P,
-    Pu,
-    Pub,
-    Publ,
-    Publi,
-    S,
-    Sy,
-    Sys,
-    Syst,
-    Syste,
+pub struct Letters {
+    /// The identifier that the keyword announces.
+    pub which: Identifier,
+    /// How many letters were read.
+    pub read: u8,
 }
 
 impl Letters {
@@ -75,28 +79,24 @@ impl Letters {
     pub fn first(ch: char) -> Option<Letters>
         ensures { result ≡ first_letter ch }
     {
-        match ch.to_ascii_lowercase() {
-            'p' => Some(Letters::P),
-            's' => Some(Letters::S),
-            _ => None,
-        }
+        let which = match ch.to_ascii_lowercase() {
+            'p' => Identifier::Public,
+            's' => Identifier::System,
+            _ => return None,
+        };
+        Some(Letters { which, read: 1 })
     }
 
     /// The next letter of the keyword, in lower case.
     pub fn next(self) -> char
         ensures { result ≡ next_letter self }
     {
-        match self {
-            Letters::P => 'u',
-            Letters::Pu => 'b',
-            Letters::Pub => 'l',
-            Letters::Publ => 'i',
-            Letters::Publi => 'c',
-            Letters::S => 'y',
-            Letters::Sy => 's',
-            Letters::Sys => 't',
-            Letters::Syst => 'e',
-            Letters::Syste => 'm',
+        let letters = self.which.keyword().as_bytes();
+        let read = self.read as usize;
+        if read < letters.len() {
+            letters[read] as char
+        } else {
+            '\0'
         }
     }
 
@@ -104,30 +104,14 @@ impl Letters {
     pub fn after(self) -> Option<Letters>
         ensures { result ≡ letters_after self }
     {
-        match self {
-            Letters::P => Some(Letters::Pu),
-            Letters::Pu => Some(Letters::Pub),
-            Letters::Pub => Some(Letters::Publ),
-            Letters::Publ => Some(Letters::Publi),
-            Letters::S => Some(Letters::Sy),
-            Letters::Sy => Some(Letters::Sys),
-            Letters::Sys => Some(Letters::Syst),
-            Letters::Syst => Some(Letters::Syste),
-            Letters::Publi | Letters::Syste => None,
-        }
-    }
-
-    /// The identifier that the keyword announces.
-    pub fn which(self) -> Identifier
-        ensures { result ≡ letters_of self }
-    {
-        match self {
-            Letters::P | Letters::Pu | Letters::Pub | Letters::Publ | Letters::Publi => {
-                Identifier::Public
-            }
-            Letters::S | Letters::Sy | Letters::Sys | Letters::Syst | Letters::Syste => {
-                Identifier::System
-            }
+        // Each keyword has six letters.
+        if self.read < 5 {
+            Some(Letters {
+                which: self.which,
+                read: self.read + 1,
+            })
+        } else {
+            None
         }
     }
 }

@@ -209,7 +209,7 @@ impl Step {
         if ch.to_ascii_lowercase() == letters.next() {
             match letters.after() {
                 Some(letters) => Step::to(Phase::Keyword(letters, first)),
-                None => Step::to(Phase::AfterKeyword(letters.which(), false)),
+                None => Step::to(Phase::AfterKeyword(letters.which, false)),
             }
         } else if ch == '>' {
             Step::refuse(ErrorCode::InvalidCharacterSequenceAfterDoctypeName, first)
