@@ -66,21 +66,29 @@ pub plain_text : (text : List Placed) → pieces_text (plain_pieces text) ≡ te
 plain_text [] = refl
 plain_text (p ∷ ps) = ap (λ (x : List Placed). p ∷ x) (plain_text ps)
 
+-- characters that stand for themselves
+module _ (test : ℕ → Bool) (plain : (c : ℕ) → test c ≡ true → eqb c 38 ≡ false) (some : (c : ℕ) → test c ≡ true → eqb c 0 ≡ false) where
+  pub alone_bytes : (text : List Placed) → all test text ≡ true → value_bytes (plain_pieces text) ≡ encode_utf8_all (characters text)
+  alone_bytes [] h = refl
+  alone_bytes (p ∷ ps) h =
+      let parts = and_parts (test p.ch) (all test ps) h in
+      let is_some : eqb p.ch 0 ≡ false = some p.ch parts.0 in
+      value_bytes-append (plain_piece p ∷ []) (plain_pieces ps) ∙ ap (λ (x : List ℕ). x ++ value_bytes (plain_pieces ps)) (append-nil (encode_utf8 (without_null p.ch)))
+      ∙ ap (λ (x : List ℕ). encode_utf8 (without_null p.ch) ++ x) (alone_bytes ps parts.1) ∙ rw is_some refl
+
+  pub alone_errors : (text : List Placed) → all test text ≡ true → pieces_errors true (plain_pieces text) ≡ []
+  alone_errors [] h = refl
+  alone_errors (p ∷ ps) h =
+      let parts = and_parts (test p.ch) (all test ps) h in
+      let is_some : eqb p.ch 0 ≡ false = some p.ch parts.0 in
+      rw is_some (alone_errors ps parts.1)
+
 pub plain_bytes : (text : List Placed) → all is_quiet text ≡ true → value_bytes (plain_pieces text) ≡ encode_utf8_all (characters text)
-plain_bytes [] h = refl
-plain_bytes (p ∷ ps) h =
-    let parts = and_parts (is_quiet p.ch) (all is_quiet ps) h in
-    let some : eqb p.ch 0 ≡ false = quiet_null p.ch parts.0 in
-    value_bytes-append (plain_piece p ∷ []) (plain_pieces ps) ∙ ap (λ (x : List ℕ). x ++ value_bytes (plain_pieces ps)) (append-nil (encode_utf8 (without_null p.ch)))
-    ∙ ap (λ (x : List ℕ). encode_utf8 (without_null p.ch) ++ x) (plain_bytes ps parts.1) ∙ rw some refl
+plain_bytes text h = alone_bytes is_quiet quiet_plain quiet_null text h
 
 pub plain_errors : (quoted : Bool) (text : List Placed) → all is_quiet text ≡ true → pieces_errors quoted (plain_pieces text) ≡ []
-plain_errors true [] h = refl
+plain_errors true text h = alone_errors is_quiet quiet_plain quiet_null text h
 plain_errors false [] h = refl
-plain_errors true (p ∷ ps) h =
-    let parts = and_parts (is_quiet p.ch) (all is_quiet ps) h in
-    let some : eqb p.ch 0 ≡ false = quiet_null p.ch parts.0 in
-    rw some (plain_errors true ps parts.1)
 plain_errors false (p ∷ ps) h =
     let parts = and_parts (is_quiet p.ch) (all is_quiet ps) h in
     let some : eqb p.ch 0 ≡ false = quiet_null p.ch parts.0 in
@@ -102,9 +110,12 @@ module _ (table : Entities) where
   }
 
   -- characters more
-  pub begins_plain : (text : List Placed) (pieces : List Piece) (next : List Placed) → all is_quiet text ≡ true → Begins table pieces (text ++ next) → Begins table (pieces ++ plain_pieces text) next
-  begins_plain [] pieces next h b = subst (λ (x : List Piece). Begins table x next) (sym (append-nil pieces)) b
-  begins_plain (p ∷ ps) pieces next h b =
-      let parts = and_parts (is_quiet p.ch) (all is_quiet ps) h in
+  pub begins_alone : (test : ℕ → Bool) → ((c : ℕ) → test c ≡ true → eqb c 38 ≡ false) → (text : List Placed) (pieces : List Piece) (next : List Placed) → all test text ≡ true → Begins table pieces (text ++ next) → Begins table (pieces ++ plain_pieces text) next
+  begins_alone test plain [] pieces next h b = subst (λ (x : List Piece). Begins table x next) (sym (append-nil pieces)) b
+  begins_alone test plain (p ∷ ps) pieces next h b =
+      let parts = and_parts (test p.ch) (all test ps) h in
       subst (λ (x : List Piece). Begins table x next) (append_assoc pieces (plain_piece p ∷ []) (plain_pieces ps))
-      (begins_plain ps (pieces ++ plain_piece p ∷ []) next parts.1 (begins_piece pieces (plain_piece p) (ps ++ next) b (λ rest. IsPiece.plain p (quiet_plain p.ch parts.0) refl)))
+      (begins_alone test plain ps (pieces ++ plain_piece p ∷ []) next parts.1 (begins_piece pieces (plain_piece p) (ps ++ next) b (λ rest. IsPiece.plain p (plain p.ch parts.0) refl)))
+
+  pub begins_plain : (text : List Placed) (pieces : List Piece) (next : List Placed) → all is_quiet text ≡ true → Begins table pieces (text ++ next) → Begins table (pieces ++ plain_pieces text) next
+  begins_plain text pieces next h b = begins_alone is_quiet quiet_plain text pieces next h b

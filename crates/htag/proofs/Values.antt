@@ -24,7 +24,7 @@ use Rattle.htag.proofs.Parts.{begins-more, all-snoc}
 use Rattle.htag.proofs.Phases.{keeps_self, Past, past_is, held_in, goes_on, attribute_ends}
 
 -- the attribute's name stays
-name_stays : (walk new : TagWalk) (name : List Placed) → new.attribute ≡ walk.attribute → new.place ≡ walk.place → HasName walk name → HasName new name
+pub name_stays : (walk new : TagWalk) (name : List Placed) → new.attribute ≡ walk.attribute → new.place ≡ walk.place → HasName walk name → HasName new name
 name_stays walk new name attribute at h = record { first = h.first; runs = h.runs; is = ap string_bytes attribute ∙ h.is; at_is = h.at_is ∙ sym at }
 
 -- `=` with white space round it, by its first character

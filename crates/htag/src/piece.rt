@@ -1,11 +1,11 @@
 //! The pieces of a value: characters and references (HTML Standard, 13.2.5.36 to 13.2.5.38 and 13.2.5.72 to 13.2.5.80).
 
-ghost use Rattle.std.specs.Prelude.{◌≡◌, ◌∷◌, ◌++◌, ◌-◌, ℕ, [], true, false, OnOk, string_bytes, length, drop, encode_utf8_all, Bool, ◌==◌};
+ghost use Rattle.std.specs.Prelude.{◌≡◌, ◌∷◌, ◌++◌, ◌-◌, ℕ, [], true, false, OnOk, string_bytes, length, drop, encode_utf8_all, Bool, ◌==◌, MatchBool};
 ghost use Rattle.charref.specs.Reference.{Entities};
 ghost use Rattle.charref.specs.declared.walk.Walk.{Walk as Handed};
 ghost use Rattle.htag.specs.Value.{plain_piece};
 ghost use Rattle.htag.specs.ValueWalk.{TakesInValue, EndsValue, TellsReference, pieces_errors};
-ghost use Rattle.htag.specs.ValueSteps.{AddsPlain, GivesBack};
+ghost use Rattle.htag.specs.ValueSteps.{AddsPlain, AddsRun, GivesBack};
 
 use crate::push::{keep_if, keep_null, push_all, push_value};
 use crate::reading::Reading;
@@ -49,6 +49,20 @@ impl<'t> ValueWalk<'t> {
             Reading::Reference(walk) => self.in_reference(walk, table, quoted, ch, at, errors),
             Reading::Run => self.in_run(table, quoted, ch, at, errors),
         }
+    }
+
+    /// Whether no reference is being read.
+    pub fn is_between(&self) -> bool
+        ensures { MatchBool result (self.now.reading ≡ Reading.Nothing) (Unit {0}) }
+    {
+        matches!(self.reading, Reading::Nothing)
+    }
+
+    /// Adds characters that stand for themselves.
+    pub fn push_run(&mut self, run: &str) -> Result<(), AllocError>
+        ensures { OnOk result (AddsRun self.old run.now self.new) }
+    {
+        self.text.push_str(run)
     }
 
     /// The value ends.

@@ -1,6 +1,7 @@
 //! Characters and errors, added to what was read.
 
-ghost use Rattle.std.specs.Prelude.{◌≡◌, ◌∷◌, ◌++◌, [], OnOk, string_bytes, encode_utf8_all};
+ghost use Rattle.std.specs.Prelude.{◌≡◌, ◌≤◌, ◌==◌, ◌∷◌, ◌++◌, [], length, not, OnOk, string_bytes, encode_utf8_all};
+ghost use Rattle.std.specs.List.{prefix_len};
 ghost use Rattle.std.specs.Char.{encode_utf8, to_ascii_lowercase};
 ghost use Rattle.names.specs.Placed.{error_if, null_errors, without_null};
 ghost use Rattle.htag.specs.Tag.{ends_name};
@@ -71,4 +72,17 @@ pub(crate) fn push_all(text: &mut String, characters: &[char]) -> Result<(), All
         text.push(*character)?;
     }
     Ok(())
+}
+
+/// How many bytes of an ASCII text stand before the first one that is this character.
+pub(crate) fn count_before(text: &str, mark: char) -> usize
+    ensures counted { result ≡ prefix_len (λ c. not (c == mark)) text.now }
+    ensures few { result ≤ length text.now }
+{
+    for (index, byte) in text.as_bytes().iter().enumerate() {
+        if char::from(*byte) == mark {
+            return index;
+        }
+    }
+    text.len()
 }
