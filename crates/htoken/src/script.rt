@@ -3,6 +3,7 @@
 ghost use Rattle.std.specs.Prelude.{◌≡◌, [], ◌∷◌, ◌==◌, ◌&&◌, ℕ, List, nat_lt};
 ghost use Rattle.std.specs.Char.{to_ascii_lowercase};
 ghost use Rattle.names.specs.declared.placed.Placed.{Placed as Character};
+ghost use Rattle.names.specs.Placed.{placed};
 ghost use Rattle.hmarkup.specs.CommentWalk.{backwards};
 ghost use Rattle.htag.specs.Tag.{ends_name};
 ghost use Rattle.htoken.specs.Script.{HasFront, FollowsAll, level_number, mark_after, word_after, level_after, is_dashes, is_less_bang_dash, is_read};
@@ -189,6 +190,17 @@ impl Script {
         let mut script = self;
         for p in text {
             script = script.after(p.ch);
+        }
+        script
+    }
+
+    /// .. each of which is a byte.
+    pub fn after_run(self, run: &[u8]) -> Script
+        ensures { (at : ℕ) → FollowsAll self (placed at run.now) result }
+    {
+        let mut script = self;
+        for byte in run {
+            script = script.after(char::from(*byte));
         }
         script
     }

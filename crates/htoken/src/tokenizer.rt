@@ -200,7 +200,7 @@ impl<'t> Tokenizer<'t> {
     }
 
     /// Takes a character, by what is held.
-    fn take<S: TokenSink>(
+    pub(crate) fn take<S: TokenSink>(
         &mut self,
         names: &mut Names,
         ch: char,

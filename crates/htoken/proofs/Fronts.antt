@@ -1,0 +1,127 @@
+-- A run of characters, a part after another.
+use Rattle.std.proofs.Common.{◌≡◌, ◌≤◌, ℕ, ◌+◌, List, [], ◌∷◌, ◌++◌, length, take, drop, sym, refl, ap, ◌∙◌, subst, Result, Ok, Err, append_assoc, append-nil}
+use Rattle.std.specs.Prelude.{true}
+use Rattle.std.specs.List.{list_all}
+use Rattle.std.proofs.lemmas.List.{take_all}
+use Rattle.names.specs.declared.placed.Placed.{Placed}
+use Rattle.names.specs.declared.raw.RawKind.{RawKind}
+use Rattle.names.specs.declared.refusal.Refusal.{Refusal}
+use Rattle.names.specs.declared.refusal.Refusal.TheVariants.{Memory}
+use Rattle.names.specs.Names.{Texts, Grows}
+use Rattle.names.specs.Placed.{placed}
+use Rattle.names.specs.Sink.{Hands}
+use Rattle.names.proofs.Handing.{text_kept}
+use Rattle.htext.specs.Run.{is_plain_byte}
+use Rattle.htext.proofs.Runs.{placed_part, placed_rest}
+use Rattle.charref.specs.Reference.{Entities}
+use Rattle.htag.proofs.Naming.{attrs_kept}
+use Rattle.htoken.specs.declared.state.State.{State}
+use Rattle.htoken.specs.declared.token.Token.{Token}
+use Rattle.htoken.specs.declared.token.Token.TheVariants as code
+use Rattle.htoken.specs.declared.tokenizer.Tokenizer.{Tokenizer}
+use Rattle.htoken.specs.Token.{Tok, Item, ItemToken, ItemError, Event, Gives, Reports, TokenMeans, Mean}
+use Rattle.htoken.specs.Tokens.{tokens_in, tokens_of, eof_of, IsRefused, AreFront}
+use Rattle.htoken.specs.Handing.{HandsEvents}
+use Rattle.htoken.specs.Tokenizing.{next_place, Stands, Reads, HasTaken, holds, Takes, take_ran_out, take_refused, take_sink_refused, take_took, IsHeld, IsIn, IsLast}
+use Rattle.htoken.proofs.Handing.{HandsEvents-append}
+
+-- what was handed over stands for the same when the table of names has grown
+token_kept : (old new : Texts) → Grows old new → (token : Token) (tok : Tok) → TokenMeans old token tok → TokenMeans new token tok
+token_kept old new grows (code.Doctype name public system forced at) tok h = h
+token_kept old new grows (code.Start name attrs closing at) tok (text, texts, is, are, e) = (text, texts, text_kept old new name text grows is, attrs_kept old new grows attrs.items texts are, e)
+token_kept old new grows (code.End name at) tok (text, is, e) = (text, text_kept old new name text grows is, e)
+token_kept old new grows (code.Comment text at) tok h = h
+token_kept old new grows (code.Char ch at) tok h = h
+token_kept old new grows (code.Eof at) tok h = h
+
+mean_kept : (old new : Texts) → Grows old new → (items : List Item) (events : List Event) → Mean old items events → Mean new items events
+mean_kept old new grows [] [] h = tt
+mean_kept old new grows (ItemToken t ∷ items) (Gives tok ∷ events) h = (token_kept old new grows t tok h.0, mean_kept old new grows items events h.1)
+mean_kept old new grows (ItemError e ∷ items) (Reports error ∷ events) h = (h.0, mean_kept old new grows items events h.1)
+mean_kept old new grows (ItemToken t ∷ items) (Reports error ∷ events) h = absurd h.0
+mean_kept old new grows (ItemError e ∷ items) (Gives tok ∷ events) h = absurd h.0
+mean_kept old new grows [] (e ∷ events) h = absurd h
+mean_kept old new grows (i ∷ items) [] h = absurd h
+
+module _ {S : Type 0} (gives : S → Item → Result (Unit {0}) Refusal → S → Type 0) (table : Entities) (start : RawKind) (text : List Placed) where
+  -- a refusal is one whatever follows
+  pub refused_longer : (fed more : List Placed) (taken : List Event) (names : Texts) (old new : S) (e : Refusal) (next then : Tokenizer) → Takes gives table start text fed taken names old (Err e) new next
+      → Takes gives table start text (fed ++ more) taken names old (Err e) new then
+  refused_longer fed more taken names old new e next then (take_ran_out es is handed all) =
+      take_ran_out es is handed (λ rest end. subst (λ (x : List Placed). AreFront table start (text ++ x) end (taken ++ es)) (sym (append_assoc fed more rest)) (all (more ++ rest) end))
+  refused_longer fed more taken names old new e next then (take_refused name at es is handed all) =
+      take_refused name at es is handed (λ rest end. subst (λ (x : List Placed). IsRefused table start (text ++ x) end (tokens_in (taken ++ es)) name at) (sym (append_assoc fed more rest)) (all (more ++ rest) end))
+  refused_longer fed more taken names old new e next then (take_sink_refused r es is handed all) =
+      take_sink_refused r es is handed (λ rest end. subst (λ (x : List Placed). AreFront table start (text ++ x) end (taken ++ es)) (sym (append_assoc fed more rest)) (all (more ++ rest) end))
+  refused_longer fed more taken names old new e next then (take_took es is handed has) = absurd cc
+
+  longer : (fed more rest : List Placed) → (text ++ fed) ++ (more ++ rest) ≡ text ++ ((fed ++ more) ++ rest)
+  longer fed more rest = append_assoc text fed (more ++ rest) ∙ ap (λ (x : List Placed). text ++ x) (sym (append_assoc fed more rest))
+
+  -- characters after others
+  pub takes_both : (fed more : List Placed) (taken events : List Event) (names : Texts) (old mid new : S) (answer : Result (Unit {0}) Refusal) (next : Tokenizer) → HandsEvents gives names old events (Ok tt) mid
+      → Takes gives table start (text ++ fed) more (taken ++ events) names mid answer new next → Takes gives table start text (fed ++ more) taken names old answer new next
+  takes_both fed more taken events names old mid new answer next given (take_ran_out es e handed is) =
+      take_ran_out (events ++ es) e (HandsEvents-append gives names old mid new events es (Ok tt) given handed)
+      (λ rest end. subst (λ (x : List Event). AreFront table start (text ++ ((fed ++ more) ++ rest)) end x) (append_assoc taken events es)
+      (subst (λ (x : List Placed). AreFront table start x end ((taken ++ events) ++ es)) (longer fed more rest) (is rest end)))
+  takes_both fed more taken events names old mid new answer next given (take_refused name at es e handed is) =
+      take_refused name at (events ++ es) e (HandsEvents-append gives names old mid new events es (Ok tt) given handed)
+      (λ rest end. subst (λ (x : List Event). IsRefused table start (text ++ ((fed ++ more) ++ rest)) end (tokens_in x) name at) (append_assoc taken events es)
+      (subst (λ (x : List Placed). IsRefused table start x end (tokens_in ((taken ++ events) ++ es)) name at) (longer fed more rest) (is rest end)))
+  takes_both fed more taken events names old mid new answer next given (take_sink_refused r es e handed is) =
+      take_sink_refused r (events ++ es) e (HandsEvents-append gives names old mid new events es (Err r) given handed)
+      (λ rest end. subst (λ (x : List Event). AreFront table start (text ++ ((fed ++ more) ++ rest)) end x) (append_assoc taken events es)
+      (subst (λ (x : List Placed). AreFront table start x end ((taken ++ events) ++ es)) (longer fed more rest) (is rest end)))
+  takes_both fed more taken events names old mid new answer next given (take_took es e handed is) =
+      take_took (events ++ es) e (HandsEvents-append gives names old mid new events es (Ok tt) given handed)
+      (subst (λ (x : List Event). HasTaken table start next names (text ++ (fed ++ more)) x) (append_assoc taken events es)
+      (subst (λ (x : List Placed). HasTaken table start next names x ((taken ++ events) ++ es)) (append_assoc text fed more) is))
+
+  -- nothing was fed
+  pub takes_nothing : (taken : List Event) (names : Texts) (s : S) (t : Tokenizer) → HasTaken table start t names text taken → Takes gives table start text [] taken names s (Ok tt) s t
+  takes_nothing taken names s t h =
+      take_took [] refl ([], tt, (refl, refl)) (subst (λ (x : List Event). HasTaken table start t names (text ++ []) x) (sym (append-nil taken)) (subst (λ (x : List Placed). HasTaken table start t names x taken) (sym (append-nil text)) h))
+
+  -- after a refusal it does not matter what the tokenizer is
+  pub refused_any : (fed : List Placed) (taken : List Event) (names : Texts) (old new : S) (e : Refusal) (next then : Tokenizer) → Takes gives table start text fed taken names old (Err e) new next → Takes gives table start text fed taken names old (Err e) new then
+  refused_any fed taken names old new e next then (take_ran_out es is handed all) = take_ran_out es is handed all
+  refused_any fed taken names old new e next then (take_refused name at es is handed all) = take_refused name at es is handed all
+  refused_any fed taken names old new e next then (take_sink_refused r es is handed all) = take_sink_refused r es is handed all
+  refused_any fed taken names old new e next then (take_took es is handed has) = absurd cc
+
+  -- a refusal in a front of a run
+  pub front_refused : (at count : ℕ) (run : List ℕ) → list_all is_plain_byte run ≡ true → count ≤ length run → (taken : List Event) (names : Texts) (old new : S) (e : Refusal) (next then : Tokenizer)
+      → Takes gives table start text (placed at (take count run)) taken names old (Err e) new next → Takes gives table start text (placed at run) taken names old (Err e) new then
+  front_refused at count run plain within taken names old new e next then h =
+      subst (λ (x : List Placed). Takes gives table start text x taken names old (Err e) new then) (sym (placed_rest at count run plain within))
+      (refused_longer (placed at (take count run)) (placed (at + count) (drop count run)) taken names old new e next then h)
+
+  -- A LOOP OVER A RUN, of which `count` bytes have been taken
+
+  module _ (at count : ℕ) (run : List ℕ) (plain : list_all is_plain_byte run ≡ true) (within : count ≤ length run) (taken : List Event) (before names : Texts) (grows : Grows before names) (old mid : S) (t : Tokenizer) where
+    abbrev pub SoFar : Type 0
+    SoFar = Takes gives table start text (placed at (take count run)) taken before old (Ok tt) mid t
+
+    -- how a front of what is left is taken, if the rest has been
+    abbrev pub Then : List ℕ → Result (Unit {0}) Refusal → S → Tokenizer → Type 0
+    Then part answer new next = (fed : List Placed) (events : List Event) → HasTaken table start t before fed events → Takes gives table start fed (placed (at + count) part) events names mid answer new next
+
+    pub more_taken : (n : ℕ) (new : S) (next : Tokenizer) → SoFar → Then (take n (drop count run)) (Ok tt) new next → Takes gives table start text (placed at (take (count + n) run)) taken names old (Ok tt) new next
+    more_taken n new next (take_ran_out es e handed is) then = absurd cc
+    more_taken n new next (take_refused name place es e handed is) then = absurd cc
+    more_taken n new next (take_sink_refused r es e handed is) then = absurd cc
+    more_taken n new next (take_took es e (items, mean, given) has) then =
+        subst (λ (x : List Placed). Takes gives table start text x taken names old (Ok tt) new next) (sym (placed_part at count n run plain within))
+        (takes_both (placed at (take count run)) (placed (at + count) (take n (drop count run))) taken es names old mid new (Ok tt) next (items, mean_kept before names grows items es mean, given) (then (text ++ placed at (take count run)) (taken ++ es) has))
+
+    pub more_refused : (e : Refusal) (new : S) (next : Tokenizer) → SoFar → Then (drop count run) (Err e) new next → Takes gives table start text (placed at run) taken names old (Err e) new next
+    more_refused r new next (take_ran_out es e handed is) then = absurd cc
+    more_refused r new next (take_refused name place es e handed is) then = absurd cc
+    more_refused r new next (take_sink_refused x es e handed is) then = absurd cc
+    more_refused r new next (take_took es e (items, mean, given) has) then =
+        subst (λ (x : List Placed). Takes gives table start text x taken names old (Err r) new next) (sym (placed_rest at count run plain within))
+        (takes_both (placed at (take count run)) (placed (at + count) (drop count run)) taken es names old mid new (Err r) next (items, mean_kept before names grows items es mean, given) (then (text ++ placed at (take count run)) (taken ++ es) has))
+
+    pub all_taken : length run ≤ count → SoFar → Takes gives table start text (placed at run) taken before old (Ok tt) mid t
+    all_taken l h = subst (λ (x : List ℕ). Takes gives table start text (placed at x) taken before old (Ok tt) mid t) (take_all count run l) h

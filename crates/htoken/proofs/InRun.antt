@@ -1,0 +1,306 @@
+-- A run of plain characters, taken as a whole.
+use Rattle.std.proofs.Common.{◌≡◌, ◌≤◌, ◌<◌, ℕ, zero, suc, ◌+◌, Bool, true, false, cond, ◌&&◌, ◌||◌, eqb, min, List, [], ◌∷◌, ◌++◌, length, take, map, sym, refl, ap, ◌∙◌, subst, arith, Result, Ok, Err, Option, append_assoc, append-nil}
+use Rattle.std.proofs.lemmas.Bool.Decides.{nat_tests}
+use Rattle.std.specs.List.{list_all, prefix_len}
+use Rattle.std.specs.Prelude.{slice_index}
+use Rattle.std.proofs.lemmas.List.{length-take-le}
+use Rattle.std.proofs.lemmas.Bool.{and_from}
+use Rattle.std.specs.Char.{len_utf8}
+use Rattle.std.specs.String.{string_bytes}
+use Rattle.names.specs.declared.error.ParseError.{ParseError}
+use Rattle.names.specs.declared.placed.Placed.{Placed}
+use Rattle.names.specs.declared.raw.RawKind.{RawKind}
+use Rattle.names.specs.declared.raw.RawKind.TheVariants as kind
+use Rattle.names.specs.declared.refusal.Refusal.{Refusal}
+use Rattle.names.specs.declared.refusal.Refusal.TheVariants.{Memory}
+use Rattle.names.specs.Names.{Texts}
+use Rattle.names.specs.Placed.{all, placed, null_errors}
+use Rattle.htext.specs.Run.{is_plain_byte}
+use Rattle.htext.proofs.Runs.{one_long, plain_take}
+use Rattle.charref.specs.Reference.{Entities}
+use Rattle.hmarkup.proofs.Marks.{and_parts, and_no}
+use Rattle.hmarkup.proofs.Characters.{no_null_error}
+use Rattle.hmarkup.specs.CommentWalk.{backwards, HasReadOf, IsSpan as IsCommentOf}
+use Rattle.hmarkup.specs.Walk.{TakesRun, run_ran_out, run_refused, run_goes_on}
+use Rattle.htag.specs.TagWalk.{IsInTag}
+use Rattle.htoken.specs.declared.script.Script.{Script}
+use Rattle.htoken.specs.declared.state.Raised.{Raised}
+use Rattle.htoken.specs.declared.state.State.{State}
+use Rattle.htoken.specs.declared.state.State.TheVariants as state
+use Rattle.htoken.specs.declared.tokenizer.Tokenizer.{Tokenizer}
+use Rattle.htoken.specs.Token.{Tok, Span, Item, Event, Gives, Char, Comment, piece_span}
+use Rattle.htoken.specs.Standing.{Standing}
+use Rattle.htoken.specs.Raw.{is_script}
+use Rattle.htoken.specs.Script.{HasFront, FollowsAll}
+use Rattle.htoken.specs.Data.{IsDataSpan, character, character_span}
+use Rattle.htoken.specs.Spans.{IsSpan, IsSpanOf, IsRawSpan, raw_character, has_references}
+use Rattle.htoken.specs.Tokens.{tokens_in, tokens_of, eof_of, AreFront}
+use Rattle.htoken.specs.Handing.{HandsEvents}
+use Rattle.htoken.specs.Run.{run_events}
+use Rattle.htoken.specs.Tag.{IsTag, tag_mark}
+use Rattle.htoken.specs.Tokenizing.{after_place, next_from, next_place, less, Stands, Reads, HasTaken, holds, Takes, take_ran_out, take_sink_refused, take_took, IsHeld, IsIn, IsLast, IsBetween, IsInMarkup, IsInMarkedTag}
+use Rattle.htoken.proofs.Cutting.{stands_more}
+use Rattle.htoken.proofs.InMarkup.{keeps, kept, refused}
+use Rattle.htoken.proofs.InRaw.{raw_span, after_characters}
+use Rattle.htoken.proofs.RawEnds.{other_goes_on}
+use Rattle.htoken.proofs.Scripting.{all_followed}
+
+module _ (c : ℕ) (h : is_plain_byte c ≡ true) where
+  no_less : eqb c 60 ≡ false
+  no_less = grind (arith, nat_tests)
+
+  no_sign : eqb c 38 ≡ false
+  no_sign = grind (arith, nat_tests)
+
+  no_null : eqb c 0 ≡ false
+  no_null = grind (arith, nat_tests)
+
+-- WHERE THE NEXT CHARACTER STANDS
+
+next_from-append : (now : ℕ) (xs ys : List Placed) → next_from now (xs ++ ys) ≡ next_from (next_from now xs) ys
+next_from-append now [] ys = refl
+next_from-append now (x ∷ xs) ys = next_from-append (after_place x.at) xs ys
+
+next_from_here : (at : ℕ) (run : List ℕ) → list_all is_plain_byte run ≡ true → at + length run ≤ 0xFFFFFFFFFFFFFFFF → next_from at (placed at run) ≡ at + length run
+next_from_here at [] h l = omega arith
+next_from_here at (x ∷ xs) h l =
+    let k = and_parts (is_plain_byte x) (list_all is_plain_byte xs) h in
+    let long : at + len_utf8 x ≡ at + 1 = ap (λ (n : ℕ). at + n) (one_long x k.0) in
+    let after : after_place at ≡ at + 1 = omega arith in
+    ap (λ (n : ℕ). next_from n (placed (at + len_utf8 x) xs)) after ∙ ap (λ (n : ℕ). next_from (at + 1) (placed n xs)) long
+    ∙ next_from_here (at + 1) xs k.1 (omega arith) ∙ omega arith
+
+next_after : (now at : ℕ) (run : List ℕ) → list_all is_plain_byte run ≡ true → 0 < length run → at + length run ≤ 0xFFFFFFFFFFFFFFFF → next_from now (placed at run) ≡ at + length run
+next_after now at [] h some l = absurd (omega arith)
+next_after now at (x ∷ xs) h some l = next_from_here at (x ∷ xs) h l
+
+pub next_run : (text : List Placed) (at : ℕ) (run : List ℕ) → list_all is_plain_byte run ≡ true → 0 < length run → at + length run ≤ 0xFFFFFFFFFFFFFFFF → next_place (text ++ placed at run) ≡ at + length run
+next_run text at run h some l = next_from-append 0 text (placed at run) ∙ next_after (next_from 0 text) at run h some l
+
+-- .. after a front of a run
+pub next_front : (text : List Placed) (at count : ℕ) (run : List ℕ) → list_all is_plain_byte run ≡ true → 0 < count → count ≤ length run → at + length run ≤ 0xFFFFFFFFFFFFFFFF → at + count ≡ next_place (text ++ placed at (take count run))
+next_front text at count run plain some within room =
+    let long : length (take count run) ≡ count = length-take-le count run within in
+    ap (λ (n : ℕ). at + n) (sym long) ∙ sym (next_run text at (take count run) (plain_take count run plain) (omega (arith, long)) (omega (arith, long)))
+
+-- the first character of a run
+pub first_of : (at : ℕ) (run : List ℕ) (c : ℕ) → 0 < length run → c ≡ slice_index run 0 → record { ch = c; at = at } ∷ [] ≡ placed at (take 1 run)
+first_of at [] c h e = absurd (omega (arith, h))
+first_of at (x ∷ xs) c h e = ap (λ (n : ℕ). record { ch = n; at = at } ∷ []) e
+
+-- the bytes before the first that does not pass
+pub prefix_all : (q : ℕ → Bool) (xs : List ℕ) → list_all q (take (prefix_len q xs) xs) ≡ true
+prefix_all q [] = refl
+prefix_all q (x ∷ xs) = by (q x) refl (prefix_all q xs) where
+  by : (b : Bool) → q x ≡ b → list_all q (take (prefix_len q xs) xs) ≡ true → list_all q (take (cond b (1 + prefix_len q xs) 0) (x ∷ xs)) ≡ true
+  by true e more = let one : 1 + prefix_len q xs ≡ suc (prefix_len q xs) = omega arith in rw one (and_from _ _ e more)
+  by false e more = refl
+
+-- TEXT
+
+-- a plain character as a span, whatever kind of text stands here
+abbrev plain_span : Placed → Span
+plain_span p = record { text = p ∷ []; tokens = Char p.ch p.at ∷ []; errors = [] }
+
+as_character : (p : Placed) → eqb p.ch 0 ≡ false → plain_span p ≡ character_span p
+as_character p some = ap (λ (es : List ParseError). record { text = p ∷ []; tokens = Char p.ch p.at ∷ []; errors = es }) (sym (no_null_error p some))
+
+as_raw : (p : Placed) → eqb p.ch 0 ≡ false → plain_span p ≡ raw_span p
+as_raw p some = as_character p some ∙ ap (λ (b : Bool). record { text = p ∷ []; tokens = Char (cond b 0xFFFD p.ch) p.at ∷ []; errors = null_errors (p ∷ []) }) (sym some)
+
+module _ (table : Entities) (end : ℕ) (here : Standing) (rest : List Placed) (p : Placed) (plain : is_plain_byte p.ch ≡ true) where
+  in_raw : IsRawSpan table end here rest (plain_span p)
+  in_raw = raw_character p (other_goes_on here p rest (no_less p.ch plain)) (and_no (has_references here.kind) (eqb p.ch 38) (no_sign p.ch plain)) (as_raw p (no_null p.ch plain))
+
+  in_data : IsDataSpan table end rest (plain_span p)
+  in_data = let less : eqb p.ch 60 ≡ false = no_less p.ch plain in let sign : eqb p.ch 38 ≡ false = no_sign p.ch plain in character p (rw (less, sign) refl) (as_character p (no_null p.ch plain))
+
+  of_kind : (k : RawKind) → IsSpanOf k table end here rest (plain_span p)
+  of_kind kind.None = in_data
+  of_kind kind.Rcdata = in_raw
+  of_kind kind.Rawtext = in_raw
+  of_kind kind.Script = in_raw
+  of_kind kind.Plaintext = in_raw
+
+run_stands : (table : Entities) (start : RawKind) (end : ℕ) (run front rest : List Placed) (here : Standing) (taken : List Event) → all is_plain_byte run ≡ true → Stands table start end front (run ++ rest) here taken []
+    → Stands table start end (front ++ run) rest (after_characters here run) (taken ++ run_events run) []
+run_stands table start end [] front rest here taken plain s =
+    subst (λ (x : List Placed). Stands table start end x rest here (taken ++ []) []) (sym (append-nil front)) (subst (λ (x : List Event). Stands table start end front rest here x []) (sym (append-nil taken)) s)
+run_stands table start end (q ∷ qs) front rest here taken plain s =
+    let k = and_parts (is_plain_byte q.ch) (all is_plain_byte qs) plain in
+    let one : Stands table start end (front ++ q ∷ []) (qs ++ rest) (record here { front = q ∷ here.front }) (taken ++ Gives (Char q.ch q.at) ∷ []) [] =
+    stands_more table start end front (qs ++ rest) here taken (plain_span q) s (of_kind table end here (qs ++ rest) q k.0 here.kind) refl in
+    subst (λ (x : List Placed). Stands table start end x rest (after_characters here (q ∷ qs)) (taken ++ run_events (q ∷ qs)) []) (append_assoc front (q ∷ []) qs)
+    (subst (λ (x : List Event). Stands table start end ((front ++ q ∷ []) ++ qs) rest (after_characters here (q ∷ qs)) x []) (append_assoc taken (Gives (Char q.ch q.at) ∷ []) (run_events qs))
+    (run_stands table start end qs (front ++ q ∷ []) rest (record here { front = q ∷ here.front }) (taken ++ Gives (Char q.ch q.at) ∷ []) k.1 one))
+
+module _ {S : Type 0} (gives : S → Item → Result (Unit {0}) Refusal → S → Type 0) (table : Entities) (start : RawKind) (names : Texts) (text : List Placed) (taken : List Event) (t : Tokenizer) (h : Reads table start t names text [] taken) (run : List Placed) where
+  module _ (in_text : t.state ≡ state.Text) (plain : all is_plain_byte run ≡ true) (new : Tokenizer) (then : new ≡ record t { next = new.next; script = new.script }) (next : new.next ≡ next_place (text ++ run))
+      (follows : is_script t.kind ≡ true → FollowsAll t.script run new.script) where
+    abbrev here : Standing
+    here = after_characters h.here run
+
+    none : (h.held ≡ []) × (t.raised.errors.items ≡ []) × IsBetween h.here t
+    none = subst (λ (x : State). IsHeld x table names h.here t h.held []) in_text h.is_held
+
+    front_is : text ≡ h.front
+    front_is = h.text_is ∙ ap (λ (x : List Placed). h.front ++ x) none.0 ∙ append-nil h.front
+
+    between : IsBetween here new
+    between = record {
+      named = λ raw name e. none.2.named raw name e ∙ ap (λ (x : Tokenizer). string_bytes x.tag.name) (sym then);
+      leveled = λ script. all_followed run t.script new.script h.here.front (follows (ap is_script h.kind_is ∙ script)) (none.2.leveled script);
+    }
+
+    text_reads : Reads table start new names (text ++ run) [] (taken ++ run_events run)
+    text_reads = record {
+      accepts = ap (λ (x : Tokenizer). x.refused) then ∙ h.accepts;
+      front = h.front ++ run;
+      held = [];
+      here = here;
+      table_is = ap (λ (x : Tokenizer). x.table.now) then ∙ h.table_is;
+      text_is = ap (λ (x : List Placed). x ++ run) front_is ∙ sym (append-nil (h.front ++ run));
+      next_is = next ∙ ap next_place (sym (append-nil (text ++ run)));
+      stands = λ end more. run_stands table start end run h.front more h.here taken plain (subst (λ (x : List Placed). Stands table start end h.front (x ++ (run ++ more)) h.here taken []) none.0 (h.stands end (run ++ more)));
+      kind_is = ap (λ (x : Tokenizer). x.kind) then ∙ h.kind_is;
+      name_is = subst (λ (x : Option ℕ). IsLast names x h.here.name) (sym (ap (λ (x : Tokenizer). x.last) then)) h.name_is;
+      is_in = subst (λ (x : State). IsIn x h.here.kind) (sym (ap (λ (x : Tokenizer). x.state) then ∙ in_text)) tt;
+      is_held = subst (λ (x : State). IsHeld x table names here new [] []) (sym (ap (λ (x : Tokenizer). x.state) then ∙ in_text)) (refl, ap (λ (x : Tokenizer). x.raised.errors.items) then ∙ none.1, between);
+    }
+
+    pub text_taken : (old s : S) (answer : Result (Unit {0}) Refusal) → HandsEvents gives names old (run_events run) answer s → Takes gives table start text run taken names old answer s new
+    unfolding text_reads
+    text_taken old s (Ok u) handed = take_took (run_events run) refl handed (holds text_reads)
+    text_taken old s (Err e) handed = take_sink_refused e (run_events run) refl handed (λ more end.
+        let st = text_reads.stands end more in
+        record {
+          spans = st.spans;
+          rest = more;
+          others = eof_of end more;
+          text_is = sym (append_assoc text run more) ∙ ap (λ (x : List Placed). (x ++ run) ++ more) front_is ∙ ap (λ (x : List Placed). x ++ more) st.front_is;
+          cut = st.cut;
+          in_profile = st.in_profile;
+          front_is = ap (λ (x : List Tok). x ++ eof_of end more) st.tokens_are;
+        })
+
+  -- MARKUP
+
+  -- memory ran out, and nothing was handed over
+  pub run_ran_out_here : (new : Tokenizer) (s : S) → Takes gives table start text run taken names s (Err Memory) s new
+  run_ran_out_here new s = take_ran_out [] refl ([], tt, (refl, refl)) (λ more end.
+      let st = h.stands end (run ++ more) in
+      let rest : List Placed = h.held ++ (run ++ more) in
+      record {
+        spans = st.spans;
+        rest = rest;
+        others = eof_of end rest;
+        text_is = ap (λ (x : List Placed). x ++ (run ++ more)) h.text_is ∙ append_assoc h.front h.held (run ++ more) ∙ ap (λ (x : List Placed). x ++ rest) st.front_is;
+        cut = st.cut;
+        in_profile = st.in_profile;
+        front_is = ap (λ (x : List Event). tokens_in x ++ eof_of end rest) (append-nil taken) ∙ ap (λ (x : List Tok). x ++ eof_of end rest) st.tokens_are;
+      })
+
+  -- the span goes on
+  run_reads : (new : Tokenizer) → new.refused ≡ t.refused → new.table ≡ t.table → new.next ≡ next_place (text ++ run) → new.kind ≡ t.kind → new.last ≡ t.last → IsIn new.state h.here.kind
+      → IsHeld new.state table names h.here new (h.held ++ run) [] → Reads table start new names (text ++ run) [] taken
+  run_reads new refused same next kind last is_in held = record {
+    accepts = refused ∙ h.accepts;
+    front = h.front;
+    held = h.held ++ run;
+    here = h.here;
+    table_is = ap (λ x. x.now) same ∙ h.table_is;
+    text_is = ap (λ (x : List Placed). x ++ run) h.text_is ∙ append_assoc h.front h.held run;
+    next_is = next ∙ ap next_place (sym (append-nil (text ++ run)));
+    stands = λ end more. subst (λ (x : List Placed). Stands table start end h.front x h.here taken []) (sym (append_assoc h.held run more)) (h.stands end (run ++ more));
+    kind_is = kind ∙ h.kind_is;
+    name_is = subst (λ (x : Option ℕ). IsLast names x h.here.name) (sym last) h.name_is;
+    is_in = is_in;
+    is_held = held;
+  }
+
+  taken_so : (new : Tokenizer) (s : S) → Reads table start new names (text ++ run) [] taken → Takes gives table start text run taken names s (Ok tt) s new
+  taken_so new s k = take_took [] refl ([], tt, (refl, refl)) (subst (λ (x : List Event). HasTaken table start new names (text ++ run) x) (sym (append-nil taken)) (holds k))
+
+  pub run_goes_on_here : (new : Tokenizer) (s : S) → new.refused ≡ t.refused → new.table ≡ t.table → new.next ≡ next_place (text ++ run) → new.kind ≡ t.kind → new.last ≡ t.last → IsIn new.state h.here.kind
+      → IsHeld new.state table names h.here new (h.held ++ run) [] → Takes gives table start text run taken names s (Ok tt) s new
+  run_goes_on_here new s refused same next kind last is_in held = taken_so new s (run_reads new refused same next kind last is_in held)
+
+  -- a comment goes on
+  module _ (in_comment : t.state ≡ state.Comment) where
+    pub comment_here : IsHeld state.Comment table names h.here t h.held []
+    comment_here = subst (λ (x : State). IsHeld x table names h.here t h.held []) in_comment h.is_held
+
+    abbrev pub inside : IsInMarkup (HasReadOf comment_here.0) (IsCommentOf comment_here.0) Comment t.comment table t h.held []
+    inside = comment_here.1
+
+    abbrev pub Took : Result (Unit {0}) Refusal → Tokenizer → Type 0
+    Took answer new = TakesRun keeps (HasReadOf comment_here.0) (IsCommentOf comment_here.0) inside.body inside.own run t.raised answer new.comment new.raised
+
+    pub comment_stopped : (e : Refusal) (new last : Tokenizer) (s : S) → Took (Err e) new → Takes gives table start text run taken names s (Err e) s last
+    comment_stopped e new last s (run_ran_out reported is handed b) = subst (λ (x : Result (Unit {0}) Refusal). Takes gives table start text run taken names s x s last) (sym is) (run_ran_out_here last s)
+    comment_stopped e new last s (run_refused x reported is handed b) =
+        let why : x ≡ Memory = refused t.raised new.raised reported x handed in
+        subst (λ (y : Result (Unit {0}) Refusal). Takes gives table start text run taken names s y s last) (sym (is ∙ ap (λ (y : Refusal). Err y) why)) (run_ran_out_here last s)
+    comment_stopped e new last s (run_goes_on reported is handed has) = absurd cc
+
+    pub comment_goes_on : (new : Tokenizer) (s : S) → new ≡ record t { next = new.next; comment = new.comment; raised = new.raised } → new.next ≡ next_place (text ++ run) → Took (Ok tt) new → Takes gives table start text run taken names s (Ok tt) s new
+    comment_goes_on new s then next (run_ran_out reported is handed b) = absurd cc
+    comment_goes_on new s then next (run_refused x reported is handed b) = absurd cc
+    comment_goes_on new s then next (run_goes_on reported is handed has) =
+        let i = inside in
+        let at_is : new.at ≡ t.at = ap (λ (x : Tokenizer). x.at) then in
+        let state_is : new.state ≡ state.Comment = ap (λ (x : Tokenizer). x.state) then ∙ in_comment in
+        run_goes_on_here new s (ap (λ (x : Tokenizer). x.refused) then) (ap (λ (x : Tokenizer). x.table) then) next (ap (λ (x : Tokenizer). x.kind) then) (ap (λ (x : Tokenizer). x.last) then)
+        (subst (λ (x : State). IsIn x h.here.kind) (sym state_is) (subst (λ (x : State). IsIn x h.here.kind) in_comment h.is_in))
+        (subst (λ (x : State). IsHeld x table names h.here new (h.held ++ run) []) (sym state_is) (comment_here.0, record {
+          opening = i.opening;
+          body = i.body ++ run;
+          first = i.first;
+          own = i.own ++ reported;
+          others = i.others ++ run;
+          starts = ap (λ (x : List Placed). x ++ run) i.starts ∙ ap (λ (a : ℕ). record { ch = 60; at = a } ∷ (i.others ++ run)) (sym at_is);
+          held_is = ap (λ (x : List Placed). x ++ run) i.held_is ∙ append_assoc i.opening i.body run;
+          has_read = has;
+          raised_is = kept t.raised new.raised reported handed ∙ ap (λ (x : List ParseError). x ++ reported) i.raised_is ∙ append_assoc i.first i.own reported;
+          opens = λ end rest more contents errors is.
+              let same_text : (i.body ++ run) ++ more ≡ i.body ++ (run ++ more) = append_assoc i.body run more in
+              subst (λ (x : List Placed). IsDataSpan table end rest (record { text = i.opening ++ x; tokens = Comment contents new.at ∷ []; errors = i.first ++ errors })) (sym same_text)
+              (subst (λ (a : ℕ). IsDataSpan table end rest (record { text = i.opening ++ (i.body ++ (run ++ more)); tokens = Comment contents a ∷ []; errors = i.first ++ errors })) (sym at_is)
+              (i.opens end rest (run ++ more) contents errors (subst (λ (x : List Placed). IsCommentOf comment_here.0 end rest x contents errors) same_text is)));
+        }))
+
+  -- a tag goes on
+  module _ (in_tag : t.state ≡ state.Tag) where
+    pub tag_here : IsInMarkedTag table names h.here t h.held []
+    tag_here = subst (λ (x : State). IsHeld x table names h.here t h.held []) in_tag h.is_held
+
+    pub tag_reads : (new : Tokenizer) → new ≡ record t { next = new.next; tag = new.tag } → new.next ≡ next_place (text ++ run) → new.tag.kind ≡ t.tag.kind
+        → (IsInTag table names t.tag tag_here.body [] t.raised.errors.items → IsInTag table names new.tag (tag_here.body ++ run) [] t.raised.errors.items) → Reads table start new names (text ++ run) [] taken
+    tag_reads new then next kind more =
+        let i = tag_here in
+        let at_is : new.at ≡ t.at = ap (λ (x : Tokenizer). x.at) then in
+        let state_is : new.state ≡ state.Tag = ap (λ (x : Tokenizer). x.state) then ∙ in_tag in
+        run_reads new (ap (λ (x : Tokenizer). x.refused) then) (ap (λ (x : Tokenizer). x.table) then) next (ap (λ (x : Tokenizer). x.kind) then) (ap (λ (x : Tokenizer). x.last) then)
+        (subst (λ (x : State). IsIn x h.here.kind) (sym state_is) tt)
+        (subst (λ (x : State). IsHeld x table names h.here new (h.held ++ run) []) (sym state_is) (record {
+          opening = i.opening;
+          body = i.body ++ run;
+          held_is = ap (λ (x : List Placed). x ++ run) i.held_is ∙ append_assoc (less t ∷ i.opening) i.body run ∙ ap (λ (a : ℕ). record { ch = 60; at = a } ∷ (i.opening ++ (i.body ++ run))) (sym at_is);
+          opens = i.opens ∙ ap tag_mark (sym kind);
+          in_tag = subst (λ (x : Raised). IsInTag table names new.tag (i.body ++ run) [] x.errors.items) (sym (ap (λ (x : Tokenizer). x.raised) then)) (more i.in_tag);
+          fits = λ end rest others span e is. i.fits end rest (run ++ others) span (e ∙ append_assoc h.held run others) is;
+        }))
+
+    pub tag_goes_on : (new : Tokenizer) (s : S) → new ≡ record t { next = new.next; tag = new.tag } → new.next ≡ next_place (text ++ run) → new.tag.kind ≡ t.tag.kind
+        → (IsInTag table names t.tag tag_here.body [] t.raised.errors.items → IsInTag table names new.tag (tag_here.body ++ run) [] t.raised.errors.items) → Takes gives table start text run taken names s (Ok tt) s new
+    tag_goes_on new s then next kind more = taken_so new s (tag_reads new then next kind more)
+
+-- where the walk has taken nothing
+pub tag_untouched : (table : Entities) (start : RawKind) (names : Texts) (text : List Placed) (taken : List Event) (t : Tokenizer) (h : Reads table start t names text [] taken) (in_tag : t.state ≡ state.Tag) (new : Tokenizer) (at : ℕ) (run : List ℕ) (count : ℕ)
+    → count ≡ 0 → new ≡ record t { tag = new.tag } → new.tag.kind ≡ t.tag.kind
+    → ((body : List Placed) → IsInTag table names t.tag body [] t.raised.errors.items → IsInTag table names new.tag (body ++ placed at (take count run)) [] t.raised.errors.items) → HasTaken table start new names text taken
+tag_untouched table start names text taken t h in_tag new at run count none then kind more =
+    subst (λ (x : List Placed). HasTaken table start new names x taken) (append-nil text)
+    (holds (tag_reads {S = Unit {0}} (λ s i r u. Unit {0}) table start names text taken t h [] in_tag new (then ∙ ap (λ (n : ℕ). record t { next = n; tag = new.tag }) (sym (ap (λ (x : Tokenizer). x.next) then)))
+    (ap (λ (x : Tokenizer). x.next) then ∙ h.next_is) kind
+    (λ i. subst (λ (n : ℕ). IsInTag table names new.tag ((tag_here {S = Unit {0}} (λ s i r u. Unit {0}) table start names text taken t h [] in_tag).body ++ placed at (take n run)) [] t.raised.errors.items) none (more _ i))))

@@ -1,0 +1,9 @@
+use Rattle.std.proofs.Common.{◌+◌, drop}
+use Rattle.names.specs.Placed.{placed}
+use Rattle.names.specs.Sink.{Continues}
+use Rattle.htoken.specs.Run.{run_tokens}
+use Rattle.htoken.proofs.sink.TokenSink.take_run.Given as goal
+
+-- To take the rest of the run is to take all of it.
+abbrev pub invariant-loop-index : goal.invariant-loop-index
+invariant-loop-index g l = Continues g.Self.TokenSink.gives_token l.fn.self (run_tokens (placed l.fn.at l.run)) l.self (run_tokens (placed (l.fn.at + l.index) (drop l.index l.run)))

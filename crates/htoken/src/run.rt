@@ -1,0 +1,215 @@
+//! Runs of plain characters, taken as wholes where a state allows it.
+
+ghost use Rattle.std.specs.Prelude.{◌≡◌, ◌≤◌, ◌<◌, ◌+◌, ◌∷◌, ℕ, List, true, Some, Err, IfErr, IfOk, length};
+ghost use Rattle.std.specs.List.{list_all, prefix_len};
+ghost use Rattle.names.specs.declared.placed.Placed.{Placed as Character};
+ghost use Rattle.names.specs.declared.raw.RawKind.{RawKind as Kind};
+ghost use Rattle.names.specs.declared.refusal.Refusal.{Refusal as Refused};
+ghost use Rattle.names.specs.Names.{Texts, Grows};
+ghost use Rattle.names.specs.Placed.{placed};
+ghost use Rattle.htext.specs.declared.decoder.TheConstants.{MAX_INPUT};
+ghost use Rattle.htext.specs.Run.{is_plain_byte};
+ghost use Rattle.charref.specs.Reference.{Entities};
+ghost use Rattle.hmarkup.specs.Comment.{is_only_data};
+ghost use Rattle.htoken.specs.Raw.{is_script};
+ghost use Rattle.htoken.specs.Script.{FollowsAll};
+ghost use Rattle.htoken.specs.Steps.{TakesFront};
+ghost use Rattle.htoken.specs.Token.{Event, gives_item};
+ghost use Rattle.htoken.specs.Tokenizing.{HasTaken, Takes};
+
+use crate::sink::TokenSink;
+use crate::state::State;
+use crate::tokenizer::Tokenizer;
+use names::{Names, Refusal};
+
+/// How many bytes stand before the first one that may end a comment, or is a fault in it.
+fn count_data(run: &str) -> usize
+    ensures counted { result ≡ prefix_len is_only_data run.now }
+    ensures few { result ≤ length run.now }
+{
+    for (index, byte) in run.as_bytes().iter().enumerate() {
+        if matches!(*byte, b'-' | b'!' | b'<' | b'>' | 0) {
+            return index;
+        }
+    }
+    run.len()
+}
+
+impl<'t> Tokenizer<'t> {
+    /// Takes a run of plain characters, each a byte, the first of which is at `place`. It is the same as feeding them one by
+    /// one.
+    pub fn feed_run<S: TokenSink>(
+        &mut self,
+        names: &mut Names,
+        run: &str,
+        place: u64,
+        sink: &mut S,
+    ) -> Result<(), Refusal>
+        requires plain { list_all is_plain_byte run.now ≡ true }
+        requires within { place + length run.now ≤ MAX_INPUT }
+        ensures takes { (table : Entities) (start : Kind) (before : Texts) (text : List Character) (taken : List Event) → Grows before names.old → HasTaken table start self.old before text taken
+            → Takes (gives_item S.gives S.gives_token) table start text (placed place run.now) taken names.new sink.old result sink.new self.new }
+        ensures grows { Grows names.old names.new }
+
+        // After a refusal every later call returns the same one, and hands over nothing.
+        ensures refused { IfErr result (λ refusal. self.new.refused ≡ Some refusal) }
+        ensures again { (refusal : Refused) → self.old.refused ≡ Some refusal → (result ≡ Err refusal) × (sink.new ≡ sink.old) × (names.new ≡ names.old) }
+    {
+        if let Some(refusal) = self.refused {
+            return Err(refusal);
+        }
+        let answer = self.take_fronts(names, run, place, sink);
+        if let Err(refusal) = answer {
+            self.refused = Some(refusal);
+        }
+        answer
+    }
+
+    /// Takes a run, a front of what is left of it after another.
+    fn take_fronts<S: TokenSink>(
+        &mut self,
+        names: &mut Names,
+        run: &str,
+        place: u64,
+        sink: &mut S,
+    ) -> Result<(), Refusal>
+        requires plain { list_all is_plain_byte run.now ≡ true }
+        requires within { place + length run.now ≤ MAX_INPUT }
+        ensures takes { (table : Entities) (start : Kind) (before : Texts) (text : List Character) (taken : List Event) → Grows before names.old → HasTaken table start self.old before text taken
+            → Takes (gives_item S.gives S.gives_token) table start text (placed place run.now) taken names.new sink.old result sink.new self.new }
+        ensures grows { Grows names.old names.new }
+    {
+        let mut count = 0;
+        while count < run.len() {
+            let more = self.take_front(names, &run[count..], place + count as u64, sink)?;
+            count += more;
+        }
+        Ok(())
+    }
+
+    /// Takes one character or more at the front of a run, and returns how many.
+    fn take_front<S: TokenSink>(
+        &mut self,
+        names: &mut Names,
+        run: &str,
+        at: u64,
+        sink: &mut S,
+    ) -> Result<usize, Refusal>
+        requires some { 0 < length run.now }
+        requires plain { list_all is_plain_byte run.now ≡ true }
+        requires within { at + length run.now ≤ MAX_INPUT }
+        ensures takes { (table : Entities) (start : Kind) (before : Texts) (text : List Character) (taken : List Event) → Grows before names.old → HasTaken table start self.old before text taken
+            → TakesFront (gives_item S.gives S.gives_token) table start text at run.now taken names.new sink.old result sink.new self.new }
+        ensures few { IfOk result (λ count. (0 < count) × (count ≤ length run.now)) }
+        ensures grows { Grows names.old names.new }
+    {
+        match self.state {
+            State::Text => self.run_of_text(run, at, sink),
+            State::Comment => self.run_of_comment(names, run, at, sink),
+            State::Tag => self.run_of_tag(names, run, at, sink),
+            _ => self.take_first(names, run, at, sink),
+        }
+    }
+
+    /// Takes the first character of a run.
+    fn take_first<S: TokenSink>(
+        &mut self,
+        names: &mut Names,
+        run: &str,
+        at: u64,
+        sink: &mut S,
+    ) -> Result<usize, Refusal>
+        requires some { 0 < length run.now }
+        requires plain { list_all is_plain_byte run.now ≡ true }
+        ensures takes { (table : Entities) (start : Kind) (before : Texts) (text : List Character) (taken : List Event) → Grows before names.old → HasTaken table start self.old before text taken
+            → TakesFront (gives_item S.gives S.gives_token) table start text at run.now taken names.new sink.old result sink.new self.new }
+        ensures few { IfOk result (λ count. (0 < count) × (count ≤ length run.now)) }
+        ensures grows { Grows names.old names.new }
+    {
+        self.take(names, char::from(run.as_bytes()[0]), at, sink)?;
+        Ok(1)
+    }
+
+    /// Takes a run where nothing is held: the sink takes it as a whole.
+    fn run_of_text<S: TokenSink>(
+        &mut self,
+        run: &str,
+        at: u64,
+        sink: &mut S,
+    ) -> Result<usize, Refusal>
+        requires text { self.old.state ≡ State.Text }
+        requires some { 0 < length run.now }
+        requires plain { list_all is_plain_byte run.now ≡ true }
+        requires within { at + length run.now ≤ MAX_INPUT }
+        ensures takes { (table : Entities) (start : Kind) (names : Texts) (text : List Character) (taken : List Event) → HasTaken table start self.old names text taken
+            → TakesFront (gives_item S.gives S.gives_token) table start text at run.now taken names sink.old result sink.new self.new }
+        ensures all { IfOk result (λ count. count ≡ length run.now) }
+    {
+        self.next = at + run.len() as u64;
+        self.follow_run(run);
+        sink.take_run(run, at)?;
+        Ok(run.len())
+    }
+
+    /// Follows the level of script data.
+    fn follow_run(&mut self, run: &str)
+        ensures then { self.new ≡ record self.old { script = self.new.script } }
+        ensures follows { (at : ℕ) → is_script self.old.kind ≡ true → FollowsAll self.old.script (placed at run.now) self.new.script }
+    {
+        if self.is_in_script() {
+            self.script = self.script.after_run(run.as_bytes());
+        }
+    }
+
+    /// Takes the characters of a comment at the front of a run that are only data, or the first one.
+    fn run_of_comment<S: TokenSink>(
+        &mut self,
+        names: &mut Names,
+        run: &str,
+        at: u64,
+        sink: &mut S,
+    ) -> Result<usize, Refusal>
+        requires comment { self.old.state ≡ State.Comment }
+        requires some { 0 < length run.now }
+        requires plain { list_all is_plain_byte run.now ≡ true }
+        requires within { at + length run.now ≤ MAX_INPUT }
+        ensures takes { (table : Entities) (start : Kind) (before : Texts) (text : List Character) (taken : List Event) → Grows before names.old → HasTaken table start self.old before text taken
+            → TakesFront (gives_item S.gives S.gives_token) table start text at run.now taken names.new sink.old result sink.new self.new }
+        ensures few { IfOk result (λ count. (0 < count) × (count ≤ length run.now)) }
+        ensures grows { Grows names.old names.new }
+    {
+        let count = count_data(run);
+        if count == 0 {
+            return self.take_first(names, run, at, sink);
+        }
+        self.next = at + count as u64;
+        self.comment
+            .take_run(&run[..count], at, &mut self.raised)?;
+        Ok(count)
+    }
+
+    /// Takes the characters of a value in quotes at the front of a run, or the first one of it.
+    fn run_of_tag<S: TokenSink>(
+        &mut self,
+        names: &mut Names,
+        run: &str,
+        at: u64,
+        sink: &mut S,
+    ) -> Result<usize, Refusal>
+        requires tag { self.old.state ≡ State.Tag }
+        requires some { 0 < length run.now }
+        requires plain { list_all is_plain_byte run.now ≡ true }
+        requires within { at + length run.now ≤ MAX_INPUT }
+        ensures takes { (table : Entities) (start : Kind) (before : Texts) (text : List Character) (taken : List Event) → Grows before names.old → HasTaken table start self.old before text taken
+            → TakesFront (gives_item S.gives S.gives_token) table start text at run.now taken names.new sink.old result sink.new self.new }
+        ensures few { IfOk result (λ count. (0 < count) × (count ≤ length run.now)) }
+        ensures grows { Grows names.old names.new }
+    {
+        let count = self.tag.take_run(run)?;
+        if count == 0 {
+            return self.take_first(names, run, at, sink);
+        }
+        self.next = at + count as u64;
+        Ok(count)
+    }
+}
