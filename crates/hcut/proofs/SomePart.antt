@@ -47,10 +47,10 @@ pub begins_long : (test : ℕ → Bool) (xs : List Placed) → begins test xs �
 begins_long test [] h = absurd (false≢true h)
 begins_long test (x ∷ xs) h = omega arith
 
-record HasValue (table : Entities) (text : List Placed) : Type 0 where
-  pieces : List Piece
-  text_is : text ≡ pieces_text pieces
-  are : AreValue table pieces
+pub record HasValue (table : Entities) (text : List Placed) : Type 0 where
+  pub pieces : List Piece
+  pub text_is : text ≡ pieces_text pieces
+  pub are : AreValue table pieces
 
 module _ (table : Entities) (is_table : IsTable table) where
   piece_by : (p : Placed) (ps : List Placed) (b : Bool) → eqb p.ch 38 ≡ b → HasPiece table (p ∷ ps)
@@ -73,7 +73,7 @@ module _ (table : Entities) (is_table : IsTable table) where
       let v = value_by n k.rest (shorter (p ∷ ps) k.piece.text k.rest n k.text_is k.long l) in
       record { pieces = k.piece ∷ v.pieces; text_is = k.text_is ∙ ap (λ (x : List Placed). k.piece.text ++ x) v.text_is; are = (k.is_piece (pieces_text v.pieces) (sym v.text_is), v.are) }
 
-  some_value : (text : List Placed) → HasValue table text
+  pub some_value : (text : List Placed) → HasValue table text
   some_value text = value_by (length text) text (omega arith)
 
 -- SIGNS
