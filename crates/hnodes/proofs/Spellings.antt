@@ -24,7 +24,7 @@ module _ {N M : Type 0} (g : N → M) where
       go true l r = refl
       go false l r = spelled-join (tree_at n kids) (tree_at n rest) ∙ (λ i. join (l i) (r i))
 
-  spelled-children_of : (n : ℕ) (f : Forest N) → spelled g (children_of n f) ≡ children_of n (spelled g f)
+  pub spelled-children_of : (n : ℕ) (f : Forest N) → spelled g (children_of n f) ≡ children_of n (spelled g f)
   spelled-children_of n none = refl
   spelled-children_of n (tree b w kids rest) = go (eqb b n) (spelled-children_of n kids) (spelled-children_of n rest)
     where

@@ -10,3 +10,4 @@ pub mod Coding
 pub mod Rows
 pub mod View
 pub mod Worked
+pub mod Named

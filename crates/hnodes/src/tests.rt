@@ -173,7 +173,7 @@ fn edit(
 
 #[test]
 fn a_node_is_small(rt: HostRuntime) {
-    assert_eq!(rt; std::mem::size_of::<Node>(), 64);
+    assert_eq!(rt; std::mem::size_of::<Node>(), 56);
 }
 
 #[test]

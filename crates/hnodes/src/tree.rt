@@ -23,12 +23,12 @@ use std::alloc::{AllocError, Global};
 use std::fmt;
 use std::marker::Model;
 
-/// The tree of a document, and the loose nodes: those that were made and are not in it yet. Each node takes 64 bytes, beside what
-/// its texts and attributes hold. Making a node and moving one take the same time in a tree of any size, amortized. No call
-/// recurses, nor does the drop, and the moves and the questions allocate nothing.
+/// The tree of a document, and the loose nodes: those that were made and are not in it yet. Each node takes 56 bytes, beside what
+/// its texts and attributes hold. Making a node and moving one take amortized constant time. No call recurses, nor does the
+/// drop, and the moves and the questions allocate nothing.
 ///
-/// Three things are told apart. A [`Place`] is where a node goes in the tree. `at`, in a call that can be refused, is the byte
-/// offset from 0 of the token that the call is made for, which the refusal reports. A [`NodeId`] is a node, wherever it stands.
+/// A [`Place`] is where a node goes in the tree. `at`, in a call that returns a [`Refusal`], is the byte offset from 0 of the
+/// token that the call is made for, which the refusal reports. A [`NodeId`] is a node, wherever it stands.
 #[derive(Drop)]
 pub struct Tree {
     nodes: Vec<Node>,
@@ -77,7 +77,7 @@ impl Tree {
         NodeId { number: 0 }
     }
 
-    /// Whether a node was made in this tree, as each call asks of the nodes it is given.
+    /// Whether a node was made in this tree, which each call requires of the nodes that it is given.
     pub fn has(&self, node: NodeId) -> bool
         ensures { IsTrue result ↔ (node < self.now.made) }
     {
@@ -94,8 +94,8 @@ impl Tree {
         count as u32
     }
 
-    /// Makes an element, loose. It is refused with `TooManyNodes` at the limit, and with `Memory` where memory runs out; either
-    /// leaves the tree as it was. So it is with all calls that make a node.
+    /// Makes an element, loose. The error is `TooManyNodes` at the limit, and `Memory` if memory runs out; either leaves the tree
+    /// unchanged. The same holds of all calls that make a node.
     pub fn create_element(
         &mut self,
         name: NameId,
@@ -218,7 +218,7 @@ impl Tree {
         }
     }
 
-    /// Moves the children of a node to the end of another's children, in their order. Takes as many steps as there are children.
+    /// Moves the children of a node to the end of another's children, in order. Takes as many steps as there are children.
     pub fn move_children(&mut self, from: NodeId, to: NodeId)
         requires from_in { from < self.old.made }
         requires to_in { to < self.old.made }

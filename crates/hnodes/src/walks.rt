@@ -41,7 +41,7 @@ impl Tree {
         }
     }
 
-    /// The nodes that a node is inside of: its parent, the parent of that, and so on to the root.
+    /// The ancestors of a node: its parent, the parent of that, and so on to the root.
     pub fn ancestors(&self, at: NodeId) -> Ancestors
         requires { at < self.now.made }
         ensures { result ≡ ancestors_of at self.now.trees }
@@ -52,8 +52,8 @@ impl Tree {
         }
     }
 
-    /// The nodes inside a node in tree order: its first child, what is inside that, then the next child, and so on. The whole walk
-    /// takes as many steps as there are nodes.
+    /// The descendants of a node in tree order: its first child, what is inside that, then the next child, and so on. The whole
+    /// walk takes as many steps as there are descendants, up to a constant factor.
     pub fn descendants(&self, at: NodeId) -> Descendants
         requires { at < self.now.made }
         ensures order { result ≡ order (children_of at self.now.trees) }
