@@ -1,6 +1,6 @@
 -- A vector whose last member is the nearest, and what an edit of it is in the words on lists.
 use Rattle.std.proofs.Common.{◌≡◌, ℕ, zero, suc, ◌+◌, ◌<◌, ◌≤◌, Bool, true, false, cond, ltb, not, List, [], ◌∷◌, ◌++◌, Option, Some, None, length, get_or, set, take, drop, map, reverse, ◌||◌, ◌⊎◌, inl, inr, refl, sym, ◌∙◌, ap, arith}
-use Rattle.std.specs.List.{find, insert, remove, slice_get, position, position_or_len, list_any}
+use Rattle.std.specs.List.{find, insert, remove, remove_range, slice_get, position, position_or_len, list_any}
 use Rattle.std.specs.Option.{is_some, IfSome}
 use Rattle.std.proofs.lemmas.Bool.{ltb-true, ltb-false, lt-ltb, le-ltb, cases_lt}
 use Rattle.std.proofs.lemmas.List.{map-append, reverse-append, append_assoc, length-map, length-reverse, length-drop, take-append-drop, set_split, take_at, drop_at, get_or-map, get_or-reverse}
@@ -154,6 +154,12 @@ module _ {X Y : Type 0} (f : X → Y) where
   set_nearest g items i up d y h e =
       ap (λ l. reverse (map f l)) (set_split items i y (omega arith)) ∙ reverse_around (take i items) (drop (suc i) items) y
       ∙ rw (e, ← get_nearest items i up d (f d) h, ← take_nearest items (suc i) up (omega arith), ← drop_nearest items i (suc up) (omega arith)) (sym (changed_at-split g (reverse (map f items)) up (f d) (omega (arith, length_nearest items))))
+
+  -- a run of members leaves, where so many are nearer
+  pub remove_run_nearest : (items : List X) (from to up count : ℕ) → from + count ≡ to → to + up ≡ length items → reverse (map f (remove_range items from to)) ≡ remove_range (reverse (map f items)) up (up + count)
+  remove_run_nearest items from to up count h k =
+      reverse_split (take from items) (drop to items)
+      ∙ rw (← take_nearest items to up k, ← drop_nearest items from (up + count) (omega arith)) refl
 
   -- edits of a vector at the nearest that is sought, which has so many nearer than it
   module _ (sought : Y → Bool) where

@@ -1,7 +1,8 @@
 -- The kept places under each change of the items.
-use Rattle.std.proofs.Common.{◌≡◌, ℕ, suc, add-one, ◌<◌, ◌≤◌, eqb, Bool, true, false, cond, List, [], ◌∷◌, ◌++◌, length, map, reverse, take, drop, get_or, set, ◌⊎◌, inl, inr, refl, sym, ◌∙◌, ap, subst, arith}
+use Rattle.std.proofs.Common.{◌≡◌, ℕ, zero, suc, ◌+◌, ◌-◌, add-one, ◌<◌, ◌≤◌, eqb, Bool, true, false, cond, List, [], ◌∷◌, ◌++◌, length, map, reverse, take, drop, get_or, set, ◌⊎◌, inl, inr, refl, sym, ◌∙◌, ap, subst, arith}
 use Rattle.std.proofs.lemmas.Bool.{eqb-true, eqb-false, cases_lt}
-use Rattle.std.proofs.lemmas.List.{get_or-set_same, get_or-set_other, get_or_past, get_or_default, drop-set, reverse-append, length-reverse, length-map}
+use Rattle.std.proofs.lemmas.List.{get_or-set_same, get_or-set_other, get_or_past, get_or_default, drop-set, drop-drop, drop_at, length-take-le, reverse-append, length-reverse, length-map}
+use Rattle.std.specs.List.{remove_range}
 use Rattle.std.proofs.Math.Seq.{take-suc, drop-cons}
 use Rattle.hopen.specs.Stack.{OpenNode}
 use Rattle.hopen.specs.Places.{last_place}
@@ -141,3 +142,17 @@ pub numbers-replaced : (items : List Item) (i : ℕ) (x : Item) (names nodes : �
 numbers-replaced items i x names nodes within all name_in node_in =
     let rest = numbers-less items (suc i) i (get_or items i x) refl within (get_or_default items i x (get_or items i x) within) names nodes all in
     rw (drop-set items i x within, add-one) (name_in, node_in, rest.2)
+
+-- .. and where a run of items leaves
+numbers-drop : (k : ℕ) (items : List Item) (names nodes : ℕ) → AreIn names nodes items → AreIn names nodes (drop k items)
+numbers-drop zero items names nodes all = all
+numbers-drop (suc k) [] names nodes all = all
+numbers-drop (suc k) (x ∷ items) names nodes all = numbers-drop k items names nodes all.2
+
+pub numbers-left : (items : List Item) (from to : ℕ) (names nodes : ℕ) → from ≤ to → to ≤ length items → AreIn names nodes (drop from items) → AreIn names nodes (drop from (remove_range items from to))
+numbers-left items from to names nodes order within all =
+    let rest = numbers-drop (to - from) (drop from items) names nodes all in
+    let sum : from + (to - from) ≡ to = omega arith in
+    let left : drop from (remove_range items from to) ≡ drop to items = drop_at (take from items) (drop to items) from (length-take-le from items (omega arith)) in
+    let same : drop (to - from) (drop from items) ≡ drop to items = drop-drop (to - from) from items ∙ ap (λ n. drop n items) sum in
+    subst (λ (xs : List Item). AreIn names nodes xs) (same ∙ sym left) rest

@@ -57,7 +57,7 @@ fn giving_way(items: &[Item], name: NameId, attrs: &[Attr]) -> Option<usize>
     if equal < MOST_EQUAL { None } else { earliest }
 }
 
-/// How many items come after the entry of a node; None if it has none.
+/// How many items come after the entry of a node; `None` if it has no entry.
 fn back_of(items: &[Item], node: NodeId) -> Option<usize>
     ensures { result ≡ position (λ i. is_entry node (item_of i)) (reverse items.now) }
 {
@@ -155,7 +155,7 @@ impl Formatting {
         self.items.len()
     }
 
-    /// The last entry of a name after the last marker; None if there is none.
+    /// The last entry with a name after the last marker; `None` if there is none.
     pub fn find(&self, name: NameId) -> Option<&Entry>
         ensures { option_map (λ e. entry_is e.now) result ≡ find_entry nat_eq name self.now }
     {
@@ -169,7 +169,7 @@ impl Formatting {
         None
     }
 
-    /// The entry of a node; None if it has none.
+    /// The entry of a node; `None` if it has no entry.
     pub fn entry_of(&self, node: NodeId) -> Option<&Entry>
         ensures { option_map (λ e. entry_is e.now) result ≡ entry_of node self.now }
     {
@@ -185,8 +185,8 @@ impl Formatting {
         None
     }
 
-    /// The entry with `back` items after it: 0 is the last one. None for a marker, and past the first item; so a loop that goes back,
-    /// as the one that reconstructs the formatting elements, ends at the last marker.
+    /// The entry with `back` items after it: 0 is the last one. `None` for a marker, and past the first item; so a loop that goes back,
+    /// such as the one that reconstructs the formatting elements, ends at the last marker.
     pub fn get(&self, back: usize) -> Option<&Entry>
         ensures { option_map (λ e. entry_is e.now) result ≡ entry_at back self.now }
     {
@@ -196,7 +196,7 @@ impl Formatting {
         self.items[self.items.len() - 1 - back].entry()
     }
 
-    /// Removes the entry of a node; does nothing if it has none.
+    /// Removes the entry of a node; does nothing if it has no entry.
     pub fn remove(&mut self, node: NodeId)
         ensures { self.new ≡ without_entry node self.old }
     {

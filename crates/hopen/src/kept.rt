@@ -1,6 +1,7 @@
 //! The places that open nodes keep, so that no question has to search the stack.
 
-ghost use Rattle.std.specs.Prelude.{◌≡◌, ℕ, ◌+◌, ◌<◌, ◌≤◌, ◌^◌, OnOk, OnErr, [], ◌∷◌, drop, insert, length, map, remove, reverse, slice_index, slice_set, take, vec_capacity, vec_len, if◌then◌else◌};
+ghost use Rattle.std.specs.Prelude.{◌≡◌, ℕ, ◌+◌, ◌<◌, ◌≤◌, ◌^◌, OnOk, OnErr, [], ◌∷◌, drop, insert, length, map, reverse, slice_index, slice_set, take, vec_capacity, vec_len, if◌then◌else◌};
+ghost use Rattle.std.specs.List.{remove_range};
 ghost use Rattle.std.specs.Option.{option_map};
 ghost use Rattle.hopen.specs.Opens.{open_of};
 ghost use Rattle.hopen.specs.Stack.{current};
@@ -238,17 +239,18 @@ pub(crate) fn pop(last: &mut LastPlaces, items: &mut Vec<Item>) -> Option<Open>
     Some(item.opened)
 }
 
-/// Removes an item, and mends the places below it.
-pub(crate) fn remove(last: &mut LastPlaces, items: &mut Vec<Item>, index: usize)
+/// Removes the items from an index up to another one, which stays, and mends the places below them.
+pub(crate) fn remove_run(last: &mut LastPlaces, items: &mut Vec<Item>, from: usize, to: usize)
     requires stands { Stands last.old items.old.items }
-    requires within { index < length items.old.items }
+    requires order { from ≤ to }
+    requires within { to ≤ length items.old.items }
     requires places { length items.old.items < 2 ^ 32 }
     ensures stands { Stands last.new items.new.items }
-    ensures items { map opened_by items.new.items ≡ map opened_by (remove items.old.items index) }
+    ensures items { map opened_by items.new.items ≡ map opened_by (remove_range items.old.items from to) }
 {
-    unwind(last, items, index);
-    items.remove(index);
-    rewind(last, items, index);
+    unwind(last, items, from);
+    items.drain(from..to);
+    rewind(last, items, from);
 }
 
 /// Puts another item in the place of one, and mends the places below it.

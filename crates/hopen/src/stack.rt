@@ -1,7 +1,7 @@
 //! The stack of open elements (HTML Standard, 13.2.4.2).
 
-ghost use Rattle.std.specs.Prelude.{◌≡◌, ◌≤◌, ◌↔◌, ◌⊎◌, [], ◌∷◌, OnOk, OnErr, IfErr, IfSome, MatchOption, ◌<◌, ◌-◌, length, drop, reverse, nat_eq, leb, if◌then◌else◌};
-ghost use Rattle.std.specs.List.{find, position, slice_get};
+ghost use Rattle.std.specs.Prelude.{◌≡◌, ◌≤◌, ◌↔◌, ◌⊎◌, [], ◌∷◌, OnOk, OnErr, IfErr, IfSome, MatchOption, ◌<◌, ◌+◌, ◌-◌, length, drop, reverse, nat_eq, leb, if◌then◌else◌};
+ghost use Rattle.std.specs.List.{find, position, remove_range, slice_get};
 ghost use Rattle.std.specs.Option.{option_map};
 ghost use Rattle.hopen.specs.Nearest.{after, without, changed, put_before};
 ghost use Rattle.hopen.specs.Stack.{is_node, is_open, current as current_of, above as above_of, in_scope as is_in_scope, furthest_block as furthest_block_of};
@@ -14,7 +14,7 @@ ghost use Rattle.names.specs.Sets.{is_special};
 ghost use Rattle.names.specs.declared.refusal.Refusal.TheVariants.{TooDeep, Memory};
 ghost use Rattle.hopen.specs.declared.scope.Scope.TheVariants.{Default};
 
-use crate::kept::{Item, LastPlaces, insert, nearest_of_sets, pop, push, remove, replace};
+use crate::kept::{Item, LastPlaces, insert, nearest_of_sets, pop, push, remove_run, replace};
 use crate::name_sets::NameSet;
 use crate::scope::{Group, Scope};
 use crate::sought::{Sought, first_special};
@@ -33,8 +33,8 @@ pub struct Open {
 /// The open nodes with their names, from html down to the current node.
 ///
 /// No question searches the stack, but for `furthest_block`, which passes the nodes from the formatting element down to the block.
-/// A push and a pop take the same time at any depth, amortized. `remove`, `replace` and `insert_below` take a step for each node
-/// below. An open node takes 56 bytes; a name, and a node, take 4 bytes for each number up to the greatest that was ever open.
+/// A push and a pop take the same time at any depth, amortized. `remove`, `remove_run`, `replace` and `insert_below` take a step for
+/// each node below. An open node takes 48 bytes; each of the two tables of places takes 4 bytes for each number up to the greatest one.
 /// `push`, `replace` and `insert_below` alone allocate, and on an error they change nothing.
 #[derive(Debug, Drop)]
 pub struct OpenStack {
@@ -91,7 +91,7 @@ impl OpenStack {
         Ok(())
     }
 
-    /// Closes the current node and returns it; None if no node is open.
+    /// Pops the current node and returns it; `None` if no node is open.
     pub fn pop(&mut self) -> Option<Open>
         ensures popped { option_map open_of result ≡ current_of self.old.stack }
         ensures rest { self.new ≡ record self.old { stack = drop 1 self.old.stack } }
@@ -99,21 +99,21 @@ impl OpenStack {
         pop(&mut self.last, &mut self.items)
     }
 
-    /// Closes nodes up to and including the nearest of a name; all of them if there is none.
+    /// Pops nodes up to and including the nearest one with this name; all of them if there is none.
     pub fn pop_to(&mut self, name: NameId)
         ensures { self.new ≡ record self.old { stack = after (is_named nat_eq name) self.old.stack } }
     {
         self.close_to(Sought::Name(name));
     }
 
-    /// Closes nodes up to and including a node; all of them if it is not open.
+    /// Pops nodes up to and including a node; all of them if it is not open.
     pub fn pop_to_node(&mut self, node: NodeId)
         ensures { self.new ≡ record self.old { stack = above_of node self.old.stack } }
     {
         self.close_to(Sought::Node(node));
     }
 
-    /// Closes nodes up to and including the nearest of a group; all of them if there is none.
+    /// Pops nodes up to and including the nearest one of a group; all of them if there is none.
     pub fn pop_to_group(&mut self, group: Group)
         ensures { self.new ≡ record self.old { stack = after (is_of tag_of group) self.old.stack } }
     {
@@ -125,8 +125,17 @@ impl OpenStack {
         ensures { self.new ≡ record self.old { stack = without (is_node node) self.old.stack } }
     {
         if let Some(index) = self.index(Sought::Node(node)) {
-            remove(&mut self.last, &mut self.items, index);
+            remove_run(&mut self.last, &mut self.items, index, index + 1);
         }
+    }
+
+    /// Removes the `count` open nodes from the one with `up` nodes below it on upwards, in one pass over these and the nodes below.
+    pub fn remove_run(&mut self, up: usize, count: usize)
+        requires { up + count ≤ length self.old.stack }
+        ensures { self.new ≡ record self.old { stack = remove_range self.old.stack up (up + count) } }
+    {
+        let to = self.items.len() - up;
+        remove_run(&mut self.last, &mut self.items, to - count, to);
     }
 
     /// Puts another node in the place of an open one; does nothing if that is not open.
@@ -230,7 +239,7 @@ impl OpenStack {
         }
     }
 
-    /// How many open nodes are below a node; None if it is not open.
+    /// How many open nodes are below a node; `None` if it is not open.
     pub fn place(&self, node: NodeId) -> Option<usize>
         ensures place { result ≡ position (is_node node) self.now.stack }
         ensures within { IfSome result (λ up. up < length self.now.stack) }
@@ -252,7 +261,7 @@ impl OpenStack {
         self.get(self.place_of(Sought::Name(name))?)
     }
 
-    /// The open node right above a node; None if the node is the topmost or not open.
+    /// The open node right above a node; `None` if the node is the topmost or not open.
     pub fn above(&self, node: NodeId) -> Option<Open>
         ensures { option_map open_of result ≡ current_of (above_of node self.now.stack) }
     {
@@ -321,7 +330,7 @@ impl OpenStack {
         Some(place - 1)
     }
 
-    /// Closes nodes up to and including the nearest that is sought; all of them if there is none.
+    /// Pops nodes up to and including the nearest that is sought; all of them if there is none.
     fn close_to(&mut self, sought: Sought)
         ensures { self.new ≡ record self.old { stack = after (is_sought sought) self.old.stack } }
     {

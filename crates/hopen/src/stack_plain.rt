@@ -110,6 +110,15 @@ impl Plain {
         }
     }
 
+    /// Removes nodes one by one.
+    pub(crate) fn remove_run(&mut self, up: usize, count: usize) {
+        for _ in 0..count {
+            if up < self.nodes.len() {
+                self.nodes.remove(up);
+            }
+        }
+    }
+
     pub(crate) fn replace(&mut self, node: NodeId, by: Open) {
         if let Some(index) = self.position(Wanted::Node(node)) {
             self.nodes[index] = by;

@@ -123,6 +123,15 @@ fn insert(stack: &mut OpenStack, plain: &mut Plain, supply: &mut Supply) -> Resu
     Ok(true)
 }
 
+fn remove_run(stack: &mut OpenStack, plain: &mut Plain, supply: &mut Supply) {
+    let up = supply.pick(6) as usize;
+    let count = supply.pick(5) as usize;
+    if up + count <= stack.len() {
+        stack.remove_run(up, count);
+        plain.remove_run(up, count);
+    }
+}
+
 /// One edit of both.
 fn edit(stack: &mut OpenStack, plain: &mut Plain, supply: &mut Supply) -> Result<bool, Refusal> {
     match supply.pick(32) {
@@ -142,7 +151,8 @@ fn edit(stack: &mut OpenStack, plain: &mut Plain, supply: &mut Supply) -> Result
             stack.pop_to_group(group);
             plain.pop_to(wanted);
         }
-        5 | 6 | 7 => {
+        5 => remove_run(stack, plain, supply),
+        6 | 7 => {
             let node = supply.node();
             stack.remove(node);
             plain.remove(node);
@@ -196,8 +206,8 @@ fn find_alike(stack: &OpenStack, plain: &Plain, supply: &mut Supply) -> bool {
 
 #[test]
 fn an_open_node_is_small(rt: HostRuntime) {
-    assert_eq!(rt; std::mem::size_of::<Open>(), 16);
-    assert_eq!(rt; std::mem::size_of::<Item>(), 56);
+    assert_eq!(rt; std::mem::size_of::<Open>(), 8);
+    assert_eq!(rt; std::mem::size_of::<Item>(), 48);
 }
 
 /// Whether both answer every question alike.

@@ -1,4 +1,5 @@
-use Rattle.std.proofs.Common.{◌∙◌, ap, reverse}
+use Rattle.std.proofs.Common.{◌≡◌, ◌+◌, ℕ, suc, ◌∙◌, ap, arith, map, reverse}
+use Rattle.std.specs.List.{remove_range}
 use Rattle.hopen.proofs.Opened.{seen, found, none_found, kept}
 use Rattle.hopen.proofs.Nearest.{remove_nearest, no_words}
 use Rattle.hopen.specs.Nearest.{without}
@@ -6,10 +7,13 @@ use Rattle.hopen.specs.Stack.{is_node}
 use Rattle.hopen.specs.Kept.{opened_by}
 use Rattle.hopen.proofs.stack.OpenStack.remove.Goals as goal
 
+next : (i : ℕ) → i + 1 ≡ suc i
+next i = omega arith
+
 pub returns-in-Some : goal.returns-in-Some
 returns-in-Some c =
     let f = found c.self.inside c.args.self.now (is_node c.args.node) c.in-Some.index c.self.view_is c.in-Some.ensures.found c.in-Some.ensures.within in
-    seen c.self.inside c.args.self.now (without (is_node c.args.node)) c.remove.new.items.items c.self.view_is (ap reverse c.remove.ensures.items ∙ remove_nearest opened_by (is_node c.args.node) c.self.inside.items.items c.in-Some.index f.up f.place f.sum)
+    seen c.self.inside c.args.self.now (without (is_node c.args.node)) c.remove_run.new.items.items c.self.view_is (ap reverse c.remove_run.ensures.items ∙ ap (λ n. reverse (map opened_by (remove_range c.self.inside.items.items c.in-Some.index n))) (next c.in-Some.index) ∙ remove_nearest opened_by (is_node c.args.node) c.self.inside.items.items c.in-Some.index f.up f.place f.sum)
 
 pub returns-in_default : goal.returns-in_default
 returns-in_default c = kept c.args.self.now (without (is_node c.args.node)) ((no_words (is_node c.args.node) c.args.self.now.stack (none_found c.index.result _ _ c.in_default.not-Some c.index.ensures.found)).without_is)
