@@ -44,7 +44,7 @@ module _ {N : Type 0} where
   nodes_after (Next s) = s.nodes.made
   nodes_after (Ended s) = s.nodes.made
 
-  entry_of-without : (n : ℕ) (items : List (Item N)) → entry_of n (without_entry n items) ≡ None
+  pub entry_of-without : (n : ℕ) (items : List (Item N)) → entry_of n (without_entry n items) ≡ None
   entry_of-without n [] = refl
   entry_of-without n (marker ∷ items) = entry_of-without n items
   entry_of-without n (entry e ∷ items) = go (e.node == n) refl (entry_of-without n items)

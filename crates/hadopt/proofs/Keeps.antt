@@ -1,18 +1,18 @@
 -- What a turn of the adoption agency keeps, and what its parts ask.
-use Rattle.std.proofs.Common.{◌≡◌, ℕ, ◌<◌, Bool, true, false, List, [], ◌∷◌, Some, find, nat_eq, cond, ◌||◌, refl, subst, zero, suc, ◌-◌, ◌≤◌, arith, Ok, Err, drop, ◌⊎◌, inl, inr, sym, ◌∙◌, ap}
+use Rattle.std.proofs.Common.{◌≡◌, ◌≢◌, ℕ, ◌<◌, Bool, true, false, List, [], ◌∷◌, Some, find, nat_eq, cond, ◌||◌, refl, subst, zero, suc, ◌-◌, ◌≤◌, arith, Ok, Err, drop, ◌⊎◌, inl, inr, sym, ◌∙◌, ap}
 use Rattle.std.specs.Prelude.{Result, IfOk, IfSome}
 use Rattle.names.specs.declared.refusal.Refusal.{Refusal}
 use Rattle.std.specs.List.{list_any}
-use Rattle.std.proofs.lemmas.Bool.{eq-eqb, eqb-true}
+use Rattle.std.proofs.lemmas.Bool.{eq-eqb, eqb-true, ne_eqb}
 use Rattle.hopen.specs.Stack.{OpenNode, is_node, is_open, in_scope, furthest_block, above, below, current}
 use Rattle.hopen.specs.Nearest.{before}
 use Rattle.hopen.specs.declared.bookmark.Bookmark.TheVariants.{InPlace}
 use Rattle.hnodes.specs.Forest.{Forest}
 use Rattle.hnodes.specs.Edits.{AreCounted, place_node}
-use Rattle.hnodes.proofs.Counted.{at-most, deep-there}
-use Rattle.hnodes.proofs.Deep.{deep, deep-is}
+use Rattle.hnodes.proofs.Counted.{at-most, deep-there, is-there}
+use Rattle.hnodes.proofs.Deep.{deep, deep-is, deep-self}
 use Rattle.hadopt.specs.Places.{place_in}
-use Rattle.hadopt.proofs.Lists.{each-map, each-both, Among, skip, keep, among-after, each-among, front-among}
+use Rattle.hadopt.proofs.Lists.{each-map, each-both, pairs-map, Among, skip, keep, among-after, each-among, front-among}
 use Rattle.hadopt.proofs.Climbing.{OnGoes, Plain, Climbing, climbed-climbs}
 use Rattle.hadopt.proofs.Searching.{any-after, any-each, pairs-after, scope-front, at-nearest, special-there}
 use Rattle.hadopt.proofs.Settling.{Well, place-fits}
@@ -34,6 +34,7 @@ use Rattle.hadopt.specs.declared.adopting.Turn as code
 use Rattle.hadopt.specs.declared.adopting.Turn.TheVariants as turn
 use Rattle.hadopt.specs.Meets.{turn_of, TurnGives}
 use Rattle.hadopt.specs.Kept.{Each, Kept}
+use Rattle.hadopt.specs.Climbs.{AreDifferent}
 use Rattle.hadopt.specs.Settles.{Settles, TurnsBy}
 
 before-each : {X : Type 0} (P : X → Type 0) (p : X → Bool) (xs : List X) → Each P xs → Each P (before p xs)
@@ -162,8 +163,23 @@ module _ (s : SiteOf ℕ) (f : ℕ) (b : OpenNode ℕ) (h : Well numbers s) (is_
         bookmark = bookmark-there f c.bookmark c.site.items m.marked;
       }
 
+  low : (x : OpenNode ℕ) → 0 < deep x.node 0 (trees s) → x.node < s.nodes.made
+  low x there = (deep-there s.nodes.made (trees s) h.counted x.node 0 there).0
+
+  -- no node is inside itself, and each stands somewhere
+  others : (x y : OpenNode ℕ) → 0 < deep x.node 0 (trees s) → deep y.node x.node (trees s) ≡ 0 → x.node ≢ y.node
+  others x y there out same =
+      let within : deep x.node x.node (trees s) ≡ 0 = subst (λ (k : ℕ). deep k x.node (trees s) ≡ 0) (sym same) out in
+      omega (arith, within, deep-self x.node (trees s), is-there s.nodes.made (trees s) h.counted x.node (low x there))
+
+  different : AreDifferent s
+  different = record {
+    made = each-map _ _ (λ x p. low x p.0) (stack s) h.each;
+    apart = pairs-map (λ x. (0 < deep x.node 0 (trees s)) × (0 < x.node)) (λ x y. deep y.node x.node (trees s) ≡ 0) _ (λ x y p q out. ne_eqb x.node y.node (others x y p.0 out)) (stack s) h.each h.order;
+  }
+
   pub turns-there : TurnsBy f b.node s
-  turns-there = record { begun = b-stands.1; block_in = (deep-there s.nodes.made (trees s) h.counted b.node 0 b-stands.0).0; settles = settles-there }
+  turns-there = record { begun = b-stands.1; block_in = low b b-stands.0; different = different; settles = settles-there }
 
 pub kept-turns-by : (s : SiteOf ℕ) (f : ℕ) (block : OpenNode ℕ) → Kept numbers s → is_open f (stack s) ≡ true → in_scope (stops tag_of Default) (is_node f) (stack s) ≡ true → list_any (is_entry f) s.items ≡ true → furthest_block tag_of f (stack s) ≡ Some block → TurnsBy f block.node s
 kept-turns-by s f block k o scope e b = turns-there s f block (to-well numbers s k) o scope e (special-there tag_of (below f (stack s)) block b)

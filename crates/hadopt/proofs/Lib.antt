@@ -21,3 +21,4 @@ pub mod Going
 pub mod Bound
 pub mod Spellings
 pub mod Agreeing
+pub mod Halves

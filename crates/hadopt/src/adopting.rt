@@ -1,6 +1,6 @@
 //! The adoption agency (HTML Standard, 13.2.6.4.7).
 
-ghost use Rattle.std.specs.Prelude.{◌≡◌, IsTrue, ℕ, ◌<◌, ◌≤◌, IfOk, length, reverse};
+ghost use Rattle.std.specs.Prelude.{◌≡◌, IsTrue, ℕ, ◌<◌, ◌≤◌, ◌+◌, IfOk, length};
 ghost use Rattle.std.specs.List.{slice_get, list_any};
 ghost use Rattle.std.specs.Option.{option_map};
 ghost use Rattle.hnodes.specs.Forest.{element};
@@ -14,9 +14,10 @@ ghost use Rattle.hopen.specs.Opens.{open_of};
 ghost use Rattle.hopen.specs.Items.{entry_is};
 ghost use Rattle.hopen.specs.declared.bookmark.Bookmark.TheVariants.{InPlace};
 ghost use Rattle.hadopt.specs.Naming.{numbers};
-ghost use Rattle.hadopt.specs.Site.{Goes, and_then, with_items, current_is};
+ghost use Rattle.hadopt.specs.Climbs.{AreDifferent, HalfGives, way_after, way_left, without_entries};
+ghost use Rattle.hadopt.specs.Site.{Goes, and_then, stack, with_items};
 ghost use Rattle.hadopt.specs.Inserts.{made};
-ghost use Rattle.hadopt.specs.Adopts.{entries_for, replaced, climbed_one, climbed, ended_climb, adopted_by, turned_with, turned, turns, is_unlisted, adopted};
+ghost use Rattle.hadopt.specs.Adopts.{most_kept, replaced, climbed_one, climbed, ended_climb, adopted_by, turned_with, turned, turns, is_unlisted, adopted};
 ghost use Rattle.hadopt.specs.Meets.{climb_of, ClimbGives, TurnGives};
 ghost use Rattle.hadopt.specs.Gives.{Gives};
 ghost use Rattle.hadopt.specs.Kept.{Kept};
@@ -41,6 +42,27 @@ pub(crate) struct Climbed {
     pub(crate) bookmark: Bookmark,
 }
 
+impl Climbed {
+    /// The same, with a number of open nodes left above.
+    fn halfway(self, left: usize) -> Halfway
+        ensures { result ≡ record { last = self.last; bookmark = self.bookmark; left = left } }
+    {
+        Halfway {
+            last: self.last,
+            bookmark: self.bookmark,
+            left,
+        }
+    }
+}
+
+/// On the way up, and how many open nodes are left above.
+#[derive(Clone, Copy)]
+pub(crate) struct Halfway {
+    pub(crate) last: NodeId,
+    pub(crate) bookmark: Bookmark,
+    pub(crate) left: usize,
+}
+
 /// How many nodes on the way keep their entry.
 const MOST_KEPT: usize = 3;
 
@@ -48,16 +70,7 @@ const MOST_KEPT: usize = 3;
 const MOST_TURNS: usize = 8;
 
 impl Site {
-    /// After so many nodes on the way, a node loses its entry.
-    fn trim(&mut self, passed: usize, node: NodeId)
-        ensures { self.new ≡ with_items (entries_for passed node self.old.items) self.old }
-    {
-        if passed >= MOST_KEPT {
-            self.remove_entry(node);
-        }
-    }
-
-    /// A new element for its entry takes the place of a node on the way, takes in the last node, and is the last then.
+    /// Replaces a node on the way by a new element for its entry, and appends the last node to it; it is the last node then.
     fn take_in(
         &mut self,
         on_way: Climbed,
@@ -92,21 +105,19 @@ impl Site {
         })
     }
 
-    /// One node on the way, after so many.
+    /// Passes one of the first nodes on the way.
     fn pass(
         &mut self,
         on_way: Climbed,
         block: NodeId,
-        passed: usize,
         node: Open,
         at: u64,
     ) -> Result<Climbed, Refusal>
         requires begun { 0 < on_way.last }
         requires last_in { on_way.last < self.old.nodes.made }
-        ensures done { ClimbGives result self.new (climbed_one numbers at block passed (open_of node) (climb_of on_way self.old)) }
+        ensures done { (passed : ℕ) → passed < most_kept → ClimbGives result self.new (climbed_one numbers at block passed (open_of node) (climb_of on_way self.old)) }
         ensures last { IfOk result (λ c. (0 < c.last) × (c.last < self.new.nodes.made)) }
     {
-        self.trim(passed, node.node);
         match self.entry_of(node.node)? {
             Some(entry) => self.take_in(on_way, block, node.node, entry, at),
             None => {
@@ -116,31 +127,82 @@ impl Site {
         }
     }
 
-    /// The way up from the furthest block to the formatting element.
-    fn climb(&mut self, formatting: NodeId, block: NodeId, at: u64) -> Result<Climbed, Refusal>
+    /// Passes the first nodes on the way up from the furthest block to the formatting element: those that keep their entry.
+    fn climb_first(
+        &mut self,
+        formatting: NodeId,
+        block: NodeId,
+        at: u64,
+    ) -> Result<Halfway, Refusal>
         requires begun { 0 < block }
         requires block_in { block < self.old.nodes.made }
-        ensures done { ClimbGives result self.new (climbed numbers at block 0 (before (is_node formatting) (above block self.old.open_nodes.stack)) (record { last = block; bookmark = InPlace; site = self.old })) }
-        ensures last { IfOk result (λ c. (0 < c.last) × (c.last < self.new.nodes.made)) }
+        requires different { AreDifferent self.old }
+        ensures done { HalfGives formatting block at result self.new (climbed numbers at block 0 (before (is_node formatting) (above block self.old.open_nodes.stack)) (record { last = block; bookmark = InPlace; site = self.old })) }
+        ensures last { IfOk result (λ h. (0 < h.last) × (h.last < self.new.nodes.made)) }
     {
         let mut on_way = Climbed {
             last: block,
             bookmark: Bookmark::InPlace,
         };
-        let mut down = self.stack.depth(block);
+        let mut left = self.stack.depth(block);
         let mut passed = 0;
-        while down > 0 {
-            down -= 1;
-            let Some(node) = self.from_top(down) else {
+        while left > 0 && passed < MOST_KEPT {
+            left -= 1;
+            let Some(node) = self.from_top(left) else {
                 unreachable!()
             };
             if node.node == formatting {
-                return Ok(on_way);
+                return Ok(on_way.halfway(0));
             }
-            on_way = self.pass(on_way, block, passed, node, at)?;
+            on_way = self.pass(on_way, block, node, at)?;
             passed += 1;
         }
-        Ok(on_way)
+        Ok(on_way.halfway(left))
+    }
+
+    /// Removes the entries of the nodes on the way, from the one with `below` nodes below it. Returns how many nodes are below the
+    /// formatting element then.
+    fn remove_entries(&mut self, formatting: NodeId, below: usize) -> usize
+        requires { below ≤ length (stack self.old) }
+        ensures site { self.new ≡ with_items (without_entries (way_after formatting below self.old) self.old.items) self.old }
+        ensures end { result ≡ below + length (way_after formatting below self.old) }
+    {
+        for up in below..self.stack.len() {
+            let Some(node) = self.get(up) else {
+                return up;
+            };
+            if node.node == formatting {
+                return up;
+            }
+            self.remove_entry(node.node);
+        }
+        self.stack.len()
+    }
+
+    /// Removes the nodes on the way, from the one with `below` nodes below it, with their entries: from the stack in one pass.
+    fn leave_way(&mut self, formatting: NodeId, below: usize)
+        requires { below ≤ length (stack self.old) }
+        ensures { self.new ≡ way_left formatting below self.old }
+    {
+        let end = self.remove_entries(formatting, below);
+        self.leave_run(below, end - below);
+    }
+
+    /// Goes up from the furthest block to the formatting element.
+    fn climb(&mut self, formatting: NodeId, block: NodeId, at: u64) -> Result<Climbed, Refusal>
+        requires begun { 0 < block }
+        requires block_in { block < self.old.nodes.made }
+        requires different { AreDifferent self.old }
+        ensures done { ClimbGives result self.new (climbed numbers at block 0 (before (is_node formatting) (above block self.old.open_nodes.stack)) (record { last = block; bookmark = InPlace; site = self.old })) }
+        ensures last { IfOk result (λ c. (0 < c.last) × (c.last < self.new.nodes.made)) }
+    {
+        let half = self.climb_first(formatting, block, at)?;
+        let below = self.stack.len() - half.left;
+        self.leave_way(formatting, below);
+        Ok(Climbed {
+            last: half.last,
+            bookmark: half.bookmark,
+        })
     }
 
     /// The last node goes to the appropriate place in the common ancestor. A new element takes all children of the furthest block
@@ -238,7 +300,7 @@ impl Site {
         }
     }
 
-    /// Up to so many turns.
+    /// Up to `most` turns.
     fn take_turns(&mut self, most: usize, name: NameId, at: u64) -> Result<(), Refusal>
         requires { Kept numbers self.old }
         ensures done { Gives result self.new (turns numbers at most name self.old) }

@@ -14,7 +14,7 @@ use names::{ErrorCode, NameId, Refusal, Tag};
 
 impl Site {
     /// Closes the nearest element of a name: nodes with implied end tags are popped, but for its own name, then it is an error unless
-    /// it is the current node, and nodes are popped up to and with it.
+    /// it is the current node, and nodes are popped up to and including it.
     pub fn close(&mut self, name: NameId, at: u64) -> Result<(), Refusal>
         ensures done { Gives result self.new (Goes (closed numbers at (is_named nat_eq name) self.old)) }
         ensures kept { Kept numbers self.old → IfOk result (λ _. Kept numbers self.new) }

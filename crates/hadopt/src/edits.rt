@@ -1,6 +1,7 @@
 //! The edits of the tree and of the stack that the adoption agency is made of.
 
-ghost use Rattle.std.specs.Prelude.{◌≡◌, ◌<◌, ℕ, map, IfOk, OnOk, Some, true};
+ghost use Rattle.std.specs.Prelude.{◌≡◌, ◌<◌, ◌≤◌, ◌+◌, ℕ, length, map, IfOk, OnOk, Some, true};
+ghost use Rattle.std.specs.List.{remove_range};
 ghost use Rattle.hnodes.specs.Edits.{IsPlace, graft, move_all, place_node};
 ghost use Rattle.hnodes.specs.Forest.{element, IsOutside};
 ghost use Rattle.hnodes.specs.Rows.{attribute_of};
@@ -20,7 +21,7 @@ use names::{Attr, NameId, Refusal};
 use std::alloc::AllocError;
 
 impl Site {
-    /// A new element, loose.
+    /// Makes a new element, which has no parent yet.
     pub(crate) fn create(
         &mut self,
         name: NameId,
@@ -50,7 +51,7 @@ impl Site {
         self.tree.insert(child, place);
     }
 
-    /// The children of a node become the last children of another.
+    /// Moves the children of a node to the end of another node.
     pub(crate) fn move_children(&mut self, from: NodeId, to: NodeId)
         requires from_in { from < self.old.nodes.made }
         requires to_in { to < self.old.nodes.made }
@@ -61,7 +62,7 @@ impl Site {
         self.tree.move_children(from, to);
     }
 
-    /// Another node takes the place of an open one.
+    /// Puts another node in the place of an open one.
     pub(crate) fn replace(&mut self, node: NodeId, by: Open) -> Result<(), AllocError>
         requires begun { 0 < by.node }
         requires by_in { by.node < self.old.nodes.made }
@@ -70,7 +71,15 @@ impl Site {
         self.stack.replace(node, by)
     }
 
-    /// An open node leaves, and a new one comes right below another: so there is room for it.
+    /// Removes the `count` open nodes from the one with `up` nodes below it on upwards.
+    pub(crate) fn leave_run(&mut self, up: usize, count: usize)
+        requires { up + count ≤ length (stack self.old) }
+        ensures { self.new ≡ with_stack (remove_range (stack self.old) up (up + count)) self.old }
+    {
+        self.stack.remove_run(up, count);
+    }
+
+    /// Removes an open node and inserts a new one right below another, which is never too deep.
     pub(crate) fn exchange(
         &mut self,
         leaving: NodeId,

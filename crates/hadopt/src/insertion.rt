@@ -33,7 +33,7 @@ fn has_name(attrs: &[Attr], name: NameId) -> bool
 }
 
 impl Site {
-    /// A new element at a place, which becomes the current node. `at` is the place of the token, as in all calls that may be refused.
+    /// Inserts a new element at a place and makes it the current node. `at` is the byte offset of the token, here as in all calls.
     pub fn insert_element(
         &mut self,
         name: NameId,
@@ -52,7 +52,7 @@ impl Site {
         Ok(node)
     }
 
-    /// The same for a formatting element: it also gets an entry in the list of active formatting elements.
+    /// Inserts a formatting element, which also gets an entry in the list of active formatting elements.
     pub fn insert_formatting(
         &mut self,
         name: NameId,
@@ -72,7 +72,7 @@ impl Site {
         Ok(new)
     }
 
-    /// An entry for an element, with the attributes that it has.
+    /// Adds an entry for an element, with the attributes that it has.
     fn add_entry(&mut self, node: NodeId, name: NameId) -> Result<(), AllocError>
         requires { node < self.old.nodes.made }
         ensures { (attrs : List (Attribute ℕ)) → attributes_of node (trees self.old) ≡ Some attrs → OnOk result (self.new ≡ with_items (entry_pushed nat_eq (record { node = node; name = name; attrs = attrs }) self.old.items) self.old) }
@@ -83,7 +83,7 @@ impl Site {
         }
     }
 
-    /// A comment at a place.
+    /// Inserts a comment at a place.
     pub fn insert_comment(&mut self, text: String, place: Place, at: u64) -> Result<NodeId, Refusal>
         requires { IsPlace place self.old.nodes }
         ensures done { Gives result self.new (added at (comment (string_bytes text)) place self.old) }
@@ -94,7 +94,7 @@ impl Site {
         Ok(node)
     }
 
-    /// A doctype last in the document.
+    /// Appends a doctype to the document.
     pub fn insert_doctype(&mut self, texts: Doctype, at: u64) -> Result<NodeId, Refusal>
         ensures done { Gives result self.new (added at (doctype (string_bytes texts.name) (string_bytes texts.public_id) (string_bytes texts.system_id)) (LastIn 0) self.old) }
         ensures kept { Kept numbers self.old → IfOk result (λ _. Kept numbers self.new) }
@@ -105,7 +105,7 @@ impl Site {
         Ok(node)
     }
 
-    /// A character at a place: at the end of the text right before the place, or in a new text there.
+    /// Inserts a character at a place: at the end of the text right before the place, or in a new text there.
     pub fn put(&mut self, c: char, place: Place, at: u64) -> Result<(), Refusal>
         requires { IsPlace place self.old.nodes }
         ensures done { Gives result self.new (put at c place self.old) }
@@ -114,7 +114,7 @@ impl Site {
         self.tree.put_char(c, place, at)
     }
 
-    /// A run of characters at a place, one by one; `at` is the place of the first one. Adjacent texts join.
+    /// Inserts a run of characters at a place, one by one; `at` is the byte offset of the first. Adjacent texts join.
     pub fn put_text(&mut self, text: &str, place: Place, at: u64) -> Result<(), Refusal>
         requires { IsPlace place self.old.nodes }
         ensures done { Gives result self.new (put_each (placed at (chars text.now)) place self.old) }
@@ -125,7 +125,7 @@ impl Site {
         self.tree.put_text(text, place, at)
     }
 
-    /// An element gets those of the attributes that it lacks.
+    /// Adds to an element those of the attributes whose names it lacks.
     pub fn add_missing(&mut self, node: NodeId, attrs: Vec<Attr>) -> Result<(), Refusal>
         requires { node < self.old.nodes.made }
         ensures done { Gives result self.new (Goes (with_trees (with_missing numbers node (map attribute_of attrs.items) (trees self.old)) self.old)) }
@@ -150,7 +150,7 @@ impl Site {
         }
     }
 
-    /// A node that was made becomes the current one.
+    /// Makes an existing node the current one.
     pub fn push(&mut self, opened: Open, at: u64) -> Result<(), Refusal>
         requires begun { 0 < opened.node }
         requires made { opened.node < self.old.nodes.made }

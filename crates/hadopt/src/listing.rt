@@ -18,7 +18,7 @@ use names::{NameId, Refusal};
 use std::alloc::AllocError;
 
 impl Site {
-    /// One more marker.
+    /// Pushes a marker.
     pub fn marker(&mut self) -> Result<(), Refusal>
         ensures done { Gives result self.new (Goes (with_items (marker ∷ self.old.items) self.old)) }
         ensures kept { Kept numbers self.old → IfOk result (λ _. Kept numbers self.new) }
@@ -27,7 +27,7 @@ impl Site {
         Ok(())
     }
 
-    /// Removes the last marker and what comes after it, or all where there is none.
+    /// Removes the last marker and what comes after it, or everything if there is no marker.
     pub fn clear_to_marker(&mut self)
         ensures site { self.new ≡ with_items (cleared self.old.items) self.old }
         ensures kept { Kept numbers self.old → Kept numbers self.new }
@@ -35,7 +35,7 @@ impl Site {
         self.list.clear();
     }
 
-    /// Removes the entry of a node, where it has one.
+    /// Removes the entry of a node, if it has one.
     pub fn remove_entry(&mut self, node: NodeId)
         ensures site { self.new ≡ with_items (without_entry node self.old.items) self.old }
         ensures kept { Kept numbers self.old → Kept numbers self.new }
@@ -43,21 +43,21 @@ impl Site {
         self.list.remove(node);
     }
 
-    /// The entry of a node becomes that of another one.
+    /// Makes a node's entry that of another node.
     pub(crate) fn replace_entry(&mut self, from: NodeId, to: NodeId)
         ensures { self.new ≡ with_items (with_node from to self.old.items) self.old }
     {
         self.list.replace(from, to);
     }
 
-    /// The entry that has so many items after it becomes that of another node.
+    /// Makes the entry with `back` items after it that of another node.
     pub(crate) fn renew_entry(&mut self, back: usize, node: NodeId)
         ensures { self.new ≡ with_items (changed_at back (for_node node) self.old.items) self.old }
     {
         self.list.renew(back, node);
     }
 
-    /// The entry of a node becomes that of another one, and stands at the bookmark.
+    /// Makes a node's entry that of another node, and moves it to the bookmark.
     pub(crate) fn move_to_bookmark(&mut self, from: NodeId, to: NodeId, bookmark: Bookmark)
         requires entry { IsTrue (list_any (is_entry from) self.old.items) }
         requires bookmark { IsTrue (has_bookmark from bookmark self.old.items) }
@@ -90,7 +90,7 @@ impl Site {
         self.copy(self.list.entry_of(node))
     }
 
-    /// A copy of the entry that has so many items after it.
+    /// A copy of the entry with `back` items after it.
     pub(crate) fn entry_at(&self, back: usize) -> Result<Option<Entry>, AllocError>
         ensures { IfOk result (λ copy. option_map entry_is copy ≡ entry_at back self.now.items) }
     {

@@ -37,7 +37,7 @@ impl Site {
         self.place_in(self.stack.current())
     }
 
-    /// Last in the current node; in the document where no node is open.
+    /// The place at the end of the current node, or of the document if no node is open.
     pub fn place_in_current(&self) -> Place
         ensures place { result ≡ LastIn (node_of (current (stack self.now))) }
         ensures within { IsPlace result self.now.nodes }
@@ -46,7 +46,7 @@ impl Site {
         self.last_in(self.stack.current())
     }
 
-    /// Last in the first open node; in the document where no node is open.
+    /// The place at the end of the first open node, or of the document if no node is open.
     pub fn place_in_first(&self) -> Place
         ensures place { result ≡ LastIn (node_of (from_top 0 self.now)) }
         ensures within { IsPlace result self.now.nodes }
@@ -55,7 +55,7 @@ impl Site {
         self.last_in(self.stack.from_top(0))
     }
 
-    /// Last in the document.
+    /// The place at the end of the document.
     pub fn place_in_document(&self) -> Place
         ensures place { result ≡ LastIn 0 }
         ensures within { IsPlace result self.now.nodes }
@@ -64,7 +64,7 @@ impl Site {
         Place::LastIn(self.tree.document())
     }
 
-    /// The appropriate place with an open node as the target; in the document where there is none.
+    /// The appropriate place with an open node as the target; at the end of the document if there is none.
     pub(crate) fn place_in(&self, target: Option<Open>) -> Place
         requires { IfSome target (λ x. x.node < self.now.nodes.made) }
         ensures place { result ≡ place_in numbers (option_map open_of target) self.now }
@@ -88,7 +88,7 @@ impl Site {
         }
     }
 
-    /// Where a node goes that is foster parented.
+    /// The place of a node that is foster parented.
     fn foster_place(&self) -> Place
         ensures place { result ≡ foster_place numbers self.now }
         ensures within { IsPlace result self.now.nodes }
@@ -99,7 +99,7 @@ impl Site {
         }
     }
 
-    /// Right before a table; last in the open node above it where it has no parent.
+    /// The place right before a table, or at the end of the open node above it if it has no parent.
     fn beside(&self, table: Open) -> Place
         requires { table.node < self.now.nodes.made }
         ensures place { result ≡ beside self.now (open_of table) }
@@ -111,7 +111,7 @@ impl Site {
         self.last_in(self.stack.above(table.node))
     }
 
-    /// Last in an open node, or in the document where there is none.
+    /// The place at the end of an open node, or of the document if there is none.
     fn last_in(&self, target: Option<Open>) -> Place
         requires { IfSome target (λ x. x.node < self.now.nodes.made) }
         ensures place { result ≡ LastIn (node_of (option_map open_of target)) }

@@ -20,13 +20,13 @@ use names::{NameId, Tag};
 /// Which open nodes are popped, up to the first that is not one of them.
 #[derive(Clone, Copy)]
 pub enum Passing {
-    /// Those with implied end tags, except for a name.
+    /// Those with implied end tags, except those with a name.
     Implied(Option<NameId>),
-    /// Those that are no table context.
+    /// All but table and html: clearing back to a table context.
     Table,
-    /// Those that are no table body context.
+    /// All but tbody, tfoot, thead and html: clearing back to a table body context.
     Body,
-    /// Those that are no table row context.
+    /// All but tr and html: clearing back to a table row context.
     Row,
 }
 
@@ -68,7 +68,7 @@ impl Site {
         pop_past(&mut self.stack, passing);
     }
 
-    /// Pops the current node, where there is one.
+    /// Pops the current node, if there is one.
     pub fn pop(&mut self)
         ensures site { self.new ≡ with_stack (drop 1 (stack self.old)) self.old }
         ensures kept { Kept numbers self.old → Kept numbers self.new }
@@ -76,7 +76,7 @@ impl Site {
         self.stack.pop();
     }
 
-    /// Pops nodes up to and with the nearest of a name; all where there is none.
+    /// Pops nodes up to and including the nearest one with a name; all of them if there is none.
     pub fn pop_to(&mut self, name: NameId)
         ensures site { self.new ≡ popped_to (is_named nat_eq name) self.old }
         ensures kept { Kept numbers self.old → Kept numbers self.new }
@@ -84,7 +84,7 @@ impl Site {
         self.stack.pop_to(name);
     }
 
-    /// Pops nodes up to and with the nearest of a group; all where there is none.
+    /// Pops nodes up to and including the nearest one of a group; all of them if there is none.
     pub fn pop_to_group(&mut self, group: Group)
         ensures site { self.new ≡ popped_to (is_of tag_of group) self.old }
         ensures kept { Kept numbers self.old → Kept numbers self.new }
@@ -92,14 +92,14 @@ impl Site {
         self.stack.pop_to_group(group);
     }
 
-    /// Pops nodes up to and with a node; all where it is not open.
+    /// Pops nodes up to and including a node; all of them if it is not open.
     pub(crate) fn pop_to_node(&mut self, node: NodeId)
         ensures { self.new ≡ popped_to (is_node node) self.old }
     {
         self.stack.pop_to_node(node);
     }
 
-    /// Takes a node out of the stack, where it is open.
+    /// Removes a node from the stack, if it is open.
     pub fn leave(&mut self, node: NodeId)
         ensures site { self.new ≡ with_stack (without (is_node node) (stack self.old)) self.old }
         ensures kept { Kept numbers self.old → Kept numbers self.new }

@@ -39,7 +39,7 @@ impl Site {
         self.stack.current()
     }
 
-    /// The open node with so many above it: 0 is html.
+    /// The open node with `down` nodes above it: 0 is html.
     pub fn from_top(&self, down: usize) -> Option<Open>
         ensures node { option_map open_of result ≡ from_top down self.now }
         ensures made { IfSome result (λ x. (0 < x.node) × (x.node < self.now.nodes.made)) }
@@ -47,7 +47,7 @@ impl Site {
         self.stack.from_top(down)
     }
 
-    /// The open node with so many below it: 0 is the current one.
+    /// The open node with `up` nodes below it: 0 is the current one.
     pub fn get(&self, up: usize) -> Option<Open>
         ensures node { option_map open_of result ≡ slice_get (stack self.now) up }
         ensures made { IfSome result (λ x. (0 < x.node) × (x.node < self.now.nodes.made)) }

@@ -68,7 +68,7 @@ impl Site {
         self.foster = on;
     }
 
-    /// One more parse error. `at` is the place of the token.
+    /// Adds a parse error. `at` is the byte offset of the token.
     pub fn error(&mut self, code: ErrorCode, at: u64) -> Result<(), Refusal>
         ensures done { Gives result self.new (Goes (with_error code at self.old)) }
         ensures kept { Kept numbers self.old → IfOk result (λ _. Kept numbers self.new) }
@@ -77,7 +77,7 @@ impl Site {
         Ok(())
     }
 
-    /// One more parse error where a test fails.
+    /// Adds a parse error unless a test passes.
     pub(crate) fn error_unless(
         &mut self,
         passes: bool,

@@ -1,7 +1,8 @@
 use Rattle.hadopt.proofs.Lists.{each-among, among-without}
 use Rattle.std.proofs.Common.{◌≡◌, ap, arith, ℕ, length, ◌+◌, ◌∙◌, refl}
 use Rattle.hopen.specs.Nearest.{without, put_before}
-use Rattle.hadopt.proofs.Refusals.{gives-room, ok-then, without-open}
+use Rattle.hadopt.proofs.Refusals.{gives-room, ok-then}
+use Rattle.hopen.proofs.Nearest.{length-without}
 use Rattle.hadopt.specs.Site.{SiteOf}
 use Rattle.hopen.specs.Stack.{is_node, is_open, OpenNodes}
 use Rattle.hopen.specs.Opens.{open_of}
@@ -16,7 +17,7 @@ invariant_of-self c =
 
 pub returns : goal.returns
 returns c =
-    let room : length (without (is_node c.args.leaving) c.self.inside.stack.stack) + 1 ≡ length c.self.inside.stack.stack = without-open c.args.leaving c.self.inside.stack.stack (ap (λ (s : SiteOf ℕ). is_open c.args.leaving s.open_nodes.stack) c.self.view_is ∙ c.requires.leaving) in
+    let room : length (without (is_node c.args.leaving) c.self.inside.stack.stack) + 1 ≡ length c.self.inside.stack.stack = length-without (is_node c.args.leaving) c.self.inside.stack.stack (ap (λ (s : SiteOf ℕ). is_open c.args.leaving s.open_nodes.stack) c.self.view_is ∙ c.requires.leaving) in
     gives-room c.insert_below.result c.args.at _ _
     (ok-then c.insert_below.result (λ h. let after = h ∙ ap (λ (n : OpenNodes ℕ). record n { stack = put_before (is_node c.args.above) (open_of c.args.new) n.stack }) c.remove.ensures in rw (after, ← c.self.view_is) refl) c.insert_below.ensures.ok)
     c.insert_below.ensures.refused

@@ -1,0 +1,169 @@
+-- The way up of the adoption agency in two parts.
+use Rattle.std.proofs.Common.{◌≡◌, ◌≢◌, ℕ, zero, suc, ◌+◌, ◌-◌, ◌<◌, ◌≤◌, Bool, true, false, cond, leb, eqb, List, [], ◌∷◌, ◌++◌, Option, Some, None, refl, sym, ◌∙◌, ap, subst, arith, ◌⊎◌, inl, inr, length, take, drop, slice_get}
+use Rattle.std.specs.List.{remove_range}
+use Rattle.std.specs.Option.{option_map_or}
+use Rattle.std.proofs.lemmas.Bool.{eq-eqb, ne_eqb, le-leb, lt-leb}
+use Rattle.std.proofs.lemmas.List.{take_at, drop_at, drop-drop, append-nil, length-append, length-drop}
+use Rattle.hnodes.specs.Forest.{element}
+use Rattle.hnodes.specs.Edits.{make}
+use Rattle.hopen.specs.Nearest.{before, without, changed}
+use Rattle.hopen.specs.Stack.{OpenNode, is_node}
+use Rattle.hopen.specs.Formatting.{EntryOf, Item, entry_of, without_entry}
+use Rattle.names.specs.declared.refusal.Refusal.TheVariants.{TooManyNodes}
+use Rattle.hadopt.specs.Adopts.{Climb, entries_for, left, replaced, climbed_one, climbed}
+use Rattle.hadopt.specs.Climbs.{AreDifferent, without_entries, way_after, way_left, IsHalfway}
+use Rattle.hadopt.specs.Inserts.{made}
+use Rattle.hadopt.specs.Kept.{Each, Pairs}
+use Rattle.hadopt.specs.Naming.{numbers}
+use Rattle.hadopt.specs.Site.{Outcome, Goes, Refused, and_then, SiteOf, stack, with_stack, with_items}
+use Rattle.hadopt.proofs.Bound.{entry_of-without}
+use Rattle.hadopt.proofs.Climbing.{OnGoes}
+use Rattle.hadopt.proofs.Lists.{Among, skip, keep, among-all, each-map, each-among, pairs-among, among-without, each-change, pairs-change}
+use Rattle.hadopt.proofs.Ways.{OnWay}
+
+-- what a node with an entry, among the first ones, comes to
+pub first-some : (at block passed : ℕ) (x : OpenNode ℕ) (e : EntryOf ℕ) (c : Climb ℕ) → passed < 3 → entry_of x.node c.site.items ≡ Some e
+    → climbed_one numbers at block passed x c ≡ and_then (made at (element e.name e.attrs) c.site) (λ t. Goes (replaced block c.site.nodes.made x e (record c { site = t })))
+first-some at block passed x e c few found = rw (lt-leb 3 passed few, found) refl
+
+-- open nodes stay different
+module _ (at block passed : ℕ) (x : OpenNode ℕ) (c : Climb ℕ) (h : AreDifferent c.site) where
+  other : (y : OpenNode ℕ) → y.node < c.site.nodes.made → y.node ≢ c.site.nodes.made
+  other y low e = omega arith
+
+  pub one-different : OnGoes (λ (d : Climb ℕ). AreDifferent d.site) (climbed_one numbers at block passed x c)
+  one-different = go (entry_of x.node (entries_for passed x.node c.site.items))
+    where
+      with : (e : EntryOf ℕ) (v : Bool)
+          → OnGoes (λ (d : Climb ℕ). AreDifferent d.site) (and_then (cond v (Refused (TooManyNodes at)) (Goes (record (with_items (entries_for passed x.node c.site.items) c.site) { nodes = make (element e.name e.attrs) c.site.nodes }))) (λ t. Goes (replaced block c.site.nodes.made x e (record c { site = t }))))
+      with e true = tt
+      with e false =
+          let new : OpenNode ℕ = record { node = c.site.nodes.made; name = e.name } in
+          record {
+            made = each-change _ (is_node x.node) new (stack c.site) (omega arith) (each-map _ _ (λ y p. omega (arith, p)) (stack c.site) h.made);
+            apart = pairs-change _ (is_node x.node) new (stack c.site)
+                (each-map _ _ (λ y p. ne_eqb y.node c.site.nodes.made (other y p)) (stack c.site) h.made)
+                (each-map _ _ (λ y p. ne_eqb c.site.nodes.made y.node (λ z. other y p (sym z))) (stack c.site) h.made)
+                h.apart;
+          }
+
+      go : (o : Option (EntryOf ℕ))
+          → OnGoes (λ (d : Climb ℕ). AreDifferent d.site) (option_map_or (λ e. and_then (made at (element e.name e.attrs) (with_items (entries_for passed x.node c.site.items) c.site)) (λ t. Goes (replaced block c.site.nodes.made x e (record c { site = t })))) o (Goes (left x (record c { site = with_items (entries_for passed x.node c.site.items) c.site }))))
+      go None = record {
+        made = each-among _ (without (is_node x.node) (stack c.site)) (stack c.site) (among-without (is_node x.node) (stack c.site)) h.made;
+        apart = pairs-among _ (without (is_node x.node) (stack c.site)) (stack c.site) (among-without (is_node x.node) (stack c.site)) h.apart;
+      }
+      go (Some e) = with e (leb c.site.nodes.limit c.site.nodes.made)
+
+-- without each of these nodes
+abbrev without_each : List (OpenNode ℕ) → List (OpenNode ℕ) → List (OpenNode ℕ)
+without_each [] open_now = open_now
+without_each (x ∷ way) open_now = without_each way (without (is_node x.node) open_now)
+
+-- what the nodes on the way come to that keep no entry
+all-left : (at block passed : ℕ) (way : List (OpenNode ℕ)) (c : Climb ℕ) → 3 ≤ passed
+    → climbed numbers at block passed way c ≡ Goes (record c { site = with_stack (without_each way (stack c.site)) (with_items (without_entries way c.site.items) c.site) })
+all-left at block passed [] c many = refl
+all-left at block passed (x ∷ way) c many =
+    let one : climbed_one numbers at block passed x c ≡ Goes (left x (record c { site = with_items (without_entry x.node c.site.items) c.site })) = rw (le-leb 3 passed many, entry_of-without x.node c.site.items) refl in
+    rw (one) (all-left at block (suc passed) way (left x (record c { site = with_items (without_entry x.node c.site.items) c.site })) (omega arith))
+
+abbrev Apart : OpenNode ℕ → OpenNode ℕ → Type 0
+Apart x y = eqb x.node y.node ≡ false
+
+each-at : (P : OpenNode ℕ → Type 0) (front : List (OpenNode ℕ)) (x : OpenNode ℕ) (tail : List (OpenNode ℕ)) → Each P (front ++ (x ∷ tail)) → P x
+each-at P [] x tail e = e.0
+each-at P (y ∷ front) x tail e = each-at P front x tail e.1
+
+-- a node leaves where it stands
+without-there : (front : List (OpenNode ℕ)) (x : OpenNode ℕ) (tail : List (OpenNode ℕ)) → Pairs Apart (front ++ (x ∷ tail)) → without (is_node x.node) (front ++ (x ∷ tail)) ≡ front ++ tail
+without-there [] x tail p = rw (eq-eqb x.node x.node refl) refl
+without-there (y ∷ front) x tail p = rw (each-at (Apart y) front x tail p.0) (ap (λ xs. y ∷ xs) (without-there front x tail p.1))
+
+among-middle : (front : List (OpenNode ℕ)) (x : OpenNode ℕ) (tail : List (OpenNode ℕ)) → Among (front ++ tail) (front ++ (x ∷ tail))
+among-middle [] x tail = skip (among-all tail)
+among-middle (y ∷ front) x tail = keep (among-middle front x tail)
+
+without-way : (front way tail : List (OpenNode ℕ)) → Pairs Apart (front ++ (way ++ tail)) → without_each way (front ++ (way ++ tail)) ≡ front ++ tail
+without-way front [] tail p = refl
+without-way front (x ∷ way) tail p =
+    rw (without-there front x (way ++ tail) p) (without-way front way tail (pairs-among Apart (front ++ (way ++ tail)) (front ++ (x ∷ (way ++ tail))) (among-middle front x (way ++ tail)) p))
+
+before-split : (test : OpenNode ℕ → Bool) (xs : List (OpenNode ℕ)) → before test xs ++ drop (length (before test xs)) xs ≡ xs
+before-split test [] = refl
+before-split test (x ∷ xs) = go (test x) (before-split test xs)
+  where
+    go : (v : Bool) → before test xs ++ drop (length (before test xs)) xs ≡ xs → cond v [] (x ∷ before test xs) ++ drop (length (cond v [] (x ∷ before test xs))) (x ∷ xs) ≡ x ∷ xs
+    go true e = refl
+    go false e = ap (λ l. x ∷ l) e
+
+-- the nodes that are left to come leave in one move
+pub half-goes : (formatting block at count : ℕ) (c : Climb ℕ) (o : Outcome (Climb ℕ)) → IsHalfway formatting block at c count o → o ≡ Goes (record c { site = way_left formatting (length (stack c.site) - count) c.site })
+half-goes formatting block at count c o h = h.rest ∙ goes h.no_more ∙ ap (λ l. Goes (record c { site = with_stack l (with_items (without_entries way c.site.items) c.site) })) stays ∙ ap gone (sym way-is)
+  where
+    way : List (OpenNode ℕ)
+    way = before (is_node formatting) h.todo
+
+    below : ℕ
+    below = length (stack c.site) - count
+
+    gone : List (OpenNode ℕ) → Outcome (Climb ℕ)
+    gone v = Goes (record c { site = with_stack (remove_range (stack c.site) below (below + length v)) (with_items (without_entries v c.site.items) c.site) })
+
+    below-is : length h.gone_by ≡ below
+    below-is = omega (arith, h.many, ap length h.on_stack, length-append h.gone_by h.todo)
+
+    dropped : drop below (stack c.site) ≡ h.todo
+    dropped = ap (drop below) h.on_stack ∙ drop_at h.gone_by h.todo below below-is
+
+    way-is : way_after formatting below c.site ≡ way
+    way-is = ap (before (is_node formatting)) dropped
+
+    goes : (count ≡ 0) ⊎ (3 ≤ h.passed) → climbed numbers at block h.passed way c ≡ Goes (record c { site = with_stack (without_each way (stack c.site)) (with_items (without_entries way c.site.items) c.site) })
+    goes (inr many) = all-left at block h.passed way c many
+    goes (inl none) = ends h.todo h.many
+      where
+        ends : (todo : List (OpenNode ℕ)) → length todo ≡ count → climbed numbers at block h.passed (before (is_node formatting) todo) c ≡ Goes (record c { site = with_stack (without_each (before (is_node formatting) todo) (stack c.site)) (with_items (without_entries (before (is_node formatting) todo) c.site.items) c.site) })
+        ends [] many = refl
+        ends (y ∷ todo) many = absurd (omega (arith, many, none))
+
+    tail : List (OpenNode ℕ)
+    tail = drop (length way) h.todo
+
+    open-is : stack c.site ≡ h.gone_by ++ (way ++ tail)
+    open-is = h.on_stack ∙ ap (λ l. h.gone_by ++ l) (sym (before-split (is_node formatting) h.todo))
+
+    stays : without_each way (stack c.site) ≡ remove_range (stack c.site) below (below + length way)
+    stays =
+        ap (without_each way) open-is
+        ∙ without-way h.gone_by way tail (subst (Pairs Apart) open-is h.different.apart)
+        ∙ ap (λ l. l ++ tail) (sym (ap (take below) h.on_stack ∙ take_at h.gone_by h.todo below below-is))
+        ∙ ap (λ l. take below (stack c.site) ++ l) (sym (sym (drop-drop (length way) below (stack c.site)) ∙ ap (drop (length way)) dropped))
+
+-- where the first part ends
+pub half-stops : (formatting block at : ℕ) (c : Climb ℕ) (o : Outcome (Climb ℕ)) → AreDifferent c.site → o ≡ Goes c → IsHalfway formatting block at c 0 o
+half-stops formatting block at c o d is = record { passed = 0; gone_by = stack c.site; todo = []; many = refl; on_stack = sym (append-nil (stack c.site)); no_more = inl refl; rest = is; different = d }
+
+pub half-ends : (formatting block at passed count : ℕ) (c : Climb ℕ) (o : Outcome (Climb ℕ)) → AreDifferent c.site → OnWay formatting block at passed count c o → (count ≡ 0) ⊎ (3 ≤ passed) → IsHalfway formatting block at c count o
+half-ends formatting block at passed count c o d w no_more = record { passed = passed; gone_by = w.gone_by; todo = w.todo; many = w.many; on_stack = w.on_stack; no_more = no_more; rest = w.rest; different = d }
+
+-- no more are left to come than are open
+pub half-within : (formatting block at count : ℕ) (c : Climb ℕ) (o : Outcome (Climb ℕ)) → IsHalfway formatting block at c count o → count ≤ length (stack c.site)
+half-within formatting block at count c o h = omega (arith, h.many, ap length h.on_stack, length-append h.gone_by h.todo)
+
+-- going up the nodes on the way
+pub before-further : (test : OpenNode ℕ → Bool) (stack : List (OpenNode ℕ)) (i : ℕ) (x : OpenNode ℕ) → slice_get stack i ≡ Some x → before test (drop i stack) ≡ cond (test x) [] (x ∷ before test (drop (i + 1) stack))
+before-further test [] i x is = cc
+before-further test (y ∷ up) zero x is = let same : y ≡ x = cc in rw (same) refl
+before-further test (y ∷ up) (suc i) x is = let e : suc i + 1 ≡ suc (i + 1) = omega arith in rw (e) (before-further test up i x is)
+
+length-before : (test : OpenNode ℕ → Bool) (xs : List (OpenNode ℕ)) → length (before test xs) ≤ length xs
+length-before test [] = omega arith
+length-before test (x ∷ xs) = go (test x) (length-before test xs)
+  where
+    go : (v : Bool) → length (before test xs) ≤ length xs → length (cond v [] (x ∷ before test xs)) ≤ suc (length xs)
+    go true e = omega arith
+    go false e = omega arith
+
+pub way-fits : (formatting below : ℕ) (s : SiteOf ℕ) → below ≤ length (stack s) → below + length (way_after formatting below s) ≤ length (stack s)
+way-fits formatting below s within = omega (arith, length-before (is_node formatting) (drop below (stack s)), length-drop below (stack s))

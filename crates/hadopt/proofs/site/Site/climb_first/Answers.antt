@@ -1,0 +1,67 @@
+use Rattle.std.proofs.Common.{◌≡◌, ◌-◌, ◌∙◌, sym, ap, arith, subst, ℕ, Some, None, reverse, slice_get, length}
+use Rattle.std.specs.Option.{option_map}
+use Rattle.hopen.specs.Opens.{open_of}
+use Rattle.hopen.specs.declared.bookmark.Bookmark.TheVariants.{InPlace}
+use Rattle.hopen.specs.Nearest.{before}
+use Rattle.hopen.specs.Stack.{above, is_node}
+use Rattle.hadopt.specs.Adopts.{Climb, climbed}
+use Rattle.hadopt.specs.Climbs.{AreDifferent, IsHalfway, half_of}
+use Rattle.hadopt.specs.declared.adopting.Halfway.{Halfway}
+use Rattle.hadopt.specs.Naming.{numbers}
+use Rattle.hadopt.specs.Site.{SiteOf, Outcome}
+use Rattle.hadopt.specs.Meets.{climb_of}
+use Rattle.hadopt.proofs.Climbing.{OnGoes}
+use Rattle.hadopt.proofs.Halves.{one-different, half-stops}
+use Rattle.hadopt.proofs.Refusals.{either-refused, err-half}
+use Rattle.hadopt.proofs.Ways.{way-begins, way-next, way-at, way-stops, way-step, way-refused}
+use Rattle.hadopt.proofs.site.Site.climb_first.Goals as goal
+
+pub loop-left-init : goal.loop-left-init
+loop-left-init c =
+    let start : Climb ℕ = record { last = c.args.block; bookmark = InPlace; site = c.args.self.now } in
+    record {
+      begun = c.requires.begun;
+      last_in = c.requires.block_in;
+      few = omega arith;
+      on = rw (c.depth-left.ensures ∙ ap (λ (s : SiteOf ℕ). length (above c.args.block s.open_nodes.stack)) c.self.view_is) (way-begins c.args.formatting c.args.block c.args.at start);
+      different = c.requires.different;
+    }
+
+pub unreachable-requires : goal.unreachable-requires
+unreachable-requires c =
+    let l = c.loop-left in
+    let n = way-next c.args.formatting c.args.block c.args.at l.passed l.left (climb_of l.on_way l.self) _ c.loop-left-test.true l.invariant.on in
+    let e : None ≡ Some n.0 = ap (option_map open_of) (sym c.in_default.is) ∙ c.from_top.ensures.node ∙ n.1 in
+    cc
+
+pub returns-then-eq-clause-done : goal.returns-then-eq-clause-done
+returns-then-eq-clause-done c =
+    let l = c.loop-left in
+    let is : slice_get (reverse l.self.open_nodes.stack) (l.left - 1) ≡ Some (open_of c.in-Some.node) = sym c.from_top.ensures.node ∙ ap (option_map open_of) c.in-Some.is in
+    let w = way-at c.args.formatting c.args.block c.args.at l.passed l.left (climb_of l.on_way l.self) _ (open_of c.in-Some.node) c.loop-left-test.true l.invariant.on is in
+    let stops = way-stops c.args.formatting c.args.block c.args.at l.passed (l.left - 1) (climb_of l.on_way l.self) _ (open_of c.in-Some.node) w (sym c.eq.ensures ∙ c.if-eq.true) in
+    let whole : Outcome (Climb ℕ) = climbed numbers c.args.at c.args.block 0 (before (is_node c.args.formatting) (above c.args.block c.args.self.now.open_nodes.stack)) (record { last = c.args.block; bookmark = InPlace; site = c.args.self.now }) in
+    subst (λ (r : Halfway). IsHalfway c.args.formatting c.args.block c.args.at (half_of r l.self) r.left whole) (sym c.halfway.ensures)
+    (half-stops c.args.formatting c.args.block c.args.at (climb_of l.on_way l.self) whole l.invariant.different stops)
+
+pub returns-in_err-on_way-clause-done : goal.returns-in_err-on_way-clause-done
+returns-in_err-on_way-clause-done c =
+    let l = c.loop-left in
+    let is : slice_get (reverse l.self.open_nodes.stack) (l.left - 1) ≡ Some (open_of c.in-Some.node) = sym c.from_top.ensures.node ∙ ap (option_map open_of) c.in-Some.is in
+    let w = way-at c.args.formatting c.args.block c.args.at l.passed l.left (climb_of l.on_way l.self) _ (open_of c.in-Some.node) c.loop-left-test.true l.invariant.on is in
+    err-half c.args.formatting c.args.block c.args.at c.from_residual.result c.in_err-on_way.field-0.0 c.pass.new.self _ c.from_residual.ensures.1
+    (either-refused c.in_err-on_way.field-0.0 _ _ (way-refused c.args.formatting c.args.block c.args.at l.passed (l.left - 1) (climb_of l.on_way l.self) _ (open_of c.in-Some.node) c.in_err-on_way.field-0.0 w (sym c.eq.ensures ∙ c.if-eq.false)) (c.in_err-on_way.ensures.done l.passed c.if-passed-lt-MOST_KEPT.true))
+
+pub loop-left-preserved : goal.loop-left-preserved
+loop-left-preserved c =
+    let l = c.loop-left in
+    let is : slice_get (reverse l.self.open_nodes.stack) (l.left - 1) ≡ Some (open_of c.in-Some.node) = sym c.from_top.ensures.node ∙ ap (option_map open_of) c.in-Some.is in
+    let w = way-at c.args.formatting c.args.block c.args.at l.passed l.left (climb_of l.on_way l.self) _ (open_of c.in-Some.node) c.loop-left-test.true l.invariant.on is in
+    let goes = c.in_ok-on_way.ensures.done l.passed c.if-passed-lt-MOST_KEPT.true in
+    record {
+      begun = c.in_ok-on_way.ensures.last.0;
+      last_in = c.in_ok-on_way.ensures.last.1;
+      few = omega (arith, c.if-passed-lt-MOST_KEPT.true);
+      on = way-step c.args.formatting c.args.block c.args.at l.passed (l.left - 1) (climb_of l.on_way l.self) (climb_of c.in_ok-on_way.on_way c.pass.new.self) _ (open_of c.in-Some.node) w (sym c.eq.ensures ∙ c.if-eq.false) goes;
+      different = subst (OnGoes (λ (d : Climb ℕ). AreDifferent d.site)) goes (one-different c.args.at c.args.block l.passed (open_of c.in-Some.node) (climb_of l.on_way l.self) l.invariant.different);
+    }
