@@ -154,7 +154,7 @@ lates-after_after_body (End family.Html) = refl
 lates-after_after_body (End _) = refl
 lates-after_after_body _ = refl
 
-leaves-true : (p : Do) → leaves true p ≡ true
+pub leaves-true : (p : Do) → leaves true p ≡ true
 leaves-true (p ▸ q) = rw (leaves-true p) (leaves-true q)
 leaves-true save_mode = refl
 leaves-true p = refl

@@ -18,6 +18,9 @@ pub mod Uses
 pub mod Spelled
 pub mod Stand
 pub mod Beginning
+pub mod Reached
 pub mod Erased
 pub mod Trial
 pub mod Rows
+pub mod RawFollows
+pub mod OfTable

@@ -1,8 +1,10 @@
 //! The "initial" insertion mode (HTML Standard, 13.2.6.4.1).
 
-ghost use Rattle.std.specs.Prelude.{◌≡◌, ℕ, [], string_bytes, unwrap_or};
+ghost use Rattle.std.specs.Prelude.{◌≡◌, ℕ, [], string_bytes, option_map, unwrap_or};
+ghost use Rattle.std.specs.Option.{option_map_or};
 ghost use Rattle.hnodes.specs.Forest as forest;
 ghost use Rattle.hmarkup.specs.DoctypeWalk.{text_of};
+ghost use Rattle.hmarkup.specs.Quirks.{list_matches};
 ghost use Rattle.hadopt.specs.Naming.{numbers};
 ghost use Rattle.hmodes.specs.Doctypes.{is_text, conforms, forces_quirks, doctype_node};
 ghost use Rattle.hmodes.specs.Flows.{FlowGives, StateGives};
@@ -105,6 +107,16 @@ impl<'q> Rules<'q> {
         }
     }
 
+    /// Whether the quirks list has these identifiers.
+    fn is_listed(&self, public: Option<&str>, system: Option<&str>) -> bool
+        ensures { result ≡ list_matches (option_map_or (λ list. list.now) self.now.quirks_list []) (option_map (λ text. text.now) public.entry) (option_map (λ text. text.now) system.entry) }
+    {
+        match self.quirks_list {
+            Some(list) => list.matches(public, system),
+            None => false,
+        }
+    }
+
     /// Whether a doctype is one for quirks mode.
     fn forces_quirks(&self, token: &Token) -> bool
         ensures { result ≡ forces_quirks (state_of self.now) (token_of token.now) }
@@ -119,9 +131,7 @@ impl<'q> Rules<'q> {
             } => {
                 *forced
                     || !is_text("html", name)
-                    || self
-                        .quirks_list
-                        .matches(public_id.as_deref(), system_id.as_deref())
+                    || self.is_listed(public_id.as_deref(), system_id.as_deref())
             }
             _ => false,
         }

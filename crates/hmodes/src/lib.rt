@@ -5,7 +5,7 @@ mod after_body;
 mod asks;
 mod before_head;
 mod blocks;
-mod control;
+pub mod control;
 pub mod family;
 mod in_body;
 mod in_caption;
@@ -18,16 +18,20 @@ pub mod kind;
 pub mod laws;
 pub mod mode;
 mod phrases;
-mod reset;
-mod rule;
-mod rules;
-mod step;
+pub mod reset;
+pub mod rule;
+pub mod rules;
+pub mod step;
 mod table_body;
 mod table_text;
 mod token;
 mod words;
 
+pub use control::Control;
 pub use family::Family;
 pub use kind::Kind;
-pub use laws::{adopts_once, each_table_agrees, open_stands, steps_know_no_names};
+pub use laws::{
+    adopts_once, each_table_agrees, names_are_of_the_table, one_step, open_stands, raw_follows, steps_know_no_names,
+};
 pub use mode::Mode;
+pub use rules::{Flow, Rules};

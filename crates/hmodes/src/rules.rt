@@ -13,19 +13,21 @@ use std::alloc::Global;
 
 /// What comes of a rule: it ends, or the token goes again.
 #[derive(Clone, Copy, Debug, PartialEq, Eq)]
-pub(crate) enum Flow {
+pub enum Flow {
     Done,
     Again,
 }
 
 /// The state of the tree construction.
 #[derive(Drop)]
-pub(crate) struct Rules<'q> {
-    pub(crate) site: Site,
-    pub(crate) control: Control,
-    pub(crate) context: Option<NameId>,
-    pub(crate) quirks_list: &'q Quirks,
-    pub(crate) alloc: Global,
+pub struct Rules<'q> {
+    pub site: Site,
+    pub control: Control,
+    /// A fragment's context.
+    pub context: Option<NameId>,
+    /// The quirks list; a fragment has none.
+    pub quirks_list: Option<&'q Quirks>,
+    pub alloc: Global,
 }
 
 impl Mode {

@@ -1,8 +1,9 @@
 //! How a token begins and ends (HTML Standard, 13.2.6).
 
-ghost use Rattle.std.specs.Prelude.{◌≡◌};
+ghost use Rattle.std.specs.Prelude.{◌≡◌, ℕ};
 ghost use Rattle.hadopt.specs.Gives.{Gives};
 ghost use Rattle.hadopt.specs.Site.{Goes};
+ghost use Rattle.hmodes.specs.State.{Token as TokenOf, is_self_closing};
 ghost use Rattle.hmodes.specs.Step.{is_dropped, begun, finished};
 ghost use Rattle.hmodes.specs.States.{state_of};
 ghost use Rattle.hmodes.specs.Tokens.{token_of};
@@ -13,7 +14,7 @@ use names::{ErrorCode, Refusal};
 
 impl<'q> Rules<'q> {
     /// Whether a token is the LF that is to be dropped.
-    pub(crate) fn is_dropped(&self, token: &Token) -> bool
+    pub fn is_dropped(&self, token: &Token) -> bool
         ensures { result ≡ is_dropped (token_of token.now) (state_of self.now) }
     {
         match token {
@@ -23,7 +24,7 @@ impl<'q> Rules<'q> {
     }
 
     /// A token begins.
-    pub(crate) fn begin(&mut self)
+    pub fn begin(&mut self)
         ensures { state_of self.new ≡ begun (state_of self.old) }
     {
         self.control.drop_lf = false;
@@ -31,15 +32,20 @@ impl<'q> Rules<'q> {
     }
 
     /// A token ends: a self-closing start tag that no rule acknowledged is a parse error.
-    pub(crate) fn end(&mut self, token: &Token, at: u64) -> Result<(), Refusal>
-        ensures { Gives result (state_of self.new) (Goes (finished at (token_of token.now) (state_of self.old))) }
+    pub fn end(&mut self, closing: bool, at: u64) -> Result<(), Refusal>
+        ensures { (token : TokenOf ℕ) → is_self_closing token ≡ closing → Gives result (state_of self.new) (Goes (finished at token (state_of self.old))) }
     {
-        if let Token::Start { closing: true, .. } = token {
-            if !self.control.acknowledged {
-                let code = ErrorCode::NonVoidHtmlElementStartTagWithTrailingSolidus;
-                return self.site.error(code, at);
-            }
+        if closing && !self.control.acknowledged {
+            let code = ErrorCode::NonVoidHtmlElementStartTagWithTrailingSolidus;
+            self.site.error(code, at)?;
         }
         Ok(())
     }
+}
+
+/// Whether a token is a self-closing start tag.
+pub fn is_self_closing(token: &Token) -> bool
+    ensures { result ≡ is_self_closing (token_of token.now) }
+{
+    matches!(token, Token::Start { closing: true, .. })
 }

@@ -1,0 +1,123 @@
+-- What holds of the state between two rules.
+use Rattle.std.proofs.Common.{◌≡◌, ℕ, ◌<◌, Bool, true, false, not, cond, List, Option, Some, None, refl, sym, ◌∙◌, subst}
+use Rattle.std.specs.Prelude.{◌&&◌, IfSome}
+use Rattle.hmarkup.specs.Quirks.{QuirkLine}
+use Rattle.names.specs.declared.error.ErrorCode.TheVariants.{NonVoidHtmlElementStartTagWithTrailingSolidus}
+use Rattle.names.specs.declared.tag.Tag.TheVariants as tag
+use Rattle.hnodes.proofs.Counted.{deep-there}
+use Rattle.hadopt.specs.Naming.{Naming, numbers, texts}
+use Rattle.hadopt.specs.Site.{Outcome, Goes, stack, trees, with_error}
+use Rattle.hadopt.specs.Site as site
+use Rattle.hadopt.specs.Kept.{TellsTables, Kept}
+use Rattle.hadopt.proofs.Climbing.{OnGoes}
+use Rattle.hadopt.proofs.Keeping.{from-well, numbers-tell, texts-tell}
+use Rattle.hadopt.proofs.Settling.{Well}
+use Rattle.hmodes.specs.declared.mode.Mode.{Mode}
+use Rattle.hmodes.specs.declared.mode.Mode.TheVariants.{AfterHead}
+use Rattle.hmodes.specs.Beginning.{Limits, document_begins, fragment_begins}
+use Rattle.hmodes.specs.Reached.{Reached, document, fragment, after}
+use Rattle.hmodes.specs.State.{Token, State, Flow, Done, Again, Refused, is_self_closing, kind_of}
+use Rattle.hmodes.specs.Words.{Kind}
+use Rattle.hmodes.specs.Step.{Rule, Chain, Step, ends, refuses, goes_again, drops, goes, begun, finished}
+use Rattle.hmodes.proofs.Down.{Sound, FlowHolds, Any, cap, rule-down}
+use Rattle.hmodes.proofs.Facts.{reset-found}
+use Rattle.hmodes.proofs.HeadFacts.{HeadFacts, FlowFacts, Facts, OutOf, late-facts}
+use Rattle.hmodes.proofs.Open.{rule-facts}
+use Rattle.hmodes.proofs.Run.{document-well, fragment-well}
+use Rattle.hmodes.proofs.Stands.{FlowWell, HeadOut, rule-well}
+
+-- what names are asked to tell
+pub record Tells {N : Type 0} (n : Naming N) : Type 0 where
+  pub tables : TellsTables n
+  pub img : n.tag (n.known tag.Img) ≡ tag.Img
+
+pub numbers-all : Tells numbers
+numbers-all = record { tables = numbers-tell; img = refl }
+
+pub texts-all : Tells texts
+texts-all = record { tables = texts-tell; img = refl }
+
+module _ {N : Type 0} (n : Naming N) where
+  -- the open nodes stand in the document's tree, the head pointer is as the mode says, and text is not left for text
+  pub record Orderly (s : State N) : Type 0 where
+    pub well : Well n s.site
+    pub head : HeadFacts s
+    pub sound : Sound s.control
+
+  abbrev pub FlowOrderly : Flow N → Type 0
+  FlowOrderly (Done s) = Orderly s
+  FlowOrderly (Again t s) = Orderly s
+  FlowOrderly (Refused r) = Unit {0}
+
+  out-of : (s : State N) → HeadFacts s → s.control.mode ≡ AfterHead → OutOf s.control.head (stack s.site) (trees s.site)
+  out-of s f is = subst (λ (m : Mode). Facts m s.control.saved s.control.head (stack s.site) (trees s.site)) is f
+
+  -- what a rule asks
+  pub orderly-kept : (s : State N) → Orderly s → Kept n s.site
+  orderly-kept s o = from-well n s.site o.well
+
+  pub orderly-head : (s : State N) → Orderly s → s.control.mode ≡ AfterHead → IfSome s.control.head (λ k. (0 < k) × (k < s.site.nodes.made))
+  orderly-head s o is = go s.control.head refl
+    where
+      go : (p : Option ℕ) → s.control.head ≡ p → IfSome p (λ k. (0 < k) × (k < s.site.nodes.made))
+      go None e = tt
+      go (Some h) e = let out = (out-of s o.head is h e).0 in (out.1, (deep-there s.site.nodes.made (trees s.site) o.well.counted h 0 out.0).0)
+
+  -- where a document or a fragment begins
+  pub orderly-document : (quirks : List QuirkLine) (limits : Limits) → Orderly (document_begins quirks limits)
+  orderly-document quirks limits = record { well = document-well n quirks limits; head = tt; sound = λ e. cc }
+
+  pub orderly-fragment : (context : N) (limits : Limits) → Orderly (fragment_begins n context limits)
+  orderly-fragment context limits =
+      let r = reset-found n (Some context) (stack (fragment_begins n context limits).site) in
+      record {
+        well = fragment-well n context limits;
+        head = late-facts (fragment_begins n context limits) (record { mode = r.0; saved = λ e. r.0; texty = λ i. r.0 });
+        sound = λ i. r.1;
+      }
+
+  -- where a token begins and ends
+  pub orderly-begins : (s : State N) → Orderly s → Orderly (begun s)
+  orderly-begins s o = record { well = record { counted = o.well.counted; each = o.well.each; order = o.well.order; plain = o.well.plain }; head = o.head; sound = o.sound }
+
+  pub orderly-finishes : (at : ℕ) (t : Token N) (s : State N) → Orderly s → Orderly (finished at t s)
+  orderly-finishes at t s o = go (is_self_closing t && not s.control.acknowledged)
+    where
+      go : (v : Bool) → Orderly (cond v (record s { site = with_error NonVoidHtmlElementStartTagWithTrailingSolidus at s.site }) s)
+      go true = record { well = record { counted = o.well.counted; each = o.well.each; order = o.well.order; plain = o.well.plain }; head = o.head; sound = o.sound }
+      go false = o
+
+  module _ (tells : Tells n) where
+    together : (f : Flow N) (l : Kind × ℕ) → FlowWell n f → FlowFacts f → FlowHolds n tells.img (Some l) Any false f → FlowOrderly f
+    together (Done s) l w f h = record { well = w; head = f; sound = h.sound }
+    together (Again t s) l w f h = record { well = w; head = f; sound = h.0 }
+    together (Refused r) l w f h = tt
+
+    head-out : (s : State N) → HeadFacts s → s.control.mode ≡ AfterHead → HeadOut n tells.tables s
+    head-out s f is h e = let o = out-of s f is h e in record { stands = o.0; out = o.1 }
+
+    -- every rule keeps it
+    pub rule-orderly : (at : ℕ) (t : Token N) (s : State N) → Orderly s → FlowOrderly (Rule n at t s)
+    rule-orderly at t s o =
+        together (Rule n at t s) (kind_of n t, cap (kind_of n t) s.control.mode) (rule-well n tells.tables at t s (head-out s o.head) o.well) (rule-facts n tells.tables at t s o.well o.head) (rule-down n tells.img at t s o.sound)
+
+    pub again-orderly : (at : ℕ) (t t' : Token N) (s s' : State N) → Orderly s → Rule n at t s ≡ Again t' s' → Orderly s'
+    again-orderly at t t' s s' o rule = subst FlowOrderly rule (rule-orderly at t s o)
+
+    pub done-orderly : (at : ℕ) (t : Token N) (s s' : State N) → Orderly s → Rule n at t s ≡ Done s' → Orderly (finished at t s')
+    done-orderly at t s s' o rule = orderly-finishes at t s' (subst FlowOrderly rule (rule-orderly at t s o))
+
+    chain-orderly : (at : ℕ) (t : Token N) (s : State N) (o : Outcome (State N)) → Orderly s → Chain n at t s o → OnGoes Orderly o
+    chain-orderly at t s o g (ends {s' = s'} rule) = done-orderly at t s s' g rule
+    chain-orderly at t s o g (refuses rule) = tt
+    chain-orderly at t s o g (goes_again {t' = t'} {s' = s'} rule rest) = chain-orderly at t' s' o (again-orderly at t t' s s' g rule) rest
+
+    pub step-orderly : (at : ℕ) (t : Token N) (s : State N) (o : Outcome (State N)) → Orderly s → Step n at t s o → OnGoes Orderly o
+    step-orderly at t s o g (drops is) = orderly-begins s g
+    step-orderly at t s o g (goes isnt rest) = chain-orderly at t (begun s) o (orderly-begins s g) rest
+
+    -- so it holds in each state that tokens lead to
+    pub reached-orderly : (s : State N) → Reached n s → Orderly s
+    reached-orderly s (document quirks limits) = orderly-document quirks limits
+    reached-orderly s (fragment context limits) = orderly-fragment context limits
+    reached-orderly s (after {at = at} {t = t} {s = before} r one) = step-orderly at t before (Goes s) (reached-orderly before r) one

@@ -1,0 +1,222 @@
+-- The rules that a token goes by come to an end: a number that falls with each.
+use Rattle.std.proofs.Common.{◌≡◌, ℕ, zero, suc, ◌+◌, ◌<◌, ◌≤◌, Bool, true, false, cond, if◌then◌else◌, List, [], ◌∷◌, Option, Some, length, drop, refl, sym, ◌∙◌, ap, subst, arith}
+use Rattle.std.proofs.lemmas.Bool.{leb-true}
+use Rattle.std.specs.Prelude.{not, ◌&&◌, ◌||◌}
+use Rattle.hopen.specs.Nearest.{after}
+use Rattle.hopen.specs.Scopes.{stops}
+use Rattle.hopen.specs.Stack.{OpenNode, in_scope}
+use Rattle.hopen.specs.declared.scope.Scope.TheVariants as scope
+use Rattle.names.specs.declared.tag.Tag.TheVariants as tag
+use Rattle.hadopt.specs.Closes.{is}
+use Rattle.hadopt.specs.Naming.{Naming}
+use Rattle.hadopt.specs.Site.{Outcome, Goes, stack, with_error}
+use Rattle.hadopt.specs.Site as site
+use Rattle.hmodes.specs.declared.mode.Mode.{Mode}
+use Rattle.hmodes.specs.declared.mode.Mode.TheVariants.{Text, InTable, InTableText, InColumnGroup, InTableBody, InRow}
+use Rattle.hmodes.specs.declared.family.Family.TheVariants as family
+use Rattle.hmodes.specs.Words.{Kind, Nul, Ws, Char, Start, Do, ◌▸◌, pop_to, reset, again}
+use Rattle.hmodes.specs.State.{Token, State, Flow, Done, Again, Refused, kind_of}
+use Rattle.hmodes.specs.Perform.{perform, with_site}
+use Rattle.hmodes.specs.Rules.{rule_of, code_of}
+use Rattle.hmodes.specs.Step.{Rule, Chain, Step, ends, refuses, goes_again, drops, goes, is_dropped, begun, finished}
+use Rattle.hmodes.specs.Table.{in_table_text}
+use Rattle.hmodes.proofs.Facts.{is_texty}
+use Rattle.hmodes.proofs.Once.{may_again, Ends, ends-calm}
+use Rattle.hmodes.proofs.Down.{is_tabular, is_char, level, cap, level-plain, Sound, FlowHolds, rule-down, Any}
+
+abbrev extra : Mode → ℕ
+extra InColumnGroup = 1
+extra _ = 0
+
+-- how high a token stands in a mode that is not of text, under so many open nodes
+abbrev weight : Kind → Mode → ℕ → ℕ
+weight k m count = 1 + (if is_tabular k m then 30 + (count + count) + extra m else level k m)
+
+tabular-level : (k : Kind) (m : Mode) → is_tabular k m ≡ true → level k m ≡ 30
+tabular-level (Start family.Table) InTable e = refl
+tabular-level (Start family.Table) InColumnGroup e = refl
+tabular-level (Start family.Table) InTableBody e = refl
+tabular-level (Start family.Table) InRow e = refl
+tabular-level _ _ e = cc
+
+extra-most : (m : Mode) → extra m ≤ 1
+extra-most InColumnGroup = omega arith
+extra-most _ = omega arith
+
+level-most : (k : Kind) (m : Mode) → level k m ≤ 40
+level-most k Text = omega arith
+level-most k InTableText = go (is_char k)
+  where
+    go : (v : Bool) → cond v 0 40 ≤ 40
+    go true = omega arith
+    go false = omega arith
+level-most k m = omega (arith, leb-true (level k m) 30 (level-plain k m refl))
+
+cap-most : (k : Kind) (m : Mode) → cap k m ≤ 40
+cap-most k m = go (is_tabular k m)
+  where
+    go : (v : Bool) → cond v 40 (level k m) ≤ 40
+    go true = omega arith
+    go false = level-most k m
+
+weight-most : (k : Kind) (m : Mode) (count : ℕ) → is_texty m ≡ false → weight k m count ≤ 32 + (count + count)
+weight-most k m count e = go (is_tabular k m)
+  where
+    go : (v : Bool) → 1 + cond v (30 + (count + count) + extra m) (level k m) ≤ 32 + (count + count)
+    go true = omega (arith, extra-most m)
+    go false = omega (arith, leb-true (level k m) 30 (level-plain k m e))
+
+-- no character goes again in table text
+waits : (k : Kind) → is_char k ≡ true → may_again (in_table_text k) ≡ false
+waits Nul e = refl
+waits Ws e = refl
+waits Char e = refl
+waits _ e = cc
+
+drop-shorter : {X : Type 0} (xs : List X) → length (drop 1 xs) ≤ length xs
+drop-shorter [] = omega arith
+drop-shorter (x ∷ xs) = omega arith
+
+-- what is in a scope is popped
+pops : {N : Type 0} (is_stop sought : OpenNode N → Bool) (xs : List (OpenNode N)) → in_scope is_stop sought xs ≡ true → length (after sought xs) < length xs
+pops is_stop sought [] e = cc
+pops is_stop sought (x ∷ xs) e = go (sought x) (not (is_stop x)) e (pops is_stop sought xs)
+  where
+    go : (v u : Bool) → (v || (u && in_scope is_stop sought xs)) ≡ true → (in_scope is_stop sought xs ≡ true → length (after sought xs) < length xs) → length (cond v xs (after sought xs)) < length (x ∷ xs)
+    go true u e more = omega arith
+    go false true e more = omega (arith, more e)
+    go false false e more = cc
+
+module _ {N : Type 0} (n : Naming N) where
+  abbrev weight_of : Token N → State N → ℕ
+  weight_of t s = weight (kind_of n t) s.control.mode (length (stack s.site))
+
+  -- after a rule of the modes of text
+  abbrev after_text : Flow N → ℕ
+  after_text (Again t s) = 1 + weight_of t s
+  after_text _ = 0
+
+  -- how far a token is from its last rule
+  abbrev pub left : ℕ → Token N → State N → ℕ
+  left at t s = if is_texty s.control.mode then after_text (Rule n at t s) else weight_of t s
+
+  none-after : (f : Flow N) → Ends f → after_text f ≡ 0
+  none-after (Done s) e = refl
+  none-after (Again t s) e = absurd e
+  none-after (Refused r) e = refl
+
+  -- a character stays in table text
+  stays : (at : ℕ) (t : Token N) (s : State N) → is_texty s.control.mode ≡ true → level (kind_of n t) s.control.mode < 40 → after_text (Rule n at t s) ≡ 0
+  stays at t s e low = go s.control.mode refl e low
+    where
+      go : (m : Mode) → s.control.mode ≡ m → is_texty m ≡ true → level (kind_of n t) m < 40 → after_text (perform n at t (rule_of m (kind_of n t)) s) ≡ 0
+      go Text is e low = omega (arith, low)
+      go InTableText is e low = by-kind (is_char (kind_of n t)) refl low
+        where
+          by-kind : (v : Bool) → is_char (kind_of n t) ≡ v → cond v 0 40 < 40 → after_text (perform n at t (in_table_text (kind_of n t)) s) ≡ 0
+          by-kind true c l = none-after (perform n at t (in_table_text (kind_of n t)) s) (ends-calm n (in_table_text (kind_of n t)) (waits (kind_of n t) c) at t s)
+          by-kind false c l = omega (arith, l)
+      go _ is e low = cc
+
+  -- the start tag of a table that closes the open one
+  closes : (at : ℕ) (t t' : Token N) (s s' : State N) → is_texty s'.control.mode ≡ false → (q : Bool) → in_scope (stops n.tag scope.Table) (is n tag.Table) (stack s.site) ≡ q
+      → cond q (perform n at t (pop_to tag.Table ▸ reset ▸ again) (with_site (with_error (code_of InTable) at s.site) s)) (Done (with_site (with_error (code_of InTable) at s.site) s)) ≡ Again t' s'
+      → weight_of t' s' < 31 + (length (stack s.site) + length (stack s.site))
+  closes at t t' s s' plain false e rule = cc
+  closes at t t' s s' plain true e rule =
+      let few = pops (stops n.tag scope.Table) (is n tag.Table) (stack s.site) e in
+      let same : length (after (is n tag.Table) (stack s.site)) ≡ length (stack s'.site) = ap (λ (f : Flow N). count f) rule in
+      omega (arith, few, same, weight-most (kind_of n t') s'.control.mode (length (stack s'.site)) plain)
+    where
+      count : Flow N → ℕ
+      count (Again u v) = length (stack v.site)
+      count f = 0
+
+  -- .. that ends the column group
+  goes-up : (at : ℕ) (t t' : Token N) (s s' : State N) → kind_of n t ≡ Start family.Table → s.control.mode ≡ InColumnGroup → perform n at t (rule_of InColumnGroup (Start family.Table)) s ≡ Again t' s' → weight_of t' s' < weight_of t s
+  goes-up at t t' s s' k m rule =
+      let same : weight_of t (pops_one s) ≡ weight_of t' s' = ap (λ (f : Flow N). rest f) rule in
+      let few = drop-shorter (stack s.site) in
+      rw (← same, k, m) (omega (arith, few))
+    where
+      pops_one : State N → State N
+      pops_one v = record v { site = record v.site { open_nodes = record v.site.open_nodes { stack = drop 1 (stack v.site) } }; control = record v.control { mode = InTable } }
+
+      rest : Flow N → ℕ
+      rest (Again u v) = weight_of u v
+      rest f = 0
+
+  tabular-falls : (at : ℕ) (t t' : Token N) (s s' : State N) → is_texty s'.control.mode ≡ false → is_tabular (kind_of n t) s.control.mode ≡ true → Rule n at t s ≡ Again t' s' → weight_of t' s' < weight_of t s
+  tabular-falls at t t' s s' plain e rule = go (kind_of n t) s.control.mode refl refl e rule
+    where
+      scoped : in_scope (stops n.tag scope.Table) (is n tag.Table) (stack s.site) ≡ in_scope (stops n.tag scope.Table) (is n tag.Table) (stack s.site)
+      scoped = refl
+
+      go : (k : Kind) (m : Mode) → kind_of n t ≡ k → s.control.mode ≡ m → is_tabular k m ≡ true → perform n at t (rule_of m k) s ≡ Again t' s' → weight_of t' s' < weight_of t s
+      go (Start family.Table) InTable k m i rule = rw (k, m) (omega (arith, closes at t t' s s' plain _ scoped rule))
+      go (Start family.Table) InTableBody k m i rule = rw (k, m) (omega (arith, closes at t t' s s' plain _ scoped rule))
+      go (Start family.Table) InRow k m i rule = rw (k, m) (omega (arith, closes at t t' s s' plain _ scoped rule))
+      go (Start family.Table) InColumnGroup k m i rule = goes-up at t t' s s' k m rule
+      go _ _ k m i rule = cc
+
+  plain-falls : (at : ℕ) (t t' : Token N) (s s' : State N) → is_texty s.control.mode ≡ false → is_texty s'.control.mode ≡ false → level (kind_of n t') s'.control.mode < cap (kind_of n t) s.control.mode
+      → Rule n at t s ≡ Again t' s' → weight_of t' s' < weight_of t s
+  plain-falls at t t' s s' plain plain' low rule = go (is_tabular (kind_of n t) s.control.mode) refl low
+    where
+      k' : Kind
+      k' = kind_of n t'
+
+      m' : Mode
+      m' = s'.control.mode
+
+      among : (v : Bool) → is_tabular k' m' ≡ v → level k' m' < level (kind_of n t) s.control.mode
+          → 1 + cond v (30 + (length (stack s'.site) + length (stack s'.site)) + extra m') (level k' m') < 1 + level (kind_of n t) s.control.mode
+      among false e l = omega (arith, l)
+      among true e l = omega (arith, l, tabular-level k' m' e, leb-true (level (kind_of n t) s.control.mode) 30 (level-plain (kind_of n t) s.control.mode plain))
+
+      go : (v : Bool) → is_tabular (kind_of n t) s.control.mode ≡ v → level k' m' < cond v 40 (level (kind_of n t) s.control.mode) → weight_of t' s' < weight_of t s
+      go false e l = rw e (among (is_tabular k' m') refl l)
+      go true e l = tabular-falls at t t' s s' plain' e rule
+
+  abbrev rule_cap : Token N → State N → Option (Kind × ℕ)
+  rule_cap t s = Some (kind_of n t, cap (kind_of n t) s.control.mode)
+
+  module _ (tells : n.tag (n.known tag.Img) ≡ tag.Img) where
+    -- it falls with every rule that has the token go again
+    pub rule-falls : (at : ℕ) (t t' : Token N) (s s' : State N) → Sound s.control → Rule n at t s ≡ Again t' s' → left at t' s' < left at t s
+    rule-falls at t t' s s' sound rule = go (is_texty s.control.mode) refl (is_texty s'.control.mode) refl
+      where
+        holds : FlowHolds n tells (rule_cap t s) Any false (Again t' s')
+        holds = subst (FlowHolds n tells (rule_cap t s) Any false) rule (rule-down n tells at t s sound)
+
+        low : level (kind_of n t') s'.control.mode < cap (kind_of n t) s.control.mode
+        low = holds.1
+
+        under : level (kind_of n t') s'.control.mode < 40
+        under = omega (arith, low, cap-most (kind_of n t) s.control.mode)
+
+        go : (v : Bool) → is_texty s.control.mode ≡ v → (u : Bool) → is_texty s'.control.mode ≡ u → cond u (after_text (Rule n at t' s')) (weight_of t' s') < cond v (after_text (Rule n at t s)) (weight_of t s)
+        go true e true e' = rw (rule, stays at t' s' e' under) (omega arith)
+        go true e false e' = rw rule (omega arith)
+        go false e true e' = rw (stays at t' s' e' under) (omega arith)
+        go false e false e' = plain-falls at t t' s s' e e' low rule
+
+    some-chain : (most at : ℕ) (t : Token N) (s : State N) → left at t s < most → Sound s.control → (o : Outcome (State N)) × Chain n at t s o
+    some-chain zero at t s few sound = absurd (omega (arith, few))
+    some-chain (suc most) at t s few sound = go (Rule n at t s) refl (rule-down n tells at t s sound) (some-chain most at)
+      where
+        go : (f : Flow N) → Rule n at t s ≡ f → FlowHolds n tells (rule_cap t s) Any false f → ((u : Token N) (v : State N) → left at u v < most → Sound v.control → (o : Outcome (State N)) × Chain n at u v o) → (o : Outcome (State N)) × Chain n at t s o
+        go (Done u) rule h more = (Goes (finished at t u), ends rule)
+        go (Refused r) rule h more = (site.Refused r, refuses rule)
+        go (Again u v) rule h more =
+            let falls = rule-falls at t u s v sound rule in
+            let rest = more u v (omega (arith, falls, few)) h.0 in
+            (rest.0, goes_again rule rest.1)
+
+    -- so a token has a result
+    pub some-step : (at : ℕ) (t : Token N) (s : State N) → Sound s.control → (o : Outcome (State N)) × Step n at t s o
+    some-step at t s sound = go (is_dropped t s) refl
+      where
+        go : (v : Bool) → is_dropped t s ≡ v → (o : Outcome (State N)) × Step n at t s o
+        go true e = (Goes (begun s), drops e)
+        go false e = let c = some-chain (left at t (begun s) + 1) at t (begun s) (omega arith) sound in (c.0, goes e c.1)

@@ -1,0 +1,118 @@
+-- What is spelled alike by a table and by one with a text more has the names of the table.
+use Rattle.std.proofs.Common.{◌≡◌, ℕ, ◌<◌, false, List, [], ◌∷◌, map, length, Option, Some, refl, sym, ◌∙◌, ap, ap₂, subst, arith}
+use Rattle.std.specs.Option.{option_map}
+use Rattle.hnodes.specs.Forest.{Attribute, What, document, doctype, element, comment, text, Forest, none, tree}
+use Rattle.hnodes.specs.Named.{AttributesAreOf, NodeIsOf, AreOf}
+use Rattle.hnodes.specs.Spelled.{spelled_attribute, spelled_what, spelled}
+use Rattle.hmarkup.specs.Quirks.{QuirkLine}
+use Rattle.names.specs.Names.{Texts, AreNames, IsOf}
+use Rattle.names.specs.Spelling.{spelling}
+use Rattle.names.specs.Tags.{known, number_of}
+use Rattle.names.specs.declared.tag.Tag.TheVariants as tag
+use Rattle.names.proofs.Longer.{longer, longer-names, known-within, spelled-alike, alike-within}
+use Rattle.hadopt.specs.Naming.{Naming, numbers, texts}
+use Rattle.hadopt.specs.Site.{Outcome, Goes, trees}
+use Rattle.hadopt.specs.Site as site
+use Rattle.hadopt.specs.Spelled.{Agree, outcome_map, spelled_site}
+use Rattle.hmodes.specs.Beginning.{Limits, document_begins, fragment_begins}
+use Rattle.hmodes.specs.OfTable.{TokenIsOf, TokensAreOf}
+use Rattle.hmodes.specs.Spelled.{spelled_token, spelled_placed, spelled_state}
+use Rattle.hmodes.specs.State.{Token, start, end, comment, character, eof, PlacedToken, State}
+use Rattle.hmodes.specs.State as state
+use Rattle.hmodes.specs.Step.{Steps, none, and, refused}
+use Rattle.hmodes.specs.Step as step
+use Rattle.hmodes.proofs.Names.{steps_spelled}
+use Rattle.hmodes.proofs.Single.{step-one}
+use Rattle.hmodes.proofs.Tables.{table-agrees}
+
+-- tokens have one result at most
+module _ {N : Type 0} (n : Naming N) where
+  pub steps-one : (ts : List (PlacedToken N)) (s : State N) (o o' : Outcome (State N)) → Steps n ts s o → Steps n ts s o' → o ≡ o'
+  steps-one [] s o o' step.none step.none = refl
+  steps-one (t ∷ ts) s o o' (and {s' = u} one rest) (and {s' = v} one' rest') =
+      let same : Goes u ≡ Goes v = step-one n t.at t.token s (Goes u) (Goes v) one one' in
+      let states : v ≡ u = cc in
+      steps-one ts u o o' rest (subst (λ (x : State N). Steps n ts x o') states rest')
+  steps-one (t ∷ ts) s o o' (and {s' = u} one rest) (refused {r = r} one') = let clash : Goes u ≡ site.Refused r = step-one n t.at t.token s (Goes u) (site.Refused r) one one' in cc
+  steps-one (t ∷ ts) s o o' (refused {r = r} one) (and {s' = v} one' rest') = let clash : site.Refused r ≡ Goes v = step-one n t.at t.token s (site.Refused r) (Goes v) one one' in cc
+  steps-one (t ∷ ts) s o o' (refused {r = r} one) (refused {r = r'} one') = step-one n t.at t.token s (site.Refused r) (site.Refused r') one one'
+
+module _ (names : Texts) where
+  abbrev short : ℕ → List ℕ
+  short = spelling names
+
+  abbrev long : ℕ → List ℕ
+  long = spelling (longer names)
+
+  attributes-alike : (attrs : List (Attribute ℕ)) → AttributesAreOf names attrs → map (spelled_attribute short) attrs ≡ map (spelled_attribute long) attrs
+  attributes-alike [] h = refl
+  attributes-alike (a ∷ attrs) h = ap₂ (λ (x : List ℕ) (xs : List (Attribute (List ℕ))). (x, a.1) ∷ xs) (spelled-alike names a.0 h.0) (attributes-alike attrs h.1)
+
+  token-alike : (t : Token ℕ) → TokenIsOf names t → spelled_token short t ≡ spelled_token long t
+  token-alike (start name attrs closing) h = ap₂ (λ (x : List ℕ) (xs : List (Attribute (List ℕ))). start x xs closing) (spelled-alike names name h.0) (attributes-alike attrs h.1)
+  token-alike (end name) h = ap (λ (x : List ℕ). end x) (spelled-alike names name h)
+  token-alike _ h = refl
+
+  tokens-alike : (ts : List (PlacedToken ℕ)) → TokensAreOf names ts → map (spelled_placed short) ts ≡ map (spelled_placed long) ts
+  tokens-alike [] h = refl
+  tokens-alike (t ∷ ts) h =
+      ap₂ (λ (x : Token (List ℕ)) (xs : List (PlacedToken (List ℕ))). record { token = x; at = t.at } ∷ xs) (token-alike t.token h.0) (tokens-alike ts h.1)
+
+  attributes-of : (attrs : List (Attribute ℕ)) → map (spelled_attribute short) attrs ≡ map (spelled_attribute long) attrs → AttributesAreOf names attrs
+  attributes-of [] e = tt
+  attributes-of (a ∷ attrs) e =
+      let pair : spelled_attribute short a ≡ spelled_attribute long a = cc in
+      let first = ap (λ (p : Attribute (List ℕ)). p.0) pair in
+      let rest : map (spelled_attribute short) attrs ≡ map (spelled_attribute long) attrs = cc in
+      (alike-within names a.0 first, attributes-of attrs rest)
+
+  node-of : (w : What ℕ) → spelled_what short w ≡ spelled_what long w → NodeIsOf names w
+  node-of (element x attrs) e =
+      let name : short x ≡ long x = cc in
+      let rest : map (spelled_attribute short) attrs ≡ map (spelled_attribute long) attrs = cc in
+      (alike-within names x name, attributes-of attrs rest)
+  node-of _ e = tt
+
+  trees-of : (f : Forest ℕ) → spelled short f ≡ spelled long f → AreOf names f
+  trees-of none e = tt
+  trees-of (tree b w kids rest) e =
+      let what : spelled_what short w ≡ spelled_what long w = cc in
+      let inside : spelled short kids ≡ spelled long kids = cc in
+      let after : spelled short rest ≡ spelled long rest = cc in
+      (node-of w what, trees-of kids inside, trees-of rest after)
+
+  module _ (h : AreNames names) where
+    steps-of : (ts : List (PlacedToken ℕ)) (s s' : State ℕ) → TokensAreOf names ts → spelled_state short s ≡ spelled_state long s → Steps numbers ts s (Goes s') → AreOf names (trees s'.site)
+    steps-of ts s s' of begins run =
+        let one = (steps_spelled numbers texts short (table-agrees names h)).steps ts s (Goes s') run in
+        let other = (steps_spelled numbers texts long (table-agrees (longer names) (longer-names names h))).steps ts s (Goes s') run in
+        let moved = subst (λ (x : State (List ℕ)). Steps texts (map (spelled_placed short) ts) x (Goes (spelled_state long s'))) (sym begins)
+        (subst (λ (us : List (PlacedToken (List ℕ))). Steps texts us (spelled_state long s) (Goes (spelled_state long s'))) (sym (tokens-alike ts of)) other) in
+        let same : Goes (spelled_state short s') ≡ Goes (spelled_state long s') = steps-one texts (map (spelled_placed short) ts) (spelled_state short s) (Goes (spelled_state short s')) (Goes (spelled_state long s')) one moved in
+        trees-of (trees s'.site) (goes-trees same)
+      where
+        goes-trees : Goes (spelled_state short s') ≡ Goes (spelled_state long s') → spelled short (trees s'.site) ≡ spelled long (trees s'.site)
+        goes-trees e = let states : spelled_state short s' ≡ spelled_state long s' = cc in ap (λ (x : State (List ℕ)). trees x.site) states
+
+    pub document-of : (quirks : List QuirkLine) (limits : Limits) (ts : List (PlacedToken ℕ)) (s : State ℕ) → TokensAreOf names ts → Steps numbers ts (document_begins quirks limits) (Goes s) → AreOf names (trees s.site)
+    document-of quirks limits ts s of run = steps-of ts (document_begins quirks limits) s of refl run
+
+    html-within : number_of tag.Html < length names
+    html-within = omega (arith, known-within names h)
+
+    pub fragment-of : (context : ℕ) (limits : Limits) (ts : List (PlacedToken ℕ)) (s : State ℕ) → IsOf names context → TokensAreOf names ts → Steps numbers ts (fragment_begins numbers context limits) (Goes s) → AreOf names (trees s.site)
+    fragment-of context limits ts s within of run = steps-of ts (fragment_begins numbers context limits) s of begins run
+      where
+        begins : spelled_state short (fragment_begins numbers context limits) ≡ spelled_state long (fragment_begins numbers context limits)
+        begins = λ i. record {
+          site = record {
+            nodes = record { limit = limits.nodes; made = 2; trees = tree 0 document (tree 1 (element (spelled-alike names (number_of tag.Html) html-within i) []) none none) none };
+            open_nodes = record { limit = limits.depth; stack = record { node = 1; name = spelled-alike names (number_of tag.Html) html-within i } ∷ [] };
+            items = [];
+            foster = false;
+            errors = [];
+          };
+          control = (fragment_begins numbers context limits).control;
+          context = Some (spelled-alike names context within i);
+          quirks_list = (fragment_begins numbers context limits).quirks_list;
+        }

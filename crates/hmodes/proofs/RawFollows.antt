@@ -1,0 +1,346 @@
+-- A start tag of a raw kind leads to the mode "text", by a test on the programs of each mode.
+use Rattle.std.proofs.Common.{◌≡◌, ◌≢◌, ◌⊎◌, inl, inr, ℕ, ◌<◌, Bool, true, false, not, cond, leb, eqb, List, [], ◌∷◌, Option, Some, None, refl, sym, ◌∙◌, ap, subst, arith, length}
+use Rattle.std.specs.Prelude.{◌&&◌, ◌||◌, IfSome}
+use Rattle.std.proofs.lemmas.Bool.{ne_eqb}
+use Rattle.hnodes.specs.Forest.{Attribute}
+use Rattle.hopen.specs.Stack.{OpenNode, current, is_node}
+use Rattle.names.specs.Sets.{raw_kind}
+use Rattle.names.specs.declared.refusal.Refusal.{Refusal}
+use Rattle.names.specs.declared.refusal.Refusal.TheVariants.{TooManyNodes, TooDeep}
+use Rattle.names.specs.declared.tag.Tag.{Tag}
+use Rattle.names.specs.declared.tag.Tag.TheVariants as tag
+use Rattle.hadopt.specs.Naming.{Naming}
+use Rattle.hadopt.specs.Site.{Outcome, Goes, SiteOf, and_then, stack, trees, with_stack, with_trees, with_error}
+use Rattle.hadopt.specs.Site as site
+use Rattle.hadopt.proofs.Climbing.{OnGoes}
+use Rattle.hmodes.specs.declared.family.Family.{Family}
+use Rattle.hmodes.specs.declared.family.Family.TheVariants.{Title, Noframes, Style, Script, Textarea, Xmp, Iframe}
+use Rattle.hmodes.specs.declared.mode.Mode.{Mode}
+use Rattle.hmodes.specs.declared.mode.Mode.TheVariants.{Initial, BeforeHtml, BeforeHead, InHead, InHeadNoscript, AfterHead, InBody, Text, InTable, InTableText, InCaption, InColumnGroup, InTableBody, InRow, InCell, AfterBody, AfterAfterBody}
+use Rattle.hmodes.specs.Families.{family_of}
+use Rattle.hmodes.specs.Words.{Do, Start, Char, ◌▸◌, choose, fostered, each_pending, again, to, to_saved, save_mode, insert, put, drop_lf, push_head, remove_head, pending_is_ws}
+use Rattle.hmodes.specs.Programs.{raw}
+use Rattle.hmodes.specs.Head.{after_head, late}
+use Rattle.hmodes.specs.Perform.{perform, with_foster, with_site, with_control, inserted_here, flow_of, head_pushed, removed}
+use Rattle.hmodes.specs.Rules.{rule_of, code_of}
+use Rattle.names.specs.declared.error.ErrorCode.TheVariants.{NonVoidHtmlElementStartTagWithTrailingSolidus}
+use Rattle.hmodes.specs.State.{Token, start, Control, State, Flow, Done, Again, Refused, flow_then, flow_map, kind_of}
+use Rattle.hmodes.specs.Step.{Rule, Chain, ends, refuses, goes_again, Step, drops, goes, begun, finished}
+use Rattle.hmodes.specs.RawFollows.{is_ended, IsLimit, IsInText, ComesToText, RawFollows}
+use Rattle.hmodes.proofs.Mild.{is_mild, Mild, perform-mild}
+use Rattle.hnodes.specs.declared.node.Place.{Place}
+use Rattle.hnodes.specs.Forest.{element}
+use Rattle.hnodes.specs.Edits.{graft, make}
+use Rattle.hadopt.specs.Places.{place}
+use Rattle.hadopt.specs.Inserts.{inserted, pushed}
+use Rattle.hmodes.specs.Table.{in_table_text, other_in_table}
+use Rattle.hmodes.proofs.Facts.{is_texty}
+use Rattle.hmodes.proofs.Between.{Tells, Orderly, orderly-head, orderly-begins, again-orderly, reached-orderly}
+use Rattle.hmodes.proofs.Once.{both}
+
+-- the programs that insert an element and go to text, at once or after others, or have the token go by rules outside of text
+
+abbrev is_raw : Do → Bool
+is_raw (insert ▸ (save_mode ▸ to Text)) = true
+is_raw _ = false
+
+abbrev keeps_text : Do → Bool
+keeps_text drop_lf = true
+keeps_text _ = false
+
+abbrev is_outside : Mode → Bool
+is_outside Text = false
+is_outside InTableText = false
+is_outside _ = true
+
+abbrev goes_outside : Do → Do → Bool
+goes_outside (to m) again = is_outside m
+goes_outside _ _ = false
+
+abbrev leads : Do → Bool
+leads (p ▸ q) = is_raw (p ▸ q) || ((is_raw p && keeps_text q) || (goes_outside p q || (is_mild p && leads q)))
+leads (fostered p) = leads p
+leads _ = false
+
+-- the families of the names whose content is raw text
+abbrev is_raw_family : Family → Bool
+is_raw_family Title = true
+is_raw_family Noframes = true
+is_raw_family Style = true
+is_raw_family Script = true
+is_raw_family Textarea = true
+is_raw_family Xmp = true
+is_raw_family Iframe = true
+is_raw_family _ = false
+
+raw-family : (t : Tag) → is_ended (raw_kind t) ≡ true → is_raw_family (family_of t) ≡ true
+raw-family tag.Title e = refl
+raw-family tag.Textarea e = refl
+raw-family tag.Style e = refl
+raw-family tag.Xmp e = refl
+raw-family tag.Iframe e = refl
+raw-family tag.Noembed e = refl
+raw-family tag.Noframes e = refl
+raw-family tag.Script e = refl
+raw-family _ e = cc
+
+abbrev for_all : (Family → Bool) → Bool
+for_all f = f Title && (f Noframes && (f Style && (f Script && (f Textarea && (f Xmp && f Iframe)))))
+
+for-one : (f : Family → Bool) (x : Family) → for_all f ≡ true → is_raw_family x ≡ true → f x ≡ true
+for-one f x all is =
+    let title = both (f Title) (f Noframes && (f Style && (f Script && (f Textarea && (f Xmp && f Iframe))))) all in
+    let noframes = both (f Noframes) (f Style && (f Script && (f Textarea && (f Xmp && f Iframe)))) title.1 in
+    let style = both (f Style) (f Script && (f Textarea && (f Xmp && f Iframe))) noframes.1 in
+    let script = both (f Script) (f Textarea && (f Xmp && f Iframe)) style.1 in
+    let textarea = both (f Textarea) (f Xmp && f Iframe) script.1 in
+    let xmp = both (f Xmp) (f Iframe) textarea.1 in
+    pick x is title.0 noframes.0 style.0 script.0 textarea.0 xmp.0 xmp.1
+  where
+    pick : (x : Family) → is_raw_family x ≡ true → f Title ≡ true → f Noframes ≡ true → f Style ≡ true → f Script ≡ true → f Textarea ≡ true → f Xmp ≡ true → f Iframe ≡ true → f x ≡ true
+    pick Title e title noframes style script textarea xmp iframe = title
+    pick Noframes e title noframes style script textarea xmp iframe = noframes
+    pick Style e title noframes style script textarea xmp iframe = style
+    pick Script e title noframes style script textarea xmp iframe = script
+    pick Textarea e title noframes style script textarea xmp iframe = textarea
+    pick Xmp e title noframes style script textarea xmp iframe = xmp
+    pick Iframe e title noframes style script textarea xmp iframe = iframe
+    pick _ e title noframes style script textarea xmp iframe = cc
+
+-- the rules of a mode, but those of what belongs in the head, after it, and those of text
+abbrev is_ruled : Mode → Bool
+is_ruled AfterHead = false
+is_ruled m = is_outside m
+
+ruled-leads : (m : Mode) → is_ruled m ≡ true → for_all (λ f. leads (rule_of m (Start f))) ≡ true
+ruled-leads Initial e = refl
+ruled-leads BeforeHtml e = refl
+ruled-leads BeforeHead e = refl
+ruled-leads InHead e = refl
+ruled-leads InHeadNoscript e = refl
+ruled-leads InBody e = refl
+ruled-leads InTable e = refl
+ruled-leads InCaption e = refl
+ruled-leads InColumnGroup e = refl
+ruled-leads InTableBody e = refl
+ruled-leads InRow e = refl
+ruled-leads InCell e = refl
+ruled-leads AfterBody e = refl
+ruled-leads AfterAfterBody e = refl
+ruled-leads _ e = cc
+
+raw-is : (p : Do) → is_raw p ≡ true → p ≡ raw
+raw-is (insert ▸ (save_mode ▸ to Text)) e = refl
+raw-is _ e = cc
+
+drop-is : (q : Do) → keeps_text q ≡ true → q ≡ drop_lf
+drop-is drop_lf e = refl
+drop-is _ e = cc
+
+pub record GoesOutside (p q : Do) : Type 0 where
+  pub mode : Mode
+  pub first : p ≡ to mode
+  pub then : q ≡ again
+  pub outside : is_outside mode ≡ true
+
+goes-is : (p q : Do) → goes_outside p q ≡ true → GoesOutside p q
+goes-is (to m) again e = record { mode = m; first = refl; then = refl; outside = e }
+goes-is _ _ e = cc
+
+either : (x y : Bool) → (x || y) ≡ true → (x ≡ true) ⊎ (y ≡ true)
+either true y e = inl refl
+either false y e = inr e
+
+not-text : (m : Mode) → is_outside m ≡ true → m ≢ Text
+not-text m e is = let clash = sym e ∙ ap is_outside is in cc
+
+not-table : (m : Mode) → is_outside m ≡ true → m ≢ InTableText
+not-table m e is = let clash = sym e ∙ ap is_outside is in cc
+
+-- no raw text is being read, and none waits behind the text of a table
+record IsOutsideText (c : Control) : Type 0 where
+  mode : c.mode ≢ Text
+  saved : c.mode ≡ InTableText → c.saved ≢ Text
+
+module _ {N : Type 0} (n : Naming N) (at : ℕ) (name : N) (attrs : List (Attribute N)) (closing : Bool) where
+  abbrev tag_token : Token N
+  tag_token = start name attrs closing
+
+  -- what comes of a rule
+  abbrev Leads : Flow N → Type 0
+  Leads (Done s) = IsInText n at name attrs s
+  Leads (Again t s) = (t ≡ tag_token) × IsOutsideText s.control
+  Leads (Refused r) = IsLimit r
+
+  after-mild : (s : State N) (f : Flow N) (g : State N → Flow N) → Mild s f → ((v : State N) → v.control.saved ≡ s.control.saved → Leads (g v)) → Leads (flow_then f g)
+  after-mild s (Done v) g m h = h v m
+  after-mild s (Again t v) g m h = absurd m
+  after-mild s (Refused r) g m h = m
+
+  foster-off : (f : Flow N) → Leads f → Leads (flow_map (with_foster false) f)
+  foster-off (Done s) h = record { before = h.before; after = h.after; insertion = h.insertion; trees_are = h.trees_are; current_is = h.current_is; mode_is = h.mode_is }
+  foster-off (Again t s) h = h
+  foster-off (Refused r) h = h
+
+  raw-leads : (s : State N) → Leads (perform n at tag_token raw s)
+  raw-leads s = go (inserted_here n at name attrs s.site) refl (perform-mild n insert refl at tag_token s)
+    where
+      go : (o : Outcome (SiteOf N)) → inserted_here n at name attrs s.site ≡ o → Mild s (flow_of s o) → Leads (flow_then (flow_of s o) (perform n at tag_token (save_mode ▸ to Text)))
+      go (Goes x) is m = record { before = s.site; after = x; insertion = is; trees_are = refl; current_is = refl; mode_is = refl }
+      go (site.Refused r) is m = m
+
+  raw-drops : (s : State N) → Leads (perform n at tag_token (raw ▸ drop_lf) s)
+  raw-drops s = go (perform n at tag_token raw s) (raw-leads s)
+    where
+      go : (f : Flow N) → Leads f → Leads (flow_then f (perform n at tag_token drop_lf))
+      go (Done v) h = record { before = h.before; after = h.after; insertion = h.insertion; trees_are = h.trees_are; current_is = h.current_is; mode_is = h.mode_is }
+      go (Again t v) h = h
+      go (Refused r) h = h
+
+  goes-leads : (m : Mode) → is_outside m ≡ true → (s : State N) → Leads (perform n at tag_token (to m ▸ again) s)
+  goes-leads m out s = (refl, record { mode = not-text m out; saved = λ e. absurd (not-table m out e) })
+
+  -- one after another, where what comes after leads
+  then-leads : (p q : Do) (s : State N) → leads (p ▸ q) ≡ true → (leads q ≡ true → (v : State N) → Leads (perform n at tag_token q v)) → Leads (perform n at tag_token (p ▸ q) s)
+  then-leads p q s e more = go (either (is_raw (p ▸ q)) ((is_raw p && keeps_text q) || (goes_outside p q || (is_mild p && leads q))) e)
+    where
+      third : (goes_outside p q ≡ true) ⊎ ((is_mild p && leads q) ≡ true) → Leads (perform n at tag_token (p ▸ q) s)
+      third (inl h) =
+          let g = goes-is p q h in
+          subst (λ (x : Do). Leads (perform n at tag_token (x ▸ q) s)) (sym g.first)
+          (subst (λ (y : Do). Leads (perform n at tag_token (to g.mode ▸ y) s)) (sym g.then) (goes-leads g.mode g.outside s))
+      third (inr h) =
+          let parts = both (is_mild p) (leads q) h in
+          after-mild s (perform n at tag_token p s) (perform n at tag_token q) (perform-mild n p parts.0 at tag_token s) (λ v same. more parts.1 v)
+
+      second : ((is_raw p && keeps_text q) ≡ true) ⊎ ((goes_outside p q || (is_mild p && leads q)) ≡ true) → Leads (perform n at tag_token (p ▸ q) s)
+      second (inl h) =
+          let parts = both (is_raw p) (keeps_text q) h in
+          subst (λ (x : Do). Leads (perform n at tag_token (x ▸ q) s)) (sym (raw-is p parts.0))
+          (subst (λ (y : Do). Leads (perform n at tag_token (raw ▸ y) s)) (sym (drop-is q parts.1)) (raw-drops s))
+      second (inr h) = third (either (goes_outside p q) (is_mild p && leads q) h)
+
+      go : (is_raw (p ▸ q) ≡ true) ⊎ (((is_raw p && keeps_text q) || (goes_outside p q || (is_mild p && leads q))) ≡ true) → Leads (perform n at tag_token (p ▸ q) s)
+      go (inl h) = subst (λ (x : Do). Leads (perform n at tag_token x s)) (sym (raw-is (p ▸ q) h)) (raw-leads s)
+      go (inr h) = second (either (is_raw p && keeps_text q) (goes_outside p q || (is_mild p && leads q)) h)
+
+  perform-leads : (p : Do) → leads p ≡ true → (s : State N) → Leads (perform n at tag_token p s)
+  perform-leads (p ▸ q) e s = then-leads p q s e (λ h v. perform-leads q h v)
+  perform-leads (fostered p) e s = foster-off (perform n at tag_token p (with_foster true s)) (perform-leads p e (with_foster true s))
+  perform-leads _ e s = cc
+
+  -- what an insertion leaves on the stack
+  inserted-top : (p : Place) (x : SiteOf N) → OnGoes (λ y. stack y ≡ record { node = x.nodes.made; name = name } ∷ stack x) (inserted at name attrs p x)
+  inserted-top p x = go (leb x.nodes.limit x.nodes.made)
+    where
+      top : (v : Bool) (y : SiteOf N) → stack y ≡ stack x
+          → OnGoes (λ z. stack z ≡ record { node = x.nodes.made; name = name } ∷ stack x) (cond v (site.Refused (TooDeep at)) (Goes (with_stack (record { node = x.nodes.made; name = name } ∷ stack y) y)))
+      top true y same = tt
+      top false y same = ap (λ up. record { node = x.nodes.made; name = name } ∷ up) same
+
+      go : (u : Bool) → OnGoes (λ z. stack z ≡ record { node = x.nodes.made; name = name } ∷ stack x)
+          (and_then (and_then (cond u (site.Refused (TooManyNodes at)) (Goes (record x { nodes = make (element name attrs) x.nodes }))) (λ t. Goes (with_trees (graft x.nodes.made p (trees t)) t)))
+          (pushed at (record { node = x.nodes.made; name = name })))
+      go true = tt
+      go false = top (leb x.open_nodes.limit (length (stack x))) (with_trees (graft x.nodes.made p (make (element name attrs) x.nodes).trees) (record x { nodes = make (element name attrs) x.nodes })) refl
+
+  -- the head leaves the open nodes, and is not the one that was made after it
+  head-leaves : (head : Option ℕ) (made : ℕ) (up : List (OpenNode N)) (y : SiteOf N) → ((h : ℕ) → head ≡ Some h → h < made) → stack y ≡ record { node = made; name = name } ∷ up
+      → current (stack (removed head y)) ≡ current (stack y)
+  head-leaves None made up y below top = refl
+  head-leaves (Some h) made up y below top = rw (top, ne_eqb made h (λ e. let less = below h refl in omega (arith, less, e))) refl
+
+  late-inserted : (v : State N) → ((h : ℕ) → v.control.head ≡ Some h → h < v.site.nodes.made) → Leads (perform n at tag_token (raw ▸ remove_head) v)
+  late-inserted v below = go (inserted_here n at name attrs v.site) refl (inserted-top (place n v.site) v.site) (perform-mild n insert refl at tag_token v)
+    where
+      go : (o : Outcome (SiteOf N)) → inserted_here n at name attrs v.site ≡ o → OnGoes (λ y. stack y ≡ record { node = v.site.nodes.made; name = name } ∷ stack v.site) o → Mild v (flow_of v o)
+          → Leads (flow_then (flow_then (flow_of v o) (perform n at tag_token (save_mode ▸ to Text))) (perform n at tag_token remove_head))
+      go (Goes y) is top m = record {
+        before = v.site;
+        after = y;
+        insertion = is;
+        trees_are = refl;
+        current_is = head-leaves v.control.head v.site.nodes.made (stack v.site) y below top;
+        mode_is = refl;
+      }
+      go (site.Refused r) is top m = m
+
+  late-leads : (s : State N) → ((h : ℕ) → s.control.head ≡ Some h → h < s.site.nodes.made) → Leads (perform n at tag_token (late raw) s)
+  late-leads s below = go (head_pushed n at s.control.head erred.site) (pushed-same s.control.head) (perform-mild n push_head refl at tag_token erred)
+    where
+      erred : State N
+      erred = with_site (with_error (code_of AfterHead) at s.site) s
+
+      pushed-same : (head : Option ℕ) → OnGoes (λ x. x.nodes ≡ s.site.nodes) (head_pushed n at head erred.site)
+      pushed-same None = refl
+      pushed-same (Some h) = room (leb s.site.open_nodes.limit (length (stack s.site)))
+        where
+          room : (v : Bool) → OnGoes (λ x. x.nodes ≡ s.site.nodes) (cond v (site.Refused (TooDeep at)) (Goes (with_stack (record { node = h; name = n.known tag.Head } ∷ stack s.site) erred.site)))
+          room true = tt
+          room false = refl
+
+      go : (o : Outcome (SiteOf N)) → OnGoes (λ x. x.nodes ≡ s.site.nodes) o → Mild erred (flow_of erred o) → Leads (flow_then (flow_of erred o) (perform n at tag_token (raw ▸ remove_head)))
+      go (Goes x) same m = late-inserted (with_site x erred) (λ h e. rw same (below h e))
+      go (site.Refused r) same m = m
+
+  after-head-leads : (f : Family) → is_raw_family f ≡ true → (s : State N) → ((h : ℕ) → s.control.head ≡ Some h → h < s.site.nodes.made) → Leads (perform n at tag_token (after_head (Start f)) s)
+  after-head-leads Title e = late-leads
+  after-head-leads Noframes e = late-leads
+  after-head-leads Style e = late-leads
+  after-head-leads Script e = late-leads
+  after-head-leads Textarea e = λ s below. perform-leads (after_head (Start Textarea)) refl s
+  after-head-leads Xmp e = λ s below. perform-leads (after_head (Start Xmp)) refl s
+  after-head-leads Iframe e = λ s below. perform-leads (after_head (Start Iframe)) refl s
+  after-head-leads _ e = cc
+
+  table-text-leads : (f : Family) (s : State N) → s.control.saved ≢ Text → Leads (perform n at tag_token (in_table_text (Start f)) s)
+  table-text-leads f s out =
+      after-mild s (perform n at tag_token (choose pending_is_ws (each_pending put) (each_pending (other_in_table Char))) s) (perform n at tag_token (to_saved ▸ again))
+      (perform-mild n (choose pending_is_ws (each_pending put) (each_pending (other_in_table Char))) refl at tag_token s)
+      (λ v same. (refl, record { mode = λ e. out (sym same ∙ e); saved = λ i e. out (sym same ∙ e) }))
+
+  rule-leads : (s : State N) → IsOutsideText s.control → (s.control.mode ≡ AfterHead → (h : ℕ) → s.control.head ≡ Some h → h < s.site.nodes.made) → is_ended (raw_kind (n.tag name)) ≡ true
+      → Leads (Rule n at tag_token s)
+  rule-leads s out below ended = go s.control.mode refl
+    where
+      family_is : is_raw_family (family_of (n.tag name)) ≡ true
+      family_is = raw-family (n.tag name) ended
+
+      go : (m : Mode) → s.control.mode ≡ m → Leads (perform n at tag_token (rule_of m (Start (family_of (n.tag name)))) s)
+      go Text is = absurd (out.mode is)
+      go InTableText is = table-text-leads (family_of (n.tag name)) s (out.saved is)
+      go AfterHead is = after-head-leads (family_of (n.tag name)) family_is s (below is)
+      go m is = perform-leads (rule_of m (Start (family_of (n.tag name)))) (for-one (λ f. leads (rule_of m (Start f))) (family_of (n.tag name)) (ruled-leads m refl) family_is) s
+
+module _ {N : Type 0} (n : Naming N) (tells : Tells n) (at : ℕ) (name : N) (attrs : List (Attribute N)) (closing : Bool) (ended : is_ended (raw_kind (n.tag name)) ≡ true) where
+  finished-text : (s : State N) → IsInText n at name attrs s → IsInText n at name attrs (finished at (start name attrs closing) s)
+  finished-text s h = go (closing && not s.control.acknowledged)
+    where
+      go : (v : Bool) → IsInText n at name attrs (cond v (with_site (with_error NonVoidHtmlElementStartTagWithTrailingSolidus at s.site) s) s)
+      go true = record { before = h.before; after = h.after; insertion = h.insertion; trees_are = h.trees_are; current_is = h.current_is; mode_is = h.mode_is }
+      go false = h
+
+  -- the head pointer's node was made
+  head-below : (s : State N) → Orderly n s → s.control.mode ≡ AfterHead → (h : ℕ) → s.control.head ≡ Some h → h < s.site.nodes.made
+  head-below s g is h e = (subst (λ (p : Option ℕ). IfSome p (λ k. (0 < k) × (k < s.site.nodes.made))) e (orderly-head n s g is)).1
+
+  one-rule : (t : Token N) (s : State N) (f : Flow N) → t ≡ start name attrs closing → Orderly n s → IsOutsideText s.control → Rule n at t s ≡ f → Leads n at name attrs closing f
+  one-rule t s f same g out rule = subst (Leads n at name attrs closing) (ap (λ u. Rule n at u s) (sym same) ∙ rule) (rule-leads n at name attrs closing s out (head-below s g) ended)
+
+  chain-leads : (t : Token N) (s : State N) (o : Outcome (State N)) → t ≡ start name attrs closing → Orderly n s → IsOutsideText s.control → Chain n at t s o → ComesToText n at name attrs o
+  chain-leads t s o same g out (ends {s' = s'} rule) =
+      subst (λ (u : Token N). IsInText n at name attrs (finished at u s')) (sym same) (finished-text s' (one-rule t s (Done s') same g out rule))
+  chain-leads t s o same g out (refuses {r = r} rule) = one-rule t s (Refused r) same g out rule
+  chain-leads t s o same g out (goes_again {t' = t'} {s' = s'} rule rest) =
+      let next = one-rule t s (Again t' s') same g out rule in
+      chain-leads t' s' o next.0 (again-orderly n tells at t t' s s' g rule) next.1 rest
+
+module _ {N : Type 0} (n : Naming N) (tells : Tells n) where
+  pub raw-follows : RawFollows n
+  raw-follows s reached out at name attrs closing o ended (drops is) = cc
+  raw-follows s reached out at name attrs closing o ended (goes isnt rest) =
+      let g = reached-orderly n tells s reached in
+      chain-leads n tells at name attrs closing ended (start name attrs closing) (begun s) o refl (orderly-begins n s g) (record { mode = out; saved = λ i. outside s g i }) rest
+    where
+      outside : (s : State N) → Orderly n s → s.control.mode ≡ InTableText → s.control.saved ≢ Text
+      outside s g i e = let late = g.sound (ap is_texty i) in let clash = sym late ∙ ap is_texty e in cc

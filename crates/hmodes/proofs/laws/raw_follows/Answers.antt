@@ -1,0 +1,7 @@
+use Rattle.hadopt.specs.Naming.{texts}
+use Rattle.hmodes.proofs.Between.{texts-all}
+use Rattle.hmodes.proofs.RawFollows.{raw-follows}
+use Rattle.hmodes.proofs.laws.raw_follows.Goals as goal
+
+pub returns : goal.returns
+returns c = raw-follows texts texts-all
