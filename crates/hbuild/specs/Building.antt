@@ -1,0 +1,65 @@
+-- The builder of a tree as one value, and what a call does with it.
+use Rattle.std.specs.Prelude.{◌≡◌, ◌⊎◌, ℕ, List, [], ◌∷◌, ◌++◌, Option, Some, None, Result, Ok, Err, MatchOption}
+use Rattle.names.specs.declared.error.ParseError.{ParseError}
+use Rattle.names.specs.declared.refusal.Refusal.{Refusal}
+use Rattle.names.specs.declared.refusal.Refusal.TheVariants.{Memory}
+use Rattle.htoken.specs.declared.token.Token.{Token as Given}
+use Rattle.hadopt.specs.Naming.{numbers}
+use Rattle.hadopt.specs.Site.{Goes}
+use Rattle.hadopt.specs.Site as site
+use Rattle.hmodes.specs.Reached.{Reached}
+use Rattle.hmodes.specs.State.{State, Token}
+use Rattle.hmodes.specs.Step.{Chain, Step, begun}
+use Rattle.hmodes.specs.Tokens.{token_of, place_of}
+
+-- the state of the tree construction, the root of what is built, the parse errors that were handed over, and what was refused
+pub record Building : Type 0 where
+  pub state : State ℕ
+  pub root : ℕ  -- the document, or a fragment's root element
+  pub told : List ParseError
+  pub refused : Option Refusal
+
+-- The call that answers this, and leaves this state, does what comes of a token; or memory ran out.
+abbrev pub StepGives : ℕ → Token ℕ → State ℕ → Result (Unit {0}) Refusal → State ℕ → Type 0
+StepGives at t old (Ok _) new = Step numbers at t old (Goes new)
+StepGives at t old (Err e) new = (e ≡ Memory) ⊎ Step numbers at t old (site.Refused e)
+
+-- .. of the rules of a token that has begun
+abbrev pub ChainGives : ℕ → Token ℕ → State ℕ → Result (Unit {0}) Refusal → State ℕ → Type 0
+ChainGives at t old (Ok _) new = Chain numbers at t old (Goes new)
+ChainGives at t old (Err e) new = (e ≡ Memory) ⊎ Chain numbers at t old (site.Refused e)
+
+-- a state in which a token has begun
+abbrev pub HasBegun : State ℕ → Type 0
+HasBegun s = (before : State ℕ) × Reached numbers before × (s ≡ begun before)
+
+-- A call that is refused is refused from then on.
+abbrev pub refused_by : Result (Unit {0}) Refusal → Option Refusal
+refused_by (Ok _) = None
+refused_by (Err e) = Some e
+
+-- What is refused stays so, and nothing changes.
+pub record StaysRefused (r : Refusal) (old : Building) (answer : Result (Unit {0}) Refusal) (new : Building) : Type 0 where
+  pub same : answer ≡ Err r
+  pub kept : new ≡ old
+
+-- A token is taken.
+pub record TakesOn (at : ℕ) (t : Token ℕ) (old : Building) (answer : Result (Unit {0}) Refusal) (new : Building) : Type 0 where
+  pub step : StepGives at t old.state answer new.state
+  pub told : new.told ≡ old.told
+  pub root : new.root ≡ old.root
+  pub refused : new.refused ≡ refused_by answer
+
+abbrev pub Takes : ℕ → Token ℕ → Building → Result (Unit {0}) Refusal → Building → Type 0
+Takes at t old answer new = MatchOption old.refused (TakesOn at t old answer new) (λ r. StaysRefused r old answer new)
+
+abbrev pub TakesToken : Building → Given → Result (Unit {0}) Refusal → Building → Type 0
+TakesToken old token answer new = Takes (place_of token) (token_of token) old answer new
+
+-- A parse error is taken: one error more is told; or memory ran out.
+abbrev pub Tells : ParseError → Building → Result (Unit {0}) Refusal → Building → Type 0
+Tells e old (Ok _) new = new ≡ record old { told = old.told ++ e ∷ [] }
+Tells e old (Err r) new = (r ≡ Memory) × (new ≡ record old { refused = Some Memory })
+
+abbrev pub TakesError : Building → ParseError → Result (Unit {0}) Refusal → Building → Type 0
+TakesError old e answer new = MatchOption old.refused (Tells e old answer new) (λ r. StaysRefused r old answer new)

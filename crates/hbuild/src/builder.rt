@@ -1,0 +1,170 @@
+//! The builder of a tree.
+
+ghost use Rattle.std.specs.Prelude.{◌≡◌, ◌++◌, [], None, IfOk, MatchResult};
+ghost use Rattle.names.specs.declared.refusal.Refusal.TheVariants.{Memory};
+ghost use Rattle.hadopt.specs.Naming.{numbers};
+ghost use Rattle.hmodes.specs.Beginning.{document_begins, fragment_begins};
+ghost use Rattle.hmodes.specs.Tokens.{token_of, place_of};
+ghost use Rattle.hbuild.specs.Building.{Takes};
+
+use crate::beginning::{document_rules, fragment_rules};
+use crate::limits::Limits;
+use crate::steps::step;
+use hmarkup::{ErrorSink, Quirks};
+use hmodes::Rules;
+use hnodes::{NodeId, Tree};
+use htoken::{Token, TokenSink};
+use names::{NameId, ParseError, Refusal};
+use std::alloc::{AllocError, Global};
+use std::marker::Model;
+
+/// Builds the tree of a document or a fragment from its tokens. After a refusal each further call returns the same refusal and
+/// changes nothing.
+#[derive(Drop)]
+pub struct Builder<'q> {
+    rules: Rules<'q>,
+    root: NodeId,
+    told: Vec<ParseError>,
+    refused: Option<Refusal>,
+}
+
+impl<'q> Model for Builder<'q> {
+    ghost use Rattle.std.specs.Prelude.{◌≡◌, None};
+    ghost use Rattle.std.specs.Coded.{codes};
+    ghost use Rattle.hnodes.specs.Coding.{coded_forest};
+    ghost use Rattle.hadopt.specs.Naming.{numbers};
+    ghost use Rattle.hmodes.specs.Reached.{Reached};
+    ghost use Rattle.hmodes.specs.States.{state_of};
+    ghost use Rattle.hbuild.specs.Building.{Building};
+
+    ghost Value = { Building };
+
+    ghost coded = { Prim.hlevel (codes, coded_forest) };
+
+    ghost view = { λ b. record { state = state_of b.rules; root = b.root; told = b.told.items; refused = b.refused } };
+
+    ghost invariant = { λ b. b.refused ≡ None → Reached numbers (state_of b.rules) };
+}
+
+/// What was built: the tree, the document or a fragment's root element, and the parse errors: those of the rules in the order in
+/// which they were raised, then those that were handed over.
+#[derive(Drop)]
+pub struct Built {
+    pub tree: Tree,
+    pub root: NodeId,
+    pub errors: Vec<ParseError>,
+}
+
+impl<'q> Builder<'q> {
+    /// The builder of a document. An error is `Memory`.
+    pub fn document(
+        alloc: Global,
+        quirks: &'q Quirks,
+        limits: Limits,
+    ) -> Result<Builder<'q>, Refusal>
+        ensures { MatchResult result (λ b. b ≡ record { state = document_begins quirks.now limits; root = 0; told = []; refused = None }) (λ e. e ≡ Memory) }
+    {
+        let rules = document_rules(alloc, quirks, limits)?;
+        let root = rules.site.tree().document();
+        Ok(Builder {
+            rules,
+            root,
+            told: Vec::new(alloc),
+            refused: None,
+        })
+    }
+
+    /// The builder of a fragment in a context element of this name. An error is `Memory`.
+    pub fn fragment(alloc: Global, context: NameId, limits: Limits) -> Result<Builder<'q>, Refusal>
+        ensures { MatchResult result (λ b. b ≡ record { state = fragment_begins numbers context limits; root = 1; told = []; refused = None }) (λ e. e ≡ Memory) }
+    {
+        let begun = fragment_rules(alloc, context, limits)?;
+        Ok(Builder {
+            rules: begun.0,
+            root: begun.1,
+            told: Vec::new(alloc),
+            refused: None,
+        })
+    }
+
+    /// The tree, its root, and the parse errors.
+    pub fn finish(self) -> Result<Built, AllocError>
+        ensures tree { IfOk result (λ built. built.tree ≡ self.entry.state.site.nodes) }
+        ensures root { IfOk result (λ built. built.root ≡ self.entry.root) }
+        ensures errors { IfOk result (λ built. built.errors.items ≡ self.entry.state.site.errors ++ self.entry.told) }
+    {
+        let Builder {
+            rules,
+            root,
+            told,
+            ..
+        } = self;
+        let Rules { site, .. } = rules;
+        let (tree, mut errors) = site.into_parts();
+        let mut told = told;
+        errors.append(&mut told)?;
+        Ok(Built { tree, root, errors })
+    }
+
+    /// Takes a token, whose first byte is at this place.
+    fn take(&mut self, token: &mut Token, at: u64) -> Result<(), Refusal>
+        ensures { Takes at (token_of token.old) self.old result self.new }
+    {
+        if let Some(refusal) = self.refused {
+            return Err(refusal);
+        }
+        let answer = step(&mut self.rules, token, at);
+        if let Err(refusal) = answer {
+            self.refused = Some(refusal);
+        }
+        answer
+    }
+}
+
+/// The place of a token's first byte.
+fn place(token: &Token) -> u64
+    ensures { result ≡ place_of token.now }
+{
+    match token {
+        Token::Doctype { at, .. }
+        | Token::Start { at, .. }
+        | Token::End { at, .. }
+        | Token::Comment { at, .. }
+        | Token::Char { at, .. }
+        | Token::Eof { at } => *at,
+    }
+}
+
+impl<'q> ErrorSink for Builder<'q> {
+    ghost use Rattle.hbuild.specs.Building.{TakesError};
+
+    ghost gives = { TakesError };
+
+    fn take_error(&mut self, error: ParseError) -> Result<(), Refusal> {
+        if let Some(refusal) = self.refused {
+            return Err(refusal);
+        }
+        if self.told.push(error).is_err() {
+            self.refused = Some(Refusal::Memory);
+            return Err(Refusal::Memory);
+        }
+        Ok(())
+    }
+}
+
+impl<'q> TokenSink for Builder<'q> {
+    ghost use Rattle.hbuild.specs.Building.{TakesToken};
+
+    ghost gives_token = { TakesToken };
+
+    fn take_token(&mut self, token: Token) -> Result<(), Refusal> {
+        let mut token = token;
+        let at = place(&token);
+        self.take(&mut token, at)
+    }
+
+    fn take_text(&mut self, ch: char, at: u64) -> Result<(), Refusal> {
+        let mut token = Token::Char { ch, at };
+        self.take(&mut token, at)
+    }
+}

@@ -1,0 +1,14 @@
+//! The builder: tokens to a tree (HTML Standard, 13.2.6 and 13.4).
+#![tactic(auto)]
+
+mod beginning;
+pub mod builder;
+pub mod limits;
+#[cfg(test)]
+mod page;
+mod steps;
+#[cfg(test)]
+mod tests;
+
+pub use builder::{Builder, Built};
+pub use limits::{LEAST, Limits, MAX_DEPTH, MAX_NODES};
