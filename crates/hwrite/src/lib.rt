@@ -2,7 +2,15 @@
 #![tactic(auto)]
 
 pub mod content;
+mod escaped;
 pub mod escaping;
+mod lines;
+mod node;
+mod serialize;
+mod sorted;
+mod walk;
 
 pub use content::{Content, Role, Texts};
 pub use escaping::Escaping;
+pub use lines::{error_lines, tree_text};
+pub use serialize::serialize_to_vec;

@@ -1,0 +1,10 @@
+pub mod Moves
+pub mod Sorting
+pub mod Sizes
+pub mod Seen
+pub mod Runs
+pub mod Ordered
+pub mod Printed
+pub mod KnownNames
+pub mod Wrote
+pub mod Escapes

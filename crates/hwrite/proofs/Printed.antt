@@ -1,0 +1,114 @@
+-- What a walk prints.
+use Rattle.std.proofs.Common.{◌≡◌, ℕ, zero, suc, ◌+◌, ◌-◌, ◌^◌, ◌<◌, ◌≤◌, Bool, true, false, cond, List, [], ◌∷◌, ◌++◌, length, sym, ◌∙◌, ap, subst, arith}
+use Rattle.std.proofs.lemmas.List.{append_assoc, append-nil}
+use Rattle.std.specs.List.{AllByRecursion, repeat}
+use Rattle.std.specs.Prelude.{codes}
+use Rattle.names.specs.Names.{Texts, text_of}
+use Rattle.hnodes.specs.Forest.{Forest, none, tree, children_of}
+use Rattle.hnodes.specs.Edits.{AreCounted}
+use Rattle.hnodes.specs.Spelled.{spelled, spelled_what}
+use Rattle.hnodes.specs.Spots.{what_of}
+use Rattle.hwrite.specs.Lines.{node_lines, tree_lines, tree_text}
+use Rattle.hnodes.specs.Named.{AreOf, IsLent}
+use Rattle.hwrite.specs.Printing.{one_less, depth_after, IsOpen, lines_of, visit_lines}
+use Rattle.hwrite.specs.Walk.{node_of, goes_in, visits}
+use Rattle.hwrite.specs.declared.walk.Visit.{Visit}
+use Rattle.hwrite.specs.declared.walk.Visit.TheVariants.{Enter, Leave}
+use Rattle.hwrite.proofs.Runs.{run, walked, run-visits, goes-whole}
+use Rattle.hwrite.proofs.Seen.{Seen, seen, lent-visits}
+
+-- only what is open is left, all along
+abbrev Balanced : ℕ → List Visit → Type 0
+Balanced depth [] = Unit {0}
+Balanced depth (v ∷ vs) = IsOpen depth v × Balanced (depth_after v depth) vs
+
+balanced : (skips : Bool) (f : Forest ℕ) (depth : ℕ) (more : List Visit) → Balanced depth more → Balanced depth (visits skips f ++ more)
+balanced skips none depth more h = h
+balanced skips (tree b w kids rest) depth more h = (tt, go (goes_in skips w) (balanced skips kids (suc depth) (Leave b ∷ (visits skips rest ++ more))) (omega arith, balanced skips rest depth more h))
+  where
+    go : (u : Bool) → (Balanced (suc depth) (Leave b ∷ (visits skips rest ++ more)) → Balanced (suc depth) (visits skips kids ++ (Leave b ∷ (visits skips rest ++ more)))) → Balanced (suc depth) (Leave b ∷ (visits skips rest ++ more))
+        → Balanced (suc depth) ((cond u (visits skips kids) [] ++ Leave b ∷ visits skips rest) ++ more)
+    go true l r = subst (Balanced (suc depth)) (sym (append_assoc (visits skips kids) (Leave b ∷ visits skips rest) more)) (l r)
+    go false l r = r
+
+module _ (texts : ℕ → List ℕ) (f : Forest ℕ) where
+  -- the depth, and what has been printed
+  abbrev Printing : Type 0
+  Printing = ℕ × List ℕ
+
+  abbrev pub enters : ℕ → Printing → Printing
+  enters n s = (suc s.0, s.1 ++ lines_of texts s.0 (what_of n f))
+
+  abbrev pub leaves : ℕ → Printing → Printing
+  leaves n s = (one_less s.0, s.1)
+
+  prints : (made root p : ℕ) (g : Forest ℕ) → Seen made f root p g → (depth : ℕ) (out : List ℕ) → walked enters leaves false g (depth, out) ≡ (depth, out ++ tree_lines depth (spelled texts g))
+  prints made root p none s depth out = ap (λ (t : List ℕ). (depth, t)) (sym (append-nil out))
+  prints made root p (tree b w kids rest) s depth out =
+      ap (λ u. walked enters leaves false rest (leaves b (cond u (walked enters leaves false kids (enters b (depth, out))) (enters b (depth, out))))) (goes-whole w)
+      ∙ ap (λ o. walked enters leaves false rest (leaves b (walked enters leaves false kids (suc depth, out ++ lines_of texts depth o)))) s.0.what
+      ∙ ap (λ (q : Printing). walked enters leaves false rest (leaves b q)) (prints made root b kids s.1 (suc depth) (out ++ node_lines depth (spelled_what texts w)))
+      ∙ prints made root p rest s.2 depth ((out ++ node_lines depth (spelled_what texts w)) ++ tree_lines (suc depth) (spelled texts kids))
+      ∙ ap (λ (t : List ℕ). (depth, t)) (regrouped (node_lines depth (spelled_what texts w)) (tree_lines (suc depth) (spelled texts kids)) (tree_lines depth (spelled texts rest)))
+    where
+      regrouped : (a k r : List ℕ) → ((out ++ a) ++ k) ++ r ≡ out ++ ((a ++ k) ++ r)
+      regrouped a k r = ap (λ t. t ++ r) (append_assoc out a k) ∙ append_assoc out (a ++ k) r
+
+-- What is printed so far, and the visits that are left.
+pub record IsPrinting (names : Texts) (made : ℕ) (f : Forest ℕ) (root depth : ℕ) (out : List ℕ) (left : List Visit) : Type 0 where
+  pub few : depth + length left < 2 ^ 33
+  pub balanced : Balanced depth left
+  pub lent : AllByRecursion (λ v. IsLent names made f (node_of v)) left
+  pub same : run (enters (text_of names) f) (leaves (text_of names) f) left (depth, out) ≡ (0, tree_text (spelled (text_of names) (children_of root f)))
+
+pub begun : (names : Texts) (made : ℕ) (f : Forest ℕ) (root : ℕ) (out : List ℕ) (left items : List Visit) → AreCounted made f → root < made → AreOf names (children_of root f) → out ≡ [] → left ≡ items
+    → items ≡ visits false (children_of root f) → length items < 2 ^ 33 → IsPrinting names made f root 0 out left
+begun names made f root out left items counted h of empty same visited few = record {
+  few = let long : length left ≡ length items = ap length same in omega (arith, few, long);
+  balanced = subst (Balanced 0) (append-nil (visits false (children_of root f)) ∙ sym is) (balanced false (children_of root f) 0 [] tt);
+  lent = subst (AllByRecursion (λ v. IsLent names made f (node_of v))) (sym is) (lent-visits names made f root false counted h of);
+  same = (λ i. run (enters (text_of names) f) (leaves (text_of names) f) (is i) (0, empty i)) ∙ run-visits (enters (text_of names) f) (leaves (text_of names) f) false (children_of root f) (0, [])
+      ∙ prints (text_of names) f made root root (children_of root f) (seen made f counted root h) 0 [];
+}
+  where
+    is : left ≡ visits false (children_of root f)
+    is = same ∙ visited
+
+-- one visit more
+pub goes_on : (names : Texts) (made : ℕ) (f : Forest ℕ) (root depth depth' : ℕ) (out out' : List ℕ) (v : Visit) (old left : List Visit) → old ≡ v ∷ left → IsPrinting names made f root depth out old
+    → depth' ≡ depth_after v depth → out' ≡ out ++ visit_lines (text_of names) f depth v → IsPrinting names made f root depth' out' left
+goes_on names made f root depth depth' out out' v old left is s d o = go v (subst (IsPrinting names made f root depth out) is s) d o
+  where
+    go : (v : Visit) → IsPrinting names made f root depth out (v ∷ left) → depth' ≡ depth_after v depth → out' ≡ out ++ visit_lines (text_of names) f depth v → IsPrinting names made f root depth' out' left
+    go (Enter n) t e e' = record {
+      few = let long = t.few in omega (arith, long, e);
+      balanced = subst (λ k. Balanced k left) (sym e) t.balanced.1;
+      lent = t.lent.1;
+      same = (λ i. run (enters (text_of names) f) (leaves (text_of names) f) left (e i, e' i)) ∙ t.same;
+    }
+    go (Leave n) t e e' = record {
+      few = let long = t.few in let less = below depth in omega (arith, long, e, less);
+      balanced = subst (λ k. Balanced k left) (sym e) t.balanced.1;
+      lent = t.lent.1;
+      same = (λ i. run (enters (text_of names) f) (leaves (text_of names) f) left (e i, (e' ∙ append-nil out) i)) ∙ t.same;
+    }
+      where
+        below : (k : ℕ) → one_less k ≤ k
+        below zero = omega arith
+        below (suc k) = omega arith
+
+-- what the next visit asks for
+pub next_is : (names : Texts) (made : ℕ) (f : Forest ℕ) (root depth : ℕ) (out : List ℕ) (v : Visit) (old left : List Visit) → old ≡ v ∷ left → IsPrinting names made f root depth out old
+    → (depth < 2 ^ 33) × IsOpen depth v × IsLent names made f (node_of v)
+next_is names made f root depth out v old left is s =
+    let t = subst (IsPrinting names made f root depth out) is s in let long = t.few in (omega (arith, long), t.balanced.0, t.lent.0)
+
+-- the end
+pub printed : (names : Texts) (made : ℕ) (f : Forest ℕ) (root depth : ℕ) (out : List ℕ) (left : List Visit) → left ≡ [] → IsPrinting names made f root depth out left → out ≡ tree_text (spelled (text_of names) (children_of root f))
+printed names made f root depth out left is s = ap (λ (q : ℕ × List ℕ). q.1) (subst (IsPrinting names made f root depth out) is s).same
+
+-- two spaces more
+pub one-level : (text new all : List ℕ) (depth level : ℕ) → level < depth → new ≡ text ++ codes "  " → text ++ repeat (depth - level) (codes "  ") ≡ all → new ++ repeat (depth - (level + 1)) (codes "  ") ≡ all
+one-level text new all depth level h is before =
+    let one : depth - level ≡ suc (depth - (level + 1)) = omega arith in
+    ap (λ t. t ++ repeat (depth - (level + 1)) (codes "  ")) is ∙ append_assoc text (codes "  ") (repeat (depth - (level + 1)) (codes "  ")) ∙ ap (λ n. text ++ repeat n (codes "  ")) (sym one) ∙ before
