@@ -1,25 +1,27 @@
 -- What a feeding holds after one item more, and after the end of the text.
 use Rattle.std.proofs.Common.{◌≡◌, ℕ, List, [], ◌∷◌, ◌++◌, sym, refl, ap, ◌∙◌, subst, Result, Ok, Err, append-nil, append_assoc}
+use Rattle.std.specs.Prelude.{is_err}
 use Rattle.std.specs.List.Sorted.{IsPermutation}
-use Rattle.std.proofs.lemmas.List.Sorted.{IsPermutation-trans, IsPermutation-sym, IsPermutation-cons, IsPermutation-append_left, IsPermutation-middle, IsPermutation-to_front}
+use Rattle.std.proofs.lemmas.List.Sorted.{IsPermutation-trans, IsPermutation-sym, IsPermutation-refl, IsPermutation-middle, IsPermutation-to_front}
 use Rattle.names.specs.declared.error.ParseError.{ParseError}
 use Rattle.names.specs.declared.placed.Placed.{Placed}
-use Rattle.names.specs.declared.raw.RawKind.TheVariants as kind
+use Rattle.names.specs.declared.raw.RawKind.{RawKind}
 use Rattle.names.specs.declared.refusal.Refusal.{Refusal}
-use Rattle.names.specs.declared.refusal.Refusal.TheVariants.{Memory, OutOfProfile}
 use Rattle.names.specs.Names.{Texts, Grows}
+use Rattle.names.proofs.Handing.{grows_not}
 use Rattle.htext.specs.Items.{CharItem, Character, InputError, characters_among, errors_among}
-use Rattle.htoken.specs.Token.{Tok, Event}
-use Rattle.htoken.specs.Tokens.{IsRefused, tokens_in, errors_in}
+use Rattle.htoken.specs.Standing.{start_kind}
+use Rattle.htoken.specs.Token.{Tok, Event, Reports, Item}
+use Rattle.htoken.specs.Tokens.{IsRefused, AreFront, eof_of, tokens_in, errors_in}
+use Rattle.htoken.specs.Handing.{HandsEvents}
 use Rattle.charref.specs.Reference.{Entities}
 use Rattle.htoken.specs.declared.tokenizer.Tokenizer.{Tokenizer}
-use Rattle.htoken.specs.Tokenizing.{HasTaken, Takes, take_ran_out, take_refused, take_sink_refused, take_took, Finishes, finish_ran_out, finish_sink_refused, finish_took}
-use Rattle.hparse.specs.declared.feeding.Feeding.{Feeding}
-use Rattle.hparse.specs.Collecting.{KeepsError}
-use Rattle.hparse.specs.TokenRun.{TokensMean}
-use Rattle.hparse.specs.Holding.{HoldsItems, TakesItem, item_ran_out, item_refused, item_taken, EndsText, text_ran_out, text_read}
-use Rattle.hparse.proofs.Gathered.{collects, Gathers, gathered, stopped, tokens_kept, TokensMean-append}
+use Rattle.htoken.specs.Tokenizing.{HasTaken, holds, in_run, Takes, take_ran_out, take_refused, take_sink_refused, take_took, Finishes, finish_ran_out, finish_sink_refused, finish_took}
 use Rattle.htoken.proofs.Cutting.{tokens_in-append, errors_in-append}
+use Rattle.hparse.specs.declared.feeding.Feeding.{Feeding}
+use Rattle.hparse.specs.Input.{Manner, Began, Handed}
+use Rattle.hparse.specs.Holding.{HoldsItems, TakesItem, item_ran_out, item_stopped, item_refused, item_taken, EndsText, text_ran_out, text_stopped, text_taken}
+use Rattle.hparse.proofs.Handing.{handed_more, handed_as}
 
 pub characters_among-append : (xs ys : List CharItem) → characters_among (xs ++ ys) ≡ characters_among xs ++ characters_among ys
 characters_among-append [] ys = refl
@@ -31,76 +33,104 @@ errors_among-append [] ys = refl
 errors_among-append (Character p ∷ xs) ys = errors_among-append xs ys
 errors_among-append (InputError e ∷ xs) ys = ap (λ (x : List ParseError). e ∷ x) (errors_among-append xs ys)
 
-refused_for : (answer : Result (Unit {0}) Refusal) (e : Refusal) → answer ≡ Err e → e ≡ Memory → answer ≡ Err Memory
-refused_for answer e is why = is ∙ ap (λ (x : Refusal). Err x) why
+-- what was taken is a front of what the text gives, whatever comes after
+taken_front : (table : Entities) (start : RawKind) (t : Tokenizer) (names : Texts) (text : List Placed) (taken : List Event) → HasTaken table start t names text taken → (more : List Placed) (end : ℕ)
+    → AreFront table start (text ++ more) end taken
+taken_front table start t names text taken (holds h) more end =
+    let st = h.stands end more in
+    let rest : List Placed = h.held ++ more in
+    record {
+      spans = st.spans;
+      rest = rest;
+      others = eof_of end rest;
+      text_is = ap (λ (x : List Placed). x ++ more) h.text_is ∙ append_assoc h.front h.held more ∙ ap (λ (x : List Placed). x ++ rest) st.front_is;
+      cut = st.cut;
+      in_profile = st.in_profile;
+      front_is = ap (λ (x : List Tok). x ++ eof_of end rest) st.tokens_are;
+    }
+taken_front table start t names text taken (in_run h) more end =
+    let st = h.stands end more in
+    record {
+      spans = st.spans;
+      rest = more;
+      others = eof_of end more;
+      text_is = ap (λ (x : List Placed). x ++ more) st.front_is;
+      cut = st.cut;
+      in_profile = st.in_profile;
+      front_is = ap (λ (x : List Tok). x ++ eof_of end more) st.tokens_are;
+    }
 
 -- one more error, among what came before
-pub with_error : (before after all : List ParseError) (e : ParseError) → IsPermutation (before ++ after) all → IsPermutation ((before ++ e ∷ []) ++ after) (all ++ e ∷ [])
-with_error before after all e p =
-    subst (λ (x : List ParseError). IsPermutation x (all ++ e ∷ [])) (sym (append_assoc before (e ∷ []) after))
-    (IsPermutation-trans (before ++ e ∷ after) (e ∷ (before ++ after)) (all ++ e ∷ []) (IsPermutation-middle before e after)
-    (IsPermutation-trans (e ∷ (before ++ after)) (e ∷ all) (all ++ e ∷ []) (IsPermutation-cons e (before ++ after) all p)
-    (IsPermutation-sym (all ++ e ∷ []) (e ∷ all) (IsPermutation-to_front all e))))
+with_error : (before after : List ParseError) (e : ParseError) → IsPermutation ((before ++ e ∷ []) ++ after) ((before ++ after) ++ e ∷ [])
+with_error before after e =
+    subst (λ (x : List ParseError). IsPermutation x ((before ++ after) ++ e ∷ [])) (sym (append_assoc before (e ∷ []) after))
+    (IsPermutation-trans (before ++ e ∷ after) (e ∷ (before ++ after)) ((before ++ after) ++ e ∷ []) (IsPermutation-middle before e after)
+    (IsPermutation-sym ((before ++ after) ++ e ∷ []) (e ∷ (before ++ after)) (IsPermutation-to_front (before ++ after) e)))
 
-module _ (table : Entities) (old new : Feeding) (items : List CharItem) (h : HoldsItems table old items) where
+module _ {S : Type 0} (gives : S → Item → Result (Unit {0}) Refusal → S → Type 0) (m : Manner) (began : Began S) (old new : Feeding S) (items : List CharItem) (h : HoldsItems gives m began old items) where
   -- an error of the input stream
-  pub holds_error : (e : ParseError) (answer : Result (Unit {0}) Refusal) → new.names ≡ old.names → new.tokenizer ≡ old.tokenizer
-      → KeepsError old.collected.tokens.items old.collected.errors.items e answer new.collected.tokens.items new.collected.errors.items → TakesItem table items (InputError e) answer new
-  holds_error e (Err x) names_are tokenizer_is why = item_ran_out (refused_for (Err x) x refl why)
-  holds_error e (Ok u) names_are tokenizer_is kept =
-      item_taken refl (record {
-        taken = h.taken;
-        has_taken = subst (λ (t : Tokenizer). HasTaken table kind.None t new.names (characters_among (items ++ InputError e ∷ [])) h.taken) (sym tokenizer_is)
-            (subst (λ (n : Texts). HasTaken table kind.None old.tokenizer n (characters_among (items ++ InputError e ∷ [])) h.taken) (sym names_are)
-            (subst (λ (x : List Placed). HasTaken table kind.None old.tokenizer old.names x h.taken) (sym (append-nil (characters_among items)) ∙ sym (characters_among-append items (InputError e ∷ []))) h.has_taken));
-        tokens_mean = subst (λ (n : Texts). TokensMean n new.collected.tokens.items (tokens_in h.taken)) (sym names_are) (subst (λ ts. TokensMean old.names ts (tokens_in h.taken)) (sym kept.0) h.tokens_mean);
-        errors_are = subst (λ (x : List ParseError). IsPermutation (x ++ errors_in h.taken) new.collected.errors.items) (sym (errors_among-append items (InputError e ∷ [])))
-            (subst (λ (x : List ParseError). IsPermutation ((errors_among items ++ e ∷ []) ++ errors_in h.taken) x) (sym kept.1)
-            (with_error (errors_among items) (errors_in h.taken) old.collected.errors.items e h.errors_are));
-      })
+  module _ (e : ParseError) (names_are : new.names ≡ old.names) (tokenizer_is : new.tokenizer ≡ old.tokenizer) where
+    abbrev all_errors : List ParseError
+    all_errors = errors_among items ++ errors_in h.taken
+
+    after_error : (answer : Result (Unit {0}) Refusal) → HandsEvents gives new.names old.sink (Reports e ∷ []) answer new.sink → Handed gives new.names began (tokens_in h.taken ++ []) (all_errors ++ e ∷ []) answer new.sink
+    after_error answer given = handed_more gives old.names new.names (subst (Grows old.names) (sym names_are) (grows_not old.names)) began old.sink new.sink (tokens_in h.taken) all_errors (Reports e ∷ []) answer h.handed given
+
+    text_is : characters_among items ≡ characters_among (items ++ InputError e ∷ [])
+    text_is = sym (append-nil (characters_among items)) ∙ sym (characters_among-append items (InputError e ∷ []))
+
+    pub holds_error : (answer : Result (Unit {0}) Refusal) → new.stopped ≡ is_err answer → HandsEvents gives new.names old.sink (Reports e ∷ []) answer new.sink → TakesItem gives m began items (InputError e) answer new
+    holds_error (Err x) noted given =
+        item_stopped x h.taken (all_errors ++ e ∷ []) refl noted
+        (handed_as gives new.names began new.sink (tokens_in h.taken ++ []) (tokens_in h.taken) (all_errors ++ e ∷ []) (all_errors ++ e ∷ []) (Err x) (append-nil (tokens_in h.taken)) (IsPermutation-refl (all_errors ++ e ∷ [])) (after_error (Err x) given))
+        (λ more end. subst (λ (x : List Placed). AreFront m.table (start_kind m.start) x end h.taken) (sym (characters_among-append items (InputError e ∷ more)))
+        (taken_front m.table (start_kind m.start) old.tokenizer old.names (characters_among items) h.taken h.has_taken (characters_among more) end))
+    holds_error (Ok u) noted given =
+        item_taken refl (record {
+          taken = h.taken;
+          has_taken = subst (λ (t : Tokenizer). HasTaken m.table (start_kind m.start) t new.names (characters_among (items ++ InputError e ∷ [])) h.taken) (sym tokenizer_is)
+              (subst (λ (n : Texts). HasTaken m.table (start_kind m.start) old.tokenizer n (characters_among (items ++ InputError e ∷ [])) h.taken) (sym names_are)
+              (subst (λ (x : List Placed). HasTaken m.table (start_kind m.start) old.tokenizer old.names x h.taken) text_is h.has_taken));
+          handed = handed_as gives new.names began new.sink (tokens_in h.taken ++ []) (tokens_in h.taken) (all_errors ++ e ∷ []) (errors_among (items ++ InputError e ∷ []) ++ errors_in h.taken) (Ok tt) (append-nil (tokens_in h.taken))
+              (subst (λ (x : List ParseError). IsPermutation (x ++ errors_in h.taken) (all_errors ++ e ∷ [])) (sym (errors_among-append items (InputError e ∷ []))) (with_error (errors_among items) (errors_in h.taken) e))
+              (after_error (Ok tt) given);
+          unstopped = noted;
+        })
 
   module _ (grows : Grows old.names new.names) where
-    tokens_after : (events : List Event) → Gathers new.names old.collected events new.collected → TokensMean new.names new.collected.tokens.items (tokens_in (h.taken ++ events))
-    tokens_after events g =
-        subst (λ (ks : List Tok). TokensMean new.names new.collected.tokens.items ks) (sym (tokens_in-append h.taken events))
-        (subst (λ ts. TokensMean new.names ts (tokens_in h.taken ++ tokens_in events)) (sym g.tokens_are)
-        (TokensMean-append new.names old.collected.tokens.items g.more (tokens_in h.taken) (tokens_in events)
-        (tokens_kept old.names new.names grows old.collected.tokens.items (tokens_in h.taken) h.tokens_mean) g.mean))
-
-    errors_after : (events : List Event) → Gathers new.names old.collected events new.collected → IsPermutation (errors_among items ++ errors_in (h.taken ++ events)) new.collected.errors.items
-    errors_after events g =
-        subst (λ (x : List ParseError). IsPermutation (errors_among items ++ x) new.collected.errors.items) (sym (errors_in-append h.taken events))
-        (subst (λ (x : List ParseError). IsPermutation x new.collected.errors.items) (append_assoc (errors_among items) (errors_in h.taken) (errors_in events))
-        (subst (λ (x : List ParseError). IsPermutation ((errors_among items ++ errors_in h.taken) ++ errors_in events) x) (sym g.errors_are)
-        (IsPermutation-append_left (errors_in events) (errors_among items ++ errors_in h.taken) old.collected.errors.items h.errors_are)))
+    -- the events after those that were taken
+    after_events : (events : List Event) (answer : Result (Unit {0}) Refusal) → HandsEvents gives new.names old.sink events answer new.sink
+        → Handed gives new.names began (tokens_in (h.taken ++ events)) (errors_among items ++ errors_in (h.taken ++ events)) answer new.sink
+    after_events events answer given =
+        subst (λ (ks : List Tok). Handed gives new.names began ks (errors_among items ++ errors_in (h.taken ++ events)) answer new.sink) (sym (tokens_in-append h.taken events))
+        (subst (λ (x : List ParseError). Handed gives new.names began (tokens_in h.taken ++ tokens_in events) x answer new.sink)
+        (append_assoc (errors_among items) (errors_in h.taken) (errors_in events) ∙ ap (λ (x : List ParseError). errors_among items ++ x) (sym (errors_in-append h.taken events)))
+        (handed_more gives old.names new.names grows began old.sink new.sink (tokens_in h.taken) (errors_among items ++ errors_in h.taken) events answer h.handed given))
 
     -- a character
-    pub holds_char : (p : Placed) (answer : Result (Unit {0}) Refusal)
-        → Takes collects table kind.None (characters_among items) (p ∷ []) h.taken new.names old.collected answer new.collected new.tokenizer → TakesItem table items (Character p) answer new
-    holds_char p answer (take_ran_out events e handed front) = item_ran_out e
-    holds_char p answer (take_refused name at events e handed refused) =
-        item_refused (OutOfProfile name at) e (λ more end. record {
-          tokens = tokens_in (h.taken ++ events);
-          name = name;
-          at = at;
-          refused = subst (λ (x : List Placed). IsRefused table kind.None x end (tokens_in (h.taken ++ events)) name at) (sym (characters_among-append items (Character p ∷ more))) (refused (characters_among more) end);
-          refusal_is = refl;
-        })
-    holds_char p answer (take_sink_refused x events e handed front) = item_ran_out (refused_for answer x e (stopped new.names old.collected new.collected events x handed))
-    holds_char p answer (take_took events e handed has) =
-        let g = gathered new.names old.collected new.collected events handed in
+    pub holds_char : (p : Placed) (answer : Result (Unit {0}) Refusal) → new.stopped ≡ is_err answer
+        → Takes gives m.table (start_kind m.start) (characters_among items) (p ∷ []) h.taken new.names old.sink answer new.sink new.tokenizer → TakesItem gives m began items (Character p) answer new
+    holds_char p answer noted (take_ran_out events e handed front) = item_ran_out e
+    holds_char p answer noted (take_refused name at events e handed refused) =
+        item_refused name at (tokens_in (h.taken ++ events)) (errors_among items ++ errors_in (h.taken ++ events)) e (noted ∙ ap is_err e) (after_events events (Ok tt) handed)
+        (λ more end. subst (λ (x : List Placed). IsRefused m.table (start_kind m.start) x end (tokens_in (h.taken ++ events)) name at) (sym (characters_among-append items (Character p ∷ more))) (refused (characters_among more) end))
+    holds_char p answer noted (take_sink_refused x events e handed front) =
+        item_stopped x (h.taken ++ events) (errors_among items ++ errors_in (h.taken ++ events)) e (noted ∙ ap is_err e) (after_events events (Err x) handed)
+        (λ more end. subst (λ (x : List Placed). AreFront m.table (start_kind m.start) x end (h.taken ++ events)) (sym (characters_among-append items (Character p ∷ more))) (front (characters_among more) end))
+    holds_char p answer noted (take_took events e handed has) =
         item_taken e (record {
           taken = h.taken ++ events;
-          has_taken = subst (λ (x : List Placed). HasTaken table kind.None new.tokenizer new.names x (h.taken ++ events)) (sym (characters_among-append items (Character p ∷ []))) has;
-          tokens_mean = tokens_after events g;
-          errors_are = subst (λ (x : List ParseError). IsPermutation (x ++ errors_in (h.taken ++ events)) new.collected.errors.items) (sym (append-nil (errors_among items)) ∙ sym (errors_among-append items (Character p ∷ []))) (errors_after events g);
+          has_taken = subst (λ (x : List Placed). HasTaken m.table (start_kind m.start) new.tokenizer new.names x (h.taken ++ events)) (sym (characters_among-append items (Character p ∷ []))) has;
+          handed = subst (λ (x : List ParseError). Handed gives new.names began (tokens_in (h.taken ++ events)) (x ++ errors_in (h.taken ++ events)) (Ok tt) new.sink)
+              (sym (append-nil (errors_among items)) ∙ sym (errors_among-append items (Character p ∷ []))) (after_events events (Ok tt) handed);
+          unstopped = noted ∙ ap is_err e;
         })
 
     -- the end
     pub ends_text : (end : ℕ) (answer : Result (Unit {0}) Refusal)
-        → Finishes collects table kind.None end (characters_among items) h.taken new.names old.collected answer new.collected → EndsText table items end answer new
+        → Finishes gives m.table (start_kind m.start) end (characters_among items) h.taken new.names old.sink answer new.sink → EndsText gives m began items end answer new
     ends_text end answer (finish_ran_out events e handed front) = text_ran_out e
-    ends_text end answer (finish_sink_refused x events e handed front) = text_ran_out (refused_for answer x e (stopped new.names old.collected new.collected events x handed))
+    ends_text end answer (finish_sink_refused x events e handed front) =
+        text_stopped x (h.taken ++ events) (errors_among items ++ errors_in (h.taken ++ events)) e (after_events events (Err x) handed) front
     ends_text end answer (finish_took events e handed t) =
-        let g = gathered new.names old.collected new.collected events handed in
-        text_read (tokens_in (h.taken ++ events)) (errors_in (h.taken ++ events)) e t (tokens_after events g) (errors_after events g)
+        text_taken (tokens_in (h.taken ++ events)) (errors_in (h.taken ++ events)) e t (after_events events (Ok tt) handed)

@@ -1,27 +1,27 @@
--- What a reader's document has come to, turn by turn.
-use Rattle.std.proofs.Common.{◌≡◌, ℕ, ◌+◌, ◌-◌, ◌<◌, ◌≤◌, List, [], ◌++◌, length, take, refl, sym, ap, subst, ◌∙◌, append-nil, arith, length-append, length-drop, Option, Result, Ok, Err}
+-- What a reader's input has come to, turn by turn.
+use Rattle.std.proofs.Common.{◌≡◌, ℕ, ◌+◌, ◌-◌, ◌<◌, ◌≤◌, List, [], ◌++◌, length, take, refl, sym, ap, subst, ◌∙◌, append-nil, append_assoc, arith, length-append, length-drop, Option, Result, Ok, Err, inl, inr}
+use Rattle.std.specs.Prelude.{◌⊎◌}
 use Rattle.std.specs.Io.KnownBytes.{Consumes, IsAtEnd, Keeps}
 use Rattle.std.proofs.Math.Seq.{take-append_seam}
 use Rattle.std.proofs.lemmas.List.{length-take-le}
-use Rattle.std.proofs.KnownBytes.{Consumes-trans, Consumes-kept}
+use Rattle.std.proofs.KnownBytes.{Consumes-nil, Consumes-trans, Consumes-kept}
 use Rattle.names.specs.declared.refusal.Refusal.{Refusal}
 use Rattle.names.specs.declared.refusal.Refusal.TheVariants.{Memory, Read}
-use Rattle.charref.specs.Reference.{Entities}
 use Rattle.htext.specs.Text.{valid_len}
 use Rattle.htext.specs.Decoding.{Progress, HasFed}
 use Rattle.htext.proofs.Valid.{valid_len_le}
+use Rattle.htoken.specs.Token.{Item}
 use Rattle.hparse.specs.declared.reading.Reading.{Reading}
-use Rattle.hparse.specs.declared.token_run.TokenRun.{TokenRun}
-use Rattle.hparse.specs.Shown.{Shows, ran_out, refuses, accepts}
-use Rattle.hparse.specs.Fed.{HasRead, FeedsPiece, piece_ran_out, piece_refused, piece_read}
+use Rattle.hparse.specs.Input.{Manner, Began, Comes}
+use Rattle.hparse.specs.Fed.{HasRead, FeedsPiece, piece_ran_out, piece_refused, piece_read, EndsInput, input_ran_out, input_comes}
 use Rattle.hparse.specs.Calls.{counted}
-use Rattle.hparse.specs.Running.{Gave, IsRefusedFrom, IsUndecided, ReadsDocument, reading_ran_out, reading_failed, reading_stopped, reading_refused, read_to_end}
-use Rattle.hparse.proofs.Pieces.{has_read}
+use Rattle.hparse.specs.Reader.{IsRefusedFrom, IsUndecided, ReadsInput, reading_ran_out, reading_failed, reading_stopped, read_to_end}
+use Rattle.hparse.proofs.Pieces.{has_read, is_memory}
 
--- The bytes that the reader gave have been read, at least one a turn, and no read has failed.
-pub record HasTurned {S : Type 0} (left : S → Option (List ℕ)) (failed : S → ℕ) (table : Entities) (limit turn : ℕ) (old now : S) (reading : Reading) : Type 0 where
+-- The bytes that the reader gave have been read after those before, at least one a turn, and no read has failed.
+pub record HasTurned {S R : Type 0} (left : R → Option (List ℕ)) (failed : R → ℕ) (gives : S → Item → Result (Unit {0}) Refusal → S → Type 0) (m : Manner) (began : Began S) (before : List ℕ) (turn : ℕ) (old now : R) (reading : Reading S) : Type 0 where
   pub fed : List ℕ
-  pub has_read : HasRead table limit reading fed
+  pub has_read : HasRead gives m began reading (before ++ fed)
   pub given : Consumes (left old) (left now) fed
   pub unfailed : failed now ≡ failed old
   pub each_turn : turn ≤ length fed
@@ -40,7 +40,7 @@ some_of_buffer count xs zs same some fits = subst (λ (bytes : List ℕ). 0 < le
 pub few_of_buffer : (count most : ℕ) (xs : List ℕ) → length xs ≡ most → count ≤ length xs → length (take count xs) ≤ most
 few_of_buffer count most xs is fits = omega (arith, length-take-le count xs fits)
 
--- a document of which no more than three bytes are held back is at most this long
+-- an input of which no more than three bytes are held back is at most this long
 long : (decoder : Progress) (fed : List ℕ) → HasFed decoder fed → length fed ≤ decoder.limit + 3
 long decoder fed h =
     let held : length decoder.undecoded ≡ length fed - decoder.read = ap length h.undecoded ∙ length-drop decoder.read fed in
@@ -48,56 +48,111 @@ long decoder fed h =
     let most : valid_len decoder.limit fed ≤ decoder.limit = (valid_len_le decoder.limit fed).0 in
     omega arith
 
-module _ {S : Type 0} (left : S → Option (List ℕ)) (failed : S → ℕ) (table : Entities) (limit turn : ℕ) (old now new : S) (reading : Reading) (h : HasTurned left failed table limit turn old now reading) where
-  -- there are fewer turns than bytes
-  pub few_turns : turn ≤ limit + 3
-  few_turns =
-      let most : length h.fed ≤ reading.decoder.limit + 3 = long reading.decoder h.fed h.has_read.fed in
-      let limit_is : reading.decoder.limit ≡ limit = h.has_read.limit_is in
-      let each : turn ≤ length h.fed = h.each_turn in
-      omega arith
+module _ {S R : Type 0} (left : R → Option (List ℕ)) (failed : R → ℕ) (gives : S → Item → Result (Unit {0}) Refusal → S → Type 0) (m : Manner) (began : Began S) (before : List ℕ) where
+  -- nothing has been read yet
+  pub not_turned : (now : R) (reading : Reading S) → HasRead gives m began reading before → HasTurned left failed gives m began before 0 now now reading
+  not_turned now reading h = record {
+    fed = [];
+    has_read = subst (HasRead gives m began reading) (sym (append-nil before)) h;
+    given = Consumes-nil (left now);
+    unfailed = refl;
+    each_turn = omega arith;
+  }
 
-  undecided : IsUndecided limit h.fed
-  undecided = subst (λ (n : ℕ). IsUndecided n h.fed) h.has_read.limit_is h.has_read.fed.undecided
+  module _ (turn : ℕ) (old now : R) (reading : Reading S) (h : HasTurned left failed gives m began before turn old now reading) where
+    -- there are fewer turns than bytes
+    pub few_turns : turn ≤ m.limit + 3
+    few_turns =
+        let most : length (before ++ h.fed) ≤ reading.decoder.limit + 3 = long reading.decoder (before ++ h.fed) h.has_read.fed in
+        let limit_is : reading.decoder.limit ≡ m.limit = h.has_read.limit_is in
+        let each : turn ≤ length h.fed = h.each_turn in
+        omega (arith, length-append before h.fed)
 
-  module _ (piece : List ℕ) (given : Consumes (left now) (left new) piece) (count : failed new ≡ failed now) where
-    given_more : Consumes (left old) (left new) (h.fed ++ piece)
-    given_more = Consumes-trans (left old) (left now) (left new) h.fed piece h.given given
+    undecided : IsUndecided m.limit (before ++ h.fed)
+    undecided = subst (λ (n : ℕ). IsUndecided n (before ++ h.fed)) h.has_read.limit_is h.has_read.fed.undecided
 
-    unfailed : failed new ≡ failed old
-    unfailed = count ∙ h.unfailed
+    module _ (new : R) (piece : List ℕ) (given : Consumes (left now) (left new) piece) (count : failed new ≡ failed now) where
+      given_more : Consumes (left old) (left new) (h.fed ++ piece)
+      given_more = Consumes-trans (left old) (left now) (left new) h.fed piece h.given given
 
-    -- one more piece was read
-    pub turned : (next : Reading) → 0 < length piece → FeedsPiece table limit (h.fed ++ piece) (Ok tt) next → HasTurned left failed table limit (turn + 1) old new next
-    turned next some f =
-        record {
-          fed = h.fed ++ piece;
-          has_read = has_read table limit (h.fed ++ piece) next f;
-          given = given_more;
-          unfailed = unfailed;
-          each_turn = let each : turn ≤ length h.fed = h.each_turn in omega (arith, length-append h.fed piece);
-        }
+      unfailed : failed new ≡ failed old
+      unfailed = count ∙ h.unfailed
 
-    -- it was refused
-    pub refused_turn : (most : ℕ) (next : Reading) (e : Refusal) → length piece ≤ most → FeedsPiece table limit (h.fed ++ piece) (Err e) next
-        → ReadsDocument left failed table most limit old new (Err e)
-    refused_turn most next e few (piece_ran_out is) = let why : e ≡ Memory = cc in reading_ran_out (ap (λ (x : Refusal). Err x) why) unfailed
-    refused_turn most next e few (piece_refused refusal is refused) =
+      joined : (before ++ h.fed) ++ piece ≡ before ++ (h.fed ++ piece)
+      joined = append_assoc before h.fed piece
+
+      -- one more piece was read
+      pub turned : (next : Reading S) → 0 < length piece → FeedsPiece gives m began ((before ++ h.fed) ++ piece) (Ok tt) next → HasTurned left failed gives m began before (turn + 1) old new next
+      turned next some f =
+          record {
+            fed = h.fed ++ piece;
+            has_read = subst (HasRead gives m began next) joined (has_read gives m began ((before ++ h.fed) ++ piece) next f);
+            given = given_more;
+            unfailed = unfailed;
+            each_turn = let each : turn ≤ length h.fed = h.each_turn in omega (arith, length-append h.fed piece);
+          }
+
+      module _ (most : ℕ) (next : Reading S) where
+        abbrev come : List ℕ → Result (Unit {0}) Refusal → Type 0
+        come bytes = Comes gives m began bytes next.feeding.names next.feeding.sink
+
+        -- it was refused
+        pub refused_turn : (e : Refusal) → length piece ≤ most → FeedsPiece gives m began ((before ++ h.fed) ++ piece) (Err e) next → ReadsInput left failed come m.limit most before old new (Err e)
+        refused_turn e few (piece_ran_out is) = reading_ran_out is unfailed
+        refused_turn e few (piece_refused refusal is refused) =
+            let same : refusal ≡ e = cc in
+            reading_stopped e h.fed piece refl undecided (record { given = given_more; unfailed = unfailed })
+            (subst (λ (x : List ℕ). IsRefusedFrom come x e) joined (subst (IsRefusedFrom come ((before ++ h.fed) ++ piece)) same refused)) few
+        refused_turn e few (piece_read is k) = absurd cc
+
+        -- nothing was left
+        pub ended : (answer : Result (Unit {0}) Refusal) → piece ≡ [] → IsAtEnd (left new) → EndsInput gives m began (before ++ h.fed) answer next → ReadsInput left failed come m.limit most before old new answer
+        ended answer none end (input_ran_out is) = reading_ran_out is unfailed
+        ended answer none end (input_comes comes) =
+            read_to_end h.fed undecided
+            (record { given = subst (Consumes (left old) (left new)) (ap (λ (x : List ℕ). h.fed ++ x) none ∙ append-nil h.fed) given_more; unfailed = unfailed }) end comes
+
+    -- the read failed
+    pub failed_turn : (new : R) (most : ℕ) (come : List ℕ → Result (Unit {0}) Refusal → Type 0) → Keeps (left now) (left new) → failed new ≡ counted (failed now) → ReadsInput left failed come m.limit most before old new (Err Read)
+    failed_turn new most come kept count = reading_failed h.fed refl undecided (Consumes-kept (left old) (left now) (left new) h.fed h.given kept) (count ∙ ap counted h.unfailed)
+
+-- What an input comes to is shown as an answer of another kind.
+module _ {R A B : Type 0} (left : R → Option (List ℕ)) (failed : R → ℕ) (come : List ℕ → Result A Refusal → Type 0) (answers : List ℕ → Result B Refusal → Type 0) (limit piece : ℕ) (before : List ℕ) (old new : R) where
+  -- a refusal
+  module _ (e : Refusal) (shows : (bytes : List ℕ) → come bytes (Err e) → (e ≡ Memory) ⊎ answers bytes (Err e)) where
+    shown : (e ≡ Memory → ⊥) → (bytes : List ℕ) → come bytes (Err e) → answers bytes (Err e)
+    shown differs bytes c = elim (shows bytes c) [
+      | inl why ↦ absurd (differs why)
+      | inr a ↦ a
+    ]
+
+    -- whether any call of the reader failed, where memory ran out
+    count_kept : ReadsInput left failed come limit piece before old new (Err e) → e ≡ Memory → failed new ≡ failed old
+    count_kept (reading_ran_out is count) why = count
+    count_kept (reading_failed bytes is is_undecided given count) why = absurd cc
+    count_kept (reading_stopped refusal front last is is_undecided gave from few) why = gave.unfailed
+    count_kept (read_to_end bytes is_undecided gave end c) why = gave.unfailed
+
+    with_no_want : (e ≡ Memory → ⊥) → ReadsInput left failed come limit piece before old new (Err e) → ReadsInput left failed answers limit piece before old new (Err e)
+    with_no_want differs (reading_ran_out is count) = absurd (differs cc)
+    with_no_want differs (reading_failed bytes is is_undecided given count) = reading_failed bytes (let same : e ≡ Read = cc in ap (λ (x : Refusal). Err x) same) is_undecided given count
+    with_no_want differs (reading_stopped refusal front last is is_undecided gave from few) =
         let same : refusal ≡ e = cc in
-        reading_stopped e h.fed piece refl undecided (record { given = given_more; unfailed = unfailed }) (subst (IsRefusedFrom table limit (h.fed ++ piece)) same refused) few
-    refused_turn most next e few (piece_read is k) = absurd cc
+        reading_stopped e front last refl is_undecided gave (λ more. shown differs ((before ++ (front ++ last)) ++ more) (subst (λ (x : Refusal). come ((before ++ (front ++ last)) ++ more) (Err x)) same (from more))) few
+    with_no_want differs (read_to_end bytes is_undecided gave end c) = read_to_end bytes is_undecided gave end (shown differs (before ++ bytes) c)
 
-    -- nothing was left
-    pub ended : (most : ℕ) (answer : Result TokenRun Refusal) → piece ≡ [] → IsAtEnd (left new) → Shows table limit h.fed answer → ReadsDocument left failed table most limit old new answer
-    ended most answer none end shows = ended_by shows where
-      gave : Gave left failed old new h.fed
-      gave = record { given = subst (Consumes (left old) (left new)) (ap (λ (x : List ℕ). h.fed ++ x) none ∙ append-nil h.fed) given_more; unfailed = unfailed }
+    pub not_read : ReadsInput left failed come limit piece before old new (Err e) → ReadsInput left failed answers limit piece before old new (Err e)
+    not_read r = elim (is_memory e) [
+      | inl why ↦ reading_ran_out (ap (λ (x : Refusal). Err x) why) (count_kept r why)
+      | inr differs ↦ with_no_want differs r
+    ]
 
-      ended_by : Shows table limit h.fed answer → ReadsDocument left failed table most limit old new answer
-      ended_by (ran_out e) = reading_ran_out e unfailed
-      ended_by (refuses refusal e refused) = reading_refused refusal h.fed e undecided gave end refused
-      ended_by (accepts run tokens e mean answers) = read_to_end run h.fed tokens e gave end answers mean
-
-  -- the read failed
-  pub failed_turn : (most : ℕ) → Keeps (left now) (left new) → failed new ≡ counted (failed now) → ReadsDocument left failed table most limit old new (Err Read)
-  failed_turn most kept count = reading_failed h.fed refl undecided (Consumes-kept (left old) (left now) (left new) h.fed h.given kept) (count ∙ ap counted h.unfailed)
+  -- an input that was read, and what was made of it
+  pub made : (x : A) (answer : Result B Refusal) → ((bytes : List ℕ) → come bytes (Ok x) → (answer ≡ Err Memory) ⊎ answers bytes answer) → ReadsInput left failed come limit piece before old new (Ok x) → ReadsInput left failed answers limit piece before old new answer
+  made x answer shows (reading_ran_out is count) = absurd cc
+  made x answer shows (reading_failed bytes is is_undecided given count) = absurd cc
+  made x answer shows (reading_stopped refusal front last is is_undecided gave from few) = absurd cc
+  made x answer shows (read_to_end bytes is_undecided gave end c) = elim (shows (before ++ bytes) c) [
+    | inl why ↦ reading_ran_out why gave.unfailed
+    | inr a ↦ read_to_end bytes is_undecided gave end a
+  ]

@@ -1,12 +1,24 @@
 -- What handing over an error or a token does to what has been collected; it is refused only if memory ran out.
-use Rattle.std.specs.Prelude.{◌≡◌, List, [], ◌∷◌, ◌++◌, Result, MatchResult}
+use Rattle.std.specs.Prelude.{◌≡◌, [], ◌∷◌, ◌++◌, Result, MatchResult}
+use Rattle.std.specs.List.Sorted.{IsPermutation, IsSorted}
+use Rattle.names.specs.Names.{Texts}
 use Rattle.names.specs.declared.error.ParseError.{ParseError}
 use Rattle.names.specs.declared.refusal.Refusal.{Refusal}
 use Rattle.names.specs.declared.refusal.Refusal.TheVariants.{Memory}
 use Rattle.htoken.specs.declared.token.Token.{Token}
+use Rattle.hparse.specs.declared.collect.Collected.{Collected}
+use Rattle.hparse.specs.declared.token_run.TokenRun.{TokenRun}
+use Rattle.hparse.specs.Answer.{error_cmp}
 
-abbrev pub KeepsError : List Token → List ParseError → ParseError → Result (Unit {0}) Refusal → List Token → List ParseError → Type 0
-KeepsError tokens errors error answer tokens' errors' = MatchResult answer (λ _. (tokens' ≡ tokens) × (errors' ≡ errors ++ error ∷ [])) (λ e. e ≡ Memory)
+abbrev pub KeepsError : Collected → ParseError → Result (Unit {0}) Refusal → Collected → Type 0
+KeepsError old error answer new = MatchResult answer (λ _. (new.tokens.items ≡ old.tokens.items) × (new.errors.items ≡ old.errors.items ++ error ∷ [])) (λ e. e ≡ Memory)
 
-abbrev pub KeepsToken : List Token → List ParseError → Token → Result (Unit {0}) Refusal → List Token → List ParseError → Type 0
-KeepsToken tokens errors token answer tokens' errors' = MatchResult answer (λ _. (tokens' ≡ tokens ++ token ∷ []) × (errors' ≡ errors)) (λ e. e ≡ Memory)
+abbrev pub KeepsToken : Collected → Token → Result (Unit {0}) Refusal → Collected → Type 0
+KeepsToken old token answer new = MatchResult answer (λ _. (new.tokens.items ≡ old.tokens.items ++ token ∷ []) × (new.errors.items ≡ old.errors.items)) (λ e. e ≡ Memory)
+
+-- what was collected, with the errors in order
+pub record IsRunOf (names : Texts) (collected : Collected) (run : TokenRun) : Type 0 where
+  pub names_are : run.names ≡ names
+  pub tokens_are : run.tokens.items ≡ collected.tokens.items
+  pub errors_are : IsPermutation collected.errors.items run.errors.items
+  pub sorted : IsSorted error_cmp run.errors.items

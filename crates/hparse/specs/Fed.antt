@@ -1,24 +1,29 @@
--- What a reading has read, and what its calls do.
+-- What a reading has read, and what its calls do. It began as `began`.
 use Rattle.std.specs.Prelude.{◌≡◌, ℕ, List, ◌++◌, Result, Ok, Err}
 use Rattle.names.specs.declared.refusal.Refusal.{Refusal}
 use Rattle.names.specs.declared.refusal.Refusal.TheVariants.{Memory}
-use Rattle.htext.specs.declared.Bom.TheVariants.{Drop}
 use Rattle.htext.specs.Items.{items}
 use Rattle.htext.specs.Decoding.{HasFed}
-use Rattle.charref.specs.Reference.{Entities}
+use Rattle.htoken.specs.Token.{Item}
 use Rattle.hparse.specs.declared.reading.Reading.{Reading}
-use Rattle.hparse.specs.Answer.{document_text, Answers}
 use Rattle.hparse.specs.Holding.{HoldsItems}
+use Rattle.hparse.specs.Input.{Manner, Began, bom_of, text_in, IsRefusedFor, Comes}
 
--- The bytes of a document were fed, in any pieces: their text is held.
-pub record HasRead (table : Entities) (limit : ℕ) (reading : Reading) (bytes : List ℕ) : Type 0 where
-  pub limit_is : reading.decoder.limit ≡ limit
-  pub bom_is : reading.decoder.bom ≡ Drop
-  pub fed : HasFed reading.decoder bytes
-  pub holds : HoldsItems table reading.feeding (items (document_text limit bytes))
+module _ {S : Type 0} (gives : S → Item → Result (Unit {0}) Refusal → S → Type 0) (m : Manner) (began : Began S) where
+  -- The bytes were fed, in any pieces: their text is held.
+  pub record HasRead (reading : Reading S) (bytes : List ℕ) : Type 0 where
+    pub limit_is : reading.decoder.limit ≡ m.limit
+    pub bom_is : reading.decoder.bom ≡ bom_of m.start
+    pub fed : HasFed reading.decoder bytes
+    pub holds : HoldsItems gives m began reading.feeding (items (text_in m bytes))
 
--- What feeding the last piece of these bytes does: memory ran out, or they are refused, whatever comes after, or they have been read.
-pub data FeedsPiece (table : Entities) (limit : ℕ) (bytes : List ℕ) (answer : Result (Unit {0}) Refusal) (new : Reading) : Type 0 where
-  piece_ran_out : answer ≡ Err Memory → FeedsPiece table limit bytes answer new
-  piece_refused : (refusal : Refusal) → answer ≡ Err refusal → ((more : List ℕ) → Answers table limit (bytes ++ more) (Err refusal)) → FeedsPiece table limit bytes answer new
-  piece_read : answer ≡ Ok tt → HasRead table limit new bytes → FeedsPiece table limit bytes answer new
+  -- What feeding the last piece of these bytes does: memory ran out, or they are refused, whatever comes after, or they have been read.
+  pub data FeedsPiece (bytes : List ℕ) (answer : Result (Unit {0}) Refusal) (new : Reading S) : Type 0 where
+    piece_ran_out : answer ≡ Err Memory → FeedsPiece bytes answer new
+    piece_refused : (refusal : Refusal) → answer ≡ Err refusal → ((more : List ℕ) → IsRefusedFor gives m began (bytes ++ more) new.feeding.names new.feeding.sink refusal) → FeedsPiece bytes answer new
+    piece_read : answer ≡ Ok tt → HasRead new bytes → FeedsPiece bytes answer new
+
+  -- What the end of the input does, after these bytes: memory ran out, or it is what they come to.
+  pub data EndsInput (bytes : List ℕ) (answer : Result (Unit {0}) Refusal) (new : Reading S) : Type 0 where
+    input_ran_out : answer ≡ Err Memory → EndsInput bytes answer new
+    input_comes : Comes gives m began bytes new.feeding.names new.feeding.sink answer → EndsInput bytes answer new

@@ -1,11 +1,17 @@
 -- What a run shows of an answer.
-use Rattle.std.specs.Prelude.{◌≡◌, ℕ, List, Result, Ok, Err}
+use Rattle.std.specs.Prelude.{◌≡◌, ℕ, List, [], Result, Ok, Err}
 use Rattle.names.specs.declared.refusal.Refusal.{Refusal}
 use Rattle.names.specs.declared.refusal.Refusal.TheVariants.{Memory}
 use Rattle.charref.specs.Reference.{Entities}
-use Rattle.htoken.specs.Token.{Tok}
+use Rattle.htoken.specs.Token.{Tok, gives_item}
+use Rattle.htoken.specs.declared.token.Start.TheVariants.{Document}
+use Rattle.hparse.specs.declared.collect.Collected.{Collected}
+use Rattle.hparse.specs.declared.reading.Reading.{Reading}
 use Rattle.hparse.specs.declared.token_run.TokenRun.{TokenRun}
 use Rattle.hparse.specs.Answer.{Answers}
+use Rattle.hparse.specs.Collecting.{KeepsError, KeepsToken}
+use Rattle.hparse.specs.Fed.{HasRead}
+use Rattle.hparse.specs.Input.{Began}
 use Rattle.hparse.specs.TokenRun.{TokensMean}
 
 -- The result is the answer of the bytes, unless memory ran out.
@@ -13,3 +19,15 @@ pub data Shows (table : Entities) (limit : ℕ) (bytes : List ℕ) (result : Res
   ran_out : result ≡ Err Memory → Shows table limit bytes result
   refuses : (refusal : Refusal) → result ≡ Err refusal → Answers table limit bytes (Err refusal) → Shows table limit bytes result
   accepts : (run : TokenRun) (tokens : List Tok) → result ≡ Ok run → TokensMean run.names run.tokens.items tokens → Answers table limit bytes (Ok (tokens, run.errors.items)) → Shows table limit bytes result
+
+-- .. or what a run is where memory did not
+abbrev pub AnswersRun : Entities → ℕ → List ℕ → Result TokenRun Refusal → Type 0
+AnswersRun table limit bytes (Ok run) = (tokens : List Tok) × TokensMean run.names run.tokens.items tokens × Answers table limit bytes (Ok (tokens, run.errors.items))
+AnswersRun table limit bytes (Err refusal) = Answers table limit bytes (Err refusal)
+
+-- The bytes of a document have been read, whose tokens and errors are collected.
+pub record HasReadTokens (table : Entities) (limit : ℕ) (reading : Reading Collected) (bytes : List ℕ) : Type 0 where
+  pub began : Began Collected
+  pub no_tokens : began.sink.tokens.items ≡ []
+  pub no_errors : began.sink.errors.items ≡ []
+  pub has_read : HasRead (gives_item KeepsError KeepsToken) (record { table = table; start = Document; limit = limit }) began reading bytes

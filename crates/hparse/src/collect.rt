@@ -1,8 +1,15 @@
 //! What a run collects.
 
+ghost use Rattle.std.specs.Prelude.{◌≡◌, [], MatchResult};
+ghost use Rattle.names.specs.declared.refusal.Refusal.TheVariants.{Memory};
+ghost use Rattle.hparse.specs.Collecting.{IsRunOf};
+
+use crate::errors::sort_errors;
+use crate::token_run::TokenRun;
 use hmarkup::ErrorSink;
 use htoken::{Token, TokenSink};
-use names::{ParseError, Refusal};
+use names::{Names, ParseError, Refusal};
+use std::alloc::Global;
 
 /// The tokens and the parse errors so far, each in the order in which they came.
 #[derive(Drop)]
@@ -11,10 +18,36 @@ pub struct Collected {
     pub errors: Vec<ParseError>,
 }
 
+impl Collected {
+    /// Nothing yet.
+    pub fn new(alloc: Global) -> Collected
+        ensures tokens { result.tokens.items ≡ [] }
+        ensures errors { result.errors.items ≡ [] }
+    {
+        Collected {
+            tokens: Vec::new(alloc),
+            errors: Vec::new(alloc),
+        }
+    }
+
+    /// What has been collected, with the errors in their order.
+    pub fn into_run(self, names: Names) -> Result<TokenRun, Refusal>
+        ensures { MatchResult result (IsRunOf names self) (λ refusal. refusal ≡ Memory) }
+    {
+        let Collected { tokens, mut errors } = self;
+        sort_errors(&mut errors)?;
+        Ok(TokenRun {
+            names,
+            tokens,
+            errors,
+        })
+    }
+}
+
 impl ErrorSink for Collected {
     ghost use Rattle.hparse.specs.Collecting.{KeepsError};
 
-    ghost gives = { λ old error answer new. KeepsError old.tokens.items old.errors.items error answer new.tokens.items new.errors.items };
+    ghost gives = { KeepsError };
 
     fn take_error(&mut self, error: ParseError) -> Result<(), Refusal> {
         self.errors.push(error)?;
@@ -25,7 +58,7 @@ impl ErrorSink for Collected {
 impl TokenSink for Collected {
     ghost use Rattle.hparse.specs.Collecting.{KeepsToken};
 
-    ghost gives_token = { λ old token answer new. KeepsToken old.tokens.items old.errors.items token answer new.tokens.items new.errors.items };
+    ghost gives_token = { KeepsToken };
 
     fn take_token(&mut self, token: Token) -> Result<(), Refusal> {
         self.tokens.push(token)?;

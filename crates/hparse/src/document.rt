@@ -1,27 +1,60 @@
 //! The tokens of a document.
 
-ghost use Rattle.std.specs.Prelude.{◌≤◌};
+ghost use Rattle.std.specs.Prelude.{◌≡◌, ◌≤◌, ℕ, List, [], IfOk, MatchResult};
 ghost use Rattle.std.specs.List.{flat_map};
-ghost use Rattle.hparse.specs.Shown.{Shows};
+ghost use Rattle.charref.specs.Reference.{Entities};
+ghost use Rattle.names.specs.declared.refusal.Refusal.TheVariants.{Memory};
+ghost use Rattle.hparse.specs.Collecting.{IsRunOf};
+ghost use Rattle.hparse.specs.Shown.{HasReadTokens, Shows};
 
+use crate::collect::Collected;
+use crate::feeding::Feeding;
 use crate::options::Options;
 use crate::reading::Reading;
 use crate::token_run::TokenRun;
 use htext::MAX_INPUT;
-use names::Refusal;
-use std::alloc::Global;
+use htoken::Start;
+use names::{Names, Refusal};
+use std::alloc::{AllocError, Global};
 
 /// The tokens of the pieces joined, however they are cut.
 pub fn tokens(alloc: Global, pieces: &[&[u8]], options: &Options) -> Result<TokenRun, Refusal>
     requires { options.now.input_limit ≤ MAX_INPUT }
     ensures { Shows options.now.table.now options.now.input_limit (flat_map (λ piece. piece.now) pieces.now) result }
 {
-    let mut reading = Reading::new(alloc, options)?;
+    let mut reading = begin(alloc, options)?;
     for piece in pieces {
         reading.feed(piece)?;
     }
-    reading.finish()
+    finish(reading)
 }
 
-#[cfg(test)]
-mod tests;
+/// A document of which nothing has been read.
+pub(crate) fn begin<'t>(
+    alloc: Global,
+    options: &Options<'t>,
+) -> Result<Reading<'t, Collected>, AllocError>
+    requires { options.now.input_limit ≤ MAX_INPUT }
+    ensures { IfOk result (λ reading. HasReadTokens options.now.table.now options.now.input_limit reading []) }
+{
+    let names = Names::new(alloc)?;
+    let sink = Collected::new(alloc);
+    Ok(Reading::new(alloc, options, Start::Document, names, sink))
+}
+
+/// The tokens of a document that has ended.
+fn finish(mut reading: Reading<Collected>) -> Result<TokenRun, Refusal>
+    ensures { (table : Entities) (limit : ℕ) (bytes : List ℕ) → HasReadTokens table limit reading.entry bytes → Shows table limit bytes result }
+{
+    reading.end()?;
+    run_of(reading)
+}
+
+/// What a reading has collected.
+pub(crate) fn run_of(reading: Reading<Collected>) -> Result<TokenRun, Refusal>
+    ensures { MatchResult result (IsRunOf reading.entry.feeding.names reading.entry.feeding.sink) (λ refusal. refusal ≡ Memory) }
+{
+    let Reading { feeding, .. } = reading;
+    let Feeding { names, sink, .. } = feeding;
+    sink.into_run(names)
+}

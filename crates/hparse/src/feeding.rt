@@ -1,57 +1,65 @@
-//! A tokenizer that is fed the text of a document.
+//! A tokenizer that is fed the text of an input.
 
-ghost use Rattle.std.specs.Prelude.{◌≡◌, List, [], IfOk, MatchResult, false};
-ghost use Rattle.names.specs.declared.refusal.Refusal.TheVariants.{Memory};
-ghost use Rattle.charref.specs.Reference.{Entities};
+ghost use Rattle.std.specs.Prelude.{◌≡◌, List, [], true};
 ghost use Rattle.htext.specs.Items.{CharItem};
-ghost use Rattle.hparse.specs.Holding.{HoldsItems, EndsText, Refuses, is_of_bytes, IsRunOf};
+ghost use Rattle.htoken.specs.Token.{gives_item};
+ghost use Rattle.hparse.specs.Holding.{HoldsItems, EndsText, Refuses};
+ghost use Rattle.hparse.specs.Input.{Manner, Began};
 
-use crate::collect::Collected;
-use crate::token_run::TokenRun;
 use charref::Table;
-use hmarkup::ErrorSink;
 use htext::CharSink;
-use htoken::{Start, Tokenizer};
+use htoken::{Start, TokenSink, Tokenizer};
 use names::{Names, ParseError, Refusal};
-use std::alloc::{AllocError, Global};
+use std::alloc::Global;
 
-/// A tokenizer, with the names of its tokens and what has been collected.
+/// A tokenizer, the names of its tokens, and the sink that takes them.
 #[derive(Drop)]
-pub struct Feeding<'t> {
+pub struct Feeding<'t, S> {
     pub names: Names,
     pub tokenizer: Tokenizer<'t>,
-    pub collected: Collected,
+    pub sink: S,
+
+    /// Whether the tokenizer or the sink has refused something: what a decoder then returns is that, and no refusal of its own.
+    pub stopped: bool,
 }
 
-impl<'t> Feeding<'t> {
+impl<'t, S: TokenSink> Feeding<'t, S> {
     /// A tokenizer that has been fed nothing, over this table of references.
-    pub fn new(alloc: Global, table: &'t Table) -> Result<Feeding<'t>, AllocError>
-        ensures { IfOk result (λ feeding. HoldsItems table.now feeding []) }
+    pub fn new(
+        alloc: Global,
+        table: &'t Table,
+        start: Start,
+        names: Names,
+        sink: S,
+    ) -> Feeding<'t, S>
+        ensures { (m : Manner) → m.table ≡ table.now → m.start ≡ start → HoldsItems (gives_item S.gives S.gives_token) m (record { names = names; sink = sink }) result [] }
     {
-        Ok(Feeding {
-            names: Names::new(alloc)?,
-            tokenizer: Tokenizer::new(alloc, table, Start::Document),
-            collected: Collected {
-                tokens: Vec::new(alloc),
-                errors: Vec::new(alloc),
-            },
-        })
+        Feeding {
+            names,
+            tokenizer: Tokenizer::new(alloc, table, start),
+            sink,
+            stopped: false,
+        }
     }
 
     /// Ends the text, at the input's byte `end`.
     pub fn finish(&mut self, end: u64) -> Result<(), Refusal>
-        ensures { (table : Entities) (items : List CharItem) → HoldsItems table self.old items → EndsText table items end result self.new }
+        ensures { (m : Manner) (began : Began S) (items : List CharItem) → HoldsItems (gives_item S.gives S.gives_token) m began self.old items
+            → EndsText (gives_item S.gives S.gives_token) m began items end result self.new }
     {
-        self.tokenizer
-            .finish(&mut self.names, end, &mut self.collected)
+        self.tokenizer.finish(&mut self.names, end, &mut self.sink)
     }
 
-    /// The answer once the decoder has refused, where the text before the refused byte is accepted: that refusal. The text is
-    /// ended there, which may run out of memory.
+    /// The answer once the decoder has refused a byte. The text before it is ended: what that is refused for comes first.
     pub fn refuse(&mut self, refusal: Refusal) -> Refusal
-        ensures answer { (table : Entities) (held : List CharItem) → HoldsItems table self.old held → Refuses table held refusal result }
-        ensures other { is_of_bytes refusal ≡ false → result ≡ refusal }
+        ensures answer { (m : Manner) (began : Began S) (held : List CharItem) → HoldsItems (gives_item S.gives S.gives_token) m began self.old held
+            → Refuses (gives_item S.gives S.gives_token) m began held refusal result self.new }
+        ensures stopped { self.old.stopped ≡ true → (result ≡ refusal) × (self.new ≡ self.old) }
+        ensures memory { refusal ≡ Refusal.Memory → result ≡ Refusal.Memory }
     {
+        if self.stopped {
+            return refusal;
+        }
         match refusal {
             Refusal::NotUtf8 { at } | Refusal::TooLarge { at } => match self.finish(at) {
                 Ok(()) => refusal,
@@ -60,37 +68,25 @@ impl<'t> Feeding<'t> {
             _ => refusal,
         }
     }
-
-    /// What has been collected, with the errors in their order.
-    pub fn into_run(self) -> Result<TokenRun, Refusal>
-        ensures { MatchResult result (IsRunOf self.entry) (λ refusal. refusal ≡ Memory) }
-    {
-        let Feeding {
-            names,
-            collected,
-            ..
-        } = self;
-        let Collected { tokens, mut errors } = collected;
-        errors.sort_by_key(|error| (error.at, error.code.rank()))?;
-        Ok(TokenRun {
-            names,
-            tokens,
-            errors,
-        })
-    }
 }
 
-impl<'t> CharSink for Feeding<'t> {
-    ghost use Rattle.hparse.specs.Holding.{Steps};
+impl<'t, S: TokenSink> CharSink for Feeding<'t, S> {
+    ghost use Rattle.htoken.specs.Token.{gives_item};
+    ghost use Rattle.hparse.specs.Holding.{Proceeds};
 
-    ghost gives = { Steps };
+    ghost gives = { Proceeds (gives_item S.gives S.gives_token) };
 
     fn take_char(&mut self, ch: char, at: u64) -> Result<(), Refusal> {
-        self.tokenizer
-            .feed_char(&mut self.names, ch, at, &mut self.collected)
+        let answer = self
+            .tokenizer
+            .feed_char(&mut self.names, ch, at, &mut self.sink);
+        self.stopped = answer.is_err();
+        answer
     }
 
     fn take_error(&mut self, error: ParseError) -> Result<(), Refusal> {
-        self.collected.take_error(error)
+        let answer = self.sink.take_error(error);
+        self.stopped = answer.is_err();
+        answer
     }
 }

@@ -1,26 +1,24 @@
-//! The tokens of an input, from bytes in any pieces or from a reader, and what is printed of them.
+//! A document or a fragment to its tree and parse errors, or to its tokens, from bytes in any pieces or from a reader.
 #![tactic(auto)]
 
 mod collect;
-pub mod command;
-pub mod counted;
+pub mod context;
 pub mod document;
-pub mod engine;
+mod errors;
 mod feeding;
-pub mod lines;
 pub mod options;
-mod quoted;
+pub mod parsed;
+pub mod parser;
+pub mod reader;
 mod reading;
 pub mod source;
-pub mod target;
 pub mod token_run;
 
-pub use command::{Command, Task};
-pub use counted::Counted;
+pub use context::is_context;
 pub use document::tokens;
-pub use engine::run;
-pub use lines::token_lines;
 pub use options::Options;
+pub use parsed::Parsed;
+pub use parser::{Parser, parse_reader};
+pub use reader::read_tokens;
 pub use source::Source;
-pub use target::{Target, write_all};
 pub use token_run::TokenRun;

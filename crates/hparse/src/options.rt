@@ -1,10 +1,35 @@
 //! What a parse is told beside its input.
 
-use charref::Table;
+ghost use Rattle.std.specs.Prelude.{◌≡◌};
+ghost use Rattle.hparse.specs.Parse.{Told};
+ghost use Rattle.hparse.specs.Parsing.{told_by};
 
-/// The table of character references, and the most bytes that an input may have.
+use charref::Table;
+use hbuild::Limits;
+use hmarkup::Quirks;
+use htext::MAX_INPUT;
+
+/// The table of character references, the quirks list, the most bytes that an input may have, and how large a tree may become.
+/// The quirks list has a say in documents alone.
 #[derive(Clone, Copy)]
 pub struct Options<'t> {
     pub table: &'t Table,
+    pub quirks: &'t Quirks,
     pub input_limit: u64,
+    pub limits: Limits,
+}
+
+impl<'t> Options<'t> {
+    /// The greatest limits.
+    pub fn new(table: &'t Table, quirks: &'t Quirks) -> Options<'t>
+        ensures told { told_by result ≡ record { table = table.now; quirks = quirks.now; input = MAX_INPUT; limits = record { nodes = 16777216; depth = 1048576 } } }
+        ensures limit { result.input_limit ≡ MAX_INPUT }
+    {
+        Options {
+            table,
+            quirks,
+            input_limit: MAX_INPUT,
+            limits: Limits::greatest(),
+        }
+    }
 }

@@ -1,39 +1,56 @@
-//! A document that comes in pieces.
+//! An input that comes in pieces.
 
-ghost use Rattle.std.specs.Prelude.{◌≤◌, ℕ, List, [], ◌++◌, IfOk};
-ghost use Rattle.charref.specs.Reference.{Entities};
-ghost use Rattle.hparse.specs.Fed.{HasRead, FeedsPiece};
-ghost use Rattle.hparse.specs.Shown.{Shows};
+ghost use Rattle.std.specs.Prelude.{◌≡◌, ◌≤◌, ℕ, List, [], ◌++◌};
+ghost use Rattle.htoken.specs.Token.{gives_item};
+ghost use Rattle.hparse.specs.Fed.{HasRead, FeedsPiece, EndsInput};
+ghost use Rattle.hparse.specs.Input.{Manner, Began, bom_of};
 
 use crate::feeding::Feeding;
 use crate::options::Options;
-use crate::token_run::TokenRun;
 use htext::{Bom, Decoder, MAX_INPUT};
-use names::Refusal;
-use std::alloc::{AllocError, Global};
+use htoken::{Start, TokenSink};
+use names::{Names, Refusal};
+use std::alloc::Global;
 
-/// The decoder of a document, and what its text is fed to.
+/// The decoder of an input, and what its text is fed to.
 #[derive(Drop)]
-pub struct Reading<'t> {
+pub struct Reading<'t, S> {
     pub decoder: Decoder,
-    pub feeding: Feeding<'t>,
+    pub feeding: Feeding<'t, S>,
 }
 
-impl<'t> Reading<'t> {
-    /// A document of which nothing has been read.
-    pub fn new(alloc: Global, options: &Options<'t>) -> Result<Reading<'t>, AllocError>
+/// A document loses a leading byte order mark.
+fn bom(start: Start) -> Bom
+    ensures { result ≡ bom_of start }
+{
+    match start {
+        Start::Document => Bom::Drop,
+        Start::Context(_) => Bom::Keep,
+    }
+}
+
+impl<'t, S: TokenSink> Reading<'t, S> {
+    /// An input of which nothing has been read.
+    pub fn new(
+        alloc: Global,
+        options: &Options<'t>,
+        start: Start,
+        names: Names,
+        sink: S,
+    ) -> Reading<'t, S>
         requires { options.now.input_limit ≤ MAX_INPUT }
-        ensures { IfOk result (λ reading. HasRead options.now.table.now options.now.input_limit reading []) }
+        ensures { HasRead (gives_item S.gives S.gives_token) (record { table = options.now.table.now; start = start; limit = options.now.input_limit }) (record { names = names; sink = sink }) result [] }
     {
-        Ok(Reading {
-            decoder: Decoder::new(alloc, Bom::Drop, options.input_limit),
-            feeding: Feeding::new(alloc, options.table)?,
-        })
+        Reading {
+            decoder: Decoder::new(alloc, bom(start), options.input_limit),
+            feeding: Feeding::new(alloc, options.table, start, names, sink),
+        }
     }
 
     /// Reads the next piece. Nothing is fed after an error.
     pub fn feed(&mut self, piece: &[u8]) -> Result<(), Refusal>
-        ensures { (table : Entities) (limit : ℕ) (bytes : List ℕ) → HasRead table limit self.old bytes → FeedsPiece table limit (bytes ++ piece.now) result self.new }
+        ensures { (m : Manner) (began : Began S) (bytes : List ℕ) → HasRead (gives_item S.gives S.gives_token) m began self.old bytes
+            → FeedsPiece (gives_item S.gives S.gives_token) m began (bytes ++ piece.now) result self.new }
     {
         match self.decoder.feed(piece, &mut self.feeding) {
             Ok(()) => Ok(()),
@@ -41,20 +58,14 @@ impl<'t> Reading<'t> {
         }
     }
 
-    /// The answer, where the document has ended.
-    pub fn finish(self) -> Result<TokenRun, Refusal>
-        ensures { (table : Entities) (limit : ℕ) (bytes : List ℕ) → HasRead table limit self.entry bytes → Shows table limit bytes result }
+    /// Ends the input.
+    pub fn end(&mut self) -> Result<(), Refusal>
+        ensures { (m : Manner) (began : Began S) (bytes : List ℕ) → HasRead (gives_item S.gives S.gives_token) m began self.old bytes
+            → EndsInput (gives_item S.gives S.gives_token) m began bytes result self.new }
     {
-        let Reading {
-            mut decoder,
-            mut feeding,
-        } = self;
-        match decoder.finish(&mut feeding) {
-            Ok(()) => {
-                feeding.finish(decoder.read())?;
-                feeding.into_run()
-            }
-            Err(refusal) => Err(feeding.refuse(refusal)),
+        match self.decoder.finish(&mut self.feeding) {
+            Ok(()) => self.feeding.finish(self.decoder.read()),
+            Err(refusal) => Err(self.feeding.refuse(refusal)),
         }
     }
 }

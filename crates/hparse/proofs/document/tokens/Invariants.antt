@@ -1,8 +1,8 @@
 use Rattle.std.proofs.Common.{take}
-use Rattle.hparse.specs.Fed.{HasRead}
+use Rattle.hparse.specs.Shown.{HasReadTokens}
 use Rattle.hparse.proofs.Joined.{joined}
 use Rattle.hparse.proofs.document.tokens.Given as goal
 
 -- the pieces so far have been read
 abbrev pub invariant-loop-piece : goal.invariant-loop-piece
-invariant-loop-piece l = HasRead l.options.table.now l.options.input_limit l.reading (joined (take l.piece-index l.pieces))
+invariant-loop-piece l = HasReadTokens l.options.table.now l.options.input_limit l.reading (joined (take l.piece-index l.pieces))

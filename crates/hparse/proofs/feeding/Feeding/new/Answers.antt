@@ -1,13 +1,16 @@
-use Rattle.std.proofs.Common.{[], sym, subst}
-use Rattle.std.specs.List.Sorted.{IsPermutation}
-use Rattle.std.proofs.lemmas.List.Sorted.{IsPermutation-refl}
-use Rattle.hparse.specs.TokenRun.{TokensMean}
+use Rattle.std.proofs.Common.{refl, sym, subst}
+use Rattle.std.specs.Prelude.{[]}
+use Rattle.htoken.specs.Standing.{start_kind}
+use Rattle.htoken.specs.Token.{gives_item}
+use Rattle.htoken.specs.Tokenizing.{HasTaken}
+use Rattle.hparse.proofs.Handing.{handed_none}
 use Rattle.hparse.proofs.feeding.Feeding.new.Goals as goal
 
 pub returns : goal.returns
-returns c = record {
+returns g c = λ m table_is start_is. record {
   taken = [];
-  has_taken = c.new-2.ensures c.in_ok-new.field-0;
-  tokens_mean = subst (λ ts. TokensMean c.in_ok-new.field-0 ts []) (sym c.new-3.ensures.items) tt;
-  errors_are = subst (λ es. IsPermutation [] es) (sym c.new-4.ensures.items) (IsPermutation-refl []);
+  has_taken = subst (λ t. HasTaken t (start_kind m.start) c.new.result c.args.names [] []) (sym table_is)
+      (subst (λ s. HasTaken c.args.table.now (start_kind s) c.new.result c.args.names [] []) (sym start_is) (c.new.ensures c.args.names));
+  handed = handed_none (gives_item g.S.ErrorSink.gives g.S.TokenSink.gives_token) _;
+  unstopped = refl;
 }

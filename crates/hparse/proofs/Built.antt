@@ -1,0 +1,81 @@
+-- What a builder has been handed, as steps of the rules.
+use Rattle.std.proofs.Common.{◌≡◌, List, [], ◌∷◌, ◌++◌, map, sym, ap, ◌∙◌, subst, Option, None, Result, Ok, Err, append-nil, append_assoc, inl, inr}
+use Rattle.std.specs.Prelude.{◌⊎◌, MatchOption}
+use Rattle.names.specs.declared.error.ParseError.{ParseError}
+use Rattle.names.specs.declared.refusal.Refusal.{Refusal}
+use Rattle.names.specs.declared.refusal.Refusal.TheVariants.{Memory}
+use Rattle.names.specs.Sink.{Hands}
+use Rattle.htoken.specs.declared.token.Token.{Token as Given}
+use Rattle.htoken.specs.Token.{Item, ItemToken, ItemError, gives_item}
+use Rattle.hadopt.specs.Naming.{numbers}
+use Rattle.hadopt.specs.Site.{Goes, Refused}
+use Rattle.hmodes.specs.Step.{Step, Steps, none, and, refused}
+use Rattle.hmodes.specs.Tokens.{token_of, place_of}
+use Rattle.hbuild.specs.Building.{Building, TakesOn, TakesToken, TakesError, Tells, StaysRefused}
+use Rattle.hparse.specs.Input.{tokens_handed, errors_handed}
+use Rattle.hparse.proofs.Numbered.{placed_number}
+
+-- a step of the builder
+abbrev pub builds : Building → Item → Result (Unit {0}) Refusal → Building → Type 0
+builds = gives_item TakesError TakesToken
+
+-- a builder that has refused nothing took this token, or this error
+takes_on : (t : Given) (old new : Building) (answer : Result (Unit {0}) Refusal) → old.refused ≡ None → TakesToken old t answer new → TakesOn (place_of t) (token_of t) old answer new
+takes_on t old new answer is given = subst (λ (o : Option Refusal). MatchOption o (TakesOn (place_of t) (token_of t) old answer new) (λ r. StaysRefused r old answer new)) is given
+
+tells : (e : ParseError) (old new : Building) (answer : Result (Unit {0}) Refusal) → old.refused ≡ None → TakesError old e answer new → Tells e old answer new
+tells e old new answer is given = subst (λ (o : Option Refusal). MatchOption o (Tells e old answer new) (λ r. StaysRefused r old answer new)) is given
+
+-- What a builder has become.
+pub record Became (old new : Building) (items : List Item) : Type 0 where
+  pub steps : Steps numbers (map placed_number (tokens_handed items)) old.state (Goes new.state)
+  pub told : new.told ≡ old.told ++ errors_handed items
+  pub root : new.root ≡ old.root
+
+pub became : (old new : Building) (items : List Item) → old.refused ≡ None → Hands builds old items (Ok tt) new → Became old new items
+became old new [] is h = record {
+  steps = subst (λ (b : Building). Steps numbers [] old.state (Goes b.state)) h.1 none;
+  told = ap (λ (b : Building). b.told) (sym h.1) ∙ sym (append-nil old.told);
+  root = ap (λ (b : Building). b.root) (sym h.1);
+}
+became old new (ItemToken t ∷ items) is (Ok u, next, given, rest) =
+    let took = takes_on t old next (Ok u) is given in
+    let later = became next new items took.refused rest in
+    record { steps = and took.step later.steps; told = later.told ∙ ap (λ (x : List ParseError). x ++ errors_handed items) took.told; root = later.root ∙ took.root }
+became old new (ItemError e ∷ items) is (Ok u, next, given, rest) =
+    let took : next ≡ record old { told = old.told ++ e ∷ [] } = tells e old next (Ok u) is given in
+    let later = became next new items (ap (λ (b : Building). b.refused) took ∙ is) rest in
+    record {
+      steps = subst (λ (b : Building). Steps numbers (map placed_number (tokens_handed items)) b.state (Goes new.state)) took later.steps;
+      told = later.told ∙ ap (λ (b : Building). b.told ++ errors_handed items) took ∙ append_assoc old.told (e ∷ []) (errors_handed items);
+      root = later.root ∙ ap (λ (b : Building). b.root) took;
+    }
+became old new (x ∷ items) is (Err e, next, given, rest) = let never = rest.0 in absurd cc
+
+-- it refuses for want of memory, or a token that the rules refuse
+pub refused_by_rules : (old new : Building) (items : List Item) (e : Refusal) → old.refused ≡ None → Hands builds old items (Err e) new
+    → (e ≡ Memory) ⊎ Steps numbers (map placed_number (tokens_handed items)) old.state (Refused e)
+refused_by_rules old new [] e is h = let never = h.0 in absurd cc
+refused_by_rules old new (ItemToken t ∷ items) e is (Ok u, next, given, rest) =
+    let took = takes_on t old next (Ok u) is given in
+    elim (refused_by_rules next new items e took.refused rest) [
+      | inl why ↦ inl why
+      | inr steps ↦ inr (and took.step steps)
+    ]
+refused_by_rules old new (ItemError f ∷ items) e is (Ok u, next, given, rest) =
+    let took : next ≡ record old { told = old.told ++ f ∷ [] } = tells f old next (Ok u) is given in
+    elim (refused_by_rules next new items e (ap (λ (b : Building). b.refused) took ∙ is) rest) [
+      | inl why ↦ inl why
+      | inr steps ↦ inr (subst (λ (b : Building). Steps numbers (map placed_number (tokens_handed items)) b.state (Refused e)) took steps)
+    ]
+refused_by_rules old new (ItemToken t ∷ items) e is (Err r, next, given, rest) =
+    let took = takes_on t old next (Err r) is given in
+    let same : r ≡ e = let it = rest.0 in cc in
+    elim took.step [
+      | inl why ↦ inl (sym same ∙ why)
+      | inr step ↦ inr (refused (subst (λ (x : Refusal). Step numbers (place_of t) (token_of t) old.state (Refused x)) same step))
+    ]
+refused_by_rules old new (ItemError f ∷ items) e is (Err r, next, given, rest) =
+    let took = tells f old next (Err r) is given in
+    let same : r ≡ e = let it = rest.0 in cc in
+    inl (sym same ∙ took.0)

@@ -1,0 +1,100 @@
+-- What a sink has been handed, and what it is handed after that.
+use Rattle.std.proofs.Common.{◌≡◌, List, [], ◌∷◌, ◌++◌, sym, refl, ap, ◌∙◌, subst, Result, Ok}
+use Rattle.std.specs.List.Sorted.{IsPermutation}
+use Rattle.std.proofs.lemmas.List.Sorted.{IsPermutation-append_left, IsPermutation-refl, IsPermutation-trans}
+use Rattle.names.specs.declared.error.ParseError.{ParseError}
+use Rattle.names.specs.declared.refusal.Refusal.{Refusal}
+use Rattle.names.specs.Names.{Texts, Grows}
+use Rattle.names.proofs.Handing.{text_kept, grows_not, grows_on, Hands-append}
+use Rattle.htag.proofs.Naming.{attrs_kept}
+use Rattle.htoken.specs.declared.token.Token.TheVariants as code
+use Rattle.htoken.specs.declared.token.Token.{Token}
+use Rattle.htoken.specs.Token.{Tok, Item, ItemToken, ItemError, Event, Gives, Reports, Mean, TokenMeans}
+use Rattle.htoken.specs.Tokens.{tokens_in, errors_in}
+use Rattle.htoken.specs.Handing.{HandsEvents}
+use Rattle.hparse.specs.Input.{Began, Handed, tokens_handed, errors_handed}
+use Rattle.hparse.specs.TokenRun.{TokensMean}
+
+-- a token stands for the same one when the table has grown
+token_kept : (old new : Texts) → Grows old new → (token : Token) (tok : Tok) → TokenMeans old token tok → TokenMeans new token tok
+token_kept old new grows (code.Doctype name public system forced at) tok h = h
+token_kept old new grows (code.Start name attrs closing at) tok (text, texts, is, are, e) = (text, texts, text_kept old new name text grows is, attrs_kept old new grows attrs.items texts are, e)
+token_kept old new grows (code.End name at) tok (text, is, e) = (text, text_kept old new name text grows is, e)
+token_kept old new grows (code.Comment text at) tok h = h
+token_kept old new grows (code.Char ch at) tok h = h
+token_kept old new grows (code.Eof at) tok h = h
+
+module _ (old new : Texts) (grows : Grows old new) where
+  -- tokens stand for the same ones when the table has grown
+  pub tokens_kept : (ts : List Token) (ks : List Tok) → TokensMean old ts ks → TokensMean new ts ks
+  tokens_kept [] [] h = tt
+  tokens_kept (t ∷ ts) (k ∷ ks) h = (token_kept old new grows t k h.0, tokens_kept ts ks h.1)
+  tokens_kept [] (k ∷ ks) h = absurd h
+  tokens_kept (t ∷ ts) [] h = absurd h
+
+pub TokensMean-append : (names : Texts) (ts us : List Token) (ks ls : List Tok) → TokensMean names ts ks → TokensMean names us ls → TokensMean names (ts ++ us) (ks ++ ls)
+TokensMean-append names [] us [] ls h k = k
+TokensMean-append names (t ∷ ts) us (x ∷ ks) ls h k = (h.0, TokensMean-append names ts us ks ls h.1 k)
+TokensMean-append names [] us (x ∷ ks) ls h k = absurd h
+TokensMean-append names (t ∷ ts) us [] ls h k = absurd h
+
+pub tokens_handed-append : (xs ys : List Item) → tokens_handed (xs ++ ys) ≡ tokens_handed xs ++ tokens_handed ys
+tokens_handed-append [] ys = refl
+tokens_handed-append (ItemToken t ∷ xs) ys = ap (λ (x : List Token). t ∷ x) (tokens_handed-append xs ys)
+tokens_handed-append (ItemError e ∷ xs) ys = tokens_handed-append xs ys
+
+pub errors_handed-append : (xs ys : List Item) → errors_handed (xs ++ ys) ≡ errors_handed xs ++ errors_handed ys
+errors_handed-append [] ys = refl
+errors_handed-append (ItemToken t ∷ xs) ys = errors_handed-append xs ys
+errors_handed-append (ItemError e ∷ xs) ys = ap (λ (x : List ParseError). e ∷ x) (errors_handed-append xs ys)
+
+-- the tokens and the errors of items that stand for events
+tokens_of_mean : (names : Texts) (items : List Item) (events : List Event) → Mean names items events → TokensMean names (tokens_handed items) (tokens_in events)
+tokens_of_mean names [] [] m = tt
+tokens_of_mean names (ItemToken t ∷ items) (Gives tok ∷ events) m = (m.0, tokens_of_mean names items events m.1)
+tokens_of_mean names (ItemError e ∷ items) (Reports f ∷ events) m = tokens_of_mean names items events m.1
+tokens_of_mean names (ItemToken t ∷ items) (Reports f ∷ events) m = absurd m.0
+tokens_of_mean names (ItemError e ∷ items) (Gives tok ∷ events) m = absurd m.0
+tokens_of_mean names [] (y ∷ events) m = absurd m
+tokens_of_mean names (x ∷ items) [] m = absurd m
+
+errors_of_mean : (names : Texts) (items : List Item) (events : List Event) → Mean names items events → errors_handed items ≡ errors_in events
+errors_of_mean names [] [] m = refl
+errors_of_mean names (ItemToken t ∷ items) (Gives tok ∷ events) m = errors_of_mean names items events m.1
+errors_of_mean names (ItemError e ∷ items) (Reports f ∷ events) m =
+    let same : e ≡ f = m.0 in
+    ap (λ (x : ParseError). x ∷ errors_handed items) same ∙ ap (λ (x : List ParseError). f ∷ x) (errors_of_mean names items events m.1)
+errors_of_mean names (ItemToken t ∷ items) (Reports f ∷ events) m = absurd m.0
+errors_of_mean names (ItemError e ∷ items) (Gives tok ∷ events) m = absurd m.0
+errors_of_mean names [] (y ∷ events) m = absurd m
+errors_of_mean names (x ∷ items) [] m = absurd m
+
+module _ {S : Type 0} (gives : S → Item → Result (Unit {0}) Refusal → S → Type 0) where
+  -- nothing was handed over
+  pub handed_none : (began : Began S) → Handed gives began.names began [] [] (Ok tt) began.sink
+  handed_none began = record { grows = grows_not began.names; items = []; hands = (refl, refl); tokens_mean = tt; errors_are = IsPermutation-refl [] }
+
+  -- events were handed over after others, and the table has grown
+  pub handed_more : (old new : Texts) (grows : Grows old new) (began : Began S) (mid now : S) (tokens : List Tok) (errors : List ParseError) (events : List Event) (answer : Result (Unit {0}) Refusal)
+      → Handed gives old began tokens errors (Ok tt) mid → HandsEvents gives new mid events answer now → Handed gives new began (tokens ++ tokens_in events) (errors ++ errors_in events) answer now
+  handed_more old new grows began mid now tokens errors events answer h (items, mean, given) = record {
+    grows = grows_on began.names old new h.grows grows;
+    items = h.items ++ items;
+    hands = Hands-append gives began.sink mid now h.items items answer h.hands given;
+    tokens_mean = subst (λ (ts : List Token). TokensMean new ts (tokens ++ tokens_in events)) (sym (tokens_handed-append h.items items))
+        (TokensMean-append new (tokens_handed h.items) (tokens_handed items) tokens (tokens_in events) (tokens_kept old new grows (tokens_handed h.items) tokens h.tokens_mean) (tokens_of_mean new items events mean));
+    errors_are = subst (IsPermutation (errors ++ errors_in events)) (sym (errors_handed-append h.items items))
+        (subst (λ (x : List ParseError). IsPermutation (errors ++ errors_in events) (errors_handed h.items ++ x)) (sym (errors_of_mean new items events mean))
+        (IsPermutation-append_left (errors_in events) errors (errors_handed h.items) h.errors_are));
+  }
+
+  -- the same tokens and errors, the latter in another order
+  pub handed_as : (names : Texts) (began : Began S) (now : S) (tokens tokens' : List Tok) (errors errors' : List ParseError) (answer : Result (Unit {0}) Refusal) → tokens ≡ tokens' → IsPermutation errors' errors
+      → Handed gives names began tokens errors answer now → Handed gives names began tokens' errors' answer now
+  handed_as names began now tokens tokens' errors errors' answer same order h = record {
+    grows = h.grows;
+    items = h.items;
+    hands = h.hands;
+    tokens_mean = subst (TokensMean names (tokens_handed h.items)) same h.tokens_mean;
+    errors_are = IsPermutation-trans errors' errors (errors_handed h.items) order h.errors_are;
+  }

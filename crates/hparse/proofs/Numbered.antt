@@ -1,0 +1,90 @@
+-- The tokens of a text as numbers and as texts: what comes of them is the same.
+use Rattle.std.proofs.Common.{◌≡◌, ℕ, List, [], ◌∷◌, map, sym, refl, ap, ◌∙◌, Some, false}
+use Rattle.std.specs.Prelude.{slice_get}
+use Rattle.names.specs.declared.attr.Attr.{Attr}
+use Rattle.names.specs.declared.tag.Tag.{Tag}
+use Rattle.names.specs.declared.tag.Tag.TheVariants.{Html}
+use Rattle.names.specs.Names.{Texts, AreNames}
+use Rattle.names.specs.Tags.{tag_of, tag_named}
+use Rattle.names.specs.Spelling.{spelling}
+use Rattle.names.proofs.AllTexts.{spelled as table_spelled}
+use Rattle.htag.specs.Attributes.{AttrsMean}
+use Rattle.htoken.specs.declared.token.Token.{Token as Given}
+use Rattle.htoken.specs.declared.token.Token.TheVariants as code
+use Rattle.htoken.specs.Token.{Tok, TokenMeans}
+use Rattle.hnodes.specs.Forest.{tree, document, element, none}
+use Rattle.hnodes.specs.Rows.{attribute_of}
+use Rattle.hnodes.specs.Spelled.{spelled_attribute}
+use Rattle.hadopt.specs.Naming.{numbers, texts}
+use Rattle.hadopt.specs.Spelled.{Agree}
+use Rattle.hmodes.specs.Beginning.{Limits, fragment_begins, form_of, control_in}
+use Rattle.hmodes.specs.Reset.{context_mode}
+use Rattle.hmodes.specs.Spelled.{spelled_placed, spelled_state}
+use Rattle.hmodes.specs.State.{PlacedToken, State, start, end}
+use Rattle.hmodes.specs.Tokens.{token_of}
+use Rattle.hmodes.specs.Tokens as given
+use Rattle.hmodes.proofs.Tables.{table-agrees}
+use Rattle.hparse.specs.TokenRun.{TokensMean}
+use Rattle.hparse.specs.Taken.{placed}
+
+-- a token of the program as the rules take it, and its place
+abbrev pub placed_number : Given → PlacedToken ℕ
+placed_number t = record { token = token_of t; at = given.place_of t }
+
+module _ (names : Texts) (are : AreNames names) where
+  abbrev pub spell : ℕ → List ℕ
+  spell = spelling names
+
+  spells : (id : ℕ) (text : List ℕ) → slice_get names id ≡ Some text → spell id ≡ text
+  spells = (table_spelled names are).table
+
+  attributes_spelled : (attrs : List Attr) (meant : List (List ℕ × List ℕ)) → AttrsMean names attrs meant → map (spelled_attribute spell) (map attribute_of attrs) ≡ meant
+  attributes_spelled [] [] h = refl
+  attributes_spelled (a ∷ attrs) (t ∷ meant) h =
+      (λ i. (spells a.name t.0 h.0 i, h.1 i) ∷ map (spelled_attribute spell) (map attribute_of attrs))
+      ∙ ap (λ (x : List (List ℕ × List ℕ)). t ∷ x) (attributes_spelled attrs meant h.2)
+  attributes_spelled [] (t ∷ meant) h = absurd h
+  attributes_spelled (a ∷ attrs) [] h = absurd h
+
+  token_spelled : (t : Given) (tok : Tok) → TokenMeans names t tok → spelled_placed spell (placed_number t) ≡ placed tok
+  token_spelled (code.Doctype name public system forced at) tok h = sym (ap placed h)
+  token_spelled (code.Start name attrs closing at) tok (text, meant, is, are_meant, e) =
+      (λ i. record { token = start (spells name text is i) (attributes_spelled attrs.items meant are_meant i) closing; at = at }) ∙ sym (ap placed e)
+  token_spelled (code.End name at) tok (text, is, e) =
+      (λ i. record { token = end (spells name text is i); at = at }) ∙ sym (ap placed e)
+  token_spelled (code.Comment text at) tok h = sym (ap placed h)
+  token_spelled (code.Char ch at) tok h = sym (ap placed h)
+  token_spelled (code.Eof at) tok h = sym (ap placed h)
+
+  pub tokens_spelled : (ts : List Given) (ks : List Tok) → TokensMean names ts ks → map (spelled_placed spell) (map placed_number ts) ≡ map placed ks
+  tokens_spelled [] [] h = refl
+  tokens_spelled (t ∷ ts) (k ∷ ks) h =
+      (λ i. token_spelled t k h.0 i ∷ map (spelled_placed spell) (map placed_number ts)) ∙ ap (λ (x : List (PlacedToken (List ℕ))). placed k ∷ x) (tokens_spelled ts ks h.1)
+  tokens_spelled [] (k ∷ ks) h = absurd h
+  tokens_spelled (t ∷ ts) [] h = absurd h
+
+  agree : Agree numbers texts spell
+  agree = table-agrees names are
+
+  -- the state in which a fragment begins, from html's name, what is known of the context, and its name
+  began_in : Limits → List ℕ → Tag → List ℕ → State (List ℕ)
+  began_in limits html tag context = record {
+    site = record {
+      nodes = record { limit = limits.nodes; made = 2; trees = tree 0 document (tree 1 (element html []) none none) none };
+      open_nodes = record { limit = limits.depth; stack = record { node = 1; name = html } ∷ [] };
+      items = [];
+      foster = false;
+      errors = [];
+    };
+    control = control_in (context_mode tag) (form_of tag);
+    context = Some context;
+    quirks_list = [];
+  }
+
+  -- a fragment begins in its context
+  pub fragment_spelled : (id : ℕ) (context : List ℕ) (limits : Limits) → slice_get names id ≡ Some context → spelled_state spell (fragment_begins numbers id limits) ≡ fragment_begins texts context limits
+  unfolding began_in
+  fragment_spelled id context limits is =
+      let html = sym (agree.known Html) in
+      let same : tag_of id ≡ tag_named context = sym (agree.spelling.tags id) ∙ ap tag_named (spells id context is) in
+      λ i. began_in limits (html i) (same i) (spells id context is i)

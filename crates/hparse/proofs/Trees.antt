@@ -1,0 +1,113 @@
+-- What the input of a builder comes to, with names as texts.
+use Rattle.std.proofs.Common.{◌≡◌, ℕ, List, [], ◌++◌, map, sym, refl, ap, ◌∙◌, subst, None, Ok, Err, append_assoc, inl, inr}
+use Rattle.std.specs.Prelude.{◌⊎◌}
+use Rattle.std.specs.List.Sorted.{IsPermutation}
+use Rattle.std.proofs.lemmas.List.Sorted.{IsPermutation-trans, IsPermutation-append_left, IsPermutation-append_comm}
+use Rattle.names.specs.declared.error.ParseError.{ParseError}
+use Rattle.names.specs.declared.refusal.Refusal.{Refusal}
+use Rattle.names.specs.declared.refusal.Refusal.TheVariants.{Memory}
+use Rattle.names.specs.Names.{Texts, Grows, AreNames}
+use Rattle.names.specs.Spelling.{spelling}
+use Rattle.names.proofs.Handing.{text_kept, grows_on}
+use Rattle.htext.specs.Items.{input_errors}
+use Rattle.htoken.specs.declared.token.Token.{Token as Given}
+use Rattle.htoken.specs.Token.{Tok}
+use Rattle.htoken.specs.Tokens.{tokens_in}
+use Rattle.hnodes.specs.Edits.{Nodes}
+use Rattle.hnodes.specs.Spelled.{spelled}
+use Rattle.hadopt.specs.Naming.{numbers, texts}
+use Rattle.hadopt.specs.Site.{Outcome, Goes, Refused}
+use Rattle.hadopt.specs.Spelled.{outcome_map}
+use Rattle.hmodes.specs.Spelled.{spelled_state}
+use Rattle.hmodes.specs.State.{State, PlacedToken}
+use Rattle.hmodes.specs.Step.{Steps}
+use Rattle.hmodes.proofs.Names.{steps_spelled}
+use Rattle.hmodes.proofs.Tables.{table-agrees}
+use Rattle.hbuild.specs.Building.{Building}
+use Rattle.hparse.specs.declared.parsed.Parsed.{Parsed}
+use Rattle.hparse.specs.Input.{Began, Handed, text_in, tokens_handed, errors_handed, IsRefusedFor, by_sink, by_tag, by_bytes, IsTaken}
+use Rattle.hnodes.specs.Named.{AreOf}
+use Rattle.hmodes.specs.OfTable.{TokensAreOf}
+use Rattle.hparse.specs.Parse.{Subject, document, fragment, Told, Parses, refused_token, refused_tag, refused_bytes, accepted, begins, manner, root_of}
+use Rattle.hparse.specs.Parsing.{builds, BeginsIn, a_document, a_fragment, IsBuilt, AnswersParse}
+use Rattle.hparse.specs.Taken.{placed}
+use Rattle.hparse.specs.TokenRun.{TokensMean}
+use Rattle.hparse.proofs.Built.{Became, became, refused_by_rules}
+use Rattle.hparse.proofs.Handing.{tokens_kept}
+use Rattle.hparse.proofs.OfNames.{within, tokens_of_table, children_are_of}
+use Rattle.hmodes.proofs.OfTable.{document-of, fragment-of}
+use Rattle.hparse.proofs.Numbered.{placed_number, tokens_spelled, fragment_spelled}
+
+-- the names in what tokens lead to from there are of the table
+trees_of_table : (told : Told) (first later : Texts) (subject : Subject) (s s' : State ℕ) (ts : List (PlacedToken ℕ)) → Grows first later → AreNames later → BeginsIn told first subject s → TokensAreOf later ts
+    → Steps numbers ts s (Goes s') → AreOf later s'.site.nodes.trees
+trees_of_table told first later document _ s' ts grows are a_document of steps = document-of later are told.quirks told.limits ts s' of steps
+trees_of_table told first later (fragment _) _ s' ts grows are (a_fragment context id is) of steps = fragment-of later are id told.limits ts s' (within later id context (text_kept first later id context grows is)) of steps
+
+-- the state in which a parse begins
+begins_spelled : (told : Told) (first later : Texts) (subject : Subject) (s : State ℕ) → Grows first later → AreNames later → BeginsIn told first subject s → spelled_state (spelling later) s ≡ begins told subject
+begins_spelled told first later document _ grows are a_document = refl
+begins_spelled told first later (fragment _) _ grows are (a_fragment context id is) = fragment_spelled later are id context told.limits (text_kept first later id context grows is)
+
+module _ (told : Told) (subject : Subject) (began : Began Building) (bytes : List ℕ) (names : Texts) (now : Building)
+    (unrefused : began.sink.refused ≡ None) (begins_in : BeginsIn told began.names subject began.sink.state) (later : Texts) (grows : Grows names later) (are : AreNames later) where
+  abbrev spell : ℕ → List ℕ
+  spell = spelling later
+
+  -- what comes of tokens comes of what they stand for
+  in_texts : Grows began.names names → (ts : List Given) (tokens : List Tok) (o : Outcome (State ℕ)) → TokensMean names ts tokens → Steps numbers (map placed_number ts) began.sink.state o
+      → Steps texts (map placed tokens) (begins told subject) (outcome_map (spelled_state spell) o)
+  in_texts grew ts tokens o mean steps =
+      subst (λ (s : State (List ℕ)). Steps texts (map placed tokens) s (outcome_map (spelled_state spell) o)) (begins_spelled told began.names later subject began.sink.state (grows_on began.names names later grew grows) are begins_in)
+      (subst (λ (ps : List (PlacedToken (List ℕ))). Steps texts ps (spelled_state spell began.sink.state) (outcome_map (spelled_state spell) o)) (tokens_spelled later are ts tokens (tokens_kept names later grows ts tokens mean))
+      ((steps_spelled numbers texts spell (table-agrees later are)).steps (map placed_number ts) began.sink.state o steps))
+
+  -- .. where all of them were handed over
+  gone : (tokens : List Tok) (errors : List ParseError) → Handed builds names began tokens errors (Ok tt) now → Steps texts (map placed tokens) (begins told subject) (Goes (spelled_state spell now.state))
+  gone tokens errors h = in_texts h.grows (tokens_handed h.items) tokens (Goes now.state) h.tokens_mean (became began.sink now h.items unrefused h.hands).steps
+
+  -- a refusal, but for want of memory
+  pub parses_refused : (e : Refusal) → IsRefusedFor builds (manner told subject) began bytes names now e → (e ≡ Memory) ⊎ Parses told subject bytes (Err e)
+  parses_refused e (by_sink refusal events errors h front) = elim (refused_by_rules began.sink now h.items e unrefused h.hands) [
+    | inl why ↦ inl why
+    | inr steps ↦ inr (refused_token e events front (in_texts h.grows (tokens_handed h.items) (tokens_in events) (Refused e) h.tokens_mean steps))
+  ]
+  parses_refused e (by_tag name at tokens errors h refused) = inr (refused_tag name at tokens (spelled_state spell now.state) refused (gone tokens errors h))
+  parses_refused e (by_bytes refusal tokens errors handed h read is) = inr (refused_bytes e errors (spelled_state spell now.state) (record { tokens = tokens; read = read; steps = gone tokens handed h }) is)
+
+  module _ (none_told : began.sink.told ≡ []) (root_is : began.sink.root ≡ root_of subject) where
+    -- what was built
+    pub parses_taken : (parsed : Parsed) → IsTaken builds (manner told subject) began bytes names now → IsBuilt later now parsed → AnswersParse told subject bytes (Ok parsed)
+    parses_taken parsed t r = (
+      record { trees = spelled spell now.state.site.nodes.trees; errors = parsed.errors.items },
+      record {
+        trees = ap (λ (n : Texts). spelled (spelling n) parsed.tree.trees) r.names_are ∙ ap (λ (t : Nodes ℕ). spelled spell t.trees) r.tree_is;
+        made = r.made;
+        names_are = children_are_of parsed.names parsed.root parsed.tree.trees (subst (λ (n : Texts). AreOf n parsed.tree.trees) (sym r.names_are) (subst (λ (t : Nodes ℕ). AreOf later t.trees) (sym r.tree_is) of_table));
+        root = r.root_is ∙ b.root ∙ root_is;
+        errors = refl;
+      },
+      accepted t.errors parsed.errors.items (spelled_state spell now.state) (record { tokens = t.tokens; read = t.read; steps = gone t.tokens (given ++ t.errors) t.handed }) order r.sorted t.whole,
+    ) where
+      given : List ParseError
+      given = input_errors (text_in (manner told subject) bytes)
+
+      b : Became began.sink now t.handed.items
+      b = became began.sink now t.handed.items unrefused t.handed.hands
+
+      of_table : AreOf later now.state.site.nodes.trees
+      of_table =
+          trees_of_table told began.names later subject began.sink.state now.state (map placed_number (tokens_handed t.handed.items)) (grows_on began.names names later t.handed.grows grows) are begins_in
+          (tokens_of_table later (tokens_handed t.handed.items) t.tokens (tokens_kept names later grows (tokens_handed t.handed.items) t.tokens t.handed.tokens_mean)) b.steps
+
+      told_is : now.told ≡ errors_handed t.handed.items
+      told_is = b.told ∙ ap (λ (x : List ParseError). x ++ errors_handed t.handed.items) none_told
+
+      order : IsPermutation (given ++ (t.errors ++ now.state.site.errors)) parsed.errors.items
+      order =
+          subst (λ (x : List ParseError). IsPermutation x parsed.errors.items) (append_assoc given t.errors now.state.site.errors)
+          (IsPermutation-trans ((given ++ t.errors) ++ now.state.site.errors) (errors_handed t.handed.items ++ now.state.site.errors) parsed.errors.items
+          (IsPermutation-append_left now.state.site.errors (given ++ t.errors) (errors_handed t.handed.items) t.handed.errors_are)
+          (IsPermutation-trans (errors_handed t.handed.items ++ now.state.site.errors) (now.state.site.errors ++ errors_handed t.handed.items) parsed.errors.items
+          (IsPermutation-append_comm (errors_handed t.handed.items) now.state.site.errors)
+          (subst (λ (x : List ParseError). IsPermutation (now.state.site.errors ++ x) parsed.errors.items) told_is r.errors_are)))

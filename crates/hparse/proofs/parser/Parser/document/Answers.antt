@@ -1,0 +1,19 @@
+use Rattle.std.proofs.Common.{refl, ap, sym, subst}
+use Rattle.hbuild.specs.Building.{Building}
+use Rattle.hparse.specs.Parse.{document}
+use Rattle.hparse.specs.Parsing.{BeginsIn, a_document, told_by}
+use Rattle.hparse.proofs.parser.Parser.document.Goals as goal
+
+pub returns : goal.returns
+returns c =
+    let e = c.in_ok-builder.ensures in
+    record {
+      fits = c.requires;
+      accepts = refl;
+      began = record { names = c.in_ok-names.names; sink = c.in_ok-builder.builder };
+      unrefused = ap (λ (b : Building). b.refused) e;
+      none_told = ap (λ (b : Building). b.told) e;
+      root_is = ap (λ (b : Building). b.root) e;
+      begins = subst (λ (b : Building). BeginsIn (told_by c.args.options.now) c.in_ok-names.names document b.state) (sym e) a_document;
+      has_read = c.new-2.ensures;
+    }

@@ -1,0 +1,12 @@
+use Rattle.std.proofs.Common.{◌≡◌, ℕ, List, vec_len}
+use Rattle.htoken.specs.Token.{gives_item}
+use Rattle.hparse.specs.Fed.{HasRead}
+use Rattle.hparse.specs.Input.{Manner, Began}
+use Rattle.hparse.proofs.Turns.{HasTurned}
+use Rattle.hparse.proofs.reader.read_to_end.Given as goal
+
+abbrev pub invariant-loop-turn : goal.invariant-loop-turn
+invariant-loop-turn g l =
+    ((m : Manner) (began : Began g.row.S.Denot) (before : List ℕ) → HasRead (gives_item g.S.ErrorSink.gives g.S.TokenSink.gives_token) m began l.initial.reading before
+    → HasTurned g.R.Source.left g.R.Source.failed (gives_item g.S.ErrorSink.gives g.S.TokenSink.gives_token) m began before l._turn l.initial.source l.source l.reading)
+    × (vec_len l.buffer ≡ l.piece)

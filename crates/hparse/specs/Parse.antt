@@ -1,0 +1,99 @@
+-- What parsing the bytes of a document or of a fragment comes to: a tree and parse errors, or what they are refused for.
+use Rattle.std.specs.Prelude.{◌≡◌, ℕ, Bool, false, not, ◌&&◌, ◌||◌, ◌==◌, nat_le, bytes_eq, codes, List, [], ◌∷◌, ◌++◌, length, map, None, Some, Result, Ok, Err}
+use Rattle.std.specs.List.{list_all}
+use Rattle.std.specs.List.Sorted.{IsPermutation, IsSorted}
+use Rattle.names.specs.declared.error.ParseError.{ParseError}
+use Rattle.names.specs.declared.raw.RefusedName.{RefusedName}
+use Rattle.names.specs.declared.refusal.Refusal.{Refusal}
+use Rattle.names.specs.declared.refusal.Refusal.TheVariants.{OutOfProfile}
+use Rattle.names.specs.Sets.{is_refused, raw_kind}
+use Rattle.names.specs.Tags.{tag_named}
+use Rattle.htext.specs.Items.{input_errors}
+use Rattle.htext.specs.Text.{valid_len, refusal_of}
+use Rattle.charref.specs.Reference.{Entities}
+use Rattle.hmarkup.specs.Quirks.{QuirkLine}
+use Rattle.htoken.specs.declared.token.Start.{Start}
+use Rattle.htoken.specs.declared.token.Start.TheVariants as start
+use Rattle.htoken.specs.Standing.{start_kind}
+use Rattle.htoken.specs.Token.{Tok, Event}
+use Rattle.htoken.specs.Tokens.{Tokens, IsRefused, AreFront, tokens_in}
+use Rattle.hnodes.specs.Forest.{Forest}
+use Rattle.hadopt.specs.Naming.{texts}
+use Rattle.hadopt.specs.Site.{Goes, Refused}
+use Rattle.hmodes.specs.Beginning.{Limits, document_begins, fragment_begins}
+use Rattle.hmodes.specs.State.{State}
+use Rattle.hmodes.specs.Step.{Steps}
+use Rattle.hparse.specs.Answer.{error_cmp}
+use Rattle.hparse.specs.Input.{Manner, text_in}
+use Rattle.hparse.specs.Taken.{placed}
+
+-- what is parsed: a document, or a fragment in the context of an element of this name (13.4)
+pub data Subject : Type 0 where
+  document : Subject
+  fragment : (context : List ℕ) → Subject
+
+-- what a parse is told beside the bytes: the references, the quirks list, the most bytes, and how large the tree may become
+pub record Told : Type 0 where
+  pub table : Entities
+  pub quirks : List QuirkLine
+  pub input : ℕ
+  pub limits : Limits
+
+abbrev pub start_of : Subject → Start
+start_of document = start.Document
+start_of (fragment context) = start.Context (raw_kind (tag_named context))
+
+abbrev pub manner : Told → Subject → Manner
+manner told subject = record { table = told.table; start = start_of subject; limit = told.input }
+
+-- the state in which it begins
+abbrev pub begins : Told → Subject → State (List ℕ)
+begins told document = document_begins told.quirks told.limits
+begins told (fragment context) = fragment_begins texts context told.limits
+
+-- the document, or a fragment's root element
+abbrev pub root_of : Subject → ℕ
+root_of document = 0
+root_of (fragment context) = 1
+
+-- the tree that was built, where each node has its number, and the errors in their order
+pub record Parse : Type 0 where
+  pub trees : Forest (List ℕ)
+  pub errors : List ParseError
+
+module _ (told : Told) (subject : Subject) (bytes : List ℕ) where
+  -- The tokens of what is read of the bytes lead the rules to this state, and the text raises these errors.
+  pub record Builds (end : ℕ) (errors : List ParseError) (state : State (List ℕ)) : Type 0 where
+    pub tokens : List Tok
+    pub read : Tokens told.table (start_kind (start_of subject)) (text_in (manner told subject) bytes) end tokens errors
+    pub steps : Steps texts (map placed tokens) (begins told subject) (Goes state)
+
+  -- What the bytes come to. What is read is their longest valid front within the limit.
+  pub data Parses : Result Parse Refusal → Type 0 where
+    -- the rules refuse one of its tokens
+    refused_token : (refusal : Refusal) (events : List Event) → AreFront told.table (start_kind (start_of subject)) (text_in (manner told subject) bytes) (valid_len told.input bytes) events
+        → Steps texts (map placed (tokens_in events)) (begins told subject) (Refused refusal) → Parses (Err refusal)
+    -- it has a start tag that is left out of the profile, and the rules take the tokens before that
+    refused_tag : (name : RefusedName) (at : ℕ) (tokens : List Tok) (state : State (List ℕ)) → IsRefused told.table (start_kind (start_of subject)) (text_in (manner told subject) bytes) (valid_len told.input bytes) tokens name at
+        → Steps texts (map placed tokens) (begins told subject) (Goes state) → Parses (Err (OutOfProfile name at))
+    -- the rules take all of its tokens, but bytes follow it
+    refused_bytes : (refusal : Refusal) (errors : List ParseError) (state : State (List ℕ)) → Builds (valid_len told.input bytes) errors state → refusal_of told.input bytes ≡ Some refusal → Parses (Err refusal)
+    -- it is all of the bytes: the errors are those of the input stream, of the tokens and of the rules, as often as they are raised
+    accepted : (errors sorted : List ParseError) (state : State (List ℕ)) → Builds (length bytes) errors state
+        → IsPermutation (input_errors (text_in (manner told subject) bytes) ++ (errors ++ state.site.errors)) sorted → IsSorted error_cmp sorted
+        → refusal_of told.input bytes ≡ None → Parses (Ok (record { trees = state.site.nodes.trees; errors = sorted }))
+
+-- a lower letter, and a byte of a context's name after its first: a lower letter, a digit, `-`, `_` or `:`
+abbrev pub is_lower : ℕ → Bool
+is_lower byte = nat_le 97 byte && nat_le byte 122
+
+abbrev pub is_name_byte : ℕ → Bool
+is_name_byte byte = is_lower byte || (nat_le 48 byte && nat_le byte 57) || byte == 45 || byte == 95 || byte == 58
+
+abbrev pub is_name : List ℕ → Bool
+is_name [] = false
+is_name (first ∷ others) = is_lower first && list_all is_name_byte others
+
+-- whether a fragment may be parsed in the context of an element of this name
+abbrev pub is_context : List ℕ → Bool
+is_context name = nat_le (length name) 64 && is_name name && not (bytes_eq name (codes "colgroup") || is_refused (tag_named name))

@@ -1,0 +1,80 @@
+-- What a parser has been fed, and what its calls do.
+use Rattle.std.specs.Prelude.{◌≡◌, ◌<◌, ◌≤◌, ℕ, List, [], ◌++◌, slice_get, Some, None, Result, Ok, Err}
+use Rattle.std.specs.List.Sorted.{IsPermutation, IsSorted}
+use Rattle.names.specs.declared.refusal.Refusal.{Refusal}
+use Rattle.names.specs.declared.refusal.Refusal.TheVariants.{Memory}
+use Rattle.names.specs.Names.{Texts}
+use Rattle.names.specs.Spelling.{spelling}
+use Rattle.htext.specs.declared.decoder.TheConstants.{MAX_INPUT}
+use Rattle.htoken.specs.Token.{Item, gives_item}
+use Rattle.hnodes.specs.Forest.{children_of}
+use Rattle.hnodes.specs.Spelled.{spelled}
+use Rattle.hadopt.specs.Naming.{numbers}
+use Rattle.hmodes.specs.Beginning.{document_begins, fragment_begins}
+use Rattle.hmodes.specs.State.{State}
+use Rattle.hbuild.specs.Building.{Building, TakesError, TakesToken}
+use Rattle.hparse.specs.declared.options.Options.{Options}
+use Rattle.hparse.specs.declared.parsed.Parsed.{Parsed}
+use Rattle.hparse.specs.declared.parser.Parser.{Parser}
+use Rattle.hparse.specs.Answer.{error_cmp}
+use Rattle.hparse.specs.Fed.{HasRead}
+use Rattle.hparse.specs.Input.{Began}
+use Rattle.hnodes.specs.Named.{AreOf}
+use Rattle.hparse.specs.Parse.{Subject, document, fragment, Told, Parse, Parses, manner, root_of}
+
+-- what options tell
+abbrev pub told_by : Options → Told
+told_by options = record { table = options.table.now; quirks = options.quirks.now; input = options.input_limit; limits = options.limits }
+
+-- a step of the builder
+abbrev pub builds : Building → Item → Result (Unit {0}) Refusal → Building → Type 0
+builds = gives_item TakesError TakesToken
+
+-- the state in which a parse begins, where names are numbers of this table
+pub data BeginsIn (told : Told) (names : Texts) : Subject → State ℕ → Type 0 where
+  a_document : BeginsIn told names document (document_begins told.quirks told.limits)
+  a_fragment : (context : List ℕ) (id : ℕ) → slice_get names id ≡ Some context → BeginsIn told names (fragment context) (fragment_begins numbers id told.limits)
+
+-- The parser was fed these bytes, in any pieces, and has refused nothing.
+pub record HasParsed (told : Told) (subject : Subject) (parser : Parser) (bytes : List ℕ) : Type 0 where
+  pub fits : told.input ≤ MAX_INPUT
+  pub accepts : parser.refused ≡ None
+  pub began : Began Building
+  pub unrefused : began.sink.refused ≡ None
+  pub none_told : began.sink.told ≡ []
+  pub root_is : began.sink.root ≡ root_of subject
+  pub begins : BeginsIn told began.names subject began.sink.state
+  pub has_read : HasRead builds (manner told subject) began parser.reading bytes
+
+-- What feeding the last piece of these bytes does: memory ran out, or they are refused, whatever comes after, or they have been read.
+pub data FeedsParser (told : Told) (subject : Subject) (bytes : List ℕ) (answer : Result (Unit {0}) Refusal) (new : Parser) : Type 0 where
+  feed_ran_out : answer ≡ Err Memory → FeedsParser told subject bytes answer new
+  feed_refused : (refusal : Refusal) → answer ≡ Err refusal → ((more : List ℕ) → Parses told subject (bytes ++ more) (Err refusal)) → FeedsParser told subject bytes answer new
+  feed_read : answer ≡ Ok tt → HasParsed told subject new bytes → FeedsParser told subject bytes answer new
+
+-- what was built, with the errors in order
+pub record IsBuilt (names : Texts) (built : Building) (parsed : Parsed) : Type 0 where
+  pub names_are : parsed.names ≡ names
+  pub tree_is : parsed.tree ≡ built.state.site.nodes
+  pub root_is : parsed.root ≡ built.root
+  pub made : parsed.root < parsed.tree.made
+  pub errors_are : IsPermutation (built.state.site.errors ++ built.told) parsed.errors.items
+  pub sorted : IsSorted error_cmp parsed.errors.items
+
+-- What was parsed is this: the same tree, in which the names inside the root are numbers of its table, the same root and the same errors.
+pub record IsParse (subject : Subject) (parsed : Parsed) (parse : Parse) : Type 0 where
+  pub trees : spelled (spelling parsed.names) parsed.tree.trees ≡ parse.trees
+  pub made : parsed.root < parsed.tree.made
+  pub names_are : AreOf parsed.names (children_of parsed.root parsed.tree.trees)
+  pub root : parsed.root ≡ root_of subject
+  pub errors : parsed.errors.items ≡ parse.errors
+
+-- It is what the bytes come to.
+abbrev pub AnswersParse : Told → Subject → List ℕ → Result Parsed Refusal → Type 0
+AnswersParse told subject bytes (Ok parsed) = (parse : Parse) × IsParse subject parsed parse × Parses told subject bytes (Ok parse)
+AnswersParse told subject bytes (Err refusal) = Parses told subject bytes (Err refusal)
+
+-- .. unless memory ran out
+pub data ShowsParse (told : Told) (subject : Subject) (bytes : List ℕ) (result : Result Parsed Refusal) : Type 0 where
+  parse_ran_out : result ≡ Err Memory → ShowsParse told subject bytes result
+  parse_answered : AnswersParse told subject bytes result → ShowsParse told subject bytes result

@@ -1,0 +1,69 @@
+//! The contexts of fragments.
+
+ghost use Rattle.std.specs.Prelude.{◌≡◌};
+ghost use Rattle.std.specs.List.{list_all};
+ghost use Rattle.names.specs.Sets.{is_refused};
+ghost use Rattle.names.specs.Tags.{tag_named};
+ghost use Rattle.hparse.specs.Parse.{is_context, is_lower, is_name, is_name_byte};
+
+/// The most bytes of a context's name.
+const MOST_BYTES: usize = 64;
+
+/// Whether a byte is a lower letter.
+fn is_lower(byte: u8) -> bool
+    ensures { result ≡ is_lower byte }
+{
+    byte >= b'a' && byte <= b'z'
+}
+
+/// Whether it may stand in a context's name after the first one.
+fn is_name_byte(byte: u8) -> bool
+    ensures { result ≡ is_name_byte byte }
+{
+    is_lower(byte) || (byte >= b'0' && byte <= b'9') || byte == b'-' || byte == b'_' || byte == b':'
+}
+
+/// Whether all of these may.
+fn are_name_bytes(bytes: &[u8]) -> bool
+    ensures { result ≡ list_all is_name_byte bytes.now }
+{
+    bytes.iter().all(|byte| is_name_byte(*byte))
+}
+
+/// Whether the name of a context has its form: a lower letter, then lower letters, digits, `-`, `_` and `:`.
+fn is_name(name: &[u8]) -> bool
+    ensures { result ≡ is_name name.now }
+{
+    match name.split_first() {
+        None => false,
+        Some((first, others)) => is_lower(*first) && are_name_bytes(others),
+    }
+}
+
+/// Whether it is left out of the profile.
+fn is_refused(name: &str) -> bool
+    ensures { result ≡ is_refused (tag_named name.now) }
+{
+    matches!(
+        name,
+        "math"
+            | "svg"
+            | "template"
+            | "select"
+            | "option"
+            | "optgroup"
+            | "frame"
+            | "frameset"
+            | "keygen"
+    )
+}
+
+/// Whether a fragment may be parsed in the context of an element of this name. The name has at most 64 bytes, and is neither
+/// colgroup nor one that is left out of the profile.
+pub fn is_context(name: &str) -> bool
+    ensures { result ≡ is_context name.now }
+{
+    name.len() <= MOST_BYTES
+        && is_name(name.as_bytes())
+        && !(name == "colgroup" || is_refused(name))
+}

@@ -1,0 +1,167 @@
+//! A parser that is fed bytes.
+
+ghost use Rattle.std.specs.Prelude.{◌≡◌, ◌<◌, ◌≤◌, ◌⊎◌, ℕ, List, [], ◌++◌, Some, true, false, Err, IfErr, MatchResult};
+ghost use Rattle.names.specs.Names.{AreNames, Grows};
+ghost use Rattle.names.specs.declared.refusal.Refusal.{Refusal as Refused};
+ghost use Rattle.names.specs.declared.refusal.Refusal.TheVariants.{BadContext, Memory};
+ghost use Rattle.hparse.specs.Parse.{Subject, Told, document, fragment, is_context};
+ghost use Rattle.hparse.specs.Reader.{ReadsInput};
+ghost use Rattle.hparse.specs.Parsing.{AnswersParse, FeedsParser, HasParsed, IsBuilt, ShowsParse, told_by};
+
+use crate::context::is_context;
+use crate::errors::sort_errors;
+use crate::feeding::Feeding;
+use crate::options::Options;
+use crate::parsed::Parsed;
+use crate::reader::read_to_end;
+use crate::reading::Reading;
+use crate::source::Source;
+use hbuild::{Builder, Built};
+use htext::MAX_INPUT;
+use htoken::Start;
+use names::{Names, Refusal};
+use std::alloc::{AllocError, Global};
+
+/// Parses a document or a fragment that comes in pieces. After a refusal each further call returns the same refusal.
+#[derive(Drop)]
+pub struct Parser<'t> {
+    pub(crate) alloc: Global,
+    pub(crate) reading: Reading<'t, Builder<'t>>,
+    pub(crate) refused: Option<Refusal>,
+}
+
+impl<'t> Parser<'t> {
+    /// The parser of a document. An error is `Memory`.
+    pub fn document(alloc: Global, options: &Options<'t>) -> Result<Parser<'t>, Refusal>
+        requires { options.now.input_limit ≤ MAX_INPUT }
+        ensures { MatchResult result (λ parser. HasParsed (told_by options.now) document parser []) (λ refusal. refusal ≡ Memory) }
+    {
+        let names = Names::new(alloc)?;
+        let builder = Builder::document(alloc, options.quirks, options.limits)?;
+        Ok(Parser {
+            alloc,
+            reading: Reading::new(alloc, options, Start::Document, names, builder),
+            refused: None,
+        })
+    }
+
+    /// The parser of a fragment in the context of an element of this name: 1 to 64 bytes, a lower letter, then lower letters,
+    /// digits, `-`, `_` and `:`, but neither colgroup nor a name that is left out of the profile. An error is `BadContext`,
+    /// which is found first, or `Memory`.
+    pub fn fragment(
+        alloc: Global,
+        context: &str,
+        options: &Options<'t>,
+    ) -> Result<Parser<'t>, Refusal>
+        requires { options.now.input_limit ≤ MAX_INPUT }
+        ensures { MatchResult result (λ parser. (is_context context.now ≡ true) × HasParsed (told_by options.now) (fragment context.now) parser [])
+            (λ refusal. ((is_context context.now ≡ true) × (refusal ≡ Memory)) ⊎ ((is_context context.now ≡ false) × (refusal ≡ BadContext))) }
+    {
+        if !is_context(context) {
+            return Err(Refusal::BadContext);
+        }
+        let mut names = Names::new(alloc)?;
+        let name = names.intern(alloc, context)?;
+        let builder = Builder::fragment(alloc, name, options.limits)?;
+        let start = Start::Context(name.tag().raw_kind());
+        Ok(Parser {
+            alloc,
+            reading: Reading::new(alloc, options, start, names, builder),
+            refused: None,
+        })
+    }
+
+    /// Parses the next piece. What the bytes so far are refused for, whatever comes after them, may be told here.
+    pub fn feed(&mut self, piece: &[u8]) -> Result<(), Refusal>
+        ensures feeds { (told : Told) (subject : Subject) (bytes : List ℕ) → HasParsed told subject self.old bytes → FeedsParser told subject (bytes ++ piece.now) result self.new }
+
+        // After a refusal every later call returns the same one.
+        ensures refused { IfErr result (λ refusal. self.new.refused ≡ Some refusal) }
+        ensures again { (refusal : Refused) → self.old.refused ≡ Some refusal → (result ≡ Err refusal) × (self.new ≡ self.old) }
+    {
+        if let Some(refusal) = self.refused {
+            return Err(refusal);
+        }
+        match self.reading.feed(piece) {
+            Ok(()) => Ok(()),
+            Err(refusal) => {
+                settle(&mut self.reading.feeding.names, self.alloc);
+                self.refused = Some(refusal);
+                Err(refusal)
+            }
+        }
+    }
+
+    /// The answer, where the input has ended.
+    pub fn finish(self) -> Result<Parsed, Refusal>
+        ensures shows { (told : Told) (subject : Subject) (bytes : List ℕ) → HasParsed told subject self.entry bytes → ShowsParse told subject bytes result }
+        ensures again { (refusal : Refused) → self.entry.refused ≡ Some refusal → result ≡ Err refusal }
+    {
+        let Parser {
+            alloc,
+            mut reading,
+            refused,
+        } = self;
+        if let Some(refusal) = refused {
+            return Err(refusal);
+        }
+        let answer = reading.end();
+        settle(&mut reading.feeding.names, alloc);
+        answer?;
+        built_of(reading)
+    }
+}
+
+/// Parses what a reader gives, in pieces of at most this many bytes, after what the parser was fed. Reading goes on to the end,
+/// unless a read fails or a piece brings a refusal.
+pub fn parse_reader<R: Source>(
+    alloc: Global,
+    parser: Parser,
+    piece: usize,
+    source: &mut R,
+) -> Result<Parsed, Refusal>
+    requires piece { 0 < piece }
+    requires parser { (told : Told) × (subject : Subject) × (fed : List ℕ) × HasParsed told subject parser fed }
+    ensures { (told : Told) (subject : Subject) (fed : List ℕ) → HasParsed told subject parser.entry fed
+        → ReadsInput R.left R.failed (AnswersParse told subject) told.input piece fed source.old source.new result }
+{
+    let Parser { mut reading, .. } = parser;
+    let answer = read_to_end(alloc, piece, &mut reading, source);
+    settle(&mut reading.feeding.names, alloc);
+    answer?;
+    built_of(reading)
+}
+
+/// Its texts are distinct, the known ones first.
+fn settle(names: &mut Names, alloc: Global)
+    ensures are { AreNames names.new }
+    ensures grows { Grows names.old names.new }
+{
+    // A known name is there already.
+    let _ = names.intern(alloc, "html");
+}
+
+/// What a reading has built, with the errors in their order.
+fn built_of(reading: Reading<Builder>) -> Result<Parsed, Refusal>
+    ensures { MatchResult result (IsBuilt reading.entry.feeding.names reading.entry.feeding.sink) (λ refusal. refusal ≡ Memory) }
+{
+    let Reading { feeding, .. } = reading;
+    let Feeding { names, sink, .. } = feeding;
+    let Built {
+        tree,
+        root,
+        mut errors,
+    } = sink.finish()?;
+    sort_errors(&mut errors)?;
+
+    // The root was made before anything else, so no input leads here.
+    if !tree.has(root) {
+        return Err(Refusal::Memory);
+    }
+    Ok(Parsed {
+        tree,
+        root,
+        names,
+        errors,
+    })
+}

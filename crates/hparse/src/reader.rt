@@ -1,0 +1,59 @@
+//! An input from a reader.
+
+ghost use Rattle.std.specs.Prelude.{◌<◌, ◌≤◌, ℕ, List, []};
+ghost use Rattle.htoken.specs.Token.{gives_item};
+ghost use Rattle.hparse.specs.Fed.{HasRead};
+ghost use Rattle.hparse.specs.Input.{Manner, Began, Comes};
+ghost use Rattle.hparse.specs.Reader.{ReadsInput};
+ghost use Rattle.hparse.specs.Shown.{AnswersRun};
+
+use crate::document::{begin, run_of};
+use crate::options::Options;
+use crate::reading::Reading;
+use crate::source::Source;
+use crate::token_run::TokenRun;
+use htext::MAX_INPUT;
+use htoken::TokenSink;
+use names::Refusal;
+use std::alloc::Global;
+
+/// The tokens of a document that a reader gives, in pieces of at most this many bytes. Reading goes on to the end, unless a read
+/// fails or a piece brings a refusal.
+pub fn read_tokens<R: Source>(
+    alloc: Global,
+    piece: usize,
+    options: &Options,
+    source: &mut R,
+) -> Result<TokenRun, Refusal>
+    requires limit { options.now.input_limit ≤ MAX_INPUT }
+    requires piece { 0 < piece }
+    ensures { ReadsInput R.left R.failed (AnswersRun options.now.table.now options.now.input_limit) options.now.input_limit piece [] source.old source.new result }
+{
+    let mut reading = begin(alloc, options)?;
+    read_to_end(alloc, piece, &mut reading, source)?;
+    run_of(reading)
+}
+
+/// Reads an input to its end and ends it, unless a read fails or a piece brings a refusal.
+pub(crate) fn read_to_end<S: TokenSink, R: Source>(
+    alloc: Global,
+    piece: usize,
+    reading: &mut Reading<S>,
+    source: &mut R,
+) -> Result<(), Refusal>
+    requires piece { 0 < piece }
+    requires read { (m : Manner) × (began : Began S) × (fed : List ℕ) × (m.limit ≤ MAX_INPUT) × HasRead (gives_item S.gives S.gives_token) m began reading.old fed }
+    ensures { (m : Manner) (began : Began S) (fed : List ℕ) → HasRead (gives_item S.gives S.gives_token) m began reading.old fed
+        → ReadsInput R.left R.failed (λ bytes. Comes (gives_item S.gives S.gives_token) m began bytes reading.new.feeding.names reading.new.feeding.sink) m.limit piece fed source.old source.new result }
+{
+    let mut buffer = vec![in alloc; 0u8; piece]?;
+    // A piece has at least one byte, and an input that is too long is refused long before the last turn.
+    for _turn in 0..u64::MAX {
+        match source.read(&mut buffer) {
+            None => return Err(Refusal::Read),
+            Some(0) => return reading.end(),
+            Some(count) => reading.feed(&buffer[..count])?,
+        }
+    }
+    unreachable!()
+}
