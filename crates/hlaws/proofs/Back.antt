@@ -1,7 +1,6 @@
 -- Plain trees come back, where what is written of them is read as their own tokens.
 use Rattle.std.proofs.Common.{◌≡◌, ℕ, ◌+◌, Bool, true, false, List, [], ◌∷◌, ◌++◌, map, Some, refl, sym, ◌∙◌, ap, subst, arith, ◌⊎◌, inl, inr}
 use Rattle.std.proofs.lemmas.Bool.{ne_eqb}
-use Rattle.charref.specs.Reference.{Entities}
 use Rattle.hnodes.specs.Forest.{Forest, none, tree, size, children_of}
 use Rattle.hnodes.proofs.Forests.{join-none}
 use Rattle.names.specs.Sets.{raw_kind}
@@ -27,12 +26,15 @@ use Rattle.hwrite.specs.declared.content.Content.TheVariants as content
 use Rattle.hwrite.specs.declared.content.Texts.TheVariants as allowed
 use Rattle.hwrite.specs.declared.escaping.Escaping.{Escaping}
 use Rattle.hlaws.specs.Building.{IsQuiet, Builds, fits_mode, fits_current, is_flow_mode, numbered}
-use Rattle.hlaws.specs.ComesBack.{AreTexts, AreRead, Allowed, Fits, Gives, PlainTokens, PlainComesBack, placed, taken}
+use Rattle.hlaws.specs.ComesBack.{AreTexts, AreRead, Fits, Gives, PlainTokens, PlainComesBack}
+use Rattle.hparse.specs.Parse.{Told}
+use Rattle.hparse.specs.Taken.{placed, taken}
 use Rattle.hwrite.specs.ContentTable.{row, texts_in}
 use Rattle.hwrite.specs.Plain.{Inside, are_content, are_content_if, in_context_of, is_form}
 use Rattle.hlaws.specs.PlainTokens.{tokens_of}
 use Rattle.hwrite.specs.Written.{written}
 use Rattle.hlaws.proofs.TokenLists.{AreTokens, parted, first, after}
+use Rattle.hlaws.proofs.Accepted.{accepts}
 use Rattle.hlaws.proofs.PlainBuilds.{law}
 
 -- a list under other numbers
@@ -93,10 +95,10 @@ cells_end : (m : Mode) → fits_mode content.Cells m ≡ true → ends_body m �
 cells_end InRow h = refl
 cells_end _ h = absurd cc
 
-module _ (table : Entities) (bounds : Allowed) (escaping : Escaping) (context : List ℕ) (l : Forest (List ℕ)) (utf8 : AreTexts l) (fits : Fits bounds (written escaping (Some context) l) l)
-    (read : AreRead table (raw_kind (tag_named context)) (written escaping (Some context) l) (tokens_of texts l ++ eof ∷ [])) where
+module _ (told : Told) (escaping : Escaping) (context : List ℕ) (l : Forest (List ℕ)) (utf8 : AreTexts l) (fits : Fits told (written escaping (Some context) l) l)
+    (read : AreRead told.table (raw_kind (tag_named context)) (written escaping (Some context) l) (tokens_of texts l ++ eof ∷ [])) where
   abbrev start_state : State (List ℕ)
-  start_state = fragment_begins texts context bounds.tree
+  start_state = fragment_begins texts context told.limits
 
   abbrev mode : Mode
   mode = context_mode (tag_named context)
@@ -127,7 +129,7 @@ module _ (table : Entities) (bounds : Allowed) (escaping : Escaping) (context : 
   at_end at acted opened m = ap (λ r. perform texts at eof r (begun acted)) (eof_rule acted.control.mode m) ∙ rw opened refl
 
   from_inside : (inside : Inside) → fits_mode inside.content mode ≡ true → fits_current inside.content inside.texts (tag_named (tag_text tag.Html)) ≡ true → (inside.texts ≡ texts_in inside.content) ⊎ (inside.texts ≡ allowed.None)
-      → inside.in_form ≡ is_form (tag_named context) → ends_body mode ≡ true → are_content inside l ≡ true → Gives table bounds context (written escaping (Some context) l) l
+      → inside.in_form ≡ is_form (tag_named context) → ends_body mode ≡ true → are_content inside l ≡ true → Gives told context (written escaping (Some context) l) l
   unfolding begins
   from_inside inside m cur t form ending plain =
       let q = begins inside m cur t form in
@@ -138,28 +140,22 @@ module _ (table : Entities) (bounds : Allowed) (escaping : Escaping) (context : 
       (record { text = λ h. refl; line_feed = λ h. absurd cc })
       (record { nodes = let n = fits.nodes in omega arith; open_nodes = let o = fits.open_nodes in omega arith }) p.fronts in
       let opened : stack b.acted.site ≡ stack start_state.site = ap (λ o. o.stack) b.built.open_same in
-      let done : Step texts e.at eof b.reached (Goes (begun b.acted)) = goes refl (b.acts e.at eof (Goes (begun b.acted)) refl (ends (at_end e.at b.acted opened (ap ends_body b.built.mode ∙ ending)))) in
-      let whole : Steps texts (p.front ++ record { token = eof; at = e.at } ∷ []) start_state (Goes (begun b.acted)) = after b.steps (and done step.none) in
+      let ending_step : Step texts e.at eof b.reached (Goes (begun b.acted)) = goes refl (b.acts e.at eof (Goes (begun b.acted)) refl (ends (at_end e.at b.acted opened (ap ends_body b.built.mode ∙ ending)))) in
+      let whole : Steps texts (p.front ++ record { token = eof; at = e.at } ∷ []) start_state (Goes (begun b.acted)) = after b.steps (and ending_step step.none) in
       let listed : map placed read.toks ≡ p.front ++ record { token = eof; at = e.at } ∷ [] = p.is ∙ ap (λ ts. p.front ++ ts) (e.is ∙ ap (λ ts. record { token = eof; at = e.at } ∷ ts) (ended e.others e.rest)) in
-      record {
-        utf8 = read.utf8;
-        within = fits.input;
-        toks = read.toks;
-        errors = read.errors;
-        state = begun b.acted;
-        read = read.read;
-        steps = subst (λ (ts : List (PlacedToken (List ℕ))). Steps texts ts start_state (Goes (begun b.acted))) (sym listed) whole;
-        children = ap (λ f. erased (children_of 1 f)) b.built.trees_are ∙ ap erased (join-none (numbered 2 l)) ∙ erased-numbered 2 l;
-      }
+      let steps = subst (λ (ts : List (PlacedToken (List ℕ))). Steps texts ts start_state (Goes (begun b.acted))) (sym listed) whole in
+      let done = accepts told context (written escaping (Some context) l) read.toks read.errors (begun b.acted) read.utf8 fits.input read.read steps in
+      let built = ap (λ f. erased (children_of 1 f)) b.built.trees_are ∙ ap erased (join-none (numbered 2 l)) ∙ erased-numbered 2 l in
+      record { parse = done.parse; parses = done.parses; children = ap (λ f. erased (children_of 1 f)) done.trees ∙ built }
     where
       ended : (us : List (PlacedToken (List ℕ))) → AreTokens us [] → us ≡ []
       ended [] e = refl
       ended (u ∷ us) e = absurd cc
 
-  comes : (k : Content) → (row (tag_named context)).1 ≡ k → are_content_if (in_context_of k (is_form (tag_named context))) l ≡ true → Gives table bounds context (written escaping (Some context) l) l
+  comes : (k : Content) → (row (tag_named context)).1 ≡ k → are_content_if (in_context_of k (is_form (tag_named context))) l ≡ true → Gives told context (written escaping (Some context) l) l
   comes k e h = go k (ap (λ c. mode_ok c mode) (sym e) ∙ context_ok (tag_named context)) h
     where
-      go : (k : Content) → mode_ok k mode ≡ true → are_content_if (in_context_of k (is_form (tag_named context))) l ≡ true → Gives table bounds context (written escaping (Some context) l) l
+      go : (k : Content) → mode_ok k mode ≡ true → are_content_if (in_context_of k (is_form (tag_named context))) l ≡ true → Gives told context (written escaping (Some context) l) l
       go content.Flow m h = from_inside _ m refl (inl refl) refl (flow_ends mode m) h
       go content.Phrasing m h = from_inside _ m refl (inl refl) refl (flow_ends mode m) h
       go content.Around m h = from_inside _ m refl (inl refl) refl (flow_ends mode m) h
@@ -176,5 +172,5 @@ module _ (table : Entities) (bounds : Allowed) (escaping : Escaping) (context : 
 
 -- the law of the whole from the law of tokens
 pub comes_back : PlainTokens → PlainComesBack
-comes_back tokens table bounds escaping context l is_table core utf8 plain fits =
-    comes table bounds escaping context l utf8 fits (tokens table escaping context l is_table core utf8 plain) (row (tag_named context)).1 refl plain
+comes_back tokens told escaping context l is_table core utf8 plain fits =
+    comes told escaping context l utf8 fits (tokens told.table escaping context l is_table core utf8 plain) (row (tag_named context)).1 refl plain

@@ -25,7 +25,7 @@ use Rattle.htoken.specs.Data.{comment_span}
 use Rattle.htoken.specs.Data as production
 use Rattle.htoken.specs.Tokens.{has_refused}
 use Rattle.hmodes.specs.State.{start, end, comment}
-use Rattle.hlaws.specs.ComesBack.{taken}
+use Rattle.hparse.specs.Taken.{taken}
 use Rattle.hwrite.specs.Plain.{begins_with, has_part}
 use Rattle.hlaws.proofs.TokensText.{is_clean_char, clean_not_null}
 use Rattle.hlaws.proofs.TokensCuts.{split, Cuts, one, cuts_as}

@@ -35,7 +35,8 @@ use Rattle.hwrite.specs.ContentTable.{row, takes_role, takes_comments}
 use Rattle.hwrite.specs.Plain.{Inside, inside_element, inside_node, in_context_of, is_form, are_content, are_content_if, is_plain_node, is_plain_text, is_plain_comment, are_plain_attributes, is_among_texts, is_clean, is_empty, begins_with_text, begins_with_line_feed, has_part, is_nested, drops_line_feed}
 use Rattle.hlaws.specs.PlainTokens.{tokens_of}
 use Rattle.hwrite.specs.Written.{has_no_references, start_tag_text, end_tag_text, element_text, written_among}
-use Rattle.hlaws.specs.ComesBack.{AreTexts, AreRead, PlainTokens, taken}
+use Rattle.hlaws.specs.ComesBack.{AreTexts, AreRead, PlainTokens}
+use Rattle.hparse.specs.Taken.{taken}
 use Rattle.hlaws.proofs.TokensText.{Spells, spells-append, spells_text, spells_utf8, clean_text, text_characters, no_part}
 use Rattle.hlaws.proofs.TokensCore.{escaped_as}
 use Rattle.hlaws.proofs.TokensCuts.{split, Cuts, Same, join, cuts_as, text_cuts}

@@ -1,5 +1,5 @@
 -- Plain trees come back: the law, and the two laws that carry it.
-use Rattle.std.specs.Prelude.{◌≡◌, ℕ, ◌+◌, ◌≤◌, true, IsUtf8, List, [], ◌∷◌, ◌++◌, length, map, Some}
+use Rattle.std.specs.Prelude.{◌≡◌, ℕ, ◌+◌, ◌≤◌, true, IsUtf8, List, [], ◌∷◌, ◌++◌, length, map, Some, Ok}
 use Rattle.charref.specs.Reference.{Entities, IsTable, HasCore}
 use Rattle.htext.specs.declared.Bom.TheVariants.{Keep}
 use Rattle.htext.specs.Text as input
@@ -10,39 +10,17 @@ use Rattle.names.specs.declared.raw.RawKind.{RawKind}
 use Rattle.names.specs.Sets.{raw_kind}
 use Rattle.names.specs.Tags.{tag_named}
 use Rattle.htoken.specs.Token.{Tok}
-use Rattle.htoken.specs.Token as tok
 use Rattle.htoken.specs.Tokens.{Tokens}
 use Rattle.hadopt.specs.Naming.{texts}
-use Rattle.hadopt.specs.Site.{Goes}
-use Rattle.hmodes.specs.Beginning.{Limits, fragment_begins}
+use Rattle.hparse.specs.Parse.{Told, fragment, root_of, Parse, Parses}
+use Rattle.hparse.specs.Taken.{taken}
 use Rattle.hmodes.specs.Erased.{erased}
-use Rattle.hmodes.specs.State.{Token, PlacedToken, State, doctype, start, end, comment, character, eof}
-use Rattle.hmodes.specs.Step.{Steps}
+use Rattle.hmodes.specs.State.{Token, PlacedToken, State, eof}
 use Rattle.hlaws.specs.Building.{IsQuiet, Builds, BeginsWell, HasRoom, depth}
 use Rattle.hwrite.specs.Plain.{Inside, are_content, is_plain}
 use Rattle.hlaws.specs.PlainTokens.{tokens_of}
 use Rattle.hwrite.specs.Written.{written}
 use Rattle.hwrite.specs.declared.escaping.Escaping.{Escaping}
-
--- a token of the tokenizer as the tree rules take it
-abbrev pub taken : Tok → Token (List ℕ)
-taken (tok.Doctype name public_id system_id forced at) = doctype name public_id system_id forced
-taken (tok.Start name attrs closing at) = start name attrs closing
-taken (tok.End name at) = end name
-taken (tok.Comment t at) = comment t
-taken (tok.Char ch at) = character ch
-taken (tok.Eof at) = eof
-
-abbrev pub place_of : Tok → ℕ
-place_of (tok.Doctype name public_id system_id forced at) = at
-place_of (tok.Start name attrs closing at) = at
-place_of (tok.End name at) = at
-place_of (tok.Comment t at) = at
-place_of (tok.Char ch at) = at
-place_of (tok.Eof at) = at
-
-abbrev pub placed : Tok → PlacedToken (List ℕ)
-placed t = record { token = taken t; at = place_of t }
 
 -- names, values, texts and comments are in UTF-8
 abbrev pub AreUtf8 : List (Attribute (List ℕ)) → Type 0
@@ -74,29 +52,19 @@ abbrev pub PlainBuilds : Type 0
 PlainBuilds = (inside : Inside) (l : Forest (List ℕ)) (s : State (List ℕ)) (ts : List (PlacedToken (List ℕ))) (q : IsQuiet texts inside s) → AreTexts l → are_content inside l ≡ true
     → BeginsWell texts l q.current.node s → HasRoom texts l s → map (λ t. t.token) ts ≡ tokens_of texts l → Builds texts l q.current.node ts s
 
--- how many bytes an input may have, and how many nodes and open elements there may be
-pub record Allowed : Type 0 where
-  pub input : ℕ
-  pub tree : Limits
-
 -- the list as it is written fits the limits: beside its nodes there are the document and the root, which is open
-pub record Fits (allowed : Allowed) (bytes : List ℕ) (l : Forest (List ℕ)) : Type 0 where
-  pub input : length bytes ≤ allowed.input
-  pub nodes : size l + 2 ≤ allowed.tree.nodes
-  pub open_nodes : depth l + 1 ≤ allowed.tree.depth
+pub record Fits (told : Told) (bytes : List ℕ) (l : Forest (List ℕ)) : Type 0 where
+  pub input : length bytes ≤ told.input
+  pub nodes : size l + 2 ≤ told.limits.nodes
+  pub open_nodes : depth l + 1 ≤ told.limits.depth
 
--- The bytes of a fragment are accepted in this context, and the root's children are the list.
-pub record Gives (table : Entities) (allowed : Allowed) (context bytes : List ℕ) (l : Forest (List ℕ)) : Type 0 where
-  pub utf8 : IsUtf8 bytes
-  pub within : length bytes ≤ allowed.input
-  pub toks : List Tok
-  pub errors : List ParseError
-  pub state : State (List ℕ)
-  pub read : Tokens table (raw_kind (tag_named context)) (input.text Keep bytes) (length bytes) toks errors
-  pub steps : Steps texts (map placed toks) (fragment_begins texts context allowed.tree) (Goes state)
-  pub children : erased (children_of 1 state.site.nodes.trees) ≡ erased l
+-- A fragment of these bytes is accepted in this context, and the root's children are the list.
+pub record Gives (told : Told) (context bytes : List ℕ) (l : Forest (List ℕ)) : Type 0 where
+  pub parse : Parse
+  pub parses : Parses told (fragment context) bytes (Ok parse)
+  pub children : erased (children_of (root_of (fragment context)) parse.trees) ≡ erased l
 
 -- Each plain list comes back when what is written of it is parsed.
 abbrev pub PlainComesBack : Type 0
-PlainComesBack = (table : Entities) (allowed : Allowed) (escaping : Escaping) (context : List ℕ) (l : Forest (List ℕ)) → IsTable table → HasCore table → AreTexts l → is_plain context l ≡ true
-    → Fits allowed (written escaping (Some context) l) l → Gives table allowed context (written escaping (Some context) l) l
+PlainComesBack = (told : Told) (escaping : Escaping) (context : List ℕ) (l : Forest (List ℕ)) → IsTable told.table → HasCore told.table → AreTexts l → is_plain context l ≡ true
+    → Fits told (written escaping (Some context) l) l → Gives told context (written escaping (Some context) l) l
