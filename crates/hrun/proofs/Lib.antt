@@ -1,0 +1,12 @@
+pub mod Alike
+pub mod AttributeWords
+pub mod CallLemmas
+pub mod DoctypeLine
+pub mod Escapes
+pub mod Grouping
+pub mod Meanings
+pub mod OpenLines
+pub mod Printed
+pub mod StartTag
+pub mod Tasks
+pub mod Written

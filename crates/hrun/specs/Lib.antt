@@ -1,0 +1,9 @@
+pub mod Calls
+pub mod Command
+pub mod Context
+pub mod Counted
+pub mod Prints
+pub mod Quoted
+pub mod Running
+pub mod TokenLineRows
+pub mod TokenLines

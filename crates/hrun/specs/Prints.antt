@@ -1,0 +1,39 @@
+-- What is printed of an input: the text of its answer.
+use Rattle.std.specs.Prelude.{ℕ, List, Option, None, Result, Ok, Err}
+use Rattle.names.specs.declared.error.ParseError.{ParseError}
+use Rattle.names.specs.declared.refusal.Refusal.{Refusal}
+use Rattle.htoken.specs.Token.{Tok}
+use Rattle.hnodes.specs.Forest.{children_of}
+use Rattle.hwrite.specs.Lines.{tree_text, error_lines}
+use Rattle.hparse.specs.Answer.{Answers}
+use Rattle.hparse.specs.Parse.{Parse, Parses, Subject, Told, root_of}
+use Rattle.hrun.specs.declared.command.Task.{Task}
+use Rattle.hrun.specs.declared.command.Task.TheVariants as task
+use Rattle.hrun.specs.Context.{subject_in}
+use Rattle.hrun.specs.TokenLines.{token_lines}
+
+-- The text of an answer, or the refusal that the answer is.
+pub data Prints {A : Type 0} (answers : List ℕ → Result A Refusal → Type 0) (text_of : A → List ℕ) (bytes : List ℕ) : Result (List ℕ) Refusal → Type 0 where
+  printed : (answer : A) → answers bytes (Ok answer) → Prints answers text_of bytes (Ok (text_of answer))
+  not_printed : (refusal : Refusal) → answers bytes (Err refusal) → Prints answers text_of bytes (Err refusal)
+
+-- the text of tokens, of the tree in a document or below a fragment's root, and of parse errors
+abbrev pub tokens_text : List Tok × List ParseError → List ℕ
+tokens_text answer = token_lines answer.0
+
+abbrev pub nodes_text : Subject → Parse → List ℕ
+nodes_text subject parse = tree_text (children_of (root_of subject) parse.trees)
+
+abbrev pub errors_text : Parse → List ℕ
+errors_text parse = error_lines parse.errors
+
+-- what a task prints of an input that stands in this element, or is a document; tokens are those of a document
+abbrev pub prints_of : Task → Option (List ℕ) → Told → List ℕ → Result (List ℕ) Refusal → Type 0
+prints_of task.Tokens context told = Prints (Answers told.table told.input) tokens_text
+prints_of task.Tree context told = Prints (Parses told (subject_in context)) (nodes_text (subject_in context))
+prints_of task.Errors context told = Prints (Parses told (subject_in context)) errors_text
+
+-- the element in which a task's input stands
+abbrev pub context_of : Task → Option (List ℕ) → Option (List ℕ)
+context_of task.Tokens context = None
+context_of _ context = context

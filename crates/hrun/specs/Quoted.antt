@@ -1,0 +1,20 @@
+-- Texts between quotes, as they are printed.
+use Rattle.std.specs.Prelude.{ℕ, ◌/◌, ◌%◌, List, [], ◌∷◌, ◌++◌, ◌==◌, nat_lt, if◌then◌else◌, codes}
+use Rattle.std.specs.Char.{digit_char}
+use Rattle.std.specs.List.{flat_map}
+
+-- A byte as it stands between quotes: a quote, a backslash, LF and the other bytes below the space are escaped.
+abbrev pub escaped_byte : ℕ → List ℕ
+escaped_byte b =
+    if b == 34 then codes "\\\""
+    else (if b == 92 then codes "\\\\"
+    else (if b == 10 then codes "\\n"
+    else (if nat_lt b 32 then codes "\\x" ++ digit_char (b / 16) ∷ digit_char (b % 16) ∷ []
+    else b ∷ [])))
+
+abbrev pub escaped : List ℕ → List ℕ
+escaped text = flat_map escaped_byte text
+
+-- a text between quotes
+abbrev pub quoted : List ℕ → List ℕ
+quoted text = codes "\"" ++ escaped text ++ codes "\""

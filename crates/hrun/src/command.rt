@@ -1,0 +1,38 @@
+//! What the program is told to do.
+
+ghost use Rattle.std.specs.Prelude.{◌≡◌};
+ghost use Rattle.hrun.specs.Command.{task_named};
+
+/// What is made of an input.
+#[derive(Clone, Copy, Debug, PartialEq, Eq)]
+pub enum Task {
+    /// A line for each token of a document.
+    Tokens,
+    /// The tree, a line for each node and each attribute.
+    Tree,
+    /// A line for each parse error.
+    Errors,
+}
+
+impl Task {
+    /// The task that a word of the command line names.
+    pub fn named(word: &str) -> Option<Task>
+        ensures { result ≡ task_named word.now }
+    {
+        match word {
+            "tokens" => Some(Task::Tokens),
+            "tree" | "fragment" => Some(Task::Tree),
+            "errors" => Some(Task::Errors),
+            _ => None,
+        }
+    }
+}
+
+/// A task, the name of the element in which the input stands, and how many bytes of the input are fed at a time: 1 to 65,536.
+/// An input without such an element is a document. That of `Tokens` always is.
+#[derive(Clone, Copy, Debug, PartialEq, Eq)]
+pub struct Command<'a> {
+    pub task: Task,
+    pub context: Option<&'a str>,
+    pub piece: usize,
+}

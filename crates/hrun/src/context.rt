@@ -1,0 +1,19 @@
+//! The element in which an input stands.
+
+ghost use Rattle.std.specs.Prelude.{◌≡◌, MatchResult};
+ghost use Rattle.names.specs.declared.refusal.Refusal.TheVariants.{BadContext};
+ghost use Rattle.hrun.specs.Command.{name_of};
+ghost use Rattle.hrun.specs.Context.{AllowsContext};
+
+use hparse::is_context;
+use names::Refusal;
+
+/// Whether an input may stand in an element of this name, if there is a name. An error is `BadContext`.
+pub fn check_context(context: Option<&str>) -> Result<(), Refusal>
+    ensures { MatchResult result (λ _. AllowsContext (name_of context.entry)) (λ e. (e ≡ BadContext) × (AllowsContext (name_of context.entry) → ⊥)) }
+{
+    match context {
+        Some(name) if !is_context(name) => Err(Refusal::BadContext),
+        _ => Ok(()),
+    }
+}

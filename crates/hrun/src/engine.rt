@@ -1,0 +1,141 @@
+//! An input from a reader, and what is made of it to a writer.
+
+ghost use Rattle.std.specs.Prelude.{◌<◌, ◌≤◌};
+ghost use Rattle.hparse.specs.Answer.{Answers};
+ghost use Rattle.hparse.specs.Parse.{Parses};
+ghost use Rattle.hparse.specs.Parsing.{told_by, AnswersParse};
+ghost use Rattle.hrun.specs.Command.{name_of};
+ghost use Rattle.hrun.specs.Context.{subject_in};
+ghost use Rattle.hrun.specs.Prints.{errors_text, nodes_text, tokens_text, Prints};
+ghost use Rattle.hrun.specs.Running.{BeginsIn, ReadsIn, Runs, RunsIn, RunsTask, WritesText};
+
+use crate::command::{Command, Task};
+use crate::lines::token_lines;
+use crate::target::{Target, write_all};
+use hparse::{Options, Parsed, Parser, Source, parse_reader, read_tokens};
+use htext::MAX_INPUT;
+use hwrite::{error_lines, tree_text};
+use names::Refusal;
+use std::alloc::Global;
+
+/// Reads an input, and writes what the command makes of it. A context that is not allowed is refused before anything is read.
+/// Reading stops after the piece that brings a refusal, and goes on to the end otherwise; nothing is written before. The size of
+/// a piece has no influence on what is written.
+pub fn run<S: Source, W: Target>(
+    alloc: Global,
+    command: Command,
+    options: &Options,
+    source: &mut S,
+    target: &mut W,
+) -> Result<(), Refusal>
+    requires limit { options.now.input_limit ≤ MAX_INPUT }
+    requires piece { 0 < command.piece }
+    ensures { RunsTask S.left S.failed W.written W.failed command.entry.task (name_of command.entry.context) (told_by options.now) command.entry.piece
+        source.old source.new target.old target.new result }
+{
+    match command.task {
+        Task::Tokens => run_tokens(alloc, command.piece, options, source, target),
+        Task::Tree => run_tree(alloc, command, options, source, target),
+        Task::Errors => run_errors(alloc, command, options, source, target),
+    }
+}
+
+// The tokens of a document.
+fn run_tokens<S: Source, W: Target>(
+    alloc: Global,
+    piece: usize,
+    options: &Options,
+    source: &mut S,
+    target: &mut W,
+) -> Result<(), Refusal>
+    requires limit { options.now.input_limit ≤ MAX_INPUT }
+    requires piece { 0 < piece }
+    ensures { Runs S.left S.failed W.written W.failed (Prints (Answers options.now.table.now options.now.input_limit) tokens_text) options.now.input_limit piece
+        source.old source.new target.old target.new result }
+{
+    let answer = read_tokens(alloc, piece, options, source)?;
+    let text = token_lines(alloc, &answer)?;
+    write_text(target, &text)
+}
+
+// The tree of a document or a fragment.
+fn run_tree<S: Source, W: Target>(
+    alloc: Global,
+    command: Command,
+    options: &Options,
+    source: &mut S,
+    target: &mut W,
+) -> Result<(), Refusal>
+    requires limit { options.now.input_limit ≤ MAX_INPUT }
+    requires piece { 0 < command.piece }
+    ensures { RunsIn S.left S.failed W.written W.failed (name_of command.entry.context) (Prints (Parses (told_by options.now) (subject_in (name_of command.entry.context))) (nodes_text (subject_in (name_of command.entry.context))))
+        options.now.input_limit command.entry.piece source.old source.new target.old target.new result }
+{
+    let parsed = parse(alloc, command, options, source)?;
+    let text = tree_text(alloc, &parsed.tree, &parsed.names, parsed.root)?;
+    write_text(target, &text)
+}
+
+// The parse errors of a document or a fragment.
+fn run_errors<S: Source, W: Target>(
+    alloc: Global,
+    command: Command,
+    options: &Options,
+    source: &mut S,
+    target: &mut W,
+) -> Result<(), Refusal>
+    requires limit { options.now.input_limit ≤ MAX_INPUT }
+    requires piece { 0 < command.piece }
+    ensures { RunsIn S.left S.failed W.written W.failed (name_of command.entry.context) (Prints (Parses (told_by options.now) (subject_in (name_of command.entry.context))) errors_text)
+        options.now.input_limit command.entry.piece source.old source.new target.old target.new result }
+{
+    let parsed = parse(alloc, command, options, source)?;
+    let text = error_lines(alloc, &parsed.errors)?;
+    write_text(target, &text)
+}
+
+// Parses a document or a fragment from a reader.
+fn parse<S: Source>(
+    alloc: Global,
+    command: Command,
+    options: &Options,
+    source: &mut S,
+) -> Result<Parsed, Refusal>
+    requires limit { options.now.input_limit ≤ MAX_INPUT }
+    requires piece { 0 < command.piece }
+    ensures { ReadsIn S.left S.failed (name_of command.entry.context) (AnswersParse (told_by options.now) (subject_in (name_of command.entry.context)))
+        options.now.input_limit command.entry.piece source.old source.new result }
+{
+    let parser = parser(alloc, command.context, options)?;
+    parse_reader(alloc, parser, command.piece, source)
+}
+
+/// The parser of a document, or of a fragment in an element of this name.
+pub fn parser<'t>(
+    alloc: Global,
+    context: Option<&str>,
+    options: &Options<'t>,
+) -> Result<Parser<'t>, Refusal>
+    requires { options.now.input_limit ≤ MAX_INPUT }
+    ensures { BeginsIn (told_by options.now) (name_of context.entry) result }
+{
+    match context {
+        None => Parser::document(alloc, options),
+        Some(name) => Parser::fragment(alloc, name, options),
+    }
+}
+
+// Writes a text, and flushes.
+fn write_text<W: Target>(target: &mut W, text: &[u8]) -> Result<(), Refusal>
+    ensures { WritesText W.written W.failed text.now target.old target.new result }
+{
+    write_all(target, text)?;
+    if target.flush() {
+        Ok(())
+    } else {
+        Err(Refusal::Write)
+    }
+}
+
+#[cfg(test)]
+mod tests;
