@@ -1,2 +1,5 @@
+mod Adding
 mod LineLemmas
+mod Lists
+mod Named
 mod Outcomes

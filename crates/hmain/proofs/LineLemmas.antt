@@ -1,16 +1,26 @@
 -- What `clap` says of the program's command line.
-use Rattle.std.proofs.Common.{◌≡◌, ◌⊎◌, inl, inr, refl, sym, ap, subst, ◌∙◌, List, true, Option, None, Some, option_map, option_and_then}
-use Rattle.clap.specs.Words.{HasKind, HasMatchesOf, IsAmong, Row, Text, app_of, fault_of, first_of, first_value, found_of, is_simple, is_simple_and_free, kind_of, rows_of, subcommand_of, subcommand_rows_of}
+use Rattle.std.proofs.Common.{◌≡◌, ◌⊎◌, ◌&&◌, if◌then◌else◌, Bool, inl, inr, refl, sym, ap, subst, ◌∙◌, List, [], ◌∷◌, true, false, is_some, Result, Ok, Err, IfOk, IfErr, OnOk, MatchResult, Option, None, Some, option_map, option_and_then}
+use Rattle.std.specs.Prelude.{IsSome, find}
+use Rattle.std.specs.List.{list_all}
+use Rattle.std.specs.Borrow.{Bor}
+use Rattle.clap.specs.Words.{HasKind, HasMatchesOf, IsAmong, Row, Shape, Text, app_of, built, fault_of, first_of, first_value, found_of, is_simple, is_simple_and_free, kind_of, rows_of, subcommand_name_of, subcommand_of, subcommand_rows_of, takes}
+use Rattle.clap.specs.Simple.{argument_words, entered, label_of, names_of, rows_at}
+use Rattle.clap.specs.Walk.{answers_to, stop_after}
 use Rattle.clap.specs.declared.builder.command.Command.{Command}
 use Rattle.clap.specs.declared.parser.matches.ArgMatches.{ArgMatches}
-use Rattle.clap.proofs.WalkLemmas.{first_value-rows}
+use Rattle.clap.specs.declared.parser.matches.ArgMatches.TheViews.{out-ArgMatches}
+use Rattle.clap.proofs.WalkLemmas.{both, first_value-rows}
 use Rattle.clap.specs.declared.error.Error.{Error}
 use Rattle.clap.specs.declared.error.kind.ErrorKind.{ErrorKind}
 use Rattle.clap.specs.declared.error.kind.ErrorKind.TheVariants.{OutOfMemory}
 use Rattle.clap.proofs.OnLiterals.{clap_on_literals}
+use Rattle.hrun.specs.Command.{task_named}
 use Rattle.hmain.specs.declared.fault.Fault.TheVariants as fault
 use Rattle.hmain.specs.Fault.{fault_by_kind, fault_of_error}
-use Rattle.hmain.specs.Line.{FaultOf, program, value_of}
+use Rattle.hmain.specs.Line.{AreNumbers, FaultOf, NumberFault, Numeric, Says, numeric_options, program, task_of, value_of}
+use Rattle.hrun.specs.declared.command.Task.{Task}
+use Rattle.hmain.specs.declared.fault.Fault.{Fault}
+use Rattle.hmain.specs.declared.said.Line.{Line}
 
 pub program-simple : is_simple program ≡ true
 unfolding clap_on_literals
@@ -34,16 +44,88 @@ fault_of_kind words error h = fault_at words error (kind_of error) refl h
 pub fault_of_error-memory : (error : Error) → kind_of error ≡ OutOfMemory → fault_of_error error ≡ fault.Memory
 fault_of_error-memory error e = ap (λ k. fault_by_kind k error) e
 
-value_at : (found : Option (Text × List Row)) (rows : List Row) (id : Text) → Some rows ≡ option_map (λ p. p.1) found
-    → option_and_then (λ p. first_of id p.1) found ≡ first_of id rows
-value_at None rows id e = cc
-value_at (Some p) rows id e = let same : p.1 ≡ rows = cc in ap (first_of id) same
+-- ---- the command that the words name
 
--- a value that the matches of the subcommand have is that of the command that the words name
-pub value_read : (command : Command) (m found : ArgMatches) (words : List Text) (id : Text) → app_of command ≡ program
-    → HasMatchesOf (app_of command) words m → Some (rows_of (found_of found)) ≡ option_map (λ p. p.1) (subcommand_rows_of m)
-    → first_value (found_of found) id ≡ value_of id words
-value_read command m found words id is matches rows =
-    let sub : subcommand_rows_of m ≡ subcommand_of program words = (matches (ap is_simple is ∙ program-simple)).1 ∙ ap (λ a. subcommand_of a words) is in
-    first_value-rows (found_of found) id
-    ∙ sym (value_at (subcommand_of program words) (rows_of (found_of found)) id (rows ∙ ap (option_map (λ (p : Text × List Row). p.1)) sub))
+-- what is found is as all are
+found_among : {X : Type 0} (test good : X → Bool) (xs : List X) (x : X) → find test xs ≡ Some x → list_all good xs ≡ true → good x ≡ true
+found_among test good [] x is all = absurd cc
+found_among test good (y ∷ ys) x is all = at (test y) is (found_among test good ys x) where
+  at : (b : Bool) → (if b then Some y else find test ys) ≡ Some x → (find test ys ≡ Some x → list_all good ys ≡ true → good x ≡ true) → good x ≡ true
+  at true e later = let same : y ≡ x = cc in subst (λ z. good z ≡ true) same (both (good y) _ all).0
+  at false e later = later e (both (good y) _ all).1
+
+abbrev is_command : Shape → Bool
+is_command s = is_some (task_named s.name)
+
+all_are_commands : list_all is_command (built program).subs ≡ true
+unfolding clap_on_literals
+all_are_commands = refl
+
+entered_named : (shapes : List Shape) (at : Text × List Text) (p : Text × List Row) → list_all is_command shapes ≡ true
+    → option_map (λ s. rows_at s at.1) (find (λ s. answers_to at.0 (label_of s)) shapes) ≡ Some p → is_some (task_named p.0) ≡ true
+entered_named shapes at p all is = by (find (λ s. answers_to at.0 (label_of s)) shapes) refl is where
+  by : (found : Option Shape) → find (λ s. answers_to at.0 (label_of s)) shapes ≡ found → option_map (λ s. rows_at s at.1) found ≡ Some p → is_some (task_named p.0) ≡ true
+  by None at_none e = absurd cc
+  by (Some s) at_some e = let same : s.name ≡ p.0 = cc in subst (λ n. is_some (task_named n) ≡ true) same (found_among _ is_command shapes s at_some all)
+
+stop_named : (stop : Option (Text × List Text)) (p : Text × List Row) → entered (built program) stop ≡ Some p → is_some (task_named p.0) ≡ true
+stop_named None p is = absurd cc
+stop_named (Some at) p is = entered_named (built program).subs at p all_are_commands is
+
+module _ (command : Command) (m found : ArgMatches) (name : Text) (words : List Text) (is : app_of command ≡ program) (matches : HasMatchesOf (app_of command) words m)
+    (rows : Some (rows_of (found_of found)) ≡ option_map (λ p. p.1) (subcommand_rows_of m)) (names : Some name ≡ subcommand_name_of m) where
+  entered_is : subcommand_rows_of m ≡ subcommand_of program words
+  entered_is = (matches (ap is_simple is ∙ program-simple)).1 ∙ ap (λ a. subcommand_of a words) is
+
+  name_and_rows : Some (name, rows_of (found_of found)) ≡ subcommand_of program words
+  name_and_rows = by (out-ArgMatches m).subcommand _ rows names ∙ entered_is where
+    by : {Z : Type 0} (o : Option Z) (f : Z → Text × List Row) → Some (rows_of (found_of found)) ≡ option_map (λ p. p.1) (option_map f o) → Some name ≡ option_map (λ z. (f z).0) o
+        → Some (name, rows_of (found_of found)) ≡ option_map f o
+    by None f r n = absurd cc
+    by (Some z) f r n = let first : name ≡ (f z).0 = cc in let second : rows_of (found_of found) ≡ (f z).1 = cc in rw (first, second) refl
+
+  pub names_a_task : IsSome (task_named name)
+  names_a_task = stop_named (stop_after (built program).top.rules (names_of (built program)) (argument_words program words)) (name, rows_of (found_of found)) (sym name_and_rows)
+
+  pub task_read : task_named name ≡ task_of words
+  task_read = ap (option_and_then (λ (p : Text × List Row). task_named p.0)) name_and_rows
+
+  -- a value that the matches of the subcommand have is that of the command that the words name
+  pub value_read : first_value (found_of found) ≡ value_of words
+  value_read = λ i. λ (id : Text). (first_value-rows (found_of found) id ∙ ap (option_and_then (λ (p : Text × List Row). first_of id p.1)) name_and_rows) i
+
+-- ---- what the command says
+
+pub said : (r : Result Line Fault) (task given : Option Task) (value read : Text → Option Text) → task ≡ given → value ≡ read
+    → MatchResult r (Says task value) (NumberFault value numeric_options) → IfOk r (Says given read)
+said (Ok line) task given value read same is h = subst (λ t. Says t read line) same (subst (λ v. Says task v line) is h)
+said (Err why) task given value read same is h = tt
+
+pub anyway : {P : Type 0} (r : Result Line Fault) → P → OnOk r P
+anyway (Ok line) p = p
+anyway (Err why) p = tt
+
+number_fault : (words : List Text) (options : List Numeric) (why : Fault) → fault_of program words ≡ [] → NumberFault (value_of words) numeric_options why → FaultOf words why
+number_fault words options fault.Memory none h = tt
+number_fault words options (fault.Number name least most) none h = (none, h)
+number_fault words options why none (inl h) = absurd h.1
+number_fault words options why none (inr (h, inl k)) = absurd k.1
+number_fault words options why none (inr (h, inr (k, inl l))) = absurd l.1
+number_fault words options why none (inr (h, inr (k, inr (l, m)))) = absurd m
+
+pub says_fault : (r : Result Line Fault) (words : List Text) (task : Option Task) (value : Text → Option Text) → fault_of program words ≡ [] → value ≡ value_of words
+    → MatchResult r (Says task value) (NumberFault value numeric_options) → IfErr r (FaultOf words)
+says_fault (Ok line) words task value none is h = tt
+says_fault (Err why) words task value none is h = number_fault words numeric_options why none (subst (λ v. NumberFault v numeric_options why) is h)
+
+-- where each option is a number there is no such fault
+no_number_fault : (value : Text → Option Text) (options : List Numeric) (why : Fault) → AreNumbers value options → NumberFault value options why → ⊥
+no_number_fault value [] why are h = h
+no_number_fault value (option ∷ options) why (is, are) (inl (none, k)) = none is
+no_number_fault value (option ∷ options) why (is, are) (inr (_, h)) = no_number_fault value options why are h
+
+pub no_fault : (r : Result Line Fault) (words : List Text) (task : Option Task) (value : Text → Option Text) → value ≡ value_of words
+    → MatchResult r (Says task value) (NumberFault value numeric_options)
+    → IfErr r (λ f. takes program words ≡ true → AreNumbers (value_of words) numeric_options → f ≡ fault.Memory)
+no_fault (Ok line) words task value is h = tt
+no_fault (Err why) words task value is h = λ taken numbers. absurd (no_number_fault (value_of words) numeric_options why numbers (subst (λ v. NumberFault v numeric_options why) is h))

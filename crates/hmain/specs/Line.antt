@@ -1,11 +1,14 @@
 -- The command line of the program, in the words of `clap`, and what its words say.
-use Rattle.std.specs.Prelude.{◌≡◌, ℕ, ⊤, true, List, [], ◌∷◌, Option, None, Some, option_and_then, codes}
+use Rattle.std.specs.Prelude.{◌≡◌, ◌⊎◌, ◌^◌, ◌-◌, ℕ, ⊤, true, List, [], ◌∷◌, ◌++◌, map, Option, None, Some, option_and_then, option_map, codes}
 use Rattle.std.specs.Str.Parse.{digits_value, without_leading_plus}
-use Rattle.clap.specs.Words.{App, IsAmong, IsUnsignedIn, Rule, Shape, Text, fault_of, first_of, kind_of, new_app, new_rule, subcommand_of, with_subcommand}
-use Rattle.hparse.specs.Command.{task_named}
-use Rattle.hparse.specs.declared.command.Task.{Task}
+use Rattle.clap.specs.Words.{App, IsAmong, IsUnsignedIn, Rule, Shape, Text, fault_of, first_of, kind_of, new_app, new_rule, subcommand_of, with_rule, with_subcommand}
+use Rattle.hrun.specs.Command.{task_named}
+use Rattle.hrun.specs.declared.command.Task.{Task}
+use Rattle.hmain.specs.declared.commands.Reads.{Reads}
+use Rattle.hmain.specs.declared.commands.Reads.TheVariants.{Document, Either, Fragment}
 use Rattle.hmain.specs.declared.fault.Fault.{Fault}
 use Rattle.hmain.specs.declared.fault.Fault.TheVariants as fault
+use Rattle.hmain.specs.declared.said.Line.{Line}
 
 -- `[FILE]`
 abbrev pub file_rule : Rule
@@ -15,9 +18,23 @@ file_rule = record (new_rule (codes "file")) { value_names = 1 }
 abbrev pub option_rule : Text → Rule
 option_rule name = record (new_rule name) { long = Some name; value_names = 1 }
 
--- a command with its file and its options
-abbrev pub command_shape : Text → Shape
-command_shape name = record (new_app name).top { rules = file_rule ∷ option_rule (codes "piece") ∷ option_rule (codes "entities") ∷ [] }
+-- the option that names a fragment's context, by what the command reads
+abbrev pub context_rules : Reads → List Rule
+context_rules Document = []
+context_rules Either = option_rule (codes "in") ∷ []
+context_rules Fragment = record (option_rule (codes "in")) { required = true } ∷ []
+
+-- the options of each command
+abbrev pub each_rules : List Rule
+each_rules = map option_rule (codes "piece" ∷ codes "entities" ∷ codes "quirks" ∷ codes "nodes" ∷ codes "open" ∷ [])
+
+abbrev pub with_rules : List Rule → App → App
+with_rules [] app = app
+with_rules (rule ∷ rules) app = with_rules rules (with_rule app rule)
+
+-- a command of this name, with its file and its options
+abbrev pub command_app : Text × Reads → App
+command_app (name, reads) = with_rules each_rules (with_rules (context_rules reads) (with_rule (new_app name) file_rule))
 
 -- the program without its commands, one of which is required
 abbrev pub bare_program : App
@@ -26,35 +43,87 @@ bare_program = record {
   subs = [];
 }
 
+abbrev pub with_commands : List (Text × Reads) → App → App
+with_commands [] app = app
+with_commands (command ∷ commands) app = with_commands commands (with_subcommand app (command_app command).top)
+
+-- the commands: their names, and what they read
+abbrev pub commands : List (Text × Reads)
+commands = (codes "tokens", Document) ∷ (codes "tree", Document) ∷ (codes "errors", Either) ∷ (codes "fragment", Fragment) ∷ []
+
 abbrev pub program : App
-program = with_subcommand bare_program (command_shape (codes "tokens"))
+program = with_commands commands bare_program
 
 -- the task that the words name
 abbrev pub task_of : List Text → Option Task
 task_of words = option_and_then (λ command. task_named command.0) (subcommand_of program words)
 
 -- the value of a file or an option of the command that the words name
-abbrev pub value_of : Text → List Text → Option Text
-value_of id words = option_and_then (λ command. first_of id command.1) (subcommand_of program words)
+abbrev pub value_of : List Text → Text → Option Text
+value_of words id = option_and_then (λ command. first_of id command.1) (subcommand_of program words)
 
 -- the number that the text writes
 abbrev pub number_of : Text → ℕ
 number_of text = digits_value 10 (without_leading_plus text)
 
--- `--piece` is a number in its range, where it is given
-abbrev pub IsPiece : Option Text → Type 0
-IsPiece None = ⊤
-IsPiece (Some text) = IsUnsignedIn 1 65536 text
+-- An option that is a number, with its range.
+pub record Numeric : Type 0 where
+  pub name : Text
+  pub least : ℕ
+  pub most : ℕ
 
--- its number, which is the greatest where none is given
-abbrev pub piece_of : Option Text → ℕ
-piece_of None = 65536
-piece_of (Some text) = number_of text
+abbrev pub piece_option : Numeric
+piece_option = record { name = codes "piece"; least = 1; most = 65536 }
 
--- A fault of the words: out of memory, one of the kinds that `clap` defines for them, or a piece out of its range.
+-- a limit out of its range is refused later
+abbrev pub limit_option : Text → Numeric
+limit_option name = record { name = name; least = 0; most = 2 ^ 64 - 1 }
+
+-- those of each command, in the order in which they are read
+abbrev pub numeric_options : List Numeric
+numeric_options = piece_option ∷ limit_option (codes "nodes") ∷ limit_option (codes "open") ∷ []
+
+-- its value, if there is one, is a number in its range
+abbrev pub IsNumber : Numeric → Option Text → Type 0
+IsNumber option None = ⊤
+IsNumber option (Some text) = IsUnsignedIn option.least option.most text
+
+-- the number of a value, or this one where there is none
+abbrev pub number_or : ℕ → Option Text → ℕ
+number_or default None = default
+number_or default (Some text) = number_of text
+
+-- each of these options is a number in its range, where it has a value
+abbrev pub AreNumbers : (Text → Option Text) → List Numeric → Type 0
+AreNumbers value [] = ⊤
+AreNumbers value (option ∷ options) = IsNumber option (value option.name) × AreNumbers value options
+
+-- a fault says that the value of the option is no number in its range
+abbrev pub IsNumberFault : Numeric → Fault → Type 0
+IsNumberFault option (fault.Number name least most) = (name.now ≡ option.name) × (least ≡ option.least) × (most ≡ option.most)
+IsNumberFault option _ = ⊥
+
+-- A fault says so of the first of these options whose value is none.
+abbrev pub NumberFault : (Text → Option Text) → List Numeric → Fault → Type 0
+NumberFault value [] why = ⊥
+NumberFault value (option ∷ options) why = ((IsNumber option (value option.name) → ⊥) × IsNumberFault option why)
+    ⊎ (IsNumber option (value option.name) × NumberFault value options why)
+
+-- What a line says: the task that a command names, and the values of its options.
+pub record Says (task : Option Task) (value : Text → Option Text) (line : Line) : Type 0 where
+  pub task_is : task ≡ Some line.command.task
+  pub context_is : option_map (λ s. s.now) line.command.context ≡ value (codes "in")
+  pub numbers : AreNumbers value numeric_options
+  pub piece_is : line.command.piece ≡ number_or 65536 (value (codes "piece"))
+  pub entities_is : option_map (λ s. s.now) line.entities ≡ value (codes "entities")
+  pub quirks_is : option_map (λ s. s.now) line.quirks ≡ value (codes "quirks")
+  pub nodes_is : line.nodes ≡ number_or 16777216 (value (codes "nodes"))
+  pub open_is : line.open ≡ number_or 1048576 (value (codes "open"))
+  pub file_is : option_map (λ s. s.now) line.file ≡ value (codes "file")
+
+-- A fault of the words: out of memory, one of the kinds that `clap` defines for them, or an option that is no number in its range.
 abbrev pub FaultOf : List Text → Fault → Type 0
 FaultOf words fault.Memory = ⊤
 FaultOf words (fault.Line error) = IsAmong (kind_of error) (fault_of program words)
-FaultOf words (fault.Number option least most) = (fault_of program words ≡ []) × (IsPiece (value_of (codes "piece") words) → ⊥)
-    × (option.now ≡ codes "piece") × (least ≡ 1) × (most ≡ 65536)
+FaultOf words (fault.Number name least most) = (fault_of program words ≡ []) × NumberFault (value_of words) numeric_options (fault.Number name least most)
 FaultOf words _ = ⊥

@@ -1,49 +1,105 @@
 -- What the program does in its surroundings. `has_words`, `lacks_words`, `opens` and `cannot_open` say what calls of the surroundings
 -- returned; of a reader `left` says the bytes that it has left, where it tells, and of a writer `written` those that it has taken;
 -- `failed` says how many of their calls have failed.
-use Rattle.std.specs.Prelude.{◌≡◌, ◌⊎◌, ℕ, List, true, Option, None, Some, Result, Ok, Err, IfSome, codes}
+use Rattle.std.specs.Prelude.{◌≡◌, ◌⊎◌, ℕ, List, [], true, Option, None, Some, Result, Ok, Err, IfSome, MatchResult, option_map, codes}
 use Rattle.clap.specs.Words.{Text, takes}
 use Rattle.names.specs.declared.refusal.Refusal.{Refusal}
-use Rattle.hparse.specs.Calls.{EndsWith}
-use Rattle.hparse.specs.Running.{Runs}
-use Rattle.names.specs.declared.refusal.Refusal.TheVariants.{Memory}
+use Rattle.names.specs.declared.refusal.Refusal.TheVariants.{Memory, BadLimits, BadContext}
 use Rattle.charref.specs.Reference.{Entities, core}
 use Rattle.charref.specs.Reading.{table_of, IsRefusedWith}
+use Rattle.hmarkup.specs.Quirks.{QuirkLine, ReadsQuirks}
+use Rattle.hbuild.specs.Bounds.{AreLimits}
+use Rattle.hmodes.specs.Beginning.{Limits}
+use Rattle.hrun.specs.declared.command.Task.{Task}
+use Rattle.hrun.specs.Calls.{EndsWith}
+use Rattle.hrun.specs.declared.command.Command.{Command}
+use Rattle.hparse.specs.declared.options.Options.{Options}
+use Rattle.hparse.specs.Parse.{Told as Settings}
+use Rattle.hparse.specs.Parsing.{told_by}
+use Rattle.hrun.specs.Context.{AllowsContext}
+use Rattle.hrun.specs.Running.{RunsTask}
 use Rattle.hmain.specs.declared.fault.Fault.{Fault}
 use Rattle.hmain.specs.declared.fault.Fault.TheVariants as fault
 use Rattle.hmain.specs.Ending.{ending_text, status_of}
-use Rattle.hmain.specs.Line.{program, value_of, piece_of, FaultOf, IsPiece}
+use Rattle.hmain.specs.Line.{program, task_of, value_of, number_or, numeric_options, AreNumbers, FaultOf}
 
 -- what a run of the engine is for the program
 abbrev pub outcome_of : Result (Unit {0}) Refusal → Result (Unit {0}) Fault
 outcome_of (Ok _) = Ok tt
 outcome_of (Err refusal) = Err (fault.Refused refusal)
 
--- The engine ran over a document.
-abbrev pub AnswersDocument : {S W : Type 0} → (S → Option (List ℕ)) → (S → ℕ) → (W → Option (List ℕ)) → (W → ℕ) → Entities → ℕ → ℕ → S → S → W → W → Result (Unit {0}) Fault → Type 0
-AnswersDocument left reads written writes table piece limit source source' target target' outcome =
-    (answer : Result (Unit {0}) Refusal) × Runs left reads written writes table piece limit source source' target target' answer × (outcome ≡ outcome_of answer)
+-- what the program is told to do, with what
+pub record Told : Type 0 where
+  pub task : Task
+  pub context : Option Text
+  pub piece : ℕ
+  pub settings : Settings
+
+abbrev pub told_of : Command → Options → Told
+told_of command options =
+    record { task = command.task; context = option_map (λ s. s.now) command.context; piece = command.piece; settings = told_by options }
+
+-- the most nodes, and the most open elements
+abbrev pub limits_of : List Text → Limits
+limits_of words = record { nodes = number_or 16777216 (value_of words (codes "nodes")); depth = number_or 1048576 (value_of words (codes "open")) }
+
+-- The engine ran over an input.
+abbrev pub AnswersInput : {S W : Type 0} → (S → Option (List ℕ)) → (S → ℕ) → (W → Option (List ℕ)) → (W → ℕ) → Told → S → S → W → W → Result (Unit {0}) Fault → Type 0
+AnswersInput left reads written writes told source source' target target' outcome =
+    (answer : Result (Unit {0}) Refusal) × RunsTask left reads written writes told.task told.context told.settings told.piece source source' target target' answer × (outcome ≡ outcome_of answer)
+
+-- what is read of the text of a table of character references
+abbrev pub ReadsTable : List ℕ → Result Entities Refusal → Type 0
+ReadsTable text answer = MatchResult answer (λ table. table_of text ≡ Ok table) (IsRefusedWith (table_of text))
 
 module _ {R : Type 0} (has_text : R → List ℕ → List ℕ → Type 0) (lacks_text : R → List ℕ → Fault → Type 0) where
-  -- the table of character references: that of the named file, or the core table
-  abbrev pub HasTable : R → Option Text → Entities → Type 0
-  HasTable surroundings None table = table ≡ core
-  HasTable surroundings (Some name) table = (text : List ℕ) × has_text surroundings name text × (table_of text ≡ Ok table)
+  -- What is found of a list: what is read of the text of the named file, or the default, or why there is none.
+  abbrev pub Finds : {A : Type 0} → A → (List ℕ → Result A Refusal → Type 0) → R → Option Text → Result A Fault → Type 0
+  Finds default reads surroundings None (Ok found) = found ≡ default
+  Finds default reads surroundings None (Err why) = why ≡ fault.Refused Memory
+  Finds default reads surroundings (Some name) (Ok found) = (text : List ℕ) × has_text surroundings name text × reads text (Ok found)
+  Finds default reads surroundings (Some name) (Err why) = lacks_text surroundings name why
+      ⊎ ((text : List ℕ) × (refusal : Refusal) × has_text surroundings name text × reads text (Err refusal) × (why ≡ fault.Refused refusal))
 
-  -- there is none: memory ran out, the file's text cannot be read, or it is refused
-  abbrev pub LacksTable : R → Option Text → Fault → Type 0
-  LacksTable surroundings None why = why ≡ fault.Refused Memory
-  LacksTable surroundings (Some name) why = lacks_text surroundings name why
-      ⊎ ((text : List ℕ) × (refusal : Refusal) × has_text surroundings name text × IsRefusedWith (table_of text) refusal × (why ≡ fault.Refused refusal))
+  -- the table of character references, or the core table; the quirks list, or the empty one
+  abbrev pub FindsTable : R → Option Text → Result Entities Fault → Type 0
+  FindsTable = Finds core ReadsTable
+
+  abbrev pub FindsQuirks : R → Option Text → Result (List QuirkLine) Fault → Type 0
+  FindsQuirks = Finds [] ReadsQuirks
+
+  -- What the words tell, where all that they name is found and accepted.
+  pub record Tells (limit : ℕ) (surroundings : R) (words : List Text) (told : Told) : Type 0 where
+    pub task : task_of words ≡ Some told.task
+    pub context : told.context ≡ value_of words (codes "in")
+    pub allowed : AllowsContext told.context
+    pub piece : told.piece ≡ number_or 65536 (value_of words (codes "piece"))
+    pub table : FindsTable surroundings (value_of words (codes "entities")) (Ok told.settings.table)
+    pub quirks : FindsQuirks surroundings (value_of words (codes "quirks")) (Ok told.settings.quirks)
+    pub input_limit : told.settings.input ≡ limit
+    pub limits : told.settings.limits ≡ limits_of words
+    pub in_range : AreLimits (limits_of words).nodes (limits_of words).depth
+
+  -- The first of the things that the words name that is not found or not accepted.
+  pub data FirstFault (surroundings : R) (words : List Text) (why : Fault) : Type 0 where
+    no_table : FindsTable surroundings (value_of words (codes "entities")) (Err why) → FirstFault surroundings words why
+    no_quirks : (table : Entities) → FindsTable surroundings (value_of words (codes "entities")) (Ok table)
+        → FindsQuirks surroundings (value_of words (codes "quirks")) (Err why) → FirstFault surroundings words why
+    no_limits : (table : Entities) (quirks : List QuirkLine) → FindsTable surroundings (value_of words (codes "entities")) (Ok table)
+        → FindsQuirks surroundings (value_of words (codes "quirks")) (Ok quirks)
+        → (AreLimits (limits_of words).nodes (limits_of words).depth → ⊥) → why ≡ fault.Refused BadLimits → FirstFault surroundings words why
+    no_context : (table : Entities) (quirks : List QuirkLine) → FindsTable surroundings (value_of words (codes "entities")) (Ok table)
+        → FindsQuirks surroundings (value_of words (codes "quirks")) (Ok quirks) → AreLimits (limits_of words).nodes (limits_of words).depth
+        → (AllowsContext (value_of words (codes "in")) → ⊥) → why ≡ fault.Refused BadContext → FirstFault surroundings words why
 
 module _ {R F : Type 0} (opens : R → List ℕ → F → Type 0) (cannot_open : R → List ℕ → Type 0) (left_in_file : F → Option (List ℕ)) (failed_in_file : F → ℕ) where
   -- The engine ran over the file of this name, or that cannot be opened.
-  pub data AnswersFile {W : Type 0} (written : W → Option (List ℕ)) (writes : W → ℕ) (table : Entities) (piece limit : ℕ) (surroundings : R) (name : List ℕ) (output output' : W)
+  pub data AnswersFile {W : Type 0} (written : W → Option (List ℕ)) (writes : W → ℕ) (told : Told) (surroundings : R) (name : List ℕ) (output output' : W)
       (outcome : Result (Unit {0}) Fault) : Type 0 where
     file_missing : cannot_open surroundings name → outcome ≡ Err fault.CannotRead → output' ≡ output
-        → AnswersFile written writes table piece limit surroundings name output output' outcome
-    file_answered : (file file' : F) → opens surroundings name file → AnswersDocument left_in_file failed_in_file written writes table piece limit file file' output output' outcome
-        → AnswersFile written writes table piece limit surroundings name output output' outcome
+        → AnswersFile written writes told surroundings name output output' outcome
+    file_answered : (file file' : F) → opens surroundings name file → AnswersInput left_in_file failed_in_file written writes told file file' output output' outcome
+        → AnswersFile written writes told surroundings name output output' outcome
 
   module _ {S W : Type 0} (has_text : R → List ℕ → List ℕ → Type 0) (lacks_text : R → List ℕ → Fault → Type 0)
       (left : S → Option (List ℕ)) (reads : S → ℕ) (written : W → Option (List ℕ)) (writes : W → ℕ) where
@@ -51,18 +107,18 @@ module _ {R F : Type 0} (opens : R → List ℕ → F → Type 0) (cannot_open :
     pub data AnswersWords (limit : ℕ) (surroundings : R) (words : List Text) (input input' : S) (output output' : W) (outcome : Result (Unit {0}) Fault) : Type 0 where
       -- the words are wrong or ask for help; where they are right memory ran out
       words_refused : (why : Fault) → outcome ≡ Err why → FaultOf words why
-          → (takes program words ≡ true → IsPiece (value_of (codes "piece") words) → why ≡ fault.Memory) → input' ≡ input → output' ≡ output
+          → (takes program words ≡ true → AreNumbers (value_of words) numeric_options → why ≡ fault.Memory) → input' ≡ input → output' ≡ output
           → AnswersWords limit surroundings words input input' output output' outcome
-      -- there is no table of character references
-      words_without_table : (why : Fault) → LacksTable has_text lacks_text surroundings (value_of (codes "entities") words) why → outcome ≡ Err why → input' ≡ input → output' ≡ output
+      -- something that they name is not there, or is refused
+      words_without : (why : Fault) → FirstFault has_text lacks_text surroundings words why → outcome ≡ Err why → input' ≡ input → output' ≡ output
           → AnswersWords limit surroundings words input input' output output' outcome
       -- they name a file
-      words_with_file : (table : Entities) (name : Text) → HasTable has_text lacks_text surroundings (value_of (codes "entities") words) table → value_of (codes "file") words ≡ Some name
-          → AnswersFile written writes table (piece_of (value_of (codes "piece") words)) limit surroundings name output output' outcome → input' ≡ input
+      words_with_file : (told : Told) (name : Text) → Tells has_text lacks_text limit surroundings words told → value_of words (codes "file") ≡ Some name
+          → AnswersFile written writes told surroundings name output output' outcome → input' ≡ input
           → AnswersWords limit surroundings words input input' output output' outcome
-      -- they name none: the document is the standard input
-      words_without_file : (table : Entities) → HasTable has_text lacks_text surroundings (value_of (codes "entities") words) table → value_of (codes "file") words ≡ None
-          → AnswersDocument left reads written writes table (piece_of (value_of (codes "piece") words)) limit input input' output output' outcome
+      -- they name none: the input is the standard input
+      words_without_file : (told : Told) → Tells has_text lacks_text limit surroundings words told → value_of words (codes "file") ≡ None
+          → AnswersInput left reads written writes told input input' output output' outcome
           → AnswersWords limit surroundings words input input' output output' outcome
 
 module _ {R F S W : Type 0} (has_words : R → List Text → Type 0) (lacks_words : R → Fault → Type 0) (opens : R → List ℕ → F → Type 0) (cannot_open : R → List ℕ → Type 0)

@@ -1,6 +1,7 @@
 //! The program `htmlp` as a function of its surroundings: its command line, its files, its streams and its status.
 #![tactic(auto)]
 
+mod commands;
 pub mod ending;
 pub mod fault;
 pub mod host;

@@ -1,17 +1,19 @@
 //! The command line.
 
-ghost use Rattle.std.specs.Prelude.{◌≡◌, ◌<◌, ◌≤◌, [], true, false, codes, option_map, Some, IfOk, IfErr, OnOk, MatchResult};
-ghost use Rattle.clap.specs.Words.{app_of, fault_of, rule_of, takes, IsUnsignedIn};
+ghost use Rattle.std.specs.Prelude.{◌≡◌, ◌<◌, ◌≤◌, [], true, IfOk, IfErr, OnOk, IsSome, MatchResult, option_map};
+ghost use Rattle.clap.specs.Words.{fault_of, first_value, found_of, takes};
 ghost use Rattle.clap.specs.Walk.{texts};
-ghost use Rattle.clap.specs.declared.builder.command.Command.TheViews.{out-Command as fields_of};
-ghost use Rattle.hmain.specs.Line.{command_shape, file_rule, number_of, option_rule, piece_of, program, task_of, value_of, FaultOf, IsPiece};
+ghost use Rattle.hrun.specs.Command.{task_named};
+ghost use Rattle.hmain.specs.Line.{number_of, number_or, numeric_options, program, task_of, value_of, AreNumbers, FaultOf, IsNumber, IsNumberFault, NumberFault, Says};
 ghost use Rattle.hmain.specs.declared.fault.Fault.TheVariants as fault;
 
+use crate::commands::command_line;
 use crate::fault::Fault;
 use crate::said::Line;
-use clap::Arg;
-use hparse::{Command, Task};
-use std::alloc::{AllocError, Global};
+use clap::ArgMatches;
+use hbuild::{MAX_DEPTH, MAX_NODES};
+use hrun::{Command, Task};
+use std::alloc::Global;
 
 /// The most bytes that are fed at a time, and the number where no option gives one.
 const MOST_PIECE: u64 = 65_536;
@@ -19,98 +21,67 @@ const MOST_PIECE: u64 = 65_536;
 /// What the words say; the first one is the program's own name. The fault says what is wrong with them, shows the help that
 /// they ask for, or is out of memory.
 pub fn line<'a>(alloc: Global, words: &'a [&'a str]) -> Result<Line<'a>, Fault>
-    ensures task { IfOk result (λ line. task_of (texts words.entry.now) ≡ Some line.command.task) }
-    ensures piece { IfOk result (λ line. IsPiece (value_of (codes "piece") (texts words.entry.now))
-        × (line.command.piece ≡ piece_of (value_of (codes "piece") (texts words.entry.now)))) }
+    ensures says { IfOk result (Says (task_of (texts words.entry.now)) (value_of (texts words.entry.now))) }
     ensures in_range { IfOk result (λ line. (0 < line.command.piece) × (line.command.piece ≤ MOST_PIECE)) }
-    ensures file { IfOk result (λ line. option_map (λ s. s.now) line.file ≡ value_of (codes "file") (texts words.entry.now)) }
-    ensures entities { IfOk result (λ line. option_map (λ s. s.now) line.entities ≡ value_of (codes "entities") (texts words.entry.now)) }
     ensures taken { OnOk result (fault_of program (texts words.entry.now) ≡ []) }
 
     ensures fault { IfErr result (FaultOf (texts words.entry.now)) }
     ensures memory { IfErr result (λ f. takes program (texts words.entry.now) ≡ true
-        → IsPiece (value_of (codes "piece") (texts words.entry.now)) → f ≡ fault.Memory) }
+        → AreNumbers (value_of (texts words.entry.now)) numeric_options → f ≡ fault.Memory) }
 {
     let matches = command_line(alloc)?.try_get_matches_from(words)?;
     let (name, found) = matches.subcommand().unwrap();
+    said(name, found)
+}
+
+/// What the name of a command and its matches say.
+fn said<'a>(name: &'a str, found: &ArgMatches<'a>) -> Result<Line<'a>, Fault>
+    requires { IsSome (task_named name.now) }
+    ensures says { MatchResult result (Says (task_named name.now) (first_value (found_of found.now)))
+        (NumberFault (first_value (found_of found.now)) numeric_options) }
+    ensures in_range { IfOk result (λ line. (0 < line.command.piece) × (line.command.piece ≤ MOST_PIECE)) }
+{
     let task = Task::named(name).unwrap();
-    let piece = match found.get_str("piece") {
-        Some(text) => number("piece", text, 1, MOST_PIECE)?,
-        None => MOST_PIECE,
-    };
+    let piece = number(found, "piece", 1, MOST_PIECE)?.unwrap_or(MOST_PIECE);
+    let nodes = number(found, "nodes", 0, u64::MAX)?.unwrap_or(MAX_NODES);
+    let open = number(found, "open", 0, u64::MAX)?.unwrap_or(MAX_DEPTH);
     Ok(Line {
         command: Command {
             task,
+            context: found.get_str("in"),
             piece: piece as usize,
         },
-        file: found.get_str("file"),
         entities: found.get_str("entities"),
+        quirks: found.get_str("quirks"),
+        nodes,
+        open,
+        file: found.get_str("file"),
     })
 }
 
-/// The program's command line, as `clap` reads it.
-fn command_line<'a>(alloc: Global) -> Result<clap::Command<'a>, AllocError>
-    ensures { IfOk result (λ command. app_of command ≡ program) }
+/// The number that the value of an option writes, from the least to the most, if it has a value.
+fn number(
+    found: &ArgMatches,
+    name: &'static str,
+    least: u64,
+    most: u64,
+) -> Result<Option<u64>, Fault>
+    ensures { MatchResult result
+        (λ number. IsNumber (record { name = name.entry.now; least = least; most = most }) (first_value (found_of found.now) name.entry.now)
+        × (number ≡ option_map number_of (first_value (found_of found.now) name.entry.now)))
+        (λ why. (IsNumber (record { name = name.entry.now; least = least; most = most }) (first_value (found_of found.now) name.entry.now) → ⊥)
+        × (why ≡ fault.Number name.entry least most)) }
 {
-    clap::Command::new(alloc, "htmlp")
-        .about("Reads HTML as the HTML Standard says")
-        .subcommand_required(true)
-        .disable_help_subcommand(true)
-        .subcommand(command(alloc, "tokens", "A line for each token")?)
-}
-
-/// A command, with its file and its options.
-fn command<'a>(
-    alloc: Global,
-    name: &'a str,
-    about: &'a str,
-) -> Result<clap::Command<'a>, AllocError>
-    ensures shape { IfOk result (λ command. app_of command ≡ record { top = command_shape name.entry.now; subs = [] }) }
-    ensures local { IfOk result (λ command. (fields_of command).has_globals ≡ false) }
-{
-    let file = Arg::new(alloc, "file")
-        .value_name("FILE")
-        .help("The input [default: standard input]");
-    clap::Command::new(alloc, name)
-        .about(about)
-        .arg(file)?
-        .arg(option(
-            alloc,
-            "piece",
-            "N",
-            "Bytes fed at a time, 1 to 65536 [default: 65536]",
-        ))?
-        .arg(option(
-            alloc,
-            "entities",
-            "FILE",
-            "The table of character references [default: amp, lt, gt, quot, nbsp]",
-        ))
-}
-
-/// An option that has a value.
-fn option<'a>(alloc: Global, name: &'a str, value: &'a str, help: &'a str) -> Arg<'a>
-    ensures rule { rule_of result ≡ option_rule name.entry.now }
-    ensures local { result.global ≡ false }
-{
-    Arg::new(alloc, name)
-        .long(name)
-        .value_name(value)
-        .help(help)
-}
-
-/// The number that the value of an option writes, from the least to the most.
-fn number(option: &'static str, text: &str, least: u64, most: u64) -> Result<u64, Fault>
-    ensures { MatchResult result (λ n. IsUnsignedIn least most text.now × (n ≡ number_of text.now))
-        (λ f. (IsUnsignedIn least most text.now → ⊥) × (f ≡ fault.Number option.entry least most)) }
-{
-    match text.parse::<u64>() {
-        Ok(number) if least <= number && number <= most => Ok(number),
-        _ => Err(Fault::Number {
-            option,
-            least,
-            most,
-        }),
+    match found.get_str(name) {
+        None => Ok(None),
+        Some(text) => match text.parse::<u64>() {
+            Ok(number) if least <= number && number <= most => Ok(Some(number)),
+            _ => Err(Fault::Number {
+                option: name,
+                least,
+                most,
+            }),
+        },
     }
 }
 

@@ -1,15 +1,18 @@
 //! The program: does what the words of its command line say.
 
-ghost use Rattle.std.specs.Prelude.{◌≡◌, ◌<◌, ◌≤◌, map, option_map, IfOk, MatchResult, string_bytes};
+ghost use Rattle.std.specs.Prelude.{◌≡◌, ◌<◌, ◌≤◌, map, option_map, IfOk, MatchResult, Ok, Err, string_bytes};
 ghost use Rattle.clap.specs.Walk.{texts};
-ghost use Rattle.hmain.specs.Program.{HasTable, LacksTable, AnswersDocument, AnswersFile, AnswersWords, Answers, Ends};
+ghost use Rattle.hmain.specs.Program.{AnswersFile, AnswersInput, AnswersWords, Answers, Ends, FindsQuirks, FindsTable, told_of};
 
 use crate::ending::ending;
 use crate::fault::Fault;
 use crate::line::line;
 use crate::surroundings::Surroundings;
 use charref::Table;
-use hparse::{Command, Options, Source, Target, run};
+use hbuild::Limits;
+use hmarkup::Quirks;
+use hparse::{Options, Source};
+use hrun::{Command, Target, check_context, run};
 use htext::MAX_INPUT;
 use std::alloc::{AllocError, Global};
 
@@ -54,13 +57,18 @@ fn answer_words<R: Surroundings, S: Source, W: Target>(
     let texts = as_texts(surroundings.alloc(), words)?;
     let line = line(surroundings.alloc(), &texts)?;
     let table = table(surroundings, line.entities)?;
+    let quirks = quirks(surroundings, line.quirks)?;
+    let limits = Limits::new(line.nodes, line.open)?;
+    check_context(line.command.context)?;
     let options = Options {
         table: &table,
+        quirks: &quirks,
         input_limit: MAX_INPUT,
+        limits,
     };
     match line.file {
         Some(name) => answer_file(surroundings, line.command, &options, name, output),
-        None => answer_document(surroundings.alloc(), line.command, &options, input, output),
+        None => answer_input(surroundings.alloc(), line.command, &options, input, output),
     }
 }
 
@@ -75,16 +83,31 @@ fn as_texts<'a>(alloc: Global, words: &'a [String]) -> Result<Vec<&'a str>, Allo
 }
 
 // The table of character references: that of the named file, or the core table.
-fn table<R: Surroundings>(surroundings: &R, entities: Option<&str>) -> Result<Table, Fault>
+fn table<R: Surroundings>(surroundings: &R, name: Option<&str>) -> Result<Table, Fault>
     ensures { MatchResult result
-        (HasTable R.has_text R.lacks_text surroundings.now (option_map (λ s. s.now) entities.entry))
-        (LacksTable R.has_text R.lacks_text surroundings.now (option_map (λ s. s.now) entities.entry)) }
+        (λ table. FindsTable R.has_text R.lacks_text surroundings.now (option_map (λ s. s.now) name.entry) (Ok table))
+        (λ why. FindsTable R.has_text R.lacks_text surroundings.now (option_map (λ s. s.now) name.entry) (Err why)) }
 {
-    match entities {
+    match name {
         None => Ok(Table::core(surroundings.alloc())?),
         Some(name) => {
             let text = surroundings.text(name)?;
             Ok(Table::read(surroundings.alloc(), &text)?)
+        }
+    }
+}
+
+// The quirks list: that of the named file, or the empty one.
+fn quirks<R: Surroundings>(surroundings: &R, name: Option<&str>) -> Result<Quirks, Fault>
+    ensures { MatchResult result
+        (λ quirks. FindsQuirks R.has_text R.lacks_text surroundings.now (option_map (λ s. s.now) name.entry) (Ok quirks))
+        (λ why. FindsQuirks R.has_text R.lacks_text surroundings.now (option_map (λ s. s.now) name.entry) (Err why)) }
+{
+    match name {
+        None => Ok(Quirks::read(surroundings.alloc(), "")?),
+        Some(name) => {
+            let text = surroundings.text(name)?;
+            Ok(Quirks::read(surroundings.alloc(), &text)?)
         }
     }
 }
@@ -99,23 +122,17 @@ fn answer_file<R: Surroundings, W: Target>(
 ) -> Result<(), Fault>
     requires piece { 0 < command.piece }
     requires limit { options.now.input_limit ≤ MAX_INPUT }
-    ensures { AnswersFile R.opens R.cannot_open R.File.left R.File.failed W.written W.failed options.now.table.now command.piece options.now.input_limit surroundings.now name.now
+    ensures { AnswersFile R.opens R.cannot_open R.File.left R.File.failed W.written W.failed (told_of command.entry options.now) surroundings.now name.now
         output.old output.new result }
 {
     match surroundings.open(name) {
-        Some(mut file) => answer_document(
-            surroundings.alloc(),
-            command,
-            options,
-            &mut file,
-            output,
-        ),
+        Some(mut file) => answer_input(surroundings.alloc(), command, options, &mut file, output),
         None => Err(Fault::CannotRead),
     }
 }
 
-// Runs the command over a document.
-fn answer_document<S: Source, W: Target>(
+// Runs the command over an input.
+fn answer_input<S: Source, W: Target>(
     alloc: Global,
     command: Command,
     options: &Options,
@@ -124,7 +141,7 @@ fn answer_document<S: Source, W: Target>(
 ) -> Result<(), Fault>
     requires piece { 0 < command.piece }
     requires limit { options.now.input_limit ≤ MAX_INPUT }
-    ensures { AnswersDocument S.left S.failed W.written W.failed options.now.table.now command.piece options.now.input_limit source.old source.new target.old target.new result }
+    ensures { AnswersInput S.left S.failed W.written W.failed (told_of command.entry options.now) source.old source.new target.old target.new result }
 {
     run(alloc, command, options, source, target)?;
     Ok(())

@@ -1,13 +1,19 @@
 //! What a command line says.
 
-use hparse::Command;
+use hrun::Command;
 
 /// What the words of a command line say.
 #[derive(Clone, Copy, Debug, PartialEq, Eq)]
 pub struct Line<'a> {
-    pub command: Command,
+    pub command: Command<'a>,
     /// The name of the file of the table of character references. None is the core table.
     pub entities: Option<&'a str>,
+    /// The name of the file of the quirks list. None is the empty list.
+    pub quirks: Option<&'a str>,
+    /// The most nodes.
+    pub nodes: u64,
+    /// The most open elements.
+    pub open: u64,
     /// The name of the input's file. None is the standard input.
     pub file: Option<&'a str>,
 }

@@ -3,7 +3,7 @@
 use super::ending;
 use crate::fault::Fault;
 use crate::line;
-use hparse::{Counted, Target};
+use hrun::{Counted, Target};
 use names::{Refusal, RefusedName, TableFault};
 use std::io;
 use std::io::Write;
@@ -31,7 +31,7 @@ impl Write for Faulty {
     }
 }
 
-static REFUSALS: [(Refusal, u8, &'static str); 13] = [
+static REFUSALS: [(Refusal, u8, &'static str); 12] = [
     (Refusal::NotUtf8 { at: 1 }, 2, "refused: NotUtf8 at 1\n"),
     (
         Refusal::OutOfProfile {
@@ -65,13 +65,6 @@ static REFUSALS: [(Refusal, u8, &'static str); 13] = [
     ),
     (Refusal::BadLimits, 2, "refused: BadLimits\n"),
     (Refusal::Write, 3, "fault: cannot write\n"),
-    (
-        Refusal::NotYet {
-            at: 18_446_744_073_709_551_615,
-        },
-        2,
-        "refused: NotYet at 18446744073709551615\n",
-    ),
 ];
 
 #[test]

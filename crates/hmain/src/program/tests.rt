@@ -3,7 +3,7 @@
 use super::run_program;
 use crate::fault::Fault;
 use crate::surroundings::Surroundings;
-use hparse::Counted;
+use hrun::Counted;
 use std::alloc::Global;
 use std::test::Fail;
 
@@ -49,11 +49,14 @@ impl Surroundings for Pretended {
     }
 
     fn text(&self, name: &str) -> Result<String, Fault> {
-        match name {
-            "table.json" => Ok(String::from_str(self.alloc, TABLE)?),
-            "bad.json" => Ok(String::from_str(self.alloc, "{\"a\":1}")?),
-            _ => Err(Fault::CannotRead),
-        }
+        let text = match name {
+            "table.json" => "{\"&not;\":{\"codepoints\":[172],\"characters\":\"¬\"}}",
+            "bad.json" => "{\"a\":1}",
+            "quirks.txt" => "public-begins -//x//\n",
+            "bad.txt" => "public-is a\nx",
+            _ => return Err(Fault::CannotRead),
+        };
+        Ok(String::from_str(self.alloc, text)?)
     }
 
     fn open(&self, name: &str) -> Option<Counted<&'static [u8]>> {
@@ -65,11 +68,25 @@ impl Surroundings for Pretended {
     }
 }
 
-const TABLE: &str = "{\"&not;\":{\"codepoints\":[172],\"characters\":\"¬\"}}";
-
 const PAGE: &[u8] = b"<p>a";
 
 const PAGE_LINES: &str = "0 start \"p\"\n3 chars \"a\"\n4 eof\n";
+
+const TREE: &str = "| <html>\n|   <head>\n|   <body>\n|     <p>\n|       \"b\"\n";
+
+const PAGE_TREE: &str = "| <html>\n|   <head>\n|   <body>\n|     <p>\n|       \"a\"\n";
+
+// A doctype that the list calls quirky: only there a table stands in a paragraph.
+const QUIRKY: &[u8] = b"<!DOCTYPE html PUBLIC \"-//X//\"><p><table>";
+
+const QUIRKS: &str =
+    "| <!DOCTYPE html \"-//X//\" \"\">\n| <html>\n|   <head>\n|   <body>\n|     <p>\n|       <table>\n";
+
+const NO_QUIRKS: &str =
+    "| <!DOCTYPE html \"-//X//\" \"\">\n| <html>\n|   <head>\n|   <body>\n|     <p>\n|     <table>\n";
+
+// Fifteen elements in the body, which has two above it.
+const DEEP: &[u8] = b"<div><div><div><div><div><div><div><div><div><div><div><div><div><div><div>";
 
 // Words, the standard input, and what comes: the standard output, the standard error and the status.
 type Run = (
@@ -80,7 +97,7 @@ type Run = (
     u8,
 );
 
-static RUNS: [Run; 12] = [
+static RUNS: [Run; 25] = [
     (
         &["htmlp", "tokens", "--entities", "table.json"],
         b"b",
@@ -140,17 +157,100 @@ static RUNS: [Run; 12] = [
         3,
     ),
     (
-        &["htmlp", "tree"],
+        &["htmlp", "parse"],
         b"b",
         "",
-        "error: unrecognized subcommand 'tree'\n\nUsage: htmlp <COMMAND>\n\nFor more information, try '--help'.\n",
+        "error: unrecognized subcommand 'parse'\n\nUsage: htmlp <COMMAND>\n\nFor more information, try '--help'.\n",
         3,
+    ),
+    (&["htmlp", "tree"], b"<p>b", TREE, "", 0),
+    (&["htmlp", "tree", "page.html"], b"b", PAGE_TREE, "", 0),
+    (&["htmlp", "errors"], b"<p>b", "0 tree-initial\n", "", 0),
+    (
+        &["htmlp", "errors", "--in", "p"],
+        b"</b>",
+        "0 tree-in-body\n",
+        "",
+        0,
+    ),
+    (
+        &["htmlp", "fragment", "--in", "table"],
+        b"<td>b",
+        "| <tbody>\n|   <tr>\n|     <td>\n|       \"b\"\n",
+        "",
+        0,
+    ),
+    (&["htmlp", "tree"], QUIRKY, NO_QUIRKS, "", 0),
+    (
+        &["htmlp", "tree", "--quirks", "quirks.txt"],
+        QUIRKY,
+        QUIRKS,
+        "",
+        0,
+    ),
+    (
+        &["htmlp", "tree", "--quirks", "none.txt"],
+        b"b",
+        "",
+        "fault: cannot read\n",
+        3,
+    ),
+    (
+        &["htmlp", "tree", "--open", "16"],
+        DEEP,
+        "",
+        "refused: TooDeep at 70\n",
+        2,
+    ),
+    // Of several faults the first is told: the table, the quirks list, the limits, the context, the input.
+    (
+        &[
+            "htmlp",
+            "fragment",
+            "--in=svg",
+            "none.html",
+            "--open=1",
+            "--quirks=bad.txt",
+            "--entities=bad.json",
+        ],
+        b"b",
+        "",
+        "refused: BadTable Key\n",
+        2,
+    ),
+    (
+        &[
+            "htmlp",
+            "fragment",
+            "--in=svg",
+            "none.html",
+            "--open=1",
+            "--quirks=bad.txt",
+        ],
+        b"b",
+        "",
+        "refused: BadQuirks line 2\n",
+        2,
+    ),
+    (
+        &["htmlp", "fragment", "--in=svg", "none.html", "--open=1"],
+        b"b",
+        "",
+        "refused: BadLimits\n",
+        2,
+    ),
+    (
+        &["htmlp", "fragment", "--in=svg", "none.html"],
+        b"b",
+        "",
+        "refused: BadContext\n",
+        2,
     ),
     (
         &["htmlp", "--help"],
         b"b",
         "",
-        "Reads HTML as the HTML Standard says\n\nUsage: htmlp <COMMAND>\n\nCommands:\n  tokens  A line for each token\n\nOptions:\n  -h, --help  Print help\n",
+        "Reads HTML as the HTML Standard says\n\nUsage: htmlp <COMMAND>\n\nCommands:\n  tokens    A line for each token\n  tree      The tree, a line for each node\n  errors    A line for each parse error\n  fragment  The tree of a fragment\n\nOptions:\n  -h, --help  Print help\n",
         3,
     ),
 ];

@@ -1,9 +1,10 @@
-use Rattle.std.proofs.Common.{ap, ap₂, codes, true, ◌≡◌, ◌∙◌}
+use Rattle.std.proofs.Common.{ap, codes, true, refl, ◌≡◌, ◌∙◌}
 use Rattle.std.proofs.lemmas.Result.{IfOk-weaker}
-use Rattle.clap.specs.Words.{App, Shape, app_of, new_app, with_subcommand}
+use Rattle.clap.specs.Words.{App, Shape, app_of, new_app}
 use Rattle.clap.specs.Simple.{app_of_fields, on_top}
 use Rattle.hmain.specs.Line.{bare_program}
-use Rattle.hmain.proofs.line.command_line.Goals as goal
+use Rattle.hmain.proofs.Adding.{one_command_more}
+use Rattle.hmain.proofs.commands.command_line.Goals as goal
 
 -- two settings
 abbrev needing : App → App
@@ -17,4 +18,7 @@ returns c =
     let named : app_of c.about.result ≡ new_app (codes "htmlp") = ap app_of_fields c.about.ensures ∙ c.new.ensures.app in
     let required : app_of c.subcommand_required.result ≡ needing (new_app (codes "htmlp")) = ap app_of_fields c.subcommand_required.ensures ∙ ap needing named in
     let bare : app_of c.disable_help_subcommand.result ≡ bare_program = ap app_of_fields c.disable_help_subcommand.ensures ∙ ap helpless required in
-    IfOk-weaker c.subcommand.result _ _ (λ r h. h.shape c.in_ok-command.ensures.local ∙ ap₂ with_subcommand bare (ap (λ (a : App). a.top) c.in_ok-command.ensures.shape)) c.subcommand.ensures
+    let first = one_command_more _ _ _ _ _ c.in_ok-subcommand.ensures c.in_ok-command.ensures.local bare c.in_ok-command.ensures.shape in
+    let second = one_command_more _ _ _ _ _ c.in_ok-subcommand-2.ensures c.in_ok-command-2.ensures.local first c.in_ok-command-2.ensures.shape in
+    let third = one_command_more _ _ _ _ _ c.in_ok-subcommand-3.ensures c.in_ok-command-3.ensures.local second c.in_ok-command-3.ensures.shape in
+    IfOk-weaker c.subcommand-4.result _ _ (λ r adds. one_command_more _ _ _ _ _ adds c.in_ok-command-4.ensures.local third c.in_ok-command-4.ensures.shape) c.subcommand-4.ensures
