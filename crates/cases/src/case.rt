@@ -1,13 +1,15 @@
-//! A stored case: an input, and what the engine must make of it.
+//! A stored case: a command line, an input, and what the program must make of it.
 
-use anyhow::{Context, Result};
+use anyhow::{Context, Result, bail};
 use serde_json::Value;
 use std::alloc::Global;
 
-/// An input, the text that its tokens are printed as, and the refusal's line, which is empty where it is accepted.
+/// The words of a command line, an input, the text that is printed, and the refusal's line, which is empty where the input is
+/// accepted.
 #[derive(Drop)]
 pub struct Case {
     pub id: String,
+    pub words: Vec<String>,
     pub input: Vec<u8>,
     pub text: String,
     pub refusal: String,
@@ -19,11 +21,29 @@ impl Case {
         let object = Value::from_str(alloc, line)?;
         Ok(Case {
             id: member(alloc, &object, "id")?,
+            words: words(alloc, &object)?,
             input: hex::decode(alloc, &member(alloc, &object, "input")?)?,
             text: member(alloc, &object, "stdout")?,
             refusal: member(alloc, &object, "stderr")?,
         })
     }
+}
+
+/// The words, after the program's own name.
+fn words(alloc: Global, object: &Value) -> Result<Vec<String>> {
+    let list = object
+        .get("words")
+        .and_then(Value::as_array)
+        .context("a case has no words")?;
+    let mut words = Vec::new(alloc);
+    words.push(String::from_str(alloc, "htmlp")?)?;
+    for word in list {
+        let Some(text) = word.as_str() else {
+            bail!("a word is no text");
+        };
+        words.push(String::from_str(alloc, text)?)?;
+    }
+    Ok(words)
 }
 
 /// A member that is a text.
