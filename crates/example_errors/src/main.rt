@@ -3,8 +3,8 @@
 
 use anyhow::Context;
 use charref::Table;
+use hmarkup::Quirks;
 use hparse::{Options, TokenRun, tokens};
-use htext::MAX_INPUT;
 use names::Refusal;
 use std::alloc::Global;
 use std::{env, fs};
@@ -27,9 +27,6 @@ fn main(rt: HostRuntime) -> anyhow::Result<()> {
 /// The tokens and the parse errors of a page, with the core table of references.
 fn parse(alloc: Global, page: &[u8]) -> Result<TokenRun, Refusal> {
     let table = Table::core(alloc)?;
-    let options = Options {
-        table: &table,
-        input_limit: MAX_INPUT,
-    };
-    tokens(alloc, &[page], &options)
+    let quirks = Quirks::read(alloc, "")?;
+    tokens(alloc, &[page], &Options::new(&table, &quirks))
 }
