@@ -140,9 +140,9 @@ lowered_close [] h = refl
 lowered_close (p ∷ ps) h =
     let k = and_parts (not (eqb (to_ascii_lowercase p.ch) 62)) (list_all (λ c. not (eqb c 62)) (lowered ps)) h in
     and_both (not (eqb p.ch 62)) (no_close ps) (by (eqb p.ch 62) refl k.0) (lowered_close ps k.1) where
-  by : (b : Bool) → eqb p.ch 62 ≡ b → not (eqb (to_ascii_lowercase p.ch) 62) ≡ true → not b ≡ true
-  by false e n = refl
-  by true e n = sym (ap (λ (c : ℕ). not (eqb (to_ascii_lowercase c) 62)) (eqb-true p.ch 62 e)) ∙ n
+      by : (b : Bool) → eqb p.ch 62 ≡ b → not (eqb (to_ascii_lowercase p.ch) 62) ≡ true → not b ≡ true
+      by false e n = refl
+      by true e n = sym (ap (λ (c : ℕ). not (eqb (to_ascii_lowercase c) 62)) (eqb-true p.ch 62 e)) ∙ n
 
 opened_close : (so : Opened) (text : List Placed) → IsOpened so text → no_close text ≡ true
 opened_close opened.Nothing text h = ap no_close h
@@ -155,9 +155,9 @@ before_close [] h = refl
 before_close (p ∷ ps) h =
     let k = and_parts (not (eqb p.ch 62)) (no_close ps) h in
     by (eqb p.ch 62) k.0 (before_close ps k.1) where
-  by : (b : Bool) → not b ≡ true → ps ≡ before closes_bogus (ps ++ greater ∷ []) → p ∷ ps ≡ (if b && true then [] else p ∷ before closes_bogus (ps ++ greater ∷ []))
-  by true n e = absurd cc
-  by false n e = ap (λ (x : List Placed). p ∷ x) e
+      by : (b : Bool) → not b ≡ true → ps ≡ before closes_bogus (ps ++ greater ∷ []) → p ∷ ps ≡ (if b && true then [] else p ∷ before closes_bogus (ps ++ greater ∷ []))
+      by true n e = absurd cc
+      by false n e = ap (λ (x : List Placed). p ∷ x) e
 
 -- BY STATE
 

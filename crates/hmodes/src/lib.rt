@@ -31,7 +31,8 @@ pub use control::Control;
 pub use family::Family;
 pub use kind::Kind;
 pub use laws::{
-    adopts_once, each_table_agrees, names_are_of_the_table, one_step, open_stands, raw_follows, steps_know_no_names,
+    adopts_once, each_table_agrees, names_are_of_the_table, one_step, open_stands, raw_follows,
+    steps_know_no_names,
 };
 pub use mode::Mode;
 pub use rules::{Flow, Rules};

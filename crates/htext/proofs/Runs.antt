@@ -127,14 +127,14 @@ plain_drop (suc n) (x ∷ xs) h = plain_drop n xs (and_parts (is_plain_byte x) (
 pub placed_part : (at i n : ℕ) (run : List ℕ) → list_all is_plain_byte run ≡ true → i ≤ length run → placed at (take (i + n) run) ≡ placed at (take i run) ++ placed (at + i) (take n (drop i run))
 placed_part at i n run h l =
     ap (placed at) (take_more i n run) ∙ placed-append at (take i run) (take n (drop i run)) (plain_take i run h) ∙ ap (λ (k : ℕ). placed at (take i run) ++ placed (at + k) (take n (drop i run))) (length-take-le i run l) where
-  nothing : (n : ℕ) → take {A = ℕ} n [] ≡ []
-  nothing zero = refl
-  nothing (suc n) = refl
+      nothing : (n : ℕ) → take {A = ℕ} n [] ≡ []
+      nothing zero = refl
+      nothing (suc n) = refl
 
-  take_more : (i n : ℕ) (xs : List ℕ) → take (i + n) xs ≡ take i xs ++ take n (drop i xs)
-  take_more zero n xs = let none : 0 + n ≡ n = omega arith in ap (λ (k : ℕ). take k xs) none
-  take_more (suc i) n [] = let one : suc i + n ≡ suc (i + n) = omega arith in ap (λ (k : ℕ). take {A = ℕ} k []) one ∙ sym (nothing n)
-  take_more (suc i) n (x ∷ xs) = let one : suc i + n ≡ suc (i + n) = omega arith in ap (λ (k : ℕ). take k (x ∷ xs)) one ∙ ap (λ (ys : List ℕ). x ∷ ys) (take_more i n xs)
+      take_more : (i n : ℕ) (xs : List ℕ) → take (i + n) xs ≡ take i xs ++ take n (drop i xs)
+      take_more zero n xs = let none : 0 + n ≡ n = omega arith in ap (λ (k : ℕ). take k xs) none
+      take_more (suc i) n [] = let one : suc i + n ≡ suc (i + n) = omega arith in ap (λ (k : ℕ). take {A = ℕ} k []) one ∙ sym (nothing n)
+      take_more (suc i) n (x ∷ xs) = let one : suc i + n ≡ suc (i + n) = omega arith in ap (λ (k : ℕ). take k (x ∷ xs)) one ∙ ap (λ (ys : List ℕ). x ∷ ys) (take_more i n xs)
 
 pub placed_rest : (at i : ℕ) (run : List ℕ) → list_all is_plain_byte run ≡ true → i ≤ length run → placed at run ≡ placed at (take i run) ++ placed (at + i) (drop i run)
 placed_rest at i run h l =

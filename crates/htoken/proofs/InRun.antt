@@ -252,22 +252,25 @@ module _ {S : Type 0} (gives : S → Item → Result (Unit {0}) Refusal → S �
         let state_is : new.state ≡ state.Comment = ap (λ (x : Tokenizer). x.state) then ∙ in_comment in
         run_goes_on_here new s (ap (λ (x : Tokenizer). x.refused) then) (ap (λ (x : Tokenizer). x.table) then) next (ap (λ (x : Tokenizer). x.kind) then) (ap (λ (x : Tokenizer). x.last) then)
         (subst (λ (x : State). IsIn x h.here.kind) (sym state_is) (subst (λ (x : State). IsIn x h.here.kind) in_comment h.is_in))
-        (subst (λ (x : State). IsHeld x table names h.here new (h.held ++ run) []) (sym state_is) (comment_here.0, record {
-          opening = i.opening;
-          body = i.body ++ run;
-          first = i.first;
-          own = i.own ++ reported;
-          others = i.others ++ run;
-          starts = ap (λ (x : List Placed). x ++ run) i.starts ∙ ap (λ (a : ℕ). record { ch = 60; at = a } ∷ (i.others ++ run)) (sym at_is);
-          held_is = ap (λ (x : List Placed). x ++ run) i.held_is ∙ append_assoc i.opening i.body run;
-          has_read = has;
-          raised_is = kept t.raised new.raised reported handed ∙ ap (λ (x : List ParseError). x ++ reported) i.raised_is ∙ append_assoc i.first i.own reported;
-          opens = λ end rest more contents errors is.
-              let same_text : (i.body ++ run) ++ more ≡ i.body ++ (run ++ more) = append_assoc i.body run more in
-              subst (λ (x : List Placed). IsDataSpan table end rest (record { text = i.opening ++ x; tokens = Comment contents new.at ∷ []; errors = i.first ++ errors })) (sym same_text)
-              (subst (λ (a : ℕ). IsDataSpan table end rest (record { text = i.opening ++ (i.body ++ (run ++ more)); tokens = Comment contents a ∷ []; errors = i.first ++ errors })) (sym at_is)
-              (i.opens end rest (run ++ more) contents errors (subst (λ (x : List Placed). IsCommentOf comment_here.0 end rest x contents errors) same_text is)));
-        }))
+        (subst (λ (x : State). IsHeld x table names h.here new (h.held ++ run) []) (sym state_is) (
+          comment_here.0,
+          record {
+            opening = i.opening;
+            body = i.body ++ run;
+            first = i.first;
+            own = i.own ++ reported;
+            others = i.others ++ run;
+            starts = ap (λ (x : List Placed). x ++ run) i.starts ∙ ap (λ (a : ℕ). record { ch = 60; at = a } ∷ (i.others ++ run)) (sym at_is);
+            held_is = ap (λ (x : List Placed). x ++ run) i.held_is ∙ append_assoc i.opening i.body run;
+            has_read = has;
+            raised_is = kept t.raised new.raised reported handed ∙ ap (λ (x : List ParseError). x ++ reported) i.raised_is ∙ append_assoc i.first i.own reported;
+            opens = λ end rest more contents errors is.
+                let same_text : (i.body ++ run) ++ more ≡ i.body ++ (run ++ more) = append_assoc i.body run more in
+                subst (λ (x : List Placed). IsDataSpan table end rest (record { text = i.opening ++ x; tokens = Comment contents new.at ∷ []; errors = i.first ++ errors })) (sym same_text)
+                (subst (λ (a : ℕ). IsDataSpan table end rest (record { text = i.opening ++ (i.body ++ (run ++ more)); tokens = Comment contents a ∷ []; errors = i.first ++ errors })) (sym at_is)
+                (i.opens end rest (run ++ more) contents errors (subst (λ (x : List Placed). IsCommentOf comment_here.0 end rest x contents errors) same_text is)));
+          },
+        ))
 
   -- a tag goes on
   module _ (in_tag : t.state ≡ state.Tag) where

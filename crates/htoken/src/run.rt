@@ -183,8 +183,7 @@ impl<'t> Tokenizer<'t> {
             return self.take_first(names, run, at, sink);
         }
         self.next = at + count as u64;
-        self.comment
-            .take_run(&run[..count], at, &mut self.raised)?;
+        self.comment.take_run(&run[..count], at, &mut self.raised)?;
         Ok(count)
     }
 

@@ -15,8 +15,7 @@ returns c =
     let e = c.in_ok-builder.ensures in
     let allowed : is_context c.args.context.now ≡ true = search rules in
     let kind : c.raw_kind.result ≡ raw_kind (tag_named c.args.context.now) = c.raw_kind.ensures ∙ ap raw_kind (c.tag.ensures ∙ c.in_ok-name.ensures.tag) in
-    let began : Began Building = record { names = c.intern.new.self; sink = c.in_ok-builder.builder } in
-    (
+    let began : Began Building = record { names = c.intern.new.self; sink = c.in_ok-builder.builder } in (
       allowed,
       record {
         fits = c.requires;
