@@ -1,55 +1,30 @@
-//! Counts what is in a file, without keeping it: `bench tokens FILE`. The file is fed in pieces of 65,536 bytes.
+//! Counts what is in a file, without printing it: `bench tokens FILE`, `bench tree FILE`. The file is fed in pieces of 65,536 bytes.
 #![tactic(auto)]
 
 mod counting;
+mod pieces;
+mod tokens;
+mod trees;
 
-use crate::counting::Counting;
+use crate::tokens::count_tokens;
+use crate::trees::count_nodes;
 use anyhow::{Context, Result, bail};
-use charref::Table;
-use htext::{Bom, Decoder, MAX_INPUT};
-use names::Refusal;
-use std::alloc::Global;
 use std::env;
 use std::fs::File;
-use std::io::Read;
-
-/// How many bytes are fed at a time.
-const PIECE: usize = 65_536;
 
 fn main(rt: HostRuntime) -> Result<()> {
     let mut words = env::args(&rt)?.skip(1);
-    if words.next().context("name a count")?.as_str() != "tokens" {
-        bail!("the only count is `tokens`");
-    }
+    let count = words.next().context("name a count")?;
     let name = words.next().context("name a file")?;
     let mut file = File::open(&rt, name.as_str())?;
-    let Ok(table) = Table::core(rt.alloc()) else {
-        bail!("out of memory");
+    let counts = match count.as_str() {
+        "tokens" => count_tokens(rt.alloc(), &mut file),
+        "tree" => count_nodes(rt.alloc(), &mut file),
+        _ => bail!("the counts are `tokens` and `tree`"),
     };
-    let Ok(mut counting) = Counting::new(rt.alloc(), &table) else {
-        bail!("out of memory");
-    };
-    match count(rt.alloc(), &mut file, &mut counting) {
-        Ok(()) => println!(rt;
-            "{} tokens, {} errors",
-            counting.counts.tokens, counting.counts.errors
-        )?,
+    match counts {
+        Ok(counts) => println!(rt; "{counts}")?,
         Err(refusal) => println!(rt; "refused: {refusal}")?,
     }
     Ok(())
-}
-
-/// Feeds a file to its end.
-fn count(alloc: Global, file: &mut File, counting: &mut Counting) -> Result<(), Refusal> {
-    let mut buffer = vec![in alloc; 0u8; PIECE]?;
-    let mut decoder = Decoder::new(alloc, Bom::Drop, MAX_INPUT);
-    for _ in 0..u64::MAX {
-        match file.read(&mut buffer) {
-            Err(_) => return Err(Refusal::Read),
-            Ok(0) => break,
-            Ok(length) => decoder.feed(&buffer[..length], counting)?,
-        }
-    }
-    decoder.finish(counting)?;
-    counting.finish(decoder.read())
 }

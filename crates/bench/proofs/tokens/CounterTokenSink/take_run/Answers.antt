@@ -1,0 +1,7 @@
+use Rattle.std.proofs.Common.{sym, ◌∙◌}
+use Rattle.htoken.specs.declared.token.Token.TheVariants as code
+use Rattle.bench.proofs.Counted.{counted_run}
+use Rattle.bench.proofs.tokens.CounterTokenSink.take_run.Goals as goal
+
+pub returns-then-not-is_empty : goal.returns-then-not-is_empty
+returns-then-not-is_empty c = counted_run _ (λ p. code.Char p.ch p.at) c.args.arg3 c.args.run.now c.if-not-is_empty.ensures _ _

@@ -1,0 +1,30 @@
+//! Nodes of a document.
+
+use crate::counting::Counts;
+use crate::pieces::{Feed, feed_file};
+use charref::Table;
+use hmarkup::Quirks;
+use hparse::{Options, Parser};
+use names::Refusal;
+use std::alloc::Global;
+use std::fs::File;
+
+impl<'t> Feed for Parser<'t> {
+    fn feed(&mut self, piece: &[u8]) -> Result<(), Refusal> {
+        Parser::feed(self, piece)
+    }
+}
+
+/// Parses a document, and counts its nodes.
+pub fn count_nodes(alloc: Global, file: &mut File) -> Result<Counts, Refusal> {
+    let table = Table::core(alloc)?;
+    let quirks = Quirks::read(alloc, "")?;
+    let options = Options::new(&table, &quirks);
+    let mut parser = Parser::document(alloc, &options)?;
+    feed_file(alloc, file, &mut parser)?;
+    let parsed = parser.finish()?;
+    Ok(Counts::Nodes {
+        nodes: u64::from(parsed.tree.made()),
+        errors: parsed.errors.len() as u64,
+    })
+}
