@@ -8,3 +8,7 @@ pub mod Printed
 pub mod KnownNames
 pub mod Wrote
 pub mod Escapes
+pub mod Parts
+pub mod Contexts
+pub mod PlainNames
+pub mod Entering

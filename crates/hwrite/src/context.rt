@@ -1,6 +1,7 @@
 //! The elements in which there are plain lists.
 
 ghost use Rattle.std.specs.Prelude.{◌≡◌};
+ghost use Rattle.names.specs.Tags.{tag_among};
 ghost use Rattle.hwrite.specs.ContentTable.{row};
 ghost use Rattle.hwrite.specs.Plain.{in_context, in_context_of, is_form};
 
@@ -94,14 +95,21 @@ static CONTEXTS: [Tag; 84] = [
     Tag::Var,
 ];
 
+/// The first of these that has this text, or `Tag::Other`.
+fn named(tags: &[Tag], text: &str) -> Tag
+    ensures { result ≡ tag_among tags.now text.now }
+{
+    for tag in tags {
+        if tag.text() == text {
+            return *tag;
+        }
+    }
+    Tag::Other
+}
+
 /// The known name of a context; `Tag::Other` if there are no plain lists in it.
 pub(crate) fn context_tag(context: &str) -> Tag
     ensures { in_context_of (row result).1 (is_form result) ≡ in_context context.now }
 {
-    for tag in CONTEXTS {
-        if tag.text() == context {
-            return tag;
-        }
-    }
-    Tag::Other
+    named(&CONTEXTS, context)
 }

@@ -1,6 +1,7 @@
 //! Plain texts, comments and attributes.
 
 ghost use Rattle.std.specs.Prelude.{◌≡◌, map};
+ghost use Rattle.std.specs.List.{list_all};
 ghost use Rattle.names.specs.Names.{AreNames, text_of};
 ghost use Rattle.hnodes.specs.Named.{AttributesAreOf};
 ghost use Rattle.hnodes.specs.Rows.{attribute_of};
@@ -86,14 +87,19 @@ fn is_name_byte(byte: u8) -> bool
         || byte == b':'
 }
 
+/// Whether all bytes may.
+fn are_name_bytes(bytes: &[u8]) -> bool
+    ensures { result ≡ list_all is_name_byte bytes.now }
+{
+    bytes.iter().all(|&byte| is_name_byte(byte))
+}
+
 /// Whether the name of an attribute is plain.
 fn is_plain_name(name: &str) -> bool
     ensures { result ≡ is_plain_name name.now }
 {
     match name.as_bytes() {
-        [first, rest @ ..] => {
-            first.is_ascii_lowercase() && rest.iter().all(|&byte| is_name_byte(byte))
-        }
+        [first, rest @ ..] => first.is_ascii_lowercase() && are_name_bytes(rest),
         [] => false,
     }
 }

@@ -23,8 +23,8 @@ pub(crate) fn row(tag: Tag) -> (Role, Content)
         | Tag::Strike
         | Tag::Strong
         | Tag::Tt
-        | Tag::U
-        | Tag::Abbr
+        | Tag::U => (Role::Phrasing, Content::Around),
+        Tag::Abbr
         | Tag::Bdi
         | Tag::Bdo
         | Tag::Cite
