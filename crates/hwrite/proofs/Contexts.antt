@@ -58,7 +58,7 @@ context-named name = go (is_other (tag_named name)) refl
         unknown : (v : Bool) → is_other (tag_among contexts name) ≡ v → tag_among contexts name ≡ tag.Other
         unknown true s = other (tag_among contexts name) s
         unknown false s = absurd (
-          let same : tag_named name ≡ tag_among contexts name = ap tag_named (named_back contexts name (tag_among contexts name) refl s) ∙ among_tags (tag_among contexts name) in
-          let no : is_other (tag_among contexts name) ≡ true = ap is_other (sym same) ∙ e in
-          cc
-        )
+            let same : tag_named name ≡ tag_among contexts name = ap tag_named (named_back contexts name (tag_among contexts name) refl s) ∙ among_tags (tag_among contexts name) in
+            let no : is_other (tag_among contexts name) ≡ true = ap is_other (sym same) ∙ e in
+            cc
+            )

@@ -9,6 +9,7 @@ pub mod KnownNames
 pub mod Wrote
 pub mod Escapes
 pub mod Parts
+pub mod Tested
 pub mod Contexts
 pub mod PlainNames
 pub mod Entering

@@ -8,7 +8,7 @@ use Rattle.hnodes.specs.Forest.{Attribute, What, document, doctype, element, com
 use Rattle.hnodes.specs.Spelled.{spelled_attribute}
 use Rattle.hnodes.specs.Spots.{first_child_of, name_of, next_of, parent_of, what_of}
 use Rattle.hwrite.specs.ContentTable.{row, takes_role, texts_in, takes_comments}
-use Rattle.hwrite.specs.Plain.{Inside, begins_with, is_plain_text, is_plain_comment, are_plain_attributes, is_nested, is_a, is_button, is_form, drops_line_feed}
+use Rattle.hwrite.specs.Plain.{Inside, begins_with, is_clean, is_plain_name, is_plain_text, is_plain_comment, are_plain_attributes, is_nested, is_a, is_button, is_form, drops_line_feed}
 use Rattle.hwrite.specs.declared.around.Around.{Around}
 use Rattle.hwrite.specs.declared.around.Standing.{Standing}
 use Rattle.hwrite.specs.declared.content.Content.{Content}
@@ -113,6 +113,10 @@ abbrev pub has_number : ℕ → List (Attribute ℕ) → Bool
 has_number name attrs = list_any (λ a. nat_eq a.0 name) attrs
 
 module _ (spelling : ℕ → List ℕ) where
+  -- an attribute before these others
+  abbrev pub is_plain_attribute : Attribute ℕ → List (Attribute ℕ) → Bool
+  is_plain_attribute a others = is_plain_name (spelling a.0) && is_clean a.1 && not (has_number a.0 others)
+
   abbrev pub is_plain_element : Inside → Tag → List (Attribute ℕ) → (line_feed : Bool) → Bool
   is_plain_element inside t attrs line_feed =
       takes_role inside.content (row t).0 && not (is_nested inside t) && are_plain_attributes (map (spelled_attribute spelling) attrs)

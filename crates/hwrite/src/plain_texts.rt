@@ -2,12 +2,12 @@
 
 ghost use Rattle.std.specs.Prelude.{◌≡◌, map};
 ghost use Rattle.std.specs.List.{list_all};
-ghost use Rattle.names.specs.Names.{AreNames, text_of};
+ghost use Rattle.names.specs.Names.{AreNames, IsOf, text_of};
 ghost use Rattle.hnodes.specs.Named.{AttributesAreOf};
 ghost use Rattle.hnodes.specs.Rows.{attribute_of};
 ghost use Rattle.hnodes.specs.Spelled.{spelled_attribute};
 ghost use Rattle.hwrite.specs.Plain.{begins_with, has_part, is_clean, is_among_texts, is_plain_text, is_plain_comment, is_name_byte, is_plain_name, are_plain_attributes};
-ghost use Rattle.hwrite.specs.Testing.{has_number};
+ghost use Rattle.hwrite.specs.Testing.{has_number, is_plain_attribute};
 
 use crate::content::Texts;
 use crate::sorted::name_text;
@@ -116,6 +116,16 @@ fn has_name(attrs: &[Attr], name: NameId) -> bool
     false
 }
 
+/// Whether an attribute is plain before these others.
+fn is_plain_attribute(names: &Names, attr: &Attr, others: &[Attr]) -> bool
+    requires { IsOf names.now attr.now.name }
+    ensures { result ≡ is_plain_attribute (text_of names.now) (attribute_of attr.now) (map attribute_of others.now) }
+{
+    is_plain_name(name_text(names, attr.name))
+        && is_clean(&attr.value)
+        && !has_name(others, attr.name)
+}
+
 /// Whether attributes are plain. Compares each with all that follow it.
 pub(crate) fn are_plain_attributes(names: &Names, attrs: &[Attr]) -> bool
     requires table { AreNames names.now }
@@ -123,10 +133,7 @@ pub(crate) fn are_plain_attributes(names: &Names, attrs: &[Attr]) -> bool
     ensures { result ≡ are_plain_attributes (map (spelled_attribute (text_of names.now)) (map attribute_of attrs.now)) }
 {
     for (index, attr) in attrs.iter().enumerate() {
-        if !is_plain_name(name_text(names, attr.name))
-            || !is_clean(&attr.value)
-            || has_name(&attrs[index + 1..], attr.name)
-        {
+        if !is_plain_attribute(names, attr, &attrs[index + 1..]) {
             return false;
         }
     }
