@@ -9,7 +9,7 @@ use crate::rows::row;
 use names::Tag;
 
 /// What is around a list of trees, at any distance.
-#[derive(Clone, Copy, Debug, PartialEq, Eq)]
+#[derive(Clone, Copy)]
 pub(crate) struct Around {
     in_a: bool,
     in_button: bool,
@@ -58,7 +58,7 @@ impl Around {
 }
 
 /// Where a list of trees stands: its content and its texts, and what is around it.
-#[derive(Clone, Copy, Debug, PartialEq, Eq)]
+#[derive(Clone, Copy)]
 pub(crate) struct Standing {
     pub(crate) content: Content,
     pub(crate) texts: Texts,

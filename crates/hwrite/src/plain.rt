@@ -1,7 +1,6 @@
 //! Whether a list of trees is plain.
 
-ghost use Rattle.std.specs.Prelude.{◌≡◌, ◌<◌, IfSome, map, option_and_then};
-ghost use Rattle.std.specs.Option.{option_map};
+ghost use Rattle.std.specs.Prelude.{◌≡◌, ◌<◌, IfSome, map};
 ghost use Rattle.names.specs.Names.{AreNames, text_of};
 ghost use Rattle.names.specs.Tags.{tag_of};
 ghost use Rattle.hnodes.specs.Forest.{children_of, element};
