@@ -2,19 +2,19 @@
 use Rattle.std.proofs.Common.{◌≡◌, ℕ, ◌<◌, Bool, true, false, not, cond, eqb, List, [], ◌∷◌, Some, None, refl, sym, ◌∙◌, ap, subst, option_and_then}
 use Rattle.std.proofs.lemmas.Bool.{eq-eqb}
 use Rattle.std.specs.List.{AllByRecursion}
-use Rattle.std.specs.Prelude.{◌&&◌, Option, codes}
+use Rattle.std.specs.Prelude.{◌&&◌, Option}
 use Rattle.std.specs.Option.{option_map}
 use Rattle.names.specs.Names.{Texts, AreNames, text_of}
 use Rattle.names.specs.Tags.{tag_of, tag_named}
 use Rattle.names.specs.declared.tag.Tag.{Tag}
 use Rattle.names.specs.declared.tag.Tag.TheVariants as tag
 use Rattle.hnodes.specs.Edits.{AreCounted}
-use Rattle.hnodes.specs.Forest.{Attribute, What, document, doctype, element, comment, text, Forest, none, tree, children_of}
+use Rattle.hnodes.specs.Forest.{What, element, text, Forest, none, tree, children_of}
 use Rattle.hnodes.specs.Named.{AreOf, IsLent}
 use Rattle.hnodes.specs.Spelled.{spelled, spelled_what}
-use Rattle.hnodes.specs.Spots.{first_child_of, first_or, name_in, name_of, next_of, parent_of, what_of}
-use Rattle.hwrite.specs.ContentTable.{row, takes_role, texts_in, takes_comments}
-use Rattle.hwrite.specs.Plain.{Inside, begins_with_text, begins_with_line_feed as begins_line, are_content, are_content_if, in_context, in_context_of, inside_node, inside_element, is_form, is_nested, is_plain, is_plain_node, is_plain_text, is_plain_comment, drops_line_feed, are_plain_attributes}
+use Rattle.hnodes.specs.Spots.{first_or, name_in, what_of}
+use Rattle.hwrite.specs.ContentTable.{row, takes_role, texts_in}
+use Rattle.hwrite.specs.Plain.{Inside, begins_with_text, begins_with_line_feed as begins_line, are_content, are_content_if, in_context, in_context_of, inside_node, inside_element, is_form, is_nested, is_plain, is_plain_node}
 use Rattle.hwrite.specs.Testing.{content_among, top_content, texts_at_top, tag_or_other, tag_at, around_top, marked, standing_at_top, standing_in, standing_of, inside_is, is_text, begins_with_line_feed, is_text_at, begins_at, is_plain_element, is_plain_what, is_plain_at, after_visit}
 use Rattle.hwrite.specs.Walk.{node_of, visits}
 use Rattle.hwrite.specs.declared.around.Around.{Around}
@@ -24,7 +24,7 @@ use Rattle.hwrite.specs.declared.content.Texts.{Texts as Allowed}
 use Rattle.hwrite.specs.declared.content.Texts.TheVariants as texts
 use Rattle.hwrite.specs.declared.walk.Visit.{Visit}
 use Rattle.hwrite.specs.declared.walk.Visit.TheVariants.{Enter, Leave}
-use Rattle.hwrite.proofs.Entering.{fits, place_in, place_below, IsEntered, enter_element, enter_other}
+use Rattle.hwrite.proofs.Entering.{fits, place_in, IsEntered, enter_element, enter_other}
 use Rattle.hwrite.proofs.KnownNames.{tags-agree}
 use Rattle.hwrite.proofs.Runs.{run, walked, run-visits, goes-whole}
 use Rattle.hwrite.proofs.Seen.{IsSeen, Seen, seen, lent-visits}

@@ -4,7 +4,7 @@ use Rattle.std.specs.List.{list_any}
 use Rattle.names.specs.declared.tag.Tag.{Tag}
 use Rattle.names.specs.declared.tag.Tag.TheVariants as tag
 use Rattle.names.specs.Tags.{tag_of}
-use Rattle.hnodes.specs.Forest.{Attribute, What, document, doctype, element, comment, text, Forest}
+use Rattle.hnodes.specs.Forest.{Attribute, What, element, comment, text, Forest}
 use Rattle.hnodes.specs.Spelled.{spelled_attribute}
 use Rattle.hnodes.specs.Spots.{first_child_of, name_of, next_of, parent_of, what_of}
 use Rattle.hwrite.specs.ContentTable.{row, takes_role, texts_in, takes_comments}

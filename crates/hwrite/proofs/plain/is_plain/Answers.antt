@@ -1,5 +1,4 @@
 use Rattle.std.proofs.Common.{◌∙◌, sym, ap}
-use Rattle.hwrite.specs.ContentTable.{row}
 use Rattle.hwrite.specs.Testing.{top_content}
 use Rattle.hwrite.proofs.Tested.{begun, fails, found, goes_on, next_is}
 use Rattle.hwrite.proofs.plain.is_plain.Goals as goal
