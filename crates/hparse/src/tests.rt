@@ -7,6 +7,7 @@ use charref::Table;
 use hbuild::Limits;
 use hmarkup::Quirks;
 use hnodes::{NodeId, Tree};
+use htext::MAX_INPUT;
 use htoken::Token;
 use names::{ParseError, Refusal, RefusedName};
 use std::alloc::{AllocError, Global};
@@ -72,7 +73,9 @@ fn push_errors(alloc: Global, errors: &[ParseError], shown: &mut String) -> Resu
 }
 
 /// The tokens of a document and the errors, a line each.
-fn shown_tokens(alloc: Global, pieces: &[&[u8]], options: &Options) -> Result<String, Refusal> {
+fn shown_tokens(alloc: Global, pieces: &[&[u8]], options: &Options) -> Result<String, Refusal>
+    requires { options.now.input_limit ≤ MAX_INPUT }
+{
     let run = tokens(alloc, pieces, options)?;
     let mut shown = String::new(alloc);
     for token in &run.tokens {
@@ -196,6 +199,20 @@ fn refusal(
     Ok(fed.and(answer).err())
 }
 
+/// Asks for this refusal of an input of at most so many bytes.
+fn expect_refusal(
+    rt: &impl Abort,
+    alloc: Global,
+    input: &[u8],
+    input_limit: u64,
+    expected: Refusal,
+) -> Result<(), Fail>
+    requires { input_limit ≤ 1_000_000 }
+{
+    assert_eq!(rt; refusal(alloc, input, input_limit, 16)?, Some(expected));
+    Ok(())
+}
+
 /// What stands first is what an input is refused for; where the bytes end, the text before them ends too.
 #[test]
 fn what_is_refused_first(rt: HostRuntime) -> Result<(), Fail> {
@@ -204,18 +221,12 @@ fn what_is_refused_first(rt: HostRuntime) -> Result<(), Fail> {
         name: RefusedName::Svg,
         at: 3,
     };
-    let rows: [(&[u8], u64, Refusal); 6] = [
-        (b"<p><svg>\xFF", 100, left_out),
-        (b"<p><svg>", 7, Refusal::TooLarge { at: 7 }),
-        (b"<p><svg\xFF>", 100, Refusal::NotUtf8 { at: 7 }),
-        (b"<p><svg\xFF>", 7, Refusal::NotUtf8 { at: 7 }),
-        (b"abc\xC2\xA2", 4, Refusal::TooLarge { at: 3 }),
-        (b"abc\xE2\x82", 4, Refusal::NotUtf8 { at: 3 }),
-    ];
-    for (input, limit, expected) in rows {
-        assert_eq!(rt; refusal(alloc, input, limit, 16)?, Some(expected));
-    }
-    Ok(())
+    expect_refusal(&rt, alloc, b"<p><svg>\xFF", 100, left_out)?;
+    expect_refusal(&rt, alloc, b"<p><svg>", 7, Refusal::TooLarge { at: 7 })?;
+    expect_refusal(&rt, alloc, b"<p><svg\xFF>", 100, Refusal::NotUtf8 { at: 7 })?;
+    expect_refusal(&rt, alloc, b"<p><svg\xFF>", 7, Refusal::NotUtf8 { at: 7 })?;
+    expect_refusal(&rt, alloc, b"abc\xC2\xA2", 4, Refusal::TooLarge { at: 3 })?;
+    expect_refusal(&rt, alloc, b"abc\xE2\x82", 4, Refusal::NotUtf8 { at: 3 })
 }
 
 #[test]
