@@ -176,7 +176,7 @@ fn an_empty_input(rt: HostRuntime) -> Result<(), Fail> {
     Ok(())
 }
 
-/// The refusal at the end of an input, under limits.
+/// What a document is refused for under these limits, if it is.
 fn refusal(
     alloc: Global,
     input: &[u8],
@@ -199,7 +199,7 @@ fn refusal(
     Ok(fed.and(answer).err())
 }
 
-/// Asks for this refusal of an input of at most so many bytes.
+/// Asks for this refusal of an input under this limit.
 fn expect_refusal(
     rt: &impl Abort,
     alloc: Global,
