@@ -27,7 +27,7 @@ use Rattle.hwrite.specs.declared.content.Texts.TheVariants as allowed
 use Rattle.hwrite.specs.declared.escaping.Escaping.{Escaping}
 use Rattle.hlaws.specs.Building.{IsQuiet, Builds, fits_mode, fits_current, is_flow_mode, numbered}
 use Rattle.hlaws.specs.ComesBack.{AreTexts, AreRead, Fits, Gives, PlainTokens, PlainComesBack}
-use Rattle.hparse.specs.Parse.{Told}
+use Rattle.hparse.specs.Parse.{Told, is_context}
 use Rattle.hparse.specs.Taken.{placed, taken}
 use Rattle.hwrite.specs.ContentTable.{row, texts_in}
 use Rattle.hwrite.specs.Plain.{Inside, are_content, are_content_if, in_context_of, is_form}
@@ -35,6 +35,7 @@ use Rattle.hlaws.specs.PlainTokens.{tokens_of}
 use Rattle.hwrite.specs.Written.{written}
 use Rattle.hlaws.proofs.TokenLists.{AreTokens, parted, first, after}
 use Rattle.hlaws.proofs.Accepted.{accepts}
+use Rattle.hlaws.proofs.Allowed.{context_taken}
 use Rattle.hlaws.proofs.PlainBuilds.{law}
 
 -- a list under other numbers
@@ -95,7 +96,7 @@ cells_end : (m : Mode) → fits_mode content.Cells m ≡ true → ends_body m �
 cells_end InRow h = refl
 cells_end _ h = absurd cc
 
-module _ (told : Told) (escaping : Escaping) (context : List ℕ) (l : Forest (List ℕ)) (utf8 : AreTexts l) (fits : Fits told (written escaping (Some context) l) l)
+module _ (told : Told) (escaping : Escaping) (context : List ℕ) (allowed_here : is_context context ≡ true) (l : Forest (List ℕ)) (utf8 : AreTexts l) (fits : Fits told (written escaping (Some context) l) l)
     (read : AreRead told.table (raw_kind (tag_named context)) (written escaping (Some context) l) (tokens_of texts l ++ eof ∷ [])) where
   abbrev start_state : State (List ℕ)
   start_state = fragment_begins texts context told.limits
@@ -146,7 +147,7 @@ module _ (told : Told) (escaping : Escaping) (context : List ℕ) (l : Forest (L
       let steps = subst (λ (ts : List (PlacedToken (List ℕ))). Steps texts ts start_state (Goes (begun b.acted))) (sym listed) whole in
       let done = accepts told context (written escaping (Some context) l) read.toks read.errors (begun b.acted) read.utf8 fits.input read.read steps in
       let built = ap (λ f. erased (children_of 1 f)) b.built.trees_are ∙ ap erased (join-none (numbered 2 l)) ∙ erased-numbered 2 l in
-      record { parse = done.parse; parses = done.parses; children = ap (λ f. erased (children_of 1 f)) done.trees ∙ built }
+      record { allowed = allowed_here; parse = done.parse; parses = done.parses; children = ap (λ f. erased (children_of 1 f)) done.trees ∙ built }
     where
       ended : (us : List (PlacedToken (List ℕ))) → AreTokens us [] → us ≡ []
       ended [] e = refl
@@ -173,4 +174,4 @@ module _ (told : Told) (escaping : Escaping) (context : List ℕ) (l : Forest (L
 -- the law of the whole from the law of tokens
 pub comes_back : PlainTokens → PlainComesBack
 comes_back tokens told escaping context l is_table core utf8 plain fits =
-    comes told escaping context l utf8 fits (tokens told.table escaping context l is_table core utf8 plain) (row (tag_named context)).1 refl plain
+    comes told escaping context (context_taken context l plain) l utf8 fits (tokens told.table escaping context l is_table core utf8 plain) (row (tag_named context)).1 refl plain

@@ -12,7 +12,7 @@ use Rattle.names.specs.Tags.{tag_named}
 use Rattle.htoken.specs.Token.{Tok}
 use Rattle.htoken.specs.Tokens.{Tokens}
 use Rattle.hadopt.specs.Naming.{texts}
-use Rattle.hparse.specs.Parse.{Told, fragment, root_of, Parse, Parses}
+use Rattle.hparse.specs.Parse.{Told, fragment, is_context, root_of, Parse, Parses}
 use Rattle.hparse.specs.Taken.{taken}
 use Rattle.hmodes.specs.Erased.{erased}
 use Rattle.hmodes.specs.State.{Token, PlacedToken, State, eof}
@@ -58,8 +58,9 @@ pub record Fits (told : Told) (bytes : List ℕ) (l : Forest (List ℕ)) : Type 
   pub nodes : size l + 2 ≤ told.limits.nodes
   pub open_nodes : depth l + 1 ≤ told.limits.depth
 
--- A fragment of these bytes is accepted in this context, and the root's children are the list.
+-- A parser takes fragments in this context, and accepts these bytes as one: the root's children are the list.
 pub record Gives (told : Told) (context bytes : List ℕ) (l : Forest (List ℕ)) : Type 0 where
+  pub allowed : is_context context ≡ true
   pub parse : Parse
   pub parses : Parses told (fragment context) bytes (Ok parse)
   pub children : erased (children_of (root_of (fragment context)) parse.trees) ≡ erased l

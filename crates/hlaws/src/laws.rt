@@ -12,7 +12,8 @@ pub fn plain_builds()
     ensures { PlainBuilds }
 {}
 
-/// A plain list of trees comes back when what is written of it is parsed.
+/// A plain list of trees comes back when what is written of it is parsed, in each context in which it is plain. A parser takes
+/// each such context.
 pub fn plain_comes_back()
     ensures { PlainComesBack }
 {}

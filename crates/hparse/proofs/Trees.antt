@@ -81,6 +81,7 @@ module _ (told : Told) (subject : Subject) (began : Began Building) (bytes : Lis
     parses_taken parsed t r = (
       record { trees = spelled spell now.state.site.nodes.trees; errors = parsed.errors.items },
       record {
+        table = subst AreNames (sym r.names_are) are;
         trees = ap (λ (n : Texts). spelled (spelling n) parsed.tree.trees) r.names_are ∙ ap (λ (t : Nodes ℕ). spelled spell t.trees) r.tree_is;
         made = r.made;
         names_are = children_are_of parsed.names parsed.root parsed.tree.trees (subst (λ (n : Texts). AreOf n parsed.tree.trees) (sym r.names_are) (subst (λ (t : Nodes ℕ). AreOf later t.trees) (sym r.tree_is) of_table));

@@ -3,7 +3,7 @@ use Rattle.std.specs.Prelude.{◌≡◌, ◌<◌, ◌≤◌, ℕ, List, [], ◌+
 use Rattle.std.specs.List.Sorted.{IsPermutation, IsSorted}
 use Rattle.names.specs.declared.refusal.Refusal.{Refusal}
 use Rattle.names.specs.declared.refusal.Refusal.TheVariants.{Memory}
-use Rattle.names.specs.Names.{Texts}
+use Rattle.names.specs.Names.{Texts, AreNames}
 use Rattle.names.specs.Spelling.{spelling}
 use Rattle.htext.specs.declared.decoder.TheConstants.{MAX_INPUT}
 use Rattle.htoken.specs.Token.{Item, gives_item}
@@ -61,8 +61,10 @@ pub record IsBuilt (names : Texts) (built : Building) (parsed : Parsed) : Type 0
   pub errors_are : IsPermutation (built.state.site.errors ++ built.told) parsed.errors.items
   pub sorted : IsSorted error_cmp parsed.errors.items
 
--- What was parsed is this: the same tree, in which the names inside the root are numbers of its table, the same root and the same errors.
+-- What was parsed is this: the same tree, in which the names inside the root are numbers of its table, the same root and the same
+-- errors. The texts of the table are distinct, the known ones first.
 pub record IsParse (subject : Subject) (parsed : Parsed) (parse : Parse) : Type 0 where
+  pub table : AreNames parsed.names
   pub trees : spelled (spelling parsed.names) parsed.tree.trees ≡ parse.trees
   pub made : parsed.root < parsed.tree.made
   pub names_are : AreOf parsed.names (children_of parsed.root parsed.tree.trees)

@@ -12,6 +12,8 @@ pub mod parser;
 pub mod reader;
 mod reading;
 pub mod source;
+#[cfg(test)]
+mod tests;
 pub mod token_run;
 
 pub use context::is_context;
