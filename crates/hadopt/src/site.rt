@@ -68,6 +68,13 @@ impl Site {
         self.foster = on;
     }
 
+    /// Whether foster parenting is on.
+    pub fn fosters(&self) -> bool
+        ensures { result ≡ self.now.foster }
+    {
+        self.foster
+    }
+
     /// Adds a parse error. `at` is the byte offset of the token.
     pub fn error(&mut self, code: ErrorCode, at: u64) -> Result<(), Refusal>
         ensures done { Gives result self.new (Goes (with_error code at self.old)) }

@@ -1,1 +1,4 @@
+pub mod InRun
 pub mod Looping
+pub mod OnePut
+pub mod PlainRun

@@ -1,14 +1,21 @@
 //! The builder of a tree.
 
-ghost use Rattle.std.specs.Prelude.{◌≡◌, ◌++◌, [], None, IfOk, MatchResult};
+ghost use Rattle.std.specs.Prelude.{◌≡◌, ◌+◌, ◌≤◌, ◌++◌, [], None, true, length, IfOk, MatchResult};
+ghost use Rattle.std.specs.List.{list_all};
 ghost use Rattle.names.specs.declared.refusal.Refusal.TheVariants.{Memory};
 ghost use Rattle.hadopt.specs.Naming.{numbers};
 ghost use Rattle.hmodes.specs.Beginning.{document_begins, fragment_begins};
 ghost use Rattle.hmodes.specs.Tokens.{token_of, place_of};
-ghost use Rattle.hbuild.specs.Building.{Takes};
+ghost use Rattle.hbuild.specs.Building.{Takes, TakesToken};
+ghost use Rattle.htext.specs.declared.decoder.TheConstants.{MAX_INPUT};
+ghost use Rattle.htext.specs.Run.{is_plain_byte};
+ghost use Rattle.htoken.specs.Run.{run_tokens};
+ghost use Rattle.names.specs.Placed.{placed};
+ghost use Rattle.names.specs.Sink.{Hands};
 
 use crate::beginning::{document_rules, fragment_rules};
 use crate::limits::Limits;
+use crate::runs::{put_run, puts_each};
 use crate::steps::step;
 use hmarkup::{ErrorSink, Quirks};
 use hmodes::Rules;
@@ -106,6 +113,18 @@ impl<'q> Builder<'q> {
         Ok(Built { tree, root, errors })
     }
 
+    /// Takes the characters of a run one by one.
+    fn take_one_by_one(&mut self, run: &str, at: u64) -> Result<(), Refusal>
+        requires plain { list_all is_plain_byte run.now ≡ true }
+        requires within { at + length run.now ≤ MAX_INPUT }
+        ensures { Hands TakesToken self.old (run_tokens (placed at run.now)) result self.new }
+    {
+        for (index, byte) in run.as_bytes().iter().enumerate() {
+            self.take_text(char::from(*byte), at + index as u64)?;
+        }
+        Ok(())
+    }
+
     /// Takes a token, whose first byte is at this place.
     fn take(&mut self, token: &mut Token, at: u64) -> Result<(), Refusal>
         ensures { Takes at (token_of token.old) self.old result self.new }
@@ -166,5 +185,18 @@ impl<'q> TokenSink for Builder<'q> {
     fn take_text(&mut self, ch: char, at: u64) -> Result<(), Refusal> {
         let mut token = Token::Char { ch, at };
         self.take(&mut token, at)
+    }
+
+    fn take_run(&mut self, run: &str, at: u64) -> Result<(), Refusal> {
+        if run.is_empty() {
+            return Ok(());
+        }
+        if self.refused.is_some() || !puts_each(&self.rules) {
+            return self.take_one_by_one(run, at);
+        }
+        self.rules.begin();
+        let answer = put_run(&mut self.rules, run, at);
+        self.refused = answer.err();
+        answer
     }
 }

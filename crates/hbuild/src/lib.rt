@@ -6,6 +6,7 @@ pub mod builder;
 pub mod limits;
 #[cfg(test)]
 mod page;
+mod runs;
 mod steps;
 #[cfg(test)]
 mod tests;

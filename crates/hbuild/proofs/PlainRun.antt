@@ -1,0 +1,97 @@
+-- The characters of a run.
+use Rattle.std.proofs.Common.{◌≡◌, ℕ, ◌<◌, Bool, true, false, List, [], ◌∷◌, ◌+◌, length, Option, Some, None, Result, Ok, Err, refl, ap, ◌∙◌, arith, subst}
+use Rattle.std.specs.List.{list_all, All}
+use Rattle.std.specs.Prelude.{◌&&◌, ◌==◌, not, is_some}
+use Rattle.std.specs.Result.{result_err}
+use Rattle.std.specs.Str.{chars}
+use Rattle.std.proofs.lemmas.Bool.{and_parts}
+use Rattle.std.proofs.lemmas.Bool.Decides.{nat_tests}
+use Rattle.std.proofs.lemmas.List.Elements.{All-cons}
+use Rattle.std.proofs.lemmas.Str.{chars-IsAscii}
+use Rattle.std.proofs.lemmas.Str.Ascii.{IsAscii-from_all}
+use Rattle.names.specs.Placed.{placed}
+use Rattle.names.specs.declared.error.ParseError.{ParseError}
+use Rattle.htext.specs.Run.{is_plain_byte}
+use Rattle.std.specs.Char.{len_utf8}
+use Rattle.names.specs.Sink.{Hands}
+use Rattle.names.specs.declared.refusal.Refusal.{Refusal}
+use Rattle.hnodes.specs.declared.node.Place.{Place}
+use Rattle.htoken.specs.Run.{run_tokens}
+use Rattle.htoken.specs.declared.token.Token.{Token as Given}
+use Rattle.hadopt.specs.Gives.{Gives}
+use Rattle.hadopt.specs.Inserts.{put_each}
+use Rattle.hadopt.specs.Naming.{numbers}
+use Rattle.hadopt.specs.Places.{place}
+use Rattle.hadopt.specs.Site.{SiteOf}
+use Rattle.hmodes.specs.Perform.{with_site}
+use Rattle.hmodes.specs.Reached.{Reached}
+use Rattle.hmodes.specs.State.{State}
+use Rattle.hmodes.specs.Step.{begun}
+use Rattle.hbuild.specs.Building.{Building, TakesToken, refused_by}
+use Rattle.hbuild.specs.Runs.{puts_in, puts_each}
+use Rattle.hbuild.proofs.OnePut.{place-here}
+use Rattle.hbuild.proofs.InRun.{AreSome, run_put, reached-run}
+
+plain_small : (x : ℕ) → is_plain_byte x ≡ true → x < 128
+plain_small x h = grind (arith, nat_tests)
+
+plain_some : (x : ℕ) → is_plain_byte x ≡ true → (x == 0) ≡ false
+plain_some x h = grind (arith, nat_tests)
+
+all_small : (bs : List ℕ) → list_all is_plain_byte bs ≡ true → All (λ b. b < 128) bs
+all_small [] h = λ k d lt. omega (arith, lt)
+all_small (b ∷ bs) h =
+    let parts = and_parts (is_plain_byte b) (list_all is_plain_byte bs) h in
+    All-cons (λ x. x < 128) b bs (plain_small b parts.0) (all_small bs parts.1)
+
+pub chars_plain : (bs : List ℕ) → list_all is_plain_byte bs ≡ true → chars bs ≡ bs
+chars_plain bs h = chars-IsAscii bs (IsAscii-from_all bs (all_small bs h))
+
+pub some_plain : (at : ℕ) (bs : List ℕ) → list_all is_plain_byte bs ≡ true → AreSome (placed at bs)
+some_plain at [] h = tt
+some_plain at (b ∷ bs) h =
+    let k = and_parts (is_plain_byte b) (list_all is_plain_byte bs) h in
+    (plain_some b k.0, some_plain (at + len_utf8 b) bs k.1)
+
+-- what the test of a state says
+off-of : (a b c : Bool) → (not a && not b && c) ≡ true → (a ≡ false) × (b ≡ false) × (c ≡ true)
+off-of true b c h = absurd cc
+off-of false true c h = absurd cc
+off-of false false true h = (refl, refl, refl)
+off-of false false false h = absurd cc
+
+pub none-of : (o : Option Refusal) → is_some o ≡ false → o ≡ None
+none-of None h = refl
+none-of (Some r) h = absurd cc
+
+-- a run that is put as a whole is taken character by character
+pub run_taken : (b : Building) → b.refused ≡ None → puts_each b.state ≡ true → (at : ℕ) (run : List ℕ) → false ≡ (length run == 0) → list_all is_plain_byte run ≡ true
+    → (answer : Result (Unit {0}) Refusal) (x : SiteOf ℕ) → Gives answer x (put_each (placed at run) (place numbers b.state.site) b.state.site)
+    → Hands TakesToken b (run_tokens (placed at run)) answer (record { state = with_site x (begun b.state); root = b.root; told = b.told; refused = refused_by answer })
+run_taken b free puts at [] some plain answer x g = absurd cc
+run_taken b free puts at (c ∷ cs) some plain answer x g =
+    let facts = off-of b.state.site.foster b.state.control.drop_lf (puts_in b.state.control.mode b.state.site) puts in
+    run_put b free facts.0 facts.1 facts.2 x (record { ch = c; at = at }) (placed (at + len_utf8 c) cs) (some_plain at (c ∷ cs) plain) answer
+    (subst (λ (to : Place). Gives answer x (put_each (placed at (c ∷ cs)) to b.state.site)) (place-here b.state.site facts.0) g)
+
+-- what an answer says of later calls
+pub err_is : (answer : Result (Unit {0}) Refusal) → result_err answer ≡ refused_by answer
+err_is (Ok u) = refl
+err_is (Err e) = refl
+
+ok-of : (answer : Result (Unit {0}) Refusal) → result_err answer ≡ None → answer ≡ Ok tt
+ok-of (Ok u) h = refl
+ok-of (Err e) h = absurd cc
+
+pub same_building : (b : Building) (s : State ℕ) (root : ℕ) (told : List ParseError) (refused : Option Refusal) → b.state ≡ s → b.root ≡ root → b.told ≡ told → b.refused ≡ refused
+    → b ≡ record { state = s; root = root; told = told; refused = refused }
+same_building b s root told refused e1 e2 e3 e4 =
+    ap (λ (x : State ℕ). record b { state = x }) e1
+    ∙ ap (λ (x : ℕ). record b { state = s; root = x }) e2
+    ∙ ap (λ (x : List ParseError). record b { state = s; root = root; told = x }) e3
+    ∙ ap (λ (x : Option Refusal). record { state = s; root = root; told = told; refused = x }) e4
+
+pub reached_by_run : (ts : List Given) (old new : Building) (answer : Result (Unit {0}) Refusal) → (old.refused ≡ None → Reached numbers old.state) → old.refused ≡ None → result_err answer ≡ None → Hands TakesToken old ts answer new
+    → Reached numbers new.state
+reached_by_run ts old new answer reached free none h =
+    reached-run ts old new (reached free) free (subst (λ (a : Result (Unit {0}) Refusal). Hands TakesToken old ts a new) (ok-of answer none) h)

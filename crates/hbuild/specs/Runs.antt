@@ -1,0 +1,24 @@
+-- Where the characters of a run go one and the same way.
+use Rattle.std.specs.Prelude.{ℕ, Bool, true, false, not, ◌&&◌, ◌==◌, length}
+use Rattle.hopen.specs.Nearest.{before}
+use Rattle.hadopt.specs.Reconstructs.{stops_going_back}
+use Rattle.hadopt.specs.Site.{SiteOf}
+use Rattle.hmodes.specs.State.{State}
+use Rattle.hmodes.specs.declared.mode.Mode.{Mode}
+use Rattle.hmodes.specs.declared.mode.Mode.TheVariants.{InBody, Text, InCaption, InCell}
+
+-- there is nothing to reconstruct
+abbrev pub is_reconstructed : SiteOf ℕ → Bool
+is_reconstructed x = length (before (stops_going_back x) x.items) == 0
+
+-- whether a character is put as it is by the rules of a mode
+abbrev pub puts_in : Mode → SiteOf ℕ → Bool
+puts_in Text x = true
+puts_in InBody x = is_reconstructed x
+puts_in InCaption x = is_reconstructed x
+puts_in InCell x = is_reconstructed x
+puts_in _ x = false
+
+-- .. and goes to the current node, where no LF is dropped before it
+abbrev pub puts_each : State ℕ → Bool
+puts_each s = not s.site.foster && not s.control.drop_lf && puts_in s.control.mode s.site

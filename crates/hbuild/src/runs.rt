@@ -1,0 +1,41 @@
+//! Runs of characters, each of which is put where the first one is.
+
+ghost use Rattle.std.specs.Prelude.{◌≡◌, true};
+ghost use Rattle.std.specs.List.{list_all};
+ghost use Rattle.names.specs.Placed.{placed};
+ghost use Rattle.htext.specs.Run.{is_plain_byte};
+ghost use Rattle.hadopt.specs.Gives.{Gives};
+ghost use Rattle.hadopt.specs.Inserts.{put_each};
+ghost use Rattle.hadopt.specs.Naming.{numbers};
+ghost use Rattle.hadopt.specs.Places.{place};
+ghost use Rattle.hmodes.specs.Perform.{with_site};
+ghost use Rattle.hmodes.specs.States.{state_of};
+ghost use Rattle.hbuild.specs.Runs.{puts_each};
+
+use hmodes::{Mode, Rules};
+use names::Refusal;
+
+/// Whether each character of a run is put at the appropriate place as it is: nothing is dropped, reconstructed or foster parented.
+pub(crate) fn puts_each(rules: &Rules<'_>) -> bool
+    ensures { result ≡ puts_each (state_of rules.now) }
+{
+    let control = &rules.control;
+    if rules.site.fosters() || control.drop_lf {
+        return false;
+    }
+    match control.mode {
+        Mode::Text => true,
+        Mode::InBody | Mode::InCaption | Mode::InCell => rules.site.is_reconstructed(),
+        _ => false,
+    }
+}
+
+/// Puts the characters of a run at the appropriate place.
+pub(crate) fn put_run(rules: &mut Rules<'_>, run: &str, at: u64) -> Result<(), Refusal>
+    requires { list_all is_plain_byte run.now ≡ true }
+    ensures gives { Gives result rules.new.site (put_each (placed at run.now) (place numbers rules.old.site) rules.old.site) }
+    ensures rest { state_of rules.new ≡ with_site rules.new.site (state_of rules.old) }
+{
+    let place = rules.site.place();
+    rules.site.put_text(run, place, at)
+}
