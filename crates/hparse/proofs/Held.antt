@@ -1,6 +1,8 @@
--- What a feeding holds after one item more, and after the end of the text.
-use Rattle.std.proofs.Common.{◌≡◌, ℕ, List, [], ◌∷◌, ◌++◌, sym, refl, ap, ◌∙◌, subst, Result, Ok, Err, append-nil, append_assoc}
-use Rattle.std.specs.Prelude.{is_err}
+-- What a feeding holds after more items, and after the end of the text.
+use Rattle.std.proofs.Common.{◌≡◌, ℕ, ◌+◌, false, length, List, [], ◌∷◌, ◌++◌, sym, refl, ap, ◌∙◌, subst, Result, Ok, Err, append-nil, append_assoc, map}
+use Rattle.std.specs.Prelude.{is_err, MatchResult}
+use Rattle.std.specs.Bool.{◌==◌}
+use Rattle.std.specs.Char.{len_utf8}
 use Rattle.std.specs.List.Sorted.{IsPermutation}
 use Rattle.std.proofs.lemmas.List.Sorted.{IsPermutation-trans, IsPermutation-sym, IsPermutation-refl, IsPermutation-middle, IsPermutation-to_front}
 use Rattle.names.specs.declared.error.ParseError.{ParseError}
@@ -8,8 +10,11 @@ use Rattle.names.specs.declared.placed.Placed.{Placed}
 use Rattle.names.specs.declared.raw.RawKind.{RawKind}
 use Rattle.names.specs.declared.refusal.Refusal.{Refusal}
 use Rattle.names.specs.Names.{Texts, Grows}
+use Rattle.names.specs.Sink.{Hands}
+use Rattle.names.specs.Placed.{placed}
 use Rattle.names.proofs.Handing.{grows_not}
 use Rattle.htext.specs.Items.{CharItem, Character, InputError, characters_among, errors_among}
+use Rattle.htext.specs.Run.{run_items}
 use Rattle.htoken.specs.Standing.{start_kind}
 use Rattle.htoken.specs.Token.{Tok, Event, Reports, Item}
 use Rattle.htoken.specs.Tokens.{IsRefused, AreFront, eof_of, tokens_in, errors_in}
@@ -18,9 +23,9 @@ use Rattle.charref.specs.Reference.{Entities}
 use Rattle.htoken.specs.declared.tokenizer.Tokenizer.{Tokenizer}
 use Rattle.htoken.specs.Tokenizing.{HasTaken, holds, in_run, Takes, take_ran_out, take_refused, take_sink_refused, take_took, Finishes, finish_ran_out, finish_sink_refused, finish_took}
 use Rattle.htoken.proofs.Cutting.{tokens_in-append, errors_in-append}
-use Rattle.hparse.specs.declared.feeding.Feeding.{Feeding}
 use Rattle.hparse.specs.Input.{Manner, Began, Handed}
-use Rattle.hparse.specs.Holding.{HoldsItems, TakesItem, item_ran_out, item_stopped, item_refused, item_taken, EndsText, text_ran_out, text_stopped, text_taken}
+use Rattle.hparse.specs.Intake.{Intake}
+use Rattle.hparse.specs.Holding.{WasFed, HoldsItems, TakesItems, items_ran_out, items_stopped, items_refused, items_taken, Proceeds, EndsText, text_ran_out, text_stopped, text_taken}
 use Rattle.hparse.proofs.Handing.{handed_more, handed_as}
 
 pub characters_among-append : (xs ys : List CharItem) → characters_among (xs ++ ys) ≡ characters_among xs ++ characters_among ys
@@ -67,9 +72,21 @@ with_error before after e =
     (IsPermutation-trans (before ++ e ∷ after) (e ∷ (before ++ after)) ((before ++ after) ++ e ∷ []) (IsPermutation-middle before e after)
     (IsPermutation-sym ((before ++ after) ++ e ∷ []) (e ∷ (before ++ after)) (IsPermutation-to_front (before ++ after) e)))
 
-module _ {S : Type 0} (gives : S → Item → Result (Unit {0}) Refusal → S → Type 0) (m : Manner) (began : Began S) (old new : Feeding S) (items : List CharItem) (h : HoldsItems gives m began old items) where
+-- the characters of what was handed over, what is now, and what comes after
+with_more : (items xs more : List CharItem) → characters_among items ++ (characters_among xs ++ characters_among more) ≡ characters_among (items ++ (xs ++ more))
+with_more items xs more =
+    ap (λ (x : List Placed). characters_among items ++ x) (sym (characters_among-append xs more)) ∙ sym (characters_among-append items (xs ++ more))
+
+regrouped : (fed unfed items more : List CharItem) → fed ++ ((unfed ++ items) ++ more) ≡ (fed ++ unfed) ++ (items ++ more)
+regrouped fed unfed items more = ap (λ (x : List CharItem). fed ++ x) (append_assoc unfed items more) ∙ sym (append_assoc fed unfed (items ++ more))
+
+module _ {S : Type 0} (gives : S → Item → Result (Unit {0}) Refusal → S → Type 0) (m : Manner) (began : Began S) (old new : Intake S) (items : List CharItem) (h : WasFed gives m began old items) where
+  -- nothing is left unfed
+  all_fed : new.unfed ≡ [] → (xs : List CharItem) → xs ++ new.unfed ≡ xs
+  all_fed is xs = ap (λ (u : List CharItem). xs ++ u) is ∙ append-nil xs
+
   -- an error of the input stream
-  module _ (e : ParseError) (names_are : new.names ≡ old.names) (tokenizer_is : new.tokenizer ≡ old.tokenizer) where
+  module _ (e : ParseError) (unfed : new.unfed ≡ []) (names_are : new.names ≡ old.names) (tokenizer_is : new.tokenizer ≡ old.tokenizer) where
     abbrev all_errors : List ParseError
     all_errors = errors_among items ++ errors_in h.taken
 
@@ -79,14 +96,14 @@ module _ {S : Type 0} (gives : S → Item → Result (Unit {0}) Refusal → S �
     text_is : characters_among items ≡ characters_among (items ++ InputError e ∷ [])
     text_is = sym (append-nil (characters_among items)) ∙ sym (characters_among-append items (InputError e ∷ []))
 
-    pub holds_error : (answer : Result (Unit {0}) Refusal) → new.stopped ≡ is_err answer → HandsEvents gives new.names old.sink (Reports e ∷ []) answer new.sink → TakesItem gives m began items (InputError e) answer new
+    pub holds_error : (answer : Result (Unit {0}) Refusal) → new.stopped ≡ is_err answer → HandsEvents gives new.names old.sink (Reports e ∷ []) answer new.sink → TakesItems gives m began items (InputError e ∷ []) answer new
     holds_error (Err x) noted given =
-        item_stopped x h.taken (all_errors ++ e ∷ []) refl noted
+        items_stopped x h.taken (all_errors ++ e ∷ []) refl noted
         (handed_as gives new.names began new.sink (tokens_in h.taken ++ []) (tokens_in h.taken) (all_errors ++ e ∷ []) (all_errors ++ e ∷ []) (Err x) (append-nil (tokens_in h.taken)) (IsPermutation-refl (all_errors ++ e ∷ [])) (after_error (Err x) given))
         (λ more end. subst (λ (x : List Placed). AreFront m.table (start_kind m.start) x end h.taken) (sym (characters_among-append items (InputError e ∷ more)))
         (taken_front m.table (start_kind m.start) old.tokenizer old.names (characters_among items) h.taken h.has_taken (characters_among more) end))
     holds_error (Ok u) noted given =
-        item_taken refl (record {
+        items_taken refl (record { fed = items ++ InputError e ∷ []; items_are = all_fed unfed (items ++ InputError e ∷ []); was_fed = record {
           taken = h.taken;
           has_taken = subst (λ (t : Tokenizer). HasTaken m.table (start_kind m.start) t new.names (characters_among (items ++ InputError e ∷ [])) h.taken) (sym tokenizer_is)
               (subst (λ (n : Texts). HasTaken m.table (start_kind m.start) old.tokenizer n (characters_among (items ++ InputError e ∷ [])) h.taken) (sym names_are)
@@ -95,7 +112,7 @@ module _ {S : Type 0} (gives : S → Item → Result (Unit {0}) Refusal → S �
               (subst (λ (x : List ParseError). IsPermutation (x ++ errors_in h.taken) (all_errors ++ e ∷ [])) (sym (errors_among-append items (InputError e ∷ []))) (with_error (errors_among items) (errors_in h.taken) e))
               (after_error (Ok tt) given);
           unstopped = noted;
-        })
+        } })
 
   module _ (grows : Grows old.names new.names) where
     -- the events after those that were taken
@@ -107,24 +124,24 @@ module _ {S : Type 0} (gives : S → Item → Result (Unit {0}) Refusal → S �
         (append_assoc (errors_among items) (errors_in h.taken) (errors_in events) ∙ ap (λ (x : List ParseError). errors_among items ++ x) (sym (errors_in-append h.taken events)))
         (handed_more gives old.names new.names grows began old.sink new.sink (tokens_in h.taken) (errors_among items ++ errors_in h.taken) events answer h.handed given))
 
-    -- a character
-    pub holds_char : (p : Placed) (answer : Result (Unit {0}) Refusal) → new.stopped ≡ is_err answer
-        → Takes gives m.table (start_kind m.start) (characters_among items) (p ∷ []) h.taken new.names old.sink answer new.sink new.tokenizer → TakesItem gives m began items (Character p) answer new
-    holds_char p answer noted (take_ran_out events e handed front) = item_ran_out e
-    holds_char p answer noted (take_refused name at events e handed refused) =
-        item_refused name at (tokens_in (h.taken ++ events)) (errors_among items ++ errors_in (h.taken ++ events)) e (noted ∙ ap is_err e) (after_events events (Ok tt) handed)
-        (λ more end. subst (λ (x : List Placed). IsRefused m.table (start_kind m.start) x end (tokens_in (h.taken ++ events)) name at) (sym (characters_among-append items (Character p ∷ more))) (refused (characters_among more) end))
-    holds_char p answer noted (take_sink_refused x events e handed front) =
-        item_stopped x (h.taken ++ events) (errors_among items ++ errors_in (h.taken ++ events)) e (noted ∙ ap is_err e) (after_events events (Err x) handed)
-        (λ more end. subst (λ (x : List Placed). AreFront m.table (start_kind m.start) x end (h.taken ++ events)) (sym (characters_among-append items (Character p ∷ more))) (front (characters_among more) end))
-    holds_char p answer noted (take_took events e handed has) =
-        item_taken e (record {
+    -- characters
+    pub holds_characters : (xs : List CharItem) → errors_among xs ≡ [] → new.unfed ≡ [] → (answer : Result (Unit {0}) Refusal) → new.stopped ≡ is_err answer
+        → Takes gives m.table (start_kind m.start) (characters_among items) (characters_among xs) h.taken new.names old.sink answer new.sink new.tokenizer → TakesItems gives m began items xs answer new
+    holds_characters xs none unfed answer noted (take_ran_out events e handed front) = items_ran_out e
+    holds_characters xs none unfed answer noted (take_refused name at events e handed refused) =
+        items_refused name at (tokens_in (h.taken ++ events)) (errors_among items ++ errors_in (h.taken ++ events)) e (noted ∙ ap is_err e) (after_events events (Ok tt) handed)
+        (λ more end. subst (λ (x : List Placed). IsRefused m.table (start_kind m.start) x end (tokens_in (h.taken ++ events)) name at) (with_more items xs more) (refused (characters_among more) end))
+    holds_characters xs none unfed answer noted (take_sink_refused x events e handed front) =
+        items_stopped x (h.taken ++ events) (errors_among items ++ errors_in (h.taken ++ events)) e (noted ∙ ap is_err e) (after_events events (Err x) handed)
+        (λ more end. subst (λ (x : List Placed). AreFront m.table (start_kind m.start) x end (h.taken ++ events)) (with_more items xs more) (front (characters_among more) end))
+    holds_characters xs none unfed answer noted (take_took events e handed has) =
+        items_taken e (record { fed = items ++ xs; items_are = all_fed unfed (items ++ xs); was_fed = record {
           taken = h.taken ++ events;
-          has_taken = subst (λ (x : List Placed). HasTaken m.table (start_kind m.start) new.tokenizer new.names x (h.taken ++ events)) (sym (characters_among-append items (Character p ∷ []))) has;
+          has_taken = subst (λ (x : List Placed). HasTaken m.table (start_kind m.start) new.tokenizer new.names x (h.taken ++ events)) (sym (characters_among-append items xs)) has;
           handed = subst (λ (x : List ParseError). Handed gives new.names began (tokens_in (h.taken ++ events)) (x ++ errors_in (h.taken ++ events)) (Ok tt) new.sink)
-              (sym (append-nil (errors_among items)) ∙ sym (errors_among-append items (Character p ∷ []))) (after_events events (Ok tt) handed);
+              (sym (append-nil (errors_among items)) ∙ ap (λ (x : List ParseError). errors_among items ++ x) (sym none) ∙ sym (errors_among-append items xs)) (after_events events (Ok tt) handed);
           unstopped = noted ∙ ap is_err e;
-        })
+        } })
 
     -- the end
     pub ends_text : (end : ℕ) (answer : Result (Unit {0}) Refusal)
@@ -134,3 +151,70 @@ module _ {S : Type 0} (gives : S → Item → Result (Unit {0}) Refusal → S �
         text_stopped x (h.taken ++ events) (errors_among items ++ errors_in (h.taken ++ events)) e (after_events events (Err x) handed) front
     ends_text end answer (finish_took events e handed t) =
         text_taken (tokens_in (h.taken ++ events)) (errors_in (h.taken ++ events)) e t (after_events events (Ok tt) handed)
+
+-- A RUN
+
+characters_of_run : (ps : List Placed) → characters_among (map Character ps) ≡ ps
+characters_of_run [] = refl
+characters_of_run (p ∷ ps) = ap (λ (x : List Placed). p ∷ x) (characters_of_run ps)
+
+no_errors_in_run : (ps : List Placed) → errors_among (map Character ps) ≡ []
+no_errors_in_run [] = refl
+no_errors_in_run (p ∷ ps) = no_errors_in_run ps
+
+module _ {S : Type 0} (gives : S → Item → Result (Unit {0}) Refusal → S → Type 0) where
+  -- items that are handed over after others count as handed over with them
+  after_unfed : (m : Manner) (began : Began S) (fed unfed items : List CharItem) (answer : Result (Unit {0}) Refusal) (new : Intake S) → TakesItems gives m began fed (unfed ++ items) answer new
+      → TakesItems gives m began (fed ++ unfed) items answer new
+  after_unfed m began fed unfed items answer new (items_ran_out e) = items_ran_out e
+  after_unfed m began fed unfed items answer new (items_stopped x events errors e noted handed front) =
+      items_stopped x events errors e noted handed (λ more end. subst (λ (is : List CharItem). AreFront m.table (start_kind m.start) (characters_among is) end events) (regrouped fed unfed items more) (front more end))
+  after_unfed m began fed unfed items answer new (items_refused name at tokens errors e noted handed refused) =
+      items_refused name at tokens errors e noted handed
+      (λ more end. subst (λ (is : List CharItem). IsRefused m.table (start_kind m.start) (characters_among is) end tokens name at) (regrouped fed unfed items more) (refused more end))
+  after_unfed m began fed unfed items answer new (items_taken e held) = items_taken e (subst (HoldsItems gives m began new) (sym (append_assoc fed unfed items)) held)
+
+  module _ (old new : Intake S) (answer : Result (Unit {0}) Refusal) where
+    -- what a run does that comes after unfed characters: they are fed with it
+    abbrev RunGives : List CharItem → Type 0
+    RunGives run = (m : Manner) (began : Began S) (before : List CharItem) → WasFed gives m began old before → TakesItems gives m began before run answer new
+
+    -- The characters are handed over one by one; all are fed with the last.
+    fed_at_last : (unfed : List CharItem) (p : Placed) (ps : List Placed) → RunGives (unfed ++ map Character (p ∷ ps))
+        → Hands (Proceeds gives) (record old { unfed = unfed }) (map Character (p ∷ ps)) answer new
+    fed_at_last unfed p [] law = (answer, new, last, ended answer)
+      where
+        last : Proceeds gives (record old { unfed = unfed }) (Character p) answer new
+        last m began before h =
+            subst (λ (b : List CharItem). TakesItems gives m began b (Character p ∷ []) answer new) h.items_are
+            (after_unfed m began h.fed unfed (Character p ∷ []) answer new (law m began h.fed (record { taken = h.was_fed.taken; has_taken = h.was_fed.has_taken; handed = h.was_fed.handed; unstopped = h.was_fed.unstopped })))
+
+        ended : (r : Result (Unit {0}) Refusal) → MatchResult r (λ _. (r ≡ Ok tt) × (new ≡ new)) (λ e. (r ≡ Err e) × (new ≡ new))
+        ended (Ok tt) = (refl, refl)
+        ended (Err e) = (refl, refl)
+    fed_at_last unfed p (q ∷ ps) law =
+        (Ok tt, record old { unfed = unfed ++ Character p ∷ [] }, held, fed_at_last (unfed ++ Character p ∷ []) q ps (subst RunGives (sym (append_assoc unfed (Character p ∷ []) (map Character (q ∷ ps)))) law))
+      where
+        held : Proceeds gives (record old { unfed = unfed }) (Character p) (Ok tt) (record old { unfed = unfed ++ Character p ∷ [] })
+        held m began before h =
+            items_taken refl (record {
+              fed = h.fed;
+              items_are = sym (append_assoc h.fed unfed (Character p ∷ [])) ∙ ap (λ (b : List CharItem). b ++ Character p ∷ []) h.items_are;
+              was_fed = record { taken = h.was_fed.taken; has_taken = h.was_fed.has_taken; handed = h.was_fed.handed; unstopped = h.was_fed.unstopped };
+            })
+
+    run_handed : old.unfed ≡ [] → (at : ℕ) (run : List ℕ) → false ≡ (length run == 0) → RunGives (run_items at run) → Hands (Proceeds gives) old (run_items at run) answer new
+    run_handed none at [] some law = absurd cc
+    run_handed none at (b ∷ bs) some law =
+        subst (λ (u : List CharItem). Hands (Proceeds gives) (record old { unfed = u }) (run_items at (b ∷ bs)) answer new) (sym none) (fed_at_last [] (record { ch = b; at = at }) (placed (at + len_utf8 b) bs) law)
+
+    -- as a tokenizer takes it
+    pub run_taken : old.unfed ≡ [] → new.unfed ≡ [] → (at : ℕ) (run : List ℕ) → false ≡ (length run == 0) → Grows old.names new.names → new.stopped ≡ is_err answer
+        → ((m : Manner) (began : Began S) (before : List CharItem) (h : WasFed gives m began old before)
+        → Takes gives m.table (start_kind m.start) (characters_among before) (placed at run) h.taken new.names old.sink answer new.sink new.tokenizer)
+        → Hands (Proceeds gives) old (run_items at run) answer new
+    run_taken none_before none_after at run some grows noted takes =
+        run_handed none_before at run some (λ m began before h.
+        holds_characters gives m began old new before h grows (run_items at run) (no_errors_in_run (placed at run)) none_after answer noted
+        (subst (λ (ps : List Placed). Takes gives m.table (start_kind m.start) (characters_among before) ps h.taken new.names old.sink answer new.sink new.tokenizer)
+        (sym (characters_of_run (placed at run))) (takes m began before h)))

@@ -16,10 +16,10 @@ use Rattle.htext.specs.Decoding.{HasFed, Feeds, ran_out, sink_refused, took_all,
 use Rattle.htoken.specs.Standing.{start_kind}
 use Rattle.htoken.specs.Token.{Tok, Event, Item}
 use Rattle.htoken.specs.Tokens.{Tokens, IsRefused, AreFront, tokens_in}
-use Rattle.hparse.specs.declared.feeding.Feeding.{Feeding}
 use Rattle.hparse.specs.declared.reading.Reading.{Reading}
 use Rattle.hparse.specs.Input.{Manner, Began, bom_of, text_in, Handed, IsRefusedFor, by_sink, by_tag, by_bytes, Comes}
-use Rattle.hparse.specs.Holding.{HoldsItems, TakesItem, item_ran_out, item_stopped, item_refused, item_taken, Proceeds, EndsText, text_ran_out, text_stopped, text_taken, Refuses, refusing_ran_out, refusing}
+use Rattle.hparse.specs.Intake.{Intake}
+use Rattle.hparse.specs.Holding.{HoldsItems, TakesItems, items_ran_out, items_stopped, items_refused, items_taken, Proceeds, EndsText, text_ran_out, text_stopped, text_taken, Refuses, refusing_ran_out, refusing}
 use Rattle.hparse.specs.Fed.{HasRead, FeedsPiece, piece_ran_out, piece_refused, piece_read, EndsInput, input_ran_out, input_comes}
 use Rattle.htext.proofs.Texts.{items-append, characters_among-items, errors_among-items}
 
@@ -55,43 +55,43 @@ whole_from a b r false e h = absurd cc
 
 module _ {S : Type 0} (gives : S → Item → Result (Unit {0}) Refusal → S → Type 0) (m : Manner) (began : Began S) where
   -- an item that was handed over
-  was_taken : (before : List CharItem) (x : CharItem) (new : Feeding S) → TakesItem gives m began before x (Ok tt) new → HoldsItems gives m began new (before ++ x ∷ [])
-  was_taken before x new (item_ran_out e) = absurd cc
-  was_taken before x new (item_stopped r events errors e noted handed front) = absurd cc
-  was_taken before x new (item_refused name at tokens errors e noted handed refused) = absurd cc
-  was_taken before x new (item_taken e held) = held
+  was_taken : (before : List CharItem) (x : CharItem) (new : Intake S) → TakesItems gives m began before (x ∷ []) (Ok tt) new → HoldsItems gives m began new (before ++ x ∷ [])
+  was_taken before x new (items_ran_out e) = absurd cc
+  was_taken before x new (items_stopped r events errors e noted handed front) = absurd cc
+  was_taken before x new (items_refused name at tokens errors e noted handed refused) = absurd cc
+  was_taken before x new (items_taken e held) = held
 
   -- a text is refused, whatever comes after these items
-  data Stops (e : Refusal) (new : Feeding S) (xs : List CharItem) : Type 0 where
+  data Stops (e : Refusal) (new : Intake S) (xs : List CharItem) : Type 0 where
     by_memory : e ≡ Memory → Stops e new xs
     in_sink : (events : List Event) (errors : List ParseError) → new.stopped ≡ true → Handed gives new.names began (tokens_in events) errors (Err e) new.sink
         → ((end : ℕ) → AreFront m.table (start_kind m.start) (characters_among xs) end events) → Stops e new xs
     in_tag : (name : RefusedName) (at : ℕ) (tokens : List Tok) (errors : List ParseError) → e ≡ OutOfProfile name at → new.stopped ≡ true → Handed gives new.names began tokens errors (Ok tt) new.sink
         → ((end : ℕ) → IsRefused m.table (start_kind m.start) (characters_among xs) end tokens name at) → Stops e new xs
 
-  was_refused : (before : List CharItem) (x : CharItem) (more : List CharItem) (new : Feeding S) (e : Refusal) → TakesItem gives m began before x (Err e) new → Stops e new (before ++ x ∷ more)
-  was_refused before x more new e (item_ran_out is) = by_memory cc
-  was_refused before x more new e (item_stopped r events errors is noted handed front) =
+  was_refused : (before : List CharItem) (x : CharItem) (more : List CharItem) (new : Intake S) (e : Refusal) → TakesItems gives m began before (x ∷ []) (Err e) new → Stops e new (before ++ x ∷ more)
+  was_refused before x more new e (items_ran_out is) = by_memory cc
+  was_refused before x more new e (items_stopped r events errors is noted handed front) =
       let same : r ≡ e = cc in
       in_sink events errors noted (subst (λ (y : Refusal). Handed gives new.names began (tokens_in events) errors (Err y) new.sink) same handed) (λ end. front more end)
-  was_refused before x more new e (item_refused name at tokens errors is noted handed refused) =
+  was_refused before x more new e (items_refused name at tokens errors is noted handed refused) =
       let why : e ≡ OutOfProfile name at = cc in
       in_tag name at tokens errors why noted handed (λ end. refused more end)
-  was_refused before x more new e (item_taken is held) = absurd cc
+  was_refused before x more new e (items_taken is held) = absurd cc
 
   -- items that were handed over, one after another
-  held_all : (s t : Feeding S) (before xs : List CharItem) → Hands (Proceeds gives) s xs (Ok tt) t → HoldsItems gives m began s before → HoldsItems gives m began t (before ++ xs)
-  held_all s t before [] h k = subst (λ (x : Feeding S). HoldsItems gives m began x (before ++ [])) h.1 (subst (HoldsItems gives m began s) (sym (append-nil before)) k)
+  held_all : (s t : Intake S) (before xs : List CharItem) → Hands (Proceeds gives) s xs (Ok tt) t → HoldsItems gives m began s before → HoldsItems gives m began t (before ++ xs)
+  held_all s t before [] h k = subst (λ (x : Intake S). HoldsItems gives m began x (before ++ [])) h.1 (subst (HoldsItems gives m began s) (sym (append-nil before)) k)
   held_all s t before (x ∷ xs) (Err e, mid, given, rest) k = let never = rest.0 in absurd cc
   held_all s t before (x ∷ xs) (Ok u, mid, given, rest) k =
       subst (HoldsItems gives m began t) (append_assoc before (x ∷ []) xs) (held_all mid t (before ++ x ∷ []) xs rest (was_taken before x mid (given m began before k)))
 
-  held_stop : (s t : Feeding S) (before xs : List CharItem) (e : Refusal) → Hands (Proceeds gives) s xs (Err e) t → HoldsItems gives m began s before → Stops e t (before ++ xs)
+  held_stop : (s t : Intake S) (before xs : List CharItem) (e : Refusal) → Hands (Proceeds gives) s xs (Err e) t → HoldsItems gives m began s before → Stops e t (before ++ xs)
   held_stop s t before [] e h k = let never = h.0 in absurd cc
   held_stop s t before (x ∷ xs) e (Err y, mid, given, rest) k =
       let same : y ≡ e = let is = rest.0 in cc in
-      subst (λ (z : Feeding S). Stops e z (before ++ x ∷ xs)) rest.1
-      (was_refused before x xs mid e (subst (λ (z : Refusal). TakesItem gives m began before x (Err z) mid) same (given m began before k)))
+      subst (λ (z : Intake S). Stops e z (before ++ x ∷ xs)) rest.1
+      (was_refused before x xs mid e (subst (λ (z : Refusal). TakesItems gives m began before (x ∷ []) (Err z) mid) same (given m began before k)))
   held_stop s t before (x ∷ xs) e (Ok u, mid, given, rest) k =
       subst (Stops e t) (append_assoc before (x ∷ []) xs) (held_stop mid t (before ++ x ∷ []) xs e rest (was_taken before x mid (given m began before k)))
 
@@ -99,15 +99,15 @@ module _ {S : Type 0} (gives : S → Item → Result (Unit {0}) Refusal → S �
   longer : (before bytes : List ℕ) (more : List Placed) → text_in m bytes ≡ text_in m before ++ more → items (text_in m before) ++ items more ≡ items (text_in m bytes)
   longer before bytes more is = sym (items-append (text_in m before) more) ∙ ap items (sym is)
 
-  took_new : (before bytes : List ℕ) (s t : Feeding S) → HandsNew (Proceeds gives) (bom_of m.start) m.limit before bytes s (Ok tt) t → HoldsItems gives m began s (items (text_in m before)) → HoldsItems gives m began t (items (text_in m bytes))
+  took_new : (before bytes : List ℕ) (s t : Intake S) → HandsNew (Proceeds gives) (bom_of m.start) m.limit before bytes s (Ok tt) t → HoldsItems gives m began s (items (text_in m before)) → HoldsItems gives m began t (items (text_in m bytes))
   took_new before bytes s t (more, is, given) k = subst (HoldsItems gives m began t) (longer before bytes more is) (held_all s t (items (text_in m before)) (items more) given k)
 
-  refused_new : (before bytes : List ℕ) (s t : Feeding S) (e : Refusal) → HandsNew (Proceeds gives) (bom_of m.start) m.limit before bytes s (Err e) t → HoldsItems gives m began s (items (text_in m before))
+  refused_new : (before bytes : List ℕ) (s t : Intake S) (e : Refusal) → HandsNew (Proceeds gives) (bom_of m.start) m.limit before bytes s (Err e) t → HoldsItems gives m began s (items (text_in m before))
       → Stops e t (items (text_in m bytes))
   refused_new before bytes s t e (more, is, given) k = subst (Stops e t) (longer before bytes more is) (held_stop s t (items (text_in m before)) (items more) e given k)
 
   -- so the input is refused
-  stops_input : (bytes : List ℕ) (e : Refusal) (t : Feeding S) → Stops e t (items (text_in m bytes)) → (e ≡ Memory) ⊎ ((t.stopped ≡ true) × IsRefusedFor gives m began bytes t.names t.sink e)
+  stops_input : (bytes : List ℕ) (e : Refusal) (t : Intake S) → Stops e t (items (text_in m bytes)) → (e ≡ Memory) ⊎ ((t.stopped ≡ true) × IsRefusedFor gives m began bytes t.names t.sink e)
   stops_input bytes e t (by_memory why) = inl why
   stops_input bytes e t (in_sink events errors noted handed front) =
       inr (noted, by_sink e events errors handed (subst (λ (x : List Placed). AreFront m.table (start_kind m.start) x (valid_len m.limit bytes) events) (characters_among-items (text_in m bytes)) (front (valid_len m.limit bytes))))
@@ -118,7 +118,7 @@ module _ {S : Type 0} (gives : S → Item → Result (Unit {0}) Refusal → S �
             (by_tag name at tokens errors handed (subst (λ (x : List Placed). IsRefused m.table (start_kind m.start) x (valid_len m.limit bytes) tokens name at) (characters_among-items (text_in m bytes)) (refused (valid_len m.limit bytes)))),
       )
 
-  module _ (held : List CharItem) (at : ℕ) (refusal : Refusal) (new : Feeding S) (here : (refusal ≡ NotUtf8 at) ⊎ (refusal ≡ TooLarge at)) where
+  module _ (held : List CharItem) (at : ℕ) (refusal : Refusal) (new : Intake S) (here : (refusal ≡ NotUtf8 at) ⊎ (refusal ≡ TooLarge at)) where
     text_of : (bytes : List ℕ) → held ≡ items (text_in m bytes) → characters_among held ≡ text_in m bytes
     text_of bytes is = ap characters_among is ∙ characters_among-items (text_in m bytes)
 
@@ -143,15 +143,15 @@ module _ {S : Type 0} (gives : S → Item → Result (Unit {0}) Refusal → S �
     refuses_text earlier (text_taken tokens errors e t handed) = absurd cc
 
   module _ (bytes piece : List ℕ) (old : Reading S) (h : HasRead gives m began old bytes) where
-    abbrev pub HasFedPiece : Result (Unit {0}) Refusal → Feeding S → Type 0
+    abbrev pub HasFedPiece : Result (Unit {0}) Refusal → Intake S → Type 0
     HasFedPiece answer feeding = Feeds (Proceeds gives) old.decoder.bom old.decoder.limit bytes piece old.feeding answer feeding
 
-    as_begun : (answer : Result (Unit {0}) Refusal) (feeding : Feeding S) → HasFedPiece answer feeding → Feeds (Proceeds gives) (bom_of m.start) m.limit bytes piece old.feeding answer feeding
+    as_begun : (answer : Result (Unit {0}) Refusal) (feeding : Intake S) → HasFedPiece answer feeding → Feeds (Proceeds gives) (bom_of m.start) m.limit bytes piece old.feeding answer feeding
     as_begun answer feeding f =
         subst (λ (n : ℕ). Feeds (Proceeds gives) (bom_of m.start) n bytes piece old.feeding answer feeding) h.limit_is
         (subst (λ (b : Bom). Feeds (Proceeds gives) b old.decoder.limit bytes piece old.feeding answer feeding) h.bom_is f)
 
-    took : (feeding : Feeding S) → Feeds (Proceeds gives) (bom_of m.start) m.limit bytes piece old.feeding (Ok tt) feeding → HoldsItems gives m began feeding (items (text_in m (bytes ++ piece)))
+    took : (feeding : Intake S) → Feeds (Proceeds gives) (bom_of m.start) m.limit bytes piece old.feeding (Ok tt) feeding → HoldsItems gives m began feeding (items (text_in m (bytes ++ piece)))
     took feeding (ran_out front rest e split handed) = absurd cc
     took feeding (sink_refused e is handed) = absurd cc
     took feeding (took_all handed answered) = took_new bytes (bytes ++ piece) old.feeding feeding handed h.holds
@@ -163,7 +163,7 @@ module _ {S : Type 0} (gives : S → Item → Result (Unit {0}) Refusal → S �
         piece_read refl (record { limit_is = limit_is ∙ h.limit_is; bom_is = bom_is ∙ h.bom_is; fed = fed; holds = took new.feeding (as_begun (Ok tt) new.feeding f) })
 
     -- it was refused, and so is the input; `feeding` is as the refusal left it, and `new` as the end of its text did
-    module _ (e answer : Refusal) (feeding : Feeding S) (new : Reading S)
+    module _ (e answer : Refusal) (feeding : Intake S) (new : Reading S)
         (answered : (held : List CharItem) → HoldsItems gives m began feeding held → Refuses gives m began held e answer new.feeding)
         (stopped : feeding.stopped ≡ true → (answer ≡ e) × (new.feeding ≡ feeding)) (memory : e ≡ Memory → answer ≡ Memory) where
       out_of_memory : e ≡ Memory → FeedsPiece gives m began (bytes ++ piece) (Err answer) new
@@ -179,7 +179,7 @@ module _ {S : Type 0} (gives : S → Item → Result (Unit {0}) Refusal → S �
       -- as it is answered
       as_answered : (feeding.stopped ≡ true) → (more : List ℕ) → IsRefusedFor gives m began ((bytes ++ piece) ++ more) feeding.names feeding.sink e → IsRefusedFor gives m began ((bytes ++ piece) ++ more) new.feeding.names new.feeding.sink answer
       as_answered noted more r =
-          subst (λ (f : Feeding S). IsRefusedFor gives m began ((bytes ++ piece) ++ more) f.names f.sink answer) (sym (stopped noted).1)
+          subst (λ (f : Intake S). IsRefusedFor gives m began ((bytes ++ piece) ++ more) f.names f.sink answer) (sym (stopped noted).1)
           (subst (IsRefusedFor gives m began ((bytes ++ piece) ++ more) feeding.names feeding.sink) (sym (stopped noted).0) r)
 
       -- it is so whatever comes after

@@ -11,6 +11,7 @@ use htext::CharSink;
 use htoken::{Start, TokenSink, Tokenizer};
 use names::{Names, ParseError, Refusal};
 use std::alloc::Global;
+use std::marker::Model;
 
 /// A tokenizer, the names of its tokens, and the sink that takes them.
 #[derive(Drop)]
@@ -21,6 +22,15 @@ pub struct Feeding<'t, S> {
 
     /// Whether the tokenizer or the sink has refused something: what a decoder then returns is that, and no refusal of its own.
     pub stopped: bool,
+}
+
+impl<'t, S> Model for Feeding<'t, S> {
+    ghost use Rattle.std.specs.Prelude.{[]};
+    ghost use Rattle.hparse.specs.Intake.{Intake};
+
+    ghost Value = { Intake S };
+
+    ghost view = { λ f. record { names = f.names; tokenizer = f.tokenizer; sink = f.sink; stopped = f.stopped; unfed = [] } };
 }
 
 impl<'t, S: TokenSink> Feeding<'t, S> {
@@ -80,6 +90,17 @@ impl<'t, S: TokenSink> CharSink for Feeding<'t, S> {
         let answer = self
             .tokenizer
             .feed_char(&mut self.names, ch, at, &mut self.sink);
+        self.stopped = answer.is_err();
+        answer
+    }
+
+    fn take_run(&mut self, run: &str, at: u64) -> Result<(), Refusal> {
+        if run.is_empty() {
+            return Ok(());
+        }
+        let answer = self
+            .tokenizer
+            .feed_run(&mut self.names, run, at, &mut self.sink);
         self.stopped = answer.is_err();
         answer
     }

@@ -1,11 +1,21 @@
+use Rattle.std.proofs.Common.{[], ◌∷◌, refl, subst, sym, ◌∙◌, append-nil}
 use Rattle.names.proofs.Handing.{grows_not}
-use Rattle.htext.specs.Items.{characters_among}
+use Rattle.htext.specs.Items.{Character, characters_among}
 use Rattle.htoken.specs.Standing.{start_kind}
 use Rattle.htoken.specs.Token.{gives_item}
-use Rattle.hparse.proofs.Held.{holds_char}
+use Rattle.hparse.specs.Holding.{Proceeds, TakesItems}
+use Rattle.hparse.specs.Intake.{Intake}
+use Rattle.hparse.proofs.Held.{holds_characters}
 use Rattle.hparse.proofs.feeding.FeedingCharSink.take_char.Goals as goal
 
 pub returns : goal.returns
-returns g c = λ m began before h.
-    holds_char (gives_item g.S.ErrorSink.gives g.S.TokenSink.gives_token) m began c.args.self.now _ before h c.feed_char-answer.ensures.grows _ _ c.is_err-self.ensures.value
-    (c.feed_char-answer.ensures.takes m.table (start_kind m.start) c.args.self.now.names (characters_among before) h.taken (grows_not c.args.self.now.names) h.has_taken)
+returns g c =
+    let gives = gives_item g.S.ErrorSink.gives g.S.TokenSink.gives_token in
+    let item = Character (record { ch = c.args.ch; at = c.args.at }) in
+    let answer = c.feed_char-answer.result in
+    let old : Intake _ = record { names = c.self.inside.names; tokenizer = c.self.inside.tokenizer; sink = c.self.inside.sink; stopped = c.self.inside.stopped; unfed = [] } in
+    let new : Intake _ = record { names = c.feed_char-answer.new.names; tokenizer = c.feed_char-answer.new.self; sink = c.feed_char-answer.new.sink; stopped = c.is_err-self-inside.result; unfed = [] } in
+    subst (λ s. Proceeds gives s item answer new) c.self.view_is
+    (λ m began before h. subst (λ b. TakesItems gives m began b (item ∷ []) answer new) (sym (append-nil h.fed) ∙ h.items_are)
+    (holds_characters gives m began old new h.fed h.was_fed c.feed_char-answer.ensures.grows (item ∷ []) refl refl answer c.is_err-self-inside.ensures.value
+    (c.feed_char-answer.ensures.takes m.table (start_kind m.start) old.names (characters_among h.fed) h.was_fed.taken (grows_not old.names) h.was_fed.has_taken)))
