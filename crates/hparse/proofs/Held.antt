@@ -103,16 +103,20 @@ module _ {S : Type 0} (gives : S → Item → Result (Unit {0}) Refusal → S �
         (λ more end. subst (λ (x : List Placed). AreFront m.table (start_kind m.start) x end h.taken) (sym (characters_among-append items (InputError e ∷ more)))
         (taken_front m.table (start_kind m.start) old.tokenizer old.names (characters_among items) h.taken h.has_taken (characters_among more) end))
     holds_error (Ok u) noted given =
-        items_taken refl (record { fed = items ++ InputError e ∷ []; items_are = all_fed unfed (items ++ InputError e ∷ []); was_fed = record {
-          taken = h.taken;
-          has_taken = subst (λ (t : Tokenizer). HasTaken m.table (start_kind m.start) t new.names (characters_among (items ++ InputError e ∷ [])) h.taken) (sym tokenizer_is)
-              (subst (λ (n : Texts). HasTaken m.table (start_kind m.start) old.tokenizer n (characters_among (items ++ InputError e ∷ [])) h.taken) (sym names_are)
-              (subst (λ (x : List Placed). HasTaken m.table (start_kind m.start) old.tokenizer old.names x h.taken) text_is h.has_taken));
-          handed = handed_as gives new.names began new.sink (tokens_in h.taken ++ []) (tokens_in h.taken) (all_errors ++ e ∷ []) (errors_among (items ++ InputError e ∷ []) ++ errors_in h.taken) (Ok tt) (append-nil (tokens_in h.taken))
-              (subst (λ (x : List ParseError). IsPermutation (x ++ errors_in h.taken) (all_errors ++ e ∷ [])) (sym (errors_among-append items (InputError e ∷ []))) (with_error (errors_among items) (errors_in h.taken) e))
-              (after_error (Ok tt) given);
-          unstopped = noted;
-        } })
+        items_taken refl (record {
+          fed = items ++ InputError e ∷ [];
+          items_are = all_fed unfed (items ++ InputError e ∷ []);
+          was_fed = record {
+            taken = h.taken;
+            has_taken = subst (λ (t : Tokenizer). HasTaken m.table (start_kind m.start) t new.names (characters_among (items ++ InputError e ∷ [])) h.taken) (sym tokenizer_is)
+                (subst (λ (n : Texts). HasTaken m.table (start_kind m.start) old.tokenizer n (characters_among (items ++ InputError e ∷ [])) h.taken) (sym names_are)
+                (subst (λ (x : List Placed). HasTaken m.table (start_kind m.start) old.tokenizer old.names x h.taken) text_is h.has_taken));
+            handed = handed_as gives new.names began new.sink (tokens_in h.taken ++ []) (tokens_in h.taken) (all_errors ++ e ∷ []) (errors_among (items ++ InputError e ∷ []) ++ errors_in h.taken) (Ok tt) (append-nil (tokens_in h.taken))
+                (subst (λ (x : List ParseError). IsPermutation (x ++ errors_in h.taken) (all_errors ++ e ∷ [])) (sym (errors_among-append items (InputError e ∷ []))) (with_error (errors_among items) (errors_in h.taken) e))
+                (after_error (Ok tt) given);
+            unstopped = noted;
+          };
+        })
 
   module _ (grows : Grows old.names new.names) where
     -- the events after those that were taken
@@ -135,13 +139,17 @@ module _ {S : Type 0} (gives : S → Item → Result (Unit {0}) Refusal → S �
         items_stopped x (h.taken ++ events) (errors_among items ++ errors_in (h.taken ++ events)) e (noted ∙ ap is_err e) (after_events events (Err x) handed)
         (λ more end. subst (λ (x : List Placed). AreFront m.table (start_kind m.start) x end (h.taken ++ events)) (with_more items xs more) (front (characters_among more) end))
     holds_characters xs none unfed answer noted (take_took events e handed has) =
-        items_taken e (record { fed = items ++ xs; items_are = all_fed unfed (items ++ xs); was_fed = record {
-          taken = h.taken ++ events;
-          has_taken = subst (λ (x : List Placed). HasTaken m.table (start_kind m.start) new.tokenizer new.names x (h.taken ++ events)) (sym (characters_among-append items xs)) has;
-          handed = subst (λ (x : List ParseError). Handed gives new.names began (tokens_in (h.taken ++ events)) (x ++ errors_in (h.taken ++ events)) (Ok tt) new.sink)
-              (sym (append-nil (errors_among items)) ∙ ap (λ (x : List ParseError). errors_among items ++ x) (sym none) ∙ sym (errors_among-append items xs)) (after_events events (Ok tt) handed);
-          unstopped = noted ∙ ap is_err e;
-        } })
+        items_taken e (record {
+          fed = items ++ xs;
+          items_are = all_fed unfed (items ++ xs);
+          was_fed = record {
+            taken = h.taken ++ events;
+            has_taken = subst (λ (x : List Placed). HasTaken m.table (start_kind m.start) new.tokenizer new.names x (h.taken ++ events)) (sym (characters_among-append items xs)) has;
+            handed = subst (λ (x : List ParseError). Handed gives new.names began (tokens_in (h.taken ++ events)) (x ++ errors_in (h.taken ++ events)) (Ok tt) new.sink)
+                (sym (append-nil (errors_among items)) ∙ ap (λ (x : List ParseError). errors_among items ++ x) (sym none) ∙ sym (errors_among-append items xs)) (after_events events (Ok tt) handed);
+            unstopped = noted ∙ ap is_err e;
+          };
+        })
 
     -- the end
     pub ends_text : (end : ℕ) (answer : Result (Unit {0}) Refusal)

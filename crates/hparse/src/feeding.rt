@@ -1,6 +1,7 @@
 //! A tokenizer that is fed the text of an input.
 
 ghost use Rattle.std.specs.Prelude.{◌≡◌, List, [], true};
+ghost use Rattle.names.specs.Names.{AreNames, Grows};
 ghost use Rattle.htext.specs.Items.{CharItem};
 ghost use Rattle.htoken.specs.Token.{gives_item};
 ghost use Rattle.hparse.specs.Holding.{HoldsItems, EndsText, Refuses};
@@ -50,6 +51,16 @@ impl<'t, S: TokenSink> Feeding<'t, S> {
             sink,
             stopped: false,
         }
+    }
+
+    /// Has its texts distinct, the known ones first.
+    pub fn settle(&mut self, alloc: Global)
+        ensures are { AreNames self.new.names }
+        ensures grows { Grows self.old.names self.new.names }
+        ensures rest { self.new ≡ record self.old { names = self.new.names } }
+    {
+        // A known name is there already.
+        let _ = self.names.intern(alloc, "html");
     }
 
     /// Ends the text, at the input's byte `end`.

@@ -1,7 +1,6 @@
 //! A parser that is fed bytes.
 
 ghost use Rattle.std.specs.Prelude.{◌≡◌, ◌<◌, ◌≤◌, ◌⊎◌, ℕ, List, [], ◌++◌, Some, true, false, Err, IfErr, MatchResult};
-ghost use Rattle.names.specs.Names.{AreNames, Grows};
 ghost use Rattle.names.specs.declared.refusal.Refusal.{Refusal as Refused};
 ghost use Rattle.names.specs.declared.refusal.Refusal.TheVariants.{BadContext, Memory};
 ghost use Rattle.hparse.specs.Parse.{Subject, Told, document, fragment, is_context};
@@ -85,7 +84,7 @@ impl<'t> Parser<'t> {
         match self.reading.feed(piece) {
             Ok(()) => Ok(()),
             Err(refusal) => {
-                settle(&mut self.reading.feeding.names, self.alloc);
+                self.reading.feeding.settle(self.alloc);
                 self.refused = Some(refusal);
                 Err(refusal)
             }
@@ -106,7 +105,7 @@ impl<'t> Parser<'t> {
             return Err(refusal);
         }
         let answer = reading.end();
-        settle(&mut reading.feeding.names, alloc);
+        reading.feeding.settle(alloc);
         answer?;
         built_of(reading)
     }
@@ -127,18 +126,9 @@ pub fn parse_reader<R: Source>(
 {
     let Parser { mut reading, .. } = parser;
     let answer = read_to_end(alloc, piece, &mut reading, source);
-    settle(&mut reading.feeding.names, alloc);
+    reading.feeding.settle(alloc);
     answer?;
     built_of(reading)
-}
-
-/// Its texts are distinct, the known ones first.
-fn settle(names: &mut Names, alloc: Global)
-    ensures are { AreNames names.new }
-    ensures grows { Grows names.old names.new }
-{
-    // A known name is there already.
-    let _ = names.intern(alloc, "html");
 }
 
 /// What a reading has built, with the errors in their order.

@@ -1,7 +1,10 @@
+use Rattle.std.proofs.Common.{◌≡◌, ap, subst}
+use Rattle.std.specs.Prelude.{MatchResult}
 use Rattle.std.proofs.lemmas.Result.{err_from_is_err_and}
+use Rattle.names.specs.declared.refusal.Refusal.TheVariants.{Memory}
 use Rattle.hparse.specs.Input.{Comes}
 use Rattle.hparse.specs.Parse.{manner}
-use Rattle.hparse.specs.Parsing.{builds, AnswersParse}
+use Rattle.hparse.specs.Parsing.{builds, AnswersParse, IsBuilt}
 use Rattle.hparse.proofs.Parsings.{built_answers, refused_answers}
 use Rattle.hparse.proofs.Turns.{not_read, made}
 use Rattle.hparse.proofs.parser.parse_reader.Goals as goal
@@ -16,12 +19,13 @@ returns-in_err-answer g c = λ told subject fed h.
     let feeding = c.read_to_end-answer.new.reading.feeding in
     let e = err_from_is_err_and c.from_residual.result c.from_residual.ensures.1 in
     rw (e.1, e.2) (not_read g.R.Source.left g.R.Source.failed (λ bytes. Comes builds (manner told subject) h.began bytes feeding.names feeding.sink) (AnswersParse told subject) told.input c.args.piece fed c.args.source.now c.read_to_end-answer.new.source
-    c.in_err-answer.field-0.0 (λ bytes r. refused_answers told subject fed c.args.parser h c.read_to_end-answer.new.reading c.settle.new.names c.settle.ensures.grows c.settle.ensures.are c.in_err-answer.field-0.0 bytes r)
+    c.in_err-answer.field-0.0 (λ bytes r. refused_answers told subject fed c.args.parser h c.read_to_end-answer.new.reading c.settle.new.self.names c.settle.ensures.grows c.settle.ensures.are c.in_err-answer.field-0.0 bytes r)
     (c.in_err-answer.ensures (manner told subject) h.began fed h.has_read))
 
 pub returns : goal.returns
 returns g c = λ told subject fed h.
     let feeding = c.read_to_end-answer.new.reading.feeding in
+    let built = subst (λ sink. MatchResult c.built_of.result (IsBuilt c.settle.new.self.names sink) (λ refusal. refusal ≡ Memory)) (ap (λ f. f.sink) c.settle.ensures.rest) c.built_of.ensures in
     made g.R.Source.left g.R.Source.failed (λ bytes. Comes builds (manner told subject) h.began bytes feeding.names feeding.sink) (AnswersParse told subject) told.input c.args.piece fed c.args.source.now c.read_to_end-answer.new.source
-    tt c.built_of.result (λ bytes t. built_answers told subject fed c.args.parser h c.read_to_end-answer.new.reading c.settle.new.names c.settle.ensures.grows c.settle.ensures.are c.built_of.result c.built_of.ensures bytes t)
+    tt c.built_of.result (λ bytes t. built_answers told subject fed c.args.parser h c.read_to_end-answer.new.reading c.settle.new.self.names c.settle.ensures.grows c.settle.ensures.are c.built_of.result built bytes t)
     (c.in_ok-answer.ensures (manner told subject) h.began fed h.has_read)

@@ -17,4 +17,4 @@ returns g c =
     subst (λ s. Proceeds gives s item answer new) c.self.view_is
     (λ m began before h. subst (λ b. TakesItems gives m began b (item ∷ []) answer new) (sym (append-nil h.fed) ∙ h.items_are)
     (holds_error gives m began old new h.fed h.was_fed c.args.error refl refl refl answer c.is_err-self-inside.ensures.value
-    (error_given g.S.ErrorSink.gives g.S.TokenSink.gives_token old.names c.args.error old.sink answer new.sink c.take_error-answer.ensures)))
+    (error_given g.S.ErrorSink.gives g.S.TokenSink.gives_token old.names c.args.error _ _ _ c.take_error-answer.ensures)))

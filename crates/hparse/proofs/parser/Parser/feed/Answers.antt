@@ -8,4 +8,4 @@ returns-in-Ok-clause-feeds c = λ told subject bytes h.
 
 pub returns-in-Err-clause-feeds : goal.returns-in-Err-clause-feeds
 returns-in-Err-clause-feeds c = λ told subject bytes h.
-    feeds_refused told subject bytes c.args.self.now h c.feed.new.self c.settle.new.names c.settle.ensures.grows c.settle.ensures.are c.in-Err.refusal c.args.piece.now _ (c.in-Err.ensures (manner told subject) h.began bytes h.has_read)
+    feeds_refused told subject bytes c.args.self.now h c.feed.new.self c.settle.new.self.names c.settle.ensures.grows c.settle.ensures.are c.in-Err.refusal c.args.piece.now _ (c.in-Err.ensures (manner told subject) h.began bytes h.has_read)

@@ -1,4 +1,4 @@
-use Rattle.std.proofs.Common.{rules, ◌≡◌, List, [], true, refl, ap, sym, ◌∙◌, subst}
+use Rattle.std.proofs.Common.{rules, ◌≡◌, [], true, refl, ap, sym, ◌∙◌, subst}
 use Rattle.names.specs.Sets.{raw_kind}
 use Rattle.names.specs.Tags.{tag_named}
 use Rattle.names.specs.declared.raw.RawKind.{RawKind}
