@@ -1,22 +1,29 @@
 -- What is printed of an answer.
-use Rattle.std.proofs.Common.{◌≡◌, ◌∙◌, ℕ, List, Option, ap, ap₂, sym, subst, Ok}
+use Rattle.std.proofs.Common.{◌≡◌, ◌∙◌, ℕ, List, Option, None, Some, ap, ap₂, refl, sym, subst, option_map, Ok}
 use Rattle.charref.specs.Reference.{Entities}
 use Rattle.htoken.specs.Token.{Tok}
 use Rattle.hparse.specs.declared.token_run.TokenRun.{TokenRun}
 use Rattle.hparse.specs.Answer.{Answers}
 use Rattle.hparse.specs.Shown.{AnswersRun}
 use Rattle.hparse.specs.TokenRun.{TokensMean}
-use Rattle.names.specs.Names.{text_of}
+use Rattle.names.specs.declared.tag.Tag.{Tag}
+use Rattle.names.specs.Names.{AreNames, Texts, text_of}
+use Rattle.names.specs.Sets.{raw_kind}
 use Rattle.names.specs.Spelling.{spelling}
+use Rattle.names.proofs.AllTexts.{spelled as table_spelled}
 use Rattle.hnodes.specs.Forest.{Forest, children_of}
 use Rattle.hnodes.specs.Spelled.{spelled}
+use Rattle.hnodes.specs.Spots.{name_of}
 use Rattle.hwrite.specs.Lines.{tree_text, error_lines}
+use Rattle.hwrite.specs.Written.{has_no_references, is_raw_in, written, written_among}
+use Rattle.hwrite.specs.declared.escaping.Escaping.TheVariants.{One}
+use Rattle.hwrite.proofs.KnownNames.{tags-agree}
 use Rattle.hparse.specs.declared.parsed.Parsed.{Parsed}
-use Rattle.hparse.specs.Parse.{Parses, Subject, Told, root_of}
-use Rattle.hparse.specs.Parsing.{AnswersParse}
-use Rattle.hnodes.proofs.Spellings.{spelled-children_of}
+use Rattle.hparse.specs.Parse.{Parse, Parses, Subject, Told, root_of}
+use Rattle.hparse.specs.Parsing.{AnswersParse, IsParse}
+use Rattle.hnodes.proofs.Spellings.{questions, spelled-children_of}
 use Rattle.hrun.proofs.Alike.{spelled-alike}
-use Rattle.hrun.specs.Prints.{Prints, printed, tokens_text, nodes_text, errors_text}
+use Rattle.hrun.specs.Prints.{Prints, printed, tokens_text, nodes_text, errors_text, written_text}
 use Rattle.hrun.specs.TokenLines.{token_lines}
 
 pub tokens_printed : (table : Entities) (limit : ℕ) (bytes : List ℕ) (run : TokenRun) (text : List ℕ) → AnswersRun table limit bytes (Ok run)
@@ -24,17 +31,37 @@ pub tokens_printed : (table : Entities) (limit : ℕ) (bytes : List ℕ) (run : 
 tokens_printed table limit bytes run text (tokens, mean, its) lines =
     subst (λ (t : List ℕ). Prints (Answers table limit) tokens_text bytes (Ok t)) (sym (lines tokens mean)) (printed (tokens, run.errors.items) its)
 
--- the tree of a parse, where its names are of the table: each number is read as its text
+-- what stands in the root of a parse: each number of a name is read as its text
 abbrev children_spelled : Parsed → Forest (List ℕ)
 children_spelled parsed = spelled (text_of parsed.names) (children_of parsed.root parsed.tree.trees)
+
+children_are : (subject : Subject) (parsed : Parsed) (parse : Parse) → IsParse subject parsed parse → children_spelled parsed ≡ children_of (root_of subject) parse.trees
+children_are subject parsed parse is =
+    spelled-alike parsed.names (children_of parsed.root parsed.tree.trees) is.names_are ∙ spelled-children_of (spelling parsed.names) parsed.root parsed.tree.trees
+    ∙ ap₂ (λ (n : ℕ) (f : Forest (List ℕ)). children_of n f) is.root is.trees
 
 pub tree_printed : (told : Told) (subject : Subject) (bytes : List ℕ) (parsed : Parsed) (text : List ℕ) → AnswersParse told subject bytes (Ok parsed)
     → text ≡ tree_text (children_spelled parsed) → Prints (Parses told subject) (nodes_text subject) bytes (Ok text)
 tree_printed told subject bytes parsed text (parse, is, parses) lines =
-    let same : children_spelled parsed ≡ children_of (root_of subject) parse.trees =
-    spelled-alike parsed.names (children_of parsed.root parsed.tree.trees) is.names_are ∙ spelled-children_of (spelling parsed.names) parsed.root parsed.tree.trees
-    ∙ ap₂ (λ (n : ℕ) (f : Forest (List ℕ)). children_of n f) is.root is.trees in
-    subst (λ (t : List ℕ). Prints (Parses told subject) (nodes_text subject) bytes (Ok t)) (sym (lines ∙ ap tree_text same)) (printed parse parses)
+    subst (λ (t : List ℕ). Prints (Parses told subject) (nodes_text subject) bytes (Ok t)) (sym (lines ∙ ap tree_text (children_are subject parsed parse is))) (printed parse parses)
+
+-- a number stands for the same known name by its text and by its spelling, so its texts are raw by both
+raw-alike : (names : Texts) → AreNames names → (name : Option ℕ) → is_raw_in (option_map (text_of names) name) ≡ is_raw_in (option_map (spelling names) name)
+raw-alike names table None = refl
+raw-alike names table (Some id) = ap (λ (t : Tag). has_no_references (raw_kind t)) (sym (tags-agree names table id) ∙ sym ((table_spelled names table).spells.tags id))
+
+-- the root's name
+name_is : (subject : Subject) (parsed : Parsed) (parse : Parse) → IsParse subject parsed parse
+    → option_map (spelling parsed.names) (name_of parsed.root parsed.tree.trees) ≡ name_of (root_of subject) parse.trees
+name_is subject parsed parse is =
+    sym ((questions (spelling parsed.names)).name parsed.root parsed.tree.trees) ∙ ap₂ (λ (n : ℕ) (f : Forest (List ℕ)). name_of n f) is.root is.trees
+
+pub html_printed : (told : Told) (subject : Subject) (bytes : List ℕ) (parsed : Parsed) (text : List ℕ) → AnswersParse told subject bytes (Ok parsed)
+    → text ≡ written One (option_map (text_of parsed.names) (name_of parsed.root parsed.tree.trees)) (children_spelled parsed) → Prints (Parses told subject) (written_text subject) bytes (Ok text)
+html_printed told subject bytes parsed text (parse, is, parses) html =
+    let raw = raw-alike parsed.names is.table (name_of parsed.root parsed.tree.trees) ∙ ap is_raw_in (name_is subject parsed parse is) in
+    subst (λ (t : List ℕ). Prints (Parses told subject) (written_text subject) bytes (Ok t)) (sym (html ∙ ap₂ (written_among One) raw (children_are subject parsed parse is)))
+    (printed parse parses)
 
 pub errors_printed : (told : Told) (subject : Subject) (bytes : List ℕ) (parsed : Parsed) (text : List ℕ) → AnswersParse told subject bytes (Ok parsed)
     → text ≡ error_lines parsed.errors.items → Prints (Parses told subject) errors_text bytes (Ok text)

@@ -4,7 +4,10 @@ use Rattle.names.specs.declared.error.ParseError.{ParseError}
 use Rattle.names.specs.declared.refusal.Refusal.{Refusal}
 use Rattle.htoken.specs.Token.{Tok}
 use Rattle.hnodes.specs.Forest.{children_of}
+use Rattle.hnodes.specs.Spots.{name_of}
 use Rattle.hwrite.specs.Lines.{tree_text, error_lines}
+use Rattle.hwrite.specs.Written.{written}
+use Rattle.hwrite.specs.declared.escaping.Escaping.TheVariants.{One}
 use Rattle.hparse.specs.Answer.{Answers}
 use Rattle.hparse.specs.Parse.{Parse, Parses, Subject, Told, root_of}
 use Rattle.hrun.specs.declared.command.Task.{Task}
@@ -27,11 +30,16 @@ nodes_text subject parse = tree_text (children_of (root_of subject) parse.trees)
 abbrev pub errors_text : Parse → List ℕ
 errors_text parse = error_lines parse.errors
 
+-- what stands in the root as HTML (13.3); the root's own name says how its texts are written
+abbrev pub written_text : Subject → Parse → List ℕ
+written_text subject parse = written One (name_of (root_of subject) parse.trees) (children_of (root_of subject) parse.trees)
+
 -- what a task prints of an input that stands in this element, or is a document; tokens are those of a document
 abbrev pub prints_of : Task → Option (List ℕ) → Told → List ℕ → Result (List ℕ) Refusal → Type 0
 prints_of task.Tokens context told = Prints (Answers told.table told.input) tokens_text
 prints_of task.Tree context told = Prints (Parses told (subject_in context)) (nodes_text (subject_in context))
 prints_of task.Errors context told = Prints (Parses told (subject_in context)) errors_text
+prints_of task.Write context told = Prints (Parses told (subject_in context)) (written_text (subject_in context))
 
 -- the element in which a task's input stands
 abbrev pub context_of : Task → Option (List ℕ) → Option (List ℕ)

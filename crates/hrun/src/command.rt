@@ -12,6 +12,8 @@ pub enum Task {
     Tree,
     /// A line for each parse error.
     Errors,
+    /// The tree as HTML.
+    Write,
 }
 
 impl Task {
@@ -23,6 +25,7 @@ impl Task {
             "tokens" => Some(Task::Tokens),
             "tree" | "fragment" => Some(Task::Tree),
             "errors" => Some(Task::Errors),
+            "write" => Some(Task::Write),
             _ => None,
         }
     }

@@ -6,7 +6,7 @@ ghost use Rattle.hparse.specs.Parse.{Parses};
 ghost use Rattle.hparse.specs.Parsing.{told_by, AnswersParse};
 ghost use Rattle.hrun.specs.Command.{name_of};
 ghost use Rattle.hrun.specs.Context.{subject_in};
-ghost use Rattle.hrun.specs.Prints.{errors_text, nodes_text, tokens_text, Prints};
+ghost use Rattle.hrun.specs.Prints.{errors_text, nodes_text, tokens_text, written_text, Prints};
 ghost use Rattle.hrun.specs.Running.{BeginsIn, ReadsIn, Runs, RunsIn, RunsTask, WritesText};
 
 use crate::command::{Command, Task};
@@ -14,7 +14,7 @@ use crate::lines::token_lines;
 use crate::target::{Target, write_all};
 use hparse::{Options, Parsed, Parser, Source, parse_reader, read_tokens};
 use htext::MAX_INPUT;
-use hwrite::{error_lines, tree_text};
+use hwrite::{error_lines, serialize_to_vec, tree_text};
 use names::Refusal;
 use std::alloc::Global;
 
@@ -37,6 +37,7 @@ pub fn run<S: Source, W: Target>(
         Task::Tokens => run_tokens(alloc, command.piece, options, source, target),
         Task::Tree => run_tree(alloc, command, options, source, target),
         Task::Errors => run_errors(alloc, command, options, source, target),
+        Task::Write => run_write(alloc, command, options, source, target),
     }
 }
 
@@ -91,6 +92,24 @@ fn run_errors<S: Source, W: Target>(
 {
     let parsed = parse(alloc, command, options, source)?;
     let text = error_lines(alloc, &parsed.errors)?;
+    write_text(target, &text)
+}
+
+// The tree of a document or a fragment as HTML.
+fn run_write<S: Source, W: Target>(
+    alloc: Global,
+    command: Command,
+    options: &Options,
+    source: &mut S,
+    target: &mut W,
+) -> Result<(), Refusal>
+    requires limit { options.now.input_limit ≤ MAX_INPUT }
+    requires piece { 0 < command.piece }
+    ensures { RunsIn S.left S.failed W.written W.failed (name_of command.entry.context) (Prints (Parses (told_by options.now) (subject_in (name_of command.entry.context))) (written_text (subject_in (name_of command.entry.context))))
+        options.now.input_limit command.entry.piece source.old source.new target.old target.new result }
+{
+    let parsed = parse(alloc, command, options, source)?;
+    let text = serialize_to_vec(alloc, &parsed.tree, &parsed.names, parsed.root)?;
     write_text(target, &text)
 }
 

@@ -60,6 +60,18 @@ fn commands(rt: HostRuntime) -> Result<(), Fail> {
         rt.alloc(),
         &["htmlp", "fragment", "--in=div"],
         bare(Task::Tree, Some("div")),
+    )?;
+    says(
+        &rt,
+        rt.alloc(),
+        &["htmlp", "write"],
+        bare(Task::Write, None),
+    )?;
+    says(
+        &rt,
+        rt.alloc(),
+        &["htmlp", "write", "--in", "p"],
+        bare(Task::Write, Some("p")),
     )
 }
 
@@ -120,7 +132,7 @@ fn options(rt: HostRuntime) -> Result<(), Fail> {
 }
 
 // Words, and the text of their fault.
-static FAULTS: [(&'static [&'static str], &'static str); 23] = [
+static FAULTS: [(&'static [&'static str], &'static str); 24] = [
     (&[], NO_COMMAND),
     (&["htmlp"], NO_COMMAND),
     (
@@ -176,6 +188,10 @@ static FAULTS: [(&'static [&'static str], &'static str); 23] = [
         "error: unexpected argument '--in' found\n\n  tip: to pass '--in' as a value, use '-- --in'\n\nUsage: htmlp tree [OPTIONS] [FILE]\n\nFor more information, try '--help'.\n",
     ),
     (
+        &["htmlp", "write", "a.html", "b.html"],
+        "error: unexpected argument 'b.html' found\n\nUsage: htmlp write [OPTIONS] [FILE]\n\nFor more information, try '--help'.\n",
+    ),
+    (
         &["htmlp", "fragment", "a.html"],
         "error: the following required arguments were not provided:\n  --in <NAME>\n\nUsage: htmlp fragment --in <NAME> <FILE>\n\nFor more information, try '--help'.\n",
     ),
@@ -185,7 +201,7 @@ static FAULTS: [(&'static [&'static str], &'static str); 23] = [
     ),
     (
         &["htmlp", "--help"],
-        "Reads HTML as the HTML Standard says\n\nUsage: htmlp <COMMAND>\n\nCommands:\n  tokens    A line for each token\n  tree      The tree, a line for each node\n  errors    A line for each parse error\n  fragment  The tree of a fragment\n\nOptions:\n  -h, --help  Print help\n",
+        "Reads HTML as the HTML Standard says\n\nUsage: htmlp <COMMAND>\n\nCommands:\n  tokens    A line for each token\n  tree      The tree, a line for each node\n  errors    A line for each parse error\n  write     The tree as HTML\n  fragment  The tree of a fragment\n\nOptions:\n  -h, --help  Print help\n",
     ),
     (
         &["htmlp", "tokens", "-h"],
@@ -198,7 +214,7 @@ static FAULTS: [(&'static [&'static str], &'static str); 23] = [
 ];
 
 const NO_COMMAND: &str =
-    "error: 'htmlp' requires a subcommand but one was not provided\n  [subcommands: tokens, tree, errors, fragment]\n\nUsage: htmlp <COMMAND>\n\nFor more information, try '--help'.\n";
+    "error: 'htmlp' requires a subcommand but one was not provided\n  [subcommands: tokens, tree, errors, write, fragment]\n\nUsage: htmlp <COMMAND>\n\nFor more information, try '--help'.\n";
 
 const PIECE: &str = "--piece is a number from 1 to 65536";
 

@@ -97,7 +97,7 @@ type Run = (
     u8,
 );
 
-static RUNS: [Run; 25] = [
+static RUNS: [Run; 28] = [
     (
         &["htmlp", "tokens", "--entities", "table.json"],
         b"b",
@@ -180,6 +180,27 @@ static RUNS: [Run; 25] = [
         "",
         0,
     ),
+    (
+        &["htmlp", "write", "page.html"],
+        b"b",
+        "<html><head></head><body><p>a</p></body></html>",
+        "",
+        0,
+    ),
+    (
+        &["htmlp", "write", "--in", "td", "--piece=1"],
+        b"<td><i a='<\"'>&lt;<br>",
+        "<i a=\"<&quot;\">&lt;<br></i>",
+        "",
+        0,
+    ),
+    (
+        &["htmlp", "write", "--in", "svg"],
+        b"b",
+        "",
+        "refused: BadContext\n",
+        2,
+    ),
     (&["htmlp", "tree"], QUIRKY, NO_QUIRKS, "", 0),
     (
         &["htmlp", "tree", "--quirks", "quirks.txt"],
@@ -250,7 +271,7 @@ static RUNS: [Run; 25] = [
         &["htmlp", "--help"],
         b"b",
         "",
-        "Reads HTML as the HTML Standard says\n\nUsage: htmlp <COMMAND>\n\nCommands:\n  tokens    A line for each token\n  tree      The tree, a line for each node\n  errors    A line for each parse error\n  fragment  The tree of a fragment\n\nOptions:\n  -h, --help  Print help\n",
+        "Reads HTML as the HTML Standard says\n\nUsage: htmlp <COMMAND>\n\nCommands:\n  tokens    A line for each token\n  tree      The tree, a line for each node\n  errors    A line for each parse error\n  write     The tree as HTML\n  fragment  The tree of a fragment\n\nOptions:\n  -h, --help  Print help\n",
         3,
     ),
 ];

@@ -271,7 +271,7 @@ fn reading_goes_on_while_a_character_may_come(rt: HostRuntime) -> Result<(), Fai
 // A task, the element in which an input stands, the input, and the text that it comes to.
 type Row = (Task, Option<&'static str>, &'static [u8], &'static str);
 
-static ROWS: [Row; 6] = [
+static ROWS: [Row; 11] = [
     (
         Task::Tree,
         None,
@@ -303,10 +303,36 @@ static ROWS: [Row; 6] = [
         b"<b><b><b><b>x</b></b></b></b>",
         "",
     ),
+    (
+        Task::Write,
+        None,
+        b"<!DOCTYPE html PUBLIC \"a\"><title>&lt;</title>b<br>\xC2\xA0",
+        "<!DOCTYPE html><html><head><title>&lt;</title></head><body>b<br>&nbsp;</body></html>",
+    ),
+    (
+        Task::Write,
+        Some("div"),
+        b"<p a=1 A=2 =x/ b>",
+        "<p a=\"1\" =x=\"\" b=\"\"></p>",
+    ),
+    (
+        Task::Write,
+        Some("div"),
+        b"<style>a<b</style><!--c--><i d='\"&lt;'>e",
+        "<style>a<b</style><!--c--><i d=\"&quot;<\">e</i>",
+    ),
+    // The texts of a fragment stand in its root, whatever its context.
+    (Task::Write, Some("style"), b"a<b>", "a&lt;b&gt;"),
+    (
+        Task::Write,
+        Some("textarea"),
+        b"</textarea>&amp;",
+        "&lt;/textarea&gt;&amp;",
+    ),
 ];
 
 #[test]
-fn trees_and_errors(rt: HostRuntime) -> Result<(), Fail> {
+fn what_is_parsed(rt: HostRuntime) -> Result<(), Fail> {
     for (task, context, input, text) in &ROWS {
         for piece in 1..8 {
             let command = Command {
@@ -329,6 +355,7 @@ fn a_context_is_refused_before_anything_is_read(rt: HostRuntime) -> Result<(), F
     for (task, name) in [
         (Task::Tree, "svg"),
         (Task::Errors, "colgroup"),
+        (Task::Write, "select"),
         (Task::Tree, ""),
     ] {
         let command = Command {
