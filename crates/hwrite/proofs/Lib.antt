@@ -8,3 +8,8 @@ pub mod Printed
 pub mod KnownNames
 pub mod Wrote
 pub mod Escapes
+pub mod Parts
+pub mod Tested
+pub mod Contexts
+pub mod PlainNames
+pub mod Entering

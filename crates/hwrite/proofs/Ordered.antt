@@ -41,7 +41,7 @@ pub inserted-pairs : (ps : List Pair) → map pair_of (inserted is_less ps) ≡ 
 inserted-pairs [] = refl
 inserted-pairs (a ∷ ps) = put-pair a (inserted is_less ps) ∙ ap (put_in (pair_of a)) (inserted-pairs ps)
 
-dropped : (attrs : List Attr) (i : ℕ) (x : Attr) → i < length attrs → x ≡ get_or attrs i x → drop i attrs ≡ x ∷ drop (i + 1) attrs
+pub dropped : (attrs : List Attr) (i : ℕ) (x : Attr) → i < length attrs → x ≡ get_or attrs i x → drop i attrs ≡ x ∷ drop (i + 1) attrs
 dropped attrs i x h is = drop-cons attrs i x h ∙ (λ k. sym is k ∷ drop (sym (add-one i) k) attrs)
 
 -- the names of the next attribute, and of those after it

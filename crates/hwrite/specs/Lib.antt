@@ -5,6 +5,7 @@ pub mod Plain
 pub mod Lines
 pub mod ContentRows
 pub mod PlainRows
+pub mod Testing
 pub mod Walk
 pub mod Lent
 pub mod Printing

@@ -1,11 +1,16 @@
 //! Trees as text (HTML Standard, 13.3), the table of plain content, and the lines that the program prints.
 #![tactic(auto)]
 
+mod around;
 pub mod content;
+mod context;
 mod escaped;
 pub mod escaping;
 mod lines;
 mod node;
+mod plain;
+mod plain_texts;
+mod rows;
 mod serialize;
 mod sorted;
 mod walk;
@@ -13,4 +18,5 @@ mod walk;
 pub use content::{Content, Role, Texts};
 pub use escaping::Escaping;
 pub use lines::{error_lines, tree_text};
+pub use plain::is_plain;
 pub use serialize::serialize_to_vec;

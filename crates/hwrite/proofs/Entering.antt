@@ -1,0 +1,142 @@
+-- What is around the children of an element, and around the element once it is left.
+use Rattle.std.proofs.Common.{◌≡◌, Bool, true, false, not, cond, refl, sym, ◌∙◌, ap, subst}
+use Rattle.std.specs.Prelude.{◌||◌}
+use Rattle.names.specs.declared.tag.Tag.{Tag}
+use Rattle.names.specs.declared.tag.Tag.TheVariants as tag
+use Rattle.hwrite.specs.ContentTable.{row, takes_role, texts_in}
+use Rattle.hwrite.specs.Plain.{Inside, is_nested, is_a, is_button, is_form, content_within, inside_element}
+use Rattle.hwrite.specs.Testing.{content_among, is_phrasing, marked}
+use Rattle.hwrite.specs.declared.around.Around.{Around}
+use Rattle.hwrite.specs.declared.content.Content.{Content}
+use Rattle.hwrite.specs.declared.content.Content.TheVariants as content
+use Rattle.hwrite.specs.declared.content.Role.{Role}
+use Rattle.hwrite.specs.declared.content.Role.TheVariants as role
+use Rattle.hwrite.specs.declared.content.Texts.{Texts}
+use Rattle.hwrite.specs.declared.content.Texts.TheVariants as texts
+
+-- phrasing content is in an element that takes phrasing elements alone, and content of other elements is not
+abbrev pub fits : Content → Bool → Bool
+fits content.Phrasing u = u
+fits content.Flow u = not u
+fits content.ListItems u = not u
+fits content.Definitions u = not u
+fits content.TableParts u = not u
+fits content.Columns u = not u
+fits content.TableRows u = not u
+fits content.Cells u = not u
+fits _ u = true
+
+-- phrasing elements, and no others, have what stands around them; they have no content of their own that takes elements
+abbrev is_inline : Content → Bool
+is_inline content.Around = true
+is_inline content.Text = true
+is_inline content.RawText = true
+is_inline content.ScriptText = true
+is_inline content.Empty = true
+is_inline _ = false
+
+abbrev has_own : Content → Bool
+has_own content.Around = false
+has_own _ = true
+
+abbrev agrees : Role → Content → Bool
+agrees role.Phrasing c = is_inline c
+agrees _ c = has_own c
+
+rows_agree : (t : Tag) → agrees (row t).0 (row t).1 ≡ true
+rows_agree tag.A = refl
+rows_agree _ = refl
+
+-- an element of content c where C is around it
+record IsInner (C c : Content) (u : Bool) : Type 0 where
+  own : content_among (cond (is_phrasing c) true u) c ≡ content_within C c
+  fit : fits (content_within C c) (cond (is_phrasing c) true u) ≡ true
+  back : cond (is_phrasing c) false (cond (is_phrasing c) true u) ≡ u
+
+in_flow : (c : Content) → IsInner content.Flow c false
+in_flow content.Around = record { own = refl; fit = refl; back = refl }
+in_flow _ = record { own = refl; fit = refl; back = refl }
+
+in_phrasing : (c : Content) → is_inline c ≡ true → IsInner content.Phrasing c true
+in_phrasing content.Around h = record { own = refl; fit = refl; back = refl }
+in_phrasing content.Text h = record { own = refl; fit = refl; back = refl }
+in_phrasing content.RawText h = record { own = refl; fit = refl; back = refl }
+in_phrasing content.ScriptText h = record { own = refl; fit = refl; back = refl }
+in_phrasing content.Empty h = record { own = refl; fit = refl; back = refl }
+in_phrasing _ h = absurd cc
+
+in_other : (C c : Content) → has_own c ≡ true → IsInner C c false
+in_other C content.Around h = absurd cc
+in_other C content.Flow h = record { own = refl; fit = refl; back = refl }
+in_other C _ h = record { own = refl; fit = refl; back = refl }
+
+is_false : (u : Bool) → not u ≡ true → false ≡ u
+is_false false h = refl
+is_false true h = absurd cc
+
+inner : (C : Content) (r : Role) (c : Content) (u : Bool) → agrees r c ≡ true → takes_role C r ≡ true → fits C u ≡ true → IsInner C c u
+inner content.Flow r c u a h f = subst (IsInner content.Flow c) (is_false u f) (in_flow c)
+inner content.Phrasing role.Phrasing c u a h f = subst (IsInner content.Phrasing c) (sym f) (in_phrasing c a)
+inner content.ListItems role.ListItem c u a h f = subst (IsInner content.ListItems c) (is_false u f) (in_other content.ListItems c a)
+inner content.Definitions role.Definition c u a h f = subst (IsInner content.Definitions c) (is_false u f) (in_other content.Definitions c a)
+inner content.TableParts role.TablePart c u a h f = subst (IsInner content.TableParts c) (is_false u f) (in_other content.TableParts c a)
+inner content.Columns role.Column c u a h f = subst (IsInner content.Columns c) (is_false u f) (in_other content.Columns c a)
+inner content.TableRows role.TableRow c u a h f = subst (IsInner content.TableRows c) (is_false u f) (in_other content.TableRows c a)
+inner content.Cells role.Cell c u a h f = subst (IsInner content.Cells c) (is_false u f) (in_other content.Cells c a)
+inner _ _ c u a h f = absurd cc
+
+-- a list in this content with these texts
+abbrev pub place_in : Content → Texts → Around → Inside
+place_in c t a = record { content = c; texts = t; in_a = a.in_a; in_button = a.in_button; in_form = a.in_form }
+
+-- the children of an element of this name
+abbrev pub place_below : Tag → Around → Inside
+place_below t a = let own = content_among a.in_phrasing (row t).1 in place_in own (texts_in own) a
+
+-- where the children of a node stand, and what is around it once it is left
+pub record IsEntered (t : Tag) (inside : Inside) (a : Around) : Type 0 where
+  pub below : place_below t (marked t true a) ≡ inside
+  pub fit : fits (content_among (marked t true a).in_phrasing (row t).1) (marked t true a).in_phrasing ≡ true
+  pub back : marked t false (marked t true a) ≡ a
+
+set : (v x : Bool) → cond v true x ≡ (x || v)
+set true true = refl
+set true false = refl
+set false true = refl
+set false false = refl
+
+reset : (v x : Bool) → (v ≡ true → x ≡ false) → cond v false (cond v true x) ≡ x
+reset true x h = sym (h refl)
+reset false x h = refl
+
+no_a : (i : Inside) (t : Tag) → is_nested i t ≡ false → is_a t ≡ true → i.in_a ≡ false
+no_a i tag.A h e = h
+no_a i _ h e = absurd cc
+
+no_button : (i : Inside) (t : Tag) → is_nested i t ≡ false → is_button t ≡ true → i.in_button ≡ false
+no_button i tag.Button h e = h
+no_button i _ h e = absurd cc
+
+no_form : (i : Inside) (t : Tag) → is_nested i t ≡ false → is_form t ≡ true → i.in_form ≡ false
+no_form i tag.Form h e = h
+no_form i _ h e = absurd cc
+
+pub enter_element : (t : Tag) (c : Content) (allowed : Texts) (a : Around) → takes_role c (row t).0 ≡ true → is_nested (place_in c allowed a) t ≡ false → fits c a.in_phrasing ≡ true
+    → IsEntered t (inside_element t (place_in c allowed a)) a
+enter_element t c allowed a takes nested fit = record {
+  below = λ i. record { content = p.own i; texts = texts_in (p.own i); in_a = set (is_a t) a.in_a i; in_button = set (is_button t) a.in_button i; in_form = set (is_form t) a.in_form i };
+  fit = ap (λ k. fits k (marked t true a).in_phrasing) p.own ∙ p.fit;
+  back = λ i. record {
+    in_a = reset (is_a t) a.in_a (no_a (place_in c allowed a) t nested) i;
+    in_button = reset (is_button t) a.in_button (no_button (place_in c allowed a) t nested) i;
+    in_form = reset (is_form t) a.in_form (no_form (place_in c allowed a) t nested) i;
+    in_phrasing = p.back i;
+  };
+}
+  where
+    p : IsInner c (row t).1 a.in_phrasing
+    p = inner c (row t).0 (row t).1 a.in_phrasing (rows_agree t) takes fit
+
+-- a node that is no element
+pub enter_other : (a : Around) → IsEntered tag.Other (place_in content.Empty texts.None a) a
+enter_other a = record { below = refl; fit = refl; back = refl }
