@@ -49,7 +49,9 @@ with_commands (command ∷ commands) app = with_commands commands (with_subcomma
 
 -- the commands: their names, and what they read
 abbrev pub commands : List (Text × Reads)
-commands = (codes "tokens", Document) ∷ (codes "tree", Document) ∷ (codes "errors", Either) ∷ (codes "write", Either) ∷ (codes "fragment", Fragment) ∷ []
+commands =
+    (codes "tokens", Document) ∷ (codes "tree", Document) ∷ (codes "errors", Either) ∷ (codes "write", Either) ∷ (codes "fragment", Fragment)
+    ∷ (codes "plain", Fragment) ∷ []
 
 abbrev pub program : App
 program = with_commands commands bare_program

@@ -33,7 +33,8 @@ pub fn command_line<'a>(alloc: Global) -> Result<Command<'a>, AllocError>
         .subcommand(command(alloc, "tree", "The tree, a line for each node", Document)?)?
         .subcommand(command(alloc, "errors", "A line for each parse error", Either)?)?
         .subcommand(command(alloc, "write", "The tree as HTML", Either)?)?
-        .subcommand(command(alloc, "fragment", "The tree of a fragment", Fragment)?)
+        .subcommand(command(alloc, "fragment", "The tree of a fragment", Fragment)?)?
+        .subcommand(command(alloc, "plain", "Whether a fragment is plain", Fragment)?)
 }
 
 /// A command, with its file and its options.

@@ -1,5 +1,5 @@
 -- What is printed of an answer.
-use Rattle.std.proofs.Common.{◌≡◌, ◌∙◌, ℕ, List, Option, None, Some, ap, ap₂, refl, sym, subst, option_map, Ok}
+use Rattle.std.proofs.Common.{◌≡◌, ◌∙◌, ℕ, List, Option, Bool, None, Some, ap, ap₂, refl, sym, subst, option_map, Ok}
 use Rattle.charref.specs.Reference.{Entities}
 use Rattle.htoken.specs.Token.{Tok}
 use Rattle.hparse.specs.declared.token_run.TokenRun.{TokenRun}
@@ -23,7 +23,7 @@ use Rattle.hparse.specs.Parse.{Parse, Parses, Subject, Told, root_of}
 use Rattle.hparse.specs.Parsing.{AnswersParse, IsParse}
 use Rattle.hnodes.proofs.Spellings.{questions, spelled-children_of}
 use Rattle.hrun.proofs.Alike.{spelled-alike}
-use Rattle.hrun.specs.Prints.{Prints, printed, tokens_text, nodes_text, errors_text, written_text}
+use Rattle.hrun.specs.Prints.{Prints, printed, tokens_text, nodes_text, errors_text, is_plain_in, plain_line, plain_text, written_text}
 use Rattle.hrun.specs.TokenLines.{token_lines}
 
 pub tokens_printed : (table : Entities) (limit : ℕ) (bytes : List ℕ) (run : TokenRun) (text : List ℕ) → AnswersRun table limit bytes (Ok run)
@@ -61,6 +61,13 @@ pub html_printed : (told : Told) (subject : Subject) (bytes : List ℕ) (parsed 
 html_printed told subject bytes parsed text (parse, is, parses) html =
     let raw = raw-alike parsed.names is.table (name_of parsed.root parsed.tree.trees) ∙ ap is_raw_in (name_is subject parsed parse is) in
     subst (λ (t : List ℕ). Prints (Parses told subject) (written_text subject) bytes (Ok t)) (sym (html ∙ ap₂ (written_among One) raw (children_are subject parsed parse is)))
+    (printed parse parses)
+
+pub plain_printed : (told : Told) (subject : Subject) (bytes : List ℕ) (parsed : Parsed) (answer : Bool) (text : List ℕ) → AnswersParse told subject bytes (Ok parsed)
+    → answer ≡ is_plain_in subject (children_spelled parsed) → text ≡ plain_line answer → Prints (Parses told subject) (plain_text subject) bytes (Ok text)
+plain_printed told subject bytes parsed answer text (parse, is, parses) plain line =
+    let same = plain ∙ ap (is_plain_in subject) (children_are subject parsed parse is) in
+    subst (λ (t : List ℕ). Prints (Parses told subject) (plain_text subject) bytes (Ok t)) (sym (line ∙ ap plain_line same))
     (printed parse parses)
 
 pub errors_printed : (told : Told) (subject : Subject) (bytes : List ℕ) (parsed : Parsed) (text : List ℕ) → AnswersParse told subject bytes (Ok parsed)

@@ -6,7 +6,7 @@ use Rattle.hparse.specs.Parse.{Parses, Told}
 use Rattle.hrun.specs.Context.{subject_in}
 use Rattle.hrun.specs.declared.command.Task.{Task}
 use Rattle.hrun.specs.declared.command.Task.TheVariants as task
-use Rattle.hrun.specs.Prints.{Prints, errors_text, nodes_text, tokens_text, written_text}
+use Rattle.hrun.specs.Prints.{Prints, errors_text, nodes_text, plain_text, tokens_text, written_text}
 use Rattle.hrun.specs.Running.{Runs, RunsIn, RunsTask, ran}
 
 module _ {S W : Type 0} (left : S → Option (List ℕ)) (reads : S → ℕ) (written : W → Option (List ℕ)) (writes : W → ℕ) (context : Option (List ℕ)) (s : Told) (piece : ℕ)
@@ -26,3 +26,7 @@ module _ {S W : Type 0} (left : S → Option (List ℕ)) (reads : S → ℕ) (wr
   pub as_html : t ≡ task.Write → RunsIn left reads written writes context (Prints (Parses s (subject_in context)) (written_text (subject_in context))) s.input piece source source' target target' answer
       → RunsTask left reads written writes t context s piece source source' target target' answer
   as_html is h = subst (λ (x : Task). RunsTask left reads written writes x context s piece source source' target target' answer) (sym is) h
+
+  pub as_plain : t ≡ task.Plain → RunsIn left reads written writes context (Prints (Parses s (subject_in context)) (plain_text (subject_in context))) s.input piece source source' target target' answer
+      → RunsTask left reads written writes t context s piece source source' target target' answer
+  as_plain is h = subst (λ (x : Task). RunsTask left reads written writes x context s piece source source' target target' answer) (sym is) h

@@ -10,7 +10,7 @@ abbrev pub task_named : List ℕ → Option Task
 task_named name =
     if bytes_eq name (codes "tokens") then Some task.Tokens else (if bytes_eq name (codes "tree") then Some task.Tree
     else (if bytes_eq name (codes "fragment") then Some task.Tree else (if bytes_eq name (codes "errors") then Some task.Errors
-    else (if bytes_eq name (codes "write") then Some task.Write else None))))
+    else (if bytes_eq name (codes "write") then Some task.Write else (if bytes_eq name (codes "plain") then Some task.Plain else None)))))
 
 -- the text of a name, if there is one
 abbrev pub name_of : Option (Bor (List ℕ)) → Option (List ℕ)

@@ -1,15 +1,16 @@
 -- What is printed of an input: the text of its answer.
-use Rattle.std.specs.Prelude.{ℕ, List, Option, None, Result, Ok, Err}
+use Rattle.std.specs.Prelude.{ℕ, Bool, true, false, List, Option, None, Result, Ok, Err, codes}
 use Rattle.names.specs.declared.error.ParseError.{ParseError}
 use Rattle.names.specs.declared.refusal.Refusal.{Refusal}
 use Rattle.htoken.specs.Token.{Tok}
-use Rattle.hnodes.specs.Forest.{children_of}
+use Rattle.hnodes.specs.Forest.{Forest, children_of}
 use Rattle.hnodes.specs.Spots.{name_of}
 use Rattle.hwrite.specs.Lines.{tree_text, error_lines}
+use Rattle.hwrite.specs.Plain.{is_plain}
 use Rattle.hwrite.specs.Written.{written}
 use Rattle.hwrite.specs.declared.escaping.Escaping.TheVariants.{One}
 use Rattle.hparse.specs.Answer.{Answers}
-use Rattle.hparse.specs.Parse.{Parse, Parses, Subject, Told, root_of}
+use Rattle.hparse.specs.Parse.{Parse, Parses, Subject, document, fragment, Told, root_of}
 use Rattle.hrun.specs.declared.command.Task.{Task}
 use Rattle.hrun.specs.declared.command.Task.TheVariants as task
 use Rattle.hrun.specs.Context.{subject_in}
@@ -34,12 +35,25 @@ errors_text parse = error_lines parse.errors
 abbrev pub written_text : Subject → Parse → List ℕ
 written_text subject parse = written One (name_of (root_of subject) parse.trees) (children_of (root_of subject) parse.trees)
 
+-- whether the nodes of a fragment are plain in its context; those of a document are not
+abbrev pub is_plain_in : Subject → Forest (List ℕ) → Bool
+is_plain_in document f = false
+is_plain_in (fragment context) f = is_plain context f
+
+abbrev pub plain_line : Bool → List ℕ
+plain_line true = codes "plain\n"
+plain_line false = codes "not plain\n"
+
+abbrev pub plain_text : Subject → Parse → List ℕ
+plain_text subject parse = plain_line (is_plain_in subject (children_of (root_of subject) parse.trees))
+
 -- what a task prints of an input that stands in this element, or is a document; tokens are those of a document
 abbrev pub prints_of : Task → Option (List ℕ) → Told → List ℕ → Result (List ℕ) Refusal → Type 0
 prints_of task.Tokens context told = Prints (Answers told.table told.input) tokens_text
 prints_of task.Tree context told = Prints (Parses told (subject_in context)) (nodes_text (subject_in context))
 prints_of task.Errors context told = Prints (Parses told (subject_in context)) errors_text
 prints_of task.Write context told = Prints (Parses told (subject_in context)) (written_text (subject_in context))
+prints_of task.Plain context told = Prints (Parses told (subject_in context)) (plain_text (subject_in context))
 
 -- the element in which a task's input stands
 abbrev pub context_of : Task → Option (List ℕ) → Option (List ℕ)

@@ -14,6 +14,8 @@ pub enum Task {
     Errors,
     /// The tree as HTML.
     Write,
+    /// Whether a fragment is plain in its context.
+    Plain,
 }
 
 impl Task {
@@ -26,6 +28,7 @@ impl Task {
             "tree" | "fragment" => Some(Task::Tree),
             "errors" => Some(Task::Errors),
             "write" => Some(Task::Write),
+            "plain" => Some(Task::Plain),
             _ => None,
         }
     }

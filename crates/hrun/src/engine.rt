@@ -1,12 +1,16 @@
 //! An input from a reader, and what is made of it to a writer.
 
-ghost use Rattle.std.specs.Prelude.{◌<◌, ◌≤◌};
+ghost use Rattle.std.specs.Prelude.{◌≡◌, ◌<◌, ◌≤◌};
+ghost use Rattle.names.specs.Names.{AreNames, text_of};
+ghost use Rattle.hnodes.specs.Forest.{children_of};
+ghost use Rattle.hnodes.specs.Named.{AreOf};
+ghost use Rattle.hnodes.specs.Spelled.{spelled};
 ghost use Rattle.hparse.specs.Answer.{Answers};
 ghost use Rattle.hparse.specs.Parse.{Parses};
 ghost use Rattle.hparse.specs.Parsing.{told_by, AnswersParse};
 ghost use Rattle.hrun.specs.Command.{name_of};
 ghost use Rattle.hrun.specs.Context.{subject_in};
-ghost use Rattle.hrun.specs.Prints.{errors_text, nodes_text, tokens_text, written_text, Prints};
+ghost use Rattle.hrun.specs.Prints.{errors_text, is_plain_in, nodes_text, plain_line, plain_text, tokens_text, written_text, Prints};
 ghost use Rattle.hrun.specs.Running.{BeginsIn, ReadsIn, Runs, RunsIn, RunsTask, WritesText};
 
 use crate::command::{Command, Task};
@@ -14,7 +18,7 @@ use crate::lines::token_lines;
 use crate::target::{Target, write_all};
 use hparse::{Options, Parsed, Parser, Source, parse_reader, read_tokens};
 use htext::MAX_INPUT;
-use hwrite::{error_lines, serialize_to_vec, tree_text};
+use hwrite::{error_lines, is_plain, serialize_to_vec, tree_text};
 use names::Refusal;
 use std::alloc::Global;
 
@@ -38,6 +42,7 @@ pub fn run<S: Source, W: Target>(
         Task::Tree => run_tree(alloc, command, options, source, target),
         Task::Errors => run_errors(alloc, command, options, source, target),
         Task::Write => run_write(alloc, command, options, source, target),
+        Task::Plain => run_plain(alloc, command, options, source, target),
     }
 }
 
@@ -111,6 +116,44 @@ fn run_write<S: Source, W: Target>(
     let parsed = parse(alloc, command, options, source)?;
     let text = serialize_to_vec(alloc, &parsed.tree, &parsed.names, parsed.root)?;
     write_text(target, &text)
+}
+
+// Whether a fragment is plain in its context.
+fn run_plain<S: Source, W: Target>(
+    alloc: Global,
+    command: Command,
+    options: &Options,
+    source: &mut S,
+    target: &mut W,
+) -> Result<(), Refusal>
+    requires limit { options.now.input_limit ≤ MAX_INPUT }
+    requires piece { 0 < command.piece }
+    ensures { RunsIn S.left S.failed W.written W.failed (name_of command.entry.context) (Prints (Parses (told_by options.now) (subject_in (name_of command.entry.context))) (plain_text (subject_in (name_of command.entry.context))))
+        options.now.input_limit command.entry.piece source.old source.new target.old target.new result }
+{
+    let parsed = parse(alloc, command, options, source)?;
+    let is_plain = is_plain_in(command.context, &parsed);
+    write_text(target, plain_line(is_plain))
+}
+
+// What is printed of a fragment that is plain, or is not.
+fn plain_line(is_plain: bool) -> &'static [u8]
+    ensures { result.now ≡ plain_line is_plain }
+{
+    if is_plain { b"plain\n" } else { b"not plain\n" }
+}
+
+// Whether what was parsed in an element of this name is plain there. No document is.
+fn is_plain_in(context: Option<&str>, parsed: &Parsed) -> bool
+    requires made { parsed.now.root < parsed.now.tree.made }
+    requires table { AreNames parsed.now.names }
+    requires names { AreOf parsed.now.names (children_of parsed.now.root parsed.now.tree.trees) }
+    ensures { result ≡ is_plain_in (subject_in (name_of context.entry)) (spelled (text_of parsed.now.names) (children_of parsed.now.root parsed.now.tree.trees)) }
+{
+    match context {
+        Some(name) => is_plain(&parsed.tree, &parsed.names, parsed.root, name),
+        None => false,
+    }
 }
 
 // Parses a document or a fragment from a reader.

@@ -72,6 +72,12 @@ fn commands(rt: HostRuntime) -> Result<(), Fail> {
         rt.alloc(),
         &["htmlp", "write", "--in", "p"],
         bare(Task::Write, Some("p")),
+    )?;
+    says(
+        &rt,
+        rt.alloc(),
+        &["htmlp", "plain", "--in", "p"],
+        bare(Task::Plain, Some("p")),
     )
 }
 
@@ -132,7 +138,7 @@ fn options(rt: HostRuntime) -> Result<(), Fail> {
 }
 
 // Words, and the text of their fault.
-static FAULTS: [(&'static [&'static str], &'static str); 24] = [
+static FAULTS: [(&'static [&'static str], &'static str); 25] = [
     (&[], NO_COMMAND),
     (&["htmlp"], NO_COMMAND),
     (
@@ -196,12 +202,16 @@ static FAULTS: [(&'static [&'static str], &'static str); 24] = [
         "error: the following required arguments were not provided:\n  --in <NAME>\n\nUsage: htmlp fragment --in <NAME> <FILE>\n\nFor more information, try '--help'.\n",
     ),
     (
+        &["htmlp", "plain"],
+        "error: the following required arguments were not provided:\n  --in <NAME>\n\nUsage: htmlp plain --in <NAME> [FILE]\n\nFor more information, try '--help'.\n",
+    ),
+    (
         &["htmlp", "errors", "--in"],
         "error: a value is required for '--in <NAME>' but none was supplied\n\nFor more information, try '--help'.\n",
     ),
     (
         &["htmlp", "--help"],
-        "Reads HTML as the HTML Standard says\n\nUsage: htmlp <COMMAND>\n\nCommands:\n  tokens    A line for each token\n  tree      The tree, a line for each node\n  errors    A line for each parse error\n  write     The tree as HTML\n  fragment  The tree of a fragment\n\nOptions:\n  -h, --help  Print help\n",
+        "Reads HTML as the HTML Standard says\n\nUsage: htmlp <COMMAND>\n\nCommands:\n  tokens    A line for each token\n  tree      The tree, a line for each node\n  errors    A line for each parse error\n  write     The tree as HTML\n  fragment  The tree of a fragment\n  plain     Whether a fragment is plain\n\nOptions:\n  -h, --help  Print help\n",
     ),
     (
         &["htmlp", "tokens", "-h"],
@@ -214,7 +224,7 @@ static FAULTS: [(&'static [&'static str], &'static str); 24] = [
 ];
 
 const NO_COMMAND: &str =
-    "error: 'htmlp' requires a subcommand but one was not provided\n  [subcommands: tokens, tree, errors, write, fragment]\n\nUsage: htmlp <COMMAND>\n\nFor more information, try '--help'.\n";
+    "error: 'htmlp' requires a subcommand but one was not provided\n  [subcommands: tokens, tree, errors, write, fragment, plain]\n\nUsage: htmlp <COMMAND>\n\nFor more information, try '--help'.\n";
 
 const PIECE: &str = "--piece is a number from 1 to 65536";
 

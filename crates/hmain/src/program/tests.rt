@@ -97,7 +97,7 @@ type Run = (
     u8,
 );
 
-static RUNS: [Run; 28] = [
+static RUNS: [Run; 31] = [
     (
         &["htmlp", "tokens", "--entities", "table.json"],
         b"b",
@@ -201,6 +201,27 @@ static RUNS: [Run; 28] = [
         "refused: BadContext\n",
         2,
     ),
+    (
+        &["htmlp", "plain", "--in", "div", "page.html"],
+        b"b",
+        "plain\n",
+        "",
+        0,
+    ),
+    (
+        &["htmlp", "plain", "--in=div"],
+        b"<pre>\n\nx</pre>",
+        "not plain\n",
+        "",
+        0,
+    ),
+    (
+        &["htmlp", "plain", "--in=div"],
+        b"<p>x<svg>",
+        "",
+        "refused: OutOfProfile svg at 4\n",
+        2,
+    ),
     (&["htmlp", "tree"], QUIRKY, NO_QUIRKS, "", 0),
     (
         &["htmlp", "tree", "--quirks", "quirks.txt"],
@@ -271,7 +292,7 @@ static RUNS: [Run; 28] = [
         &["htmlp", "--help"],
         b"b",
         "",
-        "Reads HTML as the HTML Standard says\n\nUsage: htmlp <COMMAND>\n\nCommands:\n  tokens    A line for each token\n  tree      The tree, a line for each node\n  errors    A line for each parse error\n  write     The tree as HTML\n  fragment  The tree of a fragment\n\nOptions:\n  -h, --help  Print help\n",
+        "Reads HTML as the HTML Standard says\n\nUsage: htmlp <COMMAND>\n\nCommands:\n  tokens    A line for each token\n  tree      The tree, a line for each node\n  errors    A line for each parse error\n  write     The tree as HTML\n  fragment  The tree of a fragment\n  plain     Whether a fragment is plain\n\nOptions:\n  -h, --help  Print help\n",
         3,
     ),
 ];

@@ -271,7 +271,7 @@ fn reading_goes_on_while_a_character_may_come(rt: HostRuntime) -> Result<(), Fai
 // A task, the element in which an input stands, the input, and the text that it comes to.
 type Row = (Task, Option<&'static str>, &'static [u8], &'static str);
 
-static ROWS: [Row; 11] = [
+static ROWS: [Row; 17] = [
     (
         Task::Tree,
         None,
@@ -329,6 +329,17 @@ static ROWS: [Row; 11] = [
         b"</textarea>&amp;",
         "&lt;/textarea&gt;&amp;",
     ),
+    (
+        Task::Plain,
+        Some("textarea"),
+        b"</textarea>&amp;",
+        "plain\n",
+    ),
+    (Task::Plain, Some("div"), b"<b><b>x</b></b>", "plain\n"),
+    (Task::Plain, Some("div"), b"<pre>\n\nx</pre>", "not plain\n"),
+    (Task::Plain, Some("tr"), b"<td><p>x</td>", "plain\n"),
+    (Task::Plain, Some("ruby"), b"x", "not plain\n"),
+    (Task::Plain, None, b"<p>x", "not plain\n"),
 ];
 
 #[test]
@@ -356,6 +367,7 @@ fn a_context_is_refused_before_anything_is_read(rt: HostRuntime) -> Result<(), F
         (Task::Tree, "svg"),
         (Task::Errors, "colgroup"),
         (Task::Write, "select"),
+        (Task::Plain, "svg"),
         (Task::Tree, ""),
     ] {
         let command = Command {

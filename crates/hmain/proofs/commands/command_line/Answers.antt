@@ -22,4 +22,5 @@ returns c =
     let second = one_command_more _ _ _ _ _ c.in_ok-subcommand-2.ensures c.in_ok-command-2.ensures.local first c.in_ok-command-2.ensures.shape in
     let third = one_command_more _ _ _ _ _ c.in_ok-subcommand-3.ensures c.in_ok-command-3.ensures.local second c.in_ok-command-3.ensures.shape in
     let fourth = one_command_more _ _ _ _ _ c.in_ok-subcommand-4.ensures c.in_ok-command-4.ensures.local third c.in_ok-command-4.ensures.shape in
-    IfOk-weaker c.subcommand-5.result _ _ (λ r adds. one_command_more _ _ _ _ _ adds c.in_ok-command-5.ensures.local fourth c.in_ok-command-5.ensures.shape) c.subcommand-5.ensures
+    let fifth = one_command_more _ _ _ _ _ c.in_ok-subcommand-5.ensures c.in_ok-command-5.ensures.local fourth c.in_ok-command-5.ensures.shape in
+    IfOk-weaker c.subcommand-6.result _ _ (λ r adds. one_command_more _ _ _ _ _ adds c.in_ok-command-6.ensures.local fifth c.in_ok-command-6.ensures.shape) c.subcommand-6.ensures

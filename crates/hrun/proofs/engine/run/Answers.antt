@@ -1,6 +1,6 @@
 use Rattle.hparse.specs.Parsing.{told_by}
 use Rattle.hrun.specs.Command.{name_of}
-use Rattle.hrun.proofs.Tasks.{as_errors, as_html, as_tokens, as_tree}
+use Rattle.hrun.proofs.Tasks.{as_errors, as_html, as_plain, as_tokens, as_tree}
 use Rattle.hrun.proofs.engine.run.Goals as goal
 
 pub returns-in-Tokens : goal.returns-in-Tokens
@@ -22,3 +22,8 @@ pub returns-in-Write : goal.returns-in-Write
 returns-in-Write g c =
     as_html g.S.Source.left g.S.Source.failed g.W.Target.written g.W.Target.failed (name_of c.args.command.context) (told_by c.args.options.now) c.args.command.piece _ _ _ _ _ c.args.command.task
     c.in-Write.is c.run_write.ensures
+
+pub returns-in-Plain : goal.returns-in-Plain
+returns-in-Plain g c =
+    as_plain g.S.Source.left g.S.Source.failed g.W.Target.written g.W.Target.failed (name_of c.args.command.context) (told_by c.args.options.now) c.args.command.piece _ _ _ _ _ c.args.command.task
+    c.in-Plain.is c.run_plain.ensures
