@@ -8,7 +8,7 @@ use crate::plain::{Item, Plain, Spot, Token, What};
 use crate::plain_rules::Sought;
 use crate::popping::Passing;
 use crate::site::Site;
-use hnodes::{Doctype, Kind};
+use hnodes::{Doctype, Kind, NodeId};
 use hopen::Group;
 use names::{Attr, ErrorCode, NameId, Refusal, Tag};
 use std::alloc::Global;
@@ -28,8 +28,10 @@ pub(crate) enum Edit {
     Formatting(NameId, u32),
     Comment(Where),
     Doctype,
-    Text(&'static str),
-    Characters(&'static str),
+    /// The text of a number, as a run.
+    Text(u32),
+    /// .. character by character.
+    Characters(u32),
     /// Attributes for the open node with so many above it.
     Missing(usize, u32),
     Pop,
@@ -64,6 +66,16 @@ fn attributes(number: u32, alloc: Global) -> Result<Vec<Attr>, Refusal> {
         }
     }
     Ok(attrs)
+}
+
+/// The text of a number.
+fn text(number: u32) -> &'static str {
+    match number {
+        0 => "",
+        1 => "x",
+        2 => "\u{E9}\u{1F600}",
+        _ => "a b",
+    }
 }
 
 /// The number of attributes.
@@ -142,12 +154,17 @@ fn add_missing(site: &mut Site, down: usize, attrs: Vec<Attr>) -> Result<(), Ref
     }
 }
 
+/// The node of the item with so many before it.
+fn listed(site: &Site, index: usize) -> Option<NodeId> {
+    let back = site.list.len().wrapping_sub(1).wrapping_sub(index);
+    site.list.get(back).map(|entry| entry.node)
+}
+
 fn remove_entry(site: &mut Site, index: usize)
     ensures { Kept numbers site.old → Kept numbers site.new }
 {
-    let back = site.list.len().wrapping_sub(1).wrapping_sub(index);
-    if let Some(entry) = site.list.get(back) {
-        site.remove_entry(entry.node);
+    if let Some(node) = listed(site, index) {
+        site.remove_entry(node);
     }
 }
 
@@ -167,8 +184,8 @@ impl Edit {
             }
             Edit::Comment(place) => insert_comment(site, place, at, alloc)?,
             Edit::Doctype => insert_doctype(site, at, alloc)?,
-            Edit::Text(run) => site.put_text(run, place, at)?,
-            Edit::Characters(run) => put_each(site, run, at)?,
+            Edit::Text(number) => site.put_text(text(number), place, at)?,
+            Edit::Characters(number) => put_each(site, text(number), at)?,
             Edit::Missing(down, attrs) => add_missing(site, down, attributes(attrs, alloc)?)?,
             Edit::Reconstruct => site.reconstruct(at)?,
             Edit::Adopt(name) => site.adopt(name, at)?,
@@ -224,8 +241,8 @@ impl Edit {
             Edit::Doctype => {
                 plain.add(What::Other(Kind::Doctype), Spot::end(0), at)?;
             }
-            Edit::Text(run) | Edit::Characters(run) => {
-                for c in run.chars() {
+            Edit::Text(number) | Edit::Characters(number) => {
+                for c in text(number).chars() {
                     plain.put(c, plain.appropriate(plain.current()), at)?;
                 }
             }

@@ -94,15 +94,6 @@ impl Supply {
         }
     }
 
-    fn run(&mut self) -> &'static str {
-        match self.pick(4) {
-            0 => "",
-            1 => "x",
-            2 => "\u{E9}\u{1F600}",
-            _ => "a b",
-        }
-    }
-
     /// An edit that makes nodes.
     fn insertion(&mut self) -> Edit {
         match self.pick(16) {
@@ -110,8 +101,8 @@ impl Supply {
             1 => Edit::Comment(Where::Current),
             2 => Edit::Comment(Where::First),
             3 => Edit::Comment(Where::Document),
-            4 | 5 => Edit::Text(self.run()),
-            6 | 7 => Edit::Characters(self.run()),
+            4 | 5 => Edit::Text(self.pick(4)),
+            6 | 7 => Edit::Characters(self.pick(4)),
             8..=11 => Edit::Element(self.name(), self.attrs()),
             _ => Edit::Formatting(self.formatting(), self.attrs()),
         }
@@ -292,15 +283,17 @@ impl Twice {
         let found = self.site.find(name).map(NodeId::index);
         found == self.plain.find(name)
             && self.site.current_is(name) == self.plain.is_named(self.plain.current(), name)
-            && self.site.item_is_near(name) == self.plain.comes_first(sought, Stop::Item)
+            && self.site.item_is_near(name) == self.plain.comes_first(&sought, Stop::Item)
             && self.site.in_scope(Scope::Default, name)
-                == self.plain.comes_first(sought, Stop::Scope(Scope::Default))
+                == self.plain.comes_first(&sought, Stop::Scope(Scope::Default))
             && self.site.in_scope(Scope::ListItem, name)
-                == self.plain.comes_first(sought, Stop::Scope(Scope::ListItem))
+                == self
+                    .plain
+                    .comes_first(&sought, Stop::Scope(Scope::ListItem))
             && self.site.in_scope(Scope::Button, name)
-                == self.plain.comes_first(sought, Stop::Scope(Scope::Button))
+                == self.plain.comes_first(&sought, Stop::Scope(Scope::Button))
             && self.site.in_scope(Scope::Table, name)
-                == self.plain.comes_first(sought, Stop::Scope(Scope::Table))
+                == self.plain.comes_first(&sought, Stop::Scope(Scope::Table))
     }
 
     /// Whether both say the same of a group.
@@ -308,7 +301,8 @@ impl Twice {
         let sought = Sought::Group(group);
         let stop = Stop::Scope(Scope::Table);
         self.site.current_is_of(group) == self.plain.is(self.plain.current(), &sought)
-            && self.site.group_in_scope(Scope::Table, group) == self.plain.comes_first(sought, stop)
+            && self.site.group_in_scope(Scope::Table, group)
+                == self.plain.comes_first(&sought, stop)
     }
 
     /// Up to a hundred edits, until one is refused or the answers differ.
@@ -365,7 +359,7 @@ impl Twice {
     {
         let tree = self.site.tree();
         for child in tree.children(node) {
-            if tree.parent(child) != Some(node) {
+            if !tree.has(child) || tree.parent(child) != Some(node) {
                 return false;
             }
         }

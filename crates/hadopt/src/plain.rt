@@ -20,6 +20,14 @@ pub(crate) enum What {
     Other(Kind),
 }
 
+impl What {
+    /// An element as it is made.
+    pub(crate) fn element(token: Token) -> Self {
+        let attrs = token.attrs;
+        What::Element(token, attrs)
+    }
+}
+
 #[derive(Drop)]
 pub(crate) struct Node {
     pub(crate) what: What,
@@ -263,7 +271,7 @@ impl Plain {
     /// "Insert an HTML element" (13.2.6.1).
     pub(crate) fn insert_element(&mut self, token: Token, at: u64) -> Result<usize, Refusal> {
         let spot = self.appropriate(self.current());
-        let node = self.add(What::Element(token, token.attrs), spot, at)?;
+        let node = self.add(What::element(token), spot, at)?;
         self.push(node, at)?;
         Ok(node)
     }

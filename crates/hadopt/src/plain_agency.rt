@@ -32,7 +32,7 @@ impl Plain {
             self.unlist(formatting);
             return Ok(true);
         };
-        if !self.comes_first(Sought::Node(formatting), Stop::Scope(Scope::Default)) {
+        if !self.comes_first(&Sought::Node(formatting), Stop::Scope(Scope::Default)) {
             self.error(at)?;
             return Ok(true);
         }

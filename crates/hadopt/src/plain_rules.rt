@@ -69,9 +69,9 @@ impl Plain {
     }
 
     /// Whether, up from the current node, what is sought comes before what stops the search (13.2.4.2).
-    pub(crate) fn comes_first(&self, sought: Sought, stop: Stop) -> bool {
+    pub(crate) fn comes_first(&self, sought: &Sought, stop: Stop) -> bool {
         for node in self.open.iter().rev() {
-            if self.is(*node, &sought) {
+            if self.is(*node, sought) {
                 return true;
             }
             if stop.is(self.tag(*node)) {
@@ -131,7 +131,7 @@ impl Plain {
 
     /// "Any other end tag" (13.2.6.4.7).
     pub(crate) fn other_end(&mut self, name: NameId, at: u64) -> Result<(), Refusal> {
-        if self.comes_first(Sought::Name(name), Stop::Special) {
+        if self.comes_first(&Sought::Name(name), Stop::Special) {
             self.close(name, at)
         } else {
             self.error(at)
@@ -200,7 +200,7 @@ impl Plain {
     /// A new element, loose, for the token of another.
     pub(crate) fn make_again(&mut self, node: usize, at: u64) -> Result<usize, Refusal> {
         match self.token(node) {
-            Some(token) => self.make(What::Element(token, token.attrs), at),
+            Some(token) => self.make(What::element(token), at),
             None => Err(Refusal::BadLimits),
         }
     }
