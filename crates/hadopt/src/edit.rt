@@ -117,6 +117,15 @@ fn insert_doctype(site: &mut Site, at: u64, alloc: Global) -> Result<(), Refusal
     Ok(())
 }
 
+fn insert_element(site: &mut Site, name: NameId, attrs: Vec<Attr>, at: u64) -> Result<(), Refusal>
+    requires { Kept numbers site.old }
+    ensures { IfOk result (λ _. Kept numbers site.new) }
+{
+    let place = site.place();
+    site.insert_element(name, attrs, place, at)?;
+    Ok(())
+}
+
 fn insert_formatting(
     site: &mut Site,
     name: NameId,
@@ -131,6 +140,14 @@ fn insert_formatting(
         site.insert_formatting(name, attrs, place, at)?;
     }
     Ok(())
+}
+
+fn put_text(site: &mut Site, run: &str, at: u64) -> Result<(), Refusal>
+    requires { Kept numbers site.old }
+    ensures { IfOk result (λ _. Kept numbers site.new) }
+{
+    let place = site.place();
+    site.put_text(run, place, at)
 }
 
 fn put_each(site: &mut Site, run: &str, at: u64) -> Result<(), Refusal>
@@ -154,6 +171,14 @@ fn add_missing(site: &mut Site, down: usize, attrs: Vec<Attr>) -> Result<(), Ref
     }
 }
 
+fn leave(site: &mut Site, down: usize)
+    ensures { Kept numbers site.old → Kept numbers site.new }
+{
+    if let Some(open) = site.from_top(down) {
+        site.leave(open.node);
+    }
+}
+
 /// The node of the item with so many before it.
 fn listed(site: &Site, index: usize) -> Option<NodeId> {
     let back = site.list.len().wrapping_sub(1).wrapping_sub(index);
@@ -174,32 +199,44 @@ impl Edit {
         requires { Kept numbers site.old }
         ensures { IfOk result (λ _. Kept numbers site.new) }
     {
-        let place = site.place();
         match self {
-            Edit::Element(name, attrs) => {
-                site.insert_element(name, attributes(attrs, alloc)?, place, at)?;
-            }
-            Edit::Formatting(name, attrs) => {
-                insert_formatting(site, name, attributes(attrs, alloc)?, at)?;
-            }
-            Edit::Comment(place) => insert_comment(site, place, at, alloc)?,
-            Edit::Doctype => insert_doctype(site, at, alloc)?,
-            Edit::Text(number) => site.put_text(text(number), place, at)?,
-            Edit::Characters(number) => put_each(site, text(number), at)?,
-            Edit::Missing(down, attrs) => add_missing(site, down, attributes(attrs, alloc)?)?,
-            Edit::Reconstruct => site.reconstruct(at)?,
-            Edit::Adopt(name) => site.adopt(name, at)?,
-            Edit::Close(name) => site.close(name, at)?,
-            Edit::CloseP => site.close_p(at)?,
-            Edit::OtherEnd(name) => site.other_end(name, at)?,
-            Edit::Marker => site.marker()?,
-            Edit::Error => site.error(ErrorCode::TreeInBody, at)?,
-            _ => self.drop_from(site),
+            Edit::Element(name, attrs) => insert_element(site, name, attributes(attrs, alloc)?, at),
+            Edit::Formatting(name, attrs) => insert_formatting(
+                site,
+                name,
+                attributes(attrs, alloc)?,
+                at,
+            ),
+            Edit::Comment(place) => insert_comment(site, place, at, alloc),
+            Edit::Doctype => insert_doctype(site, at, alloc),
+            Edit::Text(number) => put_text(site, text(number), at),
+            Edit::Characters(number) => put_each(site, text(number), at),
+            Edit::Missing(down, attrs) => add_missing(site, down, attributes(attrs, alloc)?),
+            _ => self.close(site, at),
         }
-        Ok(())
     }
 
-    /// .. where it makes nothing and closes nothing.
+    /// .. where it inserts nothing of its own.
+    fn close(self, site: &mut Site, at: u64) -> Result<(), Refusal>
+        requires { Kept numbers site.old }
+        ensures { IfOk result (λ _. Kept numbers site.new) }
+    {
+        match self {
+            Edit::Reconstruct => site.reconstruct(at),
+            Edit::Adopt(name) => site.adopt(name, at),
+            Edit::Close(name) => site.close(name, at),
+            Edit::CloseP => site.close_p(at),
+            Edit::OtherEnd(name) => site.other_end(name, at),
+            Edit::Marker => site.marker(),
+            Edit::Error => site.error(ErrorCode::TreeInBody, at),
+            _ => {
+                self.drop_from(site);
+                Ok(())
+            }
+        }
+    }
+
+    /// .. where it is never refused.
     fn drop_from(self, site: &mut Site)
         ensures { Kept numbers site.old → Kept numbers site.new }
     {
@@ -208,11 +245,7 @@ impl Edit {
             Edit::PopTo(name) => site.pop_to(name),
             Edit::PopToGroup(group) => site.pop_to_group(group),
             Edit::PopPast(passing) => site.pop_past(passing),
-            Edit::Leave(down) => {
-                if let Some(open) = site.from_top(down) {
-                    site.leave(open.node);
-                }
-            }
+            Edit::Leave(down) => leave(site, down),
             Edit::ClearToMarker => site.clear_to_marker(),
             Edit::RemoveEntry(index) => remove_entry(site, index),
             Edit::Foster(on) => site.set_foster(on),
@@ -279,8 +312,17 @@ impl Edit {
         }
     }
 
-    /// Whether html stays open, and what is to be popped is open.
-    pub(crate) fn fits(self, plain: &Plain) -> bool {
+    /// Itself where html stays open and what is to be popped is open, or else an edit that always fits.
+    pub(crate) fn fitting(self, plain: &Plain) -> Edit {
+        let tested = self;
+        if tested.fits(plain) {
+            self
+        } else {
+            Edit::Reconstruct
+        }
+    }
+
+    fn fits(self, plain: &Plain) -> bool {
         match self {
             Edit::Pop => plain.open.len() > 1,
             Edit::PopTo(name) | Edit::Close(name) => plain.is_open(Sought::Name(name)),

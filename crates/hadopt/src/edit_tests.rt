@@ -168,7 +168,8 @@ impl Twice {
         requires { Kept numbers self.old.site }
         ensures { IfOk result (λ both. both ≡ Both.Made → Kept numbers self.new.site) }
     {
-        let wanted = edit.change_plain(&mut self.plain, at);
+        let same = edit;
+        let wanted = same.change_plain(&mut self.plain, at);
         match (edit.change(&mut self.site, at, alloc), wanted) {
             (Ok(()), Ok(())) => Ok(Both::Made),
             (Err(Refusal::Memory), _) | (_, Err(Refusal::Memory)) => Err(Refusal::Memory),
@@ -277,32 +278,37 @@ impl Twice {
         found == Some(self.plain.appropriate(self.plain.current()))
     }
 
+    fn agree_on_scope(&self, scope: Scope, name: NameId) -> bool {
+        let found = self.site.in_scope(scope, name);
+        found
+            == self
+                .plain
+                .comes_first(&Sought::Name(name), Stop::Scope(scope))
+    }
+
+    fn agree_on_item(&self, name: NameId) -> bool {
+        let found = self.site.item_is_near(name);
+        found == self.plain.comes_first(&Sought::Name(name), Stop::Item)
+    }
+
     /// Whether both say the same of a name.
     fn agree_on_name(&self, name: NameId) -> bool {
-        let sought = Sought::Name(name);
-        let found = self.site.find(name).map(NodeId::index);
-        found == self.plain.find(name)
+        self.site.find(name).map(NodeId::index) == self.plain.find(name)
             && self.site.current_is(name) == self.plain.is_named(self.plain.current(), name)
-            && self.site.item_is_near(name) == self.plain.comes_first(&sought, Stop::Item)
-            && self.site.in_scope(Scope::Default, name)
-                == self.plain.comes_first(&sought, Stop::Scope(Scope::Default))
-            && self.site.in_scope(Scope::ListItem, name)
-                == self
-                    .plain
-                    .comes_first(&sought, Stop::Scope(Scope::ListItem))
-            && self.site.in_scope(Scope::Button, name)
-                == self.plain.comes_first(&sought, Stop::Scope(Scope::Button))
-            && self.site.in_scope(Scope::Table, name)
-                == self.plain.comes_first(&sought, Stop::Scope(Scope::Table))
+            && self.agree_on_item(name)
+            && self.agree_on_scope(Scope::Default, name)
+            && self.agree_on_scope(Scope::ListItem, name)
+            && self.agree_on_scope(Scope::Button, name)
+            && self.agree_on_scope(Scope::Table, name)
     }
 
     /// Whether both say the same of a group.
     fn agree_on_group(&self, group: Group) -> bool {
         let sought = Sought::Group(group);
-        let stop = Stop::Scope(Scope::Table);
-        self.site.current_is_of(group) == self.plain.is(self.plain.current(), &sought)
-            && self.site.group_in_scope(Scope::Table, group)
-                == self.plain.comes_first(&sought, stop)
+        let current = self.plain.is(self.plain.current(), &sought);
+        let near = self.plain.comes_first(&sought, Stop::Scope(Scope::Table));
+        current == self.site.current_is_of(group)
+            && near == self.site.group_in_scope(Scope::Table, group)
     }
 
     /// Up to a hundred edits, until one is refused or the answers differ.
@@ -310,15 +316,10 @@ impl Twice {
         requires { Kept numbers self.old.site }
     {
         for at in 0..100 {
-            let edit = supply.edit();
-            let edit = if edit.fits(&self.plain) {
-                edit
-            } else {
-                Edit::Reconstruct
-            };
-            let both = self.edit(edit, at, alloc)?;
-            if both != Both::Made {
-                return Ok(both);
+            let edit = supply.edit().fitting(&self.plain);
+            match self.edit(edit, at, alloc)? {
+                Both::Made => {}
+                other => return Ok(other),
             }
             if !self.agree_on_place()
                 || !self.agree_on_name(supply.name())
