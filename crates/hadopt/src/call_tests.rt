@@ -5,7 +5,7 @@ use crate::popping::Passing;
 use crate::site::Site;
 use hnodes::Doctype;
 use hopen::{Group, Scope};
-use names::{Attr, ErrorCode, NameId, Tag};
+use names::{Attr, ErrorCode, NameId, Refusal, Tag};
 use std::alloc::{AllocError, Global};
 use std::process::Abort;
 use std::test::Fail;
@@ -82,16 +82,19 @@ fn comments_are_inserted(rt: HostRuntime) -> Result<(), Fail> {
     Ok(())
 }
 
+fn doctype(alloc: Global) -> Result<Doctype, AllocError> {
+    Ok(Doctype {
+        name: String::from_str(alloc, "html")?,
+        public_id: String::new(alloc),
+        system_id: String::new(alloc),
+    })
+}
+
 #[test]
 fn a_doctype_is_inserted(rt: HostRuntime) -> Result<(), Fail> {
     let alloc = rt.alloc();
     let mut site = opened("", 100, 100, alloc)?;
-    let texts = Doctype {
-        name: String::from_str(alloc, "html")?,
-        public_id: String::new(alloc),
-        system_id: String::new(alloc),
-    };
-    site.insert_doctype(texts, AT)?;
+    site.insert_doctype(doctype(alloc)?, AT)?;
     assert_eq!(rt; site.tree().made(), 5);
     Ok(())
 }
@@ -183,5 +186,65 @@ fn a_node_is_pushed(rt: HostRuntime) -> Result<(), Fail> {
         site.push(div, AT)?;
     }
     assert_eq!(rt; site.open_count(), 3);
+    Ok(())
+}
+
+/// Each call that makes a node is refused at its own token, and makes none.
+#[test]
+fn a_full_tree_refuses_nodes(rt: HostRuntime) -> Result<(), Fail> {
+    let alloc = rt.alloc();
+    let full = Some(Refusal::TooManyNodes { at: 9 });
+    let b = Tag::B.number();
+    let mut site = opened("", 4, 9, alloc)?;
+    let place = site.place();
+    assert_eq!(rt;
+        site.insert_element(b, Vec::new(alloc), place, 9).err(),
+        full
+    );
+    let place = site.place();
+    assert_eq!(rt;
+        site.insert_formatting(b, Vec::new(alloc), place, 9).err(),
+        full
+    );
+    let place = site.place();
+    assert_eq!(rt;
+        site.insert_comment(String::new(alloc), place, 9).err(),
+        full
+    );
+    let place = site.place();
+    assert_eq!(rt; site.put('x', place, 9).err(), full);
+    let place = site.place();
+    assert_eq!(rt; site.put_text("xy", place, 9).err(), full);
+    assert_eq!(rt; site.insert_doctype(doctype(alloc)?, 9).err(), full);
+    let text = shown(site.tree(), alloc)?;
+    assert_eq!(rt; text.as_str(), "<html><body><div></div></body></html>");
+    Ok(())
+}
+
+/// Each call that opens a node is refused at its own token. An element that was made for it stays in the tree.
+#[test]
+fn a_full_stack_refuses_elements(rt: HostRuntime) -> Result<(), Fail> {
+    let alloc = rt.alloc();
+    let deep = Some(Refusal::TooDeep { at: 9 });
+    let b = Tag::B.number();
+    let mut site = opened("", 9, 3, alloc)?;
+    let place = site.place();
+    assert_eq!(rt;
+        site.insert_element(b, Vec::new(alloc), place, 9).err(),
+        deep
+    );
+    let place = site.place();
+    assert_eq!(rt;
+        site.insert_formatting(b, Vec::new(alloc), place, 9).err(),
+        deep
+    );
+    if let Some(div) = site.current() {
+        assert_eq!(rt; site.push(div, 9).err(), deep);
+    }
+    let text = shown(site.tree(), alloc)?;
+    assert_eq!(rt;
+        text.as_str(),
+        "<html><body><div><b></b><b></b></div></body></html>"
+    );
     Ok(())
 }

@@ -6,6 +6,10 @@ pub mod adopting;
 #[cfg(test)]
 mod call_tests;
 pub mod closing;
+#[cfg(test)]
+mod edit;
+#[cfg(test)]
+mod edit_tests;
 mod edits;
 pub mod insertion;
 pub mod laws;
@@ -13,6 +17,12 @@ pub mod listing;
 #[cfg(test)]
 mod page;
 pub mod places;
+#[cfg(test)]
+mod plain;
+#[cfg(test)]
+mod plain_agency;
+#[cfg(test)]
+mod plain_rules;
 pub mod popping;
 pub mod questions;
 pub mod reconstructing;
