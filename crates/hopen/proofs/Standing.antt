@@ -1,11 +1,8 @@
 -- The kept places under each change of the items.
-use Rattle.std.proofs.Common.{◌≡◌, ℕ, zero, suc, ◌+◌, ◌-◌, add-one, ◌<◌, ◌≤◌, eqb, Bool, true, false, cond, List, [], ◌∷◌, ◌++◌, length, map, reverse, take, drop, get_or, set, ◌⊎◌, inl, inr, refl, sym, ◌∙◌, ap, subst, arith}
-use Rattle.std.proofs.lemmas.Bool.{eqb-true, eqb-false, cases_lt}
-use Rattle.std.proofs.lemmas.List.{get_or-set_same, get_or-set_other, get_or_past, get_or_default, drop-set, drop-drop, drop_at, length-take-le, reverse-append, length-reverse, length-map}
+use Rattle.std.proofs.Common.{◌≡◌, ℕ, zero, suc, ◌+◌, ◌-◌, add-one, ◌<◌, ◌≤◌, cond, List, [], ◌∷◌, ◌++◌, length, map, reverse, take, drop, get_or, set, refl, sym, ◌∙◌, ap, subst, arith}
+use Rattle.std.proofs.lemmas.List.{get_or_default, drop-set, drop-drop, drop_at, length-take-le, reverse-append, length-reverse, length-map}
 use Rattle.std.specs.List.{remove_range}
-use Rattle.std.proofs.Math.Seq.{take-suc, drop-cons}
-use Rattle.hopen.specs.Stack.{OpenNode}
-use Rattle.hopen.specs.Places.{last_place, SaysPlaces}
+use Rattle.hopen.specs.Places.{last_place}
 use Rattle.hopen.specs.NameSets.{is_in, is_in_set, set_place}
 use Rattle.hopen.specs.Kept.{opened_by, stack_of, IsKept, AreKept, Stands, AreIn}
 use Rattle.hopen.specs.declared.kept.Item.{Item}
@@ -86,7 +83,7 @@ module _ (items : List Item) (n j : ℕ) (x : Item) (next : n ≡ suc j) (within
   taken-in last s = stands-in last (take j items) x (subst (λ (xs : List Item). Stands last xs) (take-more items n j x next within is) s)
 
   pub taken-less : (last next : LastPlaces) → Stands last (take n items) → next.names.items ≡ set last.names.items x.opened.name x.same_name → next.nodes.items ≡ set last.nodes.items x.opened.node x.same_node → Stands next (take j items)
-  taken-less last next s names nodes = stands-less last (take j items) x (subst (λ (xs : List Item). Stands last xs) (take-more items n j x next within is) s) next names nodes
+  taken-less last left s names nodes = stands-less last (take j items) x (subst (λ (xs : List Item). Stands last xs) (take-more items n j x next within is) s) left names nodes
 
   pub numbers-more : (names nodes : ℕ) → AreIn names nodes (drop n items) → x.opened.name < names → x.opened.node < nodes → AreIn names nodes (drop j items)
   numbers-more names nodes rest name_in node_in = subst (λ (xs : List Item). AreIn names nodes xs) (sym (drop-more items n j x next within is)) (name_in, node_in, rest)

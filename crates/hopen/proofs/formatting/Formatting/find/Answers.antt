@@ -1,5 +1,4 @@
-use Rattle.std.proofs.Common.{◌≡◌, suc, ◌+◌, ◌-◌, ◌<◌, nat_eq, length, reverse, sym, ◌∙◌, ap, arith}
-use Rattle.std.specs.List.{slice_get}
+use Rattle.std.proofs.Common.{◌≡◌, suc, ◌+◌, ◌-◌, nat_eq, length, reverse, sym, ◌∙◌, ap, arith}
 use Rattle.std.specs.Option.{option_and_then}
 use Rattle.hopen.specs.Chains.{last_of}
 use Rattle.hopen.specs.Formatting.{as_entry, find_entry}
