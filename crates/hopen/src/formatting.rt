@@ -21,10 +21,13 @@ use std::marker::Model;
 const MOST_EQUAL: usize = 3;
 
 /// The list of active formatting elements.
+///
+/// `find`, `get` and `renew` take the same time at any length. `push` compares the new entry with each one after the last marker;
+/// the calls by a node search for its entry from the last one on. An edit in the middle takes a step for each item after it.
 #[derive(Debug, Drop)]
 pub struct Formatting {
     items: Vec<Item>,
-    /// The number of each item.
+    /// The number of each item's name, and that of markers.
     names: Chains,
     alloc: Global,
 }
