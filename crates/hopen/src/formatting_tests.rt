@@ -355,19 +355,6 @@ fn edits_by_hand(rt: HostRuntime) -> Result<(), Fail> {
 }
 
 #[test]
-fn of_many_equal_entries_three_are_left(rt: HostRuntime) -> Result<(), Fail> {
-    let kit = make_kit(rt.alloc())?;
-    let attrs = kit.attrs(5, false, rt.alloc())?;
-    let mut list = Formatting::new(rt.alloc());
-    for turn in 0..100_000 {
-        push(&mut list, &kit, turn % 50, true, &attrs)?;
-    }
-    assert_eq!(rt; list.len(), 3);
-    assert_eq!(rt; list.get(2).map(|entry| entry.node), Some(kit.node(47)));
-    Ok(())
-}
-
-#[test]
 fn copies_keep_their_order(rt: HostRuntime) -> Result<(), Fail> {
     let alloc = rt.alloc();
     let kit = make_kit(alloc)?;
