@@ -1,5 +1,5 @@
 -- The earliest of the entries after the last marker that are sought, by its number from the first item on.
-use Rattle.std.proofs.Common.{◌≡◌, ℕ, suc, ◌<◌, Bool, true, false, not, ◌&&◌, ◌||◌, List, [], ◌∷◌, ◌++◌, Option, Some, None, length, map, refl, sym, ◌∙◌, ap, filter, nat_eq, leb, ◌≤◌, subst, arith, add-one, if◌then◌else◌, is_some, IfSome}
+use Rattle.std.proofs.Common.{◌≡◌, ℕ, suc, ◌-◌, ◌<◌, Bool, true, false, not, ◌&&◌, ◌||◌, List, [], ◌∷◌, ◌++◌, Option, Some, None, length, map, refl, sym, ◌∙◌, ap, filter, nat_eq, leb, ◌≤◌, subst, arith, add-one, if◌then◌else◌, is_some, IfSome}
 use Rattle.std.specs.List.{list_any, remove}
 use Rattle.std.specs.Option.{option_or, option_map_or}
 use Rattle.std.proofs.Math.Seq.{take-append_seam, drop-append-add}
@@ -14,6 +14,7 @@ use Rattle.hopen.specs.declared.entry.Item.TheVariants as stored
 use Rattle.hopen.specs.Formatting.{EntryOf, Item, marker, entry, after_marker, without_earliest, most_equal, is_equal, with_room, pushed}
 use Rattle.hopen.specs.Items.{items_of, item_of, entry_is}
 use Rattle.hopen.proofs.ItemLists.{along_last, items_of_more, length-items_of}
+use Rattle.hopen.proofs.Nearest.{cut_nearest}
 
 module _ {N : Type 0} (sought : EntryOf N → Bool) where
   abbrev pub earliest : List (Item N) → Option ℕ
@@ -105,18 +106,23 @@ room_made new items first many e =
     in rw full (removed_earliest (is_equal nat_eq new) items first e)
 
 -- a new entry comes last, and then the item of this number is removed
-pub pushed_is : (items left : List Stored) (e : Entry) (attrs : List (Attribute ℕ)) (first : Option ℕ)
+pub pushed_is : (items : List Stored) (e : Entry) (attrs : List (Attribute ℕ)) (first : Option ℕ) (new left : List (Item ℕ))
     → map attribute_of e.attrs.items ≡ attrs
     → IfSome first (λ k. k < length items)
     → items_of (option_map_or (λ k. remove items k) first items) ≡ with_room nat_eq (record { node = 0; name = e.name; attrs = attrs }) (items_of items)
-    → left ≡ option_map_or (λ k. remove (items ++ stored.Entry e ∷ []) k) first (items ++ stored.Entry e ∷ [])
-    → items_of left ≡ pushed nat_eq (record { node = e.node; name = e.name; attrs = attrs }) (items_of items)
-pushed_is items left e attrs first same within room edit = ap items_of edit ∙ go first within room
+    → new ≡ entry (entry_is e) ∷ items_of items
+    → left ≡ option_map_or (λ k. remove new (length items - k)) first new
+    → left ≡ pushed nat_eq (record { node = e.node; name = e.name; attrs = attrs }) (items_of items)
+pushed_is items e attrs first new left same within room put cut = cut ∙ ap (λ xs. option_map_or (λ k. remove xs (length items - k)) first xs) put ∙ go first within room
   where
+    copied : ◌≡◌ {A = Item ℕ} (entry (entry_is e)) (entry (record { node = e.node; name = e.name; attrs = attrs }))
+    copied = ap (λ xs. entry (record { node = e.node; name = e.name; attrs = xs })) same
+
     go : (first : Option ℕ) → IfSome first (λ k. k < length items)
         → items_of (option_map_or (λ k. remove items k) first items) ≡ with_room nat_eq (record { node = 0; name = e.name; attrs = attrs }) (items_of items)
-        → items_of (option_map_or (λ k. remove (items ++ stored.Entry e ∷ []) k) first (items ++ stored.Entry e ∷ [])) ≡ pushed nat_eq (record { node = e.node; name = e.name; attrs = attrs }) (items_of items)
-    go None within room = items_of_more items (stored.Entry e) ∙ ap (λ xs. entry (record { node = e.node; name = e.name; attrs = xs }) ∷ items_of items) same ∙ ap (λ seen. entry (record { node = e.node; name = e.name; attrs = attrs }) ∷ seen) room
+        → option_map_or (λ k. remove (entry (entry_is e) ∷ items_of items) (length items - k)) first (entry (entry_is e) ∷ items_of items) ≡ pushed nat_eq (record { node = e.node; name = e.name; attrs = attrs }) (items_of items)
+    go None within room = λ i. copied i ∷ room i
     go (Some k) within room =
-        ap items_of (remove-append_left items (stored.Entry e ∷ []) k within) ∙ items_of_more (remove items k) (stored.Entry e)
-        ∙ ap (λ xs. entry (record { node = e.node; name = e.name; attrs = xs }) ∷ items_of (remove items k)) same ∙ ap (λ seen. entry (record { node = e.node; name = e.name; attrs = attrs }) ∷ seen) room
+        let back : length items - k ≡ suc (length items - 1 - k) = omega arith in
+        let left : remove (items_of items) (length items - 1 - k) ≡ with_room nat_eq (record { node = 0; name = e.name; attrs = attrs }) (items_of items) = sym (cut_nearest item_of items k (length items - 1 - k) (omega arith)) ∙ room in
+        ap (remove (entry (entry_is e) ∷ items_of items)) back ∙ (λ i. copied i ∷ left i)

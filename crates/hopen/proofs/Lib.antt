@@ -7,4 +7,7 @@ pub mod Earliest
 pub mod Bookmarks
 pub mod Spellings
 pub mod Places
+pub mod Tables
 pub mod Standing
+pub mod Chained
+pub mod Listed

@@ -155,6 +155,12 @@ module _ {X Y : Type 0} (f : X → Y) where
       ap (λ l. reverse (map f l)) (set_split items i y (omega arith)) ∙ reverse_around (take i items) (drop (suc i) items) y
       ∙ rw (e, ← get_nearest items i up d (f d) h, ← take_nearest items (suc i) up (omega arith), ← drop_nearest items i (suc up) (omega arith)) (sym (changed_at-split g (reverse (map f items)) up (f d) (omega (arith, length_nearest items))))
 
+  -- a member leaves, where so many are nearer
+  pub cut_nearest : (items : List X) (i up : ℕ) → i + suc up ≡ length items → reverse (map f (remove items i)) ≡ remove (reverse (map f items)) up
+  cut_nearest items i up h =
+      reverse_split (take i items) (drop (suc i) items)
+      ∙ rw (← take_nearest items (suc i) up (omega arith), ← drop_nearest items i (suc up) h) refl
+
   -- a run of members leaves, where so many are nearer
   pub remove_run_nearest : (items : List X) (from to up count : ℕ) → from + count ≡ to → to + up ≡ length items → reverse (map f (remove_range items from to)) ≡ remove_range (reverse (map f items)) up (up + count)
   remove_run_nearest items from to up count h k =
@@ -164,9 +170,7 @@ module _ {X Y : Type 0} (f : X → Y) where
   -- edits of a vector at the nearest that is sought, which has so many nearer than it
   module _ (sought : Y → Bool) where
     pub remove_nearest : (items : List X) (i up : ℕ) → position sought (reverse (map f items)) ≡ Some up → i + suc up ≡ length items → reverse (map f (remove items i)) ≡ without sought (reverse (map f items))
-    remove_nearest items i up s h =
-        reverse_split (take i items) (drop (suc i) items)
-        ∙ rw (← take_nearest items (suc i) up (omega arith), ← drop_nearest items i (suc up) h) (sym ((words sought (reverse (map f items)) up s).without_is))
+    remove_nearest items i up s h = cut_nearest items i up h ∙ sym ((words sought (reverse (map f items)) up s).without_is)
 
     pub change_nearest : (g : Y → Y) (items : List X) (i up : ℕ) (d y : X) → position sought (reverse (map f items)) ≡ Some up → i + suc up ≡ length items → f y ≡ g (f (get_or items i d))
         → reverse (map f (set items i y)) ≡ changed sought g (reverse (map f items))

@@ -1,57 +1,17 @@
 -- The kept places under each change of the items.
-use Rattle.std.proofs.Common.{◌≡◌, ℕ, zero, suc, ◌+◌, ◌-◌, add-one, ◌<◌, ◌≤◌, eqb, Bool, true, false, cond, List, [], ◌∷◌, ◌++◌, length, map, reverse, take, drop, get_or, set, ◌⊎◌, inl, inr, refl, sym, ◌∙◌, ap, subst, arith}
-use Rattle.std.proofs.lemmas.Bool.{eqb-true, eqb-false, cases_lt}
-use Rattle.std.proofs.lemmas.List.{get_or-set_same, get_or-set_other, get_or_past, get_or_default, drop-set, drop-drop, drop_at, length-take-le, reverse-append, length-reverse, length-map}
+use Rattle.std.proofs.Common.{◌≡◌, ℕ, zero, suc, ◌+◌, ◌-◌, add-one, ◌<◌, ◌≤◌, cond, List, [], ◌∷◌, ◌++◌, length, map, reverse, take, drop, get_or, set, refl, sym, ◌∙◌, ap, subst, arith}
+use Rattle.std.proofs.lemmas.List.{get_or_default, drop-set, drop-drop, drop_at, length-take-le, reverse-append, length-reverse, length-map}
 use Rattle.std.specs.List.{remove_range}
-use Rattle.std.proofs.Math.Seq.{take-suc, drop-cons}
-use Rattle.hopen.specs.Stack.{OpenNode}
 use Rattle.hopen.specs.Places.{last_place}
 use Rattle.hopen.specs.NameSets.{is_in, is_in_set, set_place}
-use Rattle.hopen.specs.Kept.{opened_by, stack_of, SaysPlaces, IsKept, AreKept, Stands, AreIn}
+use Rattle.hopen.specs.Kept.{opened_by, stack_of, IsKept, AreKept, Stands, AreIn}
 use Rattle.hopen.specs.declared.kept.Item.{Item}
 use Rattle.hopen.specs.declared.kept.LastPlaces.{LastPlaces}
 use Rattle.hopen.specs.declared.name_sets.NameSet.{NameSet}
 use Rattle.hopen.specs.declared.name_sets.SetPlaces.{SetPlaces}
 use Rattle.names.specs.Tags.{tag_of}
 use Rattle.hopen.proofs.Nearest.{reverse_push, reverse-map}
-
--- One table of places.
-module _ (number : OpenNode ℕ → ℕ) (places : List ℕ) (x : OpenNode ℕ) (above : List (OpenNode ℕ)) where
-  same-eqb : (n : ℕ) → eqb n n ≡ true
-  same-eqb n = go (eqb n n) refl
-    where
-      go : (v : Bool) → eqb n n ≡ v → v ≡ true
-      go true e = refl
-      go false e = absurd (eqb-false n n e refl)
-
-  -- the number of an open node is in the table
-  pub says-in : SaysPlaces number places (x ∷ above) → number x < length places
-  says-in says = go (cases_lt (number x) (length places))
-    where
-      here : get_or places (number x) 0 ≡ suc (length above)
-      here = says (number x) ∙ rw (same-eqb (number x)) refl
-
-      go : (number x < length places) ⊎ (length places ≤ number x) → number x < length places
-      go (inl within) = within
-      go (inr past) = absurd (omega (arith, here, get_or_past places (number x) 0 past))
-
-  -- a node comes
-  pub says-more : SaysPlaces number places above → number x < length places → SaysPlaces number (set places (number x) (suc (length above))) (x ∷ above)
-  says-more says within k = go (eqb (number x) k) refl
-    where
-      go : (v : Bool) → eqb (number x) k ≡ v → get_or (set places (number x) (suc (length above))) k 0 ≡ cond v (suc (length above)) (last_place (λ y. eqb (number y) k) above)
-      go true e = ap (λ m. get_or (set places (number x) (suc (length above))) m 0) (sym (eqb-true (number x) k e)) ∙ get_or-set_same places (number x) (suc (length above)) 0 within
-      go false e = get_or-set_other places (number x) k (suc (length above)) 0 (λ same. eqb-false (number x) k e (sym same)) ∙ says k
-
-  -- it goes, and what it kept is the nearest place
-  pub says-less : SaysPlaces number places (x ∷ above) → (kept : ℕ) → kept ≡ last_place (λ y. eqb (number y) (number x)) above → SaysPlaces number (set places (number x) kept) above
-  says-less says kept is k = go (eqb (number x) k) refl (says k)
-    where
-      go : (v : Bool) → eqb (number x) k ≡ v → get_or places k 0 ≡ cond v (suc (length above)) (last_place (λ y. eqb (number y) k) above) → get_or (set places (number x) kept) k 0 ≡ last_place (λ y. eqb (number y) k) above
-      go true e here =
-          let same : number x ≡ k = eqb-true (number x) k e in
-          ap (λ m. get_or (set places (number x) kept) m 0) (sym same) ∙ get_or-set_same places (number x) kept 0 (says-in says) ∙ is ∙ ap (λ m. last_place (λ y. eqb (number y) m) above) same
-      go false e here = get_or-set_other places (number x) k kept 0 (λ same. eqb-false (number x) k e (sym same)) ∙ here
+use Rattle.hopen.proofs.Tables.{says-in, says-more, says-less, take-more, drop-more}
 
 -- the last item of a vector
 pub stack-more : (items : List Item) (x : Item) → stack_of (items ++ x ∷ []) ≡ opened_by x ∷ stack_of items
@@ -119,23 +79,17 @@ sets-last items front x is kept set =
 
 -- one item of a vector, and those above it
 module _ (items : List Item) (n j : ℕ) (x : Item) (next : n ≡ suc j) (within : j < length items) (is : x ≡ get_or items j x) where
-  take-more : take n items ≡ take j items ++ x ∷ []
-  take-more = ap (λ m. take m items) next ∙ take-suc items j x within ∙ ap (λ y. take j items ++ y ∷ []) (sym is)
-
-  drop-more : drop j items ≡ x ∷ drop n items
-  drop-more = drop-cons items j x within ∙ ap (λ y. y ∷ drop (suc j) items) (sym is) ∙ ap (λ m. x ∷ drop m items) (sym next)
-
   pub taken-in : (last : LastPlaces) → Stands last (take n items) → (x.opened.name < length last.names.items) × (x.opened.node < length last.nodes.items)
-  taken-in last s = stands-in last (take j items) x (subst (λ (xs : List Item). Stands last xs) take-more s)
+  taken-in last s = stands-in last (take j items) x (subst (λ (xs : List Item). Stands last xs) (take-more items n j x next within is) s)
 
   pub taken-less : (last next : LastPlaces) → Stands last (take n items) → next.names.items ≡ set last.names.items x.opened.name x.same_name → next.nodes.items ≡ set last.nodes.items x.opened.node x.same_node → Stands next (take j items)
-  taken-less last next s names nodes = stands-less last (take j items) x (subst (λ (xs : List Item). Stands last xs) take-more s) next names nodes
+  taken-less last left s names nodes = stands-less last (take j items) x (subst (λ (xs : List Item). Stands last xs) (take-more items n j x next within is) s) left names nodes
 
   pub numbers-more : (names nodes : ℕ) → AreIn names nodes (drop n items) → x.opened.name < names → x.opened.node < nodes → AreIn names nodes (drop j items)
-  numbers-more names nodes rest name_in node_in = subst (λ (xs : List Item). AreIn names nodes xs) (sym drop-more) (name_in, node_in, rest)
+  numbers-more names nodes rest name_in node_in = subst (λ (xs : List Item). AreIn names nodes xs) (sym (drop-more items n j x next within is)) (name_in, node_in, rest)
 
   pub numbers-less : (names nodes : ℕ) → AreIn names nodes (drop j items) → (x.opened.name < names) × (x.opened.node < nodes) × AreIn names nodes (drop n items)
-  numbers-less names nodes all = subst (λ (xs : List Item). AreIn names nodes xs) drop-more all
+  numbers-less names nodes all = subst (λ (xs : List Item). AreIn names nodes xs) (drop-more items n j x next within is) all
 
 -- the numbers are in the tables where an item takes the place of another
 pub numbers-replaced : (items : List Item) (i : ℕ) (x : Item) (names nodes : ℕ) → i < length items → AreIn names nodes (drop i items) → x.opened.name < names → x.opened.node < nodes → AreIn names nodes (drop i (set items i x))

@@ -1,8 +1,8 @@
 -- The places that open nodes keep, and the tables of the nearest ones. In a vector of items the current node is the last.
-use Rattle.std.specs.Prelude.{◌≡◌, ℕ, ◌<◌, ◌==◌, List, [], ◌∷◌, map, reverse, slice_index}
+use Rattle.std.specs.Prelude.{◌≡◌, ℕ, ◌<◌, ◌==◌, List, [], ◌∷◌, map, reverse}
 use Rattle.hopen.specs.Stack.{OpenNode}
 use Rattle.hopen.specs.Opens.{open_of}
-use Rattle.hopen.specs.Places.{last_place}
+use Rattle.hopen.specs.Places.{last_place, SaysPlaces}
 use Rattle.hopen.specs.NameSets.{is_in, set_place}
 use Rattle.hopen.specs.declared.kept.Item.{Item}
 use Rattle.hopen.specs.declared.kept.LastPlaces.{LastPlaces}
@@ -14,10 +14,6 @@ opened_by x = open_of x.opened
 -- the nodes that a vector has open, the current one first
 abbrev pub stack_of : List Item → List (OpenNode ℕ)
 stack_of items = reverse (map opened_by items)
-
--- a table says where the nearest node of each number is
-abbrev pub SaysPlaces : (number : OpenNode ℕ → ℕ) → List ℕ → List (OpenNode ℕ) → Type 0
-SaysPlaces number places stack = (k : ℕ) → slice_index places k ≡ last_place (λ x. number x == k) stack
 
 -- what an item keeps, where these nodes are open above it
 pub record IsKept (x : Item) (above : List (OpenNode ℕ)) : Type 0 where

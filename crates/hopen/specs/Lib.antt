@@ -13,3 +13,5 @@ pub mod Spelled
 pub mod Places
 pub mod NameSets
 pub mod Kept
+pub mod Chains
+pub mod Listed

@@ -1,10 +1,11 @@
 //! Entries of the list of active formatting elements, and markers (HTML Standard, 13.2.4.3).
 
-ghost use Rattle.std.specs.Prelude.{◌≡◌, map, nat_eq};
+ghost use Rattle.std.specs.Prelude.{◌≡◌, suc, map, nat_eq};
 ghost use Rattle.hnodes.specs.Rows.{attribute_of};
 ghost use Rattle.std.specs.Option.{option_map};
 ghost use Rattle.hopen.specs.Formatting.{as_entry, for_node, is_entry, is_equal};
 ghost use Rattle.hopen.specs.Items.{entry_is, item_of};
+ghost use Rattle.hopen.specs.Listed.{number_of_item};
 
 use crate::attributes::are_same;
 use hnodes::NodeId;
@@ -28,6 +29,16 @@ impl Entry {
     }
 }
 
+/// The number that a marker has in the place of a name.
+pub(crate) const MARKER: usize = 0;
+
+/// The number of a name among those of items.
+pub(crate) fn name_number(name: NameId) -> usize
+    ensures { result ≡ suc name }
+{
+    name.index() + 1
+}
+
 /// A marker or an entry.
 #[derive(Debug, Drop)]
 pub(crate) enum Item {
@@ -43,6 +54,16 @@ impl Item {
         match self {
             Item::Marker => None,
             Item::Entry(entry) => Some(entry),
+        }
+    }
+
+    /// The number of its name: 0 is that of a marker.
+    pub(crate) fn number(&self) -> usize
+        ensures { result ≡ number_of_item (item_of self.now) }
+    {
+        match self {
+            Item::Marker => MARKER,
+            Item::Entry(entry) => name_number(entry.name),
         }
     }
 

@@ -1,6 +1,6 @@
 //! The list of active formatting elements (HTML Standard, 13.2.4.3).
 
-ghost use Rattle.std.specs.Prelude.{◌≡◌, ℕ, ◌<◌, ◌∷◌, [], IsTrue, OnOk, OnErr, IfSome, find, map, length, nat_eq, position, remove, reverse, slice_get, vec_len, vec_capacity};
+ghost use Rattle.std.specs.Prelude.{◌≡◌, ℕ, ◌<◌, ◌≤◌, ◌∷◌, [], IsTrue, OnOk, OnErr, IfSome, find, insert, map, length, nat_eq, position, remove, reverse, slice_get, slice_index_or, vec_len, vec_capacity};
 ghost use Rattle.std.specs.List.{list_any};
 ghost use Rattle.std.specs.Option.{option_map, option_map_or};
 ghost use Rattle.hnodes.specs.Rows.{attribute_of};
@@ -10,7 +10,8 @@ ghost use Rattle.hopen.specs.Nearest.{changed_at, put_before, without};
 
 use crate::attributes::copy_attrs;
 use crate::bookmark::Bookmark;
-use crate::entry::{Entry, Item};
+use crate::chains::Chains;
+use crate::entry::{Entry, Item, MARKER, name_number};
 use hnodes::NodeId;
 use names::{Attr, NameId};
 use std::alloc::{AllocError, Global};
@@ -20,9 +21,14 @@ use std::marker::Model;
 const MOST_EQUAL: usize = 3;
 
 /// The list of active formatting elements.
+///
+/// `find`, `get` and `renew` take the same time at any length. `push` compares the new entry with each one after the last marker;
+/// the calls by a node search for its entry from the last one on. An edit in the middle takes a step for each item after it.
 #[derive(Debug, Drop)]
 pub struct Formatting {
     items: Vec<Item>,
+    /// The number of each item's name, and that of markers.
+    names: Chains,
     alloc: Global,
 }
 
@@ -37,6 +43,10 @@ impl Model for Formatting {
     ghost coded = { coded_items };
 
     ghost view = { λ f. items_of f.items.items };
+
+    ghost use Rattle.hopen.specs.Listed.{IsListed};
+
+    ghost invariant = { IsListed };
 }
 
 /// The index of the entry that gives way to a new one: the earliest of the equal entries after the last marker, if there are three.
@@ -73,25 +83,30 @@ fn set_node(items: &mut [Item], back: usize, node: NodeId)
     items[index].set_node(node);
 }
 
-/// Removes the entry of a node and returns it. The list then has room for one item.
-fn take(items: &mut Vec<Item>, node: NodeId) -> Item
+/// Removes the entry of a node, and returns the index where it stood and the entry. The list then has room for one item.
+fn take(items: &mut Vec<Item>, node: NodeId) -> (usize, Item)
     requires { IsTrue (list_any (is_entry node) (items_of items.old.items)) }
-    ensures item { Some (item_of result) ≡ find (is_entry node) (items_of items.old.items) }
+    ensures item { Some (item_of result.1) ≡ find (is_entry node) (items_of items.old.items) }
     ensures items { items_of items.new.items ≡ without (is_entry node) (items_of items.old.items) }
     ensures room { vec_len items.new < vec_capacity items.new }
+    ensures within { result.0 < length items.old.items }
+    ensures at { result.1 ≡ slice_index_or items.old.items result.0 result.1 }
+    ensures left { items.new.items ≡ remove items.old.items result.0 }
 {
     let Some(back) = back_of(items, node) else {
         unreachable!()
     };
     let index = items.len() - 1 - back;
-    items.remove(index)
+    (index, items.remove(index))
 }
 
-/// Inserts an item right after the entry of a node.
-fn insert_after(items: &mut Vec<Item>, mark: NodeId, item: Item)
+/// Inserts an item right after the entry of a node, and returns the index where it stands.
+fn insert_after(items: &mut Vec<Item>, mark: NodeId, item: Item) -> usize
     requires mark { IsTrue (list_any (is_entry mark) (items_of items.old.items)) }
     requires room { vec_len items.old < vec_capacity items.old }
-    ensures { items_of items.new.items ≡ put_before (is_entry mark) (item_of item) (items_of items.old.items) }
+    ensures items { items_of items.new.items ≡ put_before (is_entry mark) (item_of item) (items_of items.old.items) }
+    ensures within { result ≤ length items.old.items }
+    ensures put { items.new.items ≡ insert items.old.items result item }
 {
     let Some(back) = back_of(items, mark) else {
         unreachable!()
@@ -100,6 +115,7 @@ fn insert_after(items: &mut Vec<Item>, mark: NodeId, item: Item)
     if items.insert(index, item).is_err() {
         unreachable!()
     }
+    index
 }
 
 impl Formatting {
@@ -109,6 +125,7 @@ impl Formatting {
     {
         Formatting {
             items: Vec::new(alloc),
+            names: Chains::new(alloc),
             alloc,
         }
     }
@@ -121,9 +138,9 @@ impl Formatting {
     {
         let attrs = copy_attrs(self.alloc, attrs)?;
         let earliest = giving_way(&self.items, name, &attrs);
-        self.items.push(Item::Entry(Entry { node, name, attrs }))?;
+        self.put(Item::Entry(Entry { node, name, attrs }))?;
         if let Some(index) = earliest {
-            self.items.remove(index);
+            self.cut(self.len() - 1 - index);
         }
         Ok(())
     }
@@ -133,19 +150,16 @@ impl Formatting {
         ensures ok { OnOk result (self.new ≡ marker ∷ self.old) }
         ensures err { OnErr result (self.new ≡ self.old) }
     {
-        self.items.push(Item::Marker)?;
-        Ok(())
+        self.put(Item::Marker)
     }
 
     /// Removes the last marker and everything after it, or everything if there is no marker (13.2.4.3).
     pub fn clear(&mut self)
         ensures { self.new ≡ cleared self.old }
     {
-        while let Some(item) = self.items.pop() {
-            if let Item::Marker = item {
-                return;
-            }
-        }
+        let len = self.names.last(MARKER).saturating_sub(1);
+        self.names.truncate(len);
+        self.items.truncate(len);
     }
 
     /// How many items there are.
@@ -159,14 +173,11 @@ impl Formatting {
     pub fn find(&self, name: NameId) -> Option<&Entry>
         ensures { option_map (λ e. entry_is e.now) result ≡ find_entry nat_eq name self.now }
     {
-        let mut rest = self.items.as_slice();
-        while let Some((Item::Entry(entry), before)) = rest.split_last() {
-            if entry.name == name {
-                return Some(entry);
-            }
-            rest = before;
+        let place = self.names.last(name_number(name));
+        if place <= self.names.last(MARKER) {
+            return None;
         }
-        None
+        self.items[place - 1].entry()
     }
 
     /// The entry of a node; `None` if it has no entry.
@@ -200,15 +211,17 @@ impl Formatting {
     pub fn remove(&mut self, node: NodeId)
         ensures { self.new ≡ without_entry node self.old }
     {
-        self.items.retain(|item| !item.is_of(node));
+        while let Some(back) = self.back(node) {
+            self.cut(back);
+        }
     }
 
     /// Sets the node of a node's entry, which was made for the same token; does nothing if there is no such entry.
     pub fn replace(&mut self, from: NodeId, to: NodeId)
         ensures { self.new ≡ with_node from to self.old }
     {
-        if let Some(back) = back_of(&self.items, from) {
-            set_node(&mut self.items, back, to);
+        if let Some(back) = self.back(from) {
+            self.renew(back, to);
         }
     }
 
@@ -230,10 +243,41 @@ impl Formatting {
         match bookmark {
             Bookmark::InPlace => self.replace(from, to),
             Bookmark::After(mark) => {
-                let mut item = take(&mut self.items, from);
+                let (old, mut item) = take(&mut self.items, from);
                 item.set_node(to);
-                insert_after(&mut self.items, mark, item);
+                let new = insert_after(&mut self.items, mark, item);
+                self.names.shift(old, new);
             }
         }
+    }
+
+    /// How many items come after the entry of a node; `None` if it has no entry.
+    fn back(&self, node: NodeId) -> Option<usize>
+        ensures { result ≡ position (is_entry node) self.now }
+    {
+        back_of(&self.items, node)
+    }
+
+    /// Adds an item at the end. On an error nothing changes.
+    fn put(&mut self, item: Item) -> Result<(), AllocError>
+        ensures ok { OnOk result (self.new ≡ item_of item ∷ self.old) }
+        ensures err { OnErr result (self.new ≡ self.old) }
+    {
+        self.items.reserve(1)?;
+        self.names.push(item.number())?;
+        if self.items.push(item).is_err() {
+            unreachable!()
+        }
+        Ok(())
+    }
+
+    /// Removes the item with `back` items after it.
+    fn cut(&mut self, back: usize)
+        requires { back < length self.old }
+        ensures { self.new ≡ remove self.old back }
+    {
+        let index = self.items.len() - 1 - back;
+        self.names.remove(index);
+        self.items.remove(index);
     }
 }

@@ -3,6 +3,7 @@
 
 pub mod attributes;
 pub mod bookmark;
+mod chains;
 pub mod entry;
 #[cfg(test)]
 mod fixed;

@@ -9,8 +9,8 @@ pub unreachable-requires : goal.unreachable-requires
 unreachable-requires c =
     not_missing c.args.mark c.args.items.now.items c.requires.mark (back_is c.args.mark c.args.items.now.items c.deref.result.now c.back_of.result c.deref.ensures.value c.back_of.ensures ∙ c.in_default.is)
 
-pub returns : goal.returns
-returns c =
+pub returns-clause-items : goal.returns-clause-items
+returns-clause-items c =
     let found = back_is c.args.mark c.args.items.now.items c.deref.result.now c.back_of.result c.deref.ensures.value c.back_of.ensures ∙ c.in-Some.is in
     let within : c.in-Some.back < length c.args.items.now.items = back_within c.args.mark c.args.items.now.items c.in-Some.back found in
     let at : (c.len.result - 1 - c.in-Some.back) + 1 ≡ c.len.result - c.in-Some.back = omega arith in

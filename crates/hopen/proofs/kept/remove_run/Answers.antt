@@ -1,7 +1,5 @@
-use Rattle.std.proofs.Common.{rules, ◌≡◌, ◌≤◌, length, drop, List, ◌∙◌, ap, sym, subst}
-use Rattle.std.specs.List.{remove_range}
+use Rattle.std.proofs.Common.{rules, length, drop}
 use Rattle.hopen.specs.Kept.{AreIn}
-use Rattle.hopen.specs.declared.kept.Item.{Item}
 use Rattle.hopen.proofs.Standing.{numbers-left}
 use Rattle.hopen.proofs.kept.remove_run.Goals as goal
 

@@ -1,4 +1,4 @@
-use Rattle.std.proofs.Common.{◌≡◌, ◌≤◌, ◌+◌, ◌-◌, ℕ, length, ap, sym, ◌∙◌, arith, reverse, List}
+use Rattle.std.proofs.Common.{◌≡◌, ◌+◌, ◌-◌, ℕ, length, ap, sym, ◌∙◌, arith, reverse}
 use Rattle.std.specs.List.{remove_range}
 use Rattle.hopen.specs.Stack.{OpenNodes}
 use Rattle.hopen.specs.Kept.{opened_by}
