@@ -2,3 +2,4 @@ pub mod InRun
 pub mod Looping
 pub mod OnePut
 pub mod PlainRun
+pub mod Root

@@ -1,0 +1,27 @@
+-- A fragment's root element fits into each tree that may be built.
+use Rattle.std.proofs.Common.{◌≡◌, ℕ, ◌≤◌, Bool, true, false, List, length, refl, sym, ap, ◌∙◌, arith}
+use Rattle.std.specs.Prelude.{nat_le}
+use Rattle.std.proofs.lemmas.Bool.Decides.{nat_tests}
+use Rattle.names.specs.declared.refusal.Refusal.{Refusal}
+use Rattle.hnodes.specs.Forest.{Attribute}
+use Rattle.hnodes.specs.declared.node.Place.{Place}
+use Rattle.hadopt.specs.Inserts.{inserted}
+use Rattle.hadopt.specs.Site.{Outcome, Goes, Refused, SiteOf, stack}
+
+pub above_one : (n : ℕ) → 16 ≤ n → nat_le n 1 ≡ false
+above_one n h = grind (arith, nat_tests)
+
+pub above_none : (n : ℕ) → 16 ≤ n → nat_le n 0 ≡ false
+above_none n h = grind (arith, nat_tests)
+
+abbrev is_refused : Outcome (SiteOf ℕ) → Bool
+is_refused (Goes x) = false
+is_refused (Refused r) = true
+
+-- an element is inserted where one node more and one open element more may be there
+pub fits : (at name : ℕ) (attrs : List (Attribute ℕ)) (to : Place) (x : SiteOf ℕ) (e : Refusal) → nat_le x.nodes.limit x.nodes.made ≡ false → nat_le x.open_nodes.limit (length (stack x)) ≡ false
+    → inserted at name attrs to x ≡ Refused e → ⊥
+fits at name attrs to x e some_node some_open wrong =
+    let goes : is_refused (inserted at name attrs to x) ≡ false = rw (some_node, some_open) refl in
+    let never : true ≡ false = sym (ap is_refused wrong) ∙ goes in
+    absurd cc
