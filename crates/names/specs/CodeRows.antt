@@ -7,11 +7,11 @@ use Rattle.names.specs.declared.error.ErrorCode.{ErrorCode}
 use Rattle.names.specs.declared.error.ErrorCode.TheVariants as code
 use Rattle.names.specs.Codes.{code_text, code_rank}
 
-abbrev input_codes : List ErrorCode
+abbrev pub input_codes : List ErrorCode
 input_codes =
     code.ControlCharacterInInputStream ∷ code.NoncharacterInInputStream ∷ []
 
-abbrev token_codes : List ErrorCode
+abbrev pub token_codes : List ErrorCode
 token_codes =
     code.AbruptClosingOfEmptyComment ∷ code.AbruptDoctypePublicIdentifier ∷ code.AbruptDoctypeSystemIdentifier ∷
     code.AbsenceOfDigitsInNumericCharacterReference ∷ code.CdataInHtmlContent ∷ code.CharacterReferenceOutsideUnicodeRange ∷
@@ -27,7 +27,7 @@ token_codes =
     code.UnexpectedCharacterInUnquotedAttributeValue ∷ code.UnexpectedEqualsSignBeforeAttributeName ∷ code.UnexpectedNullCharacter ∷
     code.UnexpectedQuestionMarkInsteadOfTagName ∷ code.UnexpectedSolidusInTag ∷ code.UnknownNamedCharacterReference ∷ []
 
-abbrev tree_codes : List ErrorCode
+abbrev pub tree_codes : List ErrorCode
 tree_codes =
     code.NonVoidHtmlElementStartTagWithTrailingSolidus ∷ code.TreeAfterAfterBody ∷ code.TreeAfterBody ∷ code.TreeAfterHead ∷ code.TreeBeforeHead ∷
     code.TreeBeforeHtml ∷ code.TreeInBody ∷ code.TreeInCaption ∷ code.TreeInCell ∷ code.TreeInColumnGroup ∷ code.TreeInHead ∷
