@@ -1,12 +1,12 @@
 -- Runs of bytes, seen a vector at a time through the mask of those that end them.
-use Rattle.std.proofs.Common.{◌≡◌, ℕ, zero, suc, ◌+◌, ◌-◌, ◌*◌, ◌%◌, ◌^◌, ◌<◌, ◌≤◌, ltb, leb, Bool, true, false, not, cond, eqb, T, ◌&&◌, List, [], ◌∷◌, map, length, drop, replicate, refl, sym, ap, ap₂, ◌∙◌, subst, arith, w8, Fits}
-use Rattle.std.proofs.lemmas.Simd.{chunk-drop, length-chunk, zip2_splat, zip2_of_maps, map-map, mask_l-mod, leading_from_mask_l, trailing_mask_l}
-use Rattle.std.proofs.lemmas.List.{length-map}
+use Rattle.std.proofs.Common.{◌≡◌, ℕ, zero, suc, ◌+◌, ◌*◌, ◌/◌, ◌%◌, ◌^◌, ◌<◌, ◌≤◌, Bool, true, false, not, cond, eqb, T, ◌&&◌, List, [], ◌∷◌, map, length, drop, get_or, replicate, bit_and, refl, sym, ap, ap₂, ◌∙◌, subst, arith, w8, Fits}
+use Rattle.std.proofs.lemmas.Simd.{chunk-drop, length-chunk, zip2_splat, map-map, mask_l-mod, leading_from_mask_l, trailing_mask_l, swz_l, SwzOk, SwzOk-from_below, length-swz_l, get_or-swz_l_below, length-zip2, Each1-all, Each1-weaker, Each1-zip2, Each1-get_or, Each2-splat, below_from_Fits}
+use Rattle.std.proofs.lemmas.List.{length-map, get_or-map, ext_get_or}
+use Rattle.std.proofs.lemmas.Nat.{and_le_r}
 use Rattle.std.proofs.lemmas.List.Folds.{prefix_len-append}
 use Rattle.std.proofs.lemmas.List.Sums.{prefix_len-le-length}
 use Rattle.std.proofs.lemmas.Bool.{eq-eqb, ne_eqb, eqb-true, eqb-false}
 use Rattle.std.specs.List.{prefix_len}
-use lib.Bits.{bit_or}
 use lib.Lanes.{zip2, chunk, mask_l, top, Each1}
 use lib.Count.{count_trailing_zeros}
 
@@ -15,20 +15,43 @@ use lib.Count.{count_trailing_zeros}
 abbrev pub hit : ℕ → ℕ → ℕ
 hit a b = cond (eqb a b) 255 0
 
-abbrev pub below : ℕ → ℕ → ℕ
-below a b = cond (ltb a b) 255 0
+-- the comparison with a splat of what is computed lane by lane
+pub hit_of : (f : ℕ → ℕ) (y n : ℕ) (v : List ℕ) {a : List ℕ} → length v ≡ n → a ≡ map f v → zip2 hit a (replicate n y) ≡ map (λ x. hit (f x) y) v
+hit_of f y n v long p = ap (λ a. zip2 hit a (replicate n y)) p ∙ zip2_splat hit (map f v) n y (length-map v f ∙ long) ∙ map-map (λ x. hit x y) f v
 
-abbrev pub at_most : ℕ → ℕ → ℕ
-at_most a b = cond (leb a b) 255 0
+-- LOOK-UPS IN A TABLE OF 16
 
-abbrev pub less_by : ℕ → ℕ → ℕ
-less_by a b = (a + (256 - b)) % 256
+abbrev pub AreBytes : List ℕ → Type 0
+AreBytes v = (length v ≡ 16) × Each1 (Fits w8) v
 
-pub either : (f g : ℕ → ℕ) (v : List ℕ) {a b : List ℕ} → a ≡ map f v → b ≡ map g v → zip2 bit_or a b ≡ map (λ x. bit_or (f x) (g x)) v
-either f g v p q = zip2_of_maps bit_or f g v p q
+abbrev pub down : ℕ → ℕ → ℕ
+down a b = a / 2 ^ b
 
-pub under : (f : ℕ → ℕ) (y n : ℕ) (v : List ℕ) {a : List ℕ} → length v ≡ n → a ≡ map f v → zip2 below a (replicate n y) ≡ map (λ x. below (f x) y) v
-under f y n v long p = ap (λ a. zip2 below a (replicate n y)) p ∙ zip2_splat below (map f v) n y (length-map v f ∙ long) ∙ map-map (λ x. below x y) f v
+pub low_half : (v : List ℕ) → AreBytes v → SwzOk w8 16 16 0 (zip2 bit_and v (replicate 16 15))
+low_half v are =
+    let small = Each1-all (λ a. bit_and a 15 < 16) (λ a. omega (arith, and_le_r a 15)) v in
+    SwzOk-from_below w8 16 1 16 0 (zip2 bit_and v (replicate 16 15)) refl (omega (arith, length-zip2 bit_and v (replicate 16 15) are.0))
+    (Each1-zip2 bit_and (λ j. j < 16) v (replicate 16 15) (Each2-splat (λ a b. bit_and a b < 16) v 16 15 small))
+
+pub high_half : (v : List ℕ) → AreBytes v → SwzOk w8 16 16 0 (zip2 down v (replicate 16 4))
+high_half v are =
+    let small = Each1-weaker (λ a. a < 256) (λ a. a / 16 < 16) (λ a h. omega arith) v (below_from_Fits w8 v are.1) in
+    SwzOk-from_below w8 16 1 16 0 (zip2 down v (replicate 16 4)) refl (omega (arith, length-zip2 down v (replicate 16 4) are.0))
+    (Each1-zip2 down (λ j. j < 16) v (replicate 16 4) (Each2-splat (λ a b. down a b < 16) v 16 4 small))
+
+-- a table that is read at places g x below 16
+pub looked_up : (table : List ℕ) (g : ℕ → ℕ) (v : List ℕ) {places : List ℕ} → AreBytes v → places ≡ map g v → ((x : ℕ) → x < 256 → g x < 16)
+    → swz_l w8 16 table 0 places ≡ map (λ x. get_or table (g x) 0) v
+looked_up table g v {places} are e small =
+    let long : length places ≡ 16 = ap length e ∙ length-map v g ∙ are.0 in
+    let same : length (swz_l w8 16 table 0 places) ≡ 16 = length-swz_l w8 16 table 0 places ∙ long in
+    ext_get_or 0 _ _ (same ∙ sym (length-map v (λ x. get_or table (g x) 0) ∙ are.0)) (λ i h.
+    let within : i < length v = omega (arith, same, are.0) in
+    let is : get_or places i 0 ≡ g (get_or v i 0) = ap (λ l. get_or l i 0) e ∙ get_or-map g v i 0 0 within in
+    let fits = (Each1-get_or (Fits w8) v i 0 within are.1).fits in
+    let below : get_or places i 0 < 16 = omega (arith, is, small (get_or v i 0) fits) in
+    get_or-swz_l_below w8 16 table 0 places i (omega arith) below
+    ∙ ap (λ k. get_or table k 0) (omega arith ∙ is) ∙ sym (get_or-map (λ x. get_or table (g x) 0) v i 0 0 within))
 
 -- A TEST OF EACH BYTE
 

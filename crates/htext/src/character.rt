@@ -29,7 +29,12 @@ pub(crate) fn hand_char<S: CharSink>(
     if is_plain(ch) {
         return sink.take_char(ch, at);
     }
-    hand_special(bom, after_return, ch, at, sink)
+    match ch {
+        '\n' if after_return => Ok(()),
+        '\r' => sink.take_char('\n', at),
+        _ if is_dropped_mark(bom, ch, at) => Ok(()),
+        _ => hand_read(ch, at, sink),
+    }
 }
 
 // Whether a character is in the text as it came, wherever it stands, and raises no error.
@@ -41,28 +46,7 @@ fn is_plain(ch: char) -> bool
     matches!(ch, ' '..='~' | '\u{A0}'..='\u{FDCF}')
 }
 
-// The same as `hand_char`, for any character.
-#[inline(never)]
-fn hand_special<S: CharSink>(
-    bom: Bom,
-    after_return: bool,
-    ch: char,
-    at: u64,
-    sink: &mut S,
-) -> Result<(), Refusal>
-    requires { at < MAX_INPUT }
-    ensures { Hands S.gives sink.old
-        (items (read_as bom after_return (record { ch = ch; at = at }))) result sink.new }
-{
-    if is_dropped_mark(bom, ch, at) || (after_return && ch == '\n') {
-        return Ok(());
-    }
-    if ch == '\r' {
-        return hand_read('\n', at, sink);
-    }
-    hand_read(ch, at, sink)
-}
-
+#[inline]
 fn is_dropped_mark(bom: Bom, ch: char, at: u64) -> bool
     ensures { result ≡ is_dropped_mark bom (record { ch = ch; at = at }) }
 {
@@ -73,6 +57,7 @@ fn is_dropped_mark(bom: Bom, ch: char, at: u64) -> bool
 }
 
 // Hands over a character of the text, after its errors.
+#[inline(never)]
 fn hand_read<S: CharSink>(ch: char, at: u64, sink: &mut S) -> Result<(), Refusal>
     requires { at < MAX_INPUT }
     ensures { Hands S.gives sink.old (items_of (record { ch = ch; at = at })) result sink.new }

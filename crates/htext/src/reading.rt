@@ -1,7 +1,8 @@
 //! How far an input has been read.
 
-ghost use Rattle.std.specs.Prelude.{◌≡◌, ℕ, ◌+◌, ◌-◌, ◌<◌, ◌≤◌, ◌++◌, true, false, List, length, take, drop, Ok, Err, IfOk, OnOk, MatchResult};
+ghost use Rattle.std.specs.Prelude.{◌≡◌, ℕ, ◌+◌, ◌-◌, ◌<◌, ◌≤◌, ◌++◌, true, false, List, [], length, take, drop, Ok, Err, IfOk, OnOk, MatchOption, MatchResult};
 ghost use Rattle.std.specs.List.{list_all};
+ghost use Rattle.std.specs.Char.{encode_utf8};
 ghost use Rattle.std.specs.Str.{chars};
 ghost use Rattle.std.specs.Str.Lossy.{utf8_valid_len};
 ghost use Rattle.names.specs.Placed.{placed};
@@ -77,7 +78,7 @@ impl Reading {
         let mut rest = text;
         let mut place = self.read;
         let mut after_return = self.after_return;
-        while let Some(ch) = rest.chars().next() {
+        while let Some((ch, after)) = split_first(rest) {
             let run = run_at(rest, ch, after_return);
             if run > 0 {
                 sink.take_run(&rest[..run], place)?;
@@ -87,8 +88,8 @@ impl Reading {
             }
             hand_char(self.bom, after_return, ch, place, sink)?;
             after_return = ch == '\r';
-            place += ch.len_utf8() as u64;
-            rest = &rest[ch.len_utf8()..];
+            place += (rest.len() - after.len()) as u64;
+            rest = after;
         }
         self.after_return = after_return;
         self.read = place;
@@ -96,15 +97,26 @@ impl Reading {
     }
 }
 
+/// The first character of a text, and what follows it.
+#[inline]
+fn split_first(text: &str) -> Option<(char, &str)>
+    ensures { MatchOption result (text.now ≡ [])
+        (λ it. (text.now ≡ encode_utf8 it.0 ++ it.1.now) × (length it.1.now < length text.now)) }
+{
+    let mut chars = text.chars();
+    let first = chars.next()?;
+    Some((first, chars.as_str()))
+}
+
 /// How many plain characters stand at the front of a text that begins with this one; none after a CR, where an LF is not handed
-/// over.
+/// over. At a character that often ends a run, none are looked for.
 #[inline]
 fn run_at(text: &str, first: char, after_return: bool) -> usize
     ensures within { result ≤ length text.now }
     ensures plain { list_all is_plain_byte (take result text.now) ≡ true }
     ensures after_return { 0 < result → after_return ≡ false }
 {
-    if after_return || first > '~' {
+    if after_return || matches!(first, '<' | '&' | '\u{7F}'..) {
         0
     } else {
         plain_run(text.as_bytes())

@@ -7,18 +7,26 @@ ghost use Rattle.htext.specs.Run.{is_plain_byte, is_no_plain_byte};
 
 use std::simd::prelude::*;
 
+// The plain bytes by their halves: a bit for each kind of high half, 1 for 0, 2 for 2, 4 for 3, 8 for 4 to 6, and 16 for 7.
+// A byte is plain where its low half has the bit of its high one.
+const BY_LOW: [u8; 16] = [
+    30, 30, 30, 30, 30, 30, 28, 30, 30, 31, 31, 30, 27, 30, 30, 14,
+];
+
+const BY_HIGH: [u8; 16] = [1, 0, 2, 4, 8, 8, 8, 16, 0, 0, 0, 0, 0, 0, 0, 0];
+
 /// Counts the bytes before the first one that is not plain: `<`, `&`, or any but tab, LF, FF and 20 to 7E. Each of the bytes
 /// before it is a character that stands in the text as it came, unless it is an LF after a CR.
 pub fn plain_run(bytes: &[u8]) -> usize
     ensures { result ≡ prefix_len is_plain_byte bytes.now }
 {
     let mut count = 0;
-    while bytes.len() - count >= 32 {
-        let found = stops(u8x32::from_slice(&bytes[count..]));
+    while bytes.len() - count >= 16 {
+        let found = stops(u8x16::from_slice(&bytes[count..]));
         if found != 0 {
             return count + found.trailing_zeros() as usize;
         }
-        count += 32;
+        count += 16;
     }
     count + plain_run_by_one(&bytes[count..])
 }
@@ -38,15 +46,12 @@ fn plain_run_by_one(bytes: &[u8]) -> usize
 
 /// Which of these bytes are not plain: a bit for each, the lowest for the first.
 #[inline(always)]
-fn stops(bytes: u8x32) -> u64
+fn stops(bytes: u8x16) -> u64
     ensures { result ≡ mask_l (map is_no_plain_byte bytes) }
 {
-    (bytes.simd_lt(u8x32::splat(b'\t'))
-        | bytes.simd_eq(u8x32::splat(0x0B))
-        | (bytes - u8x32::splat(b'\r')).simd_lt(u8x32::splat(19))
-        | bytes.simd_eq(u8x32::splat(b'&'))
-        | bytes.simd_eq(u8x32::splat(b'<'))
-        | bytes.simd_ge(u8x32::splat(0x7F))).to_bitmask()
+    let low = u8x16::from_array(BY_LOW).swizzle_dyn(bytes & u8x16::splat(15));
+    let high = u8x16::from_array(BY_HIGH).swizzle_dyn(bytes >> u8x16::splat(4));
+    (low & high).simd_eq(u8x16::splat(0)).to_bitmask()
 }
 
 /// Whether a byte is plain.

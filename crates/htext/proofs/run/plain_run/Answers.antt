@@ -7,10 +7,10 @@ use Rattle.htext.proofs.run.plain_run.Goals as goal
 pub returns-then-found-ne0 : goal.returns-then-found-ne0
 returns-then-found-ne0 c =
     let found = c.stops-found in
-    let run = run_stops is_plain_byte c.args.bytes.now c.loop-count.count 32 (omega arith) (omega arith) (omega (arith, found.ensures)) ∙ ap (count_trailing_zeros 64) (sym found.ensures) in
+    let run = run_stops is_plain_byte c.args.bytes.now c.loop-count.count 16 (omega arith) (omega arith) (omega (arith, found.ensures)) ∙ ap (count_trailing_zeros 64) (sym found.ensures) in
     omega (arith, run, c.loop-count.invariant.counted)
 
 pub loop-count-preserved : goal.loop-count-preserved
 loop-count-preserved c =
-    let run = run_through is_plain_byte c.args.bytes.now c.loop-count.count 32 (omega arith) (omega (arith, c.stops-found.ensures)) in
+    let run = run_through is_plain_byte c.args.bytes.now c.loop-count.count 16 (omega arith) (omega (arith, c.stops-found.ensures)) in
     record { counted = omega (arith, run, c.loop-count.invariant.counted); within = omega arith }

@@ -1,8 +1,8 @@
-use Rattle.std.proofs.Common.{◌≡◌, ℕ, List, length, drop, sym, ap, ◌∙◌, arith}
+use Rattle.std.proofs.Common.{◌≡◌, ℕ, ◌-◌, List, length, sym, ap, ◌∙◌, arith}
 use Rattle.std.proofs.lemmas.Result.{err_from_is_err_and}
 use Rattle.std.proofs.lemmas.Str.{IsCharBoundary-from_drop, IsUtf8-past_char, chars_past_char, length-encode, chars-nil}
-use Rattle.std.proofs.lemmas.List.{length-append, length-drop, drop_at, nil_from_length}
-use Rattle.std.specs.Char.{encode_utf8}
+use Rattle.std.proofs.lemmas.List.{length-append, length-drop}
+use Rattle.std.specs.Char.{encode_utf8, len_utf8}
 use Rattle.std.specs.Str.{chars}
 use Rattle.htext.specs.Text.{ends_in_return}
 use Rattle.htext.proofs.Handing.{hand_more, hand_refused, hand_all}
@@ -42,39 +42,25 @@ loop-ch-preserved-then-run-gt0 g c =
 
 pub returns-in_err-hand_char-clause-handed : goal.returns-in_err-hand_char-clause-handed
 returns-in_err-hand_char-clause-handed g c =
-    let is = sym c.chars.ensures.rest ∙ c.in-Some.ensures.steps.0 in
     let e = err_from_is_err_and c.from_residual-in_err-hand_char.result c.from_residual-in_err-hand_char.ensures.1 in
-    rw (e.1, e.2) (hand_refused g.S.CharSink.gives _ _ _ c.loop-ch.sink _ _ _ c.loop-ch.invariant.handed c.in-Some.ch _ _ c.in_err-hand_char.field-0.0 c.loop-ch.invariant.utf8 is c.in_err-hand_char.ensures)
-
-pub range_from-rest-requires-in-Some : goal.range_from-rest-requires-in-Some
-range_from-rest-requires-in-Some g c = λ _.
-    let is = sym c.chars.ensures.rest ∙ c.in-Some.ensures.steps.0 in
-    let bytes = c.loop-ch.rest.now in
-    let n = c.len_utf8-in-Some.result in
-    let past : drop n bytes ≡ c.next.new.self.rest.now = ap (drop n) is ∙ drop_at (encode_utf8 c.in-Some.ch) c.next.new.self.rest.now n (length-encode c.in-Some.ch ∙ sym c.len_utf8-in-Some.ensures.value) in
-    IsCharBoundary-from_drop bytes n (omega (arith, ap length is, length-append (encode_utf8 c.in-Some.ch) c.next.new.self.rest.now, length-encode c.in-Some.ch, c.len_utf8-in-Some.ensures.value))
-    (rw past (IsUtf8-past_char bytes c.next.new.self.rest.now c.in-Some.ch c.loop-ch.invariant.utf8 is))
+    rw (e.1, e.2) (hand_refused g.S.CharSink.gives _ _ _ c.loop-ch.sink _ _ _ c.loop-ch.invariant.handed c.in-Some.ch _ _ c.in_err-hand_char.field-0.0 c.loop-ch.invariant.utf8 c.in-Some.ensures.0 c.in_err-hand_char.ensures)
 
 pub loop-ch-preserved : goal.loop-ch-preserved
 loop-ch-preserved g c =
-    let is = sym c.chars.ensures.rest ∙ c.in-Some.ensures.steps.0 in
+    let is = c.in-Some.ensures.0 in
     let bytes = c.loop-ch.rest.now in
-    let n = c.len_utf8-in-Some.result in
-    let past : drop n bytes ≡ c.next.new.self.rest.now = ap (drop n) is ∙ drop_at (encode_utf8 c.in-Some.ch) c.next.new.self.rest.now n (length-encode c.in-Some.ch ∙ sym c.len_utf8-in-Some.ensures.value) in
-    let left = c.range_from-rest-in-Some.ensures.value ∙ past in
+    let after = c.in-Some.after.now in
+    let long : length bytes - length after ≡ len_utf8 c.in-Some.ch = omega (arith, ap length is, length-append (encode_utf8 c.in-Some.ch) after, length-encode c.in-Some.ch) in
     record {
-      handed = rw (c.len_utf8.ensures.value, left) (hand_more g.S.CharSink.gives _ _ _ c.loop-ch.sink _ _ _ c.loop-ch.invariant.handed c.in-Some.ch _ _ c.loop-ch.invariant.utf8 is c.in_ok-hand_char.ensures);
-      reached = omega (arith, c.loop-ch.invariant.reached, ap length left, ap length is, length-append (encode_utf8 c.in-Some.ch) c.next.new.self.rest.now, length-encode c.in-Some.ch, c.len_utf8.ensures.value);
-      utf8 = rw left (IsUtf8-past_char bytes c.next.new.self.rest.now c.in-Some.ch c.loop-ch.invariant.utf8 is);
-      ends = rw left (sym (ap (ends_in_return c.loop-ch.after_return) (chars_past_char _ _ _ c.loop-ch.invariant.utf8 is)) ∙ c.loop-ch.invariant.ends);
+      handed = rw long (hand_more g.S.CharSink.gives _ _ _ c.loop-ch.sink _ _ _ c.loop-ch.invariant.handed c.in-Some.ch _ _ c.loop-ch.invariant.utf8 is c.in_ok-hand_char.ensures);
+      reached = omega (arith, c.loop-ch.invariant.reached, c.in-Some.ensures.1);
+      utf8 = IsUtf8-past_char bytes after c.in-Some.ch c.loop-ch.invariant.utf8 is;
+      ends = sym (ap (ends_in_return c.loop-ch.after_return) (chars_past_char _ _ _ c.loop-ch.invariant.utf8 is)) ∙ c.loop-ch.invariant.ends;
     }
 
 pub returns-clause-handed : goal.returns-clause-handed
-returns-clause-handed g c =
-    let none = nil_from_length c.loop-ch.rest.now (ap length (sym c.chars.ensures.rest) ∙ c.in_default.ensures.steps.0.0) in
-    hand_all g.S.CharSink.gives _ _ _ c.loop-ch.sink _ _ _ c.loop-ch.invariant.handed none
+returns-clause-handed g c = hand_all g.S.CharSink.gives _ _ _ c.loop-ch.sink _ _ _ c.loop-ch.invariant.handed c.in_default.ensures
 
 pub returns-clause-end : goal.returns-clause-end
 returns-clause-end g c =
-    let none = nil_from_length c.loop-ch.rest.now (ap length (sym c.chars.ensures.rest) ∙ c.in_default.ensures.steps.0.0) in
-    sym (ap (λ (x : List ℕ). ends_in_return c.loop-ch.after_return x) (ap chars none ∙ chars-nil)) ∙ c.loop-ch.invariant.ends
+    sym (ap (λ (x : List ℕ). ends_in_return c.loop-ch.after_return x) (ap chars c.in_default.ensures ∙ chars-nil)) ∙ c.loop-ch.invariant.ends
