@@ -14,7 +14,8 @@ use Rattle.htag.specs.Tag.{Part, IsPart, AreParts, parts_text, errors_after, tag
 use Rattle.htag.specs.TagWalk.{names_after, HasPhase, IsPast, IsInTag}
 use Rattle.htag.specs.Steps.{EndsAttribute, attribute_of}
 use Rattle.htag.proofs.Parts.{begins_stops, parts_text-snoc, AreParts-snoc, errors-snoc, holds_plain, past-space}
-use Rattle.htag.proofs.Phases.{space_part, past_is, held_in, errors_then}
+use Rattle.htag.proofs.Going.{past_is, held_in}
+use Rattle.htag.proofs.Phases.{space_part, errors_then}
 
 -- white space, whatever comes after it
 space_step : (table : Entities) (names : Texts) (walk : TagWalk) (body : List Placed) (s : Placed) (ahead : List Placed) (errors : List ParseError) → walk.phase ≡ phase.BeforeAttribute → is_space s.ch ≡ true
@@ -52,8 +53,8 @@ spaces_follow (s ∷ ss) table names walk body p errors before is h =
 module _ (table : Entities) (names : Texts) (walk : TagWalk) (body : List Placed) (p : Placed) (errors : List ParseError) (h : IsInTag table names walk body (p ∷ []) errors) (before : walk.phase ≡ phase.AfterAttributeName) where
   pub bare_ends_early : (after : Texts) (new : TagWalk) (later : List ParseError) → EndsAttribute names after walk errors new later → is_space p.ch ≡ false → is_equals p.ch ≡ false → IsInTag table after new body (p ∷ []) later
   bare_ends_early after new later ends no_space no_equals =
-      let n = held_in table names walk body p errors h phase.AfterAttributeName before in
-      let gone = past_is table names walk body p errors h phase.AfterAttributeName before in
+      let n = held_in table names walk body (p ∷ []) errors h phase.AfterAttributeName before in
+      let gone = past_is table names walk body (p ∷ []) errors h phase.AfterAttributeName before in
       let part : Part = attribute_part n.name [] [] [] in
       let text : part.text ++ (n.sign ++ p ∷ []) ≡ h.held ++ p ∷ [] = ap (λ (x : List Placed). x ++ (n.sign ++ p ∷ [])) (append-nil n.name) ∙ sym (append_assoc n.name n.sign (p ∷ [])) ∙ ap (λ (x : List Placed). x ++ p ∷ []) (sym n.held_is) in
       let same : part.attribute ≡ Some (attribute_of walk) =

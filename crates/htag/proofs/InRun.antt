@@ -1,20 +1,18 @@
--- A run of plain characters in a value in quotes.
-use Rattle.std.proofs.Common.{◌≡◌, ℕ, zero, suc, ◌+◌, Bool, true, false, not, cond, eqb, List, [], ◌∷◌, ◌++◌, length, take, map, sym, refl, ap, ◌∙◌, subst, append-nil, append_assoc, arith}
-use Rattle.std.specs.Prelude.{encode_utf8_all}
-use Rattle.std.specs.List.{list_all, prefix_len}
-use Rattle.std.specs.Char.{len_utf8}
+-- A run of plain characters in a tag.
+use Rattle.std.proofs.Common.{◌≡◌, ◌≤◌, ◌<◌, ℕ, zero, suc, ◌+◌, Bool, true, false, true≢false, not, cond, eqb, List, [], ◌∷◌, ◌++◌, length, take, drop, map, sym, refl, ap, ◌∙◌, subst, append-nil, append_assoc, arith}
+use Rattle.std.specs.Prelude.{encode_utf8_all, slice_index}
+use Rattle.std.specs.List.{flat_map, list_all, prefix_len}
+use Rattle.std.specs.Char.{len_utf8, to_ascii_lowercase}
 use Rattle.std.specs.String.{string_bytes}
-use Rattle.std.proofs.lemmas.Bool.{and_from}
+use Rattle.std.proofs.lemmas.Bool.{and_from, and_parts}
 use Rattle.std.proofs.lemmas.Bool.Decides.{nat_tests}
 use Rattle.names.specs.declared.error.ParseError.{ParseError}
 use Rattle.names.specs.declared.placed.Placed.{Placed}
 use Rattle.names.specs.Names.{Texts}
-use Rattle.names.specs.Placed.{characters, begins, all, placed}
+use Rattle.names.specs.Placed.{characters, all, placed, name_bytes, null_errors, without_null}
 use Rattle.htext.specs.Run.{is_plain_byte}
-use Rattle.htext.proofs.Runs.{all_placed, plain_take, plain_bytes}
+use Rattle.htext.proofs.Runs.{plain_bytes, placed_part}
 use Rattle.charref.specs.Reference.{Entities}
-use Rattle.charref.proofs.Naming.{all-append}
-use Rattle.htag.specs.declared.phase.Phase.{Phase}
 use Rattle.htag.specs.declared.phase.Phase.TheVariants as phase
 use Rattle.htag.specs.declared.reading.Reading.{Reading}
 use Rattle.htag.specs.declared.reading.Reading.TheVariants as reading
@@ -22,102 +20,193 @@ use Rattle.htag.specs.declared.value.ValueWalk.{ValueWalk}
 use Rattle.htag.specs.declared.walk.TagWalk.{TagWalk}
 use Rattle.htag.specs.Value.{pieces_text, value_bytes}
 use Rattle.htag.specs.ValueWalk.{Begins, HasHeld, IsInValue, pieces_errors, plain_pieces}
-use Rattle.htag.specs.ValueSteps.{AddsRun}
-use Rattle.htag.specs.Tag.{AreParts, parts_text, ends_name}
-use Rattle.htag.specs.TagWalk.{HasPhase, IsPast, IsInTag}
+use Rattle.htag.specs.Tag.{parts_text, tag_close, is_odd, ends_name, ends_attribute_name, ends_unquoted, name_errors_here}
+use Rattle.htag.specs.TagWalk.{IsInTag, WholeOrNot}
+use Rattle.htag.specs.Run.{is_word_byte}
 use Rattle.htag.specs.Steps.{KeepsTag}
-use Rattle.htag.proofs.Parts.{begins-more, holds_same}
-use Rattle.htag.proofs.Pieces.{pieces_text-append, value_bytes-append, pieces_errors-append, plain_text, alone_bytes, alone_errors, begins_further, begins_alone}
-use Rattle.htag.proofs.Values.{name_stays}
+use Rattle.htag.proofs.Going.{letters_follow, quoted_goes_on, unquoted_goes_on}
+use Rattle.htag.proofs.Keeping.{looks_ahead}
+use Rattle.htag.proofs.Names.{name_grows}
+use Rattle.htag.proofs.Pieces.{pieces_text-append, value_bytes-append, pieces_errors-append, plain_text, alone_bytes, alone_errors, begins_alone}
 
-no_sign : (c : ℕ) → is_plain_byte c ≡ true → eqb c 38 ≡ false
-no_sign c h = grind (arith, nat_tests)
+module _ (c : ℕ) (h : is_plain_byte c ≡ true) where
+  no_sign : eqb c 38 ≡ false
+  no_sign = grind (arith, nat_tests)
 
-no_null : (c : ℕ) → is_plain_byte c ≡ true → eqb c 0 ≡ false
-no_null c h = grind (arith, nat_tests)
+  no_null : eqb c 0 ≡ false
+  no_null = grind (arith, nat_tests)
+
+-- a byte that only stands for itself
+module _ (c : ℕ) (h : is_word_byte c ≡ true) where
+  word_plain : is_plain_byte c ≡ true
+  word_plain = grind (arith, nat_tests)
+
+  word_odd : is_odd c ≡ false
+  word_odd = grind (arith, nat_tests)
+
+  word_in_name : not (ends_name c) ≡ true
+  word_in_name = grind (arith, nat_tests)
+
+  word_in_attribute : not (ends_attribute_name c) ≡ true
+  word_in_attribute = grind (arith, nat_tests)
+
+  word_in_value : not (ends_unquoted c) ≡ true
+  word_in_value = grind (arith, nat_tests)
+
+  word_lowered : to_ascii_lowercase (without_null c) ≡ c
+  word_lowered = grind (arith, nat_tests)
+
+-- characters that pass, as placed ones
+pub placed_all : (test : ℕ → Bool) (at : ℕ) (run : List ℕ) → list_all test run ≡ true → all test (placed at run) ≡ true
+placed_all test at [] h = refl
+placed_all test at (x ∷ xs) h = let k = and_parts (test x) (list_all test xs) h in and_from _ _ k.0 (placed_all test (at + len_utf8 x) xs k.1)
+
+all_weaker : (test other : ℕ → Bool) → ((c : ℕ) → test c ≡ true → other c ≡ true) → (xs : List ℕ) → list_all test xs ≡ true → list_all other xs ≡ true
+all_weaker test other f [] h = refl
+all_weaker test other f (x ∷ xs) h = let k = and_parts (test x) (list_all test xs) h in and_from _ _ (f x k.0) (all_weaker test other f xs k.1)
+
+-- the bytes before the first that does not pass
+pub prefix_all : (test : ℕ → Bool) (xs : List ℕ) → list_all test (take (prefix_len test xs) xs) ≡ true
+prefix_all test [] = refl
+prefix_all test (x ∷ xs) = by (test x) refl (prefix_all test xs) where
+  by : (b : Bool) → test x ≡ b → list_all test (take (prefix_len test xs) xs) ≡ true → list_all test (take (cond b (1 + prefix_len test xs) 0) (x ∷ xs)) ≡ true
+  by true e more = let one : 1 + prefix_len test xs ≡ suc (prefix_len test xs) = omega arith in rw one (and_from _ _ e more)
+  by false e more = refl
+
+pub counted_all : (test : ℕ → Bool) (run : List ℕ) (count : ℕ) → count ≡ prefix_len test run → list_all test (take count run) ≡ true
+counted_all test run count is = ap (λ (n : ℕ). list_all test (take n run)) is ∙ prefix_all test run
 
 characters_placed : (at : ℕ) (run : List ℕ) → characters (placed at run) ≡ run
 characters_placed at [] = refl
 characters_placed at (x ∷ xs) = ap (λ (ys : List ℕ). x ∷ ys) (characters_placed (at + len_utf8 x) xs)
 
--- the characters before the first that is the mark are none
-before_mark : (mark : ℕ) (at : ℕ) (run : List ℕ) → all (λ c. not (eqb c mark)) (placed at (take (prefix_len (λ c. not (eqb c mark)) run) run)) ≡ true
-before_mark mark at [] = refl
-before_mark mark at (x ∷ xs) = by (not (eqb x mark)) refl (before_mark mark (at + len_utf8 x) xs) where
-  by : (b : Bool) → not (eqb x mark) ≡ b → all (λ c. not (eqb c mark)) (placed (at + len_utf8 x) (take (prefix_len (λ c. not (eqb c mark)) xs) xs)) ≡ true
-      → all (λ c. not (eqb c mark)) (placed at (take (cond b (1 + prefix_len (λ c. not (eqb c mark)) xs) 0) (x ∷ xs))) ≡ true
-  by true e more = let one : 1 + prefix_len (λ c. not (eqb c mark)) xs ≡ suc (prefix_len (λ c. not (eqb c mark)) xs) = omega arith in rw one (and_from _ _ e more)
-  by false e more = refl
+plain_run_bytes : (at : ℕ) (run : List ℕ) → list_all is_plain_byte run ≡ true → encode_utf8_all (characters (placed at run)) ≡ run
+plain_run_bytes at run plain = ap encode_utf8_all (characters_placed at run) ∙ plain_bytes run plain
+
+-- the bytes of a name that is such a run, and its errors
+word_bytes : (at : ℕ) (run : List ℕ) → list_all is_word_byte run ≡ true → name_bytes (placed at run) ≡ run
+word_bytes at run words = ap encode_utf8_all (lowered at run words) ∙ plain_bytes run (all_weaker is_word_byte is_plain_byte word_plain run words) where
+  lowered : (at : ℕ) (xs : List ℕ) → list_all is_word_byte xs ≡ true → map (λ (p : Placed). to_ascii_lowercase (without_null p.ch)) (placed at xs) ≡ xs
+  lowered at [] h = refl
+  lowered at (x ∷ xs) h =
+      let k = and_parts (is_word_byte x) (list_all is_word_byte xs) h in
+      ap (λ (c : ℕ). c ∷ map (λ (p : Placed). to_ascii_lowercase (without_null p.ch)) (placed (at + len_utf8 x) xs)) (word_lowered x k.0) ∙ ap (λ (cs : List ℕ). x ∷ cs) (lowered (at + len_utf8 x) xs k.1)
+
+word_nulls : (at : ℕ) (run : List ℕ) → list_all is_word_byte run ≡ true → null_errors (placed at run) ≡ []
+word_nulls at [] h = refl
+word_nulls at (x ∷ xs) h =
+    let k = and_parts (is_word_byte x) (list_all is_word_byte xs) h in
+    let some : eqb x 0 ≡ false = no_null x (word_plain x k.0) in
+    rw some (word_nulls (at + len_utf8 x) xs k.1)
+
+word_errors : (at : ℕ) (run : List ℕ) → list_all is_word_byte run ≡ true → flat_map name_errors_here (placed at run) ≡ []
+word_errors at [] h = refl
+word_errors at (x ∷ xs) h =
+    let k = and_parts (is_word_byte x) (list_all is_word_byte xs) h in
+    let word : is_word_byte x ≡ true = k.0 in
+    let double : eqb x 34 ≡ false = grind (arith, nat_tests) in
+    let single : eqb x 39 ≡ false = grind (arith, nat_tests) in
+    let less : eqb x 60 ≡ false = grind (arith, nat_tests) in
+    let some : eqb x 0 ≡ false = no_null x (word_plain x word) in
+    rw (double, single, less, some) (word_errors (at + len_utf8 x) xs k.1)
 
 -- A VALUE
 
-value_run : (table : Entities) (old new : ValueWalk) (text : List Placed) (own : List ParseError) (at : ℕ) (run : List ℕ) → list_all is_plain_byte run ≡ true → old.reading ≡ reading.Nothing → AddsRun old run new
-    → IsInValue table true old text [] own → IsInValue table true new (text ++ placed at run) [] own
-value_run table old new text own at run plain nothing adds h =
+value_run : (table : Entities) (quoted : Bool) (test : ℕ → Bool) → ((c : ℕ) → test c ≡ true → is_plain_byte c ≡ true) → (quoted ≡ false → (c : ℕ) → test c ≡ true → is_odd c ≡ false) → (old new : ValueWalk) (at : ℕ) (run : List ℕ) → list_all test run ≡ true
+    → old.reading ≡ reading.Nothing → new.reading ≡ old.reading → string_bytes new.text ≡ string_bytes old.text ++ run
+    → (text : List Placed) (own : List ParseError) → IsInValue table quoted old text (placed at run) own → IsInValue table quoted new (text ++ placed at run) [] (own ++ [])
+value_run table quoted test plain even old new at run such nothing same adds text own h =
     let fed : List Placed = placed at run in
-    let quiet : all is_plain_byte fed ≡ true = all_placed at run plain in
+    let quiet : all test fed ≡ true = placed_all test at run such in
+    let sign = λ (c : ℕ) (k : test c ≡ true). no_sign c (plain c k) in
+    let null = λ (c : ℕ) (k : test c ≡ true). no_null c (plain c k) in
     let none = subst (λ (x : Reading). HasHeld x table old h.pieces h.held) nothing h.has_held in
-    let bytes : value_bytes (plain_pieces fed) ≡ run = alone_bytes is_plain_byte no_sign no_null fed quiet ∙ ap encode_utf8_all (characters_placed at run) ∙ plain_bytes run plain in
+    let bytes : value_bytes (plain_pieces fed) ≡ run = alone_bytes test sign null fed quiet ∙ plain_run_bytes at run (all_weaker test is_plain_byte plain run such) in
     record {
       pieces = h.pieces ++ plain_pieces fed;
       held = [];
       text_is = ap (λ (x : List Placed). x ++ fed) (h.text_is ∙ ap (λ (x : List Placed). pieces_text h.pieces ++ x) none.0 ∙ append-nil (pieces_text h.pieces)) ∙ ap (λ (x : List Placed). pieces_text h.pieces ++ x) (sym (plain_text fed))
           ∙ sym (pieces_text-append h.pieces (plain_pieces fed)) ∙ sym (append-nil (pieces_text (h.pieces ++ plain_pieces fed)));
-      begins_value = begins_alone table is_plain_byte no_sign fed h.pieces [] quiet
-          (subst (λ (x : List Placed). Begins table h.pieces x) (sym (append-nil fed)) (begins_further table h.pieces [] fed (subst (λ (x : List Placed). Begins table h.pieces (x ++ [])) none.0 h.begins_value)));
-      errors_are = h.errors_are ∙ sym (append-nil (pieces_errors true h.pieces)) ∙ ap (λ (x : List ParseError). pieces_errors true h.pieces ++ x) (sym (alone_errors is_plain_byte no_sign no_null fed quiet))
-          ∙ sym (pieces_errors-append true h.pieces (plain_pieces fed));
-      has_held = subst (λ (x : Reading). HasHeld x table new (h.pieces ++ plain_pieces fed) []) (sym (adds.reading_is ∙ nothing)) (
+      begins_value = begins_alone table test sign fed h.pieces [] quiet (subst (λ (x : List Placed). Begins table h.pieces x) (sym (append-nil fed)) (subst (λ (x : List Placed). Begins table h.pieces (x ++ fed)) none.0 h.begins_value));
+      errors_are = ap (λ (x : List ParseError). x ++ []) h.errors_are ∙ ap (λ (x : List ParseError). pieces_errors quoted h.pieces ++ x) (sym (alone_errors test sign null quoted even fed quiet)) ∙ sym (pieces_errors-append quoted h.pieces (plain_pieces fed));
+      has_held = subst (λ (x : Reading). HasHeld x table new (h.pieces ++ plain_pieces fed) []) (sym (same ∙ nothing)) (
         refl,
-        adds.bytes ∙ ap (λ (x : List ℕ). x ++ run) none.1 ∙ ap (λ (x : List ℕ). value_bytes h.pieces ++ x) (sym bytes) ∙ sym (value_bytes-append h.pieces (plain_pieces fed)),
+        adds ∙ ap (λ (x : List ℕ). x ++ run) none.1 ∙ ap (λ (x : List ℕ). value_bytes h.pieces ++ x) (sym bytes) ∙ sym (value_bytes-append h.pieces (plain_pieces fed)),
       );
     }
 
 -- A TAG
 
-module _ (table : Entities) (names : Texts) (walk : TagWalk) (body : List Placed) (errors : List ParseError) (h : IsInTag table names walk body [] errors) where
-  pub quoted_run : (mark : ℕ) (new : TagWalk) (at : ℕ) (run : List ℕ) → KeepsTag walk new → new.attribute ≡ walk.attribute → new.place ≡ walk.place → walk.phase ≡ phase.Quoted mark → new.phase ≡ walk.phase
-      → list_all is_plain_byte run ≡ true → all (λ c. not (eqb c mark)) (placed at run) ≡ true → walk.value.reading ≡ reading.Nothing → AddsRun walk.value run new.value → IsInTag table names new (body ++ placed at run) [] errors
-  quoted_run mark new at run keeps attribute place before same plain inside nothing adds =
-      let fed : List Placed = placed at run in
-      let q = subst (λ (x : Phase). HasPhase x table walk h.parts h.held h.own) before h.has_phase in
-      let next : new.phase ≡ phase.Quoted mark = same ∙ before in
-      let gone = subst (λ (x : Phase). IsPast x (begins ends_name (parts_text h.parts ++ (h.held ++ [])))) before h.past in
-      record {
-        name = h.name;
-        parts = h.parts;
-        held = h.held ++ fed;
-        own = h.own;
-        body_is = ap (λ (x : List Placed). x ++ fed) h.body_is ∙ append_assoc h.name (parts_text h.parts ++ h.held) fed ∙ ap (λ (x : List Placed). h.name ++ x) (append_assoc (parts_text h.parts) h.held fed);
-        first = h.first;
-        passes = h.passes;
-        name_is = ap string_bytes keeps.name_is ∙ h.name_is;
-        are_parts = λ end more. subst (AreParts table end h.parts) (sym (append_assoc h.held fed more)) (h.are_parts end (fed ++ more));
-        errors_are = h.errors_are;
-        has_attributes = holds_same names walk new h.parts keeps.seen_is keeps.attrs_are keeps.any_is h.has_attributes;
-        past = subst (λ (x : Phase). IsPast x (begins ends_name (parts_text h.parts ++ ((h.held ++ fed) ++ [])))) (sym next)
-            (ap (λ (x : List Placed). begins ends_name (parts_text h.parts ++ x)) (append-nil (h.held ++ fed)) ∙ ap (begins ends_name) (sym (append_assoc (parts_text h.parts) h.held fed))
-            ∙ begins-more ends_name (parts_text h.parts ++ h.held) fed (ap (λ (x : List Placed). begins ends_name (parts_text h.parts ++ x)) (sym (append-nil h.held)) ∙ gone));
-        has_phase = subst (λ (x : Phase). HasPhase x table new h.parts (h.held ++ fed) h.own) (sym next) (record {
-          name = q.name;
-          sign = q.sign;
-          quote = q.quote;
-          text = q.text ++ fed;
-          raised = q.raised;
-          held_is = ap (λ (x : List Placed). x ++ fed) q.held_is ∙ append_assoc q.name (q.sign ++ q.quote ++ q.text) fed ∙ ap (λ (x : List Placed). q.name ++ x) (append_assoc (q.sign ++ q.quote) q.text fed);
-          has_name = name_stays walk new q.name attribute place q.has_name;
-          signed = q.signed;
-          opens = q.opens;
-          is_mark = q.is_mark;
-          inside = all-append (λ c. not (eqb c mark)) q.text fed q.inside inside;
-          value = value_run table walk.value new.value q.text q.raised at run plain nothing adds q.value;
-          own_is = q.own_is;
-        });
-      }
+module _ (table : Entities) (names : Texts) (walk : TagWalk) (body : List Placed) (errors : List ParseError) (at : ℕ) (run : List ℕ) (h : IsInTag table names walk body [] errors) where
+  ahead : IsInTag table names walk body (placed at run) errors
+  ahead = looks_ahead table names walk body errors h (placed at run)
 
-  -- .. up to the mark
-  pub quoted_front : (mark : ℕ) (new : TagWalk) (at : ℕ) (run : List ℕ) (count : ℕ) → count ≡ prefix_len (λ c. not (eqb c mark)) run → KeepsTag walk new → new.attribute ≡ walk.attribute → new.place ≡ walk.place → walk.phase ≡ phase.Quoted mark → new.phase ≡ walk.phase
-      → list_all is_plain_byte run ≡ true → walk.value.reading ≡ reading.Nothing → AddsRun walk.value (take count run) new.value → IsInTag table names new (body ++ placed at (take count run)) [] errors
-  quoted_front mark new at run count is keeps attribute place before same plain nothing adds =
-      quoted_run mark new at (take count run) keeps attribute place before same (plain_take count run plain)
-      (ap (λ (n : ℕ). all (λ c. not (eqb c mark)) (placed at (take n run))) is ∙ before_mark mark at run) nothing adds
+  pub run_in_name : list_all is_word_byte run ≡ true → walk.phase ≡ phase.Name → (new : TagWalk) → new.phase ≡ walk.phase → new.seen ≡ walk.seen → new.attrs ≡ walk.attrs → new.any ≡ walk.any → string_bytes new.name ≡ string_bytes walk.name ++ run
+      → IsInTag table names new (body ++ placed at run) [] errors
+  run_in_name words before new same seen attrs any adds =
+      name_grows table names walk body (placed at run) errors ahead before new errors same seen attrs any (adds ∙ ap (λ (x : List ℕ). string_bytes walk.name ++ x) (sym (word_bytes at run words)))
+      (sym (append-nil errors) ∙ ap (λ (x : List ParseError). errors ++ x) (sym (word_nulls at run words))) (placed_all _ at run (all_weaker is_word_byte _ word_in_name run words))
+
+  pub run_in_attribute : list_all is_word_byte run ≡ true → walk.phase ≡ phase.AttributeName → (new : TagWalk) → KeepsTag walk new → new.phase ≡ walk.phase → new.place ≡ walk.place → new.value ≡ walk.value → string_bytes new.attribute ≡ string_bytes walk.attribute ++ run
+      → IsInTag table names new (body ++ placed at run) [] errors
+  run_in_attribute words before new keeps same place value adds =
+      letters_follow table names walk body (placed at run) errors ahead before new errors keeps same place value (adds ∙ ap (λ (x : List ℕ). string_bytes walk.attribute ++ x) (sym (word_bytes at run words)))
+      (sym (append-nil errors) ∙ ap (λ (x : List ParseError). errors ++ x) (sym (word_errors at run words))) (placed_all _ at run (all_weaker is_word_byte _ word_in_attribute run words))
+
+  pub run_in_quotes : (mark : ℕ) → list_all is_plain_byte run ≡ true → list_all (λ c. not (eqb c mark)) run ≡ true → walk.phase ≡ phase.Quoted mark → walk.value.reading ≡ reading.Nothing → (new : TagWalk) → KeepsTag walk new → new.attribute ≡ walk.attribute → new.place ≡ walk.place
+      → new.phase ≡ walk.phase → new.value.reading ≡ walk.value.reading → string_bytes new.value.text ≡ string_bytes walk.value.text ++ run → IsInTag table names new (body ++ placed at run) [] errors
+  run_in_quotes mark plain others before nothing new keeps attribute place same calm adds =
+      quoted_goes_on table names walk body (placed at run) errors ahead new [] errors keeps attribute place same (sym (append-nil errors)) mark before
+      (value_run table true is_plain_byte (λ c k. k) (λ e. absurd cc) walk.value new.value at run plain nothing calm adds) (placed_all _ at run others)
+
+  pub run_in_unquoted : list_all is_word_byte run ≡ true → walk.phase ≡ phase.Unquoted → walk.value.reading ≡ reading.Nothing → (new : TagWalk) → KeepsTag walk new → new.attribute ≡ walk.attribute → new.place ≡ walk.place
+      → new.phase ≡ walk.phase → new.value.reading ≡ walk.value.reading → string_bytes new.value.text ≡ string_bytes walk.value.text ++ run → IsInTag table names new (body ++ placed at run) [] errors
+  run_in_unquoted words before nothing new keeps attribute place same calm adds =
+      unquoted_goes_on table names walk body (placed at run) errors ahead new [] errors keeps attribute place same (sym (append-nil errors)) before
+      (value_run table false is_word_byte word_plain (λ e. word_odd) walk.value new.value at run words nothing calm adds) (placed_all _ at run (all_weaker is_word_byte _ word_in_value run words))
+
+-- A CHARACTER THAT DOES NOT END THE TAG
+
+last_of : ℕ → List Placed → ℕ
+last_of c [] = c
+last_of c (p ∷ ps) = last_of p.ch ps
+
+last-append : (c d : ℕ) (xs ys : List Placed) (p : Placed) → last_of c (xs ++ p ∷ ys) ≡ last_of d (p ∷ ys)
+unfolding last_of
+last-append c d [] ys p = refl
+last-append c d (x ∷ xs) ys p = last-append x.ch d xs ys p
+
+last_closes : (closing : Bool) (xs close : List Placed) → characters close ≡ tag_close closing → last_of 0 (xs ++ close) ≡ 62
+unfolding last_of
+last_closes closing xs [] e = absurd (no closing e) where
+  no : (b : Bool) → [] ≡ tag_close b → ⊥
+  no true e = cc
+  no false e = cc
+last_closes closing xs (p ∷ ps) e = last-append 0 0 xs ps p ∙ by closing p ps e where
+  by : (b : Bool) (p : Placed) (ps : List Placed) → characters (p ∷ ps) ≡ tag_close b → last_of p.ch ps ≡ 62
+  by false p [] e = cc
+  by false p (q ∷ qs) e = absurd cc
+  by true p [] e = absurd cc
+  by true p (q ∷ []) e = cc
+  by true p (q ∷ r ∷ rs) e = absurd cc
+
+pub other_stays : (table : Entities) (names : Texts) (body : List Placed) (p : Placed) (ended : Bool) (walk : TagWalk) (errors : List ParseError) → eqb p.ch 62 ≡ false → WholeOrNot ended table names walk (body ++ p ∷ []) errors → IsInTag table names walk (body ++ p ∷ []) [] errors
+unfolding last_of
+other_stays table names body p true walk errors other w =
+    let close : p.ch ≡ 62 = sym (last-append 0 0 body [] p) ∙ ap (last_of 0) (w.body_is ∙ sym (append_assoc w.name (parts_text w.parts) w.close)) ∙ last_closes walk.closing (w.name ++ parts_text w.parts) w.close w.closes in
+    absurd (true≢false (sym (ap (λ (c : ℕ). eqb c 62) close) ∙ other))
+other_stays table names body p false walk errors other w = w
+
+-- A PART AFTER ANOTHER
+
+-- a character of a run
+pub one_at : (at count : ℕ) (run : List ℕ) (c : ℕ) → count < length run → c ≡ slice_index run count → record { ch = c; at = at } ∷ [] ≡ placed at (take 1 (drop count run))
+one_at at count [] c h e = absurd (omega (arith, h))
+one_at at zero (x ∷ xs) c h e = ap (λ (n : ℕ). record { ch = n; at = at } ∷ []) e
+one_at at (suc count) (x ∷ xs) c h e = one_at at count xs c (omega (arith, h)) e
+
+pub more_taken : (table : Entities) (names : Texts) (body : List Placed) (at count n : ℕ) (run : List ℕ) → list_all is_plain_byte run ≡ true → count ≤ length run → (walk : TagWalk) (errors : List ParseError)
+    → IsInTag table names walk ((body ++ placed at (take count run)) ++ placed (at + count) (take n (drop count run))) [] errors → IsInTag table names walk (body ++ placed at (take (count + n) run)) [] errors
+more_taken table names body at count n run plain within walk errors h =
+    subst (λ (x : List Placed). IsInTag table names walk x [] errors)
+    (append_assoc body (placed at (take count run)) (placed (at + count) (take n (drop count run))) ∙ ap (λ (x : List Placed). body ++ x) (sym (placed_part at count n run plain within))) h

@@ -1,5 +1,5 @@
 -- What a walk has read stays read: where more is known of what follows, and where names are added.
-use Rattle.std.proofs.Common.{◌≡◌, Bool, true, List, [], ◌∷◌, ◌++◌, sym, ap, ◌∙◌, append-nil, append_assoc}
+use Rattle.std.proofs.Common.{◌≡◌, Bool, true, List, [], ◌++◌, sym, ap, ◌∙◌, append-nil, append_assoc}
 use Rattle.names.specs.declared.error.ParseError.{ParseError}
 use Rattle.names.specs.declared.placed.Placed.{Placed}
 use Rattle.names.specs.Names.{Texts, Grows}
@@ -24,8 +24,8 @@ past_more (phase.Quoted mark) a b f h = f h
 past_more phase.Unquoted a b f h = f h
 past_more phase.AfterQuoted a b f h = f h
 
-pub looks_ahead : (table : Entities) (names : Texts) (walk : TagWalk) (body : List Placed) (errors : List ParseError) → IsInTag table names walk body [] errors → (p : Placed) → IsInTag table names walk body (p ∷ []) errors
-looks_ahead table names walk body errors h p = record {
+pub looks_ahead : (table : Entities) (names : Texts) (walk : TagWalk) (body : List Placed) (errors : List ParseError) → IsInTag table names walk body [] errors → (ahead : List Placed) → IsInTag table names walk body ahead errors
+looks_ahead table names walk body errors h ahead = record {
   name = h.name;
   parts = h.parts;
   held = h.held;
@@ -34,16 +34,16 @@ looks_ahead table names walk body errors h p = record {
   first = h.first;
   passes = h.passes;
   name_is = h.name_is;
-  are_parts = λ end more. h.are_parts end (p ∷ more);
+  are_parts = λ end more. h.are_parts end (ahead ++ more);
   errors_are = h.errors_are;
   has_attributes = h.has_attributes;
   past = past_more walk.phase _ _ further h.past;
   has_phase = h.has_phase;
 } where
-  further : begins ends_name (parts_text h.parts ++ (h.held ++ [])) ≡ true → begins ends_name (parts_text h.parts ++ (h.held ++ p ∷ [])) ≡ true
+  further : begins ends_name (parts_text h.parts ++ (h.held ++ [])) ≡ true → begins ends_name (parts_text h.parts ++ (h.held ++ ahead)) ≡ true
   further e =
-      ap (begins ends_name) (sym (append_assoc (parts_text h.parts) h.held (p ∷ [])))
-      ∙ begins-more ends_name (parts_text h.parts ++ h.held) (p ∷ []) (ap (λ (x : List Placed). begins ends_name (parts_text h.parts ++ x)) (sym (append-nil h.held)) ∙ e)
+      ap (begins ends_name) (sym (append_assoc (parts_text h.parts) h.held ahead))
+      ∙ begins-more ends_name (parts_text h.parts ++ h.held) ahead (ap (λ (x : List Placed). begins ends_name (parts_text h.parts ++ x)) (sym (append-nil h.held)) ∙ e)
 
 pub attributes_grow : (old new : Texts) → Grows old new → (walk : TagWalk) (parts : List Part) → HasAttributes old walk parts → HasAttributes new walk parts
 attributes_grow old new grows walk parts h = record {

@@ -1,16 +1,16 @@
 -- The tag's name.
 use Rattle.std.proofs.Common.{◌≡◌, ℕ, eqb, arith, true, false, not, List, [], ◌∷◌, ◌++◌, sym, refl, ap, ◌∙◌, subst, append-nil}
-use Rattle.std.specs.Char.{encode_utf8, to_ascii_lowercase}
 use Rattle.std.specs.String.{string_bytes}
 use Rattle.names.specs.declared.error.ParseError.{ParseError}
 use Rattle.names.specs.declared.placed.Placed.{Placed}
 use Rattle.names.specs.Names.{Texts}
-use Rattle.names.specs.Placed.{begins, all, is_letter, null_errors, name_bytes, without_null}
+use Rattle.names.specs.Placed.{begins, all, is_letter, null_errors, name_bytes}
 use Rattle.std.proofs.lemmas.Bool.Decides.{nat_tests}
 use Rattle.names.specs.declared.attr.Attr.{Attr}
 use Rattle.hmarkup.proofs.Marks.{and_parts, and_both, null_errors-append}
 use Rattle.hmarkup.proofs.Parts.{name_bytes-append}
 use Rattle.charref.specs.Reference.{Entities}
+use Rattle.charref.proofs.Naming.{all-append}
 use Rattle.htag.specs.declared.kind.TagKind.{TagKind}
 use Rattle.htag.specs.declared.phase.Phase.{Phase}
 use Rattle.htag.specs.declared.phase.Phase.TheVariants as phase
@@ -19,7 +19,7 @@ use Rattle.htag.specs.Tag.{Part, parts_text, tag_errors, ends_name}
 use Rattle.htag.specs.TagWalk.{HasAttributes, HasPhase, IsPast, IsInTag}
 use Rattle.htag.specs.Attributes.{AttrsMean}
 use Rattle.htag.specs.Steps.{IsBegun}
-use Rattle.htag.proofs.Parts.{begins-more, all-snoc, holds_same}
+use Rattle.htag.proofs.Parts.{begins-more, holds_same}
 
 -- a tag has begun, and this is its name so far
 pub begun_in_tag : (kind : TagKind) (walk : TagWalk) → IsBegun kind walk → (table : Entities) (names : Texts) (letters : List Placed) → begins is_letter letters ≡ true → all is_letter letters ≡ true → string_bytes walk.name ≡ name_bytes letters
@@ -55,7 +55,7 @@ begun_in_tag kind walk b table names letters first are named = record {
       let other : eqb x.ch 0 ≡ false = grind (arith, nat_tests) in
       rw other (no_null xs parts.1)
 
-module _ (table : Entities) (names : Texts) (walk : TagWalk) (body : List Placed) (p : Placed) (errors : List ParseError) (h : IsInTag table names walk body (p ∷ []) errors) (in_name : walk.phase ≡ phase.Name) where
+module _ (table : Entities) (names : Texts) (walk : TagWalk) (body fed : List Placed) (errors : List ParseError) (h : IsInTag table names walk body fed errors) (in_name : walk.phase ≡ phase.Name) where
   nothing : (h.parts ≡ []) × (h.held ≡ []) × (h.own ≡ [])
   nothing = subst (λ (x : Phase). HasPhase x table walk h.parts h.held h.own) in_name h.has_phase
 
@@ -66,27 +66,26 @@ module _ (table : Entities) (names : Texts) (walk : TagWalk) (body : List Placed
   plain = h.errors_are ∙ ap (λ (x : List Part). tag_errors h.name x ++ h.own) nothing.0 ∙ ap (λ (x : List ParseError). (null_errors h.name ++ []) ++ x) nothing.2 ∙ append-nil (null_errors h.name ++ []) ∙ append-nil (null_errors h.name)
 
   -- it goes on
-  pub name_grows : (new : TagWalk) (later : List ParseError) → new.phase ≡ walk.phase → new.seen ≡ walk.seen → new.attrs ≡ walk.attrs → new.any ≡ walk.any → string_bytes new.name ≡ string_bytes walk.name ++ encode_utf8 (to_ascii_lowercase (without_null p.ch))
-      → later ≡ errors ++ null_errors (p ∷ []) → ends_name p.ch ≡ false → IsInTag table names new (body ++ p ∷ []) [] later
-  name_grows new later same seen attrs any named later_is stays = record {
-    name = h.name ++ p ∷ [];
+  pub name_grows : (new : TagWalk) (later : List ParseError) → new.phase ≡ walk.phase → new.seen ≡ walk.seen → new.attrs ≡ walk.attrs → new.any ≡ walk.any → string_bytes new.name ≡ string_bytes walk.name ++ name_bytes fed
+      → later ≡ errors ++ null_errors fed → all (λ c. not (ends_name c)) fed ≡ true → IsInTag table names new (body ++ fed) [] later
+  name_grows new later same seen attrs any named later_is stay = record {
+    name = h.name ++ fed;
     parts = [];
     held = [];
     own = [];
-    body_is = ap (λ (x : List Placed). x ++ p ∷ []) whole ∙ sym (append-nil (h.name ++ p ∷ []));
-    first = begins-more _ h.name (p ∷ []) h.first;
-    passes = all-snoc _ h.name p h.passes (ap not stays);
-    name_is = named ∙ ap (λ (x : List ℕ). x ++ encode_utf8 (to_ascii_lowercase (without_null p.ch))) h.name_is
-        ∙ ap (λ (x : List ℕ). name_bytes h.name ++ x) (sym (append-nil (encode_utf8 (to_ascii_lowercase (without_null p.ch))))) ∙ sym (name_bytes-append h.name (p ∷ []));
+    body_is = ap (λ (x : List Placed). x ++ fed) whole ∙ sym (append-nil (h.name ++ fed));
+    first = begins-more _ h.name fed h.first;
+    passes = all-append _ h.name fed h.passes stay;
+    name_is = named ∙ ap (λ (x : List ℕ). x ++ name_bytes fed) h.name_is ∙ sym (name_bytes-append h.name fed);
     are_parts = λ end more. tt;
-    errors_are = later_is ∙ ap (λ (x : List ParseError). x ++ null_errors (p ∷ [])) plain ∙ sym (null_errors-append h.name (p ∷ [])) ∙ sym (append-nil (null_errors (h.name ++ p ∷ []))) ∙ sym (append-nil (null_errors (h.name ++ p ∷ []) ++ []));
+    errors_are = later_is ∙ ap (λ (x : List ParseError). x ++ null_errors fed) plain ∙ sym (null_errors-append h.name fed) ∙ sym (append-nil (null_errors (h.name ++ fed))) ∙ sym (append-nil (null_errors (h.name ++ fed) ++ []));
     has_attributes = subst (HasAttributes names new) nothing.0 (holds_same names walk new h.parts seen attrs any h.has_attributes);
     past = subst (λ (x : Phase). IsPast x false) (sym (same ∙ in_name)) tt;
     has_phase = subst (λ (x : Phase). HasPhase x table new [] [] []) (sym (same ∙ in_name)) (refl, refl, refl);
   }
 
   -- it ends before white space, `/` or `>`
-  pub name_ends : (new : TagWalk) → new.name ≡ walk.name → new.seen ≡ walk.seen → new.attrs ≡ walk.attrs → new.any ≡ walk.any → new.phase ≡ phase.BeforeAttribute → ends_name p.ch ≡ true → IsInTag table names new body (p ∷ []) errors
+  pub name_ends : (new : TagWalk) → new.name ≡ walk.name → new.seen ≡ walk.seen → new.attrs ≡ walk.attrs → new.any ≡ walk.any → new.phase ≡ phase.BeforeAttribute → begins ends_name fed ≡ true → IsInTag table names new body fed errors
   name_ends new named seen attrs any next ends = record {
     name = h.name;
     parts = [];
@@ -99,6 +98,6 @@ module _ (table : Entities) (names : Texts) (walk : TagWalk) (body : List Placed
     are_parts = λ end more. tt;
     errors_are = plain ∙ sym (append-nil (null_errors h.name)) ∙ sym (append-nil (null_errors h.name ++ []));
     has_attributes = subst (HasAttributes names new) nothing.0 (holds_same names walk new h.parts seen attrs any h.has_attributes);
-    past = subst (λ (x : Phase). IsPast x (ends_name p.ch)) (sym next) ends;
+    past = subst (λ (x : Phase). IsPast x (begins ends_name fed)) (sym next) ends;
     has_phase = subst (λ (x : Phase). HasPhase x table new [] [] []) (sym next) (refl, refl);
   }

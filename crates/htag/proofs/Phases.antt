@@ -1,23 +1,22 @@
 -- A tag, a character at a time.
-use Rattle.std.proofs.Common.{◌≡◌, ℕ, Bool, true, false, not, List, [], ◌∷◌, ◌++◌, drop, sym, refl, ap, ◌∙◌, subst, append_assoc, append-nil, Some, None}
+use Rattle.std.proofs.Common.{◌≡◌, ℕ, true, false, not, List, [], ◌∷◌, ◌++◌, sym, refl, ap, ◌∙◌, subst, append_assoc, append-nil, Some, None}
 use Rattle.std.specs.Char.{encode_utf8, to_ascii_lowercase}
 use Rattle.std.specs.String.{string_bytes}
-use Rattle.std.specs.List.{flat_map}
-use Rattle.std.proofs.lemmas.Grind.{flat_map-append}
 use Rattle.names.specs.declared.error.ErrorCode.TheVariants.{UnexpectedEqualsSignBeforeAttributeName, UnexpectedSolidusInTag}
 use Rattle.names.specs.declared.error.ParseError.{ParseError}
 use Rattle.names.specs.declared.placed.Placed.{Placed}
 use Rattle.names.specs.Names.{Texts}
-use Rattle.names.specs.Placed.{characters, begins, all, place, is_space, is_equals, is_greater, error, error_if, null_errors, name_bytes, without_null}
-use Rattle.hmarkup.proofs.Parts.{name_bytes-append}
+use Rattle.names.specs.Placed.{characters, begins, place, is_space, is_equals, is_greater, error, error_if, null_errors, without_null}
+use Rattle.hmarkup.proofs.Marks.{and_both}
 use Rattle.charref.specs.Reference.{Entities}
 use Rattle.htag.specs.declared.phase.Phase.{Phase}
 use Rattle.htag.specs.declared.phase.Phase.TheVariants as phase
 use Rattle.htag.specs.declared.walk.TagWalk.{TagWalk}
 use Rattle.htag.specs.Tag.{Part, IsPart, AreParts, parts_text, errors_after, tag_errors, tag_close, ends_name, ends_attribute_name, attribute_name_errors, name_errors_here, attribute_part, repeated}
-use Rattle.htag.specs.TagWalk.{NoValue, names_after, HasAttributes, HasName, InName, HasPhase, IsPast, IsInTag, IsWholeTag}
+use Rattle.htag.specs.TagWalk.{names_after, HasAttributes, HasName, InName, HasPhase, IsPast, IsInTag, IsWholeTag}
 use Rattle.htag.specs.Steps.{KeepsTag, AddsToName, BeginsAttribute, EndsAttribute, attribute_of}
-use Rattle.htag.proofs.Parts.{begins-more, all-snoc, parts_text-snoc, AreParts-snoc, errors-snoc, holds_plain, holds_same, past-space}
+use Rattle.htag.proofs.Going.{Past, past_is, held_in, body_more, goes_on, letters_follow}
+use Rattle.htag.proofs.Parts.{parts_text-snoc, AreParts-snoc, errors-snoc, holds_plain, holds_same, past-space}
 
 abbrev pub space_part : Placed → Part
 space_part p = record { text = p ∷ []; attribute = None; errors = [] }
@@ -34,43 +33,12 @@ pub keeps_self : (walk : TagWalk) → KeepsTag walk walk
 keeps_self walk = record { kind_is = refl; name_is = refl; attrs_are = refl; seen_is = refl; any_is = refl }
 
 module _ (table : Entities) (names : Texts) (walk : TagWalk) (body : List Placed) (p : Placed) (errors : List ParseError) (h : IsInTag table names walk body (p ∷ []) errors) where
-  abbrev pub Past : Bool
-  Past = begins ends_name (parts_text h.parts ++ (h.held ++ p ∷ []))
-
-  pub past_is : (ph : Phase) → walk.phase ≡ ph → IsPast ph Past
-  past_is ph e = subst (λ (x : Phase). IsPast x Past) e h.past
-
-  pub held_in : (ph : Phase) → walk.phase ≡ ph → HasPhase ph table walk h.parts h.held h.own
-  held_in ph e = subst (λ (x : Phase). HasPhase x table walk h.parts h.held h.own) e h.has_phase
-
-  body_more : body ++ p ∷ [] ≡ h.name ++ (parts_text h.parts ++ (h.held ++ p ∷ []))
-  body_more = ap (λ (x : List Placed). x ++ p ∷ []) h.body_is ∙ append_assoc h.name (parts_text h.parts ++ h.held) (p ∷ []) ∙ ap (λ (x : List Placed). h.name ++ x) (append_assoc (parts_text h.parts) h.held (p ∷ []))
-
-  -- what is held of a part goes on
-  pub goes_on : (new : TagWalk) (e later : List ParseError) → later ≡ errors ++ e → new.name ≡ walk.name → new.seen ≡ walk.seen → new.attrs ≡ walk.attrs → new.any ≡ walk.any → ((b : Bool) → b ≡ true → IsPast new.phase b) → Past ≡ true
-      → HasPhase new.phase table new h.parts (h.held ++ p ∷ []) (h.own ++ e) → IsInTag table names new (body ++ p ∷ []) [] later
-  goes_on new e later later_is named seen attrs any then gone has = record {
-    name = h.name;
-    parts = h.parts;
-    held = h.held ++ p ∷ [];
-    own = h.own ++ e;
-    body_is = body_more;
-    first = h.first;
-    passes = h.passes;
-    name_is = ap string_bytes named ∙ h.name_is;
-    are_parts = λ end more. subst (AreParts table end h.parts) (sym (append_assoc h.held (p ∷ []) more)) (h.are_parts end more);
-    errors_are = later_is ∙ ap (λ (x : List ParseError). x ++ e) h.errors_are ∙ append_assoc (tag_errors h.name h.parts) h.own e;
-    has_attributes = holds_same names walk new h.parts seen attrs any h.has_attributes;
-    past = then _ (ap (λ (x : List Placed). begins ends_name (parts_text h.parts ++ x)) (append-nil (h.held ++ p ∷ [])) ∙ gone);
-    has_phase = has;
-  }
-
   -- a part has ended before the character
   pub errors_then : (part : Part) (e later : List ParseError) → part.errors ≡ h.own ++ e → later ≡ (errors ++ e) ++ repeated (names_after [] h.parts) part.attribute → later ≡ tag_errors h.name (h.parts ++ part ∷ []) ++ []
   errors_then part e later own is = part_errors h.name h.parts h.own errors h.errors_are part e later own is ∙ sym (append-nil (tag_errors h.name (h.parts ++ part ∷ [])))
 
   pub part_ends : (part : Part) → part.text ≡ h.held → ((end : ℕ) (more : List Placed) → IsPart table end (p ∷ more) part) → (after : Texts) (new : TagWalk) (e later : List ParseError) → part.errors ≡ h.own ++ e
-      → later ≡ (errors ++ e) ++ repeated (names_after [] h.parts) part.attribute → new.name ≡ walk.name → new.phase ≡ phase.BeforeAttribute → HasAttributes after new (h.parts ++ part ∷ []) → Past ≡ true
+      → later ≡ (errors ++ e) ++ repeated (names_after [] h.parts) part.attribute → new.name ≡ walk.name → new.phase ≡ phase.BeforeAttribute → HasAttributes after new (h.parts ++ part ∷ []) → Past table names walk body (p ∷ []) errors h ≡ true
       → IsInTag table after new body (p ∷ []) later
   part_ends part text is after new e later own later_is named before has gone = record {
     name = h.name;
@@ -92,7 +60,7 @@ module _ (table : Entities) (names : Texts) (walk : TagWalk) (body : List Placed
   -- an attribute has ended before the character
   pub attribute_ends : (mid_walk : TagWalk) → KeepsTag walk mid_walk → mid_walk.attribute ≡ walk.attribute → mid_walk.place ≡ walk.place → (name others : List Placed) (value : List ℕ) (e' : List ParseError) → name ++ others ≡ h.held
       → ((end : ℕ) (more : List Placed) → IsPart table end (p ∷ more) (attribute_part name others value e')) → HasName walk name → string_bytes mid_walk.value.text ≡ value → (e mid : List ParseError) → attribute_name_errors name ++ e' ≡ h.own ++ e → mid ≡ errors ++ e
-      → (after : Texts) (new : TagWalk) (later : List ParseError) → EndsAttribute names after mid_walk mid new later → Past ≡ true → IsInTag table after new body (p ∷ []) later
+      → (after : Texts) (new : TagWalk) (later : List ParseError) → EndsAttribute names after mid_walk mid new later → Past table names walk body (p ∷ []) errors h ≡ true → IsInTag table after new body (p ∷ []) later
   attribute_ends mid_walk keeps attribute at name others value e' text is has value_is e mid own mid_is after new later ends gone =
       let part : Part = attribute_part name others value e' in
       let same : part.attribute ≡ Some (attribute_of mid_walk) =
@@ -104,11 +72,11 @@ module _ (table : Entities) (names : Texts) (walk : TagWalk) (body : List Placed
   -- BEFORE AN ATTRIBUTE
 
   module _ (before : walk.phase ≡ phase.BeforeAttribute) where
-    gone : Past ≡ true
-    gone = past_is phase.BeforeAttribute before
+    gone : Past table names walk body (p ∷ []) errors h ≡ true
+    gone = past_is table names walk body (p ∷ []) errors h phase.BeforeAttribute before
 
     nothing : (h.held ≡ []) × (h.own ≡ [])
-    nothing = held_in phase.BeforeAttribute before
+    nothing = held_in table names walk body (p ∷ []) errors h phase.BeforeAttribute before
 
     -- `>`
     pub tag_ends : (new : TagWalk) → new.name ≡ walk.name → new.seen ≡ walk.seen → new.attrs ≡ walk.attrs → new.any ≡ walk.any → new.closing ≡ false → p.ch ≡ 62 → IsWholeTag table names new (body ++ p ∷ []) errors
@@ -116,7 +84,7 @@ module _ (table : Entities) (names : Texts) (walk : TagWalk) (body : List Placed
       name = h.name;
       parts = h.parts;
       close = p ∷ [];
-      body_is = body_more ∙ ap (λ (x : List Placed). h.name ++ (parts_text h.parts ++ (x ++ p ∷ []))) nothing.0;
+      body_is = body_more table names walk body (p ∷ []) errors h ∙ ap (λ (x : List Placed). h.name ++ (parts_text h.parts ++ (x ++ p ∷ []))) nothing.0;
       first = h.first;
       passes = h.passes;
       name_is = ap string_bytes named ∙ h.name_is;
@@ -134,7 +102,7 @@ module _ (table : Entities) (names : Texts) (walk : TagWalk) (body : List Placed
       parts = h.parts ++ space_part p ∷ [];
       held = [];
       own = [];
-      body_is = body_more ∙ ap (λ (x : List Placed). h.name ++ (parts_text h.parts ++ (x ++ p ∷ []))) nothing.0 ∙ ap (λ (x : List Placed). h.name ++ x) (sym (parts_text-snoc h.parts (space_part p)) ∙ sym (append-nil (parts_text (h.parts ++ space_part p ∷ []))));
+      body_is = body_more table names walk body (p ∷ []) errors h ∙ ap (λ (x : List Placed). h.name ++ (parts_text h.parts ++ (x ++ p ∷ []))) nothing.0 ∙ ap (λ (x : List Placed). h.name ++ x) (sym (parts_text-snoc h.parts (space_part p)) ∙ sym (append-nil (parts_text (h.parts ++ space_part p ∷ []))));
       first = h.first;
       passes = h.passes;
       name_is = h.name_is;
@@ -149,14 +117,14 @@ module _ (table : Entities) (names : Texts) (walk : TagWalk) (body : List Placed
     -- `/`
     pub solidus_follows : (new : TagWalk) → new.name ≡ walk.name → new.seen ≡ walk.seen → new.attrs ≡ walk.attrs → new.any ≡ walk.any → new.phase ≡ phase.Solidus → p.ch ≡ 47 → IsInTag table names new (body ++ p ∷ []) [] errors
     solidus_follows new named seen attrs any then is =
-        goes_on new [] errors (sym (append-nil errors)) named seen attrs any (λ b e. subst (λ (x : Phase). IsPast x b) (sym then) e) gone
+        goes_on table names walk body (p ∷ []) errors h new [] errors (sym (append-nil errors)) named seen attrs any (λ b e. subst (λ (x : Phase). IsPast x b) (sym then) e) gone
         (subst (λ (x : Phase). HasPhase x table new h.parts (h.held ++ p ∷ []) (h.own ++ [])) (sym then) (p, is, ap (λ (x : List Placed). x ++ p ∷ []) nothing.0, append-nil h.own ∙ nothing.1))
 
     -- an attribute
     pub attribute_begins : (new : TagWalk) (later : List ParseError) → BeginsAttribute walk p errors new later → ends_name p.ch ≡ false → IsInTag table names new (body ++ p ∷ []) [] later
     attribute_begins new later b stays =
         let e : List ParseError = error_if (is_equals p.ch) UnexpectedEqualsSignBeforeAttributeName p.at ++ name_errors_here p in
-        goes_on new e later b.later_is b.keeps.name_is b.keeps.seen_is b.keeps.attrs_are b.keeps.any_is (λ c x. subst (λ (y : Phase). IsPast y c) (sym b.phase_is) x) gone
+        goes_on table names walk body (p ∷ []) errors h new e later b.later_is b.keeps.name_is b.keeps.seen_is b.keeps.attrs_are b.keeps.any_is (λ c x. subst (λ (y : Phase). IsPast y c) (sym b.phase_is) x) gone
         (subst (λ (x : Phase). HasPhase x table new h.parts (h.held ++ p ∷ []) (h.own ++ e)) (sym b.phase_is)
         (subst (λ (x : List Placed). InName new x (h.own ++ e)) (ap (λ (x : List Placed). x ++ p ∷ []) (sym nothing.0)) (record {
           has_name = record { first = ap not stays; runs = refl; is = b.attribute_is ∙ sym (append-nil _); at_is = sym b.place_is };
@@ -171,27 +139,27 @@ module _ (table : Entities) (names : Texts) (walk : TagWalk) (body : List Placed
     pub solidus_ends : (new : TagWalk) (later : List ParseError) → new.name ≡ walk.name → new.seen ≡ walk.seen → new.attrs ≡ walk.attrs → new.any ≡ walk.any → new.phase ≡ phase.BeforeAttribute → later ≡ errors ++ error UnexpectedSolidusInTag p.at ∷ []
         → is_greater p.ch ≡ false → IsInTag table names new body (p ∷ []) later
     solidus_ends new later named seen attrs any then later_is other =
-        let e = held_in phase.Solidus after in
+        let e = held_in table names walk body (p ∷ []) errors h phase.Solidus after in
         let s : Placed = e.0 in
         let part : Part = record { text = s ∷ []; attribute = None; errors = error UnexpectedSolidusInTag p.at ∷ [] } in
         part_ends part (sym e.2) (λ end more. IsPart.solidus s e.1 other refl) names new (error UnexpectedSolidusInTag p.at ∷ []) later (ap (λ (x : List ParseError). x ++ error UnexpectedSolidusInTag p.at ∷ []) (sym e.3))
-        (later_is ∙ sym (append-nil (errors ++ error UnexpectedSolidusInTag p.at ∷ []))) named then (holds_plain names walk new h.parts part refl seen attrs any h.has_attributes) (past_is phase.Solidus after)
+        (later_is ∙ sym (append-nil (errors ++ error UnexpectedSolidusInTag p.at ∷ []))) named then (holds_plain names walk new h.parts part refl seen attrs any h.has_attributes) (past_is table names walk body (p ∷ []) errors h phase.Solidus after)
 
     pub closing_ends : (new : TagWalk) → new.name ≡ walk.name → new.seen ≡ walk.seen → new.attrs ≡ walk.attrs → new.any ≡ walk.any → new.closing ≡ true → p.ch ≡ 62 → IsWholeTag table names new (body ++ p ∷ []) errors
     closing_ends new named seen attrs any closing is =
-        let e = held_in phase.Solidus after in
+        let e = held_in table names walk body (p ∷ []) errors h phase.Solidus after in
         record {
           name = h.name;
           parts = h.parts;
           close = h.held ++ p ∷ [];
-          body_is = body_more;
+          body_is = body_more table names walk body (p ∷ []) errors h;
           first = h.first;
           passes = h.passes;
           name_is = ap string_bytes named ∙ h.name_is;
           are_parts = λ end rest. subst (AreParts table end h.parts) (sym (append_assoc h.held (p ∷ []) rest)) (h.are_parts end rest);
           errors_are = h.errors_are ∙ ap (λ (x : List ParseError). tag_errors h.name h.parts ++ x) e.3 ∙ append-nil (tag_errors h.name h.parts);
           has_attributes = holds_same names walk new h.parts seen attrs any h.has_attributes;
-          ends = past_is phase.Solidus after;
+          ends = past_is table names walk body (p ∷ []) errors h phase.Solidus after;
           closes = ap (λ (x : List Placed). characters (x ++ p ∷ [])) e.2 ∙ ap (λ (c : ℕ). c ∷ p.ch ∷ []) e.1 ∙ ap (λ (c : ℕ). 47 ∷ c ∷ []) is ∙ ap tag_close (sym closing);
         }
 
@@ -199,41 +167,14 @@ module _ (table : Entities) (names : Texts) (walk : TagWalk) (body : List Placed
 
   module _ (in_name : walk.phase ≡ phase.AttributeName) where
     abbrev named_here : InName walk h.held h.own
-    named_here = held_in phase.AttributeName in_name
+    named_here = held_in table names walk body (p ∷ []) errors h phase.AttributeName in_name
 
     -- it goes on
-    runs_more : (xs : List Placed) → begins (λ c. not (ends_name c)) xs ≡ true → all (λ c. not (ends_attribute_name c)) (drop 1 xs) ≡ true → ends_attribute_name p.ch ≡ false → all (λ c. not (ends_attribute_name c)) (drop 1 (xs ++ p ∷ [])) ≡ true
-    runs_more [] b h' k = absurd cc
-    runs_more (x ∷ xs) b h' k = all-snoc _ xs p h' (ap not k)
-
-    place_more : (xs : List Placed) → begins (λ c. not (ends_name c)) xs ≡ true → place 0 (xs ++ p ∷ []) ≡ place 0 xs
-    place_more [] b = absurd cc
-    place_more (x ∷ xs) b = refl
-
-    equals_more : (xs : List Placed) → begins (λ c. not (ends_name c)) xs ≡ true → begins is_equals (xs ++ p ∷ []) ≡ begins is_equals xs
-    equals_more [] b = absurd cc
-    equals_more (x ∷ xs) b = refl
-
     pub name_goes_on : (new : TagWalk) (later : List ParseError) → AddsToName walk p errors new later → ends_attribute_name p.ch ≡ false → IsInTag table names new (body ++ p ∷ []) [] later
     name_goes_on new later a stays =
-        let n = named_here in
-        let then : new.phase ≡ phase.AttributeName = a.phase_is ∙ in_name in
-        goes_on new (name_errors_here p) later a.later_is a.keeps.name_is a.keeps.seen_is a.keeps.attrs_are a.keeps.any_is (λ c x. subst (λ (y : Phase). IsPast y c) (sym then) x) (past_is phase.AttributeName in_name)
-        (subst (λ (x : Phase). HasPhase x table new h.parts (h.held ++ p ∷ []) (h.own ++ name_errors_here p)) (sym then) (record {
-          has_name = record {
-            first = begins-more _ h.held (p ∷ []) n.has_name.first;
-            runs = runs_more h.held n.has_name.first n.has_name.runs stays;
-            is = a.attribute_is ∙ ap (λ (x : List ℕ). x ++ encode_utf8 (to_ascii_lowercase (without_null p.ch))) n.has_name.is
-                ∙ ap (λ (x : List ℕ). name_bytes h.held ++ x) (sym (append-nil (encode_utf8 (to_ascii_lowercase (without_null p.ch))))) ∙ sym (name_bytes-append h.held (p ∷ []));
-            at_is = place_more h.held n.has_name.first ∙ n.has_name.at_is ∙ sym a.place_is;
-          };
-          no_value = subst NoValue (sym a.value_is) n.no_value;
-          own_is = ap (λ (x : List ParseError). x ++ name_errors_here p) n.own_is
-              ∙ append_assoc (error_if (begins is_equals h.held) UnexpectedEqualsSignBeforeAttributeName (place 0 h.held)) (flat_map name_errors_here h.held) (name_errors_here p)
-              ∙ ap (λ (x : List ParseError). error_if (begins is_equals h.held) UnexpectedEqualsSignBeforeAttributeName (place 0 h.held) ++ x) (ap (λ (x : List ParseError). flat_map name_errors_here h.held ++ x) (sym (append-nil (name_errors_here p))) ∙ sym (flat_map-append name_errors_here h.held (p ∷ [])))
-              ∙ ap (λ (b : Bool). error_if b UnexpectedEqualsSignBeforeAttributeName (place 0 h.held) ++ flat_map name_errors_here (h.held ++ p ∷ [])) (sym (equals_more h.held n.has_name.first))
-              ∙ ap (λ (x : ℕ). error_if (begins is_equals (h.held ++ p ∷ [])) UnexpectedEqualsSignBeforeAttributeName x ++ flat_map name_errors_here (h.held ++ p ∷ [])) (sym (place_more h.held n.has_name.first));
-        }))
+        letters_follow table names walk body (p ∷ []) errors h in_name new later a.keeps a.phase_is a.place_is a.value_is
+        (a.attribute_is ∙ ap (λ (x : List ℕ). string_bytes walk.attribute ++ x) (sym (append-nil (encode_utf8 (to_ascii_lowercase (without_null p.ch))))))
+        (a.later_is ∙ ap (λ (x : List ParseError). errors ++ x) (sym (append-nil (name_errors_here p)))) (and_both _ true (ap not stays) refl)
 
     -- it ends before `/` or `>`: an attribute without a value
     pub bare_ends : (after : Texts) (new : TagWalk) (later : List ParseError) → EndsAttribute names after walk errors new later → ends_attribute_name p.ch ≡ true → is_space p.ch ≡ false → is_equals p.ch ≡ false → IsInTag table after new body (p ∷ []) later
@@ -241,4 +182,4 @@ module _ (table : Entities) (names : Texts) (walk : TagWalk) (body : List Placed
         let n = named_here in
         attribute_ends walk (keeps_self walk) refl refl h.held [] [] [] (append-nil h.held)
         (λ end more. IsPart.bare h.held (record { first = n.has_name.first; runs = record { passes_none = n.has_name.runs; stops_after = stop } }) (ap (begins is_equals) (past-space [] p more refl no_space) ∙ no_equals) refl)
-        n.has_name n.no_value.empty [] errors (append-nil (attribute_name_errors h.held) ∙ sym n.own_is ∙ sym (append-nil h.own)) (sym (append-nil errors)) after new later ends (past_is phase.AttributeName in_name)
+        n.has_name n.no_value.empty [] errors (append-nil (attribute_name_errors h.held) ∙ sym n.own_is ∙ sym (append-nil h.own)) (sym (append-nil errors)) after new later ends (past_is table names walk body (p ∷ []) errors h phase.AttributeName in_name)

@@ -76,24 +76,24 @@ module _ (test : ℕ → Bool) (plain : (c : ℕ) → test c ≡ true → eqb c 
       value_bytes-append (plain_piece p ∷ []) (plain_pieces ps) ∙ ap (λ (x : List ℕ). x ++ value_bytes (plain_pieces ps)) (append-nil (encode_utf8 (without_null p.ch)))
       ∙ ap (λ (x : List ℕ). encode_utf8 (without_null p.ch) ++ x) (alone_bytes ps parts.1) ∙ rw is_some refl
 
-  pub alone_errors : (text : List Placed) → all test text ≡ true → pieces_errors true (plain_pieces text) ≡ []
-  alone_errors [] h = refl
-  alone_errors (p ∷ ps) h =
+  pub alone_errors : (quoted : Bool) → (quoted ≡ false → (c : ℕ) → test c ≡ true → is_odd c ≡ false) → (text : List Placed) → all test text ≡ true → pieces_errors quoted (plain_pieces text) ≡ []
+  alone_errors true even [] h = refl
+  alone_errors false even [] h = refl
+  alone_errors true even (p ∷ ps) h =
       let parts = and_parts (test p.ch) (all test ps) h in
       let is_some : eqb p.ch 0 ≡ false = some p.ch parts.0 in
-      rw is_some (alone_errors ps parts.1)
+      rw is_some (alone_errors true even ps parts.1)
+  alone_errors false even (p ∷ ps) h =
+      let parts = and_parts (test p.ch) (all test ps) h in
+      let is_some : eqb p.ch 0 ≡ false = some p.ch parts.0 in
+      let is_even : is_odd p.ch ≡ false = even refl p.ch parts.0 in
+      rw (is_some, is_even) (alone_errors false even ps parts.1)
 
 pub plain_bytes : (text : List Placed) → all is_quiet text ≡ true → value_bytes (plain_pieces text) ≡ encode_utf8_all (characters text)
 plain_bytes text h = alone_bytes is_quiet quiet_plain quiet_null text h
 
 pub plain_errors : (quoted : Bool) (text : List Placed) → all is_quiet text ≡ true → pieces_errors quoted (plain_pieces text) ≡ []
-plain_errors true text h = alone_errors is_quiet quiet_plain quiet_null text h
-plain_errors false [] h = refl
-plain_errors false (p ∷ ps) h =
-    let parts = and_parts (is_quiet p.ch) (all is_quiet ps) h in
-    let some : eqb p.ch 0 ≡ false = quiet_null p.ch parts.0 in
-    let even : is_odd p.ch ≡ false = quiet_odd p.ch parts.0 in
-    rw (some, even) (plain_errors false ps parts.1)
+plain_errors quoted text h = alone_errors is_quiet quiet_plain quiet_null quoted (λ e. quiet_odd) text h
 
 -- BEGINNINGS OF VALUES
 

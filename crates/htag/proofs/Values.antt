@@ -1,6 +1,5 @@
 -- What follows an attribute's name: `=` and a value.
 use Rattle.std.proofs.Common.{◌≡◌, ℕ, Bool, true, false, not, ◌||◌, ◌&&◌, eqb, List, [], ◌∷◌, ◌++◌, sym, refl, ap, ◌∙◌, subst, append_assoc, append-nil}
-use Rattle.std.specs.String.{string_bytes}
 use Rattle.std.proofs.lemmas.Bool.{eqb-true}
 use Rattle.names.specs.declared.error.ErrorCode.TheVariants.{MissingAttributeValue, MissingWhitespaceBetweenAttributes}
 use Rattle.names.specs.declared.error.ParseError.{ParseError}
@@ -18,14 +17,11 @@ use Rattle.htag.specs.Value.{pieces_text, value_bytes}
 use Rattle.htag.specs.ValueWalk.{HasHeld, IsInValue, TakesInValue, EndsValue, pieces_errors}
 use Rattle.htag.proofs.InValue.{looks_ahead}
 use Rattle.htag.specs.Tag.{IsPart, is_sign, ends_name, ends_attribute_name, ends_unquoted, attribute_name_errors, value_errors, unquoted_errors}
-use Rattle.htag.specs.TagWalk.{NoValue, HasName, HasPhase, IsPast, IsInTag}
+use Rattle.htag.specs.TagWalk.{NoValue, HasPhase, IsPast, IsInTag}
 use Rattle.htag.specs.Steps.{KeepsTag, EndsAttribute}
 use Rattle.htag.proofs.Parts.{begins-more, all-snoc}
-use Rattle.htag.proofs.Phases.{keeps_self, Past, past_is, held_in, goes_on, attribute_ends}
-
--- the attribute's name stays
-pub name_stays : (walk new : TagWalk) (name : List Placed) → new.attribute ≡ walk.attribute → new.place ≡ walk.place → HasName walk name → HasName new name
-name_stays walk new name attribute at h = record { first = h.first; runs = h.runs; is = ap string_bytes attribute ∙ h.is; at_is = h.at_is ∙ sym at }
+use Rattle.htag.proofs.Going.{Past, past_is, held_in, goes_on, name_stays, quoted_goes_on as value_goes_on, unquoted_goes_on as word_goes_on}
+use Rattle.htag.proofs.Phases.{keeps_self, attribute_ends}
 
 -- `=` with white space round it, by its first character
 space_first : (x : Placed) (xs : List Placed) → is_space x.ch ≡ true → is_sign (x ∷ xs) ≡ is_sign xs
@@ -73,15 +69,15 @@ begun_value table quoted value n = record {
 module _ (table : Entities) (names : Texts) (walk : TagWalk) (body : List Placed) (p : Placed) (errors : List ParseError) (h : IsInTag table names walk body (p ∷ []) errors) where
   -- the same attribute in another phase
   module _ (new : TagWalk) (named : new.name ≡ walk.name) (seen : new.seen ≡ walk.seen) (attrs : new.attrs ≡ walk.attrs) (any : new.any ≡ walk.any) (attribute : new.attribute ≡ walk.attribute) (at : new.place ≡ walk.place) (value : new.value ≡ walk.value) where
-    moves : (ph : Phase) → new.phase ≡ ph → ((b : Bool) → b ≡ true → IsPast ph b) → Past table names walk body p errors h ≡ true → HasPhase ph table new h.parts (h.held ++ p ∷ []) h.own → IsInTag table names new (body ++ p ∷ []) [] errors
+    moves : (ph : Phase) → new.phase ≡ ph → ((b : Bool) → b ≡ true → IsPast ph b) → Past table names walk body (p ∷ []) errors h ≡ true → HasPhase ph table new h.parts (h.held ++ p ∷ []) h.own → IsInTag table names new (body ++ p ∷ []) [] errors
     moves ph then gone past_it has =
-        goes_on table names walk body p errors h new [] errors (sym (append-nil errors)) named seen attrs any (λ b e. subst (λ (x : Phase). IsPast x b) (sym then) (gone b e)) past_it
+        goes_on table names walk body (p ∷ []) errors h new [] errors (sym (append-nil errors)) named seen attrs any (λ b e. subst (λ (x : Phase). IsPast x b) (sym then) (gone b e)) past_it
         (subst (λ (x : List ParseError). HasPhase new.phase table new h.parts (h.held ++ p ∷ []) x) (sym (append-nil h.own)) (subst (λ (x : Phase). HasPhase x table new h.parts (h.held ++ p ∷ []) h.own) (sym then) has))
 
     pub space_after_name : walk.phase ≡ phase.AttributeName → new.phase ≡ phase.AfterAttributeName → is_space p.ch ≡ true → ends_attribute_name p.ch ≡ true → IsInTag table names new (body ++ p ∷ []) [] errors
     space_after_name before then is stop =
-        let n = held_in table names walk body p errors h phase.AttributeName before in
-        moves phase.AfterAttributeName then (λ b e. e) (past_is table names walk body p errors h phase.AttributeName before) (record {
+        let n = held_in table names walk body (p ∷ []) errors h phase.AttributeName before in
+        moves phase.AfterAttributeName then (λ b e. e) (past_is table names walk body (p ∷ []) errors h phase.AttributeName before) (record {
           name = h.held;
           sign = p ∷ [];
           held_is = refl;
@@ -94,8 +90,8 @@ module _ (table : Entities) (names : Texts) (walk : TagWalk) (body : List Placed
 
     pub equals_after_name : walk.phase ≡ phase.AttributeName → new.phase ≡ phase.BeforeValue → p.ch ≡ 61 → IsInTag table names new (body ++ p ∷ []) [] errors
     equals_after_name before then is =
-        let n = held_in table names walk body p errors h phase.AttributeName before in
-        moves phase.BeforeValue then (λ b e. e) (past_is table names walk body p errors h phase.AttributeName before) (record {
+        let n = held_in table names walk body (p ∷ []) errors h phase.AttributeName before in
+        moves phase.BeforeValue then (λ b e. e) (past_is table names walk body (p ∷ []) errors h phase.AttributeName before) (record {
           name = h.held;
           sign = p ∷ [];
           held_is = refl;
@@ -109,8 +105,8 @@ module _ (table : Entities) (names : Texts) (walk : TagWalk) (body : List Placed
     -- more white space, after a name and after `=`
     pub space_again : walk.phase ≡ phase.AfterAttributeName → new.phase ≡ phase.AfterAttributeName → is_space p.ch ≡ true → IsInTag table names new (body ++ p ∷ []) [] errors
     space_again before then is =
-        let n = held_in table names walk body p errors h phase.AfterAttributeName before in
-        moves phase.AfterAttributeName then (λ b e. e) (past_is table names walk body p errors h phase.AfterAttributeName before) (record {
+        let n = held_in table names walk body (p ∷ []) errors h phase.AfterAttributeName before in
+        moves phase.AfterAttributeName then (λ b e. e) (past_is table names walk body (p ∷ []) errors h phase.AfterAttributeName before) (record {
           name = n.name;
           sign = n.sign ++ p ∷ [];
           held_is = ap (λ (x : List Placed). x ++ p ∷ []) n.held_is ∙ append_assoc n.name n.sign (p ∷ []);
@@ -123,8 +119,8 @@ module _ (table : Entities) (names : Texts) (walk : TagWalk) (body : List Placed
 
     pub equals_after_space : walk.phase ≡ phase.AfterAttributeName → new.phase ≡ phase.BeforeValue → p.ch ≡ 61 → IsInTag table names new (body ++ p ∷ []) [] errors
     equals_after_space before then is =
-        let n = held_in table names walk body p errors h phase.AfterAttributeName before in
-        moves phase.BeforeValue then (λ b e. e) (past_is table names walk body p errors h phase.AfterAttributeName before) (record {
+        let n = held_in table names walk body (p ∷ []) errors h phase.AfterAttributeName before in
+        moves phase.BeforeValue then (λ b e. e) (past_is table names walk body (p ∷ []) errors h phase.AfterAttributeName before) (record {
           name = n.name;
           sign = n.sign ++ p ∷ [];
           held_is = ap (λ (x : List Placed). x ++ p ∷ []) n.held_is ∙ append_assoc n.name n.sign (p ∷ []);
@@ -137,8 +133,8 @@ module _ (table : Entities) (names : Texts) (walk : TagWalk) (body : List Placed
 
     pub space_after_equals : walk.phase ≡ phase.BeforeValue → new.phase ≡ phase.BeforeValue → is_space p.ch ≡ true → IsInTag table names new (body ++ p ∷ []) [] errors
     space_after_equals before then is =
-        let n = held_in table names walk body p errors h phase.BeforeValue before in
-        moves phase.BeforeValue then (λ b e. e) (past_is table names walk body p errors h phase.BeforeValue before) (record {
+        let n = held_in table names walk body (p ∷ []) errors h phase.BeforeValue before in
+        moves phase.BeforeValue then (λ b e. e) (past_is table names walk body (p ∷ []) errors h phase.BeforeValue before) (record {
           name = n.name;
           sign = n.sign ++ p ∷ [];
           held_is = ap (λ (x : List Placed). x ++ p ∷ []) n.held_is ∙ append_assoc n.name n.sign (p ∷ []);
@@ -152,8 +148,8 @@ module _ (table : Entities) (names : Texts) (walk : TagWalk) (body : List Placed
     -- a quote
     pub quote_follows : walk.phase ≡ phase.BeforeValue → new.phase ≡ phase.Quoted p.ch → is_quote p.ch ≡ true → IsInTag table names new (body ++ p ∷ []) [] errors
     quote_follows before then is =
-        let n = held_in table names walk body p errors h phase.BeforeValue before in
-        moves (phase.Quoted p.ch) then (λ b e. e) (past_is table names walk body p errors h phase.BeforeValue before) (record {
+        let n = held_in table names walk body (p ∷ []) errors h phase.BeforeValue before in
+        moves (phase.Quoted p.ch) then (λ b e. e) (past_is table names walk body (p ∷ []) errors h phase.BeforeValue before) (record {
           name = n.name;
           sign = n.sign;
           quote = p ∷ [];
@@ -173,8 +169,8 @@ module _ (table : Entities) (names : Texts) (walk : TagWalk) (body : List Placed
   pub quote_closes : (mark : ℕ) (new : TagWalk) (later : List ParseError) → KeepsTag walk new → new.attribute ≡ walk.attribute → new.place ≡ walk.place → EndsValue walk.value errors new.value later
       → walk.phase ≡ phase.Quoted mark → new.phase ≡ phase.AfterQuoted → p.ch ≡ mark → IsInTag table names new (body ++ p ∷ []) [] later
   quote_closes mark new later keeps attribute at v before next is =
-      let q = held_in table names walk body p errors h (phase.Quoted mark) before in
-      goes_on table names walk body p errors h new v.more later v.later_is keeps.name_is keeps.seen_is keeps.attrs_are keeps.any_is (λ b e. subst (λ (x : Phase). IsPast x b) (sym next) e) (past_is table names walk body p errors h (phase.Quoted mark) before)
+      let q = held_in table names walk body (p ∷ []) errors h (phase.Quoted mark) before in
+      goes_on table names walk body (p ∷ []) errors h new v.more later v.later_is keeps.name_is keeps.seen_is keeps.attrs_are keeps.any_is (λ b e. subst (λ (x : Phase). IsPast x b) (sym next) e) (past_is table names walk body (p ∷ []) errors h (phase.Quoted mark) before)
       (subst (λ (x : Phase). HasPhase x table new h.parts (h.held ++ p ∷ []) (h.own ++ v.more)) (sym next) (record {
         mark = mark;
         name = q.name;
@@ -198,30 +194,13 @@ module _ (table : Entities) (names : Texts) (walk : TagWalk) (body : List Placed
   pub quoted_goes_on : (mark : ℕ) (new : TagWalk) (later : List ParseError) → KeepsTag walk new → new.attribute ≡ walk.attribute → new.place ≡ walk.place → TakesInValue table true walk.value p errors new.value later
       → walk.phase ≡ phase.Quoted mark → new.phase ≡ walk.phase → eqb p.ch mark ≡ false → IsInTag table names new (body ++ p ∷ []) [] later
   quoted_goes_on mark new later keeps attribute at v before same other =
-      let q = held_in table names walk body p errors h (phase.Quoted mark) before in
-      let next : new.phase ≡ phase.Quoted mark = same ∙ before in
-      goes_on table names walk body p errors h new v.more later v.later_is keeps.name_is keeps.seen_is keeps.attrs_are keeps.any_is (λ b e. subst (λ (x : Phase). IsPast x b) (sym next) e) (past_is table names walk body p errors h (phase.Quoted mark) before)
-      (subst (λ (x : Phase). HasPhase x table new h.parts (h.held ++ p ∷ []) (h.own ++ v.more)) (sym next) (record {
-        name = q.name;
-        sign = q.sign;
-        quote = q.quote;
-        text = q.text ++ p ∷ [];
-        raised = q.raised ++ v.more;
-        held_is = ap (λ (x : List Placed). x ++ p ∷ []) q.held_is ∙ append_assoc q.name (q.sign ++ q.quote ++ q.text) (p ∷ []) ∙ ap (λ (x : List Placed). q.name ++ x) (append_assoc (q.sign ++ q.quote) q.text (p ∷ []));
-        has_name = name_stays walk new q.name attribute at q.has_name;
-        signed = q.signed;
-        opens = q.opens;
-        is_mark = q.is_mark;
-        inside = all-snoc (λ c. not (eqb c mark)) q.text p q.inside (ap not other);
-        value = v.takes q.text q.raised (looks_ahead table true walk.value q.text (p ∷ []) q.raised q.value);
-        own_is = ap (λ (x : List ParseError). x ++ v.more) q.own_is ∙ append_assoc (attribute_name_errors q.name) q.raised v.more;
-      }))
+      value_goes_on table names walk body (p ∷ []) errors h new v.more later keeps attribute at same v.later_is mark before v.takes (and_both _ true (ap not other) refl)
 
   -- an attribute in quotes has ended
   pub quoted_ends : (mid : List ParseError) (after : Texts) (new : TagWalk) (later : List ParseError) → walk.phase ≡ phase.AfterQuoted → mid ≡ errors ++ error_if (not (ends_name p.ch)) MissingWhitespaceBetweenAttributes p.at
       → EndsAttribute names after walk mid new later → IsInTag table after new body (p ∷ []) later
   quoted_ends mid after new later before mid_is ends =
-      let s = held_in table names walk body p errors h phase.AfterQuoted before in
+      let s = held_in table names walk body (p ∷ []) errors h phase.AfterQuoted before in
       let v = s.value in
       let fault : List ParseError = error_if (not (ends_name p.ch)) MissingWhitespaceBetweenAttributes p.at in
       attribute_ends table names walk body p errors h walk (keeps_self walk) refl refl s.name (s.sign ++ s.quote ++ pieces_text v.pieces ++ s.close) (value_bytes v.pieces) (value_errors v.pieces ++ fault)
@@ -230,24 +209,24 @@ module _ (table : Entities) (names : Texts) (walk : TagWalk) (body : List Placed
       s.signed s.opens s.is_mark (ap (all (λ c. not (eqb c s.mark))) (sym v.text_is) ∙ s.inside) v.are s.closes refl)
       s.has_name v.bytes fault mid
       (sym (append_assoc (attribute_name_errors s.name) (value_errors v.pieces) fault) ∙ ap (λ (x : List ParseError). (attribute_name_errors s.name ++ x) ++ fault) (sym v.errors_are) ∙ ap (λ (x : List ParseError). x ++ fault) (sym s.own_is)) mid_is after new later ends
-      (past_is table names walk body p errors h phase.AfterQuoted before)
+      (past_is table names walk body (p ∷ []) errors h phase.AfterQuoted before)
 
   -- `>` in the place of a value
   pub no_value_ends : (mid : List ParseError) (after : Texts) (new : TagWalk) (later : List ParseError) → walk.phase ≡ phase.BeforeValue → mid ≡ errors ++ error MissingAttributeValue p.at ∷ [] → is_greater p.ch ≡ true
       → EndsAttribute names after walk mid new later → IsInTag table after new body (p ∷ []) later
   no_value_ends mid after new later before mid_is is ends =
-      let n = held_in table names walk body p errors h phase.BeforeValue before in
+      let n = held_in table names walk body (p ∷ []) errors h phase.BeforeValue before in
       let fault : List ParseError = error MissingAttributeValue p.at ∷ [] in
       attribute_ends table names walk body p errors h walk (keeps_self walk) refl refl n.name n.sign [] fault (sym n.held_is)
       (λ end more. IsPart.no_value n.name n.sign (record { first = n.has_name.first; runs = record { passes_none = n.has_name.runs; stops_after = sign_stops n.sign n.is_sign } }) n.is_sign is refl)
-      n.has_name n.no_value.empty fault mid (ap (λ (x : List ParseError). x ++ fault) (sym n.own_is)) mid_is after new later ends (past_is table names walk body p errors h phase.BeforeValue before)
+      n.has_name n.no_value.empty fault mid (ap (λ (x : List ParseError). x ++ fault) (sym n.own_is)) mid_is after new later ends (past_is table names walk body (p ∷ []) errors h phase.BeforeValue before)
 
   -- a value without quotes begins
   pub unquoted_begins : (new : TagWalk) (later : List ParseError) → KeepsTag walk new → new.attribute ≡ walk.attribute → new.place ≡ walk.place → TakesInValue table false walk.value p errors new.value later
       → walk.phase ≡ phase.BeforeValue → new.phase ≡ phase.Unquoted → not (ends_unquoted p.ch || is_quote p.ch) ≡ true → not (ends_unquoted p.ch) ≡ true → IsInTag table names new (body ++ p ∷ []) [] later
   unquoted_begins new later keeps attribute at v before next first stays =
-      let n = held_in table names walk body p errors h phase.BeforeValue before in
-      goes_on table names walk body p errors h new v.more later v.later_is keeps.name_is keeps.seen_is keeps.attrs_are keeps.any_is (λ b x. subst (λ (y : Phase). IsPast y b) (sym next) x) (past_is table names walk body p errors h phase.BeforeValue before)
+      let n = held_in table names walk body (p ∷ []) errors h phase.BeforeValue before in
+      goes_on table names walk body (p ∷ []) errors h new v.more later v.later_is keeps.name_is keeps.seen_is keeps.attrs_are keeps.any_is (λ b x. subst (λ (y : Phase). IsPast y b) (sym next) x) (past_is table names walk body (p ∷ []) errors h phase.BeforeValue before)
       (subst (λ (x : Phase). HasPhase x table new h.parts (h.held ++ p ∷ []) (h.own ++ v.more)) (sym next) (record {
         name = n.name;
         sign = n.sign;
@@ -266,28 +245,13 @@ module _ (table : Entities) (names : Texts) (walk : TagWalk) (body : List Placed
   pub unquoted_goes_on : (new : TagWalk) (later : List ParseError) → KeepsTag walk new → new.attribute ≡ walk.attribute → new.place ≡ walk.place → TakesInValue table false walk.value p errors new.value later
       → walk.phase ≡ phase.Unquoted → new.phase ≡ walk.phase → not (ends_unquoted p.ch) ≡ true → IsInTag table names new (body ++ p ∷ []) [] later
   unquoted_goes_on new later keeps attribute at v before same stays =
-      let n = held_in table names walk body p errors h phase.Unquoted before in
-      let next : new.phase ≡ phase.Unquoted = same ∙ before in
-      goes_on table names walk body p errors h new v.more later v.later_is keeps.name_is keeps.seen_is keeps.attrs_are keeps.any_is (λ b x. subst (λ (y : Phase). IsPast y b) (sym next) x) (past_is table names walk body p errors h phase.Unquoted before)
-      (subst (λ (x : Phase). HasPhase x table new h.parts (h.held ++ p ∷ []) (h.own ++ v.more)) (sym next) (record {
-        name = n.name;
-        sign = n.sign;
-        text = n.text ++ p ∷ [];
-        raised = n.raised ++ v.more;
-        held_is = ap (λ (x : List Placed). x ++ p ∷ []) n.held_is ∙ append_assoc n.name (n.sign ++ n.text) (p ∷ []) ∙ ap (λ (x : List Placed). n.name ++ x) (append_assoc n.sign n.text (p ∷ []));
-        has_name = name_stays walk new n.name attribute at n.has_name;
-        signed = n.signed;
-        first = begins-more _ n.text (p ∷ []) n.first;
-        inside = all-snoc (λ c. not (ends_unquoted c)) n.text p n.inside stays;
-        value = v.takes n.text n.raised (looks_ahead table false walk.value n.text (p ∷ []) n.raised n.value);
-        own_is = ap (λ (x : List ParseError). x ++ v.more) n.own_is ∙ append_assoc (attribute_name_errors n.name) n.raised v.more;
-      }))
+      word_goes_on table names walk body (p ∷ []) errors h new v.more later keeps attribute at same v.later_is before v.takes (and_both _ true stays refl)
 
   -- it ends
   pub unquoted_ends : (mid_walk : TagWalk) (mid : List ParseError) (after : Texts) (new : TagWalk) (later : List ParseError) → KeepsTag walk mid_walk → mid_walk.attribute ≡ walk.attribute → mid_walk.place ≡ walk.place
       → EndsValue walk.value errors mid_walk.value mid → walk.phase ≡ phase.Unquoted → ends_unquoted p.ch ≡ true → EndsAttribute names after mid_walk mid new later → IsInTag table after new body (p ∷ []) later
   unquoted_ends mid_walk mid after new later keeps attribute at e before stop ends =
-      let n = held_in table names walk body p errors h phase.Unquoted before in
+      let n = held_in table names walk body (p ∷ []) errors h phase.Unquoted before in
       let v = e.ends table false n.text n.raised n.value in
       attribute_ends table names walk body p errors h mid_walk keeps attribute at n.name (n.sign ++ pieces_text v.pieces) (value_bytes v.pieces) (unquoted_errors v.pieces)
       (ap (λ (x : List Placed). n.name ++ (n.sign ++ x)) (sym v.text_is) ∙ sym n.held_is)
@@ -295,4 +259,4 @@ module _ (table : Entities) (names : Texts) (walk : TagWalk) (body : List Placed
       (ap (begins (λ c. not (ends_unquoted c || is_quote c))) (sym v.text_is) ∙ n.first) (record { passes_none = ap (all (λ c. not (ends_unquoted c))) (sym v.text_is) ∙ n.inside; stops_after = stop }) v.are refl)
       n.has_name v.bytes e.more mid
       (ap (λ (x : List ParseError). attribute_name_errors n.name ++ x) (sym v.errors_are) ∙ sym (append_assoc (attribute_name_errors n.name) n.raised e.more) ∙ ap (λ (x : List ParseError). x ++ e.more) (sym n.own_is)) e.later_is
-      after new later ends (past_is table names walk body p errors h phase.Unquoted before)
+      after new later ends (past_is table names walk body (p ∷ []) errors h phase.Unquoted before)

@@ -6,3 +6,4 @@ pub mod ValueWalk
 pub mod ValueSteps
 pub mod TagWalk
 pub mod Steps
+pub mod Run

@@ -15,11 +15,6 @@ pub record AddsPlain (quoted : Bool) (old : ValueWalk) (p : Placed) (errors : Li
   pub bytes : string_bytes new.text ≡ string_bytes old.text ++ encode_utf8 (without_null p.ch)
   pub later_is : later ≡ errors ++ pieces_errors quoted (plain_piece p ∷ [])
 
--- Characters that stand for themselves are added.
-pub record AddsRun (old : ValueWalk) (run : List ℕ) (new : ValueWalk) : Type 0 where
-  pub reading_is : new.reading ≡ old.reading
-  pub bytes : string_bytes new.text ≡ string_bytes old.text ++ run
-
 -- The last characters held are added, so many.
 pub record GivesBack (count : ℕ) (old new : ValueWalk) : Type 0 where
   pub reading_is : new.reading ≡ old.reading

@@ -7,6 +7,7 @@ mod phase;
 mod piece;
 mod push;
 mod reading;
+mod run;
 mod seen;
 mod stamp;
 mod step;

@@ -4,8 +4,9 @@ ghost use Rattle.std.specs.Prelude.{◌≡◌, ◌∷◌, ◌++◌, ◌-◌, ℕ
 ghost use Rattle.charref.specs.Reference.{Entities};
 ghost use Rattle.charref.specs.declared.walk.Walk.{Walk as Handed};
 ghost use Rattle.htag.specs.Value.{plain_piece};
+ghost use Rattle.htag.specs.TagWalk.{NoValue};
 ghost use Rattle.htag.specs.ValueWalk.{TakesInValue, EndsValue, TellsReference, pieces_errors};
-ghost use Rattle.htag.specs.ValueSteps.{AddsPlain, AddsRun, GivesBack};
+ghost use Rattle.htag.specs.ValueSteps.{AddsPlain, GivesBack};
 
 use crate::push::{keep_if, keep_null, push_all, push_value};
 use crate::reading::Reading;
@@ -15,7 +16,9 @@ use names::{ErrorCode, ParseError};
 use std::alloc::{AllocError, Global};
 
 impl<'t> ValueWalk<'t> {
-    pub fn new(alloc: Global) -> ValueWalk<'t> {
+    pub fn new(alloc: Global) -> ValueWalk<'t>
+        ensures { NoValue result }
+    {
         ValueWalk {
             text: String::new(alloc),
             reading: Reading::Nothing,
@@ -26,8 +29,7 @@ impl<'t> ValueWalk<'t> {
 
     /// Begins another value.
     pub fn begin(&mut self)
-        ensures reading { self.new.reading ≡ Reading.Nothing }
-        ensures text { string_bytes self.new.text ≡ [] }
+        ensures { NoValue self.new }
     {
         self.text.clear();
         self.reading = Reading::Nothing;
@@ -56,13 +58,6 @@ impl<'t> ValueWalk<'t> {
         ensures { MatchBool result (self.now.reading ≡ Reading.Nothing) (Unit {0}) }
     {
         matches!(self.reading, Reading::Nothing)
-    }
-
-    /// Adds characters that stand for themselves.
-    pub fn push_run(&mut self, run: &str) -> Result<(), AllocError>
-        ensures { OnOk result (AddsRun self.old run.now self.new) }
-    {
-        self.text.push_str(run)
     }
 
     /// The value ends.

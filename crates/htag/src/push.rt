@@ -1,9 +1,11 @@
 //! Characters and errors, added to what was read.
 
-ghost use Rattle.std.specs.Prelude.{◌≡◌, ◌≤◌, ◌==◌, ◌∷◌, ◌++◌, [], length, not, OnOk, string_bytes, encode_utf8_all};
-ghost use Rattle.std.specs.List.{prefix_len};
+ghost use Rattle.std.specs.Prelude.{◌≡◌, ◌≤◌, ◌==◌, ◌∷◌, ◌++◌, [], true, length, take, not, OnOk, string_bytes, encode_utf8_all};
+ghost use Rattle.std.specs.List.{list_all, prefix_len};
 ghost use Rattle.std.specs.Char.{encode_utf8, to_ascii_lowercase};
 ghost use Rattle.names.specs.Placed.{error_if, null_errors, without_null};
+ghost use Rattle.htext.specs.Run.{is_plain_byte};
+ghost use Rattle.htag.specs.Run.{is_word_byte};
 ghost use Rattle.htag.specs.Tag.{ends_name};
 
 use names::{ErrorCode, ParseError};
@@ -85,4 +87,26 @@ pub(crate) fn count_before(text: &str, mark: char) -> usize
         }
     }
     text.len()
+}
+
+/// How many bytes of a text stand before the first one that may have a meaning in a name or in a value without quotes.
+pub(crate) fn count_word(text: &str) -> usize
+    ensures counted { result ≡ prefix_len is_word_byte text.now }
+    ensures few { result ≤ length text.now }
+{
+    for (index, byte) in text.as_bytes().iter().enumerate() {
+        if !matches!(*byte, b'-' | b'.' | b'0'..=b':' | b'_' | b'a'..=b'z') {
+            return index;
+        }
+    }
+    text.len()
+}
+
+/// So many characters at the front of a run of plain ones.
+pub(crate) fn push_front(text: &mut String, run: &str, count: usize) -> Result<(), AllocError>
+    requires plain { list_all is_plain_byte run.now ≡ true }
+    requires within { count ≤ length run.now }
+    ensures { OnOk result (string_bytes text.new ≡ string_bytes text.old ++ take count run.now) }
+{
+    text.push_str(&run[..count])
 }

@@ -117,6 +117,10 @@ fn tags_are_read(rt: HostRuntime) -> Result<(), Fail> {
                 "p a= 8 missing-semicolon-after-character-reference 5 duplicate-attribute",
             ),
             ("<p a / b  ", "p a= b= 6 unexpected-solidus-in-tag"),
+            (
+                "<table-1 href=a.b:c_9#x-/Y  b = a/b a='x y>' a>",
+                "table-1 href=a.b:c_9#x-/Y b=a/b a=x y> 45 duplicate-attribute",
+            ),
         ] {
             let found = read(alloc, &table, text).ok();
             assert!(rt; found.is_some());
@@ -174,6 +178,29 @@ fn a_raw_end_tag_keeps_the_name(rt: HostRuntime) -> Result<(), Fail> {
         assert!(rt; matches!(walk.kind(), TagKind::End));
         assert!(rt; walk.take_char(&table, &mut names, '>', 8, &mut errors).ok() == Some(true));
         assert!(rt; !walk.has_attributes());
+    }
+    Ok(())
+}
+
+#[test]
+fn a_run_is_taken_as_far_as_its_tag_goes(rt: HostRuntime) -> Result<(), Fail> {
+    let alloc = rt.alloc();
+    let table = Table::core(alloc).ok();
+    assert!(rt; table.is_some());
+    if let Some(table) = table {
+        let mut names = Names::new(alloc)?;
+        let mut walk = TagWalk::new(alloc);
+        let mut errors = Vec::new(alloc);
+        assert!(rt; walk.name() == "");
+        assert!(rt; !walk.has_attributes());
+        walk.begin(TagKind::Start, 'T')?;
+        let run = "D-1 href=a.b:c_9#x-/Y  B = a/b a='x >y' a>z";
+        let count = walk.take_run(&table, &mut names, run, 2, &mut errors)?;
+        assert!(rt; count == run.len() - 2);
+        let ended = walk.take_char(&table, &mut names, '>', 43, &mut errors)?;
+        assert!(rt; ended);
+        let line = line(alloc, &mut names, &mut walk, &errors)?;
+        assert!(rt; line.as_str() == "td-1 href=a.b:c_9#x-/Y b=a/b a=x >y 42 duplicate-attribute");
     }
     Ok(())
 }

@@ -1,21 +1,18 @@
 //! A walk through a tag.
 
-ghost use Rattle.std.specs.Prelude.{◌≡◌, ◌≤◌, ◌∷◌, ◌++◌, ℕ, List, [], length, take, true, IfOk, OnOk, MatchResult, string_bytes};
-ghost use Rattle.std.specs.List.{list_all};
-ghost use Rattle.names.specs.declared.error.ParseError.{ParseError as Error};
+ghost use Rattle.std.specs.Prelude.{◌≡◌, ◌∷◌, ◌++◌, List, [], true, false, OnOk, MatchResult, string_bytes};
 ghost use Rattle.names.specs.declared.placed.Placed.{Placed as Character};
 ghost use Rattle.names.specs.Names.{Texts, Grows};
-ghost use Rattle.names.specs.Placed.{all, begins, is_letter, name_bytes, placed};
+ghost use Rattle.names.specs.Placed.{all, begins, is_letter, name_bytes};
 ghost use Rattle.charref.specs.Reference.{Entities};
-ghost use Rattle.htext.specs.Run.{is_plain_byte};
-ghost use Rattle.htag.specs.declared.kind.TagKind.TheVariants.{End};
+ghost use Rattle.htag.specs.declared.kind.TagKind.TheVariants.{Start, End};
 ghost use Rattle.htag.specs.Steps.{IsBegun};
-ghost use Rattle.htag.specs.TagWalk.{IsInTag, TakesInTag, IsCutTag};
+ghost use Rattle.htag.specs.TagWalk.{NoValue, IsInTag, TakesInTag, IsCutTag};
 ghost use Rattle.names.specs.declared.refusal.Refusal.TheVariants.{Memory};
 
 use crate::kind::TagKind;
 use crate::phase::Phase;
-use crate::push::{count_before, push_lowered};
+use crate::push::push_lowered;
 use crate::seen::Seen;
 use crate::value::ValueWalk;
 use charref::Table;
@@ -43,7 +40,14 @@ pub struct TagWalk<'t> {
 }
 
 impl<'t> TagWalk<'t> {
-    pub fn new(alloc: Global) -> TagWalk<'t> {
+    /// A walk that has read nothing: it tells of a start tag without a name and without attributes.
+    pub fn new(alloc: Global) -> TagWalk<'t>
+        ensures begun { IsBegun Start result }
+        ensures name { string_bytes result.name ≡ [] }
+        ensures attribute { string_bytes result.attribute ≡ [] }
+        ensures value { NoValue result.value }
+        ensures closing { result.closing ≡ false }
+    {
         TagWalk {
             alloc,
             kind: TagKind::Start,
@@ -106,26 +110,6 @@ impl<'t> TagWalk<'t> {
             Phase::Unquoted => self.in_unquoted(table, names, ch, at, errors),
             Phase::AfterQuoted => self.after_quotes(table, names, ch, at, errors),
         }
-    }
-
-    /// Takes the characters at the front of a run of plain characters with which a value in quotes goes on, and returns how many
-    /// they are. There may be none: then `take_char` takes the next character.
-    pub fn take_run(&mut self, run: &str) -> Result<usize, AllocError>
-        requires { list_all is_plain_byte run.now ≡ true }
-        ensures few { IfOk result (λ count. count ≤ length run.now) }
-        ensures takes { IfOk result (λ count. (table : Entities) (names : Texts) (body : List Character) (errors : List Error) (at : ℕ)
-            → IsInTag table names self.old body [] errors → IsInTag table names self.new (body ++ placed at (take count run.now)) [] errors) }
-        ensures kind { OnOk result (self.new.kind ≡ self.old.kind) }
-    {
-        let Phase::Quoted(mark) = self.phase else {
-            return Ok(0);
-        };
-        if !self.value.is_between() {
-            return Ok(0);
-        }
-        let count = count_before(run, mark);
-        self.value.push_run(&run[..count])?;
-        Ok(count)
     }
 
     /// The input ends inside the tag: finishes the attribute that is being read. There is no tag then, but its errors stay.

@@ -6,23 +6,20 @@ use Rattle.std.proofs.lemmas.List.{take_all}
 use Rattle.names.specs.declared.placed.Placed.{Placed}
 use Rattle.names.specs.declared.raw.RawKind.{RawKind}
 use Rattle.names.specs.declared.refusal.Refusal.{Refusal}
-use Rattle.names.specs.declared.refusal.Refusal.TheVariants.{Memory}
 use Rattle.names.specs.Names.{Texts, Grows}
 use Rattle.names.specs.Placed.{placed}
-use Rattle.names.specs.Sink.{Hands}
 use Rattle.names.proofs.Handing.{text_kept}
 use Rattle.htext.specs.Run.{is_plain_byte}
 use Rattle.htext.proofs.Runs.{placed_part, placed_rest}
 use Rattle.charref.specs.Reference.{Entities}
 use Rattle.htag.proofs.Naming.{attrs_kept}
-use Rattle.htoken.specs.declared.state.State.{State}
 use Rattle.htoken.specs.declared.token.Token.{Token}
 use Rattle.htoken.specs.declared.token.Token.TheVariants as code
 use Rattle.htoken.specs.declared.tokenizer.Tokenizer.{Tokenizer}
 use Rattle.htoken.specs.Token.{Tok, Item, ItemToken, ItemError, Event, Gives, Reports, TokenMeans, Mean}
-use Rattle.htoken.specs.Tokens.{tokens_in, tokens_of, eof_of, IsRefused, AreFront}
+use Rattle.htoken.specs.Tokens.{tokens_in, IsRefused, AreFront}
 use Rattle.htoken.specs.Handing.{HandsEvents}
-use Rattle.htoken.specs.Tokenizing.{next_place, Stands, Reads, HasTaken, holds, Takes, take_ran_out, take_refused, take_sink_refused, take_took, IsHeld, IsIn, IsLast}
+use Rattle.htoken.specs.Tokenizing.{HasTaken, Takes, take_ran_out, take_refused, take_sink_refused, take_took}
 use Rattle.htoken.proofs.Handing.{HandsEvents-append}
 
 -- what was handed over stands for the same when the table of names has grown

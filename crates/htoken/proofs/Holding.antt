@@ -13,7 +13,7 @@ use Rattle.htoken.specs.Standing.{Standing}
 use Rattle.htoken.specs.HeldFrom.{HoldsFrom, from_of}
 use Rattle.htoken.specs.Tokenizing.{HasTaken, holds, in_run, IsHeld, next_place}
 
-held_place : (s : State) (table : Entities) (names : Texts) (here : Standing) (t : Tokenizer) (held : List Placed) → IsHeld s table names here t held [] → from_of s t ≡ place t.next held
+pub held_place : (s : State) (table : Entities) (names : Texts) (here : Standing) (t : Tokenizer) (held : List Placed) → IsHeld s table names here t held [] → from_of s t ≡ place t.next held
 held_place state.Text table names here t held h = ap (place t.next) (sym h.0)
 held_place state.Less table names here t held h = ap (place t.next) (sym h.0)
 held_place (state.LessSolidus at) table names here t held h = ap (place t.next) (sym h.0)

@@ -361,7 +361,7 @@ module _ {S : Type 0} (gives : S → Item → Result (Unit {0}) Refusal → S �
               held_is = i.held_is;
               opens = sym (ap tag_mark kind);
               in_tag = tag_ahead table names new.tag t.held.items t.raised.errors.items (subst (IsInTag table names new.tag t.held.items []) (sym i.raises_none)
-                  (begun t.held.items some i.letters (sym name_whole ∙ sym (name_is_lowered t.held.items i.letters)))) p;
+                  (begun t.held.items some i.letters (sym name_whole ∙ sym (name_is_lowered t.held.items i.letters)))) (p ∷ []);
               fits = λ end rest more span e is. in_raw table end h.here rest span raw_here (raw_end (whole rest more span e) is);
             };
           }) where

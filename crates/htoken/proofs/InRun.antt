@@ -1,10 +1,9 @@
 -- A run of plain characters, taken as a whole.
-use Rattle.std.proofs.Common.{◌≡◌, ◌≤◌, ◌<◌, ℕ, zero, suc, ◌+◌, Bool, true, false, cond, ◌&&◌, ◌||◌, eqb, min, List, [], ◌∷◌, ◌++◌, length, take, map, sym, refl, ap, ◌∙◌, subst, arith, Result, Ok, Err, Option, append_assoc, append-nil}
+use Rattle.std.proofs.Common.{◌≡◌, ◌≤◌, ◌<◌, ℕ, ◌+◌, Bool, true, false, cond, eqb, List, [], ◌∷◌, ◌++◌, length, take, sym, refl, ap, ◌∙◌, subst, arith, Result, Ok, Err, Option, append_assoc, append-nil}
 use Rattle.std.proofs.lemmas.Bool.Decides.{nat_tests}
-use Rattle.std.specs.List.{list_all, prefix_len}
+use Rattle.std.specs.List.{list_all}
 use Rattle.std.specs.Prelude.{slice_index}
 use Rattle.std.proofs.lemmas.List.{length-take-le}
-use Rattle.std.proofs.lemmas.Bool.{and_from}
 use Rattle.std.specs.Char.{len_utf8}
 use Rattle.std.specs.String.{string_bytes}
 use Rattle.names.specs.declared.error.ParseError.{ParseError}
@@ -13,35 +12,34 @@ use Rattle.names.specs.declared.raw.RawKind.{RawKind}
 use Rattle.names.specs.declared.raw.RawKind.TheVariants as kind
 use Rattle.names.specs.declared.refusal.Refusal.{Refusal}
 use Rattle.names.specs.declared.refusal.Refusal.TheVariants.{Memory}
-use Rattle.names.specs.Names.{Texts}
+use Rattle.names.specs.Names.{Texts, Grows}
 use Rattle.names.specs.Placed.{all, placed, null_errors}
 use Rattle.htext.specs.Run.{is_plain_byte}
 use Rattle.htext.proofs.Runs.{one_long, plain_take}
 use Rattle.charref.specs.Reference.{Entities}
 use Rattle.hmarkup.proofs.Marks.{and_parts, and_no}
 use Rattle.hmarkup.proofs.Characters.{no_null_error}
-use Rattle.hmarkup.specs.CommentWalk.{backwards, HasReadOf, IsSpan as IsCommentOf}
+use Rattle.hmarkup.specs.CommentWalk.{HasReadOf, IsSpan as IsCommentOf}
 use Rattle.hmarkup.specs.Walk.{TakesRun, run_ran_out, run_refused, run_goes_on}
 use Rattle.htag.specs.TagWalk.{IsInTag}
-use Rattle.htoken.specs.declared.script.Script.{Script}
-use Rattle.htoken.specs.declared.state.Raised.{Raised}
 use Rattle.htoken.specs.declared.state.State.{State}
 use Rattle.htoken.specs.declared.state.State.TheVariants as state
 use Rattle.htoken.specs.declared.tokenizer.Tokenizer.{Tokenizer}
-use Rattle.htoken.specs.Token.{Tok, Span, Item, Event, Gives, Char, Comment, piece_span}
+use Rattle.htoken.specs.Token.{Tok, Span, Item, Event, Gives, Char, Comment}
 use Rattle.htoken.specs.Standing.{Standing}
 use Rattle.htoken.specs.Raw.{is_script}
-use Rattle.htoken.specs.Script.{HasFront, FollowsAll}
+use Rattle.htoken.specs.Script.{FollowsAll}
 use Rattle.htoken.specs.Data.{IsDataSpan, character, character_span}
-use Rattle.htoken.specs.Spans.{IsSpan, IsSpanOf, IsRawSpan, raw_character, has_references}
-use Rattle.htoken.specs.Tokens.{tokens_in, tokens_of, eof_of, AreFront}
+use Rattle.htoken.specs.Spans.{IsSpanOf, IsRawSpan, raw_character, has_references}
+use Rattle.htoken.specs.Tokens.{tokens_in, eof_of}
 use Rattle.htoken.specs.Handing.{HandsEvents}
 use Rattle.htoken.specs.Run.{run_events}
-use Rattle.htoken.specs.Tag.{IsTag, tag_mark}
+use Rattle.htoken.specs.Tag.{tag_mark}
 use Rattle.htoken.specs.Tokenizing.{after_place, next_from, next_place, less, Stands, Reads, HasTaken, holds, Takes, take_ran_out, take_sink_refused, take_took, IsHeld, IsIn, IsLast, IsBetween, IsInMarkup, IsInMarkedTag}
 use Rattle.htoken.proofs.Cutting.{stands_more}
 use Rattle.htoken.proofs.InMarkup.{keeps, kept, refused}
 use Rattle.htoken.proofs.InRaw.{raw_span, after_characters}
+use Rattle.htoken.proofs.InTag.{reads_kept}
 use Rattle.htoken.proofs.RawEnds.{other_goes_on}
 use Rattle.htoken.proofs.Scripting.{all_followed}
 
@@ -87,14 +85,6 @@ next_front text at count run plain some within room =
 pub first_of : (at : ℕ) (run : List ℕ) (c : ℕ) → 0 < length run → c ≡ slice_index run 0 → record { ch = c; at = at } ∷ [] ≡ placed at (take 1 run)
 first_of at [] c h e = absurd (omega (arith, h))
 first_of at (x ∷ xs) c h e = ap (λ (n : ℕ). record { ch = n; at = at } ∷ []) e
-
--- the bytes before the first that does not pass
-pub prefix_all : (q : ℕ → Bool) (xs : List ℕ) → list_all q (take (prefix_len q xs) xs) ≡ true
-prefix_all q [] = refl
-prefix_all q (x ∷ xs) = by (q x) refl (prefix_all q xs) where
-  by : (b : Bool) → q x ≡ b → list_all q (take (prefix_len q xs) xs) ≡ true → list_all q (take (cond b (1 + prefix_len q xs) 0) (x ∷ xs)) ≡ true
-  by true e more = let one : 1 + prefix_len q xs ≡ suc (prefix_len q xs) = omega arith in rw one (and_from _ _ e more)
-  by false e more = refl
 
 -- TEXT
 
@@ -272,38 +262,52 @@ module _ {S : Type 0} (gives : S → Item → Result (Unit {0}) Refusal → S �
           },
         ))
 
-  -- a tag goes on
-  module _ (in_tag : t.state ≡ state.Tag) where
-    pub tag_here : IsInMarkedTag table names h.here t h.held []
-    tag_here = subst (λ (x : State). IsHeld x table names h.here t h.held []) in_tag h.is_held
+-- A TAG
 
-    pub tag_reads : (new : Tokenizer) → new ≡ record t { next = new.next; tag = new.tag } → new.next ≡ next_place (text ++ run) → new.tag.kind ≡ t.tag.kind
-        → (IsInTag table names t.tag tag_here.body [] t.raised.errors.items → IsInTag table names new.tag (tag_here.body ++ run) [] t.raised.errors.items) → Reads table start new names (text ++ run) [] taken
-    tag_reads new then next kind more =
+module _ {S : Type 0} (gives : S → Item → Result (Unit {0}) Refusal → S → Type 0) (table : Entities) (start : RawKind) (names later : Texts) (grows : Grows names later) (text : List Placed) (taken : List Event) (t : Tokenizer) (h : Reads table start t names text [] taken)
+    (in_tag : t.state ≡ state.Tag) (run : List Placed) where
+  abbrev pub tag_here : IsInMarkedTag table names h.here t h.held []
+  tag_here = subst (λ (x : State). IsHeld x table names h.here t h.held []) in_tag h.is_held
+
+  -- .. by the tokenizer's own table
+  pub tag_read : IsInTag t.table.now names t.tag tag_here.body [] t.raised.errors.items
+  tag_read = subst (λ (x : Entities). IsInTag x names t.tag tag_here.body [] t.raised.errors.items) (sym h.table_is) tag_here.in_tag
+
+  now : Reads table start t later text [] taken
+  now = reads_kept table start t names later text [] taken grows h
+
+  pub tag_stopped : (e : Refusal) (new : Tokenizer) (s : S) → e ≡ Memory → Takes gives table start text run taken later s (Err e) s new
+  tag_stopped e new s is = subst (λ (x : Refusal). Takes gives table start text run taken later s (Err x) s new) (sym is) (run_ran_out_here gives table start later text taken t now run new s)
+
+  -- it goes on
+  module _ (new : Tokenizer) (then : new ≡ record t { next = new.next; tag = new.tag; raised = new.raised }) (next : new.next ≡ next_place (text ++ run)) (kind : new.tag.kind ≡ t.tag.kind)
+      (more : IsInTag t.table.now later new.tag (tag_here.body ++ run) [] new.raised.errors.items) where
+    pub tag_reads : Reads table start new later (text ++ run) [] taken
+    unfolding now reads_kept
+    tag_reads =
         let i = tag_here in
         let at_is : new.at ≡ t.at = ap (λ (x : Tokenizer). x.at) then in
         let state_is : new.state ≡ state.Tag = ap (λ (x : Tokenizer). x.state) then ∙ in_tag in
-        run_reads new (ap (λ (x : Tokenizer). x.refused) then) (ap (λ (x : Tokenizer). x.table) then) next (ap (λ (x : Tokenizer). x.kind) then) (ap (λ (x : Tokenizer). x.last) then)
+        run_reads gives table start later text taken t now run new (ap (λ (x : Tokenizer). x.refused) then) (ap (λ (x : Tokenizer). x.table) then) next (ap (λ (x : Tokenizer). x.kind) then) (ap (λ (x : Tokenizer). x.last) then)
         (subst (λ (x : State). IsIn x h.here.kind) (sym state_is) tt)
-        (subst (λ (x : State). IsHeld x table names h.here new (h.held ++ run) []) (sym state_is) (record {
+        (subst (λ (x : State). IsHeld x table later h.here new (h.held ++ run) []) (sym state_is) (record {
           opening = i.opening;
           body = i.body ++ run;
           held_is = ap (λ (x : List Placed). x ++ run) i.held_is ∙ append_assoc (less t ∷ i.opening) i.body run ∙ ap (λ (a : ℕ). record { ch = 60; at = a } ∷ (i.opening ++ (i.body ++ run))) (sym at_is);
           opens = i.opens ∙ ap tag_mark (sym kind);
-          in_tag = subst (λ (x : Raised). IsInTag table names new.tag (i.body ++ run) [] x.errors.items) (sym (ap (λ (x : Tokenizer). x.raised) then)) (more i.in_tag);
+          in_tag = subst (λ (x : Entities). IsInTag x later new.tag (i.body ++ run) [] new.raised.errors.items) h.table_is more;
           fits = λ end rest others span e is. i.fits end rest (run ++ others) span (e ∙ append_assoc h.held run others) is;
         }))
 
-    pub tag_goes_on : (new : Tokenizer) (s : S) → new ≡ record t { next = new.next; tag = new.tag } → new.next ≡ next_place (text ++ run) → new.tag.kind ≡ t.tag.kind
-        → (IsInTag table names t.tag tag_here.body [] t.raised.errors.items → IsInTag table names new.tag (tag_here.body ++ run) [] t.raised.errors.items) → Takes gives table start text run taken names s (Ok tt) s new
-    tag_goes_on new s then next kind more = taken_so new s (tag_reads new then next kind more)
+    pub tag_goes_on : (s : S) → Takes gives table start text run taken later s (Ok tt) s new
+    unfolding now reads_kept
+    tag_goes_on s = taken_so gives table start later text taken t now run new s tag_reads
 
 -- where the walk has taken nothing
-pub tag_untouched : (table : Entities) (start : RawKind) (names : Texts) (text : List Placed) (taken : List Event) (t : Tokenizer) (h : Reads table start t names text [] taken) (in_tag : t.state ≡ state.Tag) (new : Tokenizer) (at : ℕ) (run : List ℕ) (count : ℕ)
-    → count ≡ 0 → new ≡ record t { tag = new.tag } → new.tag.kind ≡ t.tag.kind
-    → ((body : List Placed) → IsInTag table names t.tag body [] t.raised.errors.items → IsInTag table names new.tag (body ++ placed at (take count run)) [] t.raised.errors.items) → HasTaken table start new names text taken
-tag_untouched table start names text taken t h in_tag new at run count none then kind more =
-    subst (λ (x : List Placed). HasTaken table start new names x taken) (append-nil text)
-    (holds (tag_reads {S = Unit {0}} (λ s i r u. Unit {0}) table start names text taken t h [] in_tag new (then ∙ ap (λ (n : ℕ). record t { next = n; tag = new.tag }) (sym (ap (λ (x : Tokenizer). x.next) then)))
-    (ap (λ (x : Tokenizer). x.next) then ∙ h.next_is) kind
-    (λ i. subst (λ (n : ℕ). IsInTag table names new.tag ((tag_here {S = Unit {0}} (λ s i r u. Unit {0}) table start names text taken t h [] in_tag).body ++ placed at (take n run)) [] t.raised.errors.items) none (more _ i))))
+pub tag_untouched : (table : Entities) (start : RawKind) (names later : Texts) (grows : Grows names later) (text : List Placed) (taken : List Event) (t : Tokenizer) (h : Reads table start t names text [] taken) (in_tag : t.state ≡ state.Tag) (new : Tokenizer)
+    → new ≡ record t { tag = new.tag; raised = new.raised } → new.tag.kind ≡ t.tag.kind
+    → IsInTag t.table.now later new.tag ((tag_here {S = Unit {0}} (λ s i r u. Unit {0}) table start names later grows text taken t h in_tag []).body ++ []) [] new.raised.errors.items → HasTaken table start new later text taken
+tag_untouched table start names later grows text taken t h in_tag new then kind more =
+    subst (λ (x : List Placed). HasTaken table start new later x taken) (append-nil text)
+    (holds (tag_reads {S = Unit {0}} (λ s i r u. Unit {0}) table start names later grows text taken t h in_tag [] new
+    (then ∙ ap (λ (n : ℕ). record t { next = n; tag = new.tag; raised = new.raised }) (sym (ap (λ (x : Tokenizer). x.next) then))) (ap (λ (x : Tokenizer). x.next) then ∙ h.next_is) kind more))

@@ -111,7 +111,7 @@ impl<'t> Tokenizer<'t> {
         }
     }
 
-    /// Takes the first character of a run.
+    /// Takes the first character of a run, and returns 1.
     fn take_first<S: TokenSink>(
         &mut self,
         names: &mut Names,
@@ -123,7 +123,7 @@ impl<'t> Tokenizer<'t> {
         requires plain { list_all is_plain_byte run.now ≡ true }
         ensures takes { (table : Entities) (start : Kind) (before : Texts) (text : List Character) (taken : List Event) → Grows before names.old → HasTaken table start self.old before text taken
             → TakesFront (gives_item S.gives S.gives_token) table start text at run.now taken names.new sink.old result sink.new self.new }
-        ensures few { IfOk result (λ count. (0 < count) × (count ≤ length run.now)) }
+        ensures one { IfOk result (λ count. count ≡ 1) }
         ensures grows { Grows names.old names.new }
     {
         self.take(names, char::from(run.as_bytes()[0]), at, sink)?;
@@ -187,7 +187,7 @@ impl<'t> Tokenizer<'t> {
         Ok(count)
     }
 
-    /// Takes the characters of a value in quotes at the front of a run, or the first one of it.
+    /// Takes the characters at the front of a run with which the tag goes on, and the one after them.
     fn run_of_tag<S: TokenSink>(
         &mut self,
         names: &mut Names,
@@ -204,11 +204,17 @@ impl<'t> Tokenizer<'t> {
         ensures few { IfOk result (λ count. (0 < count) × (count ≤ length run.now)) }
         ensures grows { Grows names.old names.new }
     {
-        let count = self.tag.take_run(run)?;
+        let count = self
+            .tag
+            .take_run(self.table, names, run, at, &mut self.raised.errors)?;
         if count == 0 {
             return self.take_first(names, run, at, sink);
         }
         self.next = at + count as u64;
-        Ok(count)
+        if count == run.len() {
+            return Ok(count);
+        }
+        self.take_first(names, &run[count..], at + count as u64, sink)?;
+        Ok(count + 1)
     }
 }

@@ -1,8 +1,9 @@
-//! Worked rows, run whole.
+//! Worked rows, run character by character, and through a decoder cut at every byte.
 
 use crate::{Start, Token, TokenSink, Tokenizer};
 use charref::Table;
 use hmarkup::ErrorSink;
+use htext::{Bom, CharSink, Decoder, MAX_INPUT};
 use names::{Names, ParseError, RawKind, Refusal};
 use std::alloc::Global;
 use std::test::Fail;
@@ -129,6 +130,70 @@ fn run(
     Ok((lines.text, answer))
 }
 
+/// A tokenizer that a decoder feeds, and what it tells.
+#[derive(Drop)]
+struct Fed<'t> {
+    tokenizer: Tokenizer<'t>,
+    names: Names,
+    lines: Lines,
+}
+
+impl<'t> CharSink for Fed<'t> {
+    ghost gives = { λ _ _ _ _. Unit {0} };
+
+    fn take_char(&mut self, ch: char, at: u64) -> Result<(), Refusal> {
+        self.tokenizer
+            .feed_char(&mut self.names, ch, at, &mut self.lines)
+    }
+
+    fn take_error(&mut self, error: ParseError) -> Result<(), Refusal> {
+        self.lines.take_error(error)
+    }
+
+    fn take_run(&mut self, run: &str, at: u64) -> Result<(), Refusal> {
+        if run.is_empty() {
+            return Ok(());
+        }
+        self.tokenizer
+            .feed_run(&mut self.names, run, at, &mut self.lines)
+    }
+}
+
+impl<'t> Fed<'t> {
+    /// Reads a text that comes to a decoder in two pieces, to its end.
+    fn read(&mut self, text: &str, cut: usize) -> Result<(), Refusal> {
+        let mut decoder = Decoder::new(self.lines.alloc, Bom::Drop, MAX_INPUT);
+        let (front, rest) = text.as_bytes().split_at(cut.min(text.len()));
+        decoder.feed(front, self)?;
+        decoder.feed(rest, self)?;
+        decoder.finish(self)?;
+        self.tokenizer
+            .finish(&mut self.names, text.len() as u64, &mut self.lines)
+    }
+}
+
+/// The lines of a text that is cut in two, and the answer.
+fn run_cut(
+    alloc: Global,
+    start: Start,
+    text: &str,
+    cut: usize,
+) -> Result<(String, Result<(), Refusal>), Refusal> {
+    let table = Table::read(alloc, NOT)?;
+    let mut fed = Fed {
+        tokenizer: Tokenizer::new(alloc, &table, start),
+        names: Names::new(alloc)?,
+        lines: Lines {
+            alloc,
+            text: String::new(alloc),
+            in_text: false,
+            left: u32::MAX,
+        },
+    };
+    let answer = fed.read(text, cut);
+    Ok((fed.lines.text, answer))
+}
+
 #[test]
 fn gives_tokens_and_errors(rt: HostRuntime) -> Result<(), Fail> {
     let rows = [
@@ -197,6 +262,10 @@ fn gives_tokens_and_errors(rt: HostRuntime) -> Result<(), Fail> {
             "7 duplicate-attribute\n11 unexpected-equals-sign-before-attribute-name\n14 unexpected-solidus-in-tag\n0 start p =1 = = false\n17 eof\n",
         ),
         (
+            "<H1\tHref=a.b:c_9#x-/Y  B = 'x >y' c\"d>z",
+            "35 unexpected-character-in-attribute-name\n0 start h1 =a.b:c_9#x-/Y =x >y = false\n38 chars z\n39 eof\n",
+        ),
+        (
             "</p a/>",
             "0 end-tag-with-attributes\n0 end-tag-with-trailing-solidus\n0 end p\n7 eof\n",
         ),
@@ -217,6 +286,11 @@ fn gives_tokens_and_errors(rt: HostRuntime) -> Result<(), Fail> {
         let (given, answer) = run(rt.alloc(), Start::Document, text, u32::MAX)?;
         assert_eq!(rt; given.as_str(), lines);
         assert_eq!(rt; answer, Ok(()));
+        for cut in 0..text.len() {
+            let (given, answer) = run_cut(rt.alloc(), Start::Document, text, cut)?;
+            assert_eq!(rt; given.as_str(), lines, "cut at {cut}");
+            assert_eq!(rt; answer, Ok(()));
+        }
     }
     Ok(())
 }
@@ -232,6 +306,11 @@ fn a_refused_tag_is_refused_at_its_end(rt: HostRuntime) -> Result<(), Fail> {
     let (given, answer) = run(rt.alloc(), Start::Document, "<p>x<svg>", u32::MAX)?;
     assert_eq!(rt; given.as_str(), "0 start p false\n3 chars x");
     assert_eq!(rt; answer.is_err(), true);
+    for cut in 0..8 {
+        let (given, refused) = run_cut(rt.alloc(), Start::Document, "<p>x<svg>", cut)?;
+        assert_eq!(rt; given.as_str(), "0 start p false\n3 chars x");
+        assert_eq!(rt; refused, answer);
+    }
     Ok(())
 }
 

@@ -9,7 +9,7 @@ ghost use Rattle.names.specs.Sink.{Hands};
 ghost use Rattle.charref.specs.Reference.{Entities};
 ghost use Rattle.htoken.specs.Token.{Event, gives_item};
 ghost use Rattle.htoken.specs.Giving.{items_of};
-ghost use Rattle.htoken.specs.HeldFrom.{HoldsFrom};
+ghost use Rattle.htoken.specs.HeldFrom.{HoldsFrom, from_of};
 ghost use Rattle.htoken.specs.Standing.{start_kind};
 ghost use Rattle.htoken.specs.Tokenizing.{after_place, HasTaken, Takes, Finishes};
 ghost use Rattle.htoken.specs.Steps.{EndsSpan};
@@ -120,7 +120,8 @@ impl<'t> Tokenizer<'t> {
     /// The place of the first character that is held back, or, where none is, one more than the last place fed. Whatever comes
     /// after, every token before it has been handed over.
     pub fn held_from(&self) -> u64
-        ensures { (table : Entities) (start : Kind) (names : Texts) (text : List Character) (taken : List Event) → HasTaken table start self.now names text taken → HoldsFrom table start text taken result }
+        ensures holds { (table : Entities) (start : Kind) (names : Texts) (text : List Character) (taken : List Event) → HasTaken table start self.now names text taken → HoldsFrom table start text taken result }
+        ensures from { result ≡ from_of self.now.state self.now }
     {
         match self.state {
             State::Text => self.next,

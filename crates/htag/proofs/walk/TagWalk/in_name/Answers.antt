@@ -1,5 +1,7 @@
-use Rattle.std.proofs.Common.{◌≡◌, true, false, refl, arith}
+use Rattle.std.proofs.Common.{◌≡◌, ◌∙◌, ◌++◌, ℕ, List, true, false, not, refl, sym, ap, arith, append-nil}
+use Rattle.std.specs.String.{string_bytes}
 use Rattle.std.proofs.lemmas.Bool.Decides.{nat_tests}
+use Rattle.hmarkup.proofs.Marks.{and_both}
 use Rattle.htag.specs.Tag.{ends_name}
 use Rattle.htag.proofs.Names.{name_grows, name_ends}
 use Rattle.htag.proofs.walk.TagWalk.in_name.Goals as goal
@@ -12,4 +14,5 @@ returns-then-ch-eq62-clause-takes c = λ body h.
 pub returns-clause-takes : goal.returns-clause-takes
 returns-clause-takes c = λ body h.
     let stays : ends_name c.args.ch ≡ false = grind (arith, nat_tests) in
-    name_grows _ _ _ body _ _ h c.requires _ _ refl refl refl refl c.in_ok-push_lowered.ensures c.in_ok-keep_null.ensures stays
+    name_grows _ _ _ body _ _ h c.requires _ _ refl refl refl refl (c.in_ok-push_lowered.ensures ∙ ap (λ (x : List ℕ). string_bytes c.args.self.now.name ++ x) (sym (append-nil _))) c.in_ok-keep_null.ensures
+    (and_both _ true (ap not stays) refl)

@@ -1,15 +1,31 @@
-use Rattle.std.proofs.Common.{ℕ, List, refl, ◌∙◌, subst}
-use Rattle.htext.proofs.Runs.{front_of, plain_boundary}
-use Rattle.htag.specs.ValueSteps.{AddsRun}
-use Rattle.htag.proofs.InRun.{quoted_front}
+use Rattle.std.proofs.Common.{◌+◌, ◌++◌, [], ℕ, List, ap, ◌∙◌, subst, length, take, arith}
+use Rattle.std.specs.List.{list_all}
+use Rattle.std.proofs.lemmas.List.{length-drop}
+use Rattle.std.proofs.lemmas.Result.{err_from_is_err_and}
+use Rattle.names.specs.Placed.{placed}
+use Rattle.names.proofs.Handing.{grows_on}
+use Rattle.htext.specs.Run.{is_plain_byte}
+use Rattle.htext.proofs.Runs.{plain_drop}
+use Rattle.htag.specs.TagWalk.{IsInTag}
+use Rattle.htag.proofs.InRun.{more_taken}
 use Rattle.htag.proofs.walk.TagWalk.take_run.Goals as goal
 
-pub range-requires-clause-end_boundary : goal.range-requires-clause-end_boundary
-range-requires-clause-end_boundary c = plain_boundary c.count_before-count.result c.args.run.now c.requires c.utf8.run c.count_before-count.ensures.few
+pub take_front-requires-clause-plain : goal.take_front-requires-clause-plain
+take_front-requires-clause-plain c = ap (list_all is_plain_byte) c.range_from.ensures.value ∙ plain_drop c.loop-count.count c.args.run.now c.requires.plain
 
-pub returns-clause-takes : goal.returns-clause-takes
-returns-clause-takes c = λ table names body errors at h.
-    let count = c.count_before-count.result in
-    let adds = subst (λ (x : List ℕ). AddsRun c.args.self.now.value x c.push_run.new.self) (c.range.ensures.value ∙ front_of count c.args.run.now) c.in_ok-push_run.ensures in
-    quoted_front table names c.args.self.now body errors h c.in-Quoted.mark _ at c.args.run.now count c.count_before-count.ensures.counted (record { kind_is = refl; name_is = refl; attrs_are = refl; seen_is = refl; any_is = refl }) refl refl
-    c.in-Quoted.is refl c.requires c.if-not-is_between.ensures adds
+pub returns-in_err-more-clause-takes : goal.returns-in_err-more-clause-takes
+returns-in_err-more-clause-takes c =
+    let e = err_from_is_err_and c.from_residual.result c.from_residual.ensures.1 in
+    rw (e.1, e.2) (λ body h. c.in_err-more.ensures.takes (body ++ placed c.args.at (take c.loop-count.count c.args.run.now)) (c.loop-count.invariant.takes body h))
+
+pub loop-count-preserved : goal.loop-count-preserved
+loop-count-preserved c = record {
+  takes = λ body h.
+      let front = body ++ placed c.args.at (take c.loop-count.count c.args.run.now) in
+      more_taken c.args.table.now c.take_front.new.names body c.args.at c.loop-count.count c.in_ok-more.more c.args.run.now c.requires.plain c.loop-count.invariant.within c.take_front.new.self c.take_front.new.errors.items
+      (subst (λ (x : List ℕ). IsInTag c.args.table.now c.take_front.new.names c.take_front.new.self (front ++ placed (c.args.at + c.loop-count.count) (take c.in_ok-more.more x)) [] c.take_front.new.errors.items)
+      c.range_from.ensures.value (c.in_ok-more.ensures.takes front (c.loop-count.invariant.takes body h)));
+  within = omega (arith, c.in_ok-more.ensures.few, ap length c.range_from.ensures.value, length-drop c.loop-count.count c.args.run.now, c.loop-count.invariant.within);
+  grows = grows_on _ _ _ c.loop-count.invariant.grows c.take_front.ensures.grows;
+  kind = c.in_ok-more.ensures.kind ∙ c.loop-count.invariant.kind;
+}

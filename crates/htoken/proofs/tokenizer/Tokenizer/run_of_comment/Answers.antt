@@ -9,7 +9,8 @@ use Rattle.hmarkup.specs.Walk.{TakesRun}
 use Rattle.htext.proofs.Runs.{front_of, plain_take, plain_chars}
 use Rattle.htoken.specs.Token.{gives_item}
 use Rattle.htoken.proofs.InMarkup.{keeps}
-use Rattle.htoken.proofs.InRun.{next_front, prefix_all, comment_here, comment_stopped, comment_goes_on}
+use Rattle.htag.proofs.InRun.{prefix_all}
+use Rattle.htoken.proofs.InRun.{next_front, comment_here, comment_stopped, comment_goes_on}
 use Rattle.htoken.proofs.Fronts.{front_refused}
 use Rattle.htoken.proofs.Taking.{IsCalm, taken_now}
 use Rattle.htoken.proofs.tokenizer.Tokenizer.run_of_comment.Goals as goal

@@ -1,7 +1,6 @@
-use Rattle.std.proofs.Common.{◌≡◌, ◌≤◌, ◌+◌, ℕ, List, length, take, refl, sym, ap, ◌∙◌, subst, Ok, Err, arith}
+use Rattle.std.proofs.Common.{◌≡◌, ◌+◌, ℕ, List, length, sym, ap, ◌∙◌, subst, Ok, arith}
 use Rattle.std.proofs.lemmas.List.{take_all}
 use Rattle.std.proofs.lemmas.Result.{err_from_is_err_and}
-use Rattle.names.specs.declared.placed.Placed.{Placed}
 use Rattle.names.specs.Placed.{placed}
 use Rattle.htext.proofs.Runs.{all_placed}
 use Rattle.htoken.specs.Token.{gives_item}

@@ -1,4 +1,4 @@
-use Rattle.std.proofs.Common.{◌≡◌, ◌≤◌, ◌+◌, refl, arith, ◌∙◌, subst, sym, ap, List, ℕ, length, take, drop, Ok, Err}
+use Rattle.std.proofs.Common.{◌+◌, arith, ◌∙◌, subst, ap, List, ℕ, length, take, Ok, Err}
 use Rattle.std.specs.List.{list_all}
 use Rattle.std.proofs.lemmas.List.{length-drop}
 use Rattle.std.proofs.lemmas.Result.{err_from_is_err_and}

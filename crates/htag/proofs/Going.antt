@@ -1,0 +1,139 @@
+-- A tag goes on with characters that its phase keeps: with one, or with a run of them.
+use Rattle.std.proofs.Common.{◌≡◌, ℕ, Bool, true, false, not, eqb, List, [], ◌∷◌, ◌++◌, drop, sym, refl, ap, ◌∙◌, subst, append_assoc, append-nil}
+use Rattle.std.specs.List.{flat_map}
+use Rattle.std.specs.String.{string_bytes}
+use Rattle.std.proofs.lemmas.Grind.{flat_map-append}
+use Rattle.names.specs.declared.error.ErrorCode.TheVariants.{UnexpectedEqualsSignBeforeAttributeName}
+use Rattle.names.specs.declared.error.ParseError.{ParseError}
+use Rattle.names.specs.declared.placed.Placed.{Placed}
+use Rattle.names.specs.Names.{Texts}
+use Rattle.names.specs.Placed.{begins, all, place, is_equals, error_if, name_bytes}
+use Rattle.hmarkup.proofs.Parts.{name_bytes-append}
+use Rattle.charref.specs.Reference.{Entities}
+use Rattle.charref.proofs.Naming.{all-append}
+use Rattle.htag.specs.declared.phase.Phase.{Phase}
+use Rattle.htag.specs.declared.phase.Phase.TheVariants as phase
+use Rattle.htag.specs.declared.walk.TagWalk.{TagWalk}
+use Rattle.htag.specs.ValueWalk.{IsInValue}
+use Rattle.htag.specs.Tag.{AreParts, parts_text, tag_errors, ends_name, ends_attribute_name, ends_unquoted, attribute_name_errors, name_errors_here}
+use Rattle.htag.specs.TagWalk.{NoValue, HasName, HasPhase, IsPast, IsInTag}
+use Rattle.htag.specs.Steps.{KeepsTag}
+use Rattle.htag.proofs.InValue.{looks_ahead}
+use Rattle.htag.proofs.Parts.{begins-more, holds_same}
+
+-- the attribute's name stays
+pub name_stays : (walk new : TagWalk) (name : List Placed) → new.attribute ≡ walk.attribute → new.place ≡ walk.place → HasName walk name → HasName new name
+name_stays walk new name attribute at h = record { first = h.first; runs = h.runs; is = ap string_bytes attribute ∙ h.is; at_is = h.at_is ∙ sym at }
+
+module _ (table : Entities) (names : Texts) (walk : TagWalk) (body fed : List Placed) (errors : List ParseError) (h : IsInTag table names walk body fed errors) where
+  abbrev pub Past : Bool
+  Past = begins ends_name (parts_text h.parts ++ (h.held ++ fed))
+
+  pub past_is : (ph : Phase) → walk.phase ≡ ph → IsPast ph Past
+  past_is ph e = subst (λ (x : Phase). IsPast x Past) e h.past
+
+  pub held_in : (ph : Phase) → walk.phase ≡ ph → HasPhase ph table walk h.parts h.held h.own
+  held_in ph e = subst (λ (x : Phase). HasPhase x table walk h.parts h.held h.own) e h.has_phase
+
+  pub body_more : body ++ fed ≡ h.name ++ (parts_text h.parts ++ (h.held ++ fed))
+  body_more = ap (λ (x : List Placed). x ++ fed) h.body_is ∙ append_assoc h.name (parts_text h.parts ++ h.held) fed ∙ ap (λ (x : List Placed). h.name ++ x) (append_assoc (parts_text h.parts) h.held fed)
+
+  -- what is held of a part goes on
+  pub goes_on : (new : TagWalk) (e later : List ParseError) → later ≡ errors ++ e → new.name ≡ walk.name → new.seen ≡ walk.seen → new.attrs ≡ walk.attrs → new.any ≡ walk.any → ((b : Bool) → b ≡ true → IsPast new.phase b) → Past ≡ true
+      → HasPhase new.phase table new h.parts (h.held ++ fed) (h.own ++ e) → IsInTag table names new (body ++ fed) [] later
+  goes_on new e later later_is named seen attrs any then gone has = record {
+    name = h.name;
+    parts = h.parts;
+    held = h.held ++ fed;
+    own = h.own ++ e;
+    body_is = body_more;
+    first = h.first;
+    passes = h.passes;
+    name_is = ap string_bytes named ∙ h.name_is;
+    are_parts = λ end more. subst (AreParts table end h.parts) (sym (append_assoc h.held fed more)) (h.are_parts end more);
+    errors_are = later_is ∙ ap (λ (x : List ParseError). x ++ e) h.errors_are ∙ append_assoc (tag_errors h.name h.parts) h.own e;
+    has_attributes = holds_same names walk new h.parts seen attrs any h.has_attributes;
+    past = then _ (ap (λ (x : List Placed). begins ends_name (parts_text h.parts ++ x)) (append-nil (h.held ++ fed)) ∙ gone);
+    has_phase = has;
+  }
+
+  -- AN ATTRIBUTE'S NAME
+
+  runs_more : (xs : List Placed) → begins (λ c. not (ends_name c)) xs ≡ true → all (λ c. not (ends_attribute_name c)) (drop 1 xs) ≡ true → all (λ c. not (ends_attribute_name c)) fed ≡ true → all (λ c. not (ends_attribute_name c)) (drop 1 (xs ++ fed)) ≡ true
+  runs_more [] b h' k = absurd cc
+  runs_more (x ∷ xs) b h' k = all-append _ xs fed h' k
+
+  place_more : (xs : List Placed) → begins (λ c. not (ends_name c)) xs ≡ true → place 0 (xs ++ fed) ≡ place 0 xs
+  place_more [] b = absurd cc
+  place_more (x ∷ xs) b = refl
+
+  equals_more : (xs : List Placed) → begins (λ c. not (ends_name c)) xs ≡ true → begins is_equals (xs ++ fed) ≡ begins is_equals xs
+  equals_more [] b = absurd cc
+  equals_more (x ∷ xs) b = refl
+
+  pub letters_follow : walk.phase ≡ phase.AttributeName → (new : TagWalk) (later : List ParseError) → KeepsTag walk new → new.phase ≡ walk.phase → new.place ≡ walk.place → new.value ≡ walk.value
+      → string_bytes new.attribute ≡ string_bytes walk.attribute ++ name_bytes fed → later ≡ errors ++ flat_map name_errors_here fed → all (λ c. not (ends_attribute_name c)) fed ≡ true → IsInTag table names new (body ++ fed) [] later
+  letters_follow in_name new later keeps same at value bytes later_is stay =
+      let n = held_in phase.AttributeName in_name in
+      let then : new.phase ≡ phase.AttributeName = same ∙ in_name in
+      let e : List ParseError = flat_map name_errors_here fed in
+      goes_on new e later later_is keeps.name_is keeps.seen_is keeps.attrs_are keeps.any_is (λ c x. subst (λ (y : Phase). IsPast y c) (sym then) x) (past_is phase.AttributeName in_name)
+      (subst (λ (x : Phase). HasPhase x table new h.parts (h.held ++ fed) (h.own ++ e)) (sym then) (record {
+        has_name = record {
+          first = begins-more _ h.held fed n.has_name.first;
+          runs = runs_more h.held n.has_name.first n.has_name.runs stay;
+          is = bytes ∙ ap (λ (x : List ℕ). x ++ name_bytes fed) n.has_name.is ∙ sym (name_bytes-append h.held fed);
+          at_is = place_more h.held n.has_name.first ∙ n.has_name.at_is ∙ sym at;
+        };
+        no_value = subst NoValue (sym value) n.no_value;
+        own_is = ap (λ (x : List ParseError). x ++ e) n.own_is
+            ∙ append_assoc (error_if (begins is_equals h.held) UnexpectedEqualsSignBeforeAttributeName (place 0 h.held)) (flat_map name_errors_here h.held) e
+            ∙ ap (λ (x : List ParseError). error_if (begins is_equals h.held) UnexpectedEqualsSignBeforeAttributeName (place 0 h.held) ++ x) (sym (flat_map-append name_errors_here h.held fed))
+            ∙ ap (λ (b : Bool). error_if b UnexpectedEqualsSignBeforeAttributeName (place 0 h.held) ++ flat_map name_errors_here (h.held ++ fed)) (sym (equals_more h.held n.has_name.first))
+            ∙ ap (λ (x : ℕ). error_if (begins is_equals (h.held ++ fed)) UnexpectedEqualsSignBeforeAttributeName x ++ flat_map name_errors_here (h.held ++ fed)) (sym (place_more h.held n.has_name.first));
+      }))
+
+  -- A VALUE, which takes the characters and raises some errors
+
+  module _ (new : TagWalk) (more later : List ParseError) (keeps : KeepsTag walk new) (attribute : new.attribute ≡ walk.attribute) (at : new.place ≡ walk.place) (same : new.phase ≡ walk.phase) (later_is : later ≡ errors ++ more) where
+    pub quoted_goes_on : (mark : ℕ) → walk.phase ≡ phase.Quoted mark → ((text : List Placed) (own : List ParseError) → IsInValue table true walk.value text fed own → IsInValue table true new.value (text ++ fed) [] (own ++ more))
+        → all (λ c. not (eqb c mark)) fed ≡ true → IsInTag table names new (body ++ fed) [] later
+    quoted_goes_on mark before takes others =
+        let q = held_in (phase.Quoted mark) before in
+        let next : new.phase ≡ phase.Quoted mark = same ∙ before in
+        goes_on new more later later_is keeps.name_is keeps.seen_is keeps.attrs_are keeps.any_is (λ b e. subst (λ (x : Phase). IsPast x b) (sym next) e) (past_is (phase.Quoted mark) before)
+        (subst (λ (x : Phase). HasPhase x table new h.parts (h.held ++ fed) (h.own ++ more)) (sym next) (record {
+          name = q.name;
+          sign = q.sign;
+          quote = q.quote;
+          text = q.text ++ fed;
+          raised = q.raised ++ more;
+          held_is = ap (λ (x : List Placed). x ++ fed) q.held_is ∙ append_assoc q.name (q.sign ++ q.quote ++ q.text) fed ∙ ap (λ (x : List Placed). q.name ++ x) (append_assoc (q.sign ++ q.quote) q.text fed);
+          has_name = name_stays walk new q.name attribute at q.has_name;
+          signed = q.signed;
+          opens = q.opens;
+          is_mark = q.is_mark;
+          inside = all-append (λ c. not (eqb c mark)) q.text fed q.inside others;
+          value = takes q.text q.raised (looks_ahead table true walk.value q.text fed q.raised q.value);
+          own_is = ap (λ (x : List ParseError). x ++ more) q.own_is ∙ append_assoc (attribute_name_errors q.name) q.raised more;
+        }))
+
+    pub unquoted_goes_on : walk.phase ≡ phase.Unquoted → ((text : List Placed) (own : List ParseError) → IsInValue table false walk.value text fed own → IsInValue table false new.value (text ++ fed) [] (own ++ more))
+        → all (λ c. not (ends_unquoted c)) fed ≡ true → IsInTag table names new (body ++ fed) [] later
+    unquoted_goes_on before takes stay =
+        let n = held_in phase.Unquoted before in
+        let next : new.phase ≡ phase.Unquoted = same ∙ before in
+        goes_on new more later later_is keeps.name_is keeps.seen_is keeps.attrs_are keeps.any_is (λ b x. subst (λ (y : Phase). IsPast y b) (sym next) x) (past_is phase.Unquoted before)
+        (subst (λ (x : Phase). HasPhase x table new h.parts (h.held ++ fed) (h.own ++ more)) (sym next) (record {
+          name = n.name;
+          sign = n.sign;
+          text = n.text ++ fed;
+          raised = n.raised ++ more;
+          held_is = ap (λ (x : List Placed). x ++ fed) n.held_is ∙ append_assoc n.name (n.sign ++ n.text) fed ∙ ap (λ (x : List Placed). n.name ++ x) (append_assoc n.sign n.text fed);
+          has_name = name_stays walk new n.name attribute at n.has_name;
+          signed = n.signed;
+          first = begins-more _ n.text fed n.first;
+          inside = all-append (λ c. not (ends_unquoted c)) n.text fed n.inside stay;
+          value = takes n.text n.raised (looks_ahead table false walk.value n.text fed n.raised n.value);
+          own_is = ap (λ (x : List ParseError). x ++ more) n.own_is ∙ append_assoc (attribute_name_errors n.name) n.raised more;
+        }))

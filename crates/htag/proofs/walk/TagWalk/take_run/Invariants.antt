@@ -1,0 +1,18 @@
+use Rattle.std.proofs.Common.{◌≡◌, ◌-◌, ◌≤◌, ◌++◌, List, [], length, take}
+use Rattle.names.specs.declared.placed.Placed.{Placed}
+use Rattle.names.specs.Names.{Grows}
+use Rattle.names.specs.Placed.{placed}
+use Rattle.htag.specs.TagWalk.{IsInTag}
+use Rattle.htag.proofs.walk.TagWalk.take_run.Given as goal
+
+-- So many bytes of the run have been taken.
+abbrev pub invariant-loop-count : goal.invariant-loop-count
+invariant-loop-count l = record {
+  takes : (body : List Placed) → IsInTag l.table l.fn.names l.fn.self body [] l.fn.errors.items → IsInTag l.table l.names l.self (body ++ placed l.at (take l.count l.run)) [] l.errors.items;
+  within : l.count ≤ length l.run;
+  grows : Grows l.fn.names l.names;
+  kind : l.self.kind ≡ l.fn.self.kind;
+}
+
+abbrev pub decreases-loop-count : goal.decreases-loop-count
+decreases-loop-count l = length l.run - l.count

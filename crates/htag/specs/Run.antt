@@ -1,0 +1,28 @@
+-- Runs of plain characters in a tag.
+use Rattle.std.specs.Prelude.{◌≡◌, ℕ, ◌≤◌, Bool, ◌&&◌, ◌||◌, ◌==◌, nat_le, List, [], ◌++◌, length, take, Result, MatchResult}
+use Rattle.names.specs.declared.error.ParseError.{ParseError}
+use Rattle.names.specs.declared.placed.Placed.{Placed}
+use Rattle.names.specs.declared.refusal.Refusal.{Refusal}
+use Rattle.names.specs.declared.refusal.Refusal.TheVariants.{Memory}
+use Rattle.names.specs.Names.{Texts}
+use Rattle.names.specs.Placed.{placed}
+use Rattle.charref.specs.Reference.{Entities}
+use Rattle.htag.specs.declared.walk.TagWalk.{TagWalk}
+use Rattle.htag.specs.TagWalk.{IsInTag}
+
+-- a byte that only stands for itself in a tag's name, in an attribute's and in a value without quotes: a small letter, a digit, `-`, `.`, `:` or `_`
+abbrev pub is_word_byte : ℕ → Bool
+is_word_byte byte = (nat_le 97 byte && nat_le byte 122) || (nat_le 48 byte && nat_le byte 58) || byte == 45 || byte == 46 || byte == 95
+
+-- The tag goes on with so many bytes of the run, which changes neither names nor errors.
+pub record TakesPart (old : TagWalk) (run : List ℕ) (count : ℕ) (new : TagWalk) : Type 0 where
+  pub few : count ≤ length run
+  pub kind_is : new.kind ≡ old.kind
+  pub takes : (table : Entities) (names : Texts) (body : List Placed) (errors : List ParseError) (at : ℕ)
+      → IsInTag table names old body [] errors → IsInTag table names new (body ++ placed at (take count run)) [] errors
+
+-- What taking a front of this run does, the first of whose characters is at this place, after a text of a tag: the tag goes on
+-- with as many of them as the answer says.
+abbrev pub TakesRun : Entities → Texts → List Placed → ℕ → List ℕ → Result ℕ Refusal → TagWalk → List ParseError → Type 0
+TakesRun table names body at run answer walk errors =
+    MatchResult answer (λ count. IsInTag table names walk (body ++ placed at (take count run)) [] errors) (λ e. e ≡ Memory)
