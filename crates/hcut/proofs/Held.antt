@@ -36,12 +36,13 @@ use Rattle.htoken.specs.Beginning.{IsBeginning, nothing, inside, any_end, any_en
 use Rattle.htoken.specs.Data.{IsDataSpan, is_declaration, is_cdata, comment_span}
 use Rattle.htoken.specs.Data as d
 use Rattle.htoken.specs.Declaration.{IsOpened, IsFrontOf}
-use Rattle.htoken.specs.HeldFrom.{IsCutAt}
+use Rattle.htoken.specs.HeldFrom.{IsCutAt, from_of}
 use Rattle.htoken.specs.Raw.{may_end, is_raw}
 use Rattle.htoken.specs.Spans.{IsSpan, IsSpanOf, IsRawSpan, has_references, raw_reference}
 use Rattle.htoken.specs.Tag.{IsTag, start_tag, end_tag, tag_mark}
-use Rattle.htoken.specs.Tokenizing.{Reads, HasTaken, holds, in_run, IsHeld, IsIn, IsInMarkup, IsInMarkedTag, IsInReference, less, doctype_token}
+use Rattle.htoken.specs.Tokenizing.{Reads, HasTaken, holds, in_run, IsHeld, IsIn, IsInMarkup, IsInMarkedTag, IsInReference, less, doctype_token, next_place}
 use Rattle.htoken.proofs.Declaring.{nothing_at_end}
+use Rattle.htoken.proofs.Holding.{held_place}
 use Rattle.htoken.proofs.InData.{in_data}
 use Rattle.hcut.specs.Held.{HoldsBeginning, HeldBegins}
 use Rattle.hcut.specs.SomeEnd.{CanEnd}
@@ -250,6 +251,7 @@ held_begins table start t names text taken is_table (holds h) = record {
   here = h.here;
   text_is = h.text_is;
   cuts = λ end more. let s = h.stands end more in (record { spans = s.spans; front_is = s.front_is; cut = s.cut; tokens_are = s.tokens_are; in_profile = s.in_profile }, s.leads);
+  from_is = held_place t.state table names h.here t h.held h.is_held ∙ ap (λ (n : ℕ). place n h.held) (h.next_is ∙ ap next_place (append-nil text));
   begins = by_state table is_table start names text taken t h t.state h.is_in h.is_held;
 }
 held_begins table start t names text taken is_table (in_run h) = record {
@@ -258,5 +260,6 @@ held_begins table start t names text taken is_table (in_run h) = record {
   here = h.here;
   text_is = sym (append-nil text);
   cuts = λ end more. let s = h.stands end more in (record { spans = s.spans; front_is = s.front_is; cut = s.cut; tokens_are = s.tokens_are; in_profile = s.in_profile }, s.leads);
+  from_is = ap (λ (s : State). from_of s t) h.state_is ∙ h.next_is ∙ ap next_place (append-nil text);
   begins = nothing refl;
 }

@@ -16,7 +16,8 @@ use Rattle.htoken.specs.Tokens.{spans_text, Cut, Tokens, IsRefused}
 
 -- One reference at most stands at the front of a text.
 abbrev pub IsOneReference : Entities → Bool → Type 0
-IsOneReference table in_value = (rest rest' : List Placed) (piece piece' : Piece) → IsReference table in_value rest piece → IsReference table in_value rest' piece'
+IsOneReference table in_value = (rest rest' : List Placed) (piece piece' : Piece) → IsReference table in_value rest piece
+    → IsReference table in_value rest' piece'
     → piece.text ++ rest ≡ piece'.text ++ rest' → (piece ≡ piece') × (rest ≡ rest')
 
 -- .. and one part of a tag, one tag, and one span of each kind of text
@@ -33,24 +34,30 @@ OneSpanOfData = (table : Entities) (end : ℕ) (rest rest' : List Placed) (span 
     → span.text ++ rest ≡ span'.text ++ rest' → (span ≡ span') × (rest ≡ rest')
 
 abbrev pub OneSpan : Type 0
-OneSpan = (table : Entities) (end : ℕ) (here : Standing) (rest rest' : List Placed) (span span' : Span) → IsSpan table end here rest span → IsSpan table end here rest' span'
+OneSpan = (table : Entities) (end : ℕ) (here : Standing) (rest rest' : List Placed) (span span' : Span) → IsSpan table end here rest span
+    → IsSpan table end here rest' span'
     → span.text ++ rest ≡ span'.text ++ rest' → (span ≡ span') × (rest ≡ rest')
 
 -- A whole text that begins in a kind is cut into spans in one way at most.
 abbrev pub OneCut : Type 0
-OneCut = (table : Entities) (start : RawKind) (text : List Placed) (end : ℕ) (spans spans' : List Span) → text ≡ spans_text spans → Cut table end (at_start start) spans []
+OneCut = (table : Entities) (start : RawKind) (text : List Placed) (end : ℕ) (spans spans' : List Span) → text ≡ spans_text spans
+    → Cut table end (at_start start) spans []
     → text ≡ spans_text spans' → Cut table end (at_start start) spans' [] → spans ≡ spans'
 
 -- So it has one list of tokens at most, and one of errors, up to their order.
 abbrev pub OneListOfTokens : Type 0
-OneListOfTokens = (table : Entities) (start : RawKind) (text : List Placed) (end : ℕ) (tokens tokens' : List Tok) (errors errors' : List ParseError) → Tokens table start text end tokens errors
+OneListOfTokens = (table : Entities) (start : RawKind) (text : List Placed) (end : ℕ) (tokens tokens' : List Tok) (errors errors' : List ParseError)
+    → Tokens table start text end tokens errors
     → Tokens table start text end tokens' errors' → (tokens ≡ tokens') × IsPermutation errors errors'
 
 -- A text that is refused has no tokens, and is refused for one name at one place, after one list of tokens.
 abbrev pub NoTokensOfRefused : Type 0
-NoTokensOfRefused = (table : Entities) (start : RawKind) (text : List Placed) (end at : ℕ) (name : RefusedName) (tokens tokens' : List Tok) (errors : List ParseError) → Tokens table start text end tokens errors
+NoTokensOfRefused = (table : Entities) (start : RawKind) (text : List Placed) (end at : ℕ) (name : RefusedName) (tokens tokens' : List Tok)
+    (errors : List ParseError)
+    → Tokens table start text end tokens errors
     → IsRefused table start text end tokens' name at → ⊥
 
 abbrev pub OneRefusal : Type 0
-OneRefusal = (table : Entities) (start : RawKind) (text : List Placed) (end at at' : ℕ) (name name' : RefusedName) (tokens tokens' : List Tok) → IsRefused table start text end tokens name at
+OneRefusal = (table : Entities) (start : RawKind) (text : List Placed) (end at at' : ℕ) (name name' : RefusedName) (tokens tokens' : List Tok)
+    → IsRefused table start text end tokens name at
     → IsRefused table start text end tokens' name' at' → (name ≡ name') × (at ≡ at') × (tokens ≡ tokens')

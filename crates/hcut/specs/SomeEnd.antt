@@ -25,4 +25,5 @@ pub record CanEnd (table : Entities) (body : List Placed) : Type 0 where
   pub closes : characters close ≡ tag_close closing
 
 abbrev pub TagsCanEnd : Type 0
-TagsCanEnd = (table : Entities) (names : Texts) (walk : TagWalk) (body : List Placed) (errors : List ParseError) → IsTable table → IsInTag table names walk body [] errors → CanEnd table body
+TagsCanEnd = (table : Entities) (names : Texts) (walk : TagWalk) (body : List Placed) (errors : List ParseError) → IsTable table
+    → IsInTag table names walk body [] errors → CanEnd table body
