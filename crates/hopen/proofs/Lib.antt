@@ -11,3 +11,5 @@ pub mod Tables
 pub mod Standing
 pub mod Chained
 pub mod Listed
+pub mod SameBucket
+pub mod Bucketed

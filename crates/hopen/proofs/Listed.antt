@@ -1,68 +1,87 @@
 -- The numbers of the items of a list.
-use Rattle.std.proofs.Common.{◌≡◌, ℕ, zero, suc, ◌-◌, ◌<◌, ◌≤◌, nat_eq, eqb, Bool, true, false, cond, not, ◌||◌, List, [], ◌∷◌, Some, None, is_some, length, map, reverse, take, drop, filter, refl, sym, ◌∙◌, ap, arith}
-use Rattle.std.specs.List.{list_any, position, slice_get, remove}
+use Rattle.std.proofs.Common.{◌≡◌, ℕ, zero, suc, ◌-◌, ◌<◌, ◌≤◌, nat_eq, eqb, Bool, true, false, cond, not, ◌||◌, List, [], ◌∷◌, Some, None, is_some, get_or, length, map, reverse, take, drop, filter, refl, sym, ◌∙◌, ap, arith}
+use Rattle.std.specs.List.{list_any, position, slice_get, insert, remove}
 use Rattle.std.specs.Option.{option_and_then}
-use Rattle.std.proofs.lemmas.List.{reverse-reverse, length-map}
+use Rattle.std.proofs.lemmas.List.{reverse-reverse, length-map, get_or-map}
 use Rattle.std.proofs.lemmas.Simd.{map-map}
 use Rattle.std.proofs.Math.Dec.{eqb-suc-zero, eqb-zero-suc}
 use Rattle.std.proofs.lemmas.Bool.{eqb-true, eqb-false, eq-eqb}
 use Rattle.hopen.specs.Nearest.{without, changed_at}
 use Rattle.hopen.specs.Chains.{last_of}
-use Rattle.hopen.specs.Formatting.{Item, marker, entry, as_entry, cleared, find_entry, for_node, is_entry, without_entry}
+use Rattle.hopen.specs.Formatting.{EntryOf, Item, marker, entry, as_entry, cleared, find_entry, for_node, is_entry, without_entry}
 use Rattle.hopen.specs.Items.{item_of, items_of}
-use Rattle.hopen.specs.Listed.{number_of_item}
+use Rattle.hopen.specs.Listed.{number_by, name_of}
 use Rattle.hopen.specs.declared.entry.Item.{Item as Stored}
 use Rattle.hopen.proofs.Nearest.{reverse-map, words, is_some-position, drop_nearest}
+use Rattle.hopen.proofs.Chained.{map-insert, map-remove}
 use Rattle.hopen.proofs.ItemLists.{length-items_of}
 use Rattle.hopen.proofs.Places.{last_place-le}
 
-abbrev pub number : Stored → ℕ
-number i = number_of_item (item_of i)
+module _ (of : EntryOf ℕ → ℕ) where
+  abbrev pub number : Stored → ℕ
+  number i = number_by of (item_of i)
 
--- the numbers as a search from the last item on meets them
-pub numbers-back : (items : List Stored) → reverse (map number items) ≡ map number_of_item (items_of items)
-numbers-back items = ap reverse (sym (map-map number_of_item item_of items)) ∙ reverse-map number_of_item (map item_of items)
+  -- the numbers as a search from the last item on meets them
+  pub numbers-back : (items : List Stored) → reverse (map number items) ≡ map (number_by of) (items_of items)
+  numbers-back items = ap reverse (sym (map-map (number_by of) item_of items)) ∙ reverse-map (number_by of) (map item_of items)
 
-pub numbers-seen : (items : List Stored) → map number items ≡ reverse (map number_of_item (items_of items))
-numbers-seen items = sym (reverse-reverse (map number items)) ∙ ap reverse (numbers-back items)
+  pub numbers-seen : (items : List Stored) → map number items ≡ reverse (map (number_by of) (items_of items))
+  numbers-seen items = sym (reverse-reverse (map number items)) ∙ ap reverse (numbers-back items)
 
--- the numbers are those of items that are seen with the same numbers
-pub numbers-same : (old new : List Stored) → map number_of_item (items_of new) ≡ map number_of_item (items_of old) → map number new ≡ map number old
-numbers-same old new same = numbers-seen new ∙ ap reverse same ∙ sym (numbers-seen old)
+  -- the numbers are those of items that are seen with the same numbers
+  numbers-same : (old new : List Stored) → map (number_by of) (items_of new) ≡ map (number_by of) (items_of old) → map number new ≡ map number old
+  numbers-same old new same = numbers-seen new ∙ ap reverse same ∙ sym (numbers-seen old)
 
-pub number-for_node : (node : ℕ) (i : Item ℕ) → number_of_item (for_node node i) ≡ number_of_item i
-number-for_node node marker = refl
-number-for_node node (entry e) = refl
+  -- the place of the last item of a number
+  abbrev pub place : ℕ → List (Item ℕ) → ℕ
+  place n items = last_of n (map (number_by of) items)
 
--- an entry that becomes that of another node keeps its number
-pub numbers-changed : (node back : ℕ) (items : List (Item ℕ)) → map number_of_item (changed_at back (for_node node) items) ≡ map number_of_item items
-numbers-changed node back [] = refl
-numbers-changed node zero (i ∷ items) = ap (λ n. n ∷ map number_of_item items) (number-for_node node i)
-numbers-changed node (suc back) (i ∷ items) = ap (λ ns. number_of_item i ∷ ns) (numbers-changed node back items)
+  pub place-le : (n : ℕ) (items : List (Item ℕ)) → place n items ≤ length items
+  place-le n items = let most : place n items ≤ length (map (number_by of) items) = last_place-le (λ k. eqb k n) (map (number_by of) items) in omega (arith, length-map items (number_by of))
+
+-- where an entry that becomes that of another node keeps its number
+module _ (of : EntryOf ℕ → ℕ) (kept : (node : ℕ) (e : EntryOf ℕ) → of (record e { node = node }) ≡ of e) where
+  pub number-for_node : (node : ℕ) (i : Item ℕ) → number_by of (for_node node i) ≡ number_by of i
+  number-for_node node marker = refl
+  number-for_node node (entry e) = ap suc (kept node e)
+
+  numbers-changed : (node back : ℕ) (items : List (Item ℕ)) → map (number_by of) (changed_at back (for_node node) items) ≡ map (number_by of) items
+  numbers-changed node back [] = refl
+  numbers-changed node zero (i ∷ items) = ap (λ n. n ∷ map (number_by of) items) (number-for_node node i)
+  numbers-changed node (suc back) (i ∷ items) = ap (λ ns. number_by of i ∷ ns) (numbers-changed node back items)
+
+  pub numbers-kept : (node back : ℕ) (old new : List Stored) → items_of new ≡ changed_at back (for_node node) (items_of old) → map (number of) new ≡ map (number of) old
+  numbers-kept node back old new is = numbers-same of old new (ap (map (number_by of)) is ∙ numbers-changed node back (items_of old))
+
+  -- .. and where it is taken out and put elsewhere, so is the number
+  pub numbers-moved : (node : ℕ) (items left moved : List Stored) (from to : ℕ) (x y : Stored) → from < length items → x ≡ get_or items from x → left ≡ remove items from
+      → item_of y ≡ for_node node (item_of x) → moved ≡ insert left to y → (ns ms : List ℕ) → ns ≡ map (number of) items → ms ≡ insert (remove ns from) to (get_or ns from 0) → ms ≡ map (number of) moved
+  numbers-moved node items left moved from to x y within at out same in_again ns ms is put =
+      let kept : number of y ≡ number of x = ap (number_by of) same ∙ number-for_node node (item_of x) in
+      let here : get_or ns from 0 ≡ number of y = ap (λ ks. get_or ks from 0) is ∙ get_or-map (number of) items from x 0 within ∙ sym (ap (number of) at) ∙ sym kept in
+      let rest : remove ns from ≡ map (number of) left = ap (λ ks. remove ks from) is ∙ sym (map-remove (number of) items from) ∙ ap (map (number of)) (sym out) in
+      put ∙ (λ k. insert (rest k) to (here k)) ∙ sym (map-insert (number of) left to y) ∙ ap (map (number of)) (sym in_again)
 
 -- the place of the last marker, and of the last item of a name
 abbrev pub marker_place : List (Item ℕ) → ℕ
-marker_place items = last_of 0 (map number_of_item items)
+marker_place items = place (λ e. e.name) 0 items
 
 abbrev pub name_place : ℕ → List (Item ℕ) → ℕ
-name_place name items = last_of (suc name) (map number_of_item items)
-
-pub place-le : (n : ℕ) (items : List (Item ℕ)) → last_of n (map number_of_item items) ≤ length items
-place-le n items = let most : last_of n (map number_of_item items) ≤ length (map number_of_item items) = last_place-le (λ k. eqb k n) (map number_of_item items) in omega (arith, length-map items number_of_item)
+name_place name items = place (λ e. e.name) (suc name) items
 
 cleared-place : (items : List (Item ℕ)) → cleared items ≡ drop (length items - (marker_place items - 1)) items
 cleared-place [] = refl
 cleared-place (marker ∷ items) =
-    let one : suc (length items) - (suc (length (map number_of_item items)) - 1) ≡ 1 = omega (arith, length-map items number_of_item) in
+    let one : suc (length items) - (suc (length (map name_of items)) - 1) ≡ 1 = omega (arith, length-map items name_of) in
     ap (λ n. drop n (marker ∷ items)) (sym one)
 cleared-place (entry e ∷ items) =
-    let more : suc (length items) - (marker_place items - 1) ≡ suc (length items - (marker_place items - 1)) = omega (arith, place-le 0 items) in
+    let more : suc (length items) - (marker_place items - 1) ≡ suc (length items - (marker_place items - 1)) = omega (arith, place-le (λ e. e.name) 0 items) in
     rw (eqb-suc-zero e.name) (cleared-place items ∙ ap (λ n. drop n (entry e ∷ items)) (sym more))
 
 -- what is left before the last marker of a vector
 pub cleared-take : (items : List Stored) (len : ℕ) → len ≡ marker_place (items_of items) - 1 → cleared (items_of items) ≡ items_of (take len items)
 cleared-take items len is =
-    let most : len ≤ length items = omega (arith, place-le 0 (items_of items), length-items_of items) in
+    let most : len ≤ length items = omega (arith, place-le (λ e. e.name) 0 (items_of items), length-items_of items) in
     let up : length (items_of items) - (marker_place (items_of items) - 1) ≡ length items - len = omega (arith, length-items_of items) in
     cleared-place (items_of items) ∙ ap (λ n. drop n (items_of items)) up ∙ drop_nearest item_of items len (length items - len) (omega arith)
 
@@ -89,28 +108,28 @@ find-none name [] h = refl
 find-none name (marker ∷ items) h = refl
 find-none name (entry e ∷ items) h = go (eqb e.name name) refl (rw (eqb-suc-zero e.name) at h) (find-none name items)
   where
-    go : (v : Bool) → eqb e.name name ≡ v → cond (eqb (suc e.name) (suc name)) (suc (length (map number_of_item items))) (name_place name items) ≤ marker_place items
+    go : (v : Bool) → eqb e.name name ≡ v → cond (eqb (suc e.name) (suc name)) (suc (length (map name_of items))) (name_place name items) ≤ marker_place items
         → (name_place name items ≤ marker_place items → find_entry nat_eq name items ≡ None) → find_entry nat_eq name (entry e ∷ items) ≡ None
     go true s h i =
-        let here : suc (length (map number_of_item items)) ≤ marker_place items = rw (number-same e.name name true s) at h in
-        absurd (omega (arith, place-le 0 items, length-map items number_of_item))
+        let here : suc (length (map name_of items)) ≤ marker_place items = rw (number-same e.name name true s) at h in
+        absurd (omega (arith, place-le (λ e. e.name) 0 items, length-map items name_of))
     go false s h i = rw (turned e.name name false s) (i (rw (number-same e.name name false s) at h))
 
 pub find-at : (name : ℕ) (items : List (Item ℕ)) → marker_place items < name_place name items → option_and_then as_entry (slice_get items (length items - name_place name items)) ≡ find_entry nat_eq name items
 find-at name [] h = absurd (omega arith)
 find-at name (marker ∷ items) h =
-    let over : suc (length (map number_of_item items)) < name_place name items = rw (eqb-zero-suc name) at h in
-    absurd (omega (arith, place-le (suc name) items, length-map items number_of_item))
+    let over : suc (length (map name_of items)) < name_place name items = rw (eqb-zero-suc name) at h in
+    absurd (omega (arith, place-le (λ e. e.name) (suc name) items, length-map items name_of))
 find-at name (entry e ∷ items) h = go (eqb e.name name) refl (rw (eqb-suc-zero e.name) at h) (find-at name items)
   where
-    go : (v : Bool) → eqb e.name name ≡ v → marker_place items < cond (eqb (suc e.name) (suc name)) (suc (length (map number_of_item items))) (name_place name items)
+    go : (v : Bool) → eqb e.name name ≡ v → marker_place items < cond (eqb (suc e.name) (suc name)) (suc (length (map name_of items))) (name_place name items)
         → (marker_place items < name_place name items → option_and_then as_entry (slice_get items (length items - name_place name items)) ≡ find_entry nat_eq name items)
-        → option_and_then as_entry (slice_get (entry e ∷ items) (suc (length items) - cond (eqb (suc e.name) (suc name)) (suc (length (map number_of_item items))) (name_place name items))) ≡ find_entry nat_eq name (entry e ∷ items)
+        → option_and_then as_entry (slice_get (entry e ∷ items) (suc (length items) - cond (eqb (suc e.name) (suc name)) (suc (length (map name_of items))) (name_place name items))) ≡ find_entry nat_eq name (entry e ∷ items)
     go true s h i =
-        let none : suc (length items) - suc (length (map number_of_item items)) ≡ 0 = omega (arith, length-map items number_of_item) in
+        let none : suc (length items) - suc (length (map name_of items)) ≡ 0 = omega (arith, length-map items name_of) in
         rw (number-same e.name name true s, none, turned e.name name true s) refl
     go false s h i =
-        let more : suc (length items) - name_place name items ≡ suc (length items - name_place name items) = omega (arith, place-le (suc name) items) in
+        let more : suc (length items) - name_place name items ≡ suc (length items - name_place name items) = omega (arith, place-le (λ e. e.name) (suc name) items) in
         rw (number-same e.name name false s, more, turned e.name name false s) (i (rw (number-same e.name name false s) at h))
 
 -- the nearest of a node leaves

@@ -15,3 +15,4 @@ pub mod NameSets
 pub mod Kept
 pub mod Chains
 pub mod Listed
+pub mod Buckets

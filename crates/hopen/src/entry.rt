@@ -1,11 +1,11 @@
 //! Entries of the list of active formatting elements, and markers (HTML Standard, 13.2.4.3).
 
-ghost use Rattle.std.specs.Prelude.{◌≡◌, suc, map, nat_eq};
+ghost use Rattle.std.specs.Prelude.{◌≡◌, suc, map, nat_eq, false};
 ghost use Rattle.hnodes.specs.Rows.{attribute_of};
-ghost use Rattle.std.specs.Option.{option_map};
+ghost use Rattle.std.specs.Option.{option_map, option_map_or};
 ghost use Rattle.hopen.specs.Formatting.{as_entry, for_node, is_entry, is_equal};
 ghost use Rattle.hopen.specs.Items.{entry_is, item_of};
-ghost use Rattle.hopen.specs.Listed.{number_of_item};
+ghost use Rattle.hopen.specs.Listed.{name_of};
 
 use crate::attributes::are_same;
 use hnodes::NodeId;
@@ -59,11 +59,21 @@ impl Item {
 
     /// The number of its name: 0 is that of a marker.
     pub(crate) fn number(&self) -> usize
-        ensures { result ≡ number_of_item (item_of self.now) }
+        ensures { result ≡ name_of (item_of self.now) }
     {
         match self {
             Item::Marker => MARKER,
             Item::Entry(entry) => name_number(entry.name),
+        }
+    }
+
+    /// Whether it is an entry that was made for an equal token.
+    pub(crate) fn is_equal(&self, name: NameId, attrs: &[Attr]) -> bool
+        ensures { result ≡ option_map_or (is_equal nat_eq (record { node = 0; name = name; attrs = map attribute_of attrs.now })) (as_entry (item_of self.now)) false }
+    {
+        match self {
+            Item::Marker => false,
+            Item::Entry(entry) => entry.is_equal(name, attrs),
         }
     }
 

@@ -1,15 +1,18 @@
 //! The list of active formatting elements (HTML Standard, 13.2.4.3).
 
-ghost use Rattle.std.specs.Prelude.{◌≡◌, ℕ, ◌<◌, ◌≤◌, ◌∷◌, [], IsTrue, OnOk, OnErr, IfSome, find, insert, map, length, nat_eq, position, remove, reverse, slice_get, slice_index_or, vec_len, vec_capacity};
+ghost use Rattle.std.specs.Prelude.{◌≡◌, ℕ, suc, ◌<◌, ◌≤◌, ◌∷◌, [], IsTrue, OnOk, OnErr, IfSome, find, insert, map, length, nat_eq, position, remove, reverse, slice_get, slice_index_or, vec_len, vec_capacity};
 ghost use Rattle.std.specs.List.{list_any};
 ghost use Rattle.std.specs.Option.{option_map, option_map_or};
 ghost use Rattle.hnodes.specs.Rows.{attribute_of};
 ghost use Rattle.hopen.specs.Formatting.{cleared, entry_at, entry_of, find_entry, is_entry, marker, pushed, with_node, with_room, without_entry, for_node, booked, has_bookmark};
 ghost use Rattle.hopen.specs.Items.{entry_is, item_of, items_of};
+ghost use Rattle.hopen.specs.Buckets.{bucket};
+ghost use Rattle.hopen.specs.Listed.{bucket_of};
 ghost use Rattle.hopen.specs.Nearest.{changed_at, put_before, without};
 
 use crate::attributes::copy_attrs;
 use crate::bookmark::Bookmark;
+use crate::buckets::find_bucket;
 use crate::chains::Chains;
 use crate::entry::{Entry, Item, MARKER, name_number};
 use hnodes::NodeId;
@@ -22,13 +25,15 @@ const MOST_EQUAL: usize = 3;
 
 /// The list of active formatting elements.
 ///
-/// `find`, `get` and `renew` take the same time at any length. `push` compares the new entry with each one after the last marker;
-/// the calls by a node search for its entry from the last one on. An edit in the middle takes a step for each item after it.
+/// `find`, `get` and `renew` take the same time at any length. `push` compares the new entry with those of its bucket after the last
+/// marker, which are few; the calls by a node search for its entry from the last one on. An edit in the middle takes a step for each item after it.
 #[derive(Debug, Drop)]
 pub struct Formatting {
     items: Vec<Item>,
     /// The number of each item's name, and that of markers.
     names: Chains,
+    /// The number of each item's bucket, and that of markers.
+    buckets: Chains,
     alloc: Global,
 }
 
@@ -49,20 +54,30 @@ impl Model for Formatting {
     ghost invariant = { IsListed };
 }
 
-/// The index of the entry that gives way to a new one: the earliest of the equal entries after the last marker, if there are three.
-fn giving_way(items: &[Item], name: NameId, attrs: &[Attr]) -> Option<usize>
-    ensures within { IfSome result (λ i. i < length items.now) }
-    ensures room { items_of (option_map_or (λ i. remove items.now i) result items.now) ≡ with_room nat_eq (record { node = 0; name = name; attrs = map attribute_of attrs.now }) (items_of items.now) }
+/// How many items come after the entry that gives way to a new one: the earliest of the equal entries after the last marker, if there
+/// are three. Equal entries are in the same bucket.
+fn giving_way(
+    items: &[Item],
+    buckets: &Chains,
+    number: usize,
+    name: NameId,
+    attrs: &[Attr],
+) -> Option<usize>
+    requires kept { buckets.now ≡ map (λ i. bucket_of (item_of i)) items.now }
+    requires number { number ≡ suc (bucket (record { node = 0; name = name; attrs = map attribute_of attrs.now })) }
+    ensures within { IfSome result (λ back. back < length items.now) }
+    ensures room { option_map_or (remove (items_of items.now)) result (items_of items.now) ≡ with_room nat_eq (record { node = 0; name = name; attrs = map attribute_of attrs.now }) (items_of items.now) }
 {
-    let mut rest = items;
+    let marker = buckets.last(MARKER);
+    let mut place = buckets.last(number);
     let mut equal = 0;
     let mut earliest = None;
-    while let Some((Item::Entry(other), before)) = rest.split_last() {
-        if other.is_equal(name, attrs) {
+    while place > marker {
+        if items[place - 1].is_equal(name, attrs) {
             equal += 1;
-            earliest = Some(before.len());
+            earliest = Some(items.len() - place);
         }
-        rest = before;
+        place = buckets.before(place);
     }
     if equal < MOST_EQUAL { None } else { earliest }
 }
@@ -126,6 +141,7 @@ impl Formatting {
         Formatting {
             items: Vec::new(alloc),
             names: Chains::new(alloc),
+            buckets: Chains::new(alloc),
             alloc,
         }
     }
@@ -137,10 +153,11 @@ impl Formatting {
         ensures err { OnErr result (self.new ≡ self.old) }
     {
         let attrs = copy_attrs(self.alloc, attrs)?;
-        let earliest = giving_way(&self.items, name, &attrs);
-        self.put(Item::Entry(Entry { node, name, attrs }))?;
-        if let Some(index) = earliest {
-            self.cut(self.len() - 1 - index);
+        let number = find_bucket(self.alloc, name, &attrs)?;
+        let earliest = giving_way(&self.items, &self.buckets, number, name, &attrs);
+        self.put(Item::Entry(Entry { node, name, attrs }), number)?;
+        if let Some(back) = earliest {
+            self.cut(back + 1);
         }
         Ok(())
     }
@@ -150,7 +167,7 @@ impl Formatting {
         ensures ok { OnOk result (self.new ≡ marker ∷ self.old) }
         ensures err { OnErr result (self.new ≡ self.old) }
     {
-        self.put(Item::Marker)
+        self.put(Item::Marker, MARKER)
     }
 
     /// Removes the last marker and everything after it, or everything if there is no marker (13.2.4.3).
@@ -159,6 +176,7 @@ impl Formatting {
     {
         let len = self.names.last(MARKER).saturating_sub(1);
         self.names.truncate(len);
+        self.buckets.truncate(len);
         self.items.truncate(len);
     }
 
@@ -247,6 +265,7 @@ impl Formatting {
                 item.set_node(to);
                 let new = insert_after(&mut self.items, mark, item);
                 self.names.shift(old, new);
+                self.buckets.shift(old, new);
             }
         }
     }
@@ -258,13 +277,18 @@ impl Formatting {
         back_of(&self.items, node)
     }
 
-    /// Adds an item at the end. On an error nothing changes.
-    fn put(&mut self, item: Item) -> Result<(), AllocError>
+    /// Adds an item at the end, with the number of its bucket. On an error nothing changes.
+    fn put(&mut self, item: Item, number: usize) -> Result<(), AllocError>
+        requires { number ≡ bucket_of (item_of item) }
         ensures ok { OnOk result (self.new ≡ item_of item ∷ self.old) }
         ensures err { OnErr result (self.new ≡ self.old) }
     {
         self.items.reserve(1)?;
         self.names.push(item.number())?;
+        if let Err(error) = self.buckets.push(number) {
+            self.names.truncate(self.items.len());
+            return Err(error);
+        }
         if self.items.push(item).is_err() {
             unreachable!()
         }
@@ -278,6 +302,7 @@ impl Formatting {
     {
         let index = self.items.len() - 1 - back;
         self.names.remove(index);
+        self.buckets.remove(index);
         self.items.remove(index);
     }
 }

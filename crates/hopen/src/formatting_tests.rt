@@ -364,3 +364,22 @@ fn copies_keep_their_order(rt: HostRuntime) -> Result<(), Fail> {
     assert_eq!(rt; copies.last().map(|attr| attr.name), Some(kit.y));
     Ok(())
 }
+
+#[test]
+fn a_hundred_thousand_entries_are_pushed_without_a_search(rt: HostRuntime) -> Result<(), Fail> {
+    let alloc = rt.alloc();
+    let kit = make_kit(alloc)?;
+    let mut list = Formatting::new(alloc);
+    for number in 0..100_000u32 {
+        let value = format!(in alloc; "{number}")?;
+        let mut attrs = kit.attrs(4, false, alloc)?;
+        attrs.push(Attr { name: kit.x, value })?;
+        list.push(kit.first, kit.b, &attrs)?;
+    }
+    assert_eq!(rt; list.len(), 100_000);
+    for _ in 0..4 {
+        list.push(kit.first, kit.b, &kit.attrs(5, true, alloc)?)?;
+    }
+    assert_eq!(rt; list.len(), 100_002);
+    Ok(())
+}

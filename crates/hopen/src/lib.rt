@@ -3,6 +3,7 @@
 
 pub mod attributes;
 pub mod bookmark;
+mod buckets;
 mod chains;
 pub mod entry;
 #[cfg(test)]
