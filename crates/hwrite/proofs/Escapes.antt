@@ -1,19 +1,102 @@
--- A text as it is written, a character at a time.
-use Rattle.std.proofs.Common.{◌≡◌, ℕ, List, [], ◌∷◌, ◌++◌, length, sym, ◌∙◌, ap, arith}
-use Rattle.std.proofs.lemmas.List.{append_assoc, append-nil}
-use Rattle.std.proofs.lemmas.Str.{chars-nil, chars_past_char}
+-- A text as it is written, in runs of characters that are written as they are.
+use Rattle.std.proofs.Common.{◌≡◌, ℕ, ◌+◌, ◌-◌, ◌≤◌, List, [], ◌∷◌, ◌++◌, Option, length, take, drop, refl, sym, ◌∙◌, ap, arith, length-append}
+use Rattle.std.proofs.Math.Seq.{drop-append_seam, take-append_seam}
+use Rattle.std.proofs.lemmas.List.{append_assoc, take_rest}
+use Rattle.std.proofs.lemmas.Str.{chars-nil, chars_past_char, IsUtf8-past_char}
 use Rattle.std.specs.Char.{encode_utf8}
+use Rattle.std.specs.Io.KnownBytes.{Appends}
 use Rattle.std.specs.List.{flat_map}
 use Rattle.std.specs.Str.{IsUtf8}
 use Rattle.hwrite.specs.Escaping.{escaped, written_char}
+use Rattle.hwrite.specs.Output.{AppendsBeginning}
 use Rattle.hwrite.specs.declared.escaping.Escaping.TheVariants.{One}
 use Rattle.hwrite.specs.declared.escaping.Setting.{Setting}
+use Rattle.hwrite.proofs.Output.{HasLeft, none_put, part_put, part_failed}
 
-pub one-char : (setting : Setting) (text new all rest next : List ℕ) (ch : ℕ) → IsUtf8 rest → rest ≡ encode_utf8 ch ++ next → new ≡ text ++ written_char One setting ch → text ++ escaped One setting rest ≡ all → new ++ escaped One setting next ≡ all
-one-char setting text new all rest next ch utf8 split is before =
-    ap (λ t. t ++ escaped One setting next) is ∙ append_assoc text (written_char One setting ch) (escaped One setting next)
-    ∙ ap (λ cs. text ++ flat_map (written_char One setting) cs) (sym (chars_past_char rest next ch utf8 split)) ∙ before
+-- What stands before `done` is written, and so far each character after it is written as it is.
+pub record IsEscaping (setting : Setting) (source : List ℕ) (done at : ℕ) (rest : List ℕ) (old now : Option (List ℕ)) : Type 0 where
+  pub before : List ℕ
+  pub run : List ℕ
+  pub parts : source ≡ before ++ (run ++ rest)
+  pub done_is : done ≡ length before
+  pub at_is : at ≡ length before + length run
+  pub utf8 : IsUtf8 rest
+  pub left : HasLeft old now (escaped One setting source) (run ++ escaped One setting rest)
 
-pub no-char : (setting : Setting) (text all rest : List ℕ) → length rest ≡ 0 → text ++ escaped One setting rest ≡ all → text ≡ all
-no-char setting text all [] h before = sym (append-nil text) ∙ ap (λ cs. text ++ flat_map (written_char One setting) cs) (sym chars-nil) ∙ before
-no-char setting text all (b ∷ rest) h before = absurd (omega arith)
+pub begins : (setting : Setting) (source : List ℕ) (old : Option (List ℕ)) → IsUtf8 source → IsEscaping setting source 0 0 source old old
+begins setting source old utf8 =
+    record { before = []; run = []; parts = refl; done_is = refl; at_is = refl; utf8 = utf8; left = none_put old (escaped One setting source) }
+
+module _ (setting : Setting) (source : List ℕ) (done at : ℕ) (rest : List ℕ) (old now : Option (List ℕ)) (s : IsEscaping setting source done at rest old now) where
+  pub run_left : drop done source ≡ s.run ++ rest
+  run_left = (λ i. drop (s.done_is i) (s.parts i)) ∙ drop-append_seam s.before (s.run ++ rest)
+
+  pub run_is : (lent : List ℕ) (end : ℕ) → lent ≡ source → end ≡ at → take (end - done) (drop done lent) ≡ s.run
+  run_is lent end same here = (λ i. take (count i) (drop done (same i))) ∙ ap (take (length s.run)) run_left ∙ take-append_seam s.run rest
+    where
+      count : end - done ≡ length s.run
+      count = omega (arith, s.done_is, s.at_is, here)
+
+  pub whole_length : at + length rest ≡ length source
+  whole_length =
+      let a : length source ≡ length s.before + (length s.run + length rest) = ap length s.parts ∙ length-append s.before (s.run ++ rest) ∙ ap (λ n. length s.before + n) (length-append s.run rest) in
+      omega (arith, a, s.at_is)
+
+  pub in_order : done ≤ at
+  in_order = omega (arith, s.done_is, s.at_is)
+
+  module _ (ch : ℕ) (next : List ℕ) (split : rest ≡ encode_utf8 ch ++ next) where
+    escaped_next : escaped One setting rest ≡ written_char One setting ch ++ escaped One setting next
+    escaped_next = ap (flat_map (written_char One setting)) (chars_past_char rest next ch s.utf8 split)
+
+    next_utf8 : IsUtf8 next
+    next_utf8 = IsUtf8-past_char rest next ch s.utf8 split
+
+    -- one character more that is written as it is
+    pub kept : (later : ℕ) → later ≡ at + length (encode_utf8 ch) → written_char One setting ch ≡ encode_utf8 ch → IsEscaping setting source done later next old now
+    kept later moved plain = record {
+      before = s.before;
+      run = s.run ++ encode_utf8 ch;
+      parts = s.parts ∙ ap (λ r. s.before ++ (s.run ++ r)) split ∙ ap (λ r. s.before ++ r) (sym (append_assoc s.run (encode_utf8 ch) next));
+      done_is = s.done_is;
+      at_is = let a : length (s.run ++ encode_utf8 ch) ≡ length s.run + length (encode_utf8 ch) = length-append s.run (encode_utf8 ch) in omega (arith, a, s.at_is, moved);
+      utf8 = next_utf8;
+      left = let (put, is, appended) = s.left in
+          (put, is ∙ ap (λ l. put ++ l) (ap (λ l. s.run ++ l) (escaped_next ∙ ap (λ l. l ++ escaped One setting next) plain) ∙ sym (append_assoc s.run (encode_utf8 ch) (escaped One setting next))), appended);
+    }
+
+    -- one that is not, after the run before it
+    module _ (mid : Option (List ℕ)) (part : List ℕ) (is : part ≡ s.run) (first : Appends now mid part) (text : List ℕ) (same : written_char One setting ch ≡ text) where
+      run_put : HasLeft old mid (escaped One setting source) (text ++ escaped One setting next)
+      run_put = part_put old now mid _ _ part _ s.left ((λ i. sym is i ++ escaped_next i) ∙ ap (λ t. part ++ (t ++ escaped One setting next)) same) first
+
+      pub replaced : (new : Option (List ℕ)) (past later : ℕ) → past ≡ at + length (encode_utf8 ch) → later ≡ at + length (encode_utf8 ch) → Appends mid new text → IsEscaping setting source past later next old new
+      replaced new past later stands moved second = record {
+        before = s.before ++ (s.run ++ encode_utf8 ch);
+        run = [];
+        parts = s.parts ∙ ap (λ r. s.before ++ (s.run ++ r)) split ∙ ap (λ r. s.before ++ r) (sym (append_assoc s.run (encode_utf8 ch) next)) ∙ sym (append_assoc s.before (s.run ++ encode_utf8 ch) next);
+        done_is = omega (arith, place, stands);
+        at_is = omega (arith, place, moved);
+        utf8 = next_utf8;
+        left = part_put old mid new _ _ text _ run_put refl second;
+      }
+        where
+          place : at + length (encode_utf8 ch) ≡ length (s.before ++ (s.run ++ encode_utf8 ch))
+          place =
+              let a : length (s.before ++ (s.run ++ encode_utf8 ch)) ≡ length s.before + (length s.run + length (encode_utf8 ch)) =
+              length-append s.before (s.run ++ encode_utf8 ch) ∙ ap (λ n. length s.before + n) (length-append s.run (encode_utf8 ch)) in
+              omega (arith, a, s.at_is)
+
+      pub reference_failed : (new : Option (List ℕ)) → AppendsBeginning mid new text → AppendsBeginning old new (escaped One setting source)
+      reference_failed new second = part_failed old mid new _ _ text _ run_put refl second
+
+  pub run_failed : (new : Option (List ℕ)) (part : List ℕ) → part ≡ s.run → AppendsBeginning now new part → AppendsBeginning old new (escaped One setting source)
+  run_failed new part is first = part_failed old now new _ _ part _ s.left (ap (λ l. l ++ escaped One setting rest) (sym is)) first
+
+  -- the last run
+  pub last_is : length rest ≡ 0 → (lent : List ℕ) → lent ≡ source → s.run ++ escaped One setting rest ≡ take (length lent - done) (drop done lent)
+  last_is h lent same = go rest h run_left ∙ ap (drop done) (sym same) ∙ sym (take_rest lent done)
+    where
+      go : (r : List ℕ) → length r ≡ 0 → drop done source ≡ s.run ++ r → s.run ++ escaped One setting r ≡ drop done source
+      go [] h is = ap (λ cs. s.run ++ flat_map (written_char One setting) cs) chars-nil ∙ sym is
+      go (b ∷ r) h is = absurd (omega (arith, h))

@@ -13,3 +13,6 @@ pub mod Tested
 pub mod Contexts
 pub mod PlainNames
 pub mod Entering
+pub mod Output
+pub mod Kept
+pub mod Above

@@ -20,7 +20,7 @@ use Rattle.hwrite.specs.declared.walk.Visit.TheVariants.{Enter, Leave}
 
 module _ (made : ℕ) (f : Forest ℕ) (counted : AreCounted made f) (root : ℕ) where
   -- the nodes that a node is inside of are its parent and those that this is inside of
-  parents : (n : ℕ) → n < made → ancestors_of n f ≡ way_up (parent_of n f) f
+  pub parents : (n : ℕ) → n < made → ancestors_of n f ≡ way_up (parent_of n f) f
   parents n h = ap (drop 1) (way-step made f counted n h)
 
   -- the place of a child

@@ -64,11 +64,11 @@ one-more f attrs i x pairs new p all h is e same before =
     moved [] = refl
     moved (q ∷ ps) = ap (λ l. pair_of q ∷ l) (moved ps)
 
--- the text of one attribute more
-pub text-more : (f : Attribute ℕ → Attribute (List ℕ)) (g : Attribute (List ℕ) → List ℕ) (attrs : List Attr) (i : ℕ) (x : Attr) (out new : List ℕ) (a : Attribute (List ℕ)) (all : List ℕ) → i < length attrs → x ≡ get_or attrs i x
-    → new ≡ out ++ g a → a ≡ f (attribute_of x) → out ++ flat_map g (map f (map attribute_of (drop i attrs))) ≡ all → new ++ flat_map g (map f (map attribute_of (drop (i + 1) attrs))) ≡ all
-text-more f g attrs i x out new a all h is e same before =
-    ap (λ t. t ++ rest) e ∙ append_assoc out (g a) rest ∙ ap (λ b. out ++ (g b ++ rest)) same ∙ ap (λ (l : List Attr). out ++ flat_map g (map f (map attribute_of l))) (sym (dropped attrs i x h is)) ∙ before
+-- the text of the next attribute, and of those after it
+pub next-text : (f : Attribute ℕ → Attribute (List ℕ)) (g : Attribute (List ℕ) → List ℕ) (attrs : List Attr) (i : ℕ) (x : Attr) (a : Attribute (List ℕ)) (end : List ℕ) → i < length attrs → x ≡ get_or attrs i x
+    → a ≡ f (attribute_of x) → flat_map g (map f (map attribute_of (drop i attrs))) ++ end ≡ g a ++ (flat_map g (map f (map attribute_of (drop (i + 1) attrs))) ++ end)
+next-text f g attrs i x a end h is same =
+    ap (λ (l : List Attr). flat_map g (map f (map attribute_of l)) ++ end) (dropped attrs i x h is) ∙ ap (λ b. (g b ++ rest) ++ end) (sym same) ∙ append_assoc (g a) rest end
   where
     rest : List ℕ
     rest = flat_map g (map f (map attribute_of (drop (i + 1) attrs)))

@@ -8,7 +8,7 @@ use Rattle.names.specs.Names.{Texts}
 use Rattle.hnodes.specs.Forest.{What, Forest, none, tree, join, children_of}
 use Rattle.hnodes.specs.Spots.{Spot, spot_of, first_or, first_child_of, next_of, parent_of, what_of}
 use Rattle.hnodes.specs.Edits.{AreCounted}
-use Rattle.hnodes.specs.Passed.{way_up, is_among}
+use Rattle.hnodes.specs.Passed.{ancestors_of, way_up, is_among}
 use Rattle.hnodes.proofs.Forests.{some_inj, join-assoc}
 use Rattle.hnodes.proofs.Counted.{is-there}
 use Rattle.hnodes.proofs.ChildSpots.{spot_among, child-spot}
@@ -19,13 +19,14 @@ use Rattle.hnodes.specs.Named.{NodeIsOf, AreOf, IsLent}
 use Rattle.hwrite.specs.Walk.{node_of, goes_in, visits}
 use Rattle.hwrite.specs.declared.walk.Visit.{Visit}
 use Rattle.hwrite.specs.declared.walk.Visit.TheVariants.{Leave}
-use Rattle.hwrite.proofs.Moves.{comes}
+use Rattle.hwrite.proofs.Moves.{comes, parents}
 
 -- what is asked of node b, where it stands with these children below p, before these siblings
 pub record IsSeen (made : ℕ) (f : Forest ℕ) (root p b : ℕ) (w : What ℕ) (kids rest : Forest ℕ) : Type 0 where
   pub made_is : b < made
   pub other : eqb b root ≡ false
   pub what : what_of b f ≡ Some w
+  pub up : ancestors_of b f ≡ way_up (Some p) f
   pub parent : parent_of b f ≡ Some p
   pub first : first_child_of b f ≡ first_or kids None
   pub next : next_of b f ≡ first_or rest None
@@ -43,6 +44,7 @@ module _ (made : ℕ) (f : Forest ℕ) (counted : AreCounted made f) (root : ℕ
       made_is = within.0;
       other = apart b root f within.1;
       what = ap (option_map (λ (s : Spot ℕ). s.what)) spot;
+      up = parents made f counted root b within.0 ∙ ap (λ o. way_up o f) (ap (option_and_then (λ (s : Spot ℕ). s.parent)) spot);
       parent = ap (option_and_then (λ (s : Spot ℕ). s.parent)) spot;
       first = ap (option_and_then (λ (s : Spot ℕ). first_or s.children None)) spot;
       next = ap (option_and_then (λ (s : Spot ℕ). first_or s.after None)) spot;

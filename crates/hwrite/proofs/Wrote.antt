@@ -19,6 +19,9 @@ use Rattle.hwrite.specs.declared.walk.Visit.{Visit}
 use Rattle.hwrite.specs.declared.walk.Visit.TheVariants.{Enter, Leave}
 use Rattle.hwrite.proofs.KnownNames.{tags-agree}
 use Rattle.hwrite.proofs.Runs.{run, walked, run-visits}
+use Rattle.std.specs.Io.KnownBytes.{Appends}
+use Rattle.hwrite.specs.Output.{AppendsBeginning}
+use Rattle.hwrite.proofs.Output.{HasLeft, none_put, part_put, part_failed, all_put}
 use Rattle.hwrite.proofs.Seen.{Seen, IsSeen, seen, lent-visits}
 
 module _ (texts : ℕ → List ℕ) (f : Forest ℕ) where
@@ -83,17 +86,37 @@ module _ (texts : ℕ → List ℕ) (f : Forest ℕ) where
 abbrev pub wanted : Texts → Forest ℕ → ℕ → List ℕ
 wanted names f node = written One (option_map (text_of names) (name_of node f)) (spelled (text_of names) (children_of node f))
 
--- What is written so far, and the visits that are left.
-pub record IsWriting (names : Texts) (made : ℕ) (f : Forest ℕ) (node : ℕ) (out : List ℕ) (left : List Visit) : Type 0 where
-  pub lent : AllByRecursion (λ v. IsLent names made f (node_of v)) left
-  pub same : run (enters (text_of names) f) (leaves (text_of names) f) left out ≡ wanted names f node
+-- what these visits write
+abbrev pub visits_text : Texts → Forest ℕ → List Visit → List ℕ
+visits_text names f left = run (enters (text_of names) f) (leaves (text_of names) f) left []
 
-pub begun : (names : Texts) (made : ℕ) (f : Forest ℕ) (node : ℕ) (out : List ℕ) (left items : List Visit) → AreNames names → AreCounted made f → node < made → AreOf names (children_of node f) → out ≡ [] → left ≡ items
-    → items ≡ visits true (children_of node f) → IsWriting names made f node out left
-begun names made f node out left items table counted h of empty same visited = record {
+run-after : (names : Texts) (f : Forest ℕ) (left : List Visit) (out : List ℕ) → run (enters (text_of names) f) (leaves (text_of names) f) left out ≡ out ++ visits_text names f left
+run-after names f [] out = sym (append-nil out)
+run-after names f (Enter n ∷ left) out =
+    let here = opening_of (text_of names) (stands_raw n f) (what_of n f) in
+    run-after names f left (out ++ here) ∙ append_assoc out here (visits_text names f left) ∙ ap (λ l. out ++ l) (sym (run-after names f left here))
+run-after names f (Leave n ∷ left) out =
+    let here = closing_of (text_of names) (what_of n f) in
+    run-after names f left (out ++ here) ∙ append_assoc out here (visits_text names f left) ∙ ap (λ l. out ++ l) (sym (run-after names f left here))
+
+-- one visit, and those after it
+pub first-visit : (names : Texts) (f : Forest ℕ) (v : Visit) (old left : List Visit) → old ≡ v ∷ left → visits_text names f old ≡ visit_text (text_of names) f v ++ visits_text names f left
+first-visit names f v old left is = ap (visits_text names f) is ∙ go v
+  where
+    go : (v : Visit) → visits_text names f (v ∷ left) ≡ visit_text (text_of names) f v ++ visits_text names f left
+    go (Enter n) = run-after names f left (opening_of (text_of names) (stands_raw n f) (what_of n f))
+    go (Leave n) = run-after names f left (closing_of (text_of names) (what_of n f))
+
+-- The visits that are left, and what they write.
+pub record IsWriting (names : Texts) (made : ℕ) (f : Forest ℕ) (node : ℕ) (old now : Option (List ℕ)) (left : List Visit) : Type 0 where
+  pub lent : AllByRecursion (λ v. IsLent names made f (node_of v)) left
+  pub same : HasLeft old now (wanted names f node) (visits_text names f left)
+
+pub begun : (names : Texts) (made : ℕ) (f : Forest ℕ) (node : ℕ) (old : Option (List ℕ)) (left items : List Visit) → AreNames names → AreCounted made f → node < made → AreOf names (children_of node f) → left ≡ items
+    → items ≡ visits true (children_of node f) → IsWriting names made f node old old left
+begun names made f node old left items table counted h of same visited = record {
   lent = subst (AllByRecursion (λ v. IsLent names made f (node_of v))) (sym is) (lent-visits names made f node true counted h of);
-  same = (λ i. run (enters (text_of names) f) (leaves (text_of names) f) (is i) (empty i)) ∙ run-visits (enters (text_of names) f) (leaves (text_of names) f) true (children_of node f) []
-      ∙ writes (text_of names) f tags made node node (children_of node f) (seen made f counted node h) [] ∙ ap (λ r. written_among One r (spelled (text_of names) (children_of node f))) (raw-same (text_of names) f tags made node (name_of node f));
+  same = subst (HasLeft old old (wanted names f node)) (sym whole) (none_put old (wanted names f node));
 }
   where
     is : left ≡ visits true (children_of node f)
@@ -102,19 +125,27 @@ begun names made f node out left items table counted h of empty same visited = r
     tags : (id : ℕ) → tag_of id ≡ tag_named (text_of names id)
     tags id = tags-agree names table id
 
--- one visit more
-pub goes_on : (names : Texts) (made : ℕ) (f : Forest ℕ) (node : ℕ) (out out' : List ℕ) (v : Visit) (old left : List Visit) → old ≡ v ∷ left → IsWriting names made f node out old
-    → out' ≡ out ++ visit_text (text_of names) f v → IsWriting names made f node out' left
-goes_on names made f node out out' v old left is s o = go v (subst (IsWriting names made f node out) is s) o
-  where
-    go : (v : Visit) → IsWriting names made f node out (v ∷ left) → out' ≡ out ++ visit_text (text_of names) f v → IsWriting names made f node out' left
-    go (Enter n) t e = record { lent = t.lent.1; same = ap (run (enters (text_of names) f) (leaves (text_of names) f) left) e ∙ t.same }
-    go (Leave n) t e = record { lent = t.lent.1; same = ap (run (enters (text_of names) f) (leaves (text_of names) f) left) e ∙ t.same }
+    whole : visits_text names f left ≡ wanted names f node
+    whole =
+        ap (visits_text names f) is ∙ run-visits (enters (text_of names) f) (leaves (text_of names) f) true (children_of node f) []
+        ∙ writes (text_of names) f tags made node node (children_of node f) (seen made f counted node h) [] ∙ ap (λ r. written_among One r (spelled (text_of names) (children_of node f))) (raw-same (text_of names) f tags made node (name_of node f))
 
--- what the next visit asks for
-pub next_is : (names : Texts) (made : ℕ) (f : Forest ℕ) (node : ℕ) (out : List ℕ) (v : Visit) (old left : List Visit) → old ≡ v ∷ left → IsWriting names made f node out old → IsLent names made f (node_of v)
-next_is names made f node out v old left is s = (subst (IsWriting names made f node out) is s).lent.0
+module _ (names : Texts) (made : ℕ) (f : Forest ℕ) (node : ℕ) (old now : Option (List ℕ)) (v : Visit) (before left : List Visit) (is : before ≡ v ∷ left) (s : IsWriting names made f node old now before) where
+  -- what the next visit asks for
+  pub next_is : IsLent names made f (node_of v)
+  next_is = (subst (AllByRecursion (λ v. IsLent names made f (node_of v))) is s.lent).0
+
+  -- one visit more
+  pub goes_on : (new : Option (List ℕ)) → Appends now new (visit_text (text_of names) f v) → IsWriting names made f node old new left
+  goes_on new h = record {
+    lent = (subst (AllByRecursion (λ v. IsLent names made f (node_of v))) is s.lent).1;
+    same = part_put old now new _ _ _ _ s.same (first-visit names f v before left is) h;
+  }
+
+  -- one that failed
+  pub failed : (new : Option (List ℕ)) → AppendsBeginning now new (visit_text (text_of names) f v) → AppendsBeginning old new (wanted names f node)
+  failed new h = part_failed old now new _ _ _ _ s.same (first-visit names f v before left is) h
 
 -- the end
-pub wrote : (names : Texts) (made : ℕ) (f : Forest ℕ) (node : ℕ) (out : List ℕ) (left : List Visit) → left ≡ [] → IsWriting names made f node out left → out ≡ wanted names f node
-wrote names made f node out left is s = (subst (IsWriting names made f node out) is s).same
+pub wrote : (names : Texts) (made : ℕ) (f : Forest ℕ) (node : ℕ) (old now : Option (List ℕ)) (left : List Visit) → left ≡ [] → IsWriting names made f node old now left → Appends old now (wanted names f node)
+wrote names made f node old now left is s = all_put old now _ _ s.same (ap (visits_text names f) is)

@@ -10,3 +10,4 @@ pub mod Walk
 pub mod Lent
 pub mod Printing
 pub mod Writing
+pub mod Output

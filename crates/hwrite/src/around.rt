@@ -2,13 +2,13 @@
 
 ghost use Rattle.std.specs.Prelude.{◌≡◌};
 ghost use Rattle.hwrite.specs.Plain.{is_nested};
-ghost use Rattle.hwrite.specs.Testing.{around_top, marked, inside_is, standing_in, standing_at_top};
+ghost use Rattle.hwrite.specs.Testing.{alone, around_top, around_within, marked, inside_is, standing_in, standing_at_top};
 
 use crate::content::{Content, Texts};
-use crate::rows::row;
+use crate::rows::{inserts_marker, row};
 use names::Tag;
 
-/// What is around a list of trees, at any distance.
+/// What is around a list of trees: a form at any distance, and the others with no marker between.
 #[derive(Clone, Copy)]
 pub(crate) struct Around {
     in_a: bool,
@@ -19,19 +19,46 @@ pub(crate) struct Around {
 }
 
 impl Around {
-    /// At the top of a context of this name: a form is around what stands in it.
-    pub(crate) fn at_top(context: Tag) -> Around
-        ensures { result ≡ around_top context }
+    /// Nothing but a form, or not even that.
+    pub(crate) fn alone(in_form: bool) -> Around
+        ensures { result ≡ alone in_form }
     {
         Around {
             in_a: false,
             in_button: false,
-            in_form: matches!(context, Tag::Form),
+            in_form,
             in_phrasing: false,
         }
     }
 
-    /// The same where an element of this name is entered, or left. None of these elements stands in its own kind.
+    /// At the top of a context of this name: a form is around what stands in it.
+    pub(crate) fn at_top(context: Tag) -> Around
+        ensures { result ≡ around_top context }
+    {
+        Around::alone(matches!(context, Tag::Form))
+    }
+
+    /// Within an element of this name: a marker hides all but a form.
+    pub(crate) fn within(self, tag: Tag) -> Around
+        ensures { result ≡ around_within tag self }
+    {
+        if inserts_marker(tag) {
+            return Around::alone(self.in_form);
+        }
+        self.marked(tag, true)
+    }
+
+    /// The same with the form that is around another place, if there is one.
+    pub(crate) fn with_form_of(self, other: Around) -> Around
+        ensures { result ≡ record self { in_form = other.in_form } }
+    {
+        Around {
+            in_form: other.in_form,
+            ..self
+        }
+    }
+
+    /// The same where an element of this name is entered, or left, that inserts no marker. None of these stands in its own kind.
     pub(crate) fn marked(self, tag: Tag, inside: bool) -> Around
         ensures { result ≡ marked tag inside self }
     {

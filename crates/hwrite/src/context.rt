@@ -8,7 +8,7 @@ ghost use Rattle.hwrite.specs.Plain.{in_context, in_context_of, is_form};
 use names::Tag;
 
 /// Their names.
-static CONTEXTS: [Tag; 84] = [
+static CONTEXTS: [Tag; 87] = [
     Tag::A,
     Tag::Abbr,
     Tag::Address,
@@ -59,8 +59,11 @@ static CONTEXTS: [Tag; 84] = [
     Tag::Listing,
     Tag::Main,
     Tag::Mark,
+    Tag::Marquee,
     Tag::Menu,
     Tag::Nav,
+    Tag::Noembed,
+    Tag::Object,
     Tag::Ol,
     Tag::Output,
     Tag::P,

@@ -1,68 +1,44 @@
 //! Texts as they are written (HTML Standard, 13.3, "Escaping a string").
 
-ghost use Rattle.std.specs.Prelude.{◌≡◌, ◌≢◌, ◌++◌, OnOk};
-ghost use Rattle.std.specs.String.{string_bytes};
+ghost use Rattle.std.specs.Prelude.{◌≡◌, IfSome, None};
+ghost use Rattle.std.specs.Char.{encode_utf8};
 ghost use Rattle.hwrite.specs.Escaping.{escaped, written_char};
+ghost use Rattle.hwrite.specs.Output.{Puts};
 ghost use Rattle.hwrite.specs.declared.escaping.Escaping.TheVariants.{One};
-ghost use Rattle.hwrite.specs.declared.escaping.Setting.TheVariants as setting;
 
 use crate::escaping::Setting;
-use std::alloc::AllocError;
+use crate::sink::put;
+use std::io;
+use std::io::Write;
 
-/// Writes a character of a text that is neither `&` nor the no-break space.
-fn push_in_text(text: &mut String, ch: char) -> Result<(), AllocError>
-    requires ampersand { ch ≢ 38 }
-    requires space { ch ≢ 160 }
-    ensures { OnOk result (string_bytes text.new ≡ string_bytes text.old ++ written_char One setting.Text ch) }
+/// What is written for a character that is not written as it is.
+fn reference(ch: char, setting: Setting) -> Option<&'static str>
+    ensures some { IfSome result (λ text. written_char One setting ch ≡ text.now) }
+    ensures none { result ≡ None → written_char One setting ch ≡ encode_utf8 ch }
 {
-    if ch == '<' {
-        text.push_str("&lt;")
-    } else if ch == '>' {
-        text.push_str("&gt;")
-    } else {
-        text.push(ch)
-    }
-}
-
-/// The same of a value.
-fn push_in_value(text: &mut String, ch: char) -> Result<(), AllocError>
-    requires ampersand { ch ≢ 38 }
-    requires space { ch ≢ 160 }
-    ensures { OnOk result (string_bytes text.new ≡ string_bytes text.old ++ written_char One setting.Value ch) }
-{
-    if ch == '"' {
-        text.push_str("&quot;")
-    } else {
-        text.push(ch)
-    }
-}
-
-/// Writes a character.
-fn push_char(text: &mut String, ch: char, setting: Setting) -> Result<(), AllocError>
-    ensures { OnOk result (string_bytes text.new ≡ string_bytes text.old ++ written_char One setting ch) }
-{
-    if ch == '&' {
-        return text.push_str("&amp;");
-    }
-    if ch == '\u{A0}' {
-        return text.push_str("&nbsp;");
-    }
-    match setting {
-        Setting::Text => push_in_text(text, ch),
-        Setting::Value => push_in_value(text, ch),
+    match (ch, setting) {
+        ('&', _) => Some("&amp;"),
+        ('\u{A0}', _) => Some("&nbsp;"),
+        ('"', Setting::Value) => Some("&quot;"),
+        ('<', Setting::Text) => Some("&lt;"),
+        ('>', Setting::Text) => Some("&gt;"),
+        _ => None,
     }
 }
 
 /// Writes a text.
-pub(crate) fn push_escaped(
-    text: &mut String,
-    source: &str,
-    setting: Setting,
-) -> Result<(), AllocError>
-    ensures { OnOk result (string_bytes text.new ≡ string_bytes text.old ++ escaped One setting source.now) }
+pub(crate) fn put_escaped<W: Write>(out: &mut W, source: &str, setting: Setting) -> io::Result<()>
+    ensures { Puts (W.contents out.old) (W.contents out.new) (escaped One setting source.now) result }
 {
-    for ch in source.chars() {
-        push_char(text, ch, setting)?;
+    let bytes = source.as_bytes();
+    // What stands before is written.
+    let mut done = 0;
+    for (at, ch) in source.char_indices() {
+        if let Some(reference) = reference(ch, setting) {
+            put(out, &bytes[done..at])?;
+            put(out, reference.as_bytes())?;
+            done = at + ch.len_utf8();
+        }
     }
-    Ok(())
+    put(out, &bytes[done..])
 }

@@ -11,12 +11,15 @@ mod node;
 mod plain;
 mod plain_texts;
 mod rows;
-mod serialize;
+mod serializer;
+mod sink;
 mod sorted;
+#[cfg(test)]
+mod tests;
 mod walk;
 
 pub use content::{Content, Role, Texts};
 pub use escaping::Escaping;
 pub use lines::{error_lines, tree_text};
 pub use plain::is_plain;
-pub use serialize::serialize_to_vec;
+pub use serializer::{serialize, serialize_to_vec};

@@ -1,15 +1,16 @@
 //! Whether a list of trees is plain.
 
-ghost use Rattle.std.specs.Prelude.{◌≡◌, ◌<◌, IfSome, map};
+ghost use Rattle.std.specs.Prelude.{◌≡◌, ◌<◌, IfSome, false, map};
 ghost use Rattle.names.specs.Names.{AreNames, text_of};
 ghost use Rattle.names.specs.Tags.{tag_of};
 ghost use Rattle.hnodes.specs.Forest.{children_of, element};
+ghost use Rattle.hnodes.specs.Passed.{ancestors_of};
 ghost use Rattle.hnodes.specs.Named.{AreOf, NodeIsOf, IsLent};
 ghost use Rattle.hnodes.specs.Rows.{attribute_of};
 ghost use Rattle.hnodes.specs.Spelled.{spelled};
 ghost use Rattle.hnodes.specs.Spots.{first_child_of, next_of, parent_of, what_of};
 ghost use Rattle.hwrite.specs.Plain.{is_plain, drops_line_feed};
-ghost use Rattle.hwrite.specs.Testing.{tag_at, standing_of, inside_is, is_text_at, begins_at, is_plain_element, is_plain_at, after_visit};
+ghost use Rattle.hwrite.specs.Testing.{alone, around_in, around_after, tag_at, standing_of, inside_is, is_text_at, begins_at, is_plain_element, is_plain_at, after_visit};
 ghost use Rattle.hwrite.specs.Walk.{node_of};
 
 use crate::around::{Around, Standing};
@@ -17,7 +18,7 @@ use crate::content::Content;
 use crate::context::context_tag;
 use crate::node::Node;
 use crate::plain_texts::{are_plain_attributes, begins_with, is_plain_comment, is_plain_text};
-use crate::rows::row;
+use crate::rows::{inserts_marker, row};
 use crate::walk::{Visit, Walk};
 use hnodes::{Kind, NodeId, Tree};
 use names::{Attr, NameId, Names, Tag};
@@ -113,6 +114,36 @@ fn is_plain_node(tree: &Tree, names: &Names, standing: Standing, node: NodeId) -
     }
 }
 
+/// What is around a node but for a form, up to the next marker or to the root.
+fn around_above(tree: &Tree, root: NodeId, node: NodeId) -> Around
+    requires { node < tree.now.made }
+    ensures { result ≡ around_in root (alone false) (ancestors_of node tree.now.trees) tree.now.trees }
+{
+    let mut around = Around::alone(false);
+    let mut below = node;
+    while let Some(above) = tree.parent(below) {
+        let tag = tag_at(tree, above);
+        if above == root || inserts_marker(tag) {
+            return around;
+        }
+        around = around.marked(tag, true);
+        below = above;
+    }
+    around
+}
+
+/// What is around what comes after a node, where this is around its children. Goes up from a node that inserts a marker.
+fn around_after(tree: &Tree, root: NodeId, node: NodeId, around: Around) -> Around
+    requires { node < tree.now.made }
+    ensures { result ≡ around_after root node around tree.now.trees }
+{
+    let tag = tag_at(tree, node);
+    if inserts_marker(tag) {
+        return around_above(tree, root, node).with_form_of(around);
+    }
+    around.marked(tag, false)
+}
+
 /// What is around the nodes that come after a visit; None if what is visited is not plain.
 fn after_visit(
     tree: &Tree,
@@ -132,14 +163,15 @@ fn after_visit(
             if !is_plain_node(tree, names, standing, node) {
                 return None;
             }
-            Some(around.marked(tag_at(tree, node), true))
+            Some(around.within(tag_at(tree, node)))
         }
-        Visit::Leave(node) => Some(around.marked(tag_at(tree, node), false)),
+        Visit::Leave(node) => Some(around_after(tree, root, node, around)),
     }
 }
 
 /// Whether the children of a node are a plain list in an element of this name: they come back from the parser as they are. Takes
-/// no memory, and as many steps as there are nodes and bytes, and pairs of attributes in one tag.
+/// no memory, and as many steps as there are nodes and bytes, pairs of attributes in one tag, and nodes from each caption, cell,
+/// object and marquee up to the next one around it.
 pub fn is_plain(tree: &Tree, names: &Names, root: NodeId, context: &str) -> bool
     requires made { root < tree.now.made }
     requires table { AreNames names.now }

@@ -2,9 +2,20 @@
 
 ghost use Rattle.std.specs.Prelude.{◌≡◌};
 ghost use Rattle.hwrite.specs.ContentTable.{row};
+ghost use Rattle.hwrite.specs.Plain.{inserts_marker};
 
 use crate::content::{Content, Role};
 use names::Tag;
+
+/// Whether an element of this name inserts a marker into the list of active formatting elements.
+pub(crate) fn inserts_marker(tag: Tag) -> bool
+    ensures { result ≡ inserts_marker tag }
+{
+    matches!(
+        tag,
+        Tag::Caption | Tag::Td | Tag::Th | Tag::Object | Tag::Marquee
+    )
+}
 
 /// What an element of this name is among its siblings, and what its children are.
 pub(crate) fn row(tag: Tag) -> (Role, Content)
@@ -55,8 +66,9 @@ pub(crate) fn row(tag: Tag) -> (Role, Content)
         | Tag::Source
         | Tag::Track => (Role::Phrasing, Content::Empty),
         Tag::Title | Tag::Textarea => (Role::Phrasing, Content::Text),
-        Tag::Style | Tag::Iframe => (Role::Phrasing, Content::RawText),
+        Tag::Style | Tag::Iframe | Tag::Noembed => (Role::Phrasing, Content::RawText),
         Tag::Script => (Role::Phrasing, Content::ScriptText),
+        Tag::Object | Tag::Marquee => (Role::Phrasing, Content::Flow),
         Tag::Address
         | Tag::Article
         | Tag::Aside

@@ -1,0 +1,56 @@
+-- Writes one after another.
+use Rattle.std.proofs.Common.{◌≡◌, ℕ, List, [], ◌∷◌, ◌++◌, Option, Result, Ok, Err, refl, sym, ap, subst, ◌∙◌, append_assoc, append-nil, length, drop, get_or, drop-cons, add-one, ◌+◌, ◌<◌}
+use Rattle.std.specs.Borrow.{Bor}
+use Rattle.std.specs.List.{flat_map}
+use Rattle.std.specs.Prelude.{◌≢◌, IsErr}
+use Rattle.std.specs.Io.KnownBytes.{Appends}
+use Rattle.std.proofs.KnownBytes.{Appends-nil, Appends-trans}
+use Rattle.hwrite.specs.Output.{AppendsBeginning, Puts}
+
+-- The known bytes grew by a beginning of these bytes, and the others are left.
+abbrev pub HasLeft : Option (List ℕ) → Option (List ℕ) → (bytes left : List ℕ) → Type 0
+HasLeft old new bytes left = (done : List ℕ) × (bytes ≡ done ++ left) × Appends old new done
+
+-- the bytes of some parts
+abbrev pub all_parts : List (Bor (List ℕ)) → List ℕ
+all_parts parts = flat_map (λ (p : Bor (List ℕ)). p.now) parts
+
+pub none_put : (old : Option (List ℕ)) (bytes : List ℕ) → HasLeft old old bytes bytes
+none_put old bytes = ([], refl, Appends-nil old)
+
+not_nil : (xs ys : List ℕ) → xs ≢ [] → xs ++ ys ≢ []
+not_nil [] ys h e = h refl
+not_nil (x ∷ xs) ys h e = cc
+
+-- one part more
+pub part_put : (old mid new : Option (List ℕ)) (bytes left part rest : List ℕ) → HasLeft old mid bytes left → left ≡ part ++ rest → Appends mid new part → HasLeft old new bytes rest
+part_put old mid new bytes left part rest (done, split, before) is more =
+    (done ++ part, split ∙ ap (λ l. done ++ l) is ∙ sym (append_assoc done part rest), Appends-trans old mid new done part before more)
+
+-- a part of which a write failed
+pub part_failed : (old mid new : Option (List ℕ)) (bytes left part rest : List ℕ) → HasLeft old mid bytes left → left ≡ part ++ rest → AppendsBeginning mid new part → AppendsBeginning old new bytes
+part_failed old mid new bytes left part rest (done, split, before) is (some, other, parted, more, after) = (
+  done ++ some,
+  other ++ rest,
+  split ∙ ap (λ l. done ++ l) (is ∙ ap (λ l. l ++ rest) parted ∙ append_assoc some other rest) ∙ sym (append_assoc done some (other ++ rest)),
+  not_nil other rest more,
+  Appends-trans old mid new done some before after,
+)
+
+-- nothing is left
+pub all_put : (old new : Option (List ℕ)) (bytes left : List ℕ) → HasLeft old new bytes left → left ≡ [] → Appends old new bytes
+all_put old new bytes left (done, split, appended) empty = subst (Appends old new) (sym (split ∙ ap (λ l. done ++ l) empty ∙ append-nil done)) appended
+
+-- the last part
+pub last_put : {E : Type 0} (old mid new : Option (List ℕ)) (bytes left part : List ℕ) (r : Result (Unit {0}) E) → HasLeft old mid bytes left → left ≡ part → Puts mid new part r → Puts old new bytes r
+last_put old mid new bytes left part (Ok _) before is more = all_put old new bytes [] (part_put old mid new bytes left part [] before (is ∙ sym (append-nil part)) more) refl
+last_put old mid new bytes left part (Err _) before is more = part_failed old mid new bytes left part [] before (is ∙ sym (append-nil part)) more
+
+-- an error that is passed on
+pub passed_on : {E : Type 0} (old new : Option (List ℕ)) (bytes : List ℕ) (r : Result (Unit {0}) E) → IsErr r → AppendsBeginning old new bytes → Puts old new bytes r
+passed_on old new bytes (Ok _) is h = absurd cc
+passed_on old new bytes (Err y) is h = h
+
+-- the next of some parts
+pub next_part : (parts : List (Bor (List ℕ))) (i : ℕ) (d : Bor (List ℕ)) → i < length parts → all_parts (drop i parts) ≡ (get_or parts i d).now ++ all_parts (drop (i + 1) parts)
+next_part parts i d h = ap all_parts (drop-cons parts i d h ∙ (λ k. get_or parts i d ∷ drop (sym (add-one i) k) parts))

@@ -1,0 +1,180 @@
+//! Trees as text (HTML Standard, 13.3, "Serializing HTML fragments").
+
+ghost use Rattle.std.specs.Prelude.{◌≡◌, ◌++◌, ◌<◌, codes, IfOk, IfErr, map, if◌then◌else◌};
+ghost use Rattle.std.specs.Option.{option_map};
+ghost use Rattle.names.specs.Names.{AreNames, text_of};
+ghost use Rattle.hnodes.specs.Forest.{children_of, element};
+ghost use Rattle.hnodes.specs.Rows.{attribute_of};
+ghost use Rattle.hnodes.specs.Spelled.{spelled, spelled_attribute};
+ghost use Rattle.hnodes.specs.Spots.{name_of, what_of};
+ghost use Rattle.hwrite.specs.Escaping.{escaped};
+ghost use Rattle.hnodes.specs.Named.{NodeIsOf, AreOf, IsLent};
+ghost use Rattle.hwrite.specs.Output.{Puts};
+ghost use Rattle.hwrite.specs.Walk.{node_of};
+ghost use Rattle.hwrite.specs.Written.{attribute_text, start_tag_text, end_tag_text, written};
+ghost use Rattle.hwrite.specs.Writing.{stands_raw, holds_raw, opening_of, closing_of, visit_text};
+ghost use Rattle.hwrite.specs.declared.escaping.Escaping.TheVariants.{One};
+ghost use Rattle.hwrite.specs.declared.escaping.Setting.TheVariants.{Text};
+
+use crate::escaped::put_escaped;
+use crate::escaping::Setting;
+use crate::node::Node;
+use crate::sink::{put, put_parts};
+use crate::sorted::name_text;
+use crate::walk::{Visit, Walk};
+use hnodes::{NodeId, Tree};
+use names::{Attr, NameId, Names, RawKind, Refusal};
+use std::alloc::Global;
+use std::io;
+use std::io::Write;
+
+/// Writes an attribute.
+fn put_attribute<W: Write>(out: &mut W, name: &str, value: &str) -> io::Result<()>
+    ensures { Puts (W.contents out.old) (W.contents out.new) (attribute_text One (name.now, value.now)) result }
+{
+    put_parts(out, &[b" ", name.as_bytes(), b"=\""])?;
+    put_escaped(out, value, Setting::Value)?;
+    put(out, b"\"")
+}
+
+/// Writes a start tag.
+fn put_start_tag<W: Write>(
+    out: &mut W,
+    names: &Names,
+    name: NameId,
+    attrs: &[Attr],
+) -> io::Result<()>
+    requires { NodeIsOf names.now (element name (map attribute_of attrs.now)) }
+    ensures { Puts (W.contents out.old) (W.contents out.new) (start_tag_text One (text_of names.now name) (map (spelled_attribute (text_of names.now)) (map attribute_of attrs.now))) result }
+{
+    put_parts(out, &[b"<", name_text(names, name).as_bytes()])?;
+    for attr in attrs {
+        put_attribute(out, name_text(names, attr.name), &attr.value)?;
+    }
+    put(out, b">")
+}
+
+/// Writes an end tag.
+fn put_end_tag<W: Write>(out: &mut W, name: &str) -> io::Result<()>
+    ensures { Puts (W.contents out.old) (W.contents out.new) (end_tag_text name.now) result }
+{
+    put_parts(out, &[b"</", name.as_bytes(), b">"])
+}
+
+/// Writes a comment.
+fn put_comment<W: Write>(out: &mut W, comment: &str) -> io::Result<()>
+    ensures { Puts (W.contents out.old) (W.contents out.new) (codes "<!--" ++ comment.now ++ codes "-->") result }
+{
+    put_parts(out, &[b"<!--", comment.as_bytes(), b"-->"])
+}
+
+/// Writes a doctype.
+fn put_doctype<W: Write>(out: &mut W, name: &str) -> io::Result<()>
+    ensures { Puts (W.contents out.old) (W.contents out.new) (codes "<!DOCTYPE " ++ name.now ++ codes ">") result }
+{
+    put_parts(out, &[b"<!DOCTYPE ", name.as_bytes(), b">"])
+}
+
+/// Writes a text, raw or escaped.
+fn put_text<W: Write>(out: &mut W, source: &str, raw: bool) -> io::Result<()>
+    ensures { Puts (W.contents out.old) (W.contents out.new) (if raw then source.now else escaped One Text source.now) result }
+{
+    if raw {
+        return put(out, source.as_bytes());
+    }
+    put_escaped(out, source, Setting::Text)
+}
+
+/// Whether texts in an element of this name, or in no element, are written as they are.
+fn holds_raw(name: Option<NameId>) -> bool
+    ensures { result ≡ holds_raw name }
+{
+    match name {
+        Some(name) => matches!(
+            name.tag().raw_kind(),
+            RawKind::Rawtext | RawKind::Script | RawKind::Plaintext
+        ),
+        None => false,
+    }
+}
+
+/// The same of texts beside a node.
+fn stands_raw(tree: &Tree, node: NodeId) -> bool
+    requires { node < tree.now.made }
+    ensures { result ≡ stands_raw node tree.now.trees }
+{
+    match tree.parent(node) {
+        Some(parent) => holds_raw(tree.name(parent)),
+        None => false,
+    }
+}
+
+/// Writes where a node begins.
+fn put_opening<W: Write>(out: &mut W, tree: &Tree, names: &Names, node: NodeId) -> io::Result<()>
+    requires { IsLent names.now tree.now.made tree.now.trees node }
+    ensures { Puts (W.contents out.old) (W.contents out.new) (opening_of (text_of names.now) (stands_raw node tree.now.trees) (what_of node tree.now.trees)) result }
+{
+    match Node::of(tree, node) {
+        Node::Document => Ok(()),
+        Node::Doctype(texts) => put_doctype(out, &texts.name),
+        Node::Element(name, attrs) => put_start_tag(out, names, name, attrs),
+        Node::Comment(data) => put_comment(out, data),
+        Node::Text(data) => put_text(out, data, stands_raw(tree, node)),
+    }
+}
+
+/// Writes where a node ends.
+fn put_closing<W: Write>(out: &mut W, tree: &Tree, names: &Names, node: NodeId) -> io::Result<()>
+    requires { IsLent names.now tree.now.made tree.now.trees node }
+    ensures { Puts (W.contents out.old) (W.contents out.new) (closing_of (text_of names.now) (what_of node tree.now.trees)) result }
+{
+    match Node::of(tree, node) {
+        Node::Element(name, _) if !name.tag().is_void() => put_end_tag(out, name_text(names, name)),
+        _ => Ok(()),
+    }
+}
+
+/// Writes what a visit writes.
+fn put_visit<W: Write>(out: &mut W, tree: &Tree, names: &Names, visit: Visit) -> io::Result<()>
+    requires { IsLent names.now tree.now.made tree.now.trees (node_of visit) }
+    ensures { Puts (W.contents out.old) (W.contents out.new) (visit_text (text_of names.now) tree.now.trees visit) result }
+{
+    match visit {
+        Visit::Enter(node) => put_opening(out, tree, names, node),
+        Visit::Leave(node) => put_closing(out, tree, names, node),
+    }
+}
+
+/// Writes the children of a node as text. Texts in it are written raw if its own name says so. Takes as many steps as there are
+/// nodes and bytes that are written, and several writes for each node, which a `BufWriter` gathers. Where a write fails or takes
+/// nothing, what was taken before is a beginning of the text, and the error is returned. No write follows, so none is tried again,
+/// not even an interrupted one.
+pub fn serialize<W: Write>(tree: &Tree, names: &Names, node: NodeId, out: &mut W) -> io::Result<()>
+    requires made { node < tree.now.made }
+    requires table { AreNames names.now }
+    requires names { AreOf names.now (children_of node tree.now.trees) }
+    ensures { Puts (W.contents out.old) (W.contents out.new) (written One (option_map (text_of names.now) (name_of node tree.now.trees)) (spelled (text_of names.now) (children_of node tree.now.trees))) result }
+{
+    for visit in Walk::written(tree, node) {
+        put_visit(out, tree, names, visit)?;
+    }
+    Ok(())
+}
+
+/// The text that `serialize` writes.
+pub fn serialize_to_vec(
+    alloc: Global,
+    tree: &Tree,
+    names: &Names,
+    node: NodeId,
+) -> Result<Vec<u8>, Refusal>
+    requires made { node < tree.now.made }
+    requires table { AreNames names.now }
+    requires names { AreOf names.now (children_of node tree.now.trees) }
+    ensures written { IfOk result (λ text. text.items ≡ written One (option_map (text_of names.now) (name_of node tree.now.trees)) (spelled (text_of names.now) (children_of node tree.now.trees))) }
+    ensures memory { IfErr result (λ refusal. refusal ≡ Refusal.Memory) }
+{
+    let mut text = Vec::new(alloc);
+    serialize(tree, names, node, &mut text).or(Err(Refusal::Memory))?;
+    Ok(text)
+}
