@@ -17,7 +17,7 @@ use Rattle.hwrite.specs.declared.content.Role.{Role}
 use Rattle.hwrite.specs.declared.content.Role.TheVariants as role
 use Rattle.hlaws.specs.Building.{is_list, is_dl, is_colgroup}
 use Rattle.hwrite.specs.ContentTable.{row}
-use Rattle.hwrite.specs.Plain.{is_a, is_button, is_form, drops_line_feed}
+use Rattle.hwrite.specs.Plain.{is_a, is_button, is_form, inserts_marker, drops_line_feed}
 use Rattle.hlaws.proofs.Profiles.{is_p}
 
 -- names that all rules treat alike where they are plain
@@ -46,6 +46,7 @@ pub data Class : Type 0 where
   Style : Class
   Script : Class
   Iframe : Class
+  Object : Class
   Table : Class
   Caption : Class
   Colgroup : Class
@@ -142,6 +143,9 @@ class_of tag.Textarea = Textarea
 class_of tag.Style = Style
 class_of tag.Script = Script
 class_of tag.Iframe = Iframe
+class_of tag.Noembed = Iframe
+class_of tag.Object = Object
+class_of tag.Marquee = Object
 class_of tag.Table = Table
 class_of tag.Caption = Caption
 class_of tag.Colgroup = Colgroup
@@ -175,6 +179,7 @@ pub record Profile : Type 0 where
   pub body_context : Bool
   pub row_context : Bool
   pub fosters : Bool
+  pub marks : Bool
 
 abbrev pub profile : Tag → Profile
 profile t = record {
@@ -198,6 +203,7 @@ profile t = record {
   body_context = is_body_context t;
   row_context = is_row_context t;
   fosters = is_fostering t;
+  marks = inserts_marker t;
 }
 
 abbrev pub plain_profile : Family → Role → Content → Profile
@@ -222,6 +228,7 @@ plain_profile f r c = record {
   body_context = false;
   row_context = false;
   fosters = false;
+  marks = false;
 }
 
 abbrev pub class_profile : Class → Profile
@@ -249,13 +256,14 @@ class_profile Textarea = record (plain_profile family.Textarea role.Phrasing con
 class_profile Style = plain_profile family.Style role.Phrasing content.RawText
 class_profile Script = plain_profile family.Script role.Phrasing content.ScriptText
 class_profile Iframe = plain_profile family.Iframe role.Phrasing content.RawText
+class_profile Object = record (plain_profile family.Object role.Phrasing content.Flow) { stops_button = true; marks = true }
 class_profile Table = record (plain_profile family.Table role.Flow content.TableParts) { mode = Some InTable; stops_button = true; table_context = true; fosters = true }
-class_profile Caption = record (plain_profile family.Caption role.TablePart content.Flow) { mode = Some InCaption; stops_button = true }
+class_profile Caption = record (plain_profile family.Caption role.TablePart content.Flow) { mode = Some InCaption; stops_button = true; marks = true }
 class_profile Colgroup = record (plain_profile family.Colgroup role.TablePart content.Columns) { mode = Some InColumnGroup; is_colgroup = true }
 class_profile Column = record (plain_profile family.Col role.Column content.Empty) { is_void = true }
 class_profile Section = record (plain_profile family.Section role.TablePart content.TableRows) { mode = Some InTableBody; body_context = true; fosters = true }
 class_profile Row = record (plain_profile family.Row role.TableRow content.Cells) { mode = Some InRow; row_context = true; fosters = true }
-class_profile Cell = record (plain_profile family.Cell role.Cell content.Flow) { mode = Some InCell; stops_button = true }
+class_profile Cell = record (plain_profile family.Cell role.Cell content.Flow) { mode = Some InCell; stops_button = true; marks = true }
 class_profile Others = plain_profile family.Other role.Nowhere content.Empty
 
 -- a name that has a row
@@ -284,6 +292,7 @@ pub data HasRow : Class → Type 0 where
   has_style : HasRow Style
   has_script : HasRow Script
   has_iframe : HasRow Iframe
+  has_object : HasRow Object
   has_table : HasRow Table
   has_caption : HasRow Caption
   has_colgroup : HasRow Colgroup
@@ -379,6 +388,9 @@ profile_is tag.Textarea c = refl
 profile_is tag.Style c = refl
 profile_is tag.Script c = refl
 profile_is tag.Iframe c = refl
+profile_is tag.Noembed c = refl
+profile_is tag.Object c = refl
+profile_is tag.Marquee c = refl
 profile_is tag.Table c = refl
 profile_is tag.Caption c = refl
 profile_is tag.Colgroup c = refl
@@ -479,6 +491,9 @@ role_row tag.Textarea k e h = has_textarea
 role_row tag.Style k e h = has_style
 role_row tag.Script k e h = has_script
 role_row tag.Iframe k e h = has_iframe
+role_row tag.Noembed k e h = has_iframe
+role_row tag.Object k e h = has_object
+role_row tag.Marquee k e h = has_object
 role_row tag.Table k e h = has_table
 role_row tag.Caption k e h = has_caption
 role_row tag.Colgroup k e h = has_colgroup

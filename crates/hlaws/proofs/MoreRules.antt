@@ -119,6 +119,9 @@ module _ {N : Type 0} (n : Naming N) (laws : Laws n) (node_limit open_limit : �
         pub start_button : family_of (n.tag x) ≡ family.Button → EntriesOpen (d ∷ up) items → in_scope (stops n.tag scope.Default) (is n tag.Button) (d ∷ up) ≡ false → Opens items c
         start_button fam o no_button = body at (start x attrs false) (Start family.Button) _ _ (ap Start fam) m refl (simp (no_button, kept_all at made f (d ∷ up) items c o, full, high, new) refl)
 
+        pub start_object : family_of (n.tag x) ≡ family.Object → EntriesOpen (d ∷ up) items → Opens (marker ∷ items) c
+        start_object fam o = body at (start x attrs false) (Start family.Object) _ _ (ap Start fam) m refl (simp (kept_all at made f (d ∷ up) items c o, full, high, new) refl)
+
         pub start_a : family_of (n.tag x) ≡ family.A → EntriesOpen (d ∷ up) items → find_entry n.same x items ≡ None → Opens (pushed n.same (record { node = made; name = x; attrs = attrs }) items) c
         start_a fam o no_a = body at (start x attrs false) (Start family.A) _ _ (ap Start fam) m refl (simp (no_a, kept_all at made f (d ∷ up) items c o, full, high, new) refl)
 
@@ -205,6 +208,9 @@ module _ {N : Type 0} (n : Naming N) (laws : Laws n) (node_limit open_limit : �
 
         pub end_button : family_of (n.tag x) ≡ family.Button → Closes items c
         end_button fam = body at (end x) (End family.Button) _ _ (ap End fam) m refl (simp (self, stays) refl)
+
+        pub end_object : family_of (n.tag x) ≡ family.Object → Closes (cleared items) c
+        end_object fam = body at (end x) (End family.Object) _ _ (ap End fam) m refl (simp (self, stays) refl)
 
         pub end_heading : family_of (n.tag x) ≡ family.Heading → is_heading (n.tag x) ≡ true → Closes items c
         end_heading fam heading = body at (end x) (End family.Heading) _ _ (ap End fam) m refl (simp (heading, self, stays) refl)

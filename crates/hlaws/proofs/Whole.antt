@@ -18,7 +18,7 @@ use Rattle.names.specs.declared.placed.Placed.{Placed}
 use Rattle.names.specs.declared.tag.Tag.{Tag}
 use Rattle.names.specs.declared.tag.Tag.TheVariants as tag
 use Rattle.names.specs.Placed.{is_space}
-use Rattle.names.specs.Sets.{is_void, is_heading, stops_button_scope}
+use Rattle.names.specs.Sets.{is_void, is_heading, stops_scope, stops_button_scope}
 use Rattle.hadopt.specs.Naming.{Naming}
 use Rattle.hadopt.specs.Site.{Goes}
 use Rattle.hadopt.specs.Closes.{is}
@@ -43,7 +43,7 @@ use Rattle.hwrite.specs.declared.content.Role.{Role}
 use Rattle.hwrite.specs.declared.content.Role.TheVariants as role
 use Rattle.hwrite.specs.ContentTable.{row, takes_role, takes_comments, texts_in}
 use Rattle.hlaws.specs.Building.{fits_mode, fits_current, closes_p, is_list, is_dl, takes_space, is_character, ActsAs}
-use Rattle.hwrite.specs.Plain.{Inside, inside_element, content_within, is_nested, is_a, is_button, is_form, drops_line_feed}
+use Rattle.hwrite.specs.Plain.{Inside, inside_element, content_within, is_nested, is_a, is_button, is_form, inserts_marker, drops_line_feed}
 use Rattle.hlaws.specs.PlainTokens.{tokens_of}
 use Rattle.hlaws.proofs.Growing.{numbered, under, graft-new, what-new, times-numbered, under-none, under-under, under-new, times-under, text_before-new, text_before-leaf}
 use Rattle.hlaws.proofs.Thinned.{Thinned, same, kept, lost, then, thinned-room, EntriesOpen, open-thinned, open-pushed, no-entry}
@@ -166,6 +166,14 @@ nested_button i _ h = absurd cc
 nested_form : (i : Inside) (t : Tag) → is_form t ≡ true → is_nested i t ≡ i.in_form
 nested_form i tag.Form h = refl
 nested_form i _ h = absurd cc
+
+marker_stops : (t : Tag) → inserts_marker t ≡ true → stops_scope t ≡ true
+marker_stops tag.Caption h = refl
+marker_stops tag.Td h = refl
+marker_stops tag.Th h = refl
+marker_stops tag.Object h = refl
+marker_stops tag.Marquee h = refl
+marker_stops _ h = absurd cc
 
 list_stops : (t : Tag) → is_list t ≡ true → stops_item t ≡ true
 list_stops tag.Ul h = refl
@@ -818,6 +826,14 @@ module _ {N : Type 0} (n : Naming N) (laws : NameLaws n) (node_limit open_limit 
     p_stopped : is_p (n.tag x) ≡ false → stops_button_scope (n.tag x) ≡ true → in_scope (stops n.tag scope.Button) (is n tag.P) (no made x ∷ d ∷ up) ≡ false
     p_stopped p h = rw (laws.basic.knows_p x, p, h) refl
 
+    -- a marker hides a button, as it stops the search for one
+    no_button_in : j.in_button ≡ false → in_scope (stops n.tag scope.Default) (is n tag.Button) (no made x ∷ d ∷ up) ≡ false
+    no_button_in h = go (inserts_marker (n.tag x)) refl h
+      where
+        go : (m : Bool) → inserts_marker (n.tag x) ≡ m → ((not m && i.in_button) || is_button (n.tag x)) ≡ false → in_scope (stops n.tag scope.Default) (is n tag.Button) (no made x ∷ d ∷ up) ≡ false
+        go true e k = rw (laws.button x, or_right_false false (is_button (n.tag x)) k, marker_stops (n.tag x) e) refl
+        go false e k = rw (laws.button x, or_right_false i.in_button (is_button (n.tag x)) k, q.no_button (or_left_false i.in_button (is_button (n.tag x)) k)) (or_nothing (not (stops n.tag scope.Default (no made x))))
+
     pushed : (items1 : List (Item N)) (c1 : Control) → unwrap_or (open_mode (n.tag x)) (reset_mode n context (d ∷ up)) ≡ c1.mode → fits_mode j.content c1.mode ≡ true → fits_current j.content j.texts (n.tag x) ≡ true
         → EntriesOpen (no made x ∷ d ∷ up) items1 → (closes_p j.content ≡ true → in_scope (stops n.tag scope.Button) (is n tag.P) (no made x ∷ d ∷ up) ≡ false)
         → (j.in_a ≡ false → (y : N) → is_a (n.tag y) ≡ true → find_entry n.same y items1 ≡ None) → (j.in_form ≡ false → c1.form ≡ None)
@@ -833,13 +849,13 @@ module _ {N : Type 0} (n : Naming N) (laws : NameLaws n) (node_limit open_limit 
           lower = (omega arith, lower-more made (made + 1) (d ∷ up) (omega arith) q.lower);
           listed = listed;
           no_p = pp;
-          no_button = λ h. rw (laws.button x, or_right_false i.in_button (is_button (n.tag x)) h, q.no_button (or_left_false i.in_button (is_button (n.tag x)) h)) (or_nothing (not (stops n.tag scope.Default (no made x))));
+          no_button = no_button_in;
           no_a = anchors;
           no_form = forms;
         }
 
-    anchors_same : j.in_a ≡ false → (y : N) → is_a (n.tag y) ≡ true → find_entry n.same y items ≡ None
-    anchors_same h y e = q.no_a (or_left_false i.in_a (is_a (n.tag x)) h) y e
+    anchors_same : inserts_marker (n.tag x) ≡ false → j.in_a ≡ false → (y : N) → is_a (n.tag y) ≡ true → find_entry n.same y items ≡ None
+    anchors_same m h y e = q.no_a (or_left_false i.in_a (is_a (n.tag x)) (ap (λ u. (not u && i.in_a) || is_a (n.tag x)) (sym m) ∙ h)) y e
 
     forms_same : j.in_form ≡ false → c.form ≡ None
     forms_same h = q.no_form (or_left_false i.in_form (is_form (n.tag x)) h)
@@ -867,11 +883,11 @@ module _ {N : Type 0} (n : Naming N) (laws : NameLaws n) (node_limit open_limit 
       rule = λ at k u. ends_so at k u items2 (begun_control c2) (ap is_flow_mode m ∙ flows);
     }
 
-    simple : is_flow_mode c.mode ≡ true → open_mode (n.tag x) ≡ None → fits_mode j.content c.mode ≡ true → fits_current j.content j.texts (n.tag x) ≡ true → (closes_p j.content ≡ true → in_scope (stops n.tag scope.Button) (is n tag.P) (no made x ∷ d ∷ up) ≡ false)
+    simple : is_flow_mode c.mode ≡ true → open_mode (n.tag x) ≡ None → inserts_marker (n.tag x) ≡ false → fits_mode j.content c.mode ≡ true → fits_current j.content j.texts (n.tag x) ≡ true → (closes_p j.content ≡ true → in_scope (stops n.tag scope.Button) (is n tag.P) (no made x ∷ d ∷ up) ≡ false)
         → Opens items (begun_control c) → Ends → (ts : List (PlacedToken N)) → Spells ts → Node ts
-    simple flows unmoded fits cur pp opening ends_so ts h =
+    simple flows unmoded unmarked fits cur pp opening ends_so ts h =
         by_law items (begun_control c)
-        (pushed items (begun_control c) (ap (λ o. unwrap_or o (reset_mode n context (d ∷ up))) unmoded ∙ q.mode_is) fits cur (open-pushed (no made x) (d ∷ up) items q.listed) pp anchors_same forms_same)
+        (pushed items (begun_control c) (ap (λ o. unwrap_or o (reset_mode n context (d ∷ up))) unmoded ∙ q.mode_is) fits cur (open-pushed (no made x) (d ∷ up) items q.listed) pp (anchors_same unmarked) forms_same)
         (lf_none kids) opening (λ items2 c2 t k. plain_closing flows ends_so items2 c2 t k.mode k.head k.form k.quirks) ts h
 
     -- ELEMENTS OF FLOW, A CLASS AT A TIME
@@ -905,7 +921,7 @@ module _ {N : Type 0} (n : Naming N) (laws : NameLaws n) (node_limit open_limit 
         let e : i.content ≡ content.Flow = flow_is i.content (role_is class.Block p) in
         let o : j.content ≡ content.Flow = content_is class.Block p in
         let flows : is_flow_mode c.mode ≡ true = flows_at class.Block p e in
-        simple flows (ap (λ r. r.mode) p) (fits_at class.Block p content.Flow c.mode o flows) (cur_at class.Block p content.Flow o (ap (λ r. not r.is_heading) p)) (λ h. p_below (ap (λ r. r.is_p) p) (no_p_at class.Block p e))
+        simple flows (ap (λ r. r.mode) p) (ap (λ r. r.marks) p) (fits_at class.Block p content.Flow c.mode o flows) (cur_at class.Block p content.Flow o (ap (λ r. not r.is_heading) p)) (λ h. p_below (ap (λ r. r.is_p) p) (no_p_at class.Block p e))
         (λ at. rules.start_block n laws.basic node_limit open_limit errors context quirks_list at made f d up items (begun_control c) flows x attrs absent1 (omega arith) (omega arith) (ap (λ r. r.family) p) (no_p_at class.Block p e))
         (λ at m g items2 c2 mode. rules.end_block n laws.basic node_limit open_limit errors context quirks_list at m g d up items2 c2 mode made x (ap (λ r. r.family) p) (ap (λ r. r.has_implied_end) p))
 
@@ -914,7 +930,7 @@ module _ {N : Type 0} (n : Naming N) (laws : NameLaws n) (node_limit open_limit 
         let e : i.content ≡ content.Flow = flow_is i.content (role_is class.ListOf p) in
         let o : j.content ≡ content.ListItems = content_is class.ListOf p in
         let flows : is_flow_mode c.mode ≡ true = flows_at class.ListOf p e in
-        simple flows (ap (λ r. r.mode) p) (fits_at class.ListOf p content.ListItems c.mode o flows) (cur_at class.ListOf p content.ListItems o (ap (λ r. r.is_list) p)) (λ h. p_below (ap (λ r. r.is_p) p) (no_p_at class.ListOf p e))
+        simple flows (ap (λ r. r.mode) p) (ap (λ r. r.marks) p) (fits_at class.ListOf p content.ListItems c.mode o flows) (cur_at class.ListOf p content.ListItems o (ap (λ r. r.is_list) p)) (λ h. p_below (ap (λ r. r.is_p) p) (no_p_at class.ListOf p e))
         (λ at. rules.start_block n laws.basic node_limit open_limit errors context quirks_list at made f d up items (begun_control c) flows x attrs absent1 (omega arith) (omega arith) (ap (λ r. r.family) p) (no_p_at class.ListOf p e))
         (λ at m g items2 c2 mode. rules.end_block n laws.basic node_limit open_limit errors context quirks_list at m g d up items2 c2 mode made x (ap (λ r. r.family) p) (ap (λ r. r.has_implied_end) p))
 
@@ -923,7 +939,7 @@ module _ {N : Type 0} (n : Naming N) (laws : NameLaws n) (node_limit open_limit 
         let e : i.content ≡ content.Flow = flow_is i.content (role_is class.DefinitionList p) in
         let o : j.content ≡ content.Definitions = content_is class.DefinitionList p in
         let flows : is_flow_mode c.mode ≡ true = flows_at class.DefinitionList p e in
-        simple flows (ap (λ r. r.mode) p) (fits_at class.DefinitionList p content.Definitions c.mode o flows) (cur_at class.DefinitionList p content.Definitions o (ap (λ r. r.is_dl) p)) (λ h. p_below (ap (λ r. r.is_p) p) (no_p_at class.DefinitionList p e))
+        simple flows (ap (λ r. r.mode) p) (ap (λ r. r.marks) p) (fits_at class.DefinitionList p content.Definitions c.mode o flows) (cur_at class.DefinitionList p content.Definitions o (ap (λ r. r.is_dl) p)) (λ h. p_below (ap (λ r. r.is_p) p) (no_p_at class.DefinitionList p e))
         (λ at. rules.start_block n laws.basic node_limit open_limit errors context quirks_list at made f d up items (begun_control c) flows x attrs absent1 (omega arith) (omega arith) (ap (λ r. r.family) p) (no_p_at class.DefinitionList p e))
         (λ at m g items2 c2 mode. rules.end_block n laws.basic node_limit open_limit errors context quirks_list at m g d up items2 c2 mode made x (ap (λ r. r.family) p) (ap (λ r. r.has_implied_end) p))
 
@@ -932,7 +948,7 @@ module _ {N : Type 0} (n : Naming N) (laws : NameLaws n) (node_limit open_limit 
         let e : i.content ≡ content.Flow = flow_is i.content (role_is class.Paragraph p) in
         let o : j.content ≡ content.Phrasing = content_is class.Paragraph p in
         let flows : is_flow_mode c.mode ≡ true = flows_at class.Paragraph p e in
-        simple flows (ap (λ r. r.mode) p) (fits_at class.Paragraph p content.Phrasing c.mode o flows) (cur_at class.Paragraph p content.Phrasing o refl) (λ h. absurd (let z = ap closes_p o in cc))
+        simple flows (ap (λ r. r.mode) p) (ap (λ r. r.marks) p) (fits_at class.Paragraph p content.Phrasing c.mode o flows) (cur_at class.Paragraph p content.Phrasing o refl) (λ h. absurd (let z = ap closes_p o in cc))
         (λ at. rules.start_p n laws.basic node_limit open_limit errors context quirks_list at made f d up items (begun_control c) flows x attrs absent1 (omega arith) (omega arith) (ap (λ r. r.family) p) (no_p_at class.Paragraph p e))
         (λ at m g items2 c2 mode. rules.end_p n laws.basic node_limit open_limit errors context quirks_list at m g d up items2 c2 mode made x (ap (λ r. r.family) p) (ap (λ r. r.is_p) p) (ap (λ r. r.has_implied_end) p))
 
@@ -941,7 +957,7 @@ module _ {N : Type 0} (n : Naming N) (laws : NameLaws n) (node_limit open_limit 
         let e : i.content ≡ content.Flow = flow_is i.content (role_is class.Heading p) in
         let o : j.content ≡ content.Phrasing = content_is class.Heading p in
         let flows : is_flow_mode c.mode ≡ true = flows_at class.Heading p e in
-        simple flows (ap (λ r. r.mode) p) (fits_at class.Heading p content.Phrasing c.mode o flows) (cur_at class.Heading p content.Phrasing o refl) (λ h. absurd (let z = ap closes_p o in cc))
+        simple flows (ap (λ r. r.mode) p) (ap (λ r. r.marks) p) (fits_at class.Heading p content.Phrasing c.mode o flows) (cur_at class.Heading p content.Phrasing o refl) (λ h. absurd (let z = ap closes_p o in cc))
         (λ at. more.start_heading n laws.basic node_limit open_limit errors context quirks_list at made f d up items (begun_control c) x attrs absent1 (omega arith) (omega arith) flows (ap (λ r. r.family) p) (no_p_at class.Heading p e) (no_heading_at class.Heading p e))
         (λ at m g items2 c2 mode. more.end_heading n laws.basic node_limit open_limit errors context quirks_list at m g d up items2 c2 made x mode (ap (λ r. r.has_implied_end) p) (ap (λ r. r.family) p) (ap (λ r. r.is_heading) p))
 
@@ -951,7 +967,7 @@ module _ {N : Type 0} (n : Naming N) (laws : NameLaws n) (node_limit open_limit 
         let o : j.content ≡ content.Phrasing = content_is class.Pre p in
         let flows : is_flow_mode c.mode ≡ true = flows_at class.Pre p e in
         by_law items (record (begun_control c) { drop_lf = true })
-        (pushed items (record (begun_control c) { drop_lf = true }) (ap (λ r. unwrap_or r.mode (reset_mode n context (d ∷ up))) p ∙ q.mode_is) (fits_at class.Pre p content.Phrasing c.mode o flows) (cur_at class.Pre p content.Phrasing o refl) (open-pushed (no made x) (d ∷ up) items q.listed) (λ h. absurd (let z = ap closes_p o in cc)) anchors_same forms_same)
+        (pushed items (record (begun_control c) { drop_lf = true }) (ap (λ r. unwrap_or r.mode (reset_mode n context (d ∷ up))) p ∙ q.mode_is) (fits_at class.Pre p content.Phrasing c.mode o flows) (cur_at class.Pre p content.Phrasing o refl) (open-pushed (no made x) (d ∷ up) items q.listed) (λ h. absurd (let z = ap closes_p o in cc)) (anchors_same (ap (λ r. r.marks) p)) forms_same)
         (subst (λ (v : Bool). LfSafe v kids) (ap (λ r. r.drops) p) lf)
         (λ at. more.start_pre n laws.basic node_limit open_limit errors context quirks_list at made f d up items (begun_control c) x attrs absent1 (omega arith) (omega arith) flows (ap (λ r. r.family) p) (no_p_at class.Pre p e))
         (λ items2 c2 t k. plain_closing flows (λ at m g items2 c2 mode. more.end_pre n laws.basic node_limit open_limit errors context quirks_list at m g d up items2 c2 made x mode (ap (λ r. r.has_implied_end) p) (ap (λ r. r.family) p)) items2 c2 t k.mode k.head k.form k.quirks)
@@ -965,7 +981,7 @@ module _ {N : Type 0} (n : Naming N) (laws : NameLaws n) (node_limit open_limit 
         let pointer : c.form ≡ None = q.no_form (sym (nested_form i (n.tag x) formed) ∙ alone) in
         by_law items (record (begun_control c) { form = Some made })
         (pushed items (record (begun_control c) { form = Some made }) (ap (λ r. unwrap_or r.mode (reset_mode n context (d ∷ up))) p ∙ q.mode_is) (fits_at class.Form p content.Flow c.mode o flows) (cur_at class.Form p content.Flow o (ap (λ r. not r.is_heading) p)) (open-pushed (no made x) (d ∷ up) items q.listed)
-        (λ h. p_below (ap (λ r. r.is_p) p) (no_p_at class.Form p e)) anchors_same (λ h. absurd (let z = or_right_false i.in_form (is_form (n.tag x)) h in cc)))
+        (λ h. p_below (ap (λ r. r.is_p) p) (no_p_at class.Form p e)) (anchors_same (ap (λ r. r.marks) p)) (λ h. absurd (let z = or_right_false i.in_form (is_form (n.tag x)) h in cc)))
         (lf_none kids)
         (λ at. more.start_form n laws.basic node_limit open_limit errors context quirks_list at made f d up items (begun_control c) x attrs absent1 (omega arith) (omega arith) flows (ap (λ r. r.family) p) (no_p_at class.Form p e) pointer)
         (λ items2 c2 t k. record {
@@ -984,7 +1000,7 @@ module _ {N : Type 0} (n : Naming N) (laws : NameLaws n) (node_limit open_limit 
         let flows : is_flow_mode c.mode ≡ true = ap (λ o. fits_mode o c.mode) (sym e) ∙ q.mode_fits in
         let listed_in : is_list (n.tag d.name) ≡ true = ap (λ o. fits_current o i.texts (n.tag d.name)) (sym e) ∙ q.current_fits in
         let pp = q.no_p (ap closes_p e) in
-        simple flows (ap (λ r. r.mode) p) (fits_at class.Item p content.Flow c.mode o flows) (cur_at class.Item p content.Flow o (ap (λ r. not r.is_heading) p)) (λ h. p_below (ap (λ r. r.is_p) p) pp)
+        simple flows (ap (λ r. r.mode) p) (ap (λ r. r.marks) p) (fits_at class.Item p content.Flow c.mode o flows) (cur_at class.Item p content.Flow o (ap (λ r. not r.is_heading) p)) (λ h. p_below (ap (λ r. r.is_p) p) pp)
         (λ at. more.start_li n laws.basic node_limit open_limit errors context quirks_list at made f d up items (begun_control c) x attrs absent1 (omega arith) (omega arith) flows (ap (λ r. r.family) p) pp (rw (laws.li d.name listed_in, list_stops (n.tag d.name) listed_in) refl))
         (λ at m g items2 c2 mode. more.end_li n laws.basic node_limit open_limit errors context quirks_list at m g d up items2 c2 made x mode (ap (λ r. r.family) p))
 
@@ -995,7 +1011,7 @@ module _ {N : Type 0} (n : Naming N) (laws : NameLaws n) (node_limit open_limit 
         let flows : is_flow_mode c.mode ≡ true = ap (λ o. fits_mode o c.mode) (sym e) ∙ q.mode_fits in
         let dl_in : is_dl (n.tag d.name) ≡ true = ap (λ o. fits_current o i.texts (n.tag d.name)) (sym e) ∙ q.current_fits in
         let pp = q.no_p (ap closes_p e) in
-        simple flows (ap (λ r. r.mode) p) (fits_at class.Definition p content.Flow c.mode o flows) (cur_at class.Definition p content.Flow o (ap (λ r. not r.is_heading) p)) (λ h. p_below (ap (λ r. r.is_p) p) pp)
+        simple flows (ap (λ r. r.mode) p) (ap (λ r. r.marks) p) (fits_at class.Definition p content.Flow c.mode o flows) (cur_at class.Definition p content.Flow o (ap (λ r. not r.is_heading) p)) (λ h. p_below (ap (λ r. r.is_p) p) pp)
         (λ at. more.start_dd n laws.basic node_limit open_limit errors context quirks_list at made f d up items (begun_control c) x attrs absent1 (omega arith) (omega arith) flows (ap (λ r. r.family) p) pp (rw (laws.dd d.name dl_in, dl_stops (n.tag d.name) dl_in) refl) (rw (laws.dt d.name dl_in, dl_stops (n.tag d.name) dl_in) refl))
         (λ at m g items2 c2 mode. more.end_dd n laws.basic node_limit open_limit errors context quirks_list at m g d up items2 c2 made x mode (ap (λ r. r.family) p))
 
@@ -1022,7 +1038,7 @@ module _ {N : Type 0} (n : Naming N) (laws : NameLaws n) (node_limit open_limit 
         let flows : is_flow_mode c.mode ≡ true = phrasing_mode i.content c.mode ph q.mode_fits in
         let hd = ap (λ r. r.is_heading) p in
         let np = ap (λ r. r.is_p) p in
-        simple flows (ap (λ r. r.mode) p) (fits_around o ph hd np) (cur_around o ph hd np) (p_around o ph hd np)
+        simple flows (ap (λ r. r.mode) p) (ap (λ r. r.marks) p) (fits_around o ph hd np) (cur_around o ph hd np) (p_around o ph hd np)
         (λ at. rules.start_span n laws.basic node_limit open_limit errors context quirks_list at made f d up items (begun_control c) flows x attrs absent1 (omega arith) (omega arith) (ap (λ r. r.family) p) q.listed)
         (λ at m g items2 c2 mode. rules.end_span n laws.basic node_limit open_limit errors context quirks_list at m g d up items2 c2 mode made x (ap (λ r. r.family) p) (ap (λ r. r.has_implied_end) p))
 
@@ -1033,7 +1049,7 @@ module _ {N : Type 0} (n : Naming N) (laws : NameLaws n) (node_limit open_limit 
         let flows : is_flow_mode c.mode ≡ true = phrasing_mode i.content c.mode ph q.mode_fits in
         let hd = ap (λ r. r.is_heading) p in
         let np = ap (λ r. r.is_p) p in
-        simple flows (ap (λ r. r.mode) p) (fits_around o ph hd np) (cur_around o ph hd np) (p_around o ph hd np)
+        simple flows (ap (λ r. r.mode) p) (ap (λ r. r.marks) p) (fits_around o ph hd np) (cur_around o ph hd np) (p_around o ph hd np)
         (λ at. more.start_button n laws.basic node_limit open_limit errors context quirks_list at made f d up items (begun_control c) x attrs absent1 (omega arith) (omega arith) flows (ap (λ r. r.family) p) q.listed (q.no_button (sym (nested_button i (n.tag x) (ap (λ r. r.is_button) p)) ∙ alone)))
         (λ at m g items2 c2 mode. more.end_button n laws.basic node_limit open_limit errors context quirks_list at m g d up items2 c2 made x mode (ap (λ r. r.has_implied_end) p) (ap (λ r. r.family) p))
 
@@ -1091,7 +1107,7 @@ module _ {N : Type 0} (n : Naming N) (laws : NameLaws n) (node_limit open_limit 
         let np = ap (λ r. r.is_p) p in
         by_law (entry new ∷ with_room n.same new items) (begun_control c)
         (pushed_formatting (ap (λ r. unwrap_or r.mode (reset_mode n context (d ∷ up))) p ∙ q.mode_is) (fits_around o ph hd np) (cur_around o ph hd np) (p_around o ph hd np)
-        (λ h y e. rw (laws.anchor x y e (ap (λ r. r.is_a) p)) (find-thinned n.same y roomy (anchors_same h y e))))
+        (λ h y e. rw (laws.anchor x y e (ap (λ r. r.is_a) p)) (find-thinned n.same y roomy (anchors_same (ap (λ r. r.marks) p) h y e))))
         (lf_none kids) (λ at. rules.start_formatting n laws.basic node_limit open_limit errors context quirks_list at made f d up items (begun_control c) flows x attrs absent1 (omega arith) (omega arith) (ap (λ r. r.family) p) q.listed)
         (formatting_closing flows
         (λ at m g l c2 mode un. rules.end_listed n laws.basic node_limit open_limit errors context quirks_list at m g d up l c2 mode made x attrs (ap (λ r. r.family) p) un)
@@ -1107,7 +1123,7 @@ module _ {N : Type 0} (n : Naming N) (laws : NameLaws n) (node_limit open_limit 
         let named : is_a (n.tag x) ≡ true = ap (λ r. r.is_a) p in
         by_law (entry new ∷ with_room n.same new items) (begun_control c)
         (pushed_formatting (ap (λ r. unwrap_or r.mode (reset_mode n context (d ∷ up))) p ∙ q.mode_is) (fits_around o ph hd np) (cur_around o ph hd np) (p_around o ph hd np)
-        (λ h y e. absurd (let z = or_right_false i.in_a (is_a (n.tag x)) h in cc)))
+        (λ h y e. absurd (let z = or_right_false (not (inserts_marker (n.tag x)) && i.in_a) (is_a (n.tag x)) h in cc)))
         (lf_none kids) (λ at. more.start_a n laws.basic node_limit open_limit errors context quirks_list at made f d up items (begun_control c) x attrs absent1 (omega arith) (omega arith) flows (ap (λ r. r.family) p) q.listed (q.no_a (sym (nested_a i (n.tag x) named) ∙ alone) x named))
         (formatting_closing flows
         (λ at m g l c2 mode un. more.end_a_listed n laws.basic node_limit open_limit errors context quirks_list at m g d up l c2 made x attrs mode (ap (λ r. r.family) p) un)
@@ -1177,7 +1193,7 @@ module _ {N : Type 0} (n : Naming N) (laws : NameLaws n) (node_limit open_limit 
         let flows : is_flow_mode c.mode ≡ true = flows_at class.Table p e in
         by_law items (record (begun_control c) { mode = InTable })
         (pushed items (record (begun_control c) { mode = InTable }) (ap (λ r. unwrap_or r.mode (reset_mode n context (d ∷ up))) p) (fits_at class.Table p content.TableParts InTable o refl) (cur_at class.Table p content.TableParts o (ap (λ r. r.table_context && (r.fosters || false)) p)) (open-pushed (no made x) (d ∷ up) items q.listed)
-        (λ h. absurd (let z = ap closes_p o in cc)) anchors_same forms_same)
+        (λ h. absurd (let z = ap closes_p o in cc)) (anchors_same (ap (λ r. r.marks) p)) forms_same)
         (lf_none kids)
         (λ at. more.start_table n laws.basic node_limit open_limit errors context quirks_list at made f d up items (begun_control c) x attrs absent1 (omega arith) (omega arith) flows (ap (λ r. r.family) p) (no_p_at class.Table p e))
         (λ items2 c2 t k. record {
@@ -1233,6 +1249,25 @@ module _ {N : Type 0} (n : Naming N) (laws : NameLaws n) (node_limit open_limit 
           rule = λ at m g. more.end_cell n laws.basic node_limit open_limit errors context quirks_list at m g d up items2 (begun_control c2) made x k.mode (ap (λ r. r.family) p) (ap (λ r. r.has_implied_end) p);
         })
 
+    an_object : profile (n.tag x) ≡ class_profile class.Object → (ts : List (PlacedToken N)) → Spells ts → Node ts
+    an_object p =
+        let ph : takes_role i.content role.Phrasing ≡ true = phrases class.Object p refl in
+        let o : j.content ≡ content.Flow = content_is class.Object p in
+        let flows : is_flow_mode c.mode ≡ true = phrasing_mode i.content c.mode ph q.mode_fits in
+        by_law (marker ∷ items) (begun_control c)
+        (pushed (marker ∷ items) (begun_control c) (ap (λ r. unwrap_or r.mode (reset_mode n context (d ∷ up))) p ∙ q.mode_is) (fits_at class.Object p content.Flow c.mode o flows) (cur_at class.Object p content.Flow o (ap (λ r. not r.is_heading) p)) (open-pushed (no made x) (d ∷ up) items q.listed)
+        (λ h. p_stopped (ap (λ r. r.is_p) p) (ap (λ r. r.stops_button) p)) (λ h y e. refl) forms_same)
+        (lf_none kids)
+        (λ at. more.start_object n laws.basic node_limit open_limit errors context quirks_list at made f d up items (begun_control c) x attrs absent1 (omega arith) (omega arith) flows (ap (λ r. r.family) p) q.listed)
+        (λ items2 c2 t k. record {
+          items3 = cleared items2;
+          control3 = begun_control c2;
+          thins = subst (λ (l : List (Item N)). Thinned items l) (sym (cleared_is items2 t)) same;
+          keeps = record { mode = k.mode; head = k.head; form = k.form; quirks = k.quirks };
+          no_drop = refl;
+          rule = λ at m g. more.end_object n laws.basic node_limit open_limit errors context quirks_list at m g d up items2 (begun_control c2) made x (ap is_flow_mode k.mode ∙ flows) (ap (λ r. r.has_implied_end) p) (ap (λ r. r.family) p);
+        })
+
     a_colgroup : profile (n.tag x) ≡ class_profile class.Colgroup → (ts : List (PlacedToken N)) → Spells ts → Node ts
     a_colgroup p =
         let e : i.content ≡ content.TableParts = part_is i.content (role_is class.Colgroup p) in
@@ -1241,7 +1276,7 @@ module _ {N : Type 0} (n : Naming N) (laws : NameLaws n) (node_limit open_limit 
         let clear : is_table_context (n.tag d.name) ≡ true = and_left (is_table_context (n.tag d.name)) _ (ap (λ u. fits_current u i.texts (n.tag d.name)) (sym e) ∙ q.current_fits) in
         by_law items (record (begun_control c) { mode = InColumnGroup })
         (pushed items (record (begun_control c) { mode = InColumnGroup }) (ap (λ r. unwrap_or r.mode (reset_mode n context (d ∷ up))) p) (fits_at class.Colgroup p content.Columns InColumnGroup o refl) (cur_at class.Colgroup p content.Columns o (ap (λ r. r.is_colgroup) p)) (open-pushed (no made x) (d ∷ up) items q.listed)
-        (λ h. absurd (let z = ap closes_p o in cc)) anchors_same forms_same)
+        (λ h. absurd (let z = ap closes_p o in cc)) (anchors_same (ap (λ r. r.marks) p)) forms_same)
         (lf_none kids)
         (λ at. more.start_colgroup n laws.basic node_limit open_limit errors context quirks_list at made f d up items (begun_control c) x attrs absent1 (omega arith) (omega arith) mode_at (ap (λ r. r.family) p) clear)
         (λ items2 c2 t k. record {
@@ -1261,7 +1296,7 @@ module _ {N : Type 0} (n : Naming N) (laws : NameLaws n) (node_limit open_limit 
         let clear : is_table_context (n.tag d.name) ≡ true = and_left (is_table_context (n.tag d.name)) _ (ap (λ u. fits_current u i.texts (n.tag d.name)) (sym e) ∙ q.current_fits) in
         by_law items (record (begun_control c) { mode = InTableBody })
         (pushed items (record (begun_control c) { mode = InTableBody }) (ap (λ r. unwrap_or r.mode (reset_mode n context (d ∷ up))) p) (fits_at class.Section p content.TableRows InTableBody o refl) (cur_at class.Section p content.TableRows o (ap (λ r. r.body_context && (r.fosters || false)) p)) (open-pushed (no made x) (d ∷ up) items q.listed)
-        (λ h. absurd (let z = ap closes_p o in cc)) anchors_same forms_same)
+        (λ h. absurd (let z = ap closes_p o in cc)) (anchors_same (ap (λ r. r.marks) p)) forms_same)
         (lf_none kids)
         (λ at. more.start_section n laws.basic node_limit open_limit errors context quirks_list at made f d up items (begun_control c) x attrs absent1 (omega arith) (omega arith) mode_at (ap (λ r. r.family) p) clear)
         (λ items2 c2 t k. record {
@@ -1281,7 +1316,7 @@ module _ {N : Type 0} (n : Naming N) (laws : NameLaws n) (node_limit open_limit 
         let clear : is_body_context (n.tag d.name) ≡ true = and_left (is_body_context (n.tag d.name)) _ (ap (λ u. fits_current u i.texts (n.tag d.name)) (sym e) ∙ q.current_fits) in
         by_law items (record (begun_control c) { mode = InRow })
         (pushed items (record (begun_control c) { mode = InRow }) (ap (λ r. unwrap_or r.mode (reset_mode n context (d ∷ up))) p) (fits_at class.Row p content.Cells InRow o refl) (cur_at class.Row p content.Cells o (ap (λ r. r.row_context && (r.fosters || false)) p)) (open-pushed (no made x) (d ∷ up) items q.listed)
-        (λ h. absurd (let z = ap closes_p o in cc)) anchors_same forms_same)
+        (λ h. absurd (let z = ap closes_p o in cc)) (anchors_same (ap (λ r. r.marks) p)) forms_same)
         (lf_none kids)
         (λ at. more.start_row n laws.basic node_limit open_limit errors context quirks_list at made f d up items (begun_control c) x attrs absent1 (omega arith) (omega arith) mode_at (ap (λ r. r.family) p) clear)
         (λ items2 c2 t k. record {
@@ -1356,6 +1391,7 @@ module _ {N : Type 0} (n : Naming N) (laws : NameLaws n) (node_limit open_limit 
     of_void class.Style c v p = absurd cc
     of_void class.Script c v p = absurd cc
     of_void class.Iframe c v p = absurd cc
+    of_void class.Object c v p = absurd cc
     of_void class.Table c v p = absurd cc
     of_void class.Caption c v p = absurd cc
     of_void class.Colgroup c v p = absurd cc
@@ -1388,6 +1424,7 @@ module _ {N : Type 0} (n : Naming N) (laws : NameLaws n) (node_limit open_limit 
   of_class b x attrs kids law i made f d up items c s q from taken alone lf g room deep class.Style r v p = a_style b x attrs kids law i made f d up items c s q from taken alone lf g room deep p
   of_class b x attrs kids law i made f d up items c s q from taken alone lf g room deep class.Script r v p = a_script b x attrs kids law i made f d up items c s q from taken alone lf g room deep p
   of_class b x attrs kids law i made f d up items c s q from taken alone lf g room deep class.Iframe r v p = a_iframe b x attrs kids law i made f d up items c s q from taken alone lf g room deep p
+  of_class b x attrs kids law i made f d up items c s q from taken alone lf g room deep class.Object r v p = an_object b x attrs kids law i made f d up items c s q from taken alone lf g room deep p
   of_class b x attrs kids law i made f d up items c s q from taken alone lf g room deep class.Table r v p = a_table b x attrs kids law i made f d up items c s q from taken alone lf g room deep p
   of_class b x attrs kids law i made f d up items c s q from taken alone lf g room deep class.Caption r v p = a_caption b x attrs kids law i made f d up items c s q from taken alone lf g room deep p
   of_class b x attrs kids law i made f d up items c s q from taken alone lf g room deep class.Colgroup r v p = a_colgroup b x attrs kids law i made f d up items c s q from taken alone lf g room deep p
@@ -1493,6 +1530,7 @@ module _ {N : Type 0} (n : Naming N) (laws : NameLaws n) (node_limit open_limit 
   content_of_void i x class.Style r v p = absurd cc
   content_of_void i x class.Script r v p = absurd cc
   content_of_void i x class.Iframe r v p = absurd cc
+  content_of_void i x class.Object r v p = absurd cc
   content_of_void i x class.Table r v p = absurd cc
   content_of_void i x class.Caption r v p = absurd cc
   content_of_void i x class.Colgroup r v p = absurd cc

@@ -1,3 +1,4 @@
 pub mod PlainTokens
 pub mod Building
 pub mod ComesBack
+pub mod OneAnswer

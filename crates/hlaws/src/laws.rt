@@ -1,6 +1,7 @@
 //! Laws of the definitions.
 
 ghost use Rattle.hlaws.specs.ComesBack.{PlainTokens, PlainBuilds, PlainComesBack};
+ghost use Rattle.hlaws.specs.OneAnswer.{OneAnswer, OneParse};
 
 /// A plain list of trees, as it is written, is read as its own tokens, in each context in which it is plain.
 pub fn plain_tokens()
@@ -16,4 +17,16 @@ pub fn plain_builds()
 /// each such context.
 pub fn plain_comes_back()
     ensures { PlainComesBack }
+{}
+
+/// The bytes of a document have exactly one answer: its tokens and its errors in their order, or what it is refused for, with the
+/// place.
+pub fn one_answer()
+    ensures { OneAnswer }
+{}
+
+/// The bytes of a document or of a fragment come to exactly one parse: a tree and the errors in their order, or what they are
+/// refused for, with the place.
+pub fn one_parse()
+    ensures { OneParse }
 {}

@@ -1,6 +1,6 @@
-//! Plain trees come back: what is written of a plain tree is parsed as that tree.
+//! Laws of the whole: the bytes of an input have exactly one answer, and what is written of a plain tree is parsed as that tree.
 #![tactic(auto)]
 
 pub mod laws;
 
-pub use laws::{plain_builds, plain_comes_back, plain_tokens};
+pub use laws::{one_answer, one_parse, plain_builds, plain_comes_back, plain_tokens};

@@ -1,0 +1,29 @@
+-- What is said of an input in two ways is one thing.
+use Rattle.std.proofs.Common.{◌≡◌, ℕ, Bool, true, false, eqb, cond, List, ◌++◌, length, Option, None, Some, refl, sym, ◌∙◌}
+use Rattle.std.proofs.lemmas.Bool.{eqb-true}
+use Rattle.std.specs.List.Sorted.{IsPermutation, IsSorted}
+use Rattle.std.proofs.lemmas.List.Sorted.{IsPermutation-sym, IsPermutation-trans}
+use Rattle.names.specs.declared.error.ParseError.{ParseError}
+use Rattle.names.specs.declared.refusal.Refusal.{Refusal}
+use Rattle.htext.specs.Text.{valid_len, refusal_of}
+use Rattle.hparse.specs.Answer.{error_cmp}
+use Rattle.hlaws.proofs.OneOrder.{sorted-once}
+
+-- bytes that are not refused are all valid
+pub all-valid : (limit : ℕ) (bytes : List ℕ) → refusal_of limit bytes ≡ None → valid_len limit bytes ≡ length bytes
+all-valid limit bytes e = go _ (eqb (valid_len limit bytes) (length bytes)) refl e
+  where
+    go : (r : Refusal) (b : Bool) → eqb (valid_len limit bytes) (length bytes) ≡ b → cond b None (Some r) ≡ None → valid_len limit bytes ≡ length bytes
+    go r true is e = eqb-true (valid_len limit bytes) (length bytes) is
+    go r false is e = absurd cc
+
+pub one-some : {A : Type 0} (x y : A) (o : Option A) → o ≡ Some x → o ≡ Some y → x ≡ y
+one-some x y o e f = let same : Some x ≡ Some y = sym e ∙ f in cc
+
+pub never-both : {A : Type 0} (x : A) (o : Option A) → o ≡ Some x → o ≡ None → ⊥
+never-both x o e f = let clash : Some x ≡ None = sym e ∙ f in cc
+
+-- errors of two texts that are permuted alike, in order
+pub one-list : (errors errors' all all' : List ParseError) → IsPermutation errors errors' → IsPermutation errors all → IsPermutation errors' all' → IsSorted error_cmp all → IsSorted error_cmp all' → all ≡ all'
+one-list errors errors' all all' same p p' =
+    sorted-once all all' (IsPermutation-trans all errors all' (IsPermutation-sym errors all p) (IsPermutation-trans errors errors' all' same p'))

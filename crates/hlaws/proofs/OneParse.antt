@@ -1,0 +1,226 @@
+-- The bytes of a document or of a fragment have exactly one tree and list of errors, or refusal.
+use Rattle.std.proofs.Common.{◌≡◌, ℕ, List, [], ◌∷◌, ◌++◌, length, map, Option, None, Some, Result, Ok, Err, refl, sym, ap, ◌∙◌, subst, append-nil}
+use Rattle.std.specs.List.Sorted.{IsPermutation, IsSorted}
+use Rattle.std.proofs.lemmas.List.{map-append}
+use Rattle.std.proofs.lemmas.List.Sorted.{IsPermutation-sym, IsPermutation-trans, IsPermutation-append_left, IsPermutation-append_right}
+use Rattle.names.specs.declared.error.ParseError.{ParseError}
+use Rattle.names.specs.declared.placed.Placed.{Placed}
+use Rattle.names.specs.declared.raw.RawKind.{RawKind}
+use Rattle.names.specs.declared.raw.RefusedName.{RefusedName}
+use Rattle.names.specs.declared.refusal.Refusal.{Refusal}
+use Rattle.names.specs.declared.refusal.Refusal.TheVariants.{OutOfProfile}
+use Rattle.htext.specs.Items.{input_errors}
+use Rattle.htext.specs.Text.{valid_len, refusal_of}
+use Rattle.charref.specs.Reference.{IsTable}
+use Rattle.htoken.specs.Token.{Tok, Eof, Event, Gives}
+use Rattle.htoken.specs.Standing.{start_kind}
+use Rattle.htoken.specs.Tokens.{spans_text, Tokens, IsRefused, AreFront, tokens_in, eof_of}
+use Rattle.hadopt.specs.Naming.{texts}
+use Rattle.hadopt.specs.Site.{Outcome, Goes, Refused}
+use Rattle.hmodes.specs.Reached.{Reached, after}
+use Rattle.hmodes.specs.Reached as reached
+use Rattle.hmodes.specs.State.{PlacedToken, State}
+use Rattle.hmodes.specs.Step.{Step, Steps, none, and, refused}
+use Rattle.hmodes.proofs.Between.{texts-all, reached-orderly}
+use Rattle.hmodes.proofs.Ends.{some-step}
+use Rattle.hmodes.proofs.Single.{step-one}
+use Rattle.hcut.specs.SomeCut.{HasAnswer, gives, refuses}
+use Rattle.hcut.proofs.Fronts.{one_front, one_front_of_refused}
+use Rattle.hcut.proofs.OneCut.{one_list_of_tokens, no_tokens_of_refused, one_refusal}
+use Rattle.hcut.proofs.SomeCut.{some_answer}
+use Rattle.hparse.specs.Answer.{error_cmp}
+use Rattle.hparse.specs.Input.{text_in}
+use Rattle.hparse.specs.Parse.{Told, Subject, document, fragment, Parse, Parses, Builds, manner, start_of, begins, refused_token, refused_tag, refused_bytes, accepted}
+use Rattle.hparse.specs.Taken.{placed}
+use Rattle.hlaws.specs.OneAnswer.{ExactlyOne, OneParse}
+use Rattle.hlaws.proofs.OneInput.{all-valid, one-some, never-both, one-list}
+use Rattle.hlaws.proofs.Sorting.{in_order, order-permutes, order-sorted}
+
+-- tokens in order have one result
+steps-one : (ts : List (PlacedToken (List ℕ))) (s : State (List ℕ)) (o o' : Outcome (State (List ℕ))) → Steps texts ts s o → Steps texts ts s o' → o ≡ o'
+steps-one [] s o o' none none = refl
+steps-one (t ∷ ts) s o o' (and {s' = u} first rest) (and {s' = u'} first' rest') =
+    let same = step-one texts t.at t.token s (Goes u) (Goes u') first first' in
+    let states : u ≡ u' = cc in
+    steps-one ts u o o' rest (subst (λ (x : State (List ℕ)). Steps texts ts x o') (sym states) rest')
+steps-one (t ∷ ts) s o o' (and {s' = u} first rest) (refused {r = r} first') = let clash = step-one texts t.at t.token s (Goes u) (Refused r) first first' in cc
+steps-one (t ∷ ts) s o o' (refused {r = r} first) (and {s' = u} first' rest) = let clash = step-one texts t.at t.token s (Refused r) (Goes u) first first' in cc
+steps-one (t ∷ ts) s o o' (refused {r = r} first) (refused {r = r'} first') = step-one texts t.at t.token s (Refused r) (Refused r') first first'
+
+-- what refuses one of them refuses it whatever follows
+refused-more : (ts us : List (PlacedToken (List ℕ))) (s : State (List ℕ)) (r : Refusal) → Steps texts ts s (Refused r) → Steps texts (ts ++ us) s (Refused r)
+refused-more [] us s r steps = elim steps [ ]
+refused-more (t ∷ ts) us s r (and first rest) = and first (refused-more ts us _ r rest)
+refused-more (t ∷ ts) us s r (refused first) = refused first
+
+some-steps : (ts : List (PlacedToken (List ℕ))) (s : State (List ℕ)) → Reached texts s → (o : Outcome (State (List ℕ))) × Steps texts ts s o
+some-steps [] s h = (Goes s, none)
+some-steps (t ∷ ts) s h = by (some-step texts texts-all.img t.at t.token s (reached-orderly texts texts-all s h).sound) (λ u first. some-steps ts u (after h first))
+  where
+    by : (o : Outcome (State (List ℕ))) × Step texts t.at t.token s o → ((u : State (List ℕ)) → Step texts t.at t.token s (Goes u) → (o : Outcome (State (List ℕ))) × Steps texts ts u o)
+        → (o : Outcome (State (List ℕ))) × Steps texts (t ∷ ts) s o
+    by (Goes u, first) rest = let others = rest u first in (others.0, and first others.1)
+    by (Refused r, first) rest = (Refused r, refused first)
+
+reached-first : (told : Told) (subject : Subject) → Reached texts (begins told subject)
+reached-first told document = reached.document told.quirks told.limits
+reached-first told (fragment context) = reached.fragment context told.limits
+
+-- tokens and nothing else as what a sink was handed
+given : (ts : List Tok) → tokens_in (map Gives ts) ≡ ts
+given [] = refl
+given (t ∷ ts) = ap (λ (x : List Tok). t ∷ x) (given ts)
+
+module _ (told : Told) (subject : Subject) (bytes : List ℕ) where
+  abbrev kind : RawKind
+  kind = start_kind (start_of subject)
+
+  abbrev text : List Placed
+  text = text_in (manner told subject) bytes
+
+  abbrev end : ℕ
+  end = valid_len told.input bytes
+
+  abbrev Leads : List Tok → Outcome (State (List ℕ)) → Type 0
+  Leads tokens o = Steps texts (map placed tokens) (begins told subject) o
+
+  one-result : (tokens : List Tok) (o o' : Outcome (State (List ℕ))) → Leads tokens o → Leads tokens o' → o ≡ o'
+  one-result tokens o o' = steps-one (map placed tokens) (begins told subject) o o'
+
+  never-both-ways : (tokens : List Tok) (r : Refusal) (state : State (List ℕ)) → Leads tokens (Refused r) → Leads tokens (Goes state) → ⊥
+  never-both-ways tokens r state h k = let clash = one-result tokens (Refused r) (Goes state) h k in cc
+
+  -- what a front of tokens is refused for they are refused for
+  refused-whole : (tokens front others : List Tok) (r : Refusal) → tokens ≡ front ++ others → Leads front (Refused r) → Leads tokens (Refused r)
+  refused-whole tokens front others r are h =
+      subst (λ (ts : List (PlacedToken (List ℕ))). Steps texts ts (begins told subject) (Refused r)) (sym (ap (map placed) are ∙ map-append placed front others))
+      (refused-more (map placed front) (map placed others) (begins told subject) r h)
+
+  led : (tokens tokens' : List Tok) (o : Outcome (State (List ℕ))) → tokens ≡ tokens' → Leads tokens o → Leads tokens' o
+  led tokens tokens' o same h = subst (λ (ts : List Tok). Leads ts o) same h
+
+  at-end : {tokens : List Tok} {errors : List ParseError} → refusal_of told.input bytes ≡ None → Tokens told.table kind text (length bytes) tokens errors → Tokens told.table kind text end tokens errors
+  at-end {tokens} {errors} whole read = subst (λ (n : ℕ). Tokens told.table kind text n tokens errors) (sym (all-valid told.input bytes whole)) read
+
+  -- the text is refused for a start tag
+  module _ (tokens : List Tok) (name : RefusedName) (at : ℕ) (out : IsRefused told.table kind text end tokens name at) where
+    data OfRefused (x : Result Parse Refusal) : Type 0 where
+      by_rules : (r : Refusal) → Leads tokens (Refused r) → x ≡ Err r → OfRefused x
+      by_tag : (state : State (List ℕ)) → Leads tokens (Goes state) → x ≡ Err (OutOfProfile name at) → OfRefused x
+
+    of-refused : (x : Result Parse Refusal) → Parses told subject bytes x → OfRefused x
+    of-refused x (refused_token r events front steps) =
+        let k = one_front_of_refused told.table kind text end at name tokens events out front in
+        by_rules r (refused-whole tokens (tokens_in events) k.0 r k.1 steps) refl
+    of-refused x (refused_tag name' at' tokens' state out' steps) =
+        let same = one_refusal told.table kind text end at' at name' name tokens' tokens out' out in
+        by_tag state (led tokens' tokens (Goes state) same.2 steps) (ap (λ (n : RefusedName). Err (OutOfProfile n at')) same.0 ∙ ap (λ (n : ℕ). Err (OutOfProfile name n)) same.1)
+    of-refused x (refused_bytes r errors state builds e) = absurd (no_tokens_of_refused told.table kind text end at name builds.tokens tokens errors builds.read out)
+    of-refused x (accepted errors sorted state builds p s whole) = absurd (no_tokens_of_refused told.table kind text end at name builds.tokens tokens errors (at-end whole builds.read) out)
+
+    one-of-refused : (x y : Result Parse Refusal) → OfRefused x → OfRefused y → x ≡ y
+    one-of-refused x y (by_rules r h e) (by_rules r' k f) =
+        let same = one-result tokens (Refused r) (Refused r') h k in
+        let refusals : r ≡ r' = cc in
+        e ∙ ap (λ (q : Refusal). Err q) refusals ∙ sym f
+    one-of-refused x y (by_rules r h e) (by_tag state k f) = absurd (never-both-ways tokens r state h k)
+    one-of-refused x y (by_tag state h e) (by_rules r k f) = absurd (never-both-ways tokens r state k h)
+    one-of-refused x y (by_tag state h e) (by_tag state' k f) = e ∙ sym f
+
+    only-refused : (x : Result Parse Refusal) → Parses told subject bytes x → ExactlyOne (Parses told subject bytes)
+    only-refused x h = record { one = x; is = h; other = λ y k. one-of-refused y x (of-refused y k) (of-refused x h) }
+
+    exactly-refused : (o : Outcome (State (List ℕ))) × Leads tokens o → ExactlyOne (Parses told subject bytes)
+    exactly-refused (Goes state, steps) = only-refused (Err (OutOfProfile name at)) (refused_tag name at tokens state out steps)
+    exactly-refused (Refused r, steps) =
+        let front : AreFront told.table kind text end (map Gives tokens) = record {
+          spans = out.spans;
+          rest = out.rest;
+          others = eof_of end out.rest;
+          text_is = out.text_is;
+          cut = out.cut;
+          in_profile = out.in_profile;
+          front_is = ap (λ (ts : List Tok). ts ++ eof_of end out.rest) (given tokens ∙ out.tokens_are);
+        } in
+        only-refused (Err r) (refused_token r (map Gives tokens) front (led tokens (tokens_in (map Gives tokens)) (Refused r) (sym (given tokens)) steps))
+
+  -- the text has tokens
+  module _ (tokens : List Tok) (errors : List ParseError) (read : Tokens told.table kind text end tokens errors) where
+    abbrev all_errors : List ParseError → State (List ℕ) → List ParseError
+    all_errors es state = input_errors text ++ (es ++ state.site.errors)
+
+    data OfTokens (x : Result Parse Refusal) : Type 0 where
+      by_rules : (r : Refusal) → Leads tokens (Refused r) → x ≡ Err r → OfTokens x
+      by_bytes : (r : Refusal) (state : State (List ℕ)) → Leads tokens (Goes state) → refusal_of told.input bytes ≡ Some r → x ≡ Err r → OfTokens x
+      whole : (state : State (List ℕ)) (es sorted : List ParseError) → Leads tokens (Goes state) → IsPermutation errors es → IsPermutation (all_errors es state) sorted → IsSorted error_cmp sorted
+          → refusal_of told.input bytes ≡ None → x ≡ Ok (record { trees = state.site.nodes.trees; errors = sorted }) → OfTokens x
+
+    of-tokens : (x : Result Parse Refusal) → Parses told subject bytes x → OfTokens x
+    of-tokens x (refused_token r events front steps) =
+        let k = one_front told.table kind text end tokens errors events read front in
+        by_rules r (refused-whole tokens (tokens_in events) k.0 r k.1 steps) refl
+    of-tokens x (refused_tag name at tokens' state out steps) = absurd (no_tokens_of_refused told.table kind text end at name tokens tokens' errors read out)
+    of-tokens x (refused_bytes r es state builds e) =
+        let same = one_list_of_tokens told.table kind text end builds.tokens tokens es errors builds.read read in
+        by_bytes r state (led builds.tokens tokens (Goes state) same.0 builds.steps) e refl
+    of-tokens x (accepted es sorted state builds p s e) =
+        let same = one_list_of_tokens told.table kind text end tokens builds.tokens errors es read (at-end e builds.read) in
+        whole state es sorted (led builds.tokens tokens (Goes state) (sym same.0) builds.steps) same.1 p s e refl
+
+    one-tree : (state state' : State (List ℕ)) (es es' sorted sorted' : List ParseError) → state ≡ state' → IsPermutation errors es → IsPermutation errors es' → IsPermutation (all_errors es state) sorted → IsPermutation (all_errors es' state') sorted'
+        → IsSorted error_cmp sorted → IsSorted error_cmp sorted' → ◌≡◌ {A = Parse} (record { trees = state.site.nodes.trees; errors = sorted }) (record { trees = state'.site.nodes.trees; errors = sorted' })
+    one-tree state state' es es' sorted sorted' same q q' p p' s s' =
+        let between : IsPermutation es es' = IsPermutation-trans es errors es' (IsPermutation-sym errors es q) q' in
+        let moved : IsPermutation (all_errors es state) (all_errors es' state) =
+        IsPermutation-append_right (input_errors text) (es ++ state.site.errors) (es' ++ state.site.errors) (IsPermutation-append_left state.site.errors es es' between) in
+        let lists : sorted ≡ sorted' = one-list (all_errors es state) (all_errors es' state) sorted sorted' moved p (subst (λ (u : State (List ℕ)). IsPermutation (all_errors es' u) sorted') (sym same) p') s s' in
+        cc
+
+    one-of-tokens : (x y : Result Parse Refusal) → OfTokens x → OfTokens y → x ≡ y
+    one-of-tokens x y (by_rules r h e) (by_rules r' k f) =
+        let same = one-result tokens (Refused r) (Refused r') h k in
+        let refusals : r ≡ r' = cc in
+        e ∙ ap (λ (q : Refusal). Err q) refusals ∙ sym f
+    one-of-tokens x y (by_rules r h e) (by_bytes r' state k b f) = absurd (never-both-ways tokens r state h k)
+    one-of-tokens x y (by_rules r h e) (whole state es sorted k q p s b f) = absurd (never-both-ways tokens r state h k)
+    one-of-tokens x y (by_bytes r state h b e) (by_rules r' k f) = absurd (never-both-ways tokens r' state k h)
+    one-of-tokens x y (by_bytes r state h b e) (by_bytes r' state' k b' f) = e ∙ ap (λ (q : Refusal). Err q) (one-some r r' (refusal_of told.input bytes) b b') ∙ sym f
+    one-of-tokens x y (by_bytes r state h b e) (whole state' es sorted k q p s b' f) = absurd (never-both r (refusal_of told.input bytes) b b')
+    one-of-tokens x y (whole state es sorted h q p s b e) (by_rules r k f) = absurd (never-both-ways tokens r state k h)
+    one-of-tokens x y (whole state es sorted h q p s b e) (by_bytes r state' k b' f) = absurd (never-both r (refusal_of told.input bytes) b' b)
+    one-of-tokens x y (whole state es sorted h q p s b e) (whole state' es' sorted' k q' p' s' b' f) =
+        let same = one-result tokens (Goes state) (Goes state') h k in
+        let states : state ≡ state' = cc in
+        e ∙ ap (λ (t : Parse). Ok t) (one-tree state state' es es' sorted sorted' states q q' p p' s s') ∙ sym f
+
+    only-tokens : (x : Result Parse Refusal) → Parses told subject bytes x → ExactlyOne (Parses told subject bytes)
+    only-tokens x h = record { one = x; is = h; other = λ y k. one-of-tokens y x (of-tokens y k) (of-tokens x h) }
+
+    exactly-tokens : (o : Outcome (State (List ℕ))) × Leads tokens o → ExactlyOne (Parses told subject bytes)
+    exactly-tokens (Refused r, steps) =
+        let front : AreFront told.table kind text end (map Gives tokens) = record {
+          spans = read.spans;
+          rest = [];
+          others = [];
+          text_is = read.text_is ∙ sym (append-nil (spans_text read.spans));
+          cut = read.cut;
+          in_profile = read.in_profile;
+          front_is = append-nil (tokens_in (map Gives tokens)) ∙ given tokens ∙ read.tokens_are;
+        } in
+        only-tokens (Err r) (refused_token r (map Gives tokens) front (led tokens (tokens_in (map Gives tokens)) (Refused r) (sym (given tokens)) steps))
+    exactly-tokens (Goes state, steps) = by (refusal_of told.input bytes) refl
+      where
+        by : (r : Option Refusal) → refusal_of told.input bytes ≡ r → ExactlyOne (Parses told subject bytes)
+        by (Some r) e = only-tokens (Err r) (refused_bytes r errors state (record { tokens = tokens; read = read; steps = steps }) e)
+        by None e =
+            let all = all_errors errors state in
+            let end_read = subst (λ (n : ℕ). Tokens told.table kind text n tokens errors) (all-valid told.input bytes e) read in
+            only-tokens (Ok (record { trees = state.site.nodes.trees; errors = in_order all }))
+            (accepted errors (in_order all) state (record { tokens = tokens; read = end_read; steps = steps }) (order-permutes all) (order-sorted all) e)
+
+  exactly-one : HasAnswer told.table kind text end → ExactlyOne (Parses told subject bytes)
+  exactly-one (refuses tokens name at out) = exactly-refused tokens name at out (some-steps (map placed tokens) (begins told subject) (reached-first told subject))
+  exactly-one (gives tokens errors read) = exactly-tokens tokens errors read (some-steps (map placed tokens) (begins told subject) (reached-first told subject))
+
+pub one-parse : OneParse
+one-parse told subject bytes is_table = exactly-one told subject bytes (some_answer told.table (start_kind (start_of subject)) (text_in (manner told subject) bytes) (valid_len told.input bytes) is_table)

@@ -1,0 +1,22 @@
+-- Laws of the answer: the bytes of an input have exactly one.
+use Rattle.std.specs.Prelude.{◌≡◌, ℕ, List, Result}
+use Rattle.names.specs.declared.error.ParseError.{ParseError}
+use Rattle.names.specs.declared.refusal.Refusal.{Refusal}
+use Rattle.charref.specs.Reference.{Entities, IsTable}
+use Rattle.htoken.specs.Token.{Tok}
+use Rattle.hparse.specs.Answer.{Answers}
+use Rattle.hparse.specs.Parse.{Told, Subject, Parse, Parses}
+
+-- one of these stands, and no other
+pub record ExactlyOne {A : Type 0} (P : A → Type 0) : Type 0 where
+  pub one : A
+  pub is : P one
+  pub other : (x : A) → P x → x ≡ one
+
+-- The bytes of a document have one list of tokens and one of errors in their order, or are refused for one reason.
+abbrev pub OneAnswer : Type 0
+OneAnswer = (table : Entities) (limit : ℕ) (bytes : List ℕ) → IsTable table → ExactlyOne (Answers table limit bytes)
+
+-- The bytes of a document or of a fragment have one tree and one list of errors in their order, or are refused for one reason.
+abbrev pub OneParse : Type 0
+OneParse = (told : Told) (subject : Subject) (bytes : List ℕ) → IsTable told.table → ExactlyOne (Parses told subject bytes)
