@@ -44,9 +44,12 @@ abbrev pub limits_of : List Text → Limits
 limits_of words = record { nodes = number_or 16777216 (value_of words (codes "nodes")); depth = number_or 1048576 (value_of words (codes "open")) }
 
 -- The engine ran over an input.
-abbrev pub AnswersInput : {S W : Type 0} → (S → Option (List ℕ)) → (S → ℕ) → (W → Option (List ℕ)) → (W → ℕ) → Told → S → S → W → W → Result (Unit {0}) Fault → Type 0
+abbrev pub AnswersInput : {S W : Type 0} → (S → Option (List ℕ)) → (S → ℕ) → (W → Option (List ℕ)) → (W → ℕ) → Told → S → S → W → W → Result (Unit {0}) Fault
+    → Type 0
 AnswersInput left reads written writes told source source' target target' outcome =
-    (answer : Result (Unit {0}) Refusal) × RunsTask left reads written writes told.task told.context told.settings told.piece source source' target target' answer × (outcome ≡ outcome_of answer)
+    (answer : Result (Unit {0}) Refusal)
+    × RunsTask left reads written writes told.task told.context told.settings told.piece source source' target target' answer
+    × (outcome ≡ outcome_of answer)
 
 -- what is read of the text of a table of character references
 abbrev pub ReadsTable : List ℕ → Result Entities Refusal → Type 0
@@ -92,19 +95,22 @@ module _ {R : Type 0} (has_text : R → List ℕ → List ℕ → Type 0) (lacks
         → FindsQuirks surroundings (value_of words (codes "quirks")) (Ok quirks) → AreLimits (limits_of words).nodes (limits_of words).depth
         → (AllowsContext (value_of words (codes "in")) → ⊥) → why ≡ fault.Refused BadContext → FirstFault surroundings words why
 
-module _ {R F : Type 0} (opens : R → List ℕ → F → Type 0) (cannot_open : R → List ℕ → Type 0) (left_in_file : F → Option (List ℕ)) (failed_in_file : F → ℕ) where
+module _ {R F : Type 0} (opens : R → List ℕ → F → Type 0) (cannot_open : R → List ℕ → Type 0) (left_in_file : F → Option (List ℕ))
+    (failed_in_file : F → ℕ) where
   -- The engine ran over the file of this name, or that cannot be opened.
   pub data AnswersFile {W : Type 0} (written : W → Option (List ℕ)) (writes : W → ℕ) (told : Told) (surroundings : R) (name : List ℕ) (output output' : W)
       (outcome : Result (Unit {0}) Fault) : Type 0 where
     file_missing : cannot_open surroundings name → outcome ≡ Err fault.CannotRead → output' ≡ output
         → AnswersFile written writes told surroundings name output output' outcome
-    file_answered : (file file' : F) → opens surroundings name file → AnswersInput left_in_file failed_in_file written writes told file file' output output' outcome
+    file_answered : (file file' : F) → opens surroundings name file
+        → AnswersInput left_in_file failed_in_file written writes told file file' output output' outcome
         → AnswersFile written writes told surroundings name output output' outcome
 
   module _ {S W : Type 0} (has_text : R → List ℕ → List ℕ → Type 0) (lacks_text : R → List ℕ → Fault → Type 0)
       (left : S → Option (List ℕ)) (reads : S → ℕ) (written : W → Option (List ℕ)) (writes : W → ℕ) where
     -- What these words say is done.
-    pub data AnswersWords (limit : ℕ) (surroundings : R) (words : List Text) (input input' : S) (output output' : W) (outcome : Result (Unit {0}) Fault) : Type 0 where
+    pub data AnswersWords (limit : ℕ) (surroundings : R) (words : List Text) (input input' : S) (output output' : W)
+        (outcome : Result (Unit {0}) Fault) : Type 0 where
       -- the words are wrong or ask for help; where they are right memory ran out
       words_refused : (why : Fault) → outcome ≡ Err why → FaultOf words why
           → (takes program words ≡ true → AreNumbers (value_of words) numeric_options → why ≡ fault.Memory) → input' ≡ input → output' ≡ output
@@ -121,19 +127,23 @@ module _ {R F : Type 0} (opens : R → List ℕ → F → Type 0) (cannot_open :
           → AnswersInput left reads written writes told input input' output output' outcome
           → AnswersWords limit surroundings words input input' output output' outcome
 
-module _ {R F S W : Type 0} (has_words : R → List Text → Type 0) (lacks_words : R → Fault → Type 0) (opens : R → List ℕ → F → Type 0) (cannot_open : R → List ℕ → Type 0)
+module _ {R F S W : Type 0} (has_words : R → List Text → Type 0) (lacks_words : R → Fault → Type 0) (opens : R → List ℕ → F → Type 0)
+    (cannot_open : R → List ℕ → Type 0)
     (has_text : R → List ℕ → List ℕ → Type 0) (lacks_text : R → List ℕ → Fault → Type 0)
-    (left_in_file : F → Option (List ℕ)) (failed_in_file : F → ℕ) (left : S → Option (List ℕ)) (reads : S → ℕ) (written : W → Option (List ℕ)) (writes : W → ℕ) where
+    (left_in_file : F → Option (List ℕ)) (failed_in_file : F → ℕ) (left : S → Option (List ℕ)) (reads : S → ℕ) (written : W → Option (List ℕ))
+    (writes : W → ℕ) where
   -- What the command line says is done.
   pub data Answers (limit : ℕ) (surroundings : R) (input input' : S) (output output' : W) (outcome : Result (Unit {0}) Fault) : Type 0 where
     line_missing : (why : Fault) → lacks_words surroundings why → outcome ≡ Err why → input' ≡ input → output' ≡ output
         → Answers limit surroundings input input' output output' outcome
     line_answered : (words : List Text) → has_words surroundings words
-        → AnswersWords opens cannot_open left_in_file failed_in_file has_text lacks_text left reads written writes limit surroundings words input input' output output' outcome
+        → AnswersWords opens cannot_open left_in_file failed_in_file has_text lacks_text left reads written writes limit surroundings words input input' output
+        output' outcome
         → Answers limit surroundings input input' output output' outcome
 
   -- The program does what its command line says, writes the line of its ending to standard error, and returns its status.
-  pub record Ends {E : Type 0} (errors_written : E → Option (List ℕ)) (errors_failed : E → ℕ) (limit : ℕ) (surroundings : R) (input input' : S) (output output' : W)
+  pub record Ends {E : Type 0} (errors_written : E → Option (List ℕ)) (errors_failed : E → ℕ) (limit : ℕ) (surroundings : R) (input input' : S)
+      (output output' : W)
       (errors errors' : E) (status : ℕ) : Type 0 where
     pub outcome : Result (Unit {0}) Fault
     pub answered : Answers limit surroundings input input' output output' outcome
@@ -142,8 +152,10 @@ module _ {R F S W : Type 0} (has_words : R → List Text → Type 0) (lacks_word
 
 -- The program ran, and this was its status.
 pub record HasRun {R F S W E : Type 0} (has_words : R → List Text → Type 0) (lacks_words : R → Fault → Type 0) (opens : R → List ℕ → F → Type 0)
-    (cannot_open : R → List ℕ → Type 0) (has_text : R → List ℕ → List ℕ → Type 0) (lacks_text : R → List ℕ → Fault → Type 0) (left_in_file : F → Option (List ℕ)) (failed_in_file : F → ℕ) (left : S → Option (List ℕ)) (reads : S → ℕ)
-    (written : W → Option (List ℕ)) (writes : W → ℕ) (errors_written : E → Option (List ℕ)) (errors_failed : E → ℕ) (limit : ℕ) (surroundings : R) (status : ℕ) : Type 0 where
+    (cannot_open : R → List ℕ → Type 0) (has_text : R → List ℕ → List ℕ → Type 0) (lacks_text : R → List ℕ → Fault → Type 0)
+    (left_in_file : F → Option (List ℕ)) (failed_in_file : F → ℕ) (left : S → Option (List ℕ)) (reads : S → ℕ)
+    (written : W → Option (List ℕ)) (writes : W → ℕ) (errors_written : E → Option (List ℕ)) (errors_failed : E → ℕ) (limit : ℕ) (surroundings : R)
+    (status : ℕ) : Type 0 where
   pub input : S × S
   pub output : W × W
   pub errors : E × E

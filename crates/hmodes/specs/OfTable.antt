@@ -21,5 +21,6 @@ TokensAreOf names (t ∷ ts) = TokenIsOf names t.token × TokensAreOf names ts
 pub record NamesAreOfTheTable : Type 0 where
   pub document : (names : Texts) (quirks : List QuirkLine) (limits : Limits) (ts : List (PlacedToken ℕ)) (s : State ℕ) → AreNames names → TokensAreOf names ts
       → Steps numbers ts (document_begins quirks limits) (Goes s) → AreOf names (trees s.site)
-  pub fragment : (names : Texts) (context : ℕ) (limits : Limits) (ts : List (PlacedToken ℕ)) (s : State ℕ) → AreNames names → IsOf names context → TokensAreOf names ts
+  pub fragment : (names : Texts) (context : ℕ) (limits : Limits) (ts : List (PlacedToken ℕ)) (s : State ℕ) → AreNames names → IsOf names context
+      → TokensAreOf names ts
       → Steps numbers ts (fragment_begins numbers context limits) (Goes s) → AreOf names (trees s.site)

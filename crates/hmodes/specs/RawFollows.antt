@@ -44,5 +44,6 @@ module _ {N : Type 0} (n : Naming N) (at : ℕ) (name : N) (attrs : List (Attrib
 
 -- In each state that tokens lead to, outside of such a text, a start tag whose content is raw text has that come of it.
 abbrev pub RawFollows : {N : Type 0} → Naming N → Type 0
-RawFollows {N} n = (s : State N) → Reached n s → s.control.mode ≢ Text → (at : ℕ) (name : N) (attrs : List (Attribute N)) (closing : Bool) (o : Outcome (State N))
+RawFollows {N} n = (s : State N) → Reached n s → s.control.mode ≢ Text
+    → (at : ℕ) (name : N) (attrs : List (Attribute N)) (closing : Bool) (o : Outcome (State N))
     → is_ended (raw_kind (n.tag name)) ≡ true → Step n at (start name attrs closing) s o → ComesToText n at name attrs o

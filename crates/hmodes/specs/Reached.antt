@@ -16,4 +16,5 @@ pub data Reached {N : Type 0} (n : Naming N) : State N → Type 0 where
 -- a token has exactly one result
 abbrev pub HasOneStep : {N : Type 0} → Naming N → Type 0
 HasOneStep {N} n =
-    (at : ℕ) (t : Token N) (s : State N) → Reached n s → (o : Outcome (State N)) × (Step n at t s o × ((other : Outcome (State N)) → Step n at t s other → other ≡ o))
+    (at : ℕ) (t : Token N) (s : State N) → Reached n s
+    → (o : Outcome (State N)) × (Step n at t s o × ((other : Outcome (State N)) → Step n at t s other → other ≡ o))

@@ -39,7 +39,8 @@ pub data Answers (table : Entities) (limit : ℕ) (bytes : List ℕ) : Result (L
   -- what is read is refused, taken as a whole input
   refused_text : (refusal : Refusal) → IsTextRefusal table (document_text limit bytes) (valid_len limit bytes) refusal → Answers table limit bytes (Err refusal)
   -- what is read is not, but bytes follow it
-  refused_bytes : (refusal : Refusal) (tokens : List Tok) (errors : List ParseError) → Tokens table kind.None (document_text limit bytes) (valid_len limit bytes) tokens errors
+  refused_bytes : (refusal : Refusal) (tokens : List Tok) (errors : List ParseError)
+      → Tokens table kind.None (document_text limit bytes) (valid_len limit bytes) tokens errors
       → refusal_of limit bytes ≡ Some refusal → Answers table limit bytes (Err refusal)
   -- what is read is all of them: the errors are those of the input stream and of the tokens, as often as they are raised
   accepted : (tokens : List Tok) (errors sorted : List ParseError) → Tokens table kind.None (document_text limit bytes) (length bytes) tokens errors

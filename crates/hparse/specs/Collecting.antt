@@ -11,10 +11,12 @@ use Rattle.hparse.specs.declared.token_run.TokenRun.{TokenRun}
 use Rattle.hparse.specs.Answer.{error_cmp}
 
 abbrev pub KeepsError : Collected → ParseError → Result (Unit {0}) Refusal → Collected → Type 0
-KeepsError old error answer new = MatchResult answer (λ _. (new.tokens.items ≡ old.tokens.items) × (new.errors.items ≡ old.errors.items ++ error ∷ [])) (λ e. e ≡ Memory)
+KeepsError old error answer new = MatchResult answer (λ _. (new.tokens.items ≡ old.tokens.items) × (new.errors.items ≡ old.errors.items ++ error ∷ []))
+    (λ e. e ≡ Memory)
 
 abbrev pub KeepsToken : Collected → Token → Result (Unit {0}) Refusal → Collected → Type 0
-KeepsToken old token answer new = MatchResult answer (λ _. (new.tokens.items ≡ old.tokens.items ++ token ∷ []) × (new.errors.items ≡ old.errors.items)) (λ e. e ≡ Memory)
+KeepsToken old token answer new = MatchResult answer (λ _. (new.tokens.items ≡ old.tokens.items ++ token ∷ []) × (new.errors.items ≡ old.errors.items))
+    (λ e. e ≡ Memory)
 
 -- what was collected, with the errors in order
 pub record IsRunOf (names : Texts) (collected : Collected) (run : TokenRun) : Type 0 where

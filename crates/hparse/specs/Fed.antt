@@ -20,7 +20,8 @@ module _ {S : Type 0} (gives : S → Item → Result (Unit {0}) Refusal → S �
   -- What feeding the last piece of these bytes does: memory ran out, or they are refused, whatever comes after, or they have been read.
   pub data FeedsPiece (bytes : List ℕ) (answer : Result (Unit {0}) Refusal) (new : Reading S) : Type 0 where
     piece_ran_out : answer ≡ Err Memory → FeedsPiece bytes answer new
-    piece_refused : (refusal : Refusal) → answer ≡ Err refusal → ((more : List ℕ) → IsRefusedFor gives m began (bytes ++ more) new.feeding.names new.feeding.sink refusal) → FeedsPiece bytes answer new
+    piece_refused : (refusal : Refusal) → answer ≡ Err refusal
+        → ((more : List ℕ) → IsRefusedFor gives m began (bytes ++ more) new.feeding.names new.feeding.sink refusal) → FeedsPiece bytes answer new
     piece_read : answer ≡ Ok tt → HasRead new bytes → FeedsPiece bytes answer new
 
   -- What the end of the input does, after these bytes: memory ran out, or it is what they come to.

@@ -54,14 +54,16 @@ pub record Began (S : Type 0) : Type 0 where
 
 -- The sink was handed items in order, up to the first that it refused. Their tokens stand for these under the table as it is now; their
 -- errors are these, in some order.
-pub record Handed {S : Type 0} (gives : S → Item → Result (Unit {0}) Refusal → S → Type 0) (names : Texts) (began : Began S) (tokens : List Tok) (errors : List ParseError) (answer : Result (Unit {0}) Refusal) (now : S) : Type 0 where
+pub record Handed {S : Type 0} (gives : S → Item → Result (Unit {0}) Refusal → S → Type 0) (names : Texts) (began : Began S) (tokens : List Tok)
+    (errors : List ParseError) (answer : Result (Unit {0}) Refusal) (now : S) : Type 0 where
   pub grows : Grows began.names names
   pub items : List Item
   pub hands : Hands gives began.sink items answer now
   pub tokens_mean : TokensMean names (tokens_handed items) tokens
   pub errors_are : IsPermutation errors (errors_handed items)
 
-module _ {S : Type 0} (gives : S → Item → Result (Unit {0}) Refusal → S → Type 0) (m : Manner) (began : Began S) (bytes : List ℕ) (names : Texts) (now : S) where
+module _ {S : Type 0} (gives : S → Item → Result (Unit {0}) Refusal → S → Type 0) (m : Manner) (began : Began S) (bytes : List ℕ) (names : Texts)
+    (now : S) where
   -- The input is refused, where the sink was handed what comes before.
   pub data IsRefusedFor : Refusal → Type 0 where
     -- the sink refuses what its text gives
@@ -72,7 +74,8 @@ module _ {S : Type 0} (gives : S → Item → Result (Unit {0}) Refusal → S �
         → IsRefused m.table (start_kind m.start) (text_in m bytes) (valid_len m.limit bytes) tokens name at → IsRefusedFor (OutOfProfile name at)
     -- the sink takes all of its text, but bytes follow that
     by_bytes : (refusal : Refusal) (tokens : List Tok) (errors handed : List ParseError) → Handed gives names began tokens handed (Ok tt) now
-        → Tokens m.table (start_kind m.start) (text_in m bytes) (valid_len m.limit bytes) tokens errors → refusal_of m.limit bytes ≡ Some refusal → IsRefusedFor refusal
+        → Tokens m.table (start_kind m.start) (text_in m bytes) (valid_len m.limit bytes) tokens errors → refusal_of m.limit bytes ≡ Some refusal
+        → IsRefusedFor refusal
 
   -- The sink took all that the input gives.
   pub record IsTaken : Type 0 where

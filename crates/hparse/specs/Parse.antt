@@ -71,13 +71,16 @@ module _ (told : Told) (subject : Subject) (bytes : List ℕ) where
   -- What the bytes come to. What is read is their longest valid front within the limit.
   pub data Parses : Result Parse Refusal → Type 0 where
     -- the rules refuse one of its tokens
-    refused_token : (refusal : Refusal) (events : List Event) → AreFront told.table (start_kind (start_of subject)) (text_in (manner told subject) bytes) (valid_len told.input bytes) events
+    refused_token : (refusal : Refusal) (events : List Event)
+        → AreFront told.table (start_kind (start_of subject)) (text_in (manner told subject) bytes) (valid_len told.input bytes) events
         → Steps texts (map placed (tokens_in events)) (begins told subject) (Refused refusal) → Parses (Err refusal)
     -- it has a start tag that is left out of the profile, and the rules take the tokens before that
-    refused_tag : (name : RefusedName) (at : ℕ) (tokens : List Tok) (state : State (List ℕ)) → IsRefused told.table (start_kind (start_of subject)) (text_in (manner told subject) bytes) (valid_len told.input bytes) tokens name at
+    refused_tag : (name : RefusedName) (at : ℕ) (tokens : List Tok) (state : State (List ℕ))
+        → IsRefused told.table (start_kind (start_of subject)) (text_in (manner told subject) bytes) (valid_len told.input bytes) tokens name at
         → Steps texts (map placed tokens) (begins told subject) (Goes state) → Parses (Err (OutOfProfile name at))
     -- the rules take all of its tokens, but bytes follow it
-    refused_bytes : (refusal : Refusal) (errors : List ParseError) (state : State (List ℕ)) → Builds (valid_len told.input bytes) errors state → refusal_of told.input bytes ≡ Some refusal → Parses (Err refusal)
+    refused_bytes : (refusal : Refusal) (errors : List ParseError) (state : State (List ℕ)) → Builds (valid_len told.input bytes) errors state
+        → refusal_of told.input bytes ≡ Some refusal → Parses (Err refusal)
     -- it is all of the bytes: the errors are those of the input stream, of the tokens and of the rules, as often as they are raised
     accepted : (errors sorted : List ParseError) (state : State (List ℕ)) → Builds (length bytes) errors state
         → IsPermutation (input_errors (text_in (manner told subject) bytes) ++ (errors ++ state.site.errors)) sorted → IsSorted error_cmp sorted

@@ -49,7 +49,8 @@ pub record HasParsed (told : Told) (subject : Subject) (parser : Parser) (bytes 
 -- What feeding the last piece of these bytes does: memory ran out, or they are refused, whatever comes after, or they have been read.
 pub data FeedsParser (told : Told) (subject : Subject) (bytes : List ℕ) (answer : Result (Unit {0}) Refusal) (new : Parser) : Type 0 where
   feed_ran_out : answer ≡ Err Memory → FeedsParser told subject bytes answer new
-  feed_refused : (refusal : Refusal) → answer ≡ Err refusal → ((more : List ℕ) → Parses told subject (bytes ++ more) (Err refusal)) → FeedsParser told subject bytes answer new
+  feed_refused : (refusal : Refusal) → answer ≡ Err refusal → ((more : List ℕ) → Parses told subject (bytes ++ more) (Err refusal))
+      → FeedsParser told subject bytes answer new
   feed_read : answer ≡ Ok tt → HasParsed told subject new bytes → FeedsParser told subject bytes answer new
 
 -- what was built, with the errors in order

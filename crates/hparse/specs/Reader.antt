@@ -21,14 +21,17 @@ abbrev pub IsRefusedFrom : {R : Type 0} → (List ℕ → Result R Refusal → T
 IsRefusedFrom answers bytes refusal = (more : List ℕ) → answers (bytes ++ more) (Err refusal)
 
 -- What reading an input to its end does, in pieces of at most so many bytes, after the bytes that were fed before.
-pub data ReadsInput {S R : Type 0} (left : S → Option (List ℕ)) (failed : S → ℕ) (answers : List ℕ → Result R Refusal → Type 0) (limit piece : ℕ) (fed : List ℕ) (old new : S) (answer : Result R Refusal) : Type 0 where
+pub data ReadsInput {S R : Type 0} (left : S → Option (List ℕ)) (failed : S → ℕ) (answers : List ℕ → Result R Refusal → Type 0) (limit piece : ℕ) (fed : List ℕ)
+    (old new : S) (answer : Result R Refusal) : Type 0 where
   -- memory ran out
   reading_ran_out : answer ≡ Err Memory → failed new ≡ failed old → ReadsInput left failed answers limit piece fed old new answer
   -- a read failed, before any byte was refused, and none was tried after it
-  reading_failed : (bytes : List ℕ) → answer ≡ Err Read → IsUndecided limit (fed ++ bytes) → Consumes (left old) (left new) bytes → failed new ≡ counted (failed old)
+  reading_failed : (bytes : List ℕ) → answer ≡ Err Read → IsUndecided limit (fed ++ bytes) → Consumes (left old) (left new) bytes
+      → failed new ≡ counted (failed old)
       → ReadsInput left failed answers limit piece fed old new answer
   -- reading stopped after the piece that brought a refusal
-  reading_stopped : (refusal : Refusal) (before last : List ℕ) → answer ≡ Err refusal → IsUndecided limit (fed ++ before) → Gave left failed old new (before ++ last)
+  reading_stopped : (refusal : Refusal) (before last : List ℕ) → answer ≡ Err refusal → IsUndecided limit (fed ++ before)
+      → Gave left failed old new (before ++ last)
       → IsRefusedFrom answers (fed ++ (before ++ last)) refusal → length last ≤ piece → ReadsInput left failed answers limit piece fed old new answer
   -- the input was read to its end
   read_to_end : (bytes : List ℕ) → IsUndecided limit (fed ++ bytes) → Gave left failed old new bytes → IsAtEnd (left new) → answers (fed ++ bytes) answer

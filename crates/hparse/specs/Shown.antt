@@ -18,11 +18,13 @@ use Rattle.hparse.specs.TokenRun.{TokensMean}
 pub data Shows (table : Entities) (limit : ℕ) (bytes : List ℕ) (result : Result TokenRun Refusal) : Type 0 where
   ran_out : result ≡ Err Memory → Shows table limit bytes result
   refuses : (refusal : Refusal) → result ≡ Err refusal → Answers table limit bytes (Err refusal) → Shows table limit bytes result
-  accepts : (run : TokenRun) (tokens : List Tok) → result ≡ Ok run → TokensMean run.names run.tokens.items tokens → Answers table limit bytes (Ok (tokens, run.errors.items)) → Shows table limit bytes result
+  accepts : (run : TokenRun) (tokens : List Tok) → result ≡ Ok run → TokensMean run.names run.tokens.items tokens
+      → Answers table limit bytes (Ok (tokens, run.errors.items)) → Shows table limit bytes result
 
 -- .. or what a run is where memory did not
 abbrev pub AnswersRun : Entities → ℕ → List ℕ → Result TokenRun Refusal → Type 0
-AnswersRun table limit bytes (Ok run) = (tokens : List Tok) × TokensMean run.names run.tokens.items tokens × Answers table limit bytes (Ok (tokens, run.errors.items))
+AnswersRun table limit bytes (Ok run) = (tokens : List Tok) × TokensMean run.names run.tokens.items tokens
+    × Answers table limit bytes (Ok (tokens, run.errors.items))
 AnswersRun table limit bytes (Err refusal) = Answers table limit bytes (Err refusal)
 
 -- The bytes of a document have been read, whose tokens and errors are collected.

@@ -15,9 +15,11 @@ use Rattle.hrun.specs.Context.{AllowsContext, subject_in}
 use Rattle.hrun.specs.Prints.{prints_of, context_of}
 
 -- What writing a text does: it was written, or a call failed after a beginning of it.
-pub data WritesText {W : Type 0} (written : W → Option (List ℕ)) (failed : W → ℕ) (text : List ℕ) (old new : W) (answer : Result (Unit {0}) Refusal) : Type 0 where
+pub data WritesText {W : Type 0} (written : W → Option (List ℕ)) (failed : W → ℕ) (text : List ℕ) (old new : W)
+    (answer : Result (Unit {0}) Refusal) : Type 0 where
   text_written : answer ≡ Ok tt → Appends (written old) (written new) text → failed new ≡ failed old → WritesText written failed text old new answer
-  text_cut : (beginning rest : List ℕ) → answer ≡ Err Write → text ≡ beginning ++ rest → Appends (written old) (written new) beginning → failed new ≡ counted (failed old)
+  text_cut : (beginning rest : List ℕ) → answer ≡ Err Write → text ≡ beginning ++ rest → Appends (written old) (written new) beginning
+      → failed new ≡ counted (failed old)
       → WritesText written failed text old new answer
 
 -- nothing was written, and no call of the writer has failed
@@ -27,7 +29,8 @@ pub record WritesNothing {W : Type 0} (written : W → Option (List ℕ)) (faile
 
 -- What a run does that reads pieces of at most so many bytes.
 pub data Runs {S W : Type 0} (left : S → Option (List ℕ)) (failed_reads : S → ℕ) (written : W → Option (List ℕ)) (failed_writes : W → ℕ)
-    (prints : List ℕ → Result (List ℕ) Refusal → Type 0) (limit piece : ℕ) (source source' : S) (target target' : W) (answer : Result (Unit {0}) Refusal) : Type 0 where
+    (prints : List ℕ → Result (List ℕ) Refusal → Type 0) (limit piece : ℕ) (source source' : S) (target target' : W)
+    (answer : Result (Unit {0}) Refusal) : Type 0 where
   -- memory ran out
   run_ran_out : answer ≡ Err Memory → failed_reads source' ≡ failed_reads source → WritesNothing written failed_writes target target'
       → Runs left failed_reads written failed_writes prints limit piece source source' target target' answer
@@ -36,11 +39,13 @@ pub data Runs {S W : Type 0} (left : S → Option (List ℕ)) (failed_reads : S 
       → failed_reads source' ≡ counted (failed_reads source) → WritesNothing written failed_writes target target'
       → Runs left failed_reads written failed_writes prints limit piece source source' target target' answer
   -- reading stopped after the piece that brought a refusal
-  stopped : (refusal : Refusal) (before last : List ℕ) → answer ≡ Err refusal → IsUndecided limit before → Gave left failed_reads source source' (before ++ last)
+  stopped : (refusal : Refusal) (before last : List ℕ) → answer ≡ Err refusal → IsUndecided limit before
+      → Gave left failed_reads source source' (before ++ last)
       → IsRefusedFrom prints (before ++ last) refusal → length last ≤ piece → WritesNothing written failed_writes target target'
       → Runs left failed_reads written failed_writes prints limit piece source source' target target' answer
   -- the input was read to its end, and is refused
-  refused : (refusal : Refusal) (bytes : List ℕ) → answer ≡ Err refusal → IsUndecided limit bytes → Gave left failed_reads source source' bytes → IsAtEnd (left source')
+  refused : (refusal : Refusal) (bytes : List ℕ) → answer ≡ Err refusal → IsUndecided limit bytes → Gave left failed_reads source source' bytes
+      → IsAtEnd (left source')
       → prints bytes (Err refusal) → WritesNothing written failed_writes target target'
       → Runs left failed_reads written failed_writes prints limit piece source source' target target' answer
   -- a write failed, after the input was read to its end and a beginning of its text was written
@@ -71,7 +76,8 @@ RunsTask left failed_reads written failed_writes task context told piece =
 pub data ReadsIn {S R : Type 0} (left : S → Option (List ℕ)) (failed : S → ℕ) (context : Option (List ℕ)) (answers : List ℕ → Result R Refusal → Type 0)
     (limit piece : ℕ) (old new : S) (answer : Result R Refusal) : Type 0 where
   not_allowed : (AllowsContext context → ⊥) → answer ≡ Err BadContext → new ≡ old → ReadsIn left failed context answers limit piece old new answer
-  allowed : AllowsContext context → ReadsInput left failed answers limit piece [] old new answer → ReadsIn left failed context answers limit piece old new answer
+  allowed : AllowsContext context → ReadsInput left failed answers limit piece [] old new answer
+      → ReadsIn left failed context answers limit piece old new answer
 
 -- What beginning a parse does in this element, or of a document: memory runs out, where the element is allowed.
 abbrev pub BeginsIn : Told → Option (List ℕ) → Result Parser Refusal → Type 0

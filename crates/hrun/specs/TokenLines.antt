@@ -21,7 +21,9 @@ quoted_or_none (Some text) = quoted text
 -- the line of a token by itself
 abbrev pub line_of : Tok → Line
 line_of (Doctype name public system forced at) =
-    Words at (codes "doctype " ++ quoted_or_none name ++ codes " " ++ quoted_or_none public ++ codes " " ++ quoted_or_none system ++ (if forced then codes " quirks" else []))
+    Words at
+    (codes "doctype " ++ quoted_or_none name ++ codes " " ++ quoted_or_none public ++ codes " " ++ quoted_or_none system
+    ++ (if forced then codes " quirks" else []))
 line_of (Start name attrs closing at) = Words at (codes "start " ++ quoted name ++ flat_map attribute_words attrs ++ (if closing then codes " /" else []))
 line_of (End name at) = Words at (codes "end " ++ quoted name)
 line_of (Comment text at) = Words at (codes "comment " ++ quoted text)
