@@ -27,6 +27,30 @@ impl Case {
             refusal: member(alloc, &object, "stderr")?,
         })
     }
+
+    /// The case of a command that prints this text of an input, which is a document or stands in a context.
+    pub fn of(
+        alloc: Global,
+        command: &str,
+        context: Option<&str>,
+        input: &str,
+        text: &str,
+    ) -> Result<Case> {
+        let mut words = Vec::new(alloc);
+        words.push(String::from_str(alloc, "htmlp")?)?;
+        words.push(String::from_str(alloc, command)?)?;
+        if let Some(context) = context {
+            words.push(String::from_str(alloc, "--in")?)?;
+            words.push(String::from_str(alloc, context)?)?;
+        }
+        Ok(Case {
+            id: format!(in alloc; "{command} of {input:?}")?,
+            words,
+            input: String::from_str(alloc, input)?.into_bytes(),
+            text: String::from_str(alloc, text)?,
+            refusal: String::new(alloc),
+        })
+    }
 }
 
 /// The words, after the program's own name.

@@ -5,6 +5,7 @@ ghost use Rattle.std.specs.Prelude.{◌<◌, ◌≤◌};
 use crate::case::Case;
 use anyhow::{Result, bail};
 use charref::Table;
+use hbuild::Limits;
 use hmain::line::line;
 use hmarkup::Quirks;
 use hparse::Options;
@@ -26,7 +27,13 @@ pub fn check(alloc: Global, case: &Case) -> Result<bool> {
     };
     let table = core_table(alloc)?;
     let quirks = no_quirks(alloc)?;
-    let options = Options::new(&table, &quirks);
+    let Ok(limits) = Limits::new(said.nodes, said.open) else {
+        bail!("{}: limits out of their range", case.id);
+    };
+    let options = Options {
+        limits,
+        ..Options::new(&table, &quirks)
+    };
     for piece in PIECES {
         let command = Command {
             piece,
