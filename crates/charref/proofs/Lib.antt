@@ -1,6 +1,7 @@
 pub mod Keys
 pub mod Ranges
 pub mod Searching
+pub mod Indexing
 pub mod KeyTexts
 pub mod Members
 pub mod Core

@@ -89,6 +89,14 @@ range_rises table bytes low high sorted range = record {
 pub rises_later : (table : Entities) (low middle high depth : ℕ) → low ≤ middle → IsRising table low high depth → IsRising table middle high depth
 rises_later table low middle high depth h rising = record { at = λ j k e f p q from le to. rising.at j k e f p q (omega arith) le to }
 
+-- where the last is below a code, each is
+pub last_below : (table : Entities) (low high depth code : ℕ) (e : Entry) → IsRising table low high depth → low < high → slice_get table (high - 1) ≡ Some e → code_at e.key depth < code
+    → IsParted table low high high depth code
+last_below table low high depth code e rising open' got less = record {
+  below = λ k f p from to. let most : code_at f.key depth ≤ code_at e.key depth = rising.at k (high - 1) f e p got from (omega arith) (omega arith) in omega arith;
+  above = λ k f p from to. absurd (omega arith);
+}
+
 -- The keys that begin with one byte more.
 pub range_more : (table : Entities) (bytes : List ℕ) (byte low high from to : ℕ) → IsRange table bytes low high → low ≤ from → from ≤ to → to ≤ high
     → IsParted table low from high (length bytes) (byte + 1) → IsParted table from to high (length bytes) (byte + 2) → IsRange table (bytes ++ byte ∷ []) from to

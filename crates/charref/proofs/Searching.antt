@@ -1,7 +1,8 @@
 -- A search, byte by byte.
-use Rattle.std.proofs.Common.{arith, ◌≡◌, ℕ, ◌+◌, ◌-◌, ◌≤◌, ◌<◌, true, true≢false, nat_eq, cond, List, [], ◌∷◌, ◌++◌, length, slice_get, get_or, Option, Some, None, IfSome, refl, sym, ap, ◌∙◌, subst, length-append}
+use Rattle.std.proofs.Common.{arith, ◌≡◌, ℕ, ◌+◌, ◌-◌, ◌≤◌, ◌<◌, ◌==◌, true, false, true≢false, nat_eq, cond, List, [], ◌∷◌, ◌++◌, length, slice_get, get_or, Option, Some, None, IfSome, refl, sym, ap, ◌∙◌, subst, length-append}
 use Rattle.std.proofs.lemmas.List.{length-map}
 use Rattle.std.proofs.lemmas.Bool.{and_parts}
+use Rattle.std.proofs.lemmas.Bool.Decides.{nat_tests}
 use Rattle.std.proofs.lemmas.Option.{slice_get_within}
 use Rattle.std.specs.List.{starts_with, list_all}
 use Rattle.charref.specs.declared.entity.Entity.{Entity}
@@ -9,6 +10,7 @@ use Rattle.charref.specs.declared.search.Search.{Search}
 use Rattle.charref.specs.Reference.{Entry, Entities, longest, longer, is_key}
 use Rattle.charref.specs.Table.{entry, entries, best_entry, IsSortedTable, IsRange, IsRising, IsParted, IsOver, GoesOn, HasRead}
 use Rattle.charref.proofs.Keys.{whole, no_longer, begins_itself, longest-whole, longest-more, longest-over}
+use Rattle.charref.proofs.Naming.{is_key_of}
 use Rattle.charref.proofs.Ranges.{entry_at, range_rises, rises_later, range_more, range_over, only_first, within, inside, some_same}
 
 -- the empty text begins with no key
@@ -28,21 +30,47 @@ read_nothing table high sorted all = record {
   best = sym (longest-nothing table sorted.is_table.keys);
 }
 
--- One byte more, by the two places that part the range.
+-- Every key begins with the `&`, and no key is the `&` alone.
+begins_with_ampersand : (key : List ℕ) → is_key key ≡ true → (starts_with nat_eq key (38 ∷ []) ≡ true) × (starts_with nat_eq (38 ∷ []) key ≡ false)
+begins_with_ampersand [] is = absurd (true≢false (sym is))
+begins_with_ampersand (c ∷ []) is = absurd (true≢false (sym (and_parts _ _ is).1))
+begins_with_ampersand (c ∷ d ∷ ds) is =
+    let first : c ≡ 38 = (let test : (c == 38) ≡ true = (and_parts _ _ is).0 in grind (arith, nat_tests)) in
+    subst (λ x. (starts_with nat_eq (x ∷ d ∷ ds) (38 ∷ []) ≡ true) × (starts_with nat_eq (38 ∷ []) (x ∷ d ∷ ds) ≡ false)) (sym first) (refl, refl)
+
+longest-ampersand : (table : Entities) → list_all (λ e. is_key e.key) table ≡ true → longest table (38 ∷ []) ≡ None
+longest-ampersand [] keys = refl
+longest-ampersand (x ∷ xs) keys =
+    let test : starts_with nat_eq (38 ∷ []) x.key ≡ false = (begins_with_ampersand x.key (and_parts _ _ keys).0).1 in
+    rw test (longest-ampersand xs (and_parts _ _ keys).1)
+
+pub read_ampersand : (table : Entities) (high : ℕ) → IsSortedTable table → high ≡ length table → HasRead (record { depth = 1; low = 0; high = high; best = None }) table (38 ∷ [])
+read_ampersand table high sorted all = record {
+  depth = refl;
+  range = record {
+    ordered = omega arith;
+    within = omega arith;
+    exact = λ k e p. (begins_with_ampersand e.key (is_key_of table k e sorted.is_table p)).0 ∙ sym (inside 0 high k (omega arith) (let w : k < length table = slice_get_within table k e p in omega arith));
+  };
+  within = tt;
+  best = sym (longest-ampersand table sorted.is_table.keys);
+}
+
+-- The range of one byte more, by the two places that part the range.
+pub range_narrowed : (table : Entities) (search : Search) (bytes : List ℕ) (byte from to : ℕ) → IsSortedTable table → HasRead search table bytes
+    → search.low ≤ from → from ≤ to → to ≤ search.high
+    → (IsRising table search.low search.high search.depth → IsParted table search.low from search.high search.depth (byte + 1))
+    → (IsRising table from search.high search.depth → IsParted table from to search.high search.depth (byte + 1 + 1)) → IsRange table (bytes ++ byte ∷ []) from to
+range_narrowed table search bytes byte from to sorted was after ordered before first second =
+    let rising : IsRising table search.low search.high search.depth = subst (λ n. IsRising table search.low search.high n) (sym was.depth) (range_rises table bytes search.low search.high sorted was.range) in
+    let one : IsParted table search.low from search.high (length bytes) (byte + 1) = subst (λ n. IsParted table search.low from search.high n (byte + 1)) was.depth (first rising) in
+    let two : IsParted table from to search.high search.depth (byte + 1 + 1) = second (rises_later table search.low from search.high search.depth after rising) in
+    let next : byte + 1 + 1 ≡ byte + 2 = omega arith in
+    range_more table bytes byte search.low search.high from to was.range after ordered before one (subst (λ n. IsParted table from to search.high n (byte + 2)) was.depth (subst (λ n. IsParted table from to search.high search.depth n) next two))
+
+-- One byte more, by its range.
 module _ (table : Entities) (search : Search) (bytes : List ℕ) (byte from to : ℕ) (sorted : IsSortedTable table) (was : HasRead search table bytes)
-    (after : search.low ≤ from) (ordered : from ≤ to) (before : to ≤ search.high)
-    (first : IsRising table search.low search.high search.depth → IsParted table search.low from search.high search.depth (byte + 1))
-    (second : IsRising table from search.high search.depth → IsParted table from to search.high search.depth (byte + 1 + 1)) where
-  rising : IsRising table search.low search.high search.depth
-  rising = subst (λ n. IsRising table search.low search.high n) (sym was.depth) (range_rises table bytes search.low search.high sorted was.range)
-
-  range : IsRange table (bytes ++ byte ∷ []) from to
-  range =
-      let one : IsParted table search.low from search.high (length bytes) (byte + 1) = subst (λ n. IsParted table search.low from search.high n (byte + 1)) was.depth (first rising) in
-      let two : IsParted table from to search.high search.depth (byte + 1 + 1) = second (rises_later table search.low from search.high search.depth after rising) in
-      let next : byte + 1 + 1 ≡ byte + 2 = omega arith in
-      range_more table bytes byte search.low search.high from to was.range after ordered before one (subst (λ n. IsParted table from to search.high n (byte + 2)) was.depth (subst (λ n. IsParted table from to search.high search.depth n) next two))
-
+    (range : IsRange table (bytes ++ byte ∷ []) from to) where
   deeper : search.depth + 1 ≡ length (bytes ++ byte ∷ [])
   deeper = let more : length (bytes ++ byte ∷ []) ≡ length bytes + 1 = length-append bytes (byte ∷ []) in let was-depth : search.depth ≡ length bytes = was.depth in omega arith
 

@@ -43,6 +43,16 @@ pub record IsParted (table : Entities) (low middle high depth code : ℕ) : Type
   pub below : (k : ℕ) (e : Entry) → slice_get table k ≡ Some e → low ≤ k → k < middle → code_at e.key depth < code
   pub above : (k : ℕ) (e : Entry) → slice_get table k ≡ Some e → middle ≤ k → k < high → code ≤ code_at e.key depth
 
+-- the first place of a key whose byte after the `&` has at least this code
+pub record IsStart (table : Entities) (place code : ℕ) : Type 0 where
+  pub within : place ≤ length table
+  pub parted : IsParted table 0 place (length table) 1 code
+
+-- an index of a table: the starts of this many codes, from 0 on
+pub record IsIndex (table : Entities) (starts : List ℕ) (count : ℕ) : Type 0 where
+  pub size : length starts ≡ count
+  pub at : (code place : ℕ) → slice_get starts code ≡ Some place → IsStart table place code
+
 -- the entry that was found
 abbrev pub best_entry : Entities → Option ℕ → Option Entry
 best_entry table None = None

@@ -9,6 +9,7 @@ mod number;
 mod read;
 mod reference;
 mod search;
+mod starts;
 mod state;
 mod table;
 #[cfg(test)]

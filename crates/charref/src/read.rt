@@ -12,6 +12,7 @@ ghost use Rattle.std.specs.Map.{keys_of};
 ghost use Rattle.std.specs.String.{string_cmp};
 
 use crate::entity::Entity;
+use crate::starts::starts_of;
 use crate::table::Table;
 use names::{Refusal, TableFault};
 use serde_json::{Error, Map, Value};
@@ -158,6 +159,7 @@ impl Table {
             return Err(fault(TableFault::Shape));
         };
         let entities = entities_of(alloc, members)?;
-        Ok(Table { entities })
+        let starts = starts_of(alloc, &entities)?;
+        Ok(Table { entities, starts })
     }
 }

@@ -2,7 +2,7 @@
 
 ghost use Rattle.std.specs.Prelude.{◌≡◌, ◌↔◌, ℕ, ◌+◌, ◌-◌, ◌≤◌, ◌<◌, [], ◌∷◌, ◌++◌, List, true, false, None, length, IsTrue, IsNone, IfSome};
 ghost use Rattle.charref.specs.Reference.{longest};
-ghost use Rattle.charref.specs.Table.{entries, code_at, best_entry, IsSortedTable, IsRising, IsParted, IsOver, GoesOn, HasNone, HasRead, is_whole, is_search_within};
+ghost use Rattle.charref.specs.Table.{entries, code_at, best_entry, IsSortedTable, IsRange, IsRising, IsParted, IsIndex, IsOver, GoesOn, HasNone, HasRead, is_whole, is_search_within};
 
 use crate::entity::Entity;
 
@@ -27,7 +27,13 @@ fn code_at(key: &[u8], depth: usize) -> u16
 }
 
 /// Of the entities from `low` up to `high`, the first whose key has at least this code at `depth`, or `high`.
-fn first_from(entities: &[Entity], low: usize, high: usize, depth: usize, code: u16) -> usize
+pub(crate) fn first_from(
+    entities: &[Entity],
+    low: usize,
+    high: usize,
+    depth: usize,
+    code: u16,
+) -> usize
     requires ordered { low ≤ high }
     requires within { high ≤ length entities.now }
     ensures after { low ≤ result }
@@ -35,6 +41,12 @@ fn first_from(entities: &[Entity], low: usize, high: usize, depth: usize, code: 
     ensures parted { IsRising (entries entities.now) low high depth
         → IsParted (entries entities.now) low result high depth code }
 {
+    if low == high || code_at(&entities[low].key, depth) >= code {
+        return low;
+    }
+    if code_at(&entities[high - 1].key, depth) < code {
+        return high;
+    }
     low + entities[low..high].partition_point(|entity| code_at(&entity.key, depth) < code)
 }
 
@@ -55,11 +67,65 @@ impl Search {
         }
     }
 
+    /// A look-up that has read an `&`: every key begins with it, and no key is it alone.
+    pub(crate) fn after_ampersand(entities: &[Entity]) -> Search
+        requires sorted { IsSortedTable (entries entities.now) }
+        ensures read { HasRead result (entries entities.now) (38 ∷ []) }
+        ensures within { is_search_within result (length entities.now) ≡ true }
+    {
+        Search {
+            depth: 1,
+            low: 0,
+            high: entities.len(),
+            best: None,
+        }
+    }
+
+    /// The look-up that has read an `&` and this character, by the index, if some key may begin with them.
+    pub(crate) fn after_first(entities: &[Entity], starts: &[usize], ch: char) -> Option<Search>
+        requires sorted { IsSortedTable (entries entities.now) }
+        requires index { IsIndex (entries entities.now) starts.now 130 }
+        ensures within { IfSome result (λ next. is_search_within next (length entities.now) ≡ true) }
+        ensures read { IfSome result (λ next. HasRead next (entries entities.now) (38 ∷ ch ∷ [])) }
+        ensures none { IsNone result → HasNone (entries entities.now) (38 ∷ ch ∷ []) }
+    {
+        if !ch.is_ascii() {
+            return None;
+        }
+        let code = ch as usize + 1;
+        Some(Search::after_ampersand(entities).narrowed(entities, starts[code], starts[code + 1]))
+    }
+
     /// Whether no key begins with the bytes read.
     pub(crate) fn is_over(&self) -> bool
         ensures { IsTrue result ↔ (self.now.low ≡ self.now.high) }
     {
         self.low == self.high
+    }
+
+    /// The look-up that has read one more byte, where the keys that go on with it stand from `low` up to `high`.
+    fn narrowed(&self, entities: &[Entity], low: usize, high: usize) -> Search
+        requires sorted { IsSortedTable (entries entities.now) }
+        requires within { (low ≤ high) × (high ≤ length entities.now) }
+        requires room { self.now.depth < usize.MAX }
+        ensures read { (bytes : List ℕ) (byte : ℕ) → HasRead self.now (entries entities.now) bytes
+            → IsRange (entries entities.now) (bytes ++ byte ∷ []) low high → HasRead result (entries entities.now) (bytes ++ byte ∷ []) }
+        ensures within { (result.low ≡ low) × (result.high ≡ high) }
+        ensures depth { result.depth ≡ self.now.depth + 1 }
+        ensures best { IfSome self.now.best (λ k. k < length entities.now) → IfSome result.best (λ k. k < length entities.now) }
+    {
+        let depth = self.depth + 1;
+        let best = if low < high && entities[low].key.len() == depth {
+            Some(low)
+        } else {
+            self.best
+        };
+        Search {
+            depth,
+            low,
+            high,
+            best,
+        }
     }
 
     /// Reads one more byte.
@@ -76,18 +142,7 @@ impl Search {
         let code = u16::from(byte) + 1;
         let low = first_from(entities, self.low, self.high, self.depth, code);
         let high = first_from(entities, low, self.high, self.depth, code + 1);
-        let depth = self.depth + 1;
-        let best = if low < high && entities[low].key.len() == depth {
-            Some(low)
-        } else {
-            self.best
-        };
-        *self = Search {
-            depth,
-            low,
-            high,
-            best,
-        };
+        *self = self.narrowed(entities, low, high);
     }
 
     /// Whether some key begins with the bytes read and is longer: if any is, the last of the range is.

@@ -2,20 +2,23 @@
 
 ghost use Rattle.std.specs.Prelude.{◌≡◌, ◌↔◌, [], ◌∷◌, length, Some, None, IfOk, IfErr, IsTrue, Contains, MatchOption};
 ghost use Rattle.charref.specs.Reference.{Entry, Entities, IsTable, HasCore, core, longest};
-ghost use Rattle.charref.specs.Table.{entries, IsSortedTable};
+ghost use Rattle.charref.specs.Table.{entries, IsSortedTable, IsIndex};
 
 use crate::entity::Entity;
 use crate::search::search_for;
+use crate::starts::starts_of;
 use names::Refusal;
 use std::alloc::Global;
 use std::marker::Model;
 
 /// A table of named character references, sorted by the bytes of the keys, so that the keys with a common beginning are a
-/// range. A look-up narrows this range byte by byte, with two binary searches for each, until no key goes on with what was read.
-/// It allocates nothing.
+/// range. A look-up narrows this range byte by byte until no key goes on with what was read: all keys begin with the `&`, an
+/// index has the ranges of the bytes after it, and each further byte takes two binary searches. It allocates nothing.
 #[derive(Debug, Drop)]
 pub struct Table {
     pub(crate) entities: Vec<Entity>,
+    /// By the code of a byte after the `&`, the first entity whose key has at least this code there.
+    pub(crate) starts: Vec<usize>,
 }
 
 impl Model for Table {
@@ -23,7 +26,7 @@ impl Model for Table {
 
     ghost view = { λ table. entries table.entities.items };
 
-    ghost invariant = { λ table. IsSortedTable (entries table.entities.items) };
+    ghost invariant = { λ table. IsSortedTable (entries table.entities.items) × IsIndex (entries table.entities.items) table.starts.items 130 };
 }
 
 /// A key that a text begins with: its length in bytes, including the `&`, and the characters that it stands for.
@@ -45,7 +48,8 @@ impl Table {
         entities.push(Entity::new(alloc, b"&lt;", &['<'])?)?;
         entities.push(Entity::new(alloc, b"&nbsp;", &['\u{A0}'])?)?;
         entities.push(Entity::new(alloc, b"&quot;", &['"'])?)?;
-        Ok(Table { entities })
+        let starts = starts_of(alloc, &entities)?;
+        Ok(Table { entities, starts })
     }
 
     /// The longest key that this text, which starts at the `&`, begins with.

@@ -1,10 +1,10 @@
 //! The steps of a walk.
 
-ghost use Rattle.std.specs.Prelude.{◌≡◌, ◌+◌, [], ◌∷◌, ◌++◌, Bool, true, false, ◌&&◌, ℕ, List, length, IfSome, IsSome, ◌<◌, ◌≤◌};
+ghost use Rattle.std.specs.Prelude.{◌≡◌, ◌+◌, [], ◌∷◌, ◌++◌, Bool, true, false, ◌&&◌, ℕ, List, length, IfSome, IsSome, IsNone, ◌<◌, ◌≤◌};
 ghost use Rattle.names.specs.declared.placed.Placed.{Placed};
 ghost use Rattle.names.specs.Placed.{all, is_empty, is_alphanumeric};
 ghost use Rattle.charref.specs.Reference.{Entities, IsTable, longest, ends_in_semicolon};
-ghost use Rattle.charref.specs.Table.{best_entry, entries, is_search_within, is_whole, HasRead};
+ghost use Rattle.charref.specs.Table.{best_entry, entries, is_search_within, is_whole, HasRead, HasNone};
 ghost use Rattle.charref.specs.Held.{key_bytes, IsHeld, IsSign};
 ghost use Rattle.charref.specs.Last.{last_of, is_letter_or_digit, IsSettled};
 ghost use Rattle.charref.specs.Pieces.{IsRead, unknown_of, number_of};
@@ -27,12 +27,10 @@ impl<'t> Walk<'t> {
         ensures table { IsTable table.now }
         ensures taken { HasTaken result table.now in_value [] }
     {
-        let mut search = Search::new(&table.entities);
-        search.narrow(&table.entities, b'&');
         Walk {
             table,
             in_value,
-            state: State::Name(search),
+            state: State::Name(Search::after_ampersand(&table.entities)),
         }
     }
 
@@ -235,6 +233,22 @@ fn waits(in_value: bool, last: Last, search: Search, entities: &[Entity]) -> boo
     in_value && last.is_alphanumeric() && search.is_whole(entities)
 }
 
+/// The look-up after one more character, if some key may begin with it: right after the `&`, by the table's index.
+fn extended(table: &Table, search: Search, ch: char) -> Option<Search>
+    requires { is_search_within search (length table.now) ≡ true }
+    ensures within { IfSome result (λ next. is_search_within next (length table.now) ≡ true) }
+    ensures read { IfSome result (λ next. (bytes : List ℕ) → HasRead search table.now (38 ∷ bytes)
+        → HasRead next table.now (38 ∷ bytes ++ ch ∷ [])) }
+    ensures none { IsNone result → (bytes : List ℕ) → HasRead search table.now (38 ∷ bytes)
+        → HasNone table.now (38 ∷ bytes ++ ch ∷ []) }
+{
+    if search.depth == 1 {
+        Search::after_first(&table.entities, &table.starts, ch)
+    } else {
+        search.extended(&table.entities, ch)
+    }
+}
+
 /// After the beginning of a name (13.2.5.73).
 fn after_name<'t>(table: &'t Table, in_value: bool, search: Search, ch: char) -> Next<'t>
     requires { is_search_within search (length table.now) ≡ true }
@@ -246,7 +260,7 @@ fn after_name<'t>(table: &'t Table, in_value: bool, search: Search, ch: char) ->
     if search.depth == 1 && !last.is_alphanumeric() {
         return after_ampersand(ch);
     }
-    let Some(next) = search.extended(&table.entities, ch) else {
+    let Some(next) = extended(table, search, ch) else {
         return Next::Ended(decided(table, in_value, search.best, search.depth, last));
     };
     if next.goes_on(&table.entities) {

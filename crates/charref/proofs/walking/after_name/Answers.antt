@@ -1,6 +1,6 @@
 use Rattle.std.proofs.Common.{◌≡◌, [], ◌∷◌, ◌++◌, true, false, true≢false, ◌&&◌, refl, sym, ap, ◌∙◌, subst}
 use Rattle.std.proofs.lemmas.Bool.{and_parts}
-use Rattle.names.specs.Placed.{is_empty, is_alphanumeric}
+use Rattle.names.specs.Placed.{characters, is_empty, is_alphanumeric}
 use Rattle.charref.specs.Reference.{Entities, IsTable}
 use Rattle.charref.specs.Table.{entries, is_whole, HasRead, HasNone, IsOver, GoesOn}
 use Rattle.charref.specs.Held.{key_bytes, in_name}
@@ -19,10 +19,8 @@ returns-then-not-is_alphanumeric-clause-next c = λ text p read run is.
 pub returns-in_default-clause-next : goal.returns-in_default-clause-next
 returns-in_default-clause-next c = λ text p read run is after.
     let table : Entities = c.args.table.now in
-    let table-is : entries c.deref.result.now ≡ table = ap entries c.deref.ensures.value ∙ c.table.view_is in
-    let read' : HasRead c.args.search (entries c.deref.result.now) (key_bytes text) = subst (λ t. HasRead c.args.search t (key_bytes text)) (sym table-is) read in
-    let none : HasNone (entries c.deref.result.now) (key_bytes text ++ c.args.ch ∷ []) = c.in_default.ensures.none refl (key_bytes text) read' in
-    let none' : HasNone table (key_bytes text ++ p.ch ∷ []) = subst (λ x. HasNone table (key_bytes text ++ x ∷ [])) (sym is) (subst (λ t. HasNone t (key_bytes text ++ c.args.ch ∷ [])) table-is none) in
+    let none : HasNone table (key_bytes text ++ c.args.ch ∷ []) = c.in_default.ensures.none refl (characters text) read in
+    let none' : HasNone table (key_bytes text ++ p.ch ∷ []) = subst (λ x. HasNone table (key_bytes text ++ x ∷ [])) (sym is) none in
     let first : is_empty text ≡ true → is_alphanumeric p.ch ≡ true = something_read text (is_alphanumeric p.ch ≡ true) (λ one. elim c.else-search-eq1.branch [
       | else-search-eq1-via-then-search-eq1+else-not-is_alphanumeric w ↦ ap is_alphanumeric is ∙ sym (letter_of c.args.ch) ∙ ap is_letter_or_digit (sym c.of-last.ensures) ∙ sym w.is_alphanumeric.ensures ∙ w.if-not-is_alphanumeric.false
       | else-search-eq1-via-else-search-eq1 w ↦ absurd (w.if-search-eq1.false (read.depth ∙ one))
@@ -33,24 +31,22 @@ returns-in_default-clause-next c = λ text p read run is after.
 pub returns-then-goes_on-clause-next : goal.returns-then-goes_on-clause-next
 returns-then-goes_on-clause-next c = λ text p read run is.
     let table : Entities = c.args.table.now in
-    let table-is : entries c.deref.result.now ≡ table = ap entries c.deref.ensures.value ∙ c.table.view_is in
-    let other-is : entries c.deref-2.result.now ≡ table = ap entries c.deref-2.ensures.value ∙ c.table.view_is in
-    let is_table : IsTable table = subst IsTable c.table.view_is c.table.invariant.is_table in
-    let next : HasRead c.in-Some.next (entries c.deref.result.now) (key_bytes text ++ c.args.ch ∷ []) = c.in-Some.ensures.read (key_bytes text) (subst (λ t. HasRead c.args.search t (key_bytes text)) (sym table-is) read) in
+    let other-is : entries c.deref.result.now ≡ table = ap entries c.deref.ensures.value ∙ c.table.view_is in
+    let is_table : IsTable table = subst IsTable c.table.view_is c.table.invariant.0.is_table in
+    let next : HasRead c.in-Some.next table (key_bytes text ++ c.args.ch ∷ []) = c.in-Some.ensures.read (characters text) read in
     let bytes-are : key_bytes text ++ c.args.ch ∷ [] ≡ key_bytes (text ++ p ∷ []) = ap (λ x. key_bytes text ++ x ∷ []) (sym is) ∙ sym (key_bytes-more text p) in
-    let next' : HasRead c.in-Some.next table (key_bytes (text ++ p ∷ [])) = subst (λ bs. HasRead c.in-Some.next table bs) bytes-are (subst (λ t. HasRead c.in-Some.next t (key_bytes text ++ c.args.ch ∷ [])) table-is next) in
-    let goes : GoesOn (entries c.deref-2.result.now) (key_bytes (text ++ p ∷ [])) = c.goes_on.ensures.open (key_bytes (text ++ p ∷ [])) (subst (λ t. HasRead c.in-Some.next t (key_bytes (text ++ p ∷ []))) (sym other-is) next') c.if-goes_on.true in
+    let next' : HasRead c.in-Some.next table (key_bytes (text ++ p ∷ [])) = subst (λ bs. HasRead c.in-Some.next table bs) bytes-are next in
+    let goes : GoesOn (entries c.deref.result.now) (key_bytes (text ++ p ∷ [])) = c.goes_on.ensures.open (key_bytes (text ++ p ∷ [])) (subst (λ t. HasRead c.in-Some.next t (key_bytes (text ++ p ∷ []))) (sym other-is) next') c.if-goes_on.true in
     let goes' : GoesOn table (key_bytes (text ++ p ∷ [])) = subst (λ t. GoesOn t (key_bytes (text ++ p ∷ []))) other-is goes in
     in_name c.in-Some.next (text ++ p ∷ []) next' (front_of table (text ++ p ∷ []) is_table goes') (λ data-in some. goes')
 
 pub returns-then-waits-clause-next : goal.returns-then-waits-clause-next
 returns-then-waits-clause-next c = λ text p read run is.
     let table : Entities = c.args.table.now in
-    let table-is : entries c.deref.result.now ≡ table = ap entries c.deref.ensures.value ∙ c.table.view_is in
-    let next : HasRead c.in-Some.next (entries c.deref.result.now) (key_bytes text ++ c.args.ch ∷ []) = c.in-Some.ensures.read (key_bytes text) (subst (λ t. HasRead c.args.search t (key_bytes text)) (sym table-is) read) in
+    let next : HasRead c.in-Some.next table (key_bytes text ++ c.args.ch ∷ []) = c.in-Some.ensures.read (characters text) read in
     let bytes-are : key_bytes text ++ c.args.ch ∷ [] ≡ key_bytes (text ++ p ∷ []) = ap (λ x. key_bytes text ++ x ∷ []) (sym is) ∙ sym (key_bytes-more text p) in
-    let next' : HasRead c.in-Some.next table (key_bytes (text ++ p ∷ [])) = subst (λ bs. HasRead c.in-Some.next table bs) bytes-are (subst (λ t. HasRead c.in-Some.next t (key_bytes text ++ c.args.ch ∷ [])) table-is next) in
-    let parts : ((c.args.in_value && is_letter_or_digit c.of-last.result) ≡ true) × (is_whole (entries c.deref-3.result.now) c.in-Some.next ≡ true) = and_parts _ _ (sym c.waits.ensures ∙ c.if-waits.true) in
+    let next' : HasRead c.in-Some.next table (key_bytes (text ++ p ∷ [])) = subst (λ bs. HasRead c.in-Some.next table bs) bytes-are next in
+    let parts : ((c.args.in_value && is_letter_or_digit c.of-last.result) ≡ true) × (is_whole (entries c.deref-2.result.now) c.in-Some.next ≡ true) = and_parts _ _ (sym c.waits.ensures ∙ c.if-waits.true) in
     let more : (c.args.in_value ≡ true) × (is_letter_or_digit c.of-last.result ≡ true) = and_parts _ _ parts.0 in
     let letter : is_alphanumeric p.ch ≡ true = ap is_alphanumeric is ∙ sym (letter_of c.args.ch) ∙ ap is_letter_or_digit (sym c.of-last.ensures) ∙ more.1 in
     in_name c.in-Some.next (text ++ p ∷ []) next' (run_more text p run letter) (λ outside some. absurd (true≢false (sym more.0 ∙ outside)))
@@ -58,13 +54,12 @@ returns-then-waits-clause-next c = λ text p read run is.
 pub returns-clause-next : goal.returns-clause-next
 returns-clause-next c = λ text p read run is after.
     let table : Entities = c.args.table.now in
-    let table-is : entries c.deref.result.now ≡ table = ap entries c.deref.ensures.value ∙ c.table.view_is in
-    let other-is : entries c.deref-2.result.now ≡ table = ap entries c.deref-2.ensures.value ∙ c.table.view_is in
-    let third-is : entries c.deref-3.result.now ≡ table = ap entries c.deref-3.ensures.value ∙ c.table.view_is in
-    let is_table : IsTable table = subst IsTable c.table.view_is c.table.invariant.is_table in
-    let next : HasRead c.in-Some.next (entries c.deref.result.now) (key_bytes text ++ c.args.ch ∷ []) = c.in-Some.ensures.read (key_bytes text) (subst (λ t. HasRead c.args.search t (key_bytes text)) (sym table-is) read) in
-    let next' : HasRead c.in-Some.next table (key_bytes text ++ p.ch ∷ []) = subst (λ x. HasRead c.in-Some.next table (key_bytes text ++ x ∷ [])) (sym is) (subst (λ t. HasRead c.in-Some.next t (key_bytes text ++ c.args.ch ∷ [])) table-is next) in
-    let over : IsOver (entries c.deref-2.result.now) (key_bytes text ++ p.ch ∷ []) = c.goes_on.ensures.over (key_bytes text ++ p.ch ∷ []) (subst (λ t. HasRead c.in-Some.next t (key_bytes text ++ p.ch ∷ [])) (sym other-is) next') c.if-goes_on.false in
+    let other-is : entries c.deref.result.now ≡ table = ap entries c.deref.ensures.value ∙ c.table.view_is in
+    let third-is : entries c.deref-2.result.now ≡ table = ap entries c.deref-2.ensures.value ∙ c.table.view_is in
+    let is_table : IsTable table = subst IsTable c.table.view_is c.table.invariant.0.is_table in
+    let next : HasRead c.in-Some.next table (key_bytes text ++ c.args.ch ∷ []) = c.in-Some.ensures.read (characters text) read in
+    let next' : HasRead c.in-Some.next table (key_bytes text ++ p.ch ∷ []) = subst (λ x. HasRead c.in-Some.next table (key_bytes text ++ x ∷ [])) (sym is) next in
+    let over : IsOver (entries c.deref.result.now) (key_bytes text ++ p.ch ∷ []) = c.goes_on.ensures.over (key_bytes text ++ p.ch ∷ []) (subst (λ t. HasRead c.in-Some.next t (key_bytes text ++ p.ch ∷ [])) (sym other-is) next') c.if-goes_on.false in
     let over' : IsOver table (key_bytes text ++ p.ch ∷ []) = subst (λ t. IsOver t (key_bytes text ++ p.ch ∷ [])) other-is over in
     let letter : is_letter_or_digit c.of-last.result ≡ is_alphanumeric p.ch = ap is_letter_or_digit c.of-last.ensures ∙ letter_of c.args.ch ∙ ap is_alphanumeric (sym is) in
     let waits : (c.args.in_value && is_alphanumeric p.ch && is_whole table c.in-Some.next) ≡ false =

@@ -19,14 +19,14 @@ pub overflow_sub-len : goal.overflow_sub-len
 overflow_sub-len c =
     let d : Entity = c.index-entity.result.now in
     let got : best_entry c.args.table.now c.args.best ≡ Some (entry d) = best_found c.table.inside.entities.items c.args.table.now c.args.best c.in-Some.best d c.table.view_is c.in-Some.is c.requires c.index-entity.ensures in
-    let some : 1 ≤ length d.key.items = some_key c.args.table.now c.in-Some.best (entry d) (subst IsTable c.table.view_is c.table.invariant.is_table) (ap (best_entry c.args.table.now) (sym c.in-Some.is) ∙ got) in
+    let some : 1 ≤ length d.key.items = some_key c.args.table.now c.in-Some.best (entry d) (subst IsTable c.table.view_is c.table.invariant.0.is_table) (ap (best_entry c.args.table.now) (sym c.in-Some.is) ∙ got) in
     let size : c.len.result ≡ length d.key.items = c.len.ensures ∙ d.key.ok.0 in
     omega arith
 
 pub returns-then-is_kept : goal.returns-then-is_kept
 returns-then-is_kept c = λ front p after run first read last best settled.
     let d : Entity = c.index-entity.result.now in
-    let is_table : IsTable c.args.table.now = subst IsTable c.table.view_is c.table.invariant.is_table in
+    let is_table : IsTable c.args.table.now = subst IsTable c.table.view_is c.table.invariant.0.is_table in
     let got : best_entry c.args.table.now c.args.best ≡ Some (entry d) = best_found c.table.inside.entities.items c.args.table.now c.args.best c.in-Some.best d c.table.view_is c.in-Some.is c.requires c.index-entity.ensures in
     let found : longest c.args.table.now (key_bytes (front ++ p ∷ [])) ≡ Some (entry d) = sym best ∙ got in
     let size : c.len.result ≡ length d.key.items = c.len.ensures ∙ d.key.ok.0 in
@@ -41,7 +41,7 @@ returns-then-is_kept c = λ front p after run first read last best settled.
 pub returns : goal.returns
 returns c = λ front p after run first read last best settled.
     let d : Entity = c.index-entity.result.now in
-    let is_table : IsTable c.args.table.now = subst IsTable c.table.view_is c.table.invariant.is_table in
+    let is_table : IsTable c.args.table.now = subst IsTable c.table.view_is c.table.invariant.0.is_table in
     let got : best_entry c.args.table.now c.args.best ≡ Some (entry d) = best_found c.table.inside.entities.items c.args.table.now c.args.best c.in-Some.best d c.table.view_is c.in-Some.is c.requires c.index-entity.ensures in
     let found : longest c.args.table.now (key_bytes (front ++ p ∷ [])) ≡ Some (entry d) = sym best ∙ got in
     let size : c.len.result ≡ length d.key.items = c.len.ensures ∙ d.key.ok.0 in

@@ -1,0 +1,90 @@
+-- The index of the bytes after the `&`.
+use Rattle.std.proofs.Common.{arith, ◌≡◌, inl, inr, ℕ, ◌+◌, ◌≤◌, ◌<◌, Bool, true, false, nat_lt, List, [], ◌∷◌, ◌++◌, length, slice_get, get_or, Option, Some, None, IfSome, nat_le, refl, sym, ap, ◌∙◌, subst, length-append}
+use Rattle.std.proofs.lemmas.Bool.{and_from}
+use Rattle.std.proofs.lemmas.Bool.Decides.{nat_tests}
+use Rattle.std.proofs.lemmas.List.{length-map, get_or_append_left, get_or-append-add}
+use Rattle.std.proofs.lemmas.Option.{slice_get_within, slice_get_cases, slice_get-get_or, get_or_from_slice_get}
+use Rattle.charref.specs.declared.entity.Entity.{Entity}
+use Rattle.charref.specs.declared.search.Search.{Search}
+use Rattle.charref.specs.Reference.{Entities}
+use Rattle.charref.specs.Table.{entry, entries, code_at, IsSortedTable, IsRange, IsRising, IsParted, IsStart, IsIndex, HasRead, is_place, is_search_within}
+use Rattle.charref.proofs.Ranges.{range_rises, range_more}
+use Rattle.charref.proofs.Searching.{read_ampersand}
+
+pub no_starts : (table : Entities) → IsIndex table [] 0
+no_starts table = record { size = refl; at = λ code place got. absurd (cc) }
+
+-- one start more
+pub start_more : (table : Entities) (starts : List ℕ) (count place : ℕ) → IsIndex table starts count → IsStart table place count → IsIndex table (starts ++ place ∷ []) (count + 1)
+start_more table starts count place index start = record {
+  size = (let more : length (starts ++ place ∷ []) ≡ length starts + 1 = length-append starts (place ∷ []) in let was : length starts ≡ count = index.size in omega arith);
+  at = λ code other got. by code other got (nat_lt code count) refl;
+}
+  where
+    by : (code other : ℕ) → slice_get (starts ++ place ∷ []) code ≡ Some other → (b : Bool) → nat_lt code count ≡ b → IsStart table other code
+    by code other got true test =
+        let was : length starts ≡ count = index.size in
+        let less : code < length starts = grind (arith, nat_tests) in
+        let same : get_or starts code other ≡ other = sym (get_or_append_left starts (place ∷ []) other code less) ∙ get_or_from_slice_get (starts ++ place ∷ []) code other other got in
+        index.at code other (slice_get-get_or starts code other less ∙ ap Some same)
+    by code other got false test =
+        let was : length starts ≡ count = index.size in
+        let more : length (starts ++ place ∷ []) ≡ length starts + 1 = length-append starts (place ∷ []) in
+        let less : code < length (starts ++ place ∷ []) = slice_get_within (starts ++ place ∷ []) code other got in
+        let least : count ≤ code = grind (arith, nat_tests) in
+        let last : code ≡ length starts + 0 = omega arith in
+        let same : place ≡ other = sym (get_or-append-add starts (place ∷ []) 0 other) ∙ ap (λ n. get_or (starts ++ place ∷ []) n other) (sym last) ∙ get_or_from_slice_get (starts ++ place ∷ []) code other other got in
+        let code-is : count ≡ code = omega arith in
+        subst (λ n. IsStart table other n) code-is (subst (λ n. IsStart table n count) same start)
+
+-- a start, by the place that parts the whole table
+pub start_at : (es : List Entity) (high place code : ℕ) → IsSortedTable (entries es) → high ≡ length es → place ≤ high
+    → (IsRising (entries es) 0 high 1 → IsParted (entries es) 0 place high 1 code) → IsStart (entries es) place code
+start_at es high place code sorted all within parted =
+    let size : length es ≡ length (entries es) = sym (length-map es entry) in
+    let rising : IsRising (entries es) 0 (length (entries es)) 1 = range_rises (entries es) (38 ∷ []) 0 (length (entries es)) sorted (read_ampersand (entries es) (length (entries es)) sorted refl).range in
+    record {
+      within = omega arith;
+      parted = subst (λ n. IsParted (entries es) 0 place n 1 code) (all ∙ size) (parted (subst (λ n. IsRising (entries es) 0 n 1) (sym (all ∙ size)) rising));
+    }
+
+-- the starts of a byte's code and of the next are the range of the byte
+starts_ordered : (table : Entities) (code from to : ℕ) → IsStart table from code → IsStart table to (code + 1) → (b : Bool) → nat_lt to from ≡ b → from ≤ to
+starts_ordered table code from to first second false test = grind (arith, nat_tests)
+starts_ordered table code from to first second true test =
+    let less : to < from = grind (arith, nat_tests) in
+    let most : from ≤ length table = first.within in
+    elim (slice_get_cases table to).1 [
+      | inl some ↦ absurd (let below : code_at some.0.key 1 < code = first.parted.below to some.0 some.2 (omega arith) less in let above : code + 1 ≤ code_at some.0.key 1 = second.parted.above to some.0 some.2 (omega arith) (omega arith) in omega arith)
+      | inr none ↦ absurd (let past : length table ≤ to = none.0 in omega arith)
+    ]
+
+pub start_range : (table : Entities) (byte from to : ℕ) → IsSortedTable table → IsStart table from (byte + 1) → IsStart table to (byte + 2) → IsRange table (38 ∷ byte ∷ []) from to
+start_range table byte from to sorted first second =
+    let next : byte + 2 ≡ byte + 1 + 1 = omega arith in
+    let ordered : from ≤ to = starts_ordered table (byte + 1) from to first (subst (λ n. IsStart table to n) next second) (nat_lt to from) refl in
+    range_more table (38 ∷ []) byte 0 (length table) from to (read_ampersand table (length table) sorted refl).range (omega arith) ordered second.within first.parted
+    (record { below = λ k e p l h. second.parted.below k e p (omega arith) h; above = second.parted.above })
+
+-- what the index has of a character
+pub range_of : (es : List Entity) (starts : List ℕ) (byte : ℕ) → IsSortedTable (entries es) → IsIndex (entries es) starts 130 → byte < 128
+    → IsRange (entries es) (38 ∷ byte ∷ []) (get_or starts (byte + 1) 0) (get_or starts (byte + 1 + 1) 0)
+range_of es starts byte sorted index small =
+    let size : length starts ≡ 130 = index.size in
+    let next : byte + 1 + 1 ≡ byte + 2 = omega arith in
+    let first : IsStart (entries es) (get_or starts (byte + 1) 0) (byte + 1) = index.at (byte + 1) _ (slice_get-get_or starts (byte + 1) 0 (omega arith)) in
+    let second : IsStart (entries es) (get_or starts (byte + 1 + 1) 0) (byte + 1 + 1) = index.at (byte + 1 + 1) _ (slice_get-get_or starts (byte + 1 + 1) 0 (omega arith)) in
+    start_range (entries es) byte _ _ sorted first (subst (λ n. IsStart (entries es) (get_or starts (byte + 1 + 1) 0) n) next second)
+
+-- what has read something stays within the table
+place_within : (best : Option ℕ) (count : ℕ) → IfSome best (λ k. k < count) → is_place best count ≡ true
+place_within None count h = refl
+place_within (Some k) count h = grind (arith, nat_tests)
+
+pub search_within : (es : List Entity) (search : Search) (bytes : List ℕ) → HasRead search (entries es) bytes → is_search_within search (length es) ≡ true
+search_within es search bytes read =
+    let size : length (entries es) ≡ length es = length-map es entry in
+    let ordered : search.low ≤ search.high = read.range.ordered in
+    let within : search.high ≤ length (entries es) = read.range.within in
+    and_from _ _ (let a : nat_le search.low search.high ≡ true = grind (arith, nat_tests) in let b : nat_le search.high (length es) ≡ true = grind (arith, nat_tests) in rw (a, b) refl)
+    (place_within search.best (length es) (subst (λ n. IfSome search.best (λ k. k < n)) size read.within))
