@@ -177,7 +177,8 @@ TakesInTag table names body answer walk errors = MatchResult answer (λ ended. W
 
 -- .. where this text came before.
 abbrev pub StepsInTag : Entities → Texts → Texts → TagWalk → Placed → List ParseError → Result Bool Refusal → TagWalk → List ParseError → Type 0
-StepsInTag table before after old p errors answer new later = (body : List Placed) → IsInTag table before old body (p ∷ []) errors → TakesInTag table after (body ++ p ∷ []) answer new later
+StepsInTag table before after old p errors answer new later = (body : List Placed) → IsInTag table before old body (p ∷ []) errors
+    → TakesInTag table after (body ++ p ∷ []) answer new later
 
 -- This text is the front of a tag that the input's end cuts off, and these are its errors.
 pub record IsCutTag (table : Entities) (body : List Placed) (errors : List ParseError) : Type 0 where

@@ -47,7 +47,9 @@ pub record InRun (table : Entities) (walk : ValueWalk) (pieces : List Piece) (he
   pub held_is : held ≡ amp ∷ run
   pub is_amp : amp.ch ≡ 38
   pub is_run : all is_alphanumeric run ≡ true
-  pub unknown : (after : List Placed) → IsReference table true (run ++ after) (ampersand amp (error_if (begins (λ c. c == 59) (past is_alphanumeric after)) UnknownNamedCharacterReference amp.at))
+  pub unknown : (after : List Placed)
+      → IsReference table true (run ++ after) (ampersand amp
+      (error_if (begins (λ c. c == 59) (past is_alphanumeric after)) UnknownNamedCharacterReference amp.at))
   pub place_is : walk.place ≡ amp.at
   pub bytes : string_bytes walk.text ≡ value_bytes pieces ++ encode_utf8_all (38 ∷ characters run)
 
@@ -75,15 +77,18 @@ pub record IsWholeValue (table : Entities) (quoted : Bool) (walk : ValueWalk) (t
   pub bytes : string_bytes walk.text ≡ value_bytes pieces
 
 -- What taking a character does, and what the end of the value: they raise more errors.
-pub record TakesInValue (table : Entities) (quoted : Bool) (old : ValueWalk) (p : Placed) (errors : List ParseError) (new : ValueWalk) (later : List ParseError) : Type 0 where
+pub record TakesInValue (table : Entities) (quoted : Bool) (old : ValueWalk) (p : Placed) (errors : List ParseError) (new : ValueWalk)
+    (later : List ParseError) : Type 0 where
   pub more : List ParseError
   pub later_is : later ≡ errors ++ more
-  pub takes : (text : List Placed) (own : List ParseError) → IsInValue table quoted old text (p ∷ []) own → IsInValue table quoted new (text ++ p ∷ []) [] (own ++ more)
+  pub takes : (text : List Placed) (own : List ParseError) → IsInValue table quoted old text (p ∷ []) own
+      → IsInValue table quoted new (text ++ p ∷ []) [] (own ++ more)
 
 pub record EndsValue (old : ValueWalk) (errors : List ParseError) (new : ValueWalk) (later : List ParseError) : Type 0 where
   pub more : List ParseError
   pub later_is : later ≡ errors ++ more
-  pub ends : (table : Entities) (quoted : Bool) (text : List Placed) (own : List ParseError) → IsInValue table quoted old text [] own → IsWholeValue table quoted new text (own ++ more)
+  pub ends : (table : Entities) (quoted : Bool) (text : List Placed) (own : List ParseError) → IsInValue table quoted old text [] own
+      → IsWholeValue table quoted new text (own ++ more)
 
 -- the errors of a reference at this place, but for that of its run
 abbrev pub told : Reference → ℕ → List ParseError

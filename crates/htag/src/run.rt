@@ -30,7 +30,8 @@ impl<'t> TagWalk<'t> {
         requires plain { list_all is_plain_byte run.now ≡ true }
         requires within { at + length run.now ≤ MAX_INPUT }
         ensures few { IfOk result (λ count. count ≤ length run.now) }
-        ensures takes { (body : List Character) → IsInTag table.now names.old self.old body [] errors.old.items → TakesRun table.now names.new body at run.now result self.new errors.new.items }
+        ensures takes { (body : List Character) → IsInTag table.now names.old self.old body [] errors.old.items
+            → TakesRun table.now names.new body at run.now result self.new errors.new.items }
         ensures grows { Grows names.old names.new }
         ensures kind { OnOk result (self.new.kind ≡ self.old.kind) }
     {
@@ -57,7 +58,8 @@ impl<'t> TagWalk<'t> {
         requires plain { list_all is_plain_byte run.now ≡ true }
         requires within { at + length run.now ≤ MAX_INPUT }
         ensures few { IfOk result (λ count. count ≤ length run.now) }
-        ensures takes { (body : List Character) → IsInTag table.now names.old self.old body [] errors.old.items → TakesRun table.now names.new body at run.now result self.new errors.new.items }
+        ensures takes { (body : List Character) → IsInTag table.now names.old self.old body [] errors.old.items
+            → TakesRun table.now names.new body at run.now result self.new errors.new.items }
         ensures grows { Grows names.old names.new }
         ensures kind { OnOk result (self.new.kind ≡ self.old.kind) }
     {

@@ -31,7 +31,8 @@ impl Seen {
     /// Adds a name, and tells whether the tag had none of this number.
     pub fn add(&mut self, number: usize) -> Result<bool, AllocError>
         requires { number < 2 ^ 63 }
-        ensures { IfOk result (λ first. (numbers : List ℕ) → HasSeen self.old numbers → (first ≡ not (has_number number numbers)) × HasSeen self.new (number ∷ numbers)) }
+        ensures { IfOk result (λ first. (numbers : List ℕ) → HasSeen self.old numbers
+            → (first ≡ not (has_number number numbers)) × HasSeen self.new (number ∷ numbers)) }
     {
         if number < self.stamps.len() {
             let first = self.stamps[number] != self.tag;

@@ -66,7 +66,8 @@ impl<'t> TagWalk<'t> {
     /// Begins a tag with the first letter of its name.
     pub fn begin(&mut self, kind: TagKind, ch: char) -> Result<(), AllocError>
         ensures kind { OnOk result (self.new.kind ≡ kind) }
-        ensures begun { OnOk result ((table : Entities) (names : Texts) (p : Character) → p.ch ≡ ch → is_letter ch ≡ true → IsInTag table names self.new (p ∷ []) [] []) }
+        ensures begun { OnOk result ((table : Entities) (names : Texts) (p : Character) → p.ch ≡ ch → is_letter ch ≡ true
+            → IsInTag table names self.new (p ∷ []) [] []) }
     {
         self.name.clear();
         push_lowered(&mut self.name, ch)?;
@@ -182,6 +183,8 @@ impl<'t> TagWalk<'t> {
     pub fn take_attributes(&mut self) -> Vec<Attr>
         ensures attributes { result.items ≡ self.old.attrs.items }
         ensures name { self.new.name ≡ self.old.name }
+        ensures any { self.new.any ≡ self.old.any }
+        ensures closing { self.new.closing ≡ self.old.closing }
     {
         mem::replace(&mut self.attrs, Vec::new(self.alloc))
     }
