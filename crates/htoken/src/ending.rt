@@ -34,7 +34,8 @@ impl<'t> Tokenizer<'t> {
         end: u64,
         sink: &mut S,
     ) -> Result<(), Refusal>
-        ensures finishes { (table : Entities) (start : Kind) (before : Texts) (text : List Character) (taken : List Event) → Grows before names.old → HasTaken table start self.old before text taken
+        ensures finishes { (table : Entities) (start : Kind) (before : Texts) (text : List Character) (taken : List Event) → Grows before names.old
+            → HasTaken table start self.old before text taken
             → Finishes (gives_item S.gives S.gives_token) table start end text taken names.new sink.old result sink.new }
         ensures grows { Grows names.old names.new }
     {
@@ -49,7 +50,8 @@ impl<'t> Tokenizer<'t> {
         end: u64,
         sink: &mut S,
     ) -> Result<(), Refusal>
-        ensures ends { (table : Entities) (start : Kind) (before : Texts) (text : List Character) (taken : List Event) → Grows before names.old → HasTaken table start self.old before text taken
+        ensures ends { (table : Entities) (start : Kind) (before : Texts) (text : List Character) (taken : List Event) → Grows before names.old
+            → HasTaken table start self.old before text taken
             → EndsHeld (gives_item S.gives S.gives_token) table start end text taken names.new sink.old result self.new sink.new }
         ensures grows { Grows names.old names.new }
     {
@@ -70,14 +72,16 @@ impl<'t> Tokenizer<'t> {
 
     /// A `<` right before the end is text (13.2.5.6).
     fn end_less<S: TokenSink>(&self, end: u64, sink: &mut S) -> Result<(), Refusal>
-        ensures { (names : Texts) → HandsEvents (gives_item S.gives S.gives_token) names sink.old (events_of (less_span (less self.now) (error EofBeforeTagName end))) result sink.new }
+        ensures { (names : Texts) → HandsEvents (gives_item S.gives S.gives_token) names sink.old
+            (events_of (less_span (less self.now) (error EofBeforeTagName end))) result sink.new }
     {
         give_faulty(ErrorCode::EofBeforeTagName, end, '<', self.at, sink)
     }
 
     /// .. and so is a `</` (13.2.5.7).
     fn end_solidus<S: TokenSink>(&self, at: u64, end: u64, sink: &mut S) -> Result<(), Refusal>
-        ensures { (names : Texts) → HandsEvents (gives_item S.gives S.gives_token) names sink.old (events_of (less_span (less self.now) (error EofBeforeTagName end)) ++ events_of (character_span (record { ch = 47; at = at }))) result sink.new }
+        ensures { (names : Texts) → HandsEvents (gives_item S.gives S.gives_token) names sink.old
+            (events_of (less_span (less self.now) (error EofBeforeTagName end)) ++ events_of (character_span (record { ch = 47; at = at }))) result sink.new }
     {
         give_faulty(ErrorCode::EofBeforeTagName, end, '<', self.at, sink)?;
         give('/', at, sink)
@@ -92,7 +96,8 @@ impl<'t> Tokenizer<'t> {
         sink: &mut S,
     ) -> Result<(), Refusal>
         requires { self.old.state ≡ State.Declaration bang so }
-        ensures { (table : Entities) (start : Kind) (names : Texts) (text : List Character) (taken : List Event) → Reads table start self.old names text [] taken
+        ensures { (table : Entities) (start : Kind) (names : Texts) (text : List Character) (taken : List Event)
+            → Reads table start self.old names text [] taken
             → EndsHeld (gives_item S.gives S.gives_token) table start end text taken names sink.old result self.new sink.new }
     {
         self.begin_held(ErrorCode::IncorrectlyOpenedComment, end)?;
@@ -103,7 +108,8 @@ impl<'t> Tokenizer<'t> {
     /// A comment ends where the input does.
     fn end_in_comment<S: TokenSink>(&mut self, end: u64, sink: &mut S) -> Result<(), Refusal>
         requires { self.old.state ≡ State.Comment }
-        ensures { (table : Entities) (start : Kind) (names : Texts) (text : List Character) (taken : List Event) → Reads table start self.old names text [] taken
+        ensures { (table : Entities) (start : Kind) (names : Texts) (text : List Character) (taken : List Event)
+            → Reads table start self.old names text [] taken
             → EndsHeld (gives_item S.gives S.gives_token) table start end text taken names sink.old result self.new sink.new }
     {
         self.comment.end(end, &mut self.raised)?;
@@ -113,7 +119,8 @@ impl<'t> Tokenizer<'t> {
     /// A doctype ends where the input does.
     fn end_in_doctype<S: TokenSink>(&mut self, end: u64, sink: &mut S) -> Result<(), Refusal>
         requires { self.old.state ≡ State.Doctype }
-        ensures { (table : Entities) (start : Kind) (names : Texts) (text : List Character) (taken : List Event) → Reads table start self.old names text [] taken
+        ensures { (table : Entities) (start : Kind) (names : Texts) (text : List Character) (taken : List Event)
+            → Reads table start self.old names text [] taken
             → EndsHeld (gives_item S.gives S.gives_token) table start end text taken names sink.old result self.new sink.new }
     {
         self.doctype.end(end, &mut self.raised)?;
@@ -123,7 +130,8 @@ impl<'t> Tokenizer<'t> {
     /// A reference ends where the input does; what does not belong to it is text.
     fn end_in_reference<S: TokenSink>(&mut self, sink: &mut S) -> Result<(), Refusal>
         requires { self.old.state ≡ State.Reference }
-        ensures { (table : Entities) (start : Kind) (names : Texts) (end : ℕ) (text : List Character) (taken : List Event) → Reads table start self.old names text [] taken
+        ensures { (table : Entities) (start : Kind) (names : Texts) (end : ℕ) (text : List Character) (taken : List Event)
+            → Reads table start self.old names text [] taken
             → EndsHeld (gives_item S.gives S.gives_token) table start end text taken names sink.old result self.new sink.new }
     {
         let found = self.reference.end();
@@ -137,7 +145,8 @@ impl<'t> Tokenizer<'t> {
         end: u64,
         sink: &mut S,
     ) -> Result<(), Refusal>
-        ensures cuts { (table : Entities) (body : List Character) → IsInTag table names.old self.old.tag body [] self.old.raised.errors.items → CutsOff (gives_item S.gives S.gives_token) table body end sink.old result self.new sink.new }
+        ensures cuts { (table : Entities) (body : List Character) → IsInTag table names.old self.old.tag body [] self.old.raised.errors.items
+            → CutsOff (gives_item S.gives S.gives_token) table body end sink.old result self.new sink.new }
         ensures grows { Grows names.old names.new }
     {
         self.kind = RawKind::None;
@@ -152,7 +161,8 @@ impl<'t> Tokenizer<'t> {
     /// A `<` of raw text right before the end is text.
     fn end_raw_less<S: TokenSink>(&mut self, sink: &mut S) -> Result<(), Refusal>
         ensures then { self.new ≡ record self.old { script = self.new.script } }
-        ensures follows { (at : ℕ) (front : List Character) → is_script self.old.kind ≡ true → HasFront self.old.script front → HasFront self.new.script (record { ch = 60; at = at } ∷ front) }
+        ensures follows { (at : ℕ) (front : List Character) → is_script self.old.kind ≡ true → HasFront self.old.script front
+            → HasFront self.new.script (record { ch = 60; at = at } ∷ front) }
         ensures handed { (names : Texts) → HandsEvents (gives_item S.gives S.gives_token) names sink.old (run_events (less self.old ∷ [])) result sink.new }
     {
         let less = self.at;
@@ -162,7 +172,8 @@ impl<'t> Tokenizer<'t> {
 
     /// Hands over the end, and before it the error of a script that it cuts off in comment-like text.
     fn give_end<S: TokenSink>(&mut self, end: u64, sink: &mut S) -> Result<(), Refusal>
-        ensures { (names : Texts) → HandsEvents (gives_item S.gives S.gives_token) names sink.old (map Reports (script_errors end self.old) ++ Gives (Eof end) ∷ []) result sink.new }
+        ensures { (names : Texts) → HandsEvents (gives_item S.gives S.gives_token) names sink.old
+            (map Reports (script_errors end self.old) ++ Gives (Eof end) ∷ []) result sink.new }
     {
         if self.is_cut_off() {
             sink.take_error(ParseError {

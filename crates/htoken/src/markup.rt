@@ -31,7 +31,8 @@ impl<'t> Tokenizer<'t> {
         sink: &mut S,
     ) -> Result<(), Refusal>
         requires { self.old.state ≡ State.Declaration bang so }
-        ensures { (table : Entities) (start : Kind) (names : Texts) (text : List Character) (taken : List Event) → Reads table start self.old names text (record { ch = ch; at = at } ∷ []) taken
+        ensures { (table : Entities) (start : Kind) (names : Texts) (text : List Character) (taken : List Event)
+            → Reads table start self.old names text (record { ch = ch; at = at } ∷ []) taken
             → Takes (gives_item S.gives S.gives_token) table start text (record { ch = ch; at = at } ∷ []) taken names sink.old result sink.new self.new }
     {
         match so.after(self.held_count(), ch) {
@@ -63,7 +64,8 @@ impl<'t> Tokenizer<'t> {
 
     /// Begins what is read as a comment with the characters that are held after `<!`. The error stands at the first of them, or here.
     pub(crate) fn begin_held(&mut self, code: ErrorCode, at: u64) -> Result<(), Refusal>
-        ensures { MatchResult result (λ _. BeginsBogus self.old self.old.held.items (error code (place at self.old.held.items)) self.new) (λ refusal. refusal ≡ Refusal.Memory) }
+        ensures { MatchResult result (λ _. BeginsBogus self.old self.old.held.items (error code (place at self.old.held.items)) self.new)
+            (λ refusal. refusal ≡ Refusal.Memory) }
     {
         if !is_plain_text(&self.held) {
             return Err(Refusal::Memory);
@@ -110,7 +112,8 @@ impl<'t> Tokenizer<'t> {
         sink: &mut S,
     ) -> Result<(), Refusal>
         requires { self.old.state ≡ State.Comment }
-        ensures { (table : Entities) (start : Kind) (names : Texts) (text : List Character) (taken : List Event) → Reads table start self.old names text (record { ch = ch; at = at } ∷ []) taken
+        ensures { (table : Entities) (start : Kind) (names : Texts) (text : List Character) (taken : List Event)
+            → Reads table start self.old names text (record { ch = ch; at = at } ∷ []) taken
             → Takes (gives_item S.gives S.gives_token) table start text (record { ch = ch; at = at } ∷ []) taken names sink.old result sink.new self.new }
     {
         if self.comment.take_char(ch, at, &mut self.raised)? {
@@ -122,7 +125,8 @@ impl<'t> Tokenizer<'t> {
 
     /// Hands over the comment that has ended.
     pub(crate) fn end_comment<S: TokenSink>(&mut self, sink: &mut S) -> Result<(), Refusal>
-        ensures { GivesSpan (gives_item S.gives S.gives_token) (λ names token. TokenMeans names token (Comment self.old.comment.data self.old.at)) self.old sink.old result self.new sink.new }
+        ensures { GivesSpan (gives_item S.gives S.gives_token) (λ names token. TokenMeans names token (Comment self.old.comment.data self.old.at)) self.old
+            sink.old result self.new sink.new }
     {
         let walk = mem::replace(&mut self.comment, CommentWalk::bogus(self.alloc));
         let text = walk.into_data();
@@ -138,7 +142,8 @@ impl<'t> Tokenizer<'t> {
         sink: &mut S,
     ) -> Result<(), Refusal>
         requires { self.old.state ≡ State.Doctype }
-        ensures { (table : Entities) (start : Kind) (names : Texts) (text : List Character) (taken : List Event) → Reads table start self.old names text (record { ch = ch; at = at } ∷ []) taken
+        ensures { (table : Entities) (start : Kind) (names : Texts) (text : List Character) (taken : List Event)
+            → Reads table start self.old names text (record { ch = ch; at = at } ∷ []) taken
             → Takes (gives_item S.gives S.gives_token) table start text (record { ch = ch; at = at } ∷ []) taken names sink.old result sink.new self.new }
     {
         if self.doctype.take_char(ch, at, &mut self.raised)? {
@@ -150,7 +155,8 @@ impl<'t> Tokenizer<'t> {
 
     /// Hands over the doctype that has ended.
     pub(crate) fn end_doctype<S: TokenSink>(&mut self, sink: &mut S) -> Result<(), Refusal>
-        ensures { GivesSpan (gives_item S.gives S.gives_token) (λ names token. TokenMeans names token (doctype_token self.old.doctype.found self.old.at)) self.old sink.old result self.new sink.new }
+        ensures { GivesSpan (gives_item S.gives S.gives_token) (λ names token. TokenMeans names token (doctype_token self.old.doctype.found self.old.at))
+            self.old sink.old result self.new sink.new }
     {
         let walk = mem::replace(&mut self.doctype, DoctypeWalk::new(self.alloc));
         let doctype = walk.into_doctype();

@@ -30,7 +30,8 @@ impl<'t> Tokenizer<'t> {
         sink: &mut S,
     ) -> Result<(), Refusal>
         requires { self.old.state ≡ State.RawLess }
-        ensures { (table : Entities) (start : Kind) (names : Texts) (text : List Character) (taken : List Event) → Reads table start self.old names text (record { ch = ch; at = at } ∷ []) taken
+        ensures { (table : Entities) (start : Kind) (names : Texts) (text : List Character) (taken : List Event)
+            → Reads table start self.old names text (record { ch = ch; at = at } ∷ []) taken
             → Takes (gives_item S.gives S.gives_token) table start text (record { ch = ch; at = at } ∷ []) taken names sink.old result sink.new self.new }
     {
         if ch == '/' {
@@ -55,7 +56,8 @@ impl<'t> Tokenizer<'t> {
         sink: &mut S,
     ) -> Result<(), Refusal>
         requires { self.old.state ≡ State.RawName solidus }
-        ensures takes { (table : Entities) (start : Kind) (before : Texts) (text : List Character) (taken : List Event) → Grows before names.old → Reads table start self.old before text (record { ch = ch; at = at } ∷ []) taken
+        ensures takes { (table : Entities) (start : Kind) (before : Texts) (text : List Character) (taken : List Event) → Grows before names.old
+            → Reads table start self.old before text (record { ch = ch; at = at } ∷ []) taken
             → Takes (gives_item S.gives S.gives_token) table start text (record { ch = ch; at = at } ∷ []) taken names.new sink.old result sink.new self.new }
         ensures grows { Grows names.old names.new }
     {
@@ -108,9 +110,11 @@ impl<'t> Tokenizer<'t> {
         solidus: u64,
         sink: &mut S,
     ) -> Result<(), Refusal>
-        ensures handed { (names : Texts) → HandsEvents (gives_item S.gives S.gives_token) names sink.old (run_events (held_in_raw solidus self.old)) result sink.new }
+        ensures handed { (names : Texts) → HandsEvents (gives_item S.gives S.gives_token) names sink.old (run_events (held_in_raw solidus self.old)) result
+            sink.new }
         ensures then { self.new ≡ record self.old { state = State.Text; script = self.new.script } }
-        ensures follows { (front : List Character) → is_script self.old.kind ≡ true → HasFront self.old.script front → HasFront self.new.script (backwards front (held_in_raw solidus self.old)) }
+        ensures follows { (front : List Character) → is_script self.old.kind ≡ true → HasFront self.old.script front
+            → HasFront self.new.script (backwards front (held_in_raw solidus self.old)) }
     {
         self.state = State::Text;
         self.script = self.script.after('<').after('/').after_all(&self.held);

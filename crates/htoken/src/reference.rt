@@ -38,7 +38,8 @@ impl<'t> Tokenizer<'t> {
         sink: &mut S,
     ) -> Result<(), Refusal>
         requires { self.old.state ≡ State.Reference }
-        ensures { (table : Entities) (start : Kind) (names : Texts) (text : List Character) (taken : List Event) → Reads table start self.old names text (record { ch = ch; at = at } ∷ []) taken
+        ensures { (table : Entities) (start : Kind) (names : Texts) (text : List Character) (taken : List Event)
+            → Reads table start self.old names text (record { ch = ch; at = at } ∷ []) taken
             → Takes (gives_item S.gives S.gives_token) table start text (record { ch = ch; at = at } ∷ []) taken names sink.old result sink.new self.new }
     {
         match self.reference.take(ch) {
@@ -59,8 +60,10 @@ impl<'t> Tokenizer<'t> {
         sink: &mut S,
     ) -> Result<(), Refusal>
         requires { self.old.state ≡ State.Reference }
-        ensures { (table : Entities) (start : Kind) (names : Texts) (text : List Character) (taken : List Event) → ((after : List Character) → IsRead table false (self.old.held.items ++ record { ch = ch; at = at } ∷ []) after found.now)
-            → Reads table start self.old names text (record { ch = ch; at = at } ∷ []) taken → Takes (gives_item S.gives S.gives_token) table start text (record { ch = ch; at = at } ∷ []) taken names sink.old result sink.new self.new }
+        ensures { (table : Entities) (start : Kind) (names : Texts) (text : List Character) (taken : List Event)
+            → ((after : List Character) → IsRead table false (self.old.held.items ++ record { ch = ch; at = at } ∷ []) after found.now)
+            → Reads table start self.old names text (record { ch = ch; at = at } ∷ []) taken
+            → Takes (gives_item S.gives S.gives_token) table start text (record { ch = ch; at = at } ∷ []) taken names sink.old result sink.new self.new }
     {
         if found.in_run {
             return self.end_in_run(found, ch, at, sink);
@@ -94,7 +97,8 @@ impl<'t> Tokenizer<'t> {
         count: usize,
         sink: &mut S,
     ) -> Result<(), Refusal>
-        ensures { (names : Texts) → HandsEvents (gives_item S.gives S.gives_token) names sink.old (read_events found.now self.now.at self.now.held.items count) result sink.new }
+        ensures { (names : Texts) → HandsEvents (gives_item S.gives S.gives_token) names sink.old (read_events found.now self.now.at self.now.held.items count)
+            result sink.new }
     {
         give_piece(found, self.at, sink)?;
         give_all(after_first(&self.held, count), sink)
@@ -110,8 +114,10 @@ impl<'t> Tokenizer<'t> {
     ) -> Result<(), Refusal>
         requires state { self.old.state ≡ State.Reference }
         requires run { found.now.in_run ≡ true }
-        ensures { (table : Entities) (start : Kind) (names : Texts) (text : List Character) (taken : List Event) → ((after : List Character) → IsRead table false (self.old.held.items ++ record { ch = ch; at = at } ∷ []) after found.now)
-            → Reads table start self.old names text (record { ch = ch; at = at } ∷ []) taken → Takes (gives_item S.gives S.gives_token) table start text (record { ch = ch; at = at } ∷ []) taken names sink.old result sink.new self.new }
+        ensures { (table : Entities) (start : Kind) (names : Texts) (text : List Character) (taken : List Event)
+            → ((after : List Character) → IsRead table false (self.old.held.items ++ record { ch = ch; at = at } ∷ []) after found.now)
+            → Reads table start self.old names text (record { ch = ch; at = at } ∷ []) taken
+            → Takes (gives_item S.gives S.gives_token) table start text (record { ch = ch; at = at } ∷ []) taken names sink.old result sink.new self.new }
     {
         if found.left == 0 || !ch.is_ascii_alphanumeric() {
             return Err(Refusal::Memory);
@@ -131,7 +137,8 @@ impl<'t> Tokenizer<'t> {
         sink: &mut S,
     ) -> Result<(), Refusal>
         requires { self.old.state ≡ State.Run amp }
-        ensures { (table : Entities) (start : Kind) (names : Texts) (text : List Character) (taken : List Event) → IsInRun table start self.old names text (record { ch = ch; at = at } ∷ []) taken
+        ensures { (table : Entities) (start : Kind) (names : Texts) (text : List Character) (taken : List Event)
+            → IsInRun table start self.old names text (record { ch = ch; at = at } ∷ []) taken
             → Takes (gives_item S.gives S.gives_token) table start text (record { ch = ch; at = at } ∷ []) taken names sink.old result sink.new self.new }
     {
         if ch.is_ascii_alphanumeric() {

@@ -47,7 +47,8 @@ impl<'t> Tokenizer<'t> {
     ) -> Result<(), Refusal>
         requires plain { list_all is_plain_byte run.now ≡ true }
         requires within { place + length run.now ≤ MAX_INPUT }
-        ensures takes { (table : Entities) (start : Kind) (before : Texts) (text : List Character) (taken : List Event) → Grows before names.old → HasTaken table start self.old before text taken
+        ensures takes { (table : Entities) (start : Kind) (before : Texts) (text : List Character) (taken : List Event) → Grows before names.old
+            → HasTaken table start self.old before text taken
             → Takes (gives_item S.gives S.gives_token) table start text (placed place run.now) taken names.new sink.old result sink.new self.new }
         ensures grows { Grows names.old names.new }
 
@@ -75,7 +76,8 @@ impl<'t> Tokenizer<'t> {
     ) -> Result<(), Refusal>
         requires plain { list_all is_plain_byte run.now ≡ true }
         requires within { place + length run.now ≤ MAX_INPUT }
-        ensures takes { (table : Entities) (start : Kind) (before : Texts) (text : List Character) (taken : List Event) → Grows before names.old → HasTaken table start self.old before text taken
+        ensures takes { (table : Entities) (start : Kind) (before : Texts) (text : List Character) (taken : List Event) → Grows before names.old
+            → HasTaken table start self.old before text taken
             → Takes (gives_item S.gives S.gives_token) table start text (placed place run.now) taken names.new sink.old result sink.new self.new }
         ensures grows { Grows names.old names.new }
     {
@@ -98,7 +100,8 @@ impl<'t> Tokenizer<'t> {
         requires some { 0 < length run.now }
         requires plain { list_all is_plain_byte run.now ≡ true }
         requires within { at + length run.now ≤ MAX_INPUT }
-        ensures takes { (table : Entities) (start : Kind) (before : Texts) (text : List Character) (taken : List Event) → Grows before names.old → HasTaken table start self.old before text taken
+        ensures takes { (table : Entities) (start : Kind) (before : Texts) (text : List Character) (taken : List Event) → Grows before names.old
+            → HasTaken table start self.old before text taken
             → TakesFront (gives_item S.gives S.gives_token) table start text at run.now taken names.new sink.old result sink.new self.new }
         ensures few { IfOk result (λ count. (0 < count) × (count ≤ length run.now)) }
         ensures grows { Grows names.old names.new }
@@ -121,7 +124,8 @@ impl<'t> Tokenizer<'t> {
     ) -> Result<usize, Refusal>
         requires some { 0 < length run.now }
         requires plain { list_all is_plain_byte run.now ≡ true }
-        ensures takes { (table : Entities) (start : Kind) (before : Texts) (text : List Character) (taken : List Event) → Grows before names.old → HasTaken table start self.old before text taken
+        ensures takes { (table : Entities) (start : Kind) (before : Texts) (text : List Character) (taken : List Event) → Grows before names.old
+            → HasTaken table start self.old before text taken
             → TakesFront (gives_item S.gives S.gives_token) table start text at run.now taken names.new sink.old result sink.new self.new }
         ensures one { IfOk result (λ count. count ≡ 1) }
         ensures grows { Grows names.old names.new }
@@ -141,7 +145,8 @@ impl<'t> Tokenizer<'t> {
         requires some { 0 < length run.now }
         requires plain { list_all is_plain_byte run.now ≡ true }
         requires within { at + length run.now ≤ MAX_INPUT }
-        ensures takes { (table : Entities) (start : Kind) (names : Texts) (text : List Character) (taken : List Event) → HasTaken table start self.old names text taken
+        ensures takes { (table : Entities) (start : Kind) (names : Texts) (text : List Character) (taken : List Event)
+            → HasTaken table start self.old names text taken
             → TakesFront (gives_item S.gives S.gives_token) table start text at run.now taken names sink.old result sink.new self.new }
         ensures all { IfOk result (λ count. count ≡ length run.now) }
     {
@@ -173,7 +178,8 @@ impl<'t> Tokenizer<'t> {
         requires some { 0 < length run.now }
         requires plain { list_all is_plain_byte run.now ≡ true }
         requires within { at + length run.now ≤ MAX_INPUT }
-        ensures takes { (table : Entities) (start : Kind) (before : Texts) (text : List Character) (taken : List Event) → Grows before names.old → HasTaken table start self.old before text taken
+        ensures takes { (table : Entities) (start : Kind) (before : Texts) (text : List Character) (taken : List Event) → Grows before names.old
+            → HasTaken table start self.old before text taken
             → TakesFront (gives_item S.gives S.gives_token) table start text at run.now taken names.new sink.old result sink.new self.new }
         ensures few { IfOk result (λ count. (0 < count) × (count ≤ length run.now)) }
         ensures grows { Grows names.old names.new }
@@ -199,7 +205,8 @@ impl<'t> Tokenizer<'t> {
         requires some { 0 < length run.now }
         requires plain { list_all is_plain_byte run.now ≡ true }
         requires within { at + length run.now ≤ MAX_INPUT }
-        ensures takes { (table : Entities) (start : Kind) (before : Texts) (text : List Character) (taken : List Event) → Grows before names.old → HasTaken table start self.old before text taken
+        ensures takes { (table : Entities) (start : Kind) (before : Texts) (text : List Character) (taken : List Event) → Grows before names.old
+            → HasTaken table start self.old before text taken
             → TakesFront (gives_item S.gives S.gives_token) table start text at run.now taken names.new sink.old result sink.new self.new }
         ensures few { IfOk result (λ count. (0 < count) × (count ≤ length run.now)) }
         ensures grows { Grows names.old names.new }

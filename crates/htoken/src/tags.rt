@@ -37,7 +37,8 @@ impl<'t> Tokenizer<'t> {
         sink: &mut S,
     ) -> Result<(), Refusal>
         requires { self.old.state ≡ State.Tag }
-        ensures takes { (table : Entities) (start : Kind) (before : Texts) (text : List Character) (taken : List Event) → Grows before names.old → Reads table start self.old before text (record { ch = ch; at = at } ∷ []) taken
+        ensures takes { (table : Entities) (start : Kind) (before : Texts) (text : List Character) (taken : List Event) → Grows before names.old
+            → Reads table start self.old before text (record { ch = ch; at = at } ∷ []) taken
             → Takes (gives_item S.gives S.gives_token) table start text (record { ch = ch; at = at } ∷ []) taken names.new sink.old result sink.new self.new }
         ensures grows { Grows names.old names.new }
     {
@@ -87,7 +88,9 @@ impl<'t> Tokenizer<'t> {
     }
 
     fn end_end_tag<S: TokenSink>(&mut self, name: NameId, sink: &mut S) -> Result<(), Refusal>
-        ensures { (text : List ℕ) → GivesSpan (gives_item S.gives S.gives_token) (λ names token. slice_get names name ≡ Some text → TokenMeans names token (End text self.old.at)) (record self.old { kind = RawKind.None }) sink.old result self.new sink.new }
+        ensures { (text : List ℕ) → GivesSpan (gives_item S.gives S.gives_token)
+            (λ names token. slice_get names name ≡ Some text → TokenMeans names token (End text self.old.at)) (record self.old { kind = RawKind.None }) sink.old
+            result self.new sink.new }
     {
         let at = self.at;
         self.kind = RawKind::None;
@@ -96,7 +99,8 @@ impl<'t> Tokenizer<'t> {
 
     /// Hands over a start tag of this name, unless it is left out of the profile.
     fn end_start_tag<S: TokenSink>(&mut self, name: NameId, sink: &mut S) -> Result<(), Refusal>
-        ensures { (text : List ℕ) (attrs : List (List ℕ × List ℕ)) → EndsStartTag (gives_item S.gives S.gives_token) self.old name text attrs sink.old result self.new sink.new }
+        ensures { (text : List ℕ) (attrs : List (List ℕ × List ℕ))
+            → EndsStartTag (gives_item S.gives S.gives_token) self.old name text attrs sink.old result self.new sink.new }
     {
         let at = self.at;
         let tag = name.tag();

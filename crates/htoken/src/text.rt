@@ -26,7 +26,8 @@ impl<'t> Tokenizer<'t> {
         sink: &mut S,
     ) -> Result<(), Refusal>
         requires { self.old.state ≡ State.Text }
-        ensures { (table : Entities) (start : Kind) (names : Texts) (text : List Character) (taken : List Event) → Reads table start self.old names text (record { ch = ch; at = at } ∷ []) taken
+        ensures { (table : Entities) (start : Kind) (names : Texts) (text : List Character) (taken : List Event)
+            → Reads table start self.old names text (record { ch = ch; at = at } ∷ []) taken
             → Takes (gives_item S.gives S.gives_token) table start text (record { ch = ch; at = at } ∷ []) taken names sink.old result sink.new self.new }
     {
         match self.kind {
@@ -41,7 +42,8 @@ impl<'t> Tokenizer<'t> {
     fn in_data<S: TokenSink>(&mut self, ch: char, at: u64, sink: &mut S) -> Result<(), Refusal>
         requires text { self.old.state ≡ State.Text }
         requires is_data { self.old.kind ≡ RawKind.None }
-        ensures { (table : Entities) (start : Kind) (names : Texts) (text : List Character) (taken : List Event) → Reads table start self.old names text (record { ch = ch; at = at } ∷ []) taken
+        ensures { (table : Entities) (start : Kind) (names : Texts) (text : List Character) (taken : List Event)
+            → Reads table start self.old names text (record { ch = ch; at = at } ∷ []) taken
             → Takes (gives_item S.gives S.gives_token) table start text (record { ch = ch; at = at } ∷ []) taken names sink.old result sink.new self.new }
     {
         match ch {
@@ -63,7 +65,8 @@ impl<'t> Tokenizer<'t> {
     fn in_raw<S: TokenSink>(&mut self, ch: char, at: u64, sink: &mut S) -> Result<(), Refusal>
         requires text { self.old.state ≡ State.Text }
         requires raw { is_raw self.old.kind ≡ true }
-        ensures { (table : Entities) (start : Kind) (names : Texts) (text : List Character) (taken : List Event) → Reads table start self.old names text (record { ch = ch; at = at } ∷ []) taken
+        ensures { (table : Entities) (start : Kind) (names : Texts) (text : List Character) (taken : List Event)
+            → Reads table start self.old names text (record { ch = ch; at = at } ∷ []) taken
             → Takes (gives_item S.gives S.gives_token) table start text (record { ch = ch; at = at } ∷ []) taken names sink.old result sink.new self.new }
     {
         match ch {
@@ -98,7 +101,8 @@ impl<'t> Tokenizer<'t> {
     /// Follows the level of script data.
     pub(crate) fn follow(&mut self, ch: char)
         ensures then { self.new ≡ record self.old { script = self.new.script } }
-        ensures follows { (at : ℕ) (front : List Character) → is_script self.old.kind ≡ true → HasFront self.old.script front → HasFront self.new.script (record { ch = ch; at = at } ∷ front) }
+        ensures follows { (at : ℕ) (front : List Character) → is_script self.old.kind ≡ true → HasFront self.old.script front
+            → HasFront self.new.script (record { ch = ch; at = at } ∷ front) }
     {
         if self.is_in_script() {
             self.script = self.script.after(ch);

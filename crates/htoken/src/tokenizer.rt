@@ -95,8 +95,10 @@ impl<'t> Tokenizer<'t> {
         place: u64,
         sink: &mut S,
     ) -> Result<(), Refusal>
-        ensures takes { (table : Entities) (start : Kind) (before : Texts) (text : List Character) (taken : List Event) → Grows before names.old → HasTaken table start self.old before text taken
-            → Takes (gives_item S.gives S.gives_token) table start text (record { ch = ch; at = place } ∷ []) taken names.new sink.old result sink.new self.new }
+        ensures takes { (table : Entities) (start : Kind) (before : Texts) (text : List Character) (taken : List Event) → Grows before names.old
+            → HasTaken table start self.old before text taken
+            → Takes (gives_item S.gives S.gives_token) table start text (record { ch = ch; at = place } ∷ []) taken names.new sink.old result sink.new
+            self.new }
         ensures grows { Grows names.old names.new }
 
         // After a refusal every later call returns the same one, and hands over nothing.
@@ -120,7 +122,8 @@ impl<'t> Tokenizer<'t> {
     /// The place of the first character that is held back, or, where none is, one more than the last place fed. Whatever comes
     /// after, every token before it has been handed over.
     pub fn held_from(&self) -> u64
-        ensures holds { (table : Entities) (start : Kind) (names : Texts) (text : List Character) (taken : List Event) → HasTaken table start self.now names text taken → HoldsFrom table start text taken result }
+        ensures holds { (table : Entities) (start : Kind) (names : Texts) (text : List Character) (taken : List Event)
+            → HasTaken table start self.now names text taken → HoldsFrom table start text taken result }
         ensures from { result ≡ from_of self.now.state self.now }
     {
         match self.state {
@@ -145,7 +148,8 @@ impl<'t> Tokenizer<'t> {
         end: u64,
         sink: &mut S,
     ) -> Result<(), Refusal>
-        ensures finishes { (table : Entities) (start : Kind) (before : Texts) (text : List Character) (taken : List Event) → Grows before names.old → HasTaken table start self.old before text taken
+        ensures finishes { (table : Entities) (start : Kind) (before : Texts) (text : List Character) (taken : List Event) → Grows before names.old
+            → HasTaken table start self.old before text taken
             → Finishes (gives_item S.gives S.gives_token) table start end text taken names.new sink.old result sink.new }
         ensures grows { Grows names.old names.new }
 
@@ -188,8 +192,10 @@ impl<'t> Tokenizer<'t> {
         place: u64,
         sink: &mut S,
     ) -> Result<(), Refusal>
-        ensures takes { (table : Entities) (start : Kind) (before : Texts) (text : List Character) (taken : List Event) → Grows before names.old → HasTaken table start self.old before text taken
-            → Takes (gives_item S.gives S.gives_token) table start text (record { ch = ch; at = place } ∷ []) taken names.new sink.old result sink.new self.new }
+        ensures takes { (table : Entities) (start : Kind) (before : Texts) (text : List Character) (taken : List Event) → Grows before names.old
+            → HasTaken table start self.old before text taken
+            → Takes (gives_item S.gives S.gives_token) table start text (record { ch = ch; at = place } ∷ []) taken names.new sink.old result sink.new
+            self.new }
         ensures grows { Grows names.old names.new }
         ensures refused { IfErr result (λ refusal. self.new.refused ≡ Some refusal) }
     {
@@ -208,7 +214,8 @@ impl<'t> Tokenizer<'t> {
         at: u64,
         sink: &mut S,
     ) -> Result<(), Refusal>
-        ensures takes { (table : Entities) (start : Kind) (before : Texts) (text : List Character) (taken : List Event) → Grows before names.old → HasTaken table start self.old before text taken
+        ensures takes { (table : Entities) (start : Kind) (before : Texts) (text : List Character) (taken : List Event) → Grows before names.old
+            → HasTaken table start self.old before text taken
             → Takes (gives_item S.gives S.gives_token) table start text (record { ch = ch; at = at } ∷ []) taken names.new sink.old result sink.new self.new }
         ensures grows { Grows names.old names.new }
     {
