@@ -32,7 +32,9 @@ tail (gcons a b) = b
 
 pub what_inj : (v w : What ℕ) → code_what v ≡ code_what w → v ≡ w
 what_inj document document e = refl
-what_inj (doctype n p s) (doctype n' p' s') e = λ i. doctype (coded_text.inj n n' (ap (λ g. head (tail g)) e) i) (coded_text.inj p p' (ap (λ g. head (tail (tail g))) e) i) (coded_text.inj s s' (ap (λ g. tail (tail (tail g))) e) i)
+what_inj (doctype n p s) (doctype n' p' s') e =
+    λ i. doctype (coded_text.inj n n' (ap (λ g. head (tail g)) e) i) (coded_text.inj p p' (ap (λ g. head (tail (tail g))) e) i)
+    (coded_text.inj s s' (ap (λ g. tail (tail (tail g))) e) i)
 what_inj (element n attrs) (element n' attrs') e = λ i. element (num (head (tail (e i)))) (coded_attributes.inj attrs attrs' (ap (λ g. tail (tail g)) e) i)
 what_inj (comment t) (comment t') e = λ i. comment (coded_text.inj t t' (ap tail e) i)
 what_inj (text t) (text t') e = λ i. text (coded_text.inj t t' (ap tail e) i)
@@ -45,7 +47,8 @@ code_forest (tree b w kids rest) = gcons (gcons (gnum b) (code_what w)) (gcons (
 pub forest_inj : (f g : Forest ℕ) → code_forest f ≡ code_forest g → f ≡ g
 forest_inj none none e = refl
 forest_inj (tree b w kids rest) (tree b' w' kids' rest') e =
-    λ i. tree (num (head (head (e i)))) (what_inj w w' (ap (λ g. tail (head g)) e) i) (forest_inj kids kids' (ap (λ g. head (tail g)) e) i) (forest_inj rest rest' (ap (λ g. tail (tail g)) e) i)
+    λ i. tree (num (head (head (e i)))) (what_inj w w' (ap (λ g. tail (head g)) e) i) (forest_inj kids kids' (ap (λ g. head (tail g)) e) i)
+    (forest_inj rest rest' (ap (λ g. tail (tail g)) e) i)
 forest_inj none (tree b w kids rest) e = cc
 forest_inj (tree b w kids rest) none e = cc
 
@@ -53,4 +56,5 @@ abbrev pub coded_forest : Coded (Forest ℕ)
 coded_forest = record { code = code_forest; inj = forest_inj }
 
 abbrev pub coded_nodes : Coded (Nodes ℕ)
-coded_nodes = code_by (ℕ × (ℕ × Forest ℕ)) (coded× coded_ℕ (coded× coded_ℕ coded_forest)) (λ t. (t.limit, (t.made, t.trees))) (λ p. record { limit = p.0; made = p.1.0; trees = p.1.1 }) (λ _. refl)
+coded_nodes = code_by (ℕ × (ℕ × Forest ℕ)) (coded× coded_ℕ (coded× coded_ℕ coded_forest)) (λ t. (t.limit, (t.made, t.trees)))
+    (λ p. record { limit = p.0; made = p.1.0; trees = p.1.1 }) (λ _. refl)

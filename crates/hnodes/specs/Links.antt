@@ -20,7 +20,14 @@ Look N = ℕ → Option (Row N)
 module _ {N : Type 0} where
   -- the row of a node at its place
   abbrev pub row_at : Spot N → Row N
-  row_at s = record { what = s.what; parent = s.parent; first = first_or s.children None; last = last_or None s.children; previous = s.before; next = first_or s.after None }
+  row_at s = record {
+    what = s.what;
+    parent = s.parent;
+    first = first_or s.children None;
+    last = last_or None s.children;
+    previous = s.before;
+    next = first_or s.after None;
+  }
 
   -- the row of a node that stands for itself, without children
   abbrev pub alone : What N → Row N

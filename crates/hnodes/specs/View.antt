@@ -11,4 +11,5 @@ nodes_of t = record { limit = t.limit; made = length t.nodes.items; trees = whol
 
 -- a forest stands there, the first node is the document, and there are no more nodes than may be
 abbrev pub IsTree : Inside → Type 0
-IsTree t = ((f : Forest ℕ) × StandsIn (length t.nodes.items) (look_in t.nodes.items) f) × (standing (look_in t.nodes.items 0) ≡ Some (document, None)) × (length t.nodes.items ≤ t.limit)
+IsTree t = ((f : Forest ℕ) × StandsIn (length t.nodes.items) (look_in t.nodes.items) f) × (standing (look_in t.nodes.items 0) ≡ Some (document, None))
+    × (length t.nodes.items ≤ t.limit)

@@ -50,13 +50,16 @@ abbrev nodes : Nodes ℕ
 nodes = record { limit = 9; made = 7; trees = forest }
 
 -- a character joins the text right before its place, and no other
-joined : (add_char 98 (Before 3) nodes).trees ≡ tree 0 document (e 1 (tree 2 (text (97 ∷ encode_utf8 98)) none (e 3 none (e 4 none none))) (e 5 none none)) (e 6 none none)
+joined : (add_char 98 (Before 3) nodes).trees
+    ≡ tree 0 document (e 1 (tree 2 (text (97 ∷ encode_utf8 98)) none (e 3 none (e 4 none none))) (e 5 none none)) (e 6 none none)
 joined = refl
 
-not_the_following : (add_char 98 (Before 2) nodes).trees ≡ tree 0 document (e 1 (tree 7 (text (encode_utf8 98)) none (t 2 97 (e 3 none (e 4 none none)))) (e 5 none none)) (e 6 none none)
+not_the_following : (add_char 98 (Before 2) nodes).trees
+    ≡ tree 0 document (e 1 (tree 7 (text (encode_utf8 98)) none (t 2 97 (e 3 none (e 4 none none)))) (e 5 none none)) (e 6 none none)
 not_the_following = refl
 
-not_over_an_element : (add_char 98 (LastIn 1) nodes).trees ≡ tree 0 document (e 1 (t 2 97 (e 3 none (e 4 none (tree 7 (text (encode_utf8 98)) none none)))) (e 5 none none)) (e 6 none none)
+not_over_an_element : (add_char 98 (LastIn 1) nodes).trees
+    ≡ tree 0 document (e 1 (t 2 97 (e 3 none (e 4 none (tree 7 (text (encode_utf8 98)) none none)))) (e 5 none none)) (e 6 none none)
 not_over_an_element = refl
 
 -- a run of characters joins likewise, and makes one text at most

@@ -258,7 +258,8 @@ impl Tree {
     pub fn put_text(&mut self, text: &str, place: Place, at: u64) -> Result<(), Refusal>
         requires { IsPlace place self.old }
         ensures ok { OnOk result (self.new ≡ add_chars (chars text.now) place self.old) }
-        ensures full { (result ≡ Err (TooManyNodes at)) ↔ ((0 < length text.now) × (text_before place self.old.trees ≡ None) × (self.old.limit ≤ self.old.made)) }
+        ensures full { (result ≡ Err (TooManyNodes at)) ↔
+            ((0 < length text.now) × (text_before place self.old.trees ≡ None) × (self.old.limit ≤ self.old.made)) }
         ensures refused { IfErr result (λ e. (e ≡ TooManyNodes at) ⊎ (e ≡ Memory)) }
         ensures err { OnErr result (self.new ≡ self.old) }
     {
