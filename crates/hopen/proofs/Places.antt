@@ -1,6 +1,8 @@
 -- The place of the nearest that is sought, and the words on lists.
 use Rattle.std.proofs.Common.{◌≡◌, ℕ, suc, ◌+◌, ◌-◌, ◌<◌, ◌≤◌, Bool, true, false, cond, not, ltb, leb, ◌&&◌, ◌||◌, List, [], ◌∷◌, Some, None, length, refl, arith}
-use Rattle.std.specs.List.{position, position_or_len}
+use Rattle.std.specs.Prelude.{nat_eq}
+use Rattle.std.specs.List.{list_all, position, position_or_len}
+use Rattle.std.proofs.Math.Dec.{eqb-suc-zero}
 use Rattle.std.proofs.lemmas.Bool.{lt-ltb, le-ltb, le-leb, lt-leb}
 use Rattle.hopen.specs.Places.{last_place}
 use Rattle.hopen.specs.Stack.{OpenNode, in_scope}
@@ -33,6 +35,15 @@ module _ {X : Type 0} (sought : X → Bool) where
       let up : position_or_len sought xs ≡ length xs - 1 - i = omega (arith, place-position xs) in
       let within : position_or_len sought xs < length xs = omega (arith, place-position xs) in
       rw (lt-ltb (position_or_len sought xs) (length xs) within, up) refl
+
+-- all members pass where there is no place of one that does not
+pub all-places : {X : Type 0} (passes : X → Bool) (xs : List X) → nat_eq (last_place (λ x. not (passes x)) xs) 0 ≡ list_all passes xs
+all-places passes [] = refl
+all-places passes (x ∷ xs) = go (passes x) (all-places passes xs)
+  where
+    go : (v : Bool) → nat_eq (last_place (λ y. not (passes y)) xs) 0 ≡ list_all passes xs → nat_eq (cond (not v) (suc (length xs)) (last_place (λ y. not (passes y)) xs)) 0 ≡ (v && list_all passes xs)
+    go true i = i
+    go false i = eqb-suc-zero (length xs)
 
 -- one that is sought is in scope where no stop is nearer
 pub in_scope-places : {N : Type 0} (stops sought : OpenNode N → Bool) (xs : List (OpenNode N)) → in_scope stops sought xs ≡ (ltb 0 (last_place sought xs) && leb (last_place stops xs) (last_place sought xs))

@@ -1,20 +1,22 @@
 -- Sets of known names.
-use Rattle.std.specs.Prelude.{ℕ, Bool}
+use Rattle.std.specs.Prelude.{ℕ, Bool, not}
 use Rattle.hopen.specs.Stack.{OpenNode}
-use Rattle.hopen.specs.Scopes.{stops_in, is_of_group}
+use Rattle.hopen.specs.Scopes.{stops_in, stops_item, is_of_group}
 use Rattle.hopen.specs.declared.name_sets.NameSet.{NameSet}
 use Rattle.hopen.specs.declared.name_sets.NameSet.TheVariants as name_set
 use Rattle.hopen.specs.declared.name_sets.SetPlaces.{SetPlaces}
 use Rattle.hopen.specs.declared.scope.Scope.TheVariants as scope
 use Rattle.hopen.specs.declared.scope.Group.TheVariants as group
 use Rattle.names.specs.declared.tag.Tag.{Tag}
-use Rattle.names.specs.Sets.{is_special}
+use Rattle.names.specs.Sets.{is_special, may_stay_open}
 use Rattle.names.specs.Tags.{tag_of}
 
 -- whether a name is in a set
 abbrev pub is_in_set : NameSet → Tag → Bool
 is_in_set (name_set.Stops scope) t = stops_in scope t
 is_in_set name_set.Special t = is_special t
+is_in_set name_set.StopsItem t = stops_item t
+is_in_set name_set.MustClose t = not (may_stay_open t)
 is_in_set (name_set.Group group) t = is_of_group group t
 
 -- whether the name of an open node is in a set
@@ -28,6 +30,9 @@ set_place (name_set.Stops scope.ListItem) p = p.list_item_scope
 set_place (name_set.Stops scope.Button) p = p.button_scope
 set_place (name_set.Stops scope.Table) p = p.table_scope
 set_place name_set.Special p = p.special
+set_place name_set.StopsItem p = p.item_stop
+set_place name_set.MustClose p = p.must_close
 set_place (name_set.Group group.Heading) p = p.heading
 set_place (name_set.Group group.TableSection) p = p.table_section
 set_place (name_set.Group group.Cell) p = p.cell
+set_place (name_set.Group group.TellsMode) p = p.tells_mode

@@ -46,12 +46,18 @@ module _ {N M : Type 0} (tag : N → Tag) (tag' : M → Tag) (same : N → N →
     pub nodes_above : (n : ℕ) (s : List (OpenNode N)) → above n (spelled_stack g s) ≡ spelled_stack g (above n s)
     pub nodes_below : (n : ℕ) (s : List (OpenNode N)) → below n (spelled_stack g s) ≡ spelled_stack g (below n s)
     pub remove : (n : ℕ) (s : List (OpenNode N)) → without (is_node n) (spelled_stack g s) ≡ spelled_stack g (without (is_node n) s)
-    pub replace : (n : ℕ) (new : OpenNode N) (s : List (OpenNode N)) → changed (is_node n) (λ _. spelled_open g new) (spelled_stack g s) ≡ spelled_stack g (changed (is_node n) (λ _. new) s)
-    pub insert_below : (n : ℕ) (new : OpenNode N) (s : List (OpenNode N)) → put_before (is_node n) (spelled_open g new) (spelled_stack g s) ≡ spelled_stack g (put_before (is_node n) new s)
-    pub is_in_scope : (scope : Scope) (a : N) (s : List (OpenNode N)) → in_scope (stops tag' scope) (is_named same' (g a)) (spelled_stack g s) ≡ in_scope (stops tag scope) (is_named same a) s
-    pub node_is_in_scope : (n : ℕ) (s : List (OpenNode N)) → in_scope (stops tag' Default) (is_node n) (spelled_stack g s) ≡ in_scope (stops tag Default) (is_node n) s
-    pub group_is_in_scope : (scope : Scope) (group : Group) (s : List (OpenNode N)) → in_scope (stops tag' scope) (is_of tag' group) (spelled_stack g s) ≡ in_scope (stops tag scope) (is_of tag group) s
-    pub is_before_special : (a : N) (s : List (OpenNode N)) → in_scope (λ x. is_special (tag' x.name)) (is_named same' (g a)) (spelled_stack g s) ≡ in_scope (λ x. is_special (tag x.name)) (is_named same a) s
+    pub replace : (n : ℕ) (new : OpenNode N) (s : List (OpenNode N))
+        → changed (is_node n) (λ _. spelled_open g new) (spelled_stack g s) ≡ spelled_stack g (changed (is_node n) (λ _. new) s)
+    pub insert_below : (n : ℕ) (new : OpenNode N) (s : List (OpenNode N))
+        → put_before (is_node n) (spelled_open g new) (spelled_stack g s) ≡ spelled_stack g (put_before (is_node n) new s)
+    pub is_in_scope : (scope : Scope) (a : N) (s : List (OpenNode N))
+        → in_scope (stops tag' scope) (is_named same' (g a)) (spelled_stack g s) ≡ in_scope (stops tag scope) (is_named same a) s
+    pub node_is_in_scope : (n : ℕ) (s : List (OpenNode N))
+        → in_scope (stops tag' Default) (is_node n) (spelled_stack g s) ≡ in_scope (stops tag Default) (is_node n) s
+    pub group_is_in_scope : (scope : Scope) (group : Group) (s : List (OpenNode N))
+        → in_scope (stops tag' scope) (is_of tag' group) (spelled_stack g s) ≡ in_scope (stops tag scope) (is_of tag group) s
+    pub is_before_special : (a : N) (s : List (OpenNode N))
+        → in_scope (λ x. is_special (tag' x.name)) (is_named same' (g a)) (spelled_stack g s) ≡ in_scope (λ x. is_special (tag x.name)) (is_named same a) s
     pub furthest : (n : ℕ) (s : List (OpenNode N)) → furthest_block tag' n (spelled_stack g s) ≡ option_map (spelled_open g) (furthest_block tag n s)
 
   -- The same of the list of active formatting elements.
@@ -63,5 +69,7 @@ module _ {N M : Type 0} (tag : N → Tag) (tag' : M → Tag) (same : N → N →
     pub get : (back : ℕ) (items : List (Item N)) → entry_at back (spelled_items g items) ≡ option_map (spelled_entry g) (entry_at back items)
     pub remove : (n : ℕ) (items : List (Item N)) → without_entry n (spelled_items g items) ≡ spelled_items g (without_entry n items)
     pub replace : (old new : ℕ) (items : List (Item N)) → with_node old new (spelled_items g items) ≡ spelled_items g (with_node old new items)
-    pub renew : (back new : ℕ) (items : List (Item N)) → changed_at back (for_node new) (spelled_items g items) ≡ spelled_items g (changed_at back (for_node new) items)
-    pub move_to_bookmark : (old new : ℕ) (bookmark : Bookmark) (items : List (Item N)) → booked old new bookmark (spelled_items g items) ≡ spelled_items g (booked old new bookmark items)
+    pub renew : (back new : ℕ) (items : List (Item N))
+        → changed_at back (for_node new) (spelled_items g items) ≡ spelled_items g (changed_at back (for_node new) items)
+    pub move_to_bookmark : (old new : ℕ) (bookmark : Bookmark) (items : List (Item N))
+        → booked old new bookmark (spelled_items g items) ≡ spelled_items g (booked old new bookmark items)

@@ -69,7 +69,8 @@ impl Item {
 
     /// Whether it is an entry that was made for an equal token.
     pub(crate) fn is_equal(&self, name: NameId, attrs: &[Attr]) -> bool
-        ensures { result ≡ option_map_or (is_equal nat_eq (record { node = 0; name = name; attrs = map attribute_of attrs.now })) (as_entry (item_of self.now)) false }
+        ensures { result ≡ option_map_or (is_equal nat_eq (record { node = 0; name = name; attrs = map attribute_of attrs.now })) (as_entry (item_of self.now))
+            false }
     {
         match self {
             Item::Marker => false,

@@ -66,7 +66,8 @@ fn giving_way(
     requires kept { buckets.now ≡ map (λ i. bucket_of (item_of i)) items.now }
     requires number { number ≡ suc (bucket (record { node = 0; name = name; attrs = map attribute_of attrs.now })) }
     ensures within { IfSome result (λ back. back < length items.now) }
-    ensures room { option_map_or (remove (items_of items.now)) result (items_of items.now) ≡ with_room nat_eq (record { node = 0; name = name; attrs = map attribute_of attrs.now }) (items_of items.now) }
+    ensures room { option_map_or (remove (items_of items.now)) result (items_of items.now)
+        ≡ with_room nat_eq (record { node = 0; name = name; attrs = map attribute_of attrs.now }) (items_of items.now) }
 {
     let marker = buckets.last(MARKER);
     let mut place = buckets.last(number);

@@ -3,7 +3,7 @@
 ghost use Rattle.std.specs.Prelude.{◌≡◌, if◌then◌else◌};
 ghost use Rattle.hopen.specs.NameSets.{is_in_set, set_place};
 
-use crate::scope::{Group, Scope};
+use crate::scope::{Group, Scope, stops_item};
 use names::Tag;
 
 /// A set of known names that a search looks for, or that stops it.
@@ -13,6 +13,10 @@ pub(crate) enum NameSet {
     Stops(Scope),
     /// The special names.
     Special,
+    /// The names that stop the search for an open li, dd or dt.
+    StopsItem,
+    /// The names of elements that may not be open at the end of the body.
+    MustClose,
     /// The names of a group.
     Group(Group),
 }
@@ -25,9 +29,12 @@ pub(crate) struct SetPlaces {
     button_scope: u32,
     table_scope: u32,
     special: u32,
+    item_stop: u32,
+    must_close: u32,
     heading: u32,
     table_section: u32,
     cell: u32,
+    tells_mode: u32,
 }
 
 /// A new place if there is one, else the old one.
@@ -48,9 +55,12 @@ impl SetPlaces {
             button_scope: 0,
             table_scope: 0,
             special: 0,
+            item_stop: 0,
+            must_close: 0,
             heading: 0,
             table_section: 0,
             cell: 0,
+            tells_mode: 0,
         }
     }
 
@@ -64,9 +74,12 @@ impl SetPlaces {
             NameSet::Stops(Scope::Button) => self.button_scope,
             NameSet::Stops(Scope::Table) => self.table_scope,
             NameSet::Special => self.special,
+            NameSet::StopsItem => self.item_stop,
+            NameSet::MustClose => self.must_close,
             NameSet::Group(Group::Heading) => self.heading,
             NameSet::Group(Group::TableSection) => self.table_section,
             NameSet::Group(Group::Cell) => self.cell,
+            NameSet::Group(Group::TellsMode) => self.tells_mode,
         }
     }
 
@@ -74,9 +87,13 @@ impl SetPlaces {
     pub(crate) fn with(&self, tag: Tag, place: u32) -> SetPlaces
         ensures { (set : NameSet) → set_place set result ≡ (if is_in_set set tag then place else set_place set self.now) }
     {
+        let must_close = place_if(!tag.may_stay_open(), place, self.must_close);
         // every other set holds special names alone
         if !tag.is_special() {
-            return *self;
+            return SetPlaces {
+                must_close,
+                ..*self
+            };
         }
         SetPlaces {
             scope: place_if(tag.stops_scope(), place, self.scope),
@@ -84,9 +101,12 @@ impl SetPlaces {
             button_scope: place_if(tag.stops_button_scope(), place, self.button_scope),
             table_scope: place_if(tag.stops_table_scope(), place, self.table_scope),
             special: place,
+            item_stop: place_if(stops_item(tag), place, self.item_stop),
+            must_close,
             heading: place_if(Group::Heading.has(tag), place, self.heading),
             table_section: place_if(Group::TableSection.has(tag), place, self.table_section),
             cell: place_if(Group::Cell.has(tag), place, self.cell),
+            tells_mode: place_if(Group::TellsMode.has(tag), place, self.tells_mode),
         }
     }
 }

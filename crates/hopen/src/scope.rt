@@ -1,7 +1,7 @@
 //! What stops a search among the open elements, and the groups of names that are sought there (HTML Standard, 13.2.4.2).
 
 ghost use Rattle.std.specs.Prelude.{◌≡◌};
-ghost use Rattle.hopen.specs.Scopes.{stops_in, is_of_group};
+ghost use Rattle.hopen.specs.Scopes.{stops_in, stops_item, tells_mode, is_of_group};
 
 use names::Tag;
 
@@ -32,6 +32,35 @@ impl Scope {
     }
 }
 
+/// Whether a name stops the search for an open li, dd or dt (13.2.6.4.7): a special name other than address, div and p.
+pub(crate) fn stops_item(tag: Tag) -> bool
+    ensures { result ≡ stops_item tag }
+{
+    match tag {
+        Tag::Address | Tag::Div | Tag::P => false,
+        _ => tag.is_special(),
+    }
+}
+
+/// Whether an element of a name tells the insertion mode when it is reset.
+fn tells_mode(tag: Tag) -> bool
+    ensures { result ≡ tells_mode tag }
+{
+    matches!(
+        tag,
+        Tag::Body
+            | Tag::Caption
+            | Tag::Colgroup
+            | Tag::Table
+            | Tag::Tbody
+            | Tag::Td
+            | Tag::Tfoot
+            | Tag::Th
+            | Tag::Thead
+            | Tag::Tr
+    )
+}
+
 /// A group of names that a rule looks for together.
 #[derive(Clone, Copy, Debug, PartialEq, Eq)]
 pub enum Group {
@@ -41,6 +70,9 @@ pub enum Group {
     TableSection,
     /// td and th.
     Cell,
+    /// The elements that tell the insertion mode when it is reset (13.2.4.1): body, caption, colgroup, table, tbody, td, tfoot, th,
+    /// thead and tr.
+    TellsMode,
 }
 
 impl Group {
@@ -52,6 +84,7 @@ impl Group {
             Group::Heading => tag.is_heading(),
             Group::TableSection => tag.is_table_section(),
             Group::Cell => matches!(tag, Tag::Td | Tag::Th),
+            Group::TellsMode => tells_mode(tag),
         }
     }
 }

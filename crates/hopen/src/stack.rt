@@ -1,16 +1,16 @@
 //! The stack of open elements (HTML Standard, 13.2.4.2).
 
 ghost use Rattle.std.specs.Prelude.{◌≡◌, ◌≤◌, ◌↔◌, ◌⊎◌, [], ◌∷◌, OnOk, OnErr, IfErr, IfSome, MatchOption, ◌<◌, ◌+◌, ◌-◌, length, drop, reverse, nat_eq, leb, if◌then◌else◌};
-ghost use Rattle.std.specs.List.{find, position, remove_range, slice_get};
+ghost use Rattle.std.specs.List.{find, list_all, position, remove_range, slice_get};
 ghost use Rattle.std.specs.Option.{option_map};
 ghost use Rattle.hopen.specs.Nearest.{after, without, changed, put_before};
 ghost use Rattle.hopen.specs.Stack.{is_node, is_open, current as current_of, above as above_of, in_scope as is_in_scope, furthest_block as furthest_block_of};
-ghost use Rattle.hopen.specs.Scopes.{stops as stops_node, is_named, is_of};
+ghost use Rattle.hopen.specs.Scopes.{stops as stops_node, stops_item, is_named, is_of};
 ghost use Rattle.hopen.specs.Opens.{open_of, is_sought};
 ghost use Rattle.hopen.specs.Places.{last_place};
 ghost use Rattle.hopen.specs.NameSets.{is_in};
 ghost use Rattle.names.specs.Tags.{tag_of};
-ghost use Rattle.names.specs.Sets.{is_special};
+ghost use Rattle.names.specs.Sets.{is_special, may_stay_open};
 ghost use Rattle.names.specs.declared.refusal.Refusal.TheVariants.{TooDeep, Memory};
 ghost use Rattle.hopen.specs.declared.scope.Scope.TheVariants.{Default};
 
@@ -34,7 +34,7 @@ pub struct Open {
 ///
 /// No question searches the stack, but for `furthest_block`, which passes the nodes from the formatting element down to the block.
 /// A push and a pop take the same time at any depth, amortized. `remove`, `remove_run`, `replace` and `insert_below` take a step for
-/// each node below. An open node takes 48 bytes; each of the two tables of places takes 4 bytes for each number up to the greatest one.
+/// each node below. An open node takes 60 bytes; each of the two tables of places takes 4 bytes for each number up to the greatest one.
 /// `push`, `replace` and `insert_below` alone allocate, and on an error they change nothing.
 #[derive(Debug, Drop)]
 pub struct OpenStack {
@@ -196,6 +196,21 @@ impl OpenStack {
         self.is_nearer(Sought::Name(name), NameSet::Special)
     }
 
+    /// Whether, going up from the current node, an element of a name is met before a special one other than address, div and p: the
+    /// search of the start tags li, dd and dt (13.2.6.4.7).
+    pub fn item_is_near(&self, name: NameId) -> bool
+        ensures { result ≡ is_in_scope (λ x. stops_item (tag_of x.name)) (is_named nat_eq name) self.now.stack }
+    {
+        self.is_nearer(Sought::Name(name), NameSet::StopsItem)
+    }
+
+    /// Whether each open node may be open at the end of the body (13.2.6.4.7).
+    pub fn all_may_stay_open(&self) -> bool
+        ensures { result ≡ list_all (λ x. may_stay_open (tag_of x.name)) self.now.stack }
+    {
+        self.set_place(NameSet::MustClose) == 0
+    }
+
     /// Whether a node is in scope, without further words.
     pub fn node_in_scope(&self, node: NodeId) -> bool
         ensures { result ≡ is_in_scope (stops_node tag_of Default) (is_node node) self.now.stack }
@@ -245,6 +260,14 @@ impl OpenStack {
         ensures within { IfSome result (λ up. up < length self.now.stack) }
     {
         self.place_of(Sought::Node(node))
+    }
+
+    /// How many open nodes are below the nearest one of a group; `None` if there is none.
+    pub fn group_place(&self, group: Group) -> Option<usize>
+        ensures place { result ≡ position (is_of tag_of group) self.now.stack }
+        ensures within { IfSome result (λ up. up < length self.now.stack) }
+    {
+        self.place_of(Sought::Group(group))
     }
 
     /// How many open nodes are above a node; 0 if it is not open.
@@ -320,7 +343,8 @@ impl OpenStack {
 
     /// How many open nodes are above the nearest that is sought; None if there is none.
     fn index(&self, sought: Sought) -> Option<usize>
-        ensures found { MatchOption result (position (is_sought sought) self.now.stack ≡ None) (λ i. position (is_sought sought) self.now.stack ≡ Some (length self.now.stack - 1 - i)) }
+        ensures found { MatchOption result (position (is_sought sought) self.now.stack ≡ None)
+            (λ i. position (is_sought sought) self.now.stack ≡ Some (length self.now.stack - 1 - i)) }
         ensures within { IfSome result (λ i. i < length self.now.stack) }
     {
         let place = self.last_place(sought) as usize;

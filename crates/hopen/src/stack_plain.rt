@@ -16,6 +16,7 @@ pub(crate) enum Wanted {
     Heading,
     TableSection,
     Cell,
+    TellsMode,
 }
 
 impl Wanted {
@@ -30,6 +31,19 @@ impl Wanted {
             ),
             Wanted::TableSection => matches!(tag, Tag::Tbody | Tag::Tfoot | Tag::Thead),
             Wanted::Cell => matches!(tag, Tag::Td | Tag::Th),
+            Wanted::TellsMode => matches!(
+                tag,
+                Tag::Body
+                    | Tag::Caption
+                    | Tag::Colgroup
+                    | Tag::Table
+                    | Tag::Tbody
+                    | Tag::Td
+                    | Tag::Tfoot
+                    | Tag::Th
+                    | Tag::Thead
+                    | Tag::Tr
+            ),
         }
     }
 }
@@ -154,6 +168,26 @@ impl Plain {
             }
         }
         false
+    }
+
+    /// Whether the search of a start tag li, dd or dt finds a name.
+    pub(crate) fn item_is_near(&self, name: NameId) -> bool {
+        for open in &self.nodes {
+            if open.name == name {
+                return true;
+            }
+            let tag = open.name.tag();
+            if tag.is_special() && !matches!(tag, Tag::Address | Tag::Div | Tag::P) {
+                return false;
+            }
+        }
+        false
+    }
+
+    pub(crate) fn all_may_stay_open(&self) -> bool {
+        self.nodes
+            .iter()
+            .all(|open| open.name.tag().may_stay_open())
     }
 
     pub(crate) fn nearest(&self, name: NameId) -> Option<Open> {

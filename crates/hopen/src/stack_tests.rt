@@ -83,10 +83,11 @@ impl Supply {
     }
 
     fn group(&mut self) -> (Group, Wanted) {
-        match self.pick(3) {
+        match self.pick(4) {
             0 => (Group::Heading, Wanted::Heading),
             1 => (Group::TableSection, Wanted::TableSection),
-            _ => (Group::Cell, Wanted::Cell),
+            2 => (Group::Cell, Wanted::Cell),
+            _ => (Group::TellsMode, Wanted::TellsMode),
         }
     }
 }
@@ -197,17 +198,30 @@ fn answer_alike(stack: &OpenStack, plain: &Plain, node: NodeId) -> bool {
 fn find_alike(stack: &OpenStack, plain: &Plain, supply: &mut Supply) -> bool {
     let scope = supply.scope();
     let name = supply.name();
-    let (group, wanted) = supply.group();
     stack.in_scope(scope, name) == plain.is_in_scope(scope, Wanted::Name(name))
-        && stack.group_in_scope(scope, group) == plain.is_in_scope(scope, wanted)
         && stack.before_special(name) == plain.before_special(name)
+        && stack.item_is_near(name) == plain.item_is_near(name)
         && stack.nearest(name) == plain.nearest(name)
+}
+
+/// Whether both find the same of a group in scope.
+fn find_group_alike(stack: &OpenStack, plain: &Plain, supply: &mut Supply) -> bool {
+    let scope = supply.scope();
+    let (group, wanted) = supply.group();
+    stack.group_in_scope(scope, group) == plain.is_in_scope(scope, wanted)
+}
+
+/// Whether both find the nearest of a group at the same place, and all that may not stay open.
+fn place_alike(stack: &OpenStack, plain: &Plain, supply: &mut Supply) -> bool {
+    let (group, wanted) = supply.group();
+    stack.group_place(group) == plain.position(wanted)
+        && stack.all_may_stay_open() == plain.all_may_stay_open()
 }
 
 #[test]
 fn an_open_node_is_small(rt: HostRuntime) {
     assert_eq!(rt; std::mem::size_of::<Open>(), 8);
-    assert_eq!(rt; std::mem::size_of::<Item>(), 48);
+    assert_eq!(rt; std::mem::size_of::<Item>(), 60);
 }
 
 /// Whether both answer every question alike.
@@ -215,7 +229,8 @@ fn are_alike(stack: &OpenStack, plain: &Plain, supply: &mut Supply) -> bool {
     agree(stack, plain)
         && answer_alike(stack, plain, supply.node())
         && find_alike(stack, plain, supply)
-        && find_alike(stack, plain, supply)
+        && find_group_alike(stack, plain, supply)
+        && place_alike(stack, plain, supply)
 }
 
 /// A list of edits, each of both, with questions after each. How many edits found the stack full, or None where an answer differs.
@@ -259,6 +274,9 @@ fn finds_topmost(stack: &OpenStack, topmost: &Open, below: usize) -> bool {
         && stack.in_scope(Scope::Table, topmost.name)
         && stack.node_in_scope(topmost.node)
         && stack.before_special(topmost.name)
+        && stack.item_is_near(topmost.name)
+        && stack.group_place(Group::TellsMode).is_none()
+        && stack.all_may_stay_open() == (below == 0)
         && !stack.group_in_scope(Scope::Default, Group::Heading)
 }
 
