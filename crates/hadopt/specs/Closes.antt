@@ -29,13 +29,6 @@ is_row_context tag.Tr = true
 is_row_context tag.Html = true
 is_row_context _ = false
 
--- what stops the search for an open li, dd or dt (13.2.6.4.7): a special name other than address, div and p
-abbrev pub stops_item : Tag → Bool
-stops_item tag.Address = false
-stops_item tag.Div = false
-stops_item tag.P = false
-stops_item t = is_special t
-
 module _ {X : Type 0} where
   -- what is left when the nearest members go as long as they pass
   abbrev pub past : (X → Bool) → List X → List X

@@ -81,7 +81,9 @@ impl Site {
     ) -> Result<Climbed, Refusal>
         requires begun { 0 < on_way.last }
         requires last_in { on_way.last < self.old.nodes.made }
-        ensures done { (name : ℕ) → ClimbGives result self.new (and_then (made at (element (entry_is entry).name (entry_is entry).attrs) self.old) (λ t. Goes (replaced block self.old.nodes.made (record { node = node; name = name }) (entry_is entry) (climb_of on_way t)))) }
+        ensures done { (name : ℕ) → ClimbGives result self.new
+            (and_then (made at (element (entry_is entry).name (entry_is entry).attrs) self.old)
+            (λ t. Goes (replaced block self.old.nodes.made (record { node = node; name = name }) (entry_is entry) (climb_of on_way t)))) }
         ensures last { IfOk result (λ c. (0 < c.last) × (c.last < self.new.nodes.made)) }
     {
         let new = self.create(entry.name, entry.attrs, at)?;
@@ -115,7 +117,8 @@ impl Site {
     ) -> Result<Climbed, Refusal>
         requires begun { 0 < on_way.last }
         requires last_in { on_way.last < self.old.nodes.made }
-        ensures done { (passed : ℕ) → passed < most_kept → ClimbGives result self.new (climbed_one numbers at block passed (open_of node) (climb_of on_way self.old)) }
+        ensures done { (passed : ℕ) → passed < most_kept
+            → ClimbGives result self.new (climbed_one numbers at block passed (open_of node) (climb_of on_way self.old)) }
         ensures last { IfOk result (λ c. (0 < c.last) × (c.last < self.new.nodes.made)) }
     {
         match self.entry_of(node.node)? {
@@ -137,7 +140,9 @@ impl Site {
         requires begun { 0 < block }
         requires block_in { block < self.old.nodes.made }
         requires different { AreDifferent self.old }
-        ensures done { HalfGives formatting block at result self.new (climbed numbers at block 0 (before (is_node formatting) (above block self.old.open_nodes.stack)) (record { last = block; bookmark = InPlace; site = self.old })) }
+        ensures done { HalfGives formatting block at result self.new
+            (climbed numbers at block 0 (before (is_node formatting) (above block self.old.open_nodes.stack))
+            (record { last = block; bookmark = InPlace; site = self.old })) }
         ensures last { IfOk result (λ h. (0 < h.last) × (h.last < self.new.nodes.made)) }
     {
         let mut on_way = Climbed {
@@ -193,7 +198,9 @@ impl Site {
         requires begun { 0 < block }
         requires block_in { block < self.old.nodes.made }
         requires different { AreDifferent self.old }
-        ensures done { ClimbGives result self.new (climbed numbers at block 0 (before (is_node formatting) (above block self.old.open_nodes.stack)) (record { last = block; bookmark = InPlace; site = self.old })) }
+        ensures done { ClimbGives result self.new
+            (climbed numbers at block 0 (before (is_node formatting) (above block self.old.open_nodes.stack))
+            (record { last = block; bookmark = InPlace; site = self.old })) }
         ensures last { IfOk result (λ c. (0 < c.last) × (c.last < self.new.nodes.made)) }
     {
         let half = self.climb_first(formatting, block, at)?;

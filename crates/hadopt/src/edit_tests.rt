@@ -77,10 +77,11 @@ impl Supply {
     }
 
     fn group(&mut self) -> Group {
-        match self.pick(3) {
+        match self.pick(4) {
             0 => Group::Heading,
             1 => Group::TableSection,
-            _ => Group::Cell,
+            2 => Group::Cell,
+            _ => Group::TellsMode,
         }
     }
 

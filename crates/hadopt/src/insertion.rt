@@ -61,9 +61,11 @@ impl Site {
         at: u64,
     ) -> Result<NodeId, Refusal>
         requires { IsPlace place self.old.nodes }
-        ensures done { Gives result self.new (and_then (inserted at name (map attribute_of attrs.items) place self.old) (λ t. Goes (listed numbers name (map attribute_of attrs.items) t))) }
+        ensures done { Gives result self.new (and_then (inserted at name (map attribute_of attrs.items) place self.old)
+            (λ t. Goes (listed numbers name (map attribute_of attrs.items) t))) }
         ensures number { IfOk result (λ n. n ≡ self.old.nodes.made) }
-        ensures kept { Kept numbers self.old → PlaceStands place (trees self.old) → nat_eq name (number_of Tag.Table) ≡ false → IfOk result (λ _. Kept numbers self.new) }
+        ensures kept { Kept numbers self.old → PlaceStands place (trees self.old) → nat_eq name (number_of Tag.Table) ≡ false
+            → IfOk result (λ _. Kept numbers self.new) }
     {
         let new = self.create(name, attrs, at)?;
         self.add_entry(new, name)?;
@@ -75,7 +77,8 @@ impl Site {
     /// Adds an entry for an element, with the attributes that it has.
     fn add_entry(&mut self, node: NodeId, name: NameId) -> Result<(), AllocError>
         requires { node < self.old.nodes.made }
-        ensures { (attrs : List (Attribute ℕ)) → attributes_of node (trees self.old) ≡ Some attrs → OnOk result (self.new ≡ with_items (entry_pushed nat_eq (record { node = node; name = name; attrs = attrs }) self.old.items) self.old) }
+        ensures { (attrs : List (Attribute ℕ)) → attributes_of node (trees self.old) ≡ Some attrs
+            → OnOk result (self.new ≡ with_items (entry_pushed nat_eq (record { node = node; name = name; attrs = attrs }) self.old.items) self.old) }
     {
         match self.tree.attrs(node) {
             Some(attrs) => self.list.push(node, name, attrs),
@@ -96,7 +99,8 @@ impl Site {
 
     /// Appends a doctype to the document.
     pub fn insert_doctype(&mut self, texts: Doctype, at: u64) -> Result<NodeId, Refusal>
-        ensures done { Gives result self.new (added at (doctype (string_bytes texts.name) (string_bytes texts.public_id) (string_bytes texts.system_id)) (LastIn 0) self.old) }
+        ensures done { Gives result self.new (added at (doctype (string_bytes texts.name) (string_bytes texts.public_id) (string_bytes texts.system_id))
+            (LastIn 0) self.old) }
         ensures kept { Kept numbers self.old → IfOk result (λ _. Kept numbers self.new) }
     {
         let document = self.tree.document();

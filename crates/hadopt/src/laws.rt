@@ -20,5 +20,6 @@ pub fn numbers_agree_with_texts()
 
 /// One run of the adoption agency makes at most 32 elements.
 pub fn adoption_makes_few_elements()
-    ensures { (at : ℕ) (name : List ℕ) (before after : SiteOf (List ℕ)) → adopted texts at name before ≡ Goes after → after.nodes.made ≤ before.nodes.made + 32 }
+    ensures { (at : ℕ) (name : List ℕ) (before after : SiteOf (List ℕ)) → adopted texts at name before ≡ Goes after
+        → after.nodes.made ≤ before.nodes.made + 32 }
 {}

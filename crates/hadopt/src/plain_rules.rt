@@ -63,6 +63,19 @@ impl Plain {
                 (Group::Heading, Tag::H1 | Tag::H2 | Tag::H3 | Tag::H4 | Tag::H5 | Tag::H6) => true,
                 (Group::TableSection, Tag::Tbody | Tag::Tfoot | Tag::Thead) => true,
                 (Group::Cell, Tag::Td | Tag::Th) => true,
+                (
+                    Group::TellsMode,
+                    Tag::Body
+                    | Tag::Caption
+                    | Tag::Colgroup
+                    | Tag::Table
+                    | Tag::Tbody
+                    | Tag::Td
+                    | Tag::Tfoot
+                    | Tag::Th
+                    | Tag::Thead
+                    | Tag::Tr,
+                ) => true,
                 _ => false,
             },
         }

@@ -1,16 +1,15 @@
 //! What the rules ask of the open nodes and of the formatting elements.
 
 ghost use Rattle.std.specs.Prelude.{◌≡◌, ◌<◌, IfSome, length, nat_eq, slice_get};
-ghost use Rattle.std.specs.List.{list_all};
+ghost use Rattle.std.specs.List.{list_all, position};
 ghost use Rattle.std.specs.Option.{option_map};
 ghost use Rattle.hopen.specs.Formatting.{find_entry};
 ghost use Rattle.hopen.specs.Opens.{open_of};
-ghost use Rattle.hopen.specs.Scopes.{stops as stops_node, is_named, is_of};
+ghost use Rattle.hopen.specs.Scopes.{stops as stops_node, stops_item, is_named, is_of};
 ghost use Rattle.hopen.specs.Stack.{current as current_of, is_node, is_open, in_scope as is_in_scope, furthest_block};
 ghost use Rattle.hopen.specs.declared.scope.Scope.TheVariants.{Default};
 ghost use Rattle.names.specs.Sets.{may_stay_open};
 ghost use Rattle.names.specs.Tags.{tag_of};
-ghost use Rattle.hadopt.specs.Closes.{stops_item};
 ghost use Rattle.hadopt.specs.Places.{is_fostering};
 ghost use Rattle.hadopt.specs.Site.{stack, from_top, current_is};
 
@@ -18,17 +17,7 @@ use crate::places::fosters;
 use crate::site::Site;
 use hnodes::NodeId;
 use hopen::{Group, Open, Scope};
-use names::{NameId, Tag};
-
-/// Whether a name stops the search for an open li, dd or dt.
-fn stops_item(tag: Tag) -> bool
-    ensures { result ≡ stops_item tag }
-{
-    match tag {
-        Tag::Address | Tag::Div | Tag::P => false,
-        _ => tag.is_special(),
-    }
-}
+use names::NameId;
 
 impl Site {
     /// The current node.
@@ -123,6 +112,14 @@ impl Site {
         self.stack.group_in_scope(scope, group)
     }
 
+    /// How many open nodes are below the nearest one of a group; `None` if there is none.
+    pub fn group_place(&self, group: Group) -> Option<usize>
+        ensures place { result ≡ position (is_of tag_of group) (stack self.now) }
+        ensures within { IfSome result (λ up. up < length (stack self.now)) }
+    {
+        self.stack.group_place(group)
+    }
+
     /// Whether a node is in scope.
     pub fn node_in_scope(&self, node: NodeId) -> bool
         ensures { result ≡ is_in_scope (stops_node tag_of Default) (is_node node) (stack self.now) }
@@ -135,18 +132,7 @@ impl Site {
     pub fn item_is_near(&self, name: NameId) -> bool
         ensures { result ≡ is_in_scope (λ x. stops_item (tag_of x.name)) (is_named nat_eq name) (stack self.now) }
     {
-        for up in 0..self.stack.len() {
-            let Some(node) = self.stack.get(up) else {
-                return false;
-            };
-            if node.name == name {
-                return true;
-            }
-            if stops_item(node.name.tag()) {
-                return false;
-            }
-        }
-        false
+        self.stack.item_is_near(name)
     }
 
     /// The topmost special node below a formatting element.
@@ -160,15 +146,7 @@ impl Site {
     pub fn all_may_stay_open(&self) -> bool
         ensures { result ≡ list_all (λ x. may_stay_open (tag_of x.name)) (stack self.now) }
     {
-        for up in 0..self.stack.len() {
-            let Some(node) = self.stack.get(up) else {
-                return true;
-            };
-            if !node.name.tag().may_stay_open() {
-                return false;
-            }
-        }
-        true
+        self.stack.all_may_stay_open()
     }
 
     /// The node of the last entry of a name after the last marker.

@@ -47,7 +47,14 @@ impl Site {
     /// most `most_open` may be open at a time.
     pub fn new(alloc: Global, most_nodes: u32, most_open: u32) -> Result<Self, AllocError>
         requires { 0 < most_nodes }
-        ensures site { IfOk result (λ s. s ≡ record { nodes = record { limit = most_nodes; made = 1; trees = tree 0 document none none }; open_nodes = record { limit = most_open; stack = [] }; items = []; foster = false; errors = [] }) }
+        ensures site { IfOk result (λ s. s ≡ record {
+          nodes = record { limit = most_nodes; made = 1; trees = tree 0 document none none };
+          open_nodes =
+              record { limit = most_open; stack = [] };
+          items = [];
+          foster = false;
+          errors = [];
+        }) }
         ensures kept { IfOk result (λ s. Kept numbers s) }
     {
         Ok(Site {
