@@ -13,7 +13,7 @@ use Rattle.hnodes.specs.Spelled.{spelled_attribute, spelled_what, spelled}
 use Rattle.hnodes.proofs.Spellings.{edits, questions}
 use Rattle.hnodes.specs.declared.node.Place.TheVariants.{LastIn}
 use Rattle.hopen.specs.Stack.{OpenNode, is_node, current}
-use Rattle.hopen.specs.Scopes.{stops, is_of, is_of_group, stops_in}
+use Rattle.hopen.specs.Scopes.{stops, stops_item, is_of, is_of_group, stops_in}
 use Rattle.hopen.specs.declared.scope.Scope.{Scope}
 use Rattle.hopen.specs.declared.scope.Scope.TheVariants.{Default}
 use Rattle.hopen.specs.Formatting.{EntryOf, find_entry, pushed}
@@ -29,7 +29,7 @@ use Rattle.hadopt.specs.Site as site
 use Rattle.hadopt.specs.Places.{place, is_fostering}
 use Rattle.hadopt.specs.Inserts.{added, inserted, listed, with_missing, has_attribute}
 use Rattle.hadopt.specs.Inserts as inserts
-use Rattle.hadopt.specs.Closes.{past, is, is_table_context, is_body_context, is_row_context, popped_while_not, without_implied, popped_to, stops_item}
+use Rattle.hadopt.specs.Closes.{past, is, is_table_context, is_body_context, is_row_context, popped_while_not, without_implied, popped_to}
 use Rattle.hadopt.specs.Adopts.{adopted}
 use Rattle.hadopt.specs.Spelled.{Agree, spelled_site, outcome_map}
 use Rattle.hadopt.proofs.Spellings as site_names

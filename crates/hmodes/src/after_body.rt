@@ -73,7 +73,8 @@ impl<'q> Rules<'q> {
 
     /// The end tag html after the body.
     pub(crate) fn document_ends(&mut self, at: u64) -> Result<Flow, Refusal>
-        ensures { (t : TokenOf ℕ) → FlowGives result t (state_of self.new) (perform numbers at t (choose is_fragment (error AfterBody) (to AfterAfterBody)) (state_of self.old)) }
+        ensures { (t : TokenOf ℕ) → FlowGives result t (state_of self.new)
+            (perform numbers at t (choose is_fragment (error AfterBody) (to AfterAfterBody)) (state_of self.old)) }
     {
         if self.context.is_some() {
             return self.ignore(Mode::AfterBody, at);
@@ -98,7 +99,8 @@ impl<'q> Rules<'q> {
         token: &mut Token,
         at: u64,
     ) -> Result<Flow, Refusal>
-        ensures { FlowGives result (token_of token.new) (state_of self.new) (perform numbers at (token_of token.old) (after_after_body kind) (state_of self.old)) }
+        ensures { FlowGives result (token_of token.new) (state_of self.new)
+            (perform numbers at (token_of token.old) (after_after_body kind) (state_of self.old)) }
     {
         match kind {
             Kind::Comment => self.comment_in_document(token, at),

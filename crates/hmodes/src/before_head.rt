@@ -79,7 +79,8 @@ impl<'q> Rules<'q> {
 
     /// The head.
     fn head(&mut self, token: &mut Token, at: u64) -> Result<Flow, Refusal>
-        ensures { FlowGives result (token_of token.new) (state_of self.new) (perform numbers at (token_of token.old) (insert ▸ head_pointer ▸ to InHead) (state_of self.old)) }
+        ensures { FlowGives result (token_of token.new) (state_of self.new)
+            (perform numbers at (token_of token.old) (insert ▸ head_pointer ▸ to InHead) (state_of self.old)) }
     {
         self.insert(token, at)?;
         self.control.head = Some(self.current_node());

@@ -46,7 +46,9 @@ impl<'q> Rules<'q> {
 
     /// The start tag of a heading.
     pub(crate) fn heading(&mut self, token: &mut Token, at: u64) -> Result<Flow, Refusal>
-        ensures { FlowGives result (token_of token.new) (state_of self.new) (perform numbers at (token_of token.old) (close_p_in_scope ▸ when (current_is_group group.Heading) (error InBody ▸ pop) ▸ insert) (state_of self.old)) }
+        ensures { FlowGives result (token_of token.new) (state_of self.new)
+            (perform numbers at (token_of token.old) (close_p_in_scope ▸ when (current_is_group group.Heading) (error InBody ▸ pop) ▸ insert)
+            (state_of self.old)) }
     {
         self.close_p_in_scope(at)?;
         self.close_heading(at)?;
@@ -56,7 +58,8 @@ impl<'q> Rules<'q> {
 
     /// The start tags pre and listing.
     pub(crate) fn pre(&mut self, token: &mut Token, at: u64) -> Result<Flow, Refusal>
-        ensures { FlowGives result (token_of token.new) (state_of self.new) (perform numbers at (token_of token.old) (close_p_in_scope ▸ insert ▸ drop_lf) (state_of self.old)) }
+        ensures { FlowGives result (token_of token.new) (state_of self.new)
+            (perform numbers at (token_of token.old) (close_p_in_scope ▸ insert ▸ drop_lf) (state_of self.old)) }
     {
         self.close_p_in_scope(at)?;
         self.insert(token, at)?;
@@ -66,7 +69,8 @@ impl<'q> Rules<'q> {
 
     /// The start tag form.
     pub(crate) fn form(&mut self, token: &mut Token, at: u64) -> Result<Flow, Refusal>
-        ensures { FlowGives result (token_of token.new) (state_of self.new) (perform numbers at (token_of token.old) (choose form_is_set (error InBody) (close_p_in_scope ▸ insert ▸ form_pointer)) (state_of self.old)) }
+        ensures { FlowGives result (token_of token.new) (state_of self.new)
+            (perform numbers at (token_of token.old) (choose form_is_set (error InBody) (close_p_in_scope ▸ insert ▸ form_pointer)) (state_of self.old)) }
     {
         if self.control.form.is_some() {
             return self.ignore(Mode::InBody, at);
@@ -90,7 +94,8 @@ impl<'q> Rules<'q> {
 
     /// The start tag li.
     pub(crate) fn li(&mut self, token: &mut Token, at: u64) -> Result<Flow, Refusal>
-        ensures { FlowGives result (token_of token.new) (state_of self.new) (perform numbers at (token_of token.old) (when (item_is_near tag.Li) (close_item tag.Li) ▸ block) (state_of self.old)) }
+        ensures { FlowGives result (token_of token.new) (state_of self.new)
+            (perform numbers at (token_of token.old) (when (item_is_near tag.Li) (close_item tag.Li) ▸ block) (state_of self.old)) }
     {
         self.close_li(at)?;
         self.block(token, at)
@@ -109,7 +114,8 @@ impl<'q> Rules<'q> {
 
     /// An open dd or dt is closed.
     pub(crate) fn close_dd(&mut self, at: u64) -> Result<(), Refusal>
-        ensures { StateGives result (state_of self.new) (performed at (choose (item_is_near tag.Dd) (close_item tag.Dd) (when (item_is_near tag.Dt) (close_item tag.Dt))) (state_of self.old)) }
+        ensures { StateGives result (state_of self.new)
+            (performed at (choose (item_is_near tag.Dd) (close_item tag.Dd) (when (item_is_near tag.Dt) (close_item tag.Dt))) (state_of self.old)) }
     {
         let dd = Tag::Dd.number();
         if self.site.item_is_near(dd) {
@@ -120,7 +126,9 @@ impl<'q> Rules<'q> {
 
     /// The start tags dd and dt.
     pub(crate) fn dd(&mut self, token: &mut Token, at: u64) -> Result<Flow, Refusal>
-        ensures { FlowGives result (token_of token.new) (state_of self.new) (perform numbers at (token_of token.old) (choose (item_is_near tag.Dd) (close_item tag.Dd) (when (item_is_near tag.Dt) (close_item tag.Dt)) ▸ block) (state_of self.old)) }
+        ensures { FlowGives result (token_of token.new) (state_of self.new)
+            (perform numbers at (token_of token.old) (choose (item_is_near tag.Dd) (close_item tag.Dd) (when (item_is_near tag.Dt) (close_item tag.Dt)) ▸ block)
+            (state_of self.old)) }
     {
         self.close_dd(at)?;
         self.block(token, at)
@@ -128,7 +136,8 @@ impl<'q> Rules<'q> {
 
     /// An open button in scope is closed.
     pub(crate) fn close_button(&mut self, at: u64) -> Result<(), Refusal>
-        ensures { StateGives result (state_of self.new) (performed at (when (has_in scope.Default tag.Button) (error InBody ▸ implied ▸ pop_to tag.Button)) (state_of self.old)) }
+        ensures { StateGives result (state_of self.new)
+            (performed at (when (has_in scope.Default tag.Button) (error InBody ▸ implied ▸ pop_to tag.Button)) (state_of self.old)) }
     {
         let button = Tag::Button.number();
         if self.site.in_scope(Scope::Default, button) {
@@ -141,7 +150,9 @@ impl<'q> Rules<'q> {
 
     /// The start tag button.
     pub(crate) fn button(&mut self, token: &mut Token, at: u64) -> Result<Flow, Refusal>
-        ensures { FlowGives result (token_of token.new) (state_of self.new) (perform numbers at (token_of token.old) (when (has_in scope.Default tag.Button) (error InBody ▸ implied ▸ pop_to tag.Button) ▸ reconstruct ▸ insert) (state_of self.old)) }
+        ensures { FlowGives result (token_of token.new) (state_of self.new)
+            (perform numbers at (token_of token.old)
+            (when (has_in scope.Default tag.Button) (error InBody ▸ implied ▸ pop_to tag.Button) ▸ reconstruct ▸ insert) (state_of self.old)) }
     {
         self.close_button(at)?;
         self.other_start(token, at)
@@ -174,7 +185,8 @@ impl<'q> Rules<'q> {
 
     /// The form pointer's element is closed.
     pub(crate) fn close_form(&mut self, at: u64) -> Result<(), Refusal>
-        ensures { StateGives result (state_of self.new) (performed at (choose has_form_in_scope (implied ▸ unless current_is_form (error InBody) ▸ remove_form) (error InBody)) (state_of self.old)) }
+        ensures { StateGives result (state_of self.new)
+            (performed at (choose has_form_in_scope (implied ▸ unless current_is_form (error InBody) ▸ remove_form) (error InBody)) (state_of self.old)) }
     {
         if !self.form_in_scope() {
             return self.error(Mode::InBody, at);
@@ -192,7 +204,9 @@ impl<'q> Rules<'q> {
 
     /// The end tag form.
     pub(crate) fn end_form(&mut self, at: u64) -> Result<Flow, Refusal>
-        ensures { (t : TokenOf ℕ) → FlowGives result t (state_of self.new) (perform numbers at t (choose has_form_in_scope (implied ▸ unless current_is_form (error InBody) ▸ remove_form) (error InBody) ▸ forget_form) (state_of self.old)) }
+        ensures { (t : TokenOf ℕ) → FlowGives result t (state_of self.new)
+            (perform numbers at t (choose has_form_in_scope (implied ▸ unless current_is_form (error InBody) ▸ remove_form) (error InBody) ▸ forget_form)
+            (state_of self.old)) }
     {
         self.close_form(at)?;
         self.control.form = None;
@@ -201,7 +215,8 @@ impl<'q> Rules<'q> {
 
     /// There is a p in button scope.
     pub(crate) fn need_p(&mut self, at: u64) -> Result<(), Refusal>
-        ensures { StateGives result (state_of self.new) (performed at (unless (has_in scope.Button tag.P) (error InBody ▸ insert_named tag.P)) (state_of self.old)) }
+        ensures { StateGives result (state_of self.new)
+            (performed at (unless (has_in scope.Button tag.P) (error InBody ▸ insert_named tag.P)) (state_of self.old)) }
     {
         let p = Tag::P.number();
         if self.site.in_scope(Scope::Button, p) {
@@ -213,7 +228,8 @@ impl<'q> Rules<'q> {
 
     /// The end tag p.
     pub(crate) fn end_p(&mut self, at: u64) -> Result<Flow, Refusal>
-        ensures { (t : TokenOf ℕ) → FlowGives result t (state_of self.new) (perform numbers at t (unless (has_in scope.Button tag.P) (error InBody ▸ insert_named tag.P) ▸ close_p) (state_of self.old)) }
+        ensures { (t : TokenOf ℕ) → FlowGives result t (state_of self.new)
+            (perform numbers at t (unless (has_in scope.Button tag.P) (error InBody ▸ insert_named tag.P) ▸ close_p) (state_of self.old)) }
     {
         self.need_p(at)?;
         self.site.close_p(at)?;
@@ -222,7 +238,8 @@ impl<'q> Rules<'q> {
 
     /// The nearest heading is closed, which should have this name.
     pub(crate) fn close_heading_named(&mut self, name: NameId, at: u64) -> Result<(), Refusal>
-        ensures { StateGives result (state_of self.new) (performed_for name at (implied ▸ unless current_is_name (error InBody) ▸ pop_to_group group.Heading) (state_of self.old)) }
+        ensures { StateGives result (state_of self.new)
+            (performed_for name at (implied ▸ unless current_is_name (error InBody) ▸ pop_to_group group.Heading) (state_of self.old)) }
     {
         self.site.pop_past(Passing::Implied(None));
         if !self.site.current_is(name) {
@@ -234,7 +251,10 @@ impl<'q> Rules<'q> {
 
     /// The end tag of a heading.
     pub(crate) fn end_heading(&mut self, token: &Token, at: u64) -> Result<Flow, Refusal>
-        ensures { FlowGives result (token_of token.now) (state_of self.new) (perform numbers at (token_of token.now) (choose (has_group_in scope.Default group.Heading) (implied ▸ unless current_is_name (error InBody) ▸ pop_to_group group.Heading) (error InBody)) (state_of self.old)) }
+        ensures { FlowGives result (token_of token.now) (state_of self.new)
+            (perform numbers at (token_of token.now)
+            (choose (has_group_in scope.Default group.Heading) (implied ▸ unless current_is_name (error InBody) ▸ pop_to_group group.Heading) (error InBody))
+            (state_of self.old)) }
     {
         if !self.site.group_in_scope(Scope::Default, Group::Heading) {
             return self.ignore(Mode::InBody, at);

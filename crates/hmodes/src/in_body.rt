@@ -48,7 +48,8 @@ impl<'q> Rules<'q> {
     /// A start tag.
     fn start_in_body(&mut self, family: Family, token: &mut Token, at: u64) -> Result<Flow, Refusal>
         requires { Kept numbers self.old.site }
-        ensures { FlowGives result (token_of token.new) (state_of self.new) (perform numbers at (token_of token.old) (in_body (Start family)) (state_of self.old)) }
+        ensures { FlowGives result (token_of token.new) (state_of self.new)
+            (perform numbers at (token_of token.old) (in_body (Start family)) (state_of self.old)) }
     {
         match family {
             Family::Html => self.html_again(token, at),
@@ -94,7 +95,8 @@ impl<'q> Rules<'q> {
     /// An end tag.
     fn end_in_body(&mut self, family: Family, token: &mut Token, at: u64) -> Result<Flow, Refusal>
         requires { Kept numbers self.old.site }
-        ensures { FlowGives result (token_of token.new) (state_of self.new) (perform numbers at (token_of token.old) (in_body (End family)) (state_of self.old)) }
+        ensures { FlowGives result (token_of token.new) (state_of self.new)
+            (perform numbers at (token_of token.old) (in_body (End family)) (state_of self.old)) }
     {
         match family {
             Family::Body => self.end_body(at),
@@ -148,7 +150,8 @@ impl<'q> Rules<'q> {
 
     /// The start tag body where it is not the first.
     pub(crate) fn body_again(&mut self, token: &mut Token, at: u64) -> Result<Flow, Refusal>
-        ensures { FlowGives result (token_of token.new) (state_of self.new) (perform numbers at (token_of token.old) (error InBody ▸ when second_is_body add_missing_to_second) (state_of self.old)) }
+        ensures { FlowGives result (token_of token.new) (state_of self.new)
+            (perform numbers at (token_of token.old) (error InBody ▸ when second_is_body add_missing_to_second) (state_of self.old)) }
     {
         self.error(Mode::InBody, at)?;
         if self.second_is_body() {
@@ -159,7 +162,8 @@ impl<'q> Rules<'q> {
 
     /// The end tag body.
     pub(crate) fn end_body(&mut self, at: u64) -> Result<Flow, Refusal>
-        ensures { (t : TokenOf ℕ) → FlowGives result t (state_of self.new) (perform numbers at t (choose (has_in scope.Default tag.Body) (body_ends ▸ to AfterBody) (error InBody)) (state_of self.old)) }
+        ensures { (t : TokenOf ℕ) → FlowGives result t (state_of self.new)
+            (perform numbers at t (choose (has_in scope.Default tag.Body) (body_ends ▸ to AfterBody) (error InBody)) (state_of self.old)) }
     {
         if !self.site.in_scope(Scope::Default, Tag::Body.number()) {
             return self.ignore(Mode::InBody, at);
@@ -171,7 +175,8 @@ impl<'q> Rules<'q> {
 
     /// The end tag html.
     pub(crate) fn end_html(&mut self, at: u64) -> Result<Flow, Refusal>
-        ensures { (t : TokenOf ℕ) → FlowGives result t (state_of self.new) (perform numbers at t (choose (has_in scope.Default tag.Body) (body_ends ▸ to AfterBody ▸ again) (error InBody)) (state_of self.old)) }
+        ensures { (t : TokenOf ℕ) → FlowGives result t (state_of self.new)
+            (perform numbers at t (choose (has_in scope.Default tag.Body) (body_ends ▸ to AfterBody ▸ again) (error InBody)) (state_of self.old)) }
     {
         if !self.site.in_scope(Scope::Default, Tag::Body.number()) {
             return self.ignore(Mode::InBody, at);
@@ -183,7 +188,8 @@ impl<'q> Rules<'q> {
 
     /// Any other start tag.
     pub(crate) fn other_start(&mut self, token: &mut Token, at: u64) -> Result<Flow, Refusal>
-        ensures { FlowGives result (token_of token.new) (state_of self.new) (perform numbers at (token_of token.old) (reconstruct ▸ insert) (state_of self.old)) }
+        ensures { FlowGives result (token_of token.new) (state_of self.new)
+            (perform numbers at (token_of token.old) (reconstruct ▸ insert) (state_of self.old)) }
     {
         self.site.reconstruct(at)?;
         self.insert(token, at)?;

@@ -57,7 +57,10 @@ impl<'q> Rules<'q> {
 
     /// The end tags td and th.
     pub(crate) fn end_cell(&mut self, token: &Token, at: u64) -> Result<Flow, Refusal>
-        ensures { FlowGives result (token_of token.now) (state_of self.new) (perform numbers at (token_of token.now) (choose (has_name_in scope.Table) (implied ▸ unless current_is_name (error InCell) ▸ pop_to_name ▸ clear_to_marker ▸ to InRow) (error InCell)) (state_of self.old)) }
+        ensures { FlowGives result (token_of token.now) (state_of self.new)
+            (perform numbers at (token_of token.now)
+            (choose (has_name_in scope.Table) (implied ▸ unless current_is_name (error InCell) ▸ pop_to_name ▸ clear_to_marker ▸ to InRow) (error InCell))
+            (state_of self.old)) }
     {
         let name = token_name(token);
         if !self.site.in_scope(Scope::Table, name) {

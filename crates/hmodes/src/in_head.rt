@@ -91,7 +91,8 @@ impl<'q> Rules<'q> {
         token: &mut Token,
         at: u64,
     ) -> Result<Flow, Refusal>
-        ensures { FlowGives result (token_of token.new) (state_of self.new) (perform numbers at (token_of token.old) (in_head_noscript kind) (state_of self.old)) }
+        ensures { FlowGives result (token_of token.new) (state_of self.new)
+            (perform numbers at (token_of token.old) (in_head_noscript kind) (state_of self.old)) }
     {
         match kind {
             Kind::Doctype => self.ignore(Mode::InHeadNoscript, at),

@@ -52,7 +52,8 @@ impl<'q> Rules<'q> {
 
     /// The start tags td and th.
     pub(crate) fn cell(&mut self, token: &mut Token, at: u64) -> Result<Flow, Refusal>
-        ensures { FlowGives result (token_of token.new) (state_of self.new) (perform numbers at (token_of token.old) (clear_to_row ▸ insert ▸ to InCell ▸ marker) (state_of self.old)) }
+        ensures { FlowGives result (token_of token.new) (state_of self.new)
+            (perform numbers at (token_of token.old) (clear_to_row ▸ insert ▸ to InCell ▸ marker) (state_of self.old)) }
     {
         self.site.pop_past(Passing::Row);
         self.insert(token, at)?;
@@ -89,7 +90,9 @@ impl<'q> Rules<'q> {
 
     /// The end tag of a table body in a row.
     pub(crate) fn end_section_in_row(&mut self, token: &Token, at: u64) -> Result<Flow, Refusal>
-        ensures { FlowGives result (token_of token.now) (state_of self.new) (perform numbers at (token_of token.now) (choose (has_name_in scope.Table) (when (has_in scope.Table tag.Tr) (leave_row ▸ again)) (error InRow)) (state_of self.old)) }
+        ensures { FlowGives result (token_of token.now) (state_of self.new)
+            (perform numbers at (token_of token.now) (choose (has_name_in scope.Table) (when (has_in scope.Table tag.Tr) (leave_row ▸ again)) (error InRow))
+            (state_of self.old)) }
     {
         if !self.site.in_scope(Scope::Table, token_name(token)) {
             return self.ignore(Mode::InRow, at);

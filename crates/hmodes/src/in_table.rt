@@ -54,7 +54,8 @@ impl<'q> Rules<'q> {
         at: u64,
     ) -> Result<Flow, Refusal>
         requires { Kept numbers self.old.site }
-        ensures { FlowGives result (token_of token.new) (state_of self.new) (perform numbers at (token_of token.old) (in_table (Start family)) (state_of self.old)) }
+        ensures { FlowGives result (token_of token.new) (state_of self.new)
+            (perform numbers at (token_of token.old) (in_table (Start family)) (state_of self.old)) }
     {
         match family {
             Family::Caption => self.caption(token, at),
@@ -73,7 +74,8 @@ impl<'q> Rules<'q> {
     /// An end tag in a table.
     fn end_in_table(&mut self, family: Family, token: &mut Token, at: u64) -> Result<Flow, Refusal>
         requires { Kept numbers self.old.site }
-        ensures { FlowGives result (token_of token.new) (state_of self.new) (perform numbers at (token_of token.old) (in_table (End family)) (state_of self.old)) }
+        ensures { FlowGives result (token_of token.new) (state_of self.new)
+            (perform numbers at (token_of token.old) (in_table (End family)) (state_of self.old)) }
     {
         match family {
             Family::Table => self.end_table(at),
@@ -98,7 +100,8 @@ impl<'q> Rules<'q> {
         at: u64,
     ) -> Result<Flow, Refusal>
         requires { Kept numbers self.old.site }
-        ensures { FlowGives result (token_of token.new) (state_of self.new) (perform numbers at (token_of token.old) (other_in_table kind) (state_of self.old)) }
+        ensures { FlowGives result (token_of token.new) (state_of self.new)
+            (perform numbers at (token_of token.old) (other_in_table kind) (state_of self.old)) }
     {
         self.error(Mode::InTable, at)?;
         self.site.set_foster(true);
@@ -115,7 +118,8 @@ impl<'q> Rules<'q> {
         at: u64,
     ) -> Result<Flow, Refusal>
         requires { Kept numbers self.old.site }
-        ensures { FlowGives result (token_of token.new) (state_of self.new) (perform numbers at (token_of token.old) (character_in_table kind) (state_of self.old)) }
+        ensures { FlowGives result (token_of token.new) (state_of self.new)
+            (perform numbers at (token_of token.old) (character_in_table kind) (state_of self.old)) }
     {
         if !self.site.current_fosters() {
             return self.other_in_table(kind, token, at);
@@ -128,7 +132,8 @@ impl<'q> Rules<'q> {
 
     /// The start tag caption.
     pub(crate) fn caption(&mut self, token: &mut Token, at: u64) -> Result<Flow, Refusal>
-        ensures { FlowGives result (token_of token.new) (state_of self.new) (perform numbers at (token_of token.old) (clear_to_table ▸ marker ▸ insert ▸ to InCaption) (state_of self.old)) }
+        ensures { FlowGives result (token_of token.new) (state_of self.new)
+            (perform numbers at (token_of token.old) (clear_to_table ▸ marker ▸ insert ▸ to InCaption) (state_of self.old)) }
     {
         self.site.pop_past(Passing::Table);
         self.site.marker()?;
@@ -139,7 +144,8 @@ impl<'q> Rules<'q> {
 
     /// A part of a table, whose content goes by another mode.
     fn insert_in_table(&mut self, mode: Mode, token: &mut Token, at: u64) -> Result<Flow, Refusal>
-        ensures { FlowGives result (token_of token.new) (state_of self.new) (perform numbers at (token_of token.old) (clear_to_table ▸ insert ▸ to mode) (state_of self.old)) }
+        ensures { FlowGives result (token_of token.new) (state_of self.new)
+            (perform numbers at (token_of token.old) (clear_to_table ▸ insert ▸ to mode) (state_of self.old)) }
     {
         self.site.pop_past(Passing::Table);
         self.insert(token, at)?;
@@ -149,7 +155,8 @@ impl<'q> Rules<'q> {
 
     /// A column group that no tag began.
     pub(crate) fn colgroup_unwritten(&mut self, at: u64) -> Result<Flow, Refusal>
-        ensures { (t : TokenOf ℕ) → FlowGives result t (state_of self.new) (perform numbers at t (clear_to_table ▸ insert_named tag.Colgroup ▸ to InColumnGroup ▸ again) (state_of self.old)) }
+        ensures { (t : TokenOf ℕ) → FlowGives result t (state_of self.new)
+            (perform numbers at t (clear_to_table ▸ insert_named tag.Colgroup ▸ to InColumnGroup ▸ again) (state_of self.old)) }
     {
         self.site.pop_past(Passing::Table);
         self.insert_named(Tag::Colgroup.number(), at)?;
@@ -169,7 +176,8 @@ impl<'q> Rules<'q> {
 
     /// The start tag table in a table.
     pub(crate) fn table_again(&mut self, at: u64) -> Result<Flow, Refusal>
-        ensures { (t : TokenOf ℕ) → FlowGives result t (state_of self.new) (perform numbers at t (error InTable ▸ when (has_in scope.Table tag.Table) (pop_to tag.Table ▸ reset ▸ again)) (state_of self.old)) }
+        ensures { (t : TokenOf ℕ) → FlowGives result t (state_of self.new)
+            (perform numbers at t (error InTable ▸ when (has_in scope.Table tag.Table) (pop_to tag.Table ▸ reset ▸ again)) (state_of self.old)) }
     {
         let table = Tag::Table.number();
         self.error(Mode::InTable, at)?;
@@ -183,7 +191,8 @@ impl<'q> Rules<'q> {
 
     /// The end tag table.
     pub(crate) fn end_table(&mut self, at: u64) -> Result<Flow, Refusal>
-        ensures { (t : TokenOf ℕ) → FlowGives result t (state_of self.new) (perform numbers at t (choose (has_in scope.Table tag.Table) (pop_to tag.Table ▸ reset) (error InTable)) (state_of self.old)) }
+        ensures { (t : TokenOf ℕ) → FlowGives result t (state_of self.new)
+            (perform numbers at t (choose (has_in scope.Table tag.Table) (pop_to tag.Table ▸ reset) (error InTable)) (state_of self.old)) }
     {
         let table = Tag::Table.number();
         if !self.site.in_scope(Scope::Table, table) {
@@ -197,7 +206,8 @@ impl<'q> Rules<'q> {
     /// The start tag input in a table.
     pub(crate) fn input_in_table(&mut self, token: &mut Token, at: u64) -> Result<Flow, Refusal>
         requires { Kept numbers self.old.site }
-        ensures { FlowGives result (token_of token.new) (state_of self.new) (perform numbers at (token_of token.old) (in_table (Start family.Input)) (state_of self.old)) }
+        ensures { FlowGives result (token_of token.new) (state_of self.new)
+            (perform numbers at (token_of token.old) (in_table (Start family.Input)) (state_of self.old)) }
     {
         if !is_hidden(token) {
             return self.other_in_table(Kind::Start(Family::Input), token, at);
@@ -209,7 +219,8 @@ impl<'q> Rules<'q> {
 
     /// The start tag form in a table.
     pub(crate) fn form_in_table(&mut self, token: &mut Token, at: u64) -> Result<Flow, Refusal>
-        ensures { FlowGives result (token_of token.new) (state_of self.new) (perform numbers at (token_of token.old) (error InTable ▸ unless form_is_set (insert ▸ form_pointer ▸ pop)) (state_of self.old)) }
+        ensures { FlowGives result (token_of token.new) (state_of self.new)
+            (perform numbers at (token_of token.old) (error InTable ▸ unless form_is_set (insert ▸ form_pointer ▸ pop)) (state_of self.old)) }
     {
         let is_set = self.control.form.is_some();
         self.error(Mode::InTable, at)?;

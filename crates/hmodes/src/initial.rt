@@ -109,7 +109,8 @@ impl<'q> Rules<'q> {
 
     /// Whether the quirks list has these identifiers.
     fn is_listed(&self, public: Option<&str>, system: Option<&str>) -> bool
-        ensures { result ≡ list_matches (option_map_or (λ list. list.now) self.now.quirks_list []) (option_map (λ text. text.now) public.entry) (option_map (λ text. text.now) system.entry) }
+        ensures { result ≡ list_matches (option_map_or (λ list. list.now) self.now.quirks_list []) (option_map (λ text. text.now) public.entry)
+            (option_map (λ text. text.now) system.entry) }
     {
         match self.quirks_list {
             Some(list) => list.matches(public, system),
@@ -139,7 +140,8 @@ impl<'q> Rules<'q> {
 
     /// A parse error if the doctype is one.
     fn judge(&mut self, token: &Token, at: u64) -> Result<(), Refusal>
-        ensures { StateGives result (state_of self.new) (perform numbers at (token_of token.now) (unless doctype_conforms (error Initial)) (state_of self.old)) }
+        ensures { StateGives result (state_of self.new)
+            (perform numbers at (token_of token.now) (unless doctype_conforms (error Initial)) (state_of self.old)) }
     {
         if conforms(token) {
             return Ok(());
@@ -149,7 +151,9 @@ impl<'q> Rules<'q> {
 
     /// A doctype.
     fn doctype(&mut self, token: &mut Token, at: u64) -> Result<Flow, Refusal>
-        ensures { FlowGives result (token_of token.new) (state_of self.new) (perform numbers at (token_of token.old) (unless doctype_conforms (error Initial) ▸ insert_doctype ▸ judge_quirks ▸ to BeforeHtml) (state_of self.old)) }
+        ensures { FlowGives result (token_of token.new) (state_of self.new)
+            (perform numbers at (token_of token.old) (unless doctype_conforms (error Initial) ▸ insert_doctype ▸ judge_quirks ▸ to BeforeHtml)
+            (state_of self.old)) }
     {
         self.judge(token, at)?;
         let quirks = self.forces_quirks(token);
@@ -162,7 +166,8 @@ impl<'q> Rules<'q> {
 
     /// A document without a doctype.
     fn no_doctype(&mut self, at: u64) -> Result<Flow, Refusal>
-        ensures { (t : TokenOf ℕ) → FlowGives result t (state_of self.new) (perform numbers at t (error Initial ▸ go_quirks ▸ to BeforeHtml ▸ again) (state_of self.old)) }
+        ensures { (t : TokenOf ℕ) → FlowGives result t (state_of self.new)
+            (perform numbers at t (error Initial ▸ go_quirks ▸ to BeforeHtml ▸ again) (state_of self.old)) }
     {
         self.error(Mode::Initial, at)?;
         self.control.quirks = true;

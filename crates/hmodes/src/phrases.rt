@@ -90,7 +90,8 @@ impl<'q> Rules<'q> {
     /// The start tag a.
     pub(crate) fn anchor(&mut self, token: &mut Token, at: u64) -> Result<Flow, Refusal>
         requires { Kept numbers self.old.site }
-        ensures { FlowGives result (token_of token.new) (state_of self.new) (perform numbers at (token_of token.old) (when name_is_listed (error InBody ▸ adopt_listed) ▸ formatting) (state_of self.old)) }
+        ensures { FlowGives result (token_of token.new) (state_of self.new)
+            (perform numbers at (token_of token.old) (when name_is_listed (error InBody ▸ adopt_listed) ▸ formatting) (state_of self.old)) }
     {
         self.close_listed(token_name(token), at)?;
         self.formatting(token, at)
@@ -109,7 +110,8 @@ impl<'q> Rules<'q> {
     /// A nobr in scope is closed.
     fn close_nobr(&mut self, name: NameId, at: u64) -> Result<(), Refusal>
         requires { Kept numbers self.old.site }
-        ensures { StateGives result (state_of self.new) (performed_for name at (when (has_in scope.Default tag.Nobr) (error InBody ▸ adopt ▸ reconstruct)) (state_of self.old)) }
+        ensures { StateGives result (state_of self.new)
+            (performed_for name at (when (has_in scope.Default tag.Nobr) (error InBody ▸ adopt ▸ reconstruct)) (state_of self.old)) }
     {
         if !self.site.in_scope(Scope::Default, Tag::Nobr.number()) {
             return Ok(());
@@ -120,7 +122,9 @@ impl<'q> Rules<'q> {
     /// The start tag nobr.
     pub(crate) fn nobr(&mut self, token: &mut Token, at: u64) -> Result<Flow, Refusal>
         requires { Kept numbers self.old.site }
-        ensures { FlowGives result (token_of token.new) (state_of self.new) (perform numbers at (token_of token.old) (reconstruct ▸ when (has_in scope.Default tag.Nobr) (error InBody ▸ adopt ▸ reconstruct) ▸ insert ▸ push_to_list) (state_of self.old)) }
+        ensures { FlowGives result (token_of token.new) (state_of self.new)
+            (perform numbers at (token_of token.old)
+            (reconstruct ▸ when (has_in scope.Default tag.Nobr) (error InBody ▸ adopt ▸ reconstruct) ▸ insert ▸ push_to_list) (state_of self.old)) }
     {
         self.site.reconstruct(at)?;
         self.close_nobr(token_name(token), at)?;
@@ -139,7 +143,8 @@ impl<'q> Rules<'q> {
 
     /// The start tags applet, marquee and object.
     pub(crate) fn object(&mut self, token: &mut Token, at: u64) -> Result<Flow, Refusal>
-        ensures { FlowGives result (token_of token.new) (state_of self.new) (perform numbers at (token_of token.old) (reconstruct ▸ insert ▸ marker) (state_of self.old)) }
+        ensures { FlowGives result (token_of token.new) (state_of self.new)
+            (perform numbers at (token_of token.old) (reconstruct ▸ insert ▸ marker) (state_of self.old)) }
     {
         self.site.reconstruct(at)?;
         self.insert(token, at)?;
@@ -149,7 +154,10 @@ impl<'q> Rules<'q> {
 
     /// The end tags applet, marquee and object.
     pub(crate) fn end_object(&mut self, token: &Token, at: u64) -> Result<Flow, Refusal>
-        ensures { FlowGives result (token_of token.now) (state_of self.new) (perform numbers at (token_of token.now) (choose (has_name_in scope.Default) (implied ▸ unless current_is_name (error InBody) ▸ pop_to_name ▸ clear_to_marker) (error InBody)) (state_of self.old)) }
+        ensures { FlowGives result (token_of token.now) (state_of self.new)
+            (perform numbers at (token_of token.now)
+            (choose (has_name_in scope.Default) (implied ▸ unless current_is_name (error InBody) ▸ pop_to_name ▸ clear_to_marker) (error InBody))
+            (state_of self.old)) }
     {
         let name = token_name(token);
         if !self.site.in_scope(Scope::Default, name) {
@@ -173,7 +181,8 @@ impl<'q> Rules<'q> {
 
     /// The start tag table.
     pub(crate) fn table(&mut self, token: &mut Token, at: u64) -> Result<Flow, Refusal>
-        ensures { FlowGives result (token_of token.new) (state_of self.new) (perform numbers at (token_of token.old) (unless is_in_quirks close_p_in_scope ▸ insert ▸ to InTable) (state_of self.old)) }
+        ensures { FlowGives result (token_of token.new) (state_of self.new)
+            (perform numbers at (token_of token.old) (unless is_in_quirks close_p_in_scope ▸ insert ▸ to InTable) (state_of self.old)) }
     {
         self.close_p_before_table(at)?;
         self.insert(token, at)?;
@@ -183,7 +192,8 @@ impl<'q> Rules<'q> {
 
     /// The end tag br.
     pub(crate) fn end_br(&mut self, at: u64) -> Result<Flow, Refusal>
-        ensures { (t : TokenOf ℕ) → FlowGives result t (state_of self.new) (perform numbers at t (error InBody ▸ reconstruct ▸ insert_named tag.Br ▸ pop) (state_of self.old)) }
+        ensures { (t : TokenOf ℕ) → FlowGives result t (state_of self.new)
+            (perform numbers at t (error InBody ▸ reconstruct ▸ insert_named tag.Br ▸ pop) (state_of self.old)) }
     {
         self.error(Mode::InBody, at)?;
         self.site.reconstruct(at)?;
@@ -219,7 +229,8 @@ impl<'q> Rules<'q> {
 
     /// The start tag hr.
     pub(crate) fn hr(&mut self, token: &mut Token, at: u64) -> Result<Flow, Refusal>
-        ensures { FlowGives result (token_of token.new) (state_of self.new) (perform numbers at (token_of token.old) (close_p_in_scope ▸ void) (state_of self.old)) }
+        ensures { FlowGives result (token_of token.new) (state_of self.new)
+            (perform numbers at (token_of token.old) (close_p_in_scope ▸ void) (state_of self.old)) }
     {
         self.close_p_in_scope(at)?;
         self.void(token, at)?;
@@ -228,7 +239,8 @@ impl<'q> Rules<'q> {
 
     /// The start tag image, which goes again as img.
     pub(crate) fn image(&mut self, token: &mut Token, at: u64) -> Result<Flow, Refusal>
-        ensures { FlowGives result (token_of token.new) (state_of self.new) (perform numbers at (token_of token.old) (error InBody ▸ again_as tag.Img) (state_of self.old)) }
+        ensures { FlowGives result (token_of token.new) (state_of self.new)
+            (perform numbers at (token_of token.old) (error InBody ▸ again_as tag.Img) (state_of self.old)) }
     {
         self.error(Mode::InBody, at)?;
         rename(token, Tag::Img.number());
@@ -246,7 +258,8 @@ impl<'q> Rules<'q> {
 
     /// The start tag xmp.
     pub(crate) fn xmp(&mut self, token: &mut Token, at: u64) -> Result<Flow, Refusal>
-        ensures { FlowGives result (token_of token.new) (state_of self.new) (perform numbers at (token_of token.old) (close_p_in_scope ▸ reconstruct ▸ raw) (state_of self.old)) }
+        ensures { FlowGives result (token_of token.new) (state_of self.new)
+            (perform numbers at (token_of token.old) (close_p_in_scope ▸ reconstruct ▸ raw) (state_of self.old)) }
     {
         self.close_p_in_scope(at)?;
         self.site.reconstruct(at)?;
@@ -264,7 +277,8 @@ impl<'q> Rules<'q> {
 
     /// Implied end tags in a ruby, which should be the current node then.
     pub(crate) fn in_ruby(&mut self, at: u64) -> Result<(), Refusal>
-        ensures { StateGives result (state_of self.new) (performed at (when (has_in scope.Default tag.Ruby) implied ▸ unless (current_is tag.Ruby) (error InBody)) (state_of self.old)) }
+        ensures { StateGives result (state_of self.new)
+            (performed at (when (has_in scope.Default tag.Ruby) implied ▸ unless (current_is tag.Ruby) (error InBody)) (state_of self.old)) }
     {
         let ruby = Tag::Ruby.number();
         if self.site.in_scope(Scope::Default, ruby) {
@@ -278,7 +292,9 @@ impl<'q> Rules<'q> {
 
     /// The start tags rb and rtc.
     pub(crate) fn rb(&mut self, token: &mut Token, at: u64) -> Result<Flow, Refusal>
-        ensures { FlowGives result (token_of token.new) (state_of self.new) (perform numbers at (token_of token.old) (when (has_in scope.Default tag.Ruby) implied ▸ unless (current_is tag.Ruby) (error InBody) ▸ insert) (state_of self.old)) }
+        ensures { FlowGives result (token_of token.new) (state_of self.new)
+            (perform numbers at (token_of token.old) (when (has_in scope.Default tag.Ruby) implied ▸ unless (current_is tag.Ruby) (error InBody) ▸ insert)
+            (state_of self.old)) }
     {
         self.in_ruby(at)?;
         self.insert(token, at)?;
@@ -287,7 +303,9 @@ impl<'q> Rules<'q> {
 
     /// Implied end tags but rtc in a ruby; it or an rtc should be the current node then.
     pub(crate) fn in_ruby_text(&mut self, at: u64) -> Result<(), Refusal>
-        ensures { StateGives result (state_of self.new) (performed at (when (has_in scope.Default tag.Ruby) (implied_except tag.Rtc) ▸ unless (current_is tag.Rtc) (unless (current_is tag.Ruby) (error InBody))) (state_of self.old)) }
+        ensures { StateGives result (state_of self.new)
+            (performed at (when (has_in scope.Default tag.Ruby) (implied_except tag.Rtc) ▸ unless (current_is tag.Rtc)
+            (unless (current_is tag.Ruby) (error InBody))) (state_of self.old)) }
     {
         let ruby = Tag::Ruby.number();
         let rtc = Tag::Rtc.number();
@@ -302,7 +320,10 @@ impl<'q> Rules<'q> {
 
     /// The start tags rp and rt.
     pub(crate) fn rp(&mut self, token: &mut Token, at: u64) -> Result<Flow, Refusal>
-        ensures { FlowGives result (token_of token.new) (state_of self.new) (perform numbers at (token_of token.old) (when (has_in scope.Default tag.Ruby) (implied_except tag.Rtc) ▸ unless (current_is tag.Rtc) (unless (current_is tag.Ruby) (error InBody)) ▸ insert) (state_of self.old)) }
+        ensures { FlowGives result (token_of token.new) (state_of self.new)
+            (perform numbers at (token_of token.old)
+            (when (has_in scope.Default tag.Ruby) (implied_except tag.Rtc) ▸ unless (current_is tag.Rtc) (unless (current_is tag.Ruby) (error InBody)) ▸ insert)
+            (state_of self.old)) }
     {
         self.in_ruby_text(at)?;
         self.insert(token, at)?;

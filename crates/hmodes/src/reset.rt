@@ -10,6 +10,7 @@ ghost use Rattle.hmodes.specs.Reset.{open_mode, context_mode, root_mode, reset_m
 
 use crate::mode::Mode;
 use crate::rules::Rules;
+use hopen::Group;
 use names::Tag;
 
 /// The mode that an open node decides on.
@@ -48,16 +49,12 @@ impl<'q> Rules<'q> {
     pub(crate) fn reset_mode(&self) -> Mode
         ensures { result ≡ reset_mode numbers self.now.context (stack self.now.site) }
     {
-        let mut down = self.site.open_count().saturating_sub(1);
-        let mut up = 0;
-        while down > 0 {
-            if let Some(mode) = self.mode_at(up) {
-                return mode;
-            }
-            up += 1;
-            down -= 1;
+        let below_first = self.site.open_count().saturating_sub(1);
+        match self.site.group_place(Group::TellsMode) {
+            // the first open node is read as the context
+            Some(up) if up < below_first => self.mode_at(up).unwrap_or(Mode::InBody),
+            _ => self.root_mode(),
         }
-        self.root_mode()
     }
 
     /// The mode that the open node with so many below it decides on.

@@ -58,7 +58,8 @@ impl<'q> Rules<'q> {
 
     /// The start tag tr.
     pub(crate) fn row(&mut self, token: &mut Token, at: u64) -> Result<Flow, Refusal>
-        ensures { FlowGives result (token_of token.new) (state_of self.new) (perform numbers at (token_of token.old) (clear_to_body ▸ insert ▸ to InRow) (state_of self.old)) }
+        ensures { FlowGives result (token_of token.new) (state_of self.new)
+            (perform numbers at (token_of token.old) (clear_to_body ▸ insert ▸ to InRow) (state_of self.old)) }
     {
         self.site.pop_past(Passing::Body);
         self.insert(token, at)?;
@@ -68,7 +69,8 @@ impl<'q> Rules<'q> {
 
     /// A row that no tag began.
     pub(crate) fn row_unwritten_in_body(&mut self, at: u64) -> Result<Flow, Refusal>
-        ensures { (t : TokenOf ℕ) → FlowGives result t (state_of self.new) (perform numbers at t (error InTableBody ▸ clear_to_body ▸ insert_named tag.Tr ▸ to InRow ▸ again) (state_of self.old)) }
+        ensures { (t : TokenOf ℕ) → FlowGives result t (state_of self.new)
+            (perform numbers at t (error InTableBody ▸ clear_to_body ▸ insert_named tag.Tr ▸ to InRow ▸ again) (state_of self.old)) }
     {
         self.error(Mode::InTableBody, at)?;
         self.site.pop_past(Passing::Body);
@@ -79,7 +81,8 @@ impl<'q> Rules<'q> {
 
     /// The end tag of a table body.
     pub(crate) fn end_section(&mut self, token: &Token, at: u64) -> Result<Flow, Refusal>
-        ensures { FlowGives result (token_of token.now) (state_of self.new) (perform numbers at (token_of token.now) (choose (has_name_in scope.Table) leave_section (error InTableBody)) (state_of self.old)) }
+        ensures { FlowGives result (token_of token.now) (state_of self.new)
+            (perform numbers at (token_of token.now) (choose (has_name_in scope.Table) leave_section (error InTableBody)) (state_of self.old)) }
     {
         if !self.site.in_scope(Scope::Table, token_name(token)) {
             return self.ignore(Mode::InTableBody, at);

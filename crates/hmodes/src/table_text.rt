@@ -57,7 +57,8 @@ impl<'q> Rules<'q> {
 
     /// The pending characters are put: where all are white space as they are, else as anything else in a table.
     fn pending_ends(&mut self) -> Result<Flow, Refusal>
-        ensures { (t : TokenOf ℕ) → FlowGives result t (state_of self.new) (perform numbers 0 t (choose pending_is_ws (each_pending put) (each_pending (other_in_table Char)) ▸ to_saved ▸ again) (state_of self.old)) }
+        ensures { (t : TokenOf ℕ) → FlowGives result t (state_of self.new)
+            (perform numbers 0 t (choose pending_is_ws (each_pending put) (each_pending (other_in_table Char)) ▸ to_saved ▸ again) (state_of self.old)) }
     {
         self.put_pending()?;
         self.control.mode = self.control.saved;
@@ -66,7 +67,8 @@ impl<'q> Rules<'q> {
 
     /// All pending characters are put.
     fn put_pending(&mut self) -> Result<(), Refusal>
-        ensures { StateGives result (state_of self.new) (performed 0 (choose pending_is_ws (each_pending put) (each_pending (other_in_table Char))) (state_of self.old)) }
+        ensures { StateGives result (state_of self.new)
+            (performed 0 (choose pending_is_ws (each_pending put) (each_pending (other_in_table Char))) (state_of self.old)) }
     {
         let pending = self.take_pending();
         self.put_all(pending)
@@ -82,7 +84,9 @@ impl<'q> Rules<'q> {
 
     /// Characters that were pending: white space is put as it is, others go as anything else in a table.
     fn put_all(&mut self, pending: Vec<Placed>) -> Result<(), Refusal>
-        ensures { StateGives result (state_of self.new) (if list_all (λ c. is_space c.ch) pending.items then each_of (λ c. perform numbers c.at (character c.ch) put) pending.items (state_of self.old) else each_of (λ c. perform numbers c.at (character c.ch) (other_in_table Char)) pending.items (state_of self.old)) }
+        ensures { StateGives result (state_of self.new)
+            (if list_all (λ c. is_space c.ch) pending.items then each_of (λ c. perform numbers c.at (character c.ch) put) pending.items (state_of self.old)
+            else each_of (λ c. perform numbers c.at (character c.ch) (other_in_table Char)) pending.items (state_of self.old)) }
     {
         if are_ws(&pending) {
             return self.put_each(pending);
@@ -102,7 +106,8 @@ impl<'q> Rules<'q> {
 
     /// Each character goes as anything else in a table.
     fn foster_each(&mut self, pending: Vec<Placed>) -> Result<(), Refusal>
-        ensures { StateGives result (state_of self.new) (each_of (λ c. perform numbers c.at (character c.ch) (other_in_table Char)) pending.items (state_of self.old)) }
+        ensures { StateGives result (state_of self.new)
+            (each_of (λ c. perform numbers c.at (character c.ch) (other_in_table Char)) pending.items (state_of self.old)) }
     {
         for c in pending {
             self.foster_char(c.ch, c.at)?;

@@ -100,7 +100,8 @@ impl<'q> Rules<'q> {
         token: &mut Token,
         at: u64,
     ) -> Result<Flow, Refusal>
-        ensures done { FlowGives result (token_of token.new) (state_of self.new) (perform numbers at (token_of token.old) comment_in_document (state_of self.old)) }
+        ensures done { FlowGives result (token_of token.new) (state_of self.new)
+            (perform numbers at (token_of token.old) comment_in_document (state_of self.old)) }
     {
         let text = take_text(self.alloc, token);
         let place = self.site.place_in_document();
@@ -110,7 +111,8 @@ impl<'q> Rules<'q> {
 
     /// A comment last in the first open node.
     pub(crate) fn comment_in_first(&mut self, token: &mut Token, at: u64) -> Result<Flow, Refusal>
-        ensures done { FlowGives result (token_of token.new) (state_of self.new) (perform numbers at (token_of token.old) comment_in_first (state_of self.old)) }
+        ensures done { FlowGives result (token_of token.new) (state_of self.new)
+            (perform numbers at (token_of token.old) comment_in_first (state_of self.old)) }
     {
         let text = take_text(self.alloc, token);
         let place = self.site.place_in_first();
@@ -136,7 +138,8 @@ impl<'q> Rules<'q> {
 
     /// An open node, counted from the first, gets those of the token's attributes that it lacks.
     pub(crate) fn add_missing(&mut self, down: usize, token: &mut Token) -> Result<(), Refusal>
-        ensures { StateGives result (state_of self.new) (site_becomes (completed numbers (from_top down self.old.site) (token_attrs (token_of token.old))) (state_of self.old)) }
+        ensures { StateGives result (state_of self.new)
+            (site_becomes (completed numbers (from_top down self.old.site) (token_attrs (token_of token.old))) (state_of self.old)) }
     {
         let attrs = take_attrs(self.alloc, token);
         let node = match self.site.from_top(down) {
@@ -198,7 +201,8 @@ impl<'q> Rules<'q> {
 
     /// Closes the nearest element of a name, all whose implied end tags are generated but for its own.
     pub(crate) fn close_item(&mut self, name: NameId, at: u64) -> Result<(), Refusal>
-        ensures { StateGives result (state_of self.new) (performed_for name at (implied_except_name ▸ unless current_is_name (error InBody) ▸ pop_to_name) (state_of self.old)) }
+        ensures { StateGives result (state_of self.new)
+            (performed_for name at (implied_except_name ▸ unless current_is_name (error InBody) ▸ pop_to_name) (state_of self.old)) }
     {
         self.site.pop_past(Passing::Implied(Some(name)));
         self.pop_to(Mode::InBody, name, at)

@@ -1,31 +1,25 @@
-use Rattle.std.proofs.Common.{◌≡◌, ℕ, ◌+◌, ◌-◌, ◌<◌, drop, length, Some, None, unwrap_or, sym, ap, ◌∙◌, arith}
-use Rattle.hadopt.specs.Naming.{numbers}
+use Rattle.std.proofs.Common.{◌≡◌, ◌+◌, ◌≤◌, length, unwrap_or, sym, ap, ◌∙◌, arith}
+use Rattle.std.specs.List.{position_or_len}
 use Rattle.hadopt.specs.Site.{stack}
-use Rattle.hmodes.specs.Reset.{reset_mode}
-use Rattle.hmodes.proofs.Resetting.{decided, reset-further, reset-first}
+use Rattle.hmodes.specs.declared.mode.Mode.TheVariants.{InBody}
+use Rattle.hmodes.proofs.Resetting.{decided, tells, reset-told, reset-root, place-told, place-none}
+use Rattle.hmodes.proofs.rules.Rules.reset_mode.Goals.{in_default-via-in-Some+else-up-below_first, in_default-via-in_default}
 use Rattle.hmodes.proofs.rules.Rules.reset_mode.Goals as goal
 
 pub returns-in-Some : goal.returns-in-Some
 returns-in-Some c =
     let s = stack c.args.self.now.site in
-    let up = c.loop-down.up in
-    let less : up + 1 < length s = omega (arith, c.loop-down.invariant.count, c.loop-down-test.true) in
-    let is : decided s up ≡ Some c.in-Some.mode = sym c.mode_at.ensures ∙ c.in-Some.is in
-    sym (c.loop-down.invariant.same ∙ reset-further c.args.self.now.context s up less ∙ ap (λ o. unwrap_or o (reset_mode numbers c.args.self.now.context (drop (up + 1) s))) is)
+    let at : position_or_len tells s ≡ c.in-Some.up = place-told s c.in-Some.up (sym c.group_place.ensures.place ∙ c.in-Some.is) in
+    let told = reset-told c.args.self.now.context s (omega (arith, at, c.open_count.ensures, c.saturating_sub-below_first.ensures, c.if-up-below_first.true)) in
+    c.unwrap_or.ensures ∙ ap (λ o. unwrap_or o InBody) (c.mode_at.ensures ∙ ap (decided s) (sym at)) ∙ sym told
 
-pub loop-down-preserved : goal.loop-down-preserved
-loop-down-preserved c =
+pub returns-in_default : goal.returns-in_default
+returns-in_default c =
     let s = stack c.args.self.now.site in
-    let up = c.loop-down.up in
-    let less : up + 1 < length s = omega (arith, c.loop-down.invariant.count, c.loop-down-test.true) in
-    let is : decided s up ≡ None = sym c.mode_at.ensures ∙ c.in_default.is in
-    record {
-      count = omega (arith, c.loop-down.invariant.count, c.loop-down-test.true);
-      same = c.loop-down.invariant.same ∙ reset-further c.args.self.now.context s up less ∙ ap (λ o. unwrap_or o (reset_mode numbers c.args.self.now.context (drop (up + 1) s))) is;
-    }
-
-pub returns : goal.returns
-returns c =
-    let s = stack c.args.self.now.site in
-    let last : c.loop-down.up ≡ length s - 1 = omega (arith, c.loop-down.invariant.count, c.loop-down-test.false) in
-    c.root_mode.ensures ∙ sym (c.loop-down.invariant.same ∙ ap (λ (k : ℕ). reset_mode numbers c.args.self.now.context (drop k s)) last ∙ reset-first c.args.self.now.context s)
+    let last : length s ≤ position_or_len tells s + 1 = (elim c.in_default.branch [
+      | in_default-via-in-Some+else-up-below_first w ↦
+          let at = place-told s w.in-Some.up (sym c.group_place.ensures.place ∙ w.in-Some.is) in
+          omega (arith, at, c.open_count.ensures, c.saturating_sub-below_first.ensures, w.if-up-below_first.false)
+      | in_default-via-in_default w ↦ omega (arith, place-none s (sym c.group_place.ensures.place ∙ w.in_default.is))
+    ]) in
+    c.root_mode.ensures ∙ sym (reset-root c.args.self.now.context s last)
