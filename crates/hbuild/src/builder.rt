@@ -83,7 +83,8 @@ impl<'q> Builder<'q> {
 
     /// The builder of a fragment in a context element of this name. An error is `Memory`.
     pub fn fragment(alloc: Global, context: NameId, limits: Limits) -> Result<Builder<'q>, Refusal>
-        ensures { MatchResult result (λ b. b ≡ record { state = fragment_begins numbers context limits; root = 1; told = []; refused = None }) (λ e. e ≡ Memory) }
+        ensures { MatchResult result (λ b. b ≡ record { state = fragment_begins numbers context limits; root = 1; told = []; refused = None })
+            (λ e. e ≡ Memory) }
     {
         let begun = fragment_rules(alloc, context, limits)?;
         Ok(Builder {

@@ -37,7 +37,8 @@ impl Model for Limits {
 impl Limits {
     /// From 16 to 16,777,216 nodes, and from 16 to 1,048,576 open elements. An error is `BadLimits`.
     pub fn new(nodes: u64, depth: u64) -> Result<Limits, Refusal>
-        ensures { MatchResult result (λ l. AreLimits nodes depth × (l ≡ record { nodes = nodes; depth = depth })) (λ e. (e ≡ BadLimits) × (AreLimits nodes depth → ⊥)) }
+        ensures { MatchResult result (λ l. AreLimits nodes depth × (l ≡ record { nodes = nodes; depth = depth }))
+            (λ e. (e ≡ BadLimits) × (AreLimits nodes depth → ⊥)) }
     {
         if nodes < LEAST || MAX_NODES < nodes || depth < LEAST || MAX_DEPTH < depth {
             return Err(Refusal::BadLimits);

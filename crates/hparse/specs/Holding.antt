@@ -29,7 +29,8 @@ pub record HoldsItems {S : Type 0} (gives : S → Item → Result (Unit {0}) Ref
   pub was_fed : WasFed gives m began feeding fed
 
 module _ {S : Type 0} (gives : S → Item → Result (Unit {0}) Refusal → S → Type 0) where
-  -- What handing over items does, after others: memory ran out; or the sink refused what the text gives, or the text is refused, whatever comes after; or they are held too.
+  -- What handing over items does, after others: memory ran out; or the sink refused what the text gives, or the text is refused,
+  -- whatever comes after; or they are held too.
   pub data TakesItems (m : Manner) (began : Began S) (before items : List CharItem) (answer : Result (Unit {0}) Refusal) (new : Intake S) : Type 0 where
     items_ran_out : answer ≡ Err refusal.Memory → TakesItems m began before items answer new
     items_stopped : (e : Refusal) (events : List Event) (errors : List ParseError) → answer ≡ Err e → new.stopped ≡ true

@@ -43,7 +43,8 @@ impl<'t, S: TokenSink> Feeding<'t, S> {
         names: Names,
         sink: S,
     ) -> Feeding<'t, S>
-        ensures { (m : Manner) → m.table ≡ table.now → m.start ≡ start → HoldsItems (gives_item S.gives S.gives_token) m (record { names = names; sink = sink }) result [] }
+        ensures { (m : Manner) → m.table ≡ table.now → m.start ≡ start
+            → HoldsItems (gives_item S.gives S.gives_token) m (record { names = names; sink = sink }) result [] }
     {
         Feeding {
             names,

@@ -22,7 +22,13 @@ pub struct Options<'t> {
 impl<'t> Options<'t> {
     /// The greatest limits.
     pub fn new(table: &'t Table, quirks: &'t Quirks) -> Options<'t>
-        ensures told { told_by result ≡ record { table = table.now; quirks = quirks.now; input = MAX_INPUT; limits = record { nodes = 16777216; depth = 1048576 } } }
+        ensures told { told_by result ≡ record {
+          table = table.now;
+          quirks = quirks.now;
+          input = MAX_INPUT;
+          limits =
+              record { nodes = 16777216; depth = 1048576 };
+        } }
         ensures limit { result.input_limit ≡ MAX_INPUT }
     {
         Options {

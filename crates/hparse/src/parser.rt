@@ -72,7 +72,8 @@ impl<'t> Parser<'t> {
 
     /// Parses the next piece. What the bytes so far are refused for, whatever comes after them, may be told here.
     pub fn feed(&mut self, piece: &[u8]) -> Result<(), Refusal>
-        ensures feeds { (told : Told) (subject : Subject) (bytes : List ℕ) → HasParsed told subject self.old bytes → FeedsParser told subject (bytes ++ piece.now) result self.new }
+        ensures feeds { (told : Told) (subject : Subject) (bytes : List ℕ) → HasParsed told subject self.old bytes
+            → FeedsParser told subject (bytes ++ piece.now) result self.new }
 
         // After a refusal every later call returns the same one.
         ensures refused { IfErr result (λ refusal. self.new.refused ≡ Some refusal) }

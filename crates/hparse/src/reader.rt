@@ -27,7 +27,8 @@ pub fn read_tokens<R: Source>(
 ) -> Result<TokenRun, Refusal>
     requires limit { options.now.input_limit ≤ MAX_INPUT }
     requires piece { 0 < piece }
-    ensures { ReadsInput R.left R.failed (AnswersRun options.now.table.now options.now.input_limit) options.now.input_limit piece [] source.old source.new result }
+    ensures { ReadsInput R.left R.failed (AnswersRun options.now.table.now options.now.input_limit) options.now.input_limit piece [] source.old source.new
+        result }
 {
     let mut reading = begin(alloc, options)?;
     read_to_end(alloc, piece, &mut reading, source)?;
@@ -42,9 +43,11 @@ pub(crate) fn read_to_end<S: TokenSink, R: Source>(
     source: &mut R,
 ) -> Result<(), Refusal>
     requires piece { 0 < piece }
-    requires read { (m : Manner) × (began : Began S) × (fed : List ℕ) × (m.limit ≤ MAX_INPUT) × HasRead (gives_item S.gives S.gives_token) m began reading.old fed }
+    requires read { (m : Manner) × (began : Began S) × (fed : List ℕ) × (m.limit ≤ MAX_INPUT)
+        × HasRead (gives_item S.gives S.gives_token) m began reading.old fed }
     ensures { (m : Manner) (began : Began S) (fed : List ℕ) → HasRead (gives_item S.gives S.gives_token) m began reading.old fed
-        → ReadsInput R.left R.failed (λ bytes. Comes (gives_item S.gives S.gives_token) m began bytes reading.new.feeding.names reading.new.feeding.sink) m.limit piece fed source.old source.new result }
+        → ReadsInput R.left R.failed (λ bytes. Comes (gives_item S.gives S.gives_token) m began bytes reading.new.feeding.names reading.new.feeding.sink)
+        m.limit piece fed source.old source.new result }
 {
     let mut buffer = vec![in alloc; 0u8; piece]?;
     // A piece has at least one byte, and an input that is too long is refused long before the last turn.

@@ -75,7 +75,8 @@ fn push_element(
 ) -> Result<(), AllocError>
     requires room { depth < 2 ^ 33 }
     requires names { NodeIsOf names.now (element name (map attribute_of attrs.now)) }
-    ensures { OnOk result (string_bytes text.new ≡ string_bytes text.old ++ node_lines depth (spelled_what (text_of names.now) (element name (map attribute_of attrs.now)))) }
+    ensures { OnOk result (string_bytes text.new ≡ string_bytes text.old
+        ++ node_lines depth (spelled_what (text_of names.now) (element name (map attribute_of attrs.now)))) }
 {
     push_line(text, depth, "<", name_text(names, name), ">")?;
     let pairs = in_order(alloc, names, attrs)?;
@@ -107,7 +108,8 @@ fn push_doctype(
     public_id: &str,
     system_id: &str,
 ) -> Result<(), AllocError>
-    ensures { OnOk result (string_bytes text.new ≡ string_bytes text.old ++ indented depth (codes "<!DOCTYPE " ++ name.now ++ identifiers public_id.now system_id.now ++ codes ">")) }
+    ensures { OnOk result (string_bytes text.new ≡ string_bytes text.old
+        ++ indented depth (codes "<!DOCTYPE " ++ name.now ++ identifiers public_id.now system_id.now ++ codes ">")) }
 {
     begin_line(text, depth)?;
     text.push_str("<!DOCTYPE ")?;

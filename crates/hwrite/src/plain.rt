@@ -89,7 +89,8 @@ fn is_plain_element(
     requires made { node < tree.now.made }
     requires table { AreNames names.now }
     requires names { NodeIsOf names.now (element name (map attribute_of attrs.now)) }
-    ensures { result ≡ is_plain_element (text_of names.now) (inside_is standing) (tag_of name) (map attribute_of attrs.now) (begins_at (first_child_of node tree.now.trees) tree.now.trees) }
+    ensures { result ≡ is_plain_element (text_of names.now) (inside_is standing) (tag_of name) (map attribute_of attrs.now)
+        (begins_at (first_child_of node tree.now.trees) tree.now.trees) }
 {
     let tag = name.tag();
     standing.content.takes_role(row(tag).0)

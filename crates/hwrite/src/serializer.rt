@@ -45,7 +45,8 @@ fn put_start_tag<W: Write>(
     attrs: &[Attr],
 ) -> io::Result<()>
     requires { NodeIsOf names.now (element name (map attribute_of attrs.now)) }
-    ensures { Puts (W.contents out.old) (W.contents out.new) (start_tag_text One (text_of names.now name) (map (spelled_attribute (text_of names.now)) (map attribute_of attrs.now))) result }
+    ensures { Puts (W.contents out.old) (W.contents out.new)
+        (start_tag_text One (text_of names.now name) (map (spelled_attribute (text_of names.now)) (map attribute_of attrs.now))) result }
 {
     put_parts(out, &[b"<", name_text(names, name).as_bytes()])?;
     for attr in attrs {
@@ -112,7 +113,8 @@ fn stands_raw(tree: &Tree, node: NodeId) -> bool
 /// Writes where a node begins.
 fn put_opening<W: Write>(out: &mut W, tree: &Tree, names: &Names, node: NodeId) -> io::Result<()>
     requires { IsLent names.now tree.now.made tree.now.trees node }
-    ensures { Puts (W.contents out.old) (W.contents out.new) (opening_of (text_of names.now) (stands_raw node tree.now.trees) (what_of node tree.now.trees)) result }
+    ensures { Puts (W.contents out.old) (W.contents out.new) (opening_of (text_of names.now) (stands_raw node tree.now.trees) (what_of node tree.now.trees))
+        result }
 {
     match Node::of(tree, node) {
         Node::Document => Ok(()),
@@ -153,7 +155,8 @@ pub fn serialize<W: Write>(tree: &Tree, names: &Names, node: NodeId, out: &mut W
     requires made { node < tree.now.made }
     requires table { AreNames names.now }
     requires names { AreOf names.now (children_of node tree.now.trees) }
-    ensures { Puts (W.contents out.old) (W.contents out.new) (written One (option_map (text_of names.now) (name_of node tree.now.trees)) (spelled (text_of names.now) (children_of node tree.now.trees))) result }
+    ensures { Puts (W.contents out.old) (W.contents out.new)
+        (written One (option_map (text_of names.now) (name_of node tree.now.trees)) (spelled (text_of names.now) (children_of node tree.now.trees))) result }
 {
     for visit in Walk::written(tree, node) {
         put_visit(out, tree, names, visit)?;
@@ -171,7 +174,8 @@ pub fn serialize_to_vec(
     requires made { node < tree.now.made }
     requires table { AreNames names.now }
     requires names { AreOf names.now (children_of node tree.now.trees) }
-    ensures written { IfOk result (λ text. text.items ≡ written One (option_map (text_of names.now) (name_of node tree.now.trees)) (spelled (text_of names.now) (children_of node tree.now.trees))) }
+    ensures written { IfOk result (λ text. text.items
+        ≡ written One (option_map (text_of names.now) (name_of node tree.now.trees)) (spelled (text_of names.now) (children_of node tree.now.trees))) }
     ensures memory { IfErr result (λ refusal. refusal ≡ Refusal.Memory) }
 {
     let mut text = Vec::new(alloc);
