@@ -11,7 +11,7 @@ use Rattle.hnodes.specs.Forest.{Attribute, What, element, text, Forest, none, tr
 use Rattle.hnodes.specs.Edits.{graft_last, with_char, text_before}
 use Rattle.hnodes.specs.declared.node.Place.TheVariants.{LastIn}
 use Rattle.hopen.specs.Stack.{OpenNode, in_scope}
-use Rattle.hopen.specs.Scopes.{stops}
+use Rattle.hopen.specs.Scopes.{stops, stops_item}
 use Rattle.hopen.specs.declared.scope.Scope.TheVariants as scope
 use Rattle.hopen.specs.Formatting.{Item, marker, entry, entry_of, find_entry, without_entry, pushed, cleared}
 use Rattle.names.specs.declared.error.ParseError.{ParseError}
@@ -35,7 +35,6 @@ use Rattle.hmodes.specs.Rules.{rule_of}
 use Rattle.hmodes.specs.Reset.{reset_mode}
 use Rattle.hmodes.specs.Perform.{perform, each_of}
 use Rattle.hadopt.specs.Closes.{is_table_context, is_body_context, is_row_context}
-use Rattle.hadopt.specs.Closes.{stops_item}
 use Rattle.hmodes.specs.State.{Token, start, end, comment, character, Control, State, Flow, Done, Again, flow_then, kind_of}
 use Rattle.hmodes.specs.Step.{Rule, Chain, goes_again, begun}
 use Rattle.hadopt.specs.Site.{Outcome}

@@ -10,7 +10,7 @@ use Rattle.hnodes.specs.Forest.{Attribute, What, element, text, Forest, none, tr
 use Rattle.hnodes.specs.Edits.{if_text, text_before}
 use Rattle.hnodes.specs.declared.node.Place.TheVariants.{LastIn}
 use Rattle.hopen.specs.Stack.{OpenNode, is_open, in_scope}
-use Rattle.hopen.specs.Scopes.{stops}
+use Rattle.hopen.specs.Scopes.{stops, stops_item}
 use Rattle.hopen.specs.declared.scope.Scope.TheVariants as scope
 use Rattle.hopen.specs.Formatting.{EntryOf, Item, marker, entry, with_room, without_entry, entry_of, find_entry, cleared}
 use Rattle.names.specs.declared.error.ParseError.{ParseError}
@@ -29,7 +29,6 @@ use Rattle.hmodes.specs.declared.mode.Mode.TheVariants.{InBody, InCaption, InCel
 use Rattle.hmodes.specs.Families.{family_of}
 use Rattle.hmodes.specs.Perform.{perform}
 use Rattle.hadopt.specs.Closes.{is_table_context, is_body_context, is_row_context}
-use Rattle.hadopt.specs.Closes.{stops_item}
 use Rattle.hmodes.specs.Rules.{rule_of}
 use Rattle.hmodes.specs.State.{Token, start, end, comment, character, doctype, eof, PlacedToken, Control, State, Done, kind_of}
 use Rattle.hmodes.specs.Reset.{reset_mode, open_mode}

@@ -44,12 +44,14 @@ pub record AreRead (table : Entities) (kind : RawKind) (bytes : List ℕ) (token
 
 -- A plain list as it is written is read as its own tokens.
 abbrev pub PlainTokens : Type 0
-PlainTokens = (table : Entities) (escaping : Escaping) (context : List ℕ) (l : Forest (List ℕ)) → IsTable table → HasCore table → AreTexts l → is_plain context l ≡ true
+PlainTokens = (table : Entities) (escaping : Escaping) (context : List ℕ) (l : Forest (List ℕ)) → IsTable table → HasCore table → AreTexts l
+    → is_plain context l ≡ true
     → AreRead table (raw_kind (tag_named context)) (written escaping (Some context) l) (tokens_of texts l ++ eof ∷ [])
 
 -- Its tokens build it from each quiet state.
 abbrev pub PlainBuilds : Type 0
-PlainBuilds = (inside : Inside) (l : Forest (List ℕ)) (s : State (List ℕ)) (ts : List (PlacedToken (List ℕ))) (q : IsQuiet texts inside s) → AreTexts l → are_content inside l ≡ true
+PlainBuilds = (inside : Inside) (l : Forest (List ℕ)) (s : State (List ℕ)) (ts : List (PlacedToken (List ℕ))) (q : IsQuiet texts inside s) → AreTexts l
+    → are_content inside l ≡ true
     → BeginsWell texts l q.current.node s → HasRoom texts l s → map (λ t. t.token) ts ≡ tokens_of texts l → Builds texts l q.current.node ts s
 
 -- the list as it is written fits the limits: beside its nodes there are the document and the root, which is open
@@ -67,5 +69,6 @@ pub record Gives (told : Told) (context bytes : List ℕ) (l : Forest (List ℕ)
 
 -- Each plain list comes back when what is written of it is parsed.
 abbrev pub PlainComesBack : Type 0
-PlainComesBack = (told : Told) (escaping : Escaping) (context : List ℕ) (l : Forest (List ℕ)) → IsTable told.table → HasCore told.table → AreTexts l → is_plain context l ≡ true
+PlainComesBack = (told : Told) (escaping : Escaping) (context : List ℕ) (l : Forest (List ℕ)) → IsTable told.table → HasCore told.table → AreTexts l
+    → is_plain context l ≡ true
     → Fits told (written escaping (Some context) l) l → Gives told context (written escaping (Some context) l) l

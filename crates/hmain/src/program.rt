@@ -24,7 +24,8 @@ pub fn run_program<R: Surroundings, S: Source, W: Target, E: Target>(
     output: &mut W,
     errors: &mut E,
 ) -> u8
-    ensures { Ends R.has_words R.lacks_words R.opens R.cannot_open R.has_text R.lacks_text R.File.left R.File.failed S.left S.failed W.written W.failed E.written E.failed
+    ensures { Ends R.has_words R.lacks_words R.opens R.cannot_open R.has_text R.lacks_text R.File.left R.File.failed S.left S.failed W.written W.failed
+        E.written E.failed
         MAX_INPUT surroundings.now input.old input.new output.old output.new errors.old errors.new result }
 {
     let outcome = answer(surroundings, input, output);

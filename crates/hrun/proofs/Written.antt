@@ -5,7 +5,7 @@ use Rattle.std.proofs.KnownBytes.{Keeps-refl, Appends-kept}
 use Rattle.names.specs.declared.refusal.Refusal.{Refusal}
 use Rattle.names.specs.declared.refusal.Refusal.TheVariants.{Memory, Read, Write, BadContext}
 use Rattle.hparse.specs.Calls.{counted}
-use Rattle.hrun.specs.Calls.{AppendsBeginning}
+use Rattle.hwrite.specs.Output.{AppendsBeginning}
 use Rattle.hparse.specs.declared.parser.Parser.{Parser}
 use Rattle.hparse.specs.Parse.{Told, document, fragment, is_context}
 use Rattle.hparse.specs.Parsing.{HasParsed}

@@ -4,6 +4,7 @@ use Rattle.names.specs.declared.refusal.Refusal.{Refusal}
 use Rattle.names.specs.declared.refusal.Refusal.TheVariants.{Write}
 use Rattle.std.specs.Io.KnownBytes.{Keeps, Appends}
 use Rattle.hparse.specs.Calls.{counted}
+use Rattle.hwrite.specs.Output.{AppendsBeginning}
 
 -- the count after a call that returns whether it succeeded
 abbrev pub counted_unless : ℕ → Bool → ℕ
@@ -19,10 +20,6 @@ counted_by_result failures (Err _) = counted failures
 abbrev pub Writes : Option (List ℕ) → Option (List ℕ) → Option ℕ → List ℕ → Type 0
 Writes old new (Some n) bytes = (n ≤ length bytes) × (0 < length bytes → 0 < n) × Appends old new (take n bytes)
 Writes old new None bytes = Keeps old new
-
--- Known bytes grow by a beginning of the bytes, and some bytes are left.
-abbrev pub AppendsBeginning : Option (List ℕ) → Option (List ℕ) → List ℕ → Type 0
-AppendsBeginning old new bytes = (done : List ℕ) × (rest : List ℕ) × (bytes ≡ done ++ rest) × (rest ≢ []) × Appends old new done
 
 -- All of the bytes were taken, or a call failed after a beginning of them, which is the refusal Write.
 abbrev pub WritesAll : Option (List ℕ) → ℕ → Option (List ℕ) → ℕ → List ℕ → Result (Unit {0}) Refusal → Type 0

@@ -74,7 +74,8 @@ fn run_tree<S: Source, W: Target>(
 ) -> Result<(), Refusal>
     requires limit { options.now.input_limit ≤ MAX_INPUT }
     requires piece { 0 < command.piece }
-    ensures { RunsIn S.left S.failed W.written W.failed (name_of command.entry.context) (Prints (Parses (told_by options.now) (subject_in (name_of command.entry.context))) (nodes_text (subject_in (name_of command.entry.context))))
+    ensures { RunsIn S.left S.failed W.written W.failed (name_of command.entry.context)
+        (Prints (Parses (told_by options.now) (subject_in (name_of command.entry.context))) (nodes_text (subject_in (name_of command.entry.context))))
         options.now.input_limit command.entry.piece source.old source.new target.old target.new result }
 {
     let parsed = parse(alloc, command, options, source)?;
@@ -92,7 +93,8 @@ fn run_errors<S: Source, W: Target>(
 ) -> Result<(), Refusal>
     requires limit { options.now.input_limit ≤ MAX_INPUT }
     requires piece { 0 < command.piece }
-    ensures { RunsIn S.left S.failed W.written W.failed (name_of command.entry.context) (Prints (Parses (told_by options.now) (subject_in (name_of command.entry.context))) errors_text)
+    ensures { RunsIn S.left S.failed W.written W.failed (name_of command.entry.context)
+        (Prints (Parses (told_by options.now) (subject_in (name_of command.entry.context))) errors_text)
         options.now.input_limit command.entry.piece source.old source.new target.old target.new result }
 {
     let parsed = parse(alloc, command, options, source)?;
@@ -110,7 +112,8 @@ fn run_write<S: Source, W: Target>(
 ) -> Result<(), Refusal>
     requires limit { options.now.input_limit ≤ MAX_INPUT }
     requires piece { 0 < command.piece }
-    ensures { RunsIn S.left S.failed W.written W.failed (name_of command.entry.context) (Prints (Parses (told_by options.now) (subject_in (name_of command.entry.context))) (written_text (subject_in (name_of command.entry.context))))
+    ensures { RunsIn S.left S.failed W.written W.failed (name_of command.entry.context)
+        (Prints (Parses (told_by options.now) (subject_in (name_of command.entry.context))) (written_text (subject_in (name_of command.entry.context))))
         options.now.input_limit command.entry.piece source.old source.new target.old target.new result }
 {
     let parsed = parse(alloc, command, options, source)?;
@@ -128,7 +131,8 @@ fn run_plain<S: Source, W: Target>(
 ) -> Result<(), Refusal>
     requires limit { options.now.input_limit ≤ MAX_INPUT }
     requires piece { 0 < command.piece }
-    ensures { RunsIn S.left S.failed W.written W.failed (name_of command.entry.context) (Prints (Parses (told_by options.now) (subject_in (name_of command.entry.context))) (plain_text (subject_in (name_of command.entry.context))))
+    ensures { RunsIn S.left S.failed W.written W.failed (name_of command.entry.context)
+        (Prints (Parses (told_by options.now) (subject_in (name_of command.entry.context))) (plain_text (subject_in (name_of command.entry.context))))
         options.now.input_limit command.entry.piece source.old source.new target.old target.new result }
 {
     let parsed = parse(alloc, command, options, source)?;
@@ -148,7 +152,8 @@ fn is_plain_in(context: Option<&str>, parsed: &Parsed) -> bool
     requires made { parsed.now.root < parsed.now.tree.made }
     requires table { AreNames parsed.now.names }
     requires names { AreOf parsed.now.names (children_of parsed.now.root parsed.now.tree.trees) }
-    ensures { result ≡ is_plain_in (subject_in (name_of context.entry)) (spelled (text_of parsed.now.names) (children_of parsed.now.root parsed.now.tree.trees)) }
+    ensures { result ≡ is_plain_in (subject_in (name_of context.entry))
+        (spelled (text_of parsed.now.names) (children_of parsed.now.root parsed.now.tree.trees)) }
 {
     match context {
         Some(name) => is_plain(&parsed.tree, &parsed.names, parsed.root, name),

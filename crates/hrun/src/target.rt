@@ -3,7 +3,8 @@
 ghost use Rattle.std.specs.Prelude.{◌≡◌, ℕ, List, Option, IfErr, OnOk, OnErr};
 ghost use Rattle.std.specs.Io.KnownBytes.{Appends, Keeps};
 ghost use Rattle.hparse.specs.Calls.{counted_by};
-ghost use Rattle.hrun.specs.Calls.{counted_unless, Writes, AppendsBeginning, counted_by_result};
+ghost use Rattle.hrun.specs.Calls.{counted_unless, Writes, counted_by_result};
+ghost use Rattle.hwrite.specs.Output.{AppendsBeginning};
 ghost use Rattle.names.specs.declared.refusal.Refusal.TheVariants.{Write};
 
 use names::Refusal;
