@@ -12,8 +12,6 @@ mod search;
 mod starts;
 mod state;
 mod table;
-#[cfg(test)]
-mod tests;
 mod walk;
 mod walking;
 

@@ -237,7 +237,6 @@ impl Site {
                 node: new,
                 name: formatting.name,
             },
-            at,
         )?;
         self.move_to_bookmark(formatting.node, new, on_way.bookmark);
         Ok(())

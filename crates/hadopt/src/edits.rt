@@ -85,16 +85,13 @@ impl Site {
         leaving: NodeId,
         above: NodeId,
         new: Open,
-        at: u64,
     ) -> Result<(), Refusal>
         requires begun { 0 < new.node }
         requires new_in { new.node < self.old.nodes.made }
         requires leaving { is_open leaving (stack self.old) ≡ true }
         ensures { Gives result self.new (Goes (with_stack (put_before (is_node above) (open_of new) (without (is_node leaving) (stack self.old))) self.old)) }
     {
-        // its clause says that there are no more than may be
-        self.stack.len();
-        self.stack.remove(leaving);
-        self.stack.insert_below(above, new, at)
+        self.stack.exchange(leaving, above, new)?;
+        Ok(())
     }
 }

@@ -4,12 +4,8 @@
 mod beginning;
 pub mod builder;
 pub mod limits;
-#[cfg(test)]
-mod page;
 mod runs;
 mod steps;
-#[cfg(test)]
-mod tests;
 
 pub use builder::{Builder, Built};
 pub use limits::{LEAST, Limits, MAX_DEPTH, MAX_NODES};

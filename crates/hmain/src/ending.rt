@@ -164,6 +164,3 @@ impl<W: Target> fmt::Write for Text<'_, W> {
         write_all(self.0, text.as_bytes()).map_err(|_| fmt::Error)
     }
 }
-
-#[cfg(test)]
-mod tests;

@@ -84,6 +84,3 @@ fn number(
         },
     }
 }
-
-#[cfg(test)]
-mod tests;

@@ -147,6 +147,3 @@ fn answer_input<S: Source, W: Target>(
     run(alloc, command, options, source, target)?;
     Ok(())
 }
-
-#[cfg(test)]
-mod tests;

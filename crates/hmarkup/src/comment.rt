@@ -275,6 +275,3 @@ pub fn some_span()
 pub fn one_span()
     ensures { (kind : Kind) → IsOneSpan (IsSpan kind) }
 {}
-
-#[cfg(test)]
-mod tests;

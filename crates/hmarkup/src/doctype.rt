@@ -222,8 +222,3 @@ pub fn some_doctype()
 pub fn one_doctype()
     ensures { IsOneSpan IsDoctype }
 {}
-
-#[cfg(test)]
-mod cases;
-#[cfg(test)]
-mod tests;

@@ -4,8 +4,6 @@
 
 pub mod comment;
 pub mod doctype;
-#[cfg(test)]
-mod kept;
 mod keyword;
 mod phase;
 pub mod quirks;

@@ -182,6 +182,3 @@ impl Quirks {
         self.lines.iter().any(|line| line.matches(public, system))
     }
 }
-
-#[cfg(test)]
-mod tests;

@@ -9,6 +9,10 @@ pub mod Spellings
 pub mod Places
 pub mod Tables
 pub mod Standing
+pub mod Exchanged
+pub mod ExchangedItems
+pub mod ExchangedTables
+pub mod ExchangedStack
 pub mod Chained
 pub mod Listed
 pub mod SameBucket

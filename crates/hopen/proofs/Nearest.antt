@@ -30,7 +30,7 @@ module _ {Y : Type 0} (sought : Y → Bool) where
           let w : Words ys up = i up (omega arith) (omega arith) in
           record { before_is = rw (s, w.before_is) refl; after_is = rw s w.after_is; without_is = rw (s, w.without_is) refl; changed_is = λ g. rw (s, w.changed_is g) refl; put_is = λ z. rw (s, w.put_is z) refl; find_is = rw s w.find_is }
 
-  position_is : (ys : List Y) (up : ℕ) → position sought ys ≡ Some up → (up < length ys) × (position_or_len sought ys ≡ up)
+  pub position_is : (ys : List Y) (up : ℕ) → position sought ys ≡ Some up → (up < length ys) × (position_or_len sought ys ≡ up)
   position_is ys up e =
       let s : (ltb (position_or_len sought ys) (length ys) ≡ true) × (position_or_len sought ys ≡ up) = cond_some (ltb (position_or_len sought ys) (length ys)) (position_or_len sought ys) up e in
       (omega (arith, ltb-true (position_or_len sought ys) (length ys) s.0), s.1)

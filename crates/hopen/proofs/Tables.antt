@@ -6,7 +6,7 @@ use Rattle.std.proofs.Math.Seq.{take-suc, drop-cons}
 use Rattle.hopen.specs.Places.{last_place, SaysPlaces}
 
 module _ {X : Type 0} (number : X → ℕ) (places : List ℕ) (x : X) (above : List X) where
-  same-eqb : (n : ℕ) → eqb n n ≡ true
+  pub same-eqb : (n : ℕ) → eqb n n ≡ true
   same-eqb n = go (eqb n n) refl
     where
       go : (v : Bool) → eqb n n ≡ v → v ≡ true

@@ -13,6 +13,7 @@ pub mod Spelled
 pub mod Places
 pub mod NameSets
 pub mod Kept
+pub mod Exchanged
 pub mod Chains
 pub mod Listed
 pub mod Buckets

@@ -21,18 +21,20 @@ use std::alloc::{AllocError, Global};
 pub(crate) struct Item {
     pub(crate) opened: Open,
     /// The nearest node of the same name above it.
-    same_name: u32,
+    pub(crate) same_name: u32,
     /// The nearest place above it where the same node is open.
-    same_node: u32,
+    pub(crate) same_node: u32,
     /// The nearest nodes of each set of names, from it on upwards.
-    sets: SetPlaces,
+    pub(crate) sets: SetPlaces,
 }
+
+const _: () = prove!(std::mem::size_of::<Item>() == 60);
 
 /// For each name, and each node, by its number: the nearest place where it is open, 0 if it is not.
 #[derive(Debug, Drop)]
 pub(crate) struct LastPlaces {
-    names: Vec<u32>,
-    nodes: Vec<u32>,
+    pub(crate) names: Vec<u32>,
+    pub(crate) nodes: Vec<u32>,
 }
 
 /// The place of a number; 0 if the table does not reach it.
@@ -192,6 +194,8 @@ fn rewind(last: &mut LastPlaces, items: &mut [Item], from: usize)
     requires places { length items.old < 2 ^ 32 }
     ensures stands { Stands last.new items.new }
     ensures same { map opened_by items.new ≡ map opened_by items.old }
+    ensures names { length last.new.names.items ≡ length last.old.names.items }
+    ensures nodes { length last.new.nodes.items ≡ length last.old.nodes.items }
 {
     let mut sets = nearest_of_sets(&items[..from]);
     let mut index = from;
@@ -247,6 +251,9 @@ pub(crate) fn remove_run(last: &mut LastPlaces, items: &mut Vec<Item>, from: usi
     requires places { length items.old.items < 2 ^ 32 }
     ensures stands { Stands last.new items.new.items }
     ensures items { map opened_by items.new.items ≡ map opened_by (remove_range items.old.items from to) }
+    ensures names { length last.new.names.items ≡ length last.old.names.items }
+    ensures nodes { length last.new.nodes.items ≡ length last.old.nodes.items }
+    ensures capacity { vec_capacity items.new ≡ vec_capacity items.old }
 {
     unwind(last, items, from);
     items.drain(from..to);

@@ -6,23 +6,15 @@ pub mod bookmark;
 mod buckets;
 mod chains;
 pub mod entry;
-#[cfg(test)]
-mod fixed;
+mod exchange;
 pub mod formatting;
-#[cfg(test)]
-mod formatting_plain;
-#[cfg(test)]
-mod formatting_tests;
 mod kept;
 pub mod laws;
 mod name_sets;
 pub mod scope;
 mod sought;
 pub mod stack;
-#[cfg(test)]
-mod stack_plain;
-#[cfg(test)]
-mod stack_tests;
+mod window;
 
 pub use attributes::copy_attrs;
 pub use bookmark::Bookmark;

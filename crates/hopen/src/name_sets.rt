@@ -1,9 +1,11 @@
 //! Sets of known names, and where the nearest open nodes of each set are.
 
-ghost use Rattle.std.specs.Prelude.{◌≡◌, if◌then◌else◌};
+ghost use Rattle.std.specs.Prelude.{◌≡◌, false, if◌then◌else◌};
 ghost use Rattle.hopen.specs.NameSets.{is_in_set, set_place};
+ghost use Rattle.hopen.specs.Exchanged.{IsOutside, AreDropped, AreRenewed};
 
 use crate::scope::{Group, Scope, stops_item};
+use crate::window::Window;
 use names::Tag;
 
 /// A set of known names that a search looks for, or that stops it.
@@ -38,7 +40,7 @@ pub(crate) struct SetPlaces {
 }
 
 /// A new place if there is one, else the old one.
-fn place_if(is_new: bool, new: u32, old: u32) -> u32
+pub(crate) fn place_if(is_new: bool, new: u32, old: u32) -> u32
     ensures { result ≡ (if is_new then new else old) }
 {
     if is_new { new } else { old }
@@ -107,6 +109,61 @@ impl SetPlaces {
             table_section: place_if(Group::TableSection.has(tag), place, self.table_section),
             cell: place_if(Group::Cell.has(tag), place, self.cell),
             tells_mode: place_if(Group::TellsMode.has(tag), place, self.tells_mode),
+        }
+    }
+
+    /// Whether one of the places is in a window.
+    pub(crate) fn touches(&self, window: Window) -> bool
+        ensures { (result ≡ false) → (set : NameSet) → IsOutside window.from window.to (set_place set self.now) }
+    {
+        window.has(self.scope)
+            || window.has(self.list_item_scope)
+            || window.has(self.button_scope)
+            || window.has(self.table_scope)
+            || window.has(self.special)
+            || window.has(self.item_stop)
+            || window.has(self.must_close)
+            || window.has(self.heading)
+            || window.has(self.table_section)
+            || window.has(self.cell)
+            || window.has(self.tells_mode)
+    }
+
+    /// The places of a node of a window once its first node has left; `nearest` has those of the node above that one.
+    pub(crate) fn dropped(&self, window: Window, nearest: &SetPlaces) -> SetPlaces
+        ensures { AreDropped window.from nearest.now self.now result }
+    {
+        SetPlaces {
+            scope: window.dropped(nearest.scope, self.scope),
+            list_item_scope: window.dropped(nearest.list_item_scope, self.list_item_scope),
+            button_scope: window.dropped(nearest.button_scope, self.button_scope),
+            table_scope: window.dropped(nearest.table_scope, self.table_scope),
+            special: window.dropped(nearest.special, self.special),
+            item_stop: window.dropped(nearest.item_stop, self.item_stop),
+            must_close: window.dropped(nearest.must_close, self.must_close),
+            heading: window.dropped(nearest.heading, self.heading),
+            table_section: window.dropped(nearest.table_section, self.table_section),
+            cell: window.dropped(nearest.cell, self.cell),
+            tells_mode: window.dropped(nearest.tells_mode, self.tells_mode),
+        }
+    }
+
+    /// The places of a node below a window; `nearest` has those at its end as it is now.
+    pub(crate) fn renewed(&self, window: Window, nearest: &SetPlaces) -> SetPlaces
+        ensures { AreRenewed window.to nearest.now self.now result }
+    {
+        SetPlaces {
+            scope: window.renewed(nearest.scope, self.scope),
+            list_item_scope: window.renewed(nearest.list_item_scope, self.list_item_scope),
+            button_scope: window.renewed(nearest.button_scope, self.button_scope),
+            table_scope: window.renewed(nearest.table_scope, self.table_scope),
+            special: window.renewed(nearest.special, self.special),
+            item_stop: window.renewed(nearest.item_stop, self.item_stop),
+            must_close: window.renewed(nearest.must_close, self.must_close),
+            heading: window.renewed(nearest.heading, self.heading),
+            table_section: window.renewed(nearest.table_section, self.table_section),
+            cell: window.renewed(nearest.cell, self.cell),
+            tells_mode: window.renewed(nearest.tells_mode, self.tells_mode),
         }
     }
 }

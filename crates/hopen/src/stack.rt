@@ -1,6 +1,6 @@
 //! The stack of open elements (HTML Standard, 13.2.4.2).
 
-ghost use Rattle.std.specs.Prelude.{◌≡◌, ◌≤◌, ◌↔◌, ◌⊎◌, [], ◌∷◌, OnOk, OnErr, IfErr, IfSome, MatchOption, ◌<◌, ◌+◌, ◌-◌, length, drop, reverse, nat_eq, leb, if◌then◌else◌};
+ghost use Rattle.std.specs.Prelude.{◌≡◌, ◌≤◌, ◌↔◌, ◌⊎◌, [], ◌∷◌, OnOk, OnErr, IfErr, IfSome, MatchOption, ◌<◌, ◌+◌, ◌-◌, length, drop, reverse, nat_eq, true, leb, if◌then◌else◌};
 ghost use Rattle.std.specs.List.{find, list_all, position, remove_range, slice_get};
 ghost use Rattle.std.specs.Option.{option_map};
 ghost use Rattle.hopen.specs.Nearest.{after, without, changed, put_before};
@@ -14,10 +14,12 @@ ghost use Rattle.names.specs.Sets.{is_special, may_stay_open};
 ghost use Rattle.names.specs.declared.refusal.Refusal.TheVariants.{TooDeep, Memory};
 ghost use Rattle.hopen.specs.declared.scope.Scope.TheVariants.{Default};
 
+use crate::exchange::{exchange, exchange_any, is_window};
 use crate::kept::{Item, LastPlaces, insert, nearest_of_sets, pop, push, remove_run, replace};
 use crate::name_sets::NameSet;
 use crate::scope::{Group, Scope};
 use crate::sought::{Sought, first_special};
+use crate::window::Window;
 use hnodes::NodeId;
 use names::{NameId, Refusal};
 use std::alloc::{AllocError, Global};
@@ -34,8 +36,9 @@ pub struct Open {
 ///
 /// No question searches the stack, but for `furthest_block`, which passes the nodes from the formatting element down to the block.
 /// A push and a pop take the same time at any depth, amortized. `remove`, `remove_run`, `replace` and `insert_below` take a step for
-/// each node below. An open node takes 60 bytes; each of the two tables of places takes 4 bytes for each number up to the greatest one.
-/// `push`, `replace` and `insert_below` alone allocate, and on an error they change nothing.
+/// each node below, `exchange` a step for the few that keep a changed place. An open node takes 60 bytes; each of the two tables of
+/// places takes 4 bytes for each number up to the greatest one. `push`, `replace`, `insert_below` and `exchange` alone allocate, and on
+/// an error they change nothing.
 #[derive(Debug, Drop)]
 pub struct OpenStack {
     items: Vec<Item>,
@@ -168,6 +171,38 @@ impl OpenStack {
                 &mut self.items,
                 index + 1,
                 Item::new(opened),
+            );
+        }
+        Ok(())
+    }
+
+    /// Takes a node out and puts a new one right below another, in place of it (13.2.6.4.7, the end of the adoption agency). Where the
+    /// new node has the name of the one that leaves, and stands below it, this takes a step for each node from the one that leaves down
+    /// to the other, and for each node below up to the last that keeps a place among these.
+    pub fn exchange(&mut self, leaving: NodeId, above: NodeId, new: Open) -> Result<(), AllocError>
+        requires { is_open leaving self.old.stack ≡ true }
+        ensures ok { OnOk result (self.new ≡ record self.old { stack = put_before (is_node above) (open_of new) (without (is_node leaving) self.old.stack) }) }
+        ensures err { OnErr result (self.new ≡ self.old) }
+    {
+        let Open { node, name } = new;
+        self.last.make_room(Open { node, name })?;
+        let Some(from) = self.index(Sought::Node(leaving)) else {
+            unreachable!()
+        };
+        let to = self.index(Sought::Node(above)).unwrap_or(0);
+        let window = Window {
+            from: from as u32,
+            to: to as u32,
+        };
+        if is_window(&self.last, &self.items, window, Open { node, name }) {
+            exchange(&mut self.last, &mut self.items, window, Open { node, name });
+        } else {
+            exchange_any(
+                &mut self.last,
+                &mut self.items,
+                from,
+                above,
+                Open { node, name },
             );
         }
         Ok(())

@@ -12,8 +12,6 @@ pub mod parser;
 pub mod reader;
 mod reading;
 pub mod source;
-#[cfg(test)]
-mod tests;
 pub mod token_run;
 
 pub use context::is_context;

@@ -86,6 +86,3 @@ impl<W: Write> Target for Counted<W> {
         self.failures
     }
 }
-
-#[cfg(test)]
-mod tests;

@@ -203,6 +203,3 @@ fn write_text<W: Target>(target: &mut W, text: &[u8]) -> Result<(), Refusal>
         Err(Refusal::Write)
     }
 }
-
-#[cfg(test)]
-mod tests;

@@ -8,8 +8,6 @@ pub mod engine;
 pub mod lines;
 mod quoted;
 pub mod target;
-#[cfg(test)]
-mod tests;
 
 pub use command::{Command, Task};
 pub use context::check_context;

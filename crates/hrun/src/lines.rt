@@ -209,6 +209,3 @@ pub fn token_lines(alloc: Global, run: &TokenRun) -> Result<Vec<u8>, Refusal>
     }
     Ok(text.into_bytes())
 }
-
-#[cfg(test)]
-mod tests;

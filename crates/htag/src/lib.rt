@@ -11,8 +11,6 @@ mod run;
 mod seen;
 mod stamp;
 mod step;
-#[cfg(test)]
-mod tests;
 mod value;
 mod walk;
 

@@ -8,8 +8,6 @@ pub mod laws;
 mod reading;
 pub mod run;
 pub mod sink;
-#[cfg(test)]
-mod tests;
 
 pub use decoder::{Decoder, MAX_INPUT};
 pub use run::plain_run;

@@ -14,8 +14,6 @@ mod rows;
 mod serializer;
 mod sink;
 mod sorted;
-#[cfg(test)]
-mod tests;
 mod walk;
 
 pub use content::{Content, Role, Texts};

@@ -38,4 +38,6 @@ loop-index-preserved c =
       numbers = rw (left, names, nodes) rest.2;
       sets = λ set. sets set ∙ ap (last_place (is_in set)) (sym (ap stack_of taken ∙ stack-more (take i items) x));
       same = map-set_same opened_by items i x y (ap open_of c.item-item.ensures.opened) ∙ c.loop-index.invariant.same;
+      names = names ∙ c.loop-index.invariant.names;
+      nodes = nodes ∙ c.loop-index.invariant.nodes;
     }

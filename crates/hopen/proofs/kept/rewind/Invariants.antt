@@ -12,6 +12,8 @@ invariant-loop-index l = record {
   numbers : AreIn (length l.last.names.items) (length l.last.nodes.items) (drop l.index l.items);
   sets : (set : NameSet) → set_place set l.sets ≡ last_place (is_in set) (stack_of (take l.index l.items));
   same : map opened_by l.items ≡ map opened_by l.initial.items;
+  names : length l.last.names.items ≡ length l.initial.last.names.items;
+  nodes : length l.last.nodes.items ≡ length l.initial.last.nodes.items;
 }
 
 abbrev pub decreases-loop-index : goal.decreases-loop-index

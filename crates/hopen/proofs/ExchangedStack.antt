@@ -1,0 +1,74 @@
+-- An exchange of two members of a vector in the words on lists whose nearest member stands first.
+use Rattle.std.proofs.Common.{◌≡◌, ℕ, suc, ◌+◌, ◌-◌, ◌<◌, ◌≤◌, Bool, true, false, cond, not, List, [], ◌∷◌, ◌++◌, Option, Some, None, length, map, take, drop, reverse, insert, remove, refl, sym, ◌∙◌, ap, arith}
+use Rattle.std.specs.List.{remove_range, position, position_or_len}
+use Rattle.std.specs.Prelude.{MatchOption}
+use Rattle.std.specs.Option.{unwrap_or}
+use Rattle.std.proofs.lemmas.Bool.{lt-ltb}
+use Rattle.std.proofs.lemmas.List.{map-append, take-map, drop-map, length-map, length-reverse}
+use Rattle.std.proofs.lemmas.List.Edits.{length-remove}
+use Rattle.hopen.specs.Nearest.{without, put_before}
+use Rattle.hopen.specs.Kept.{opened_by}
+use Rattle.hopen.specs.Exchanged.{exchanged}
+use Rattle.hopen.specs.declared.kept.Item.{Item}
+use Rattle.hopen.proofs.Nearest.{position_is, remove_nearest, insert_nearest}
+
+module _ {Y : Type 0} (leaves sought : Y → Bool) where
+  -- what is nearer than the one that leaves stays where it is
+  position_or_len-without : (ys : List Y) → position_or_len sought ys < position_or_len leaves ys → position_or_len sought (without leaves ys) ≡ position_or_len sought ys
+  position_or_len-without [] h = refl
+  position_or_len-without (y ∷ ys) h = go (leaves y) (sought y) refl refl (position_or_len-without ys) h
+    where
+      go : (v w : Bool) → leaves y ≡ v → sought y ≡ w → (position_or_len sought ys < position_or_len leaves ys → position_or_len sought (without leaves ys) ≡ position_or_len sought ys)
+          → cond (not w) (1 + position_or_len sought ys) 0 < cond (not v) (1 + position_or_len leaves ys) 0
+          → position_or_len sought (cond v ys (y ∷ without leaves ys)) ≡ cond (not w) (1 + position_or_len sought ys) 0
+      go true w e f i h = absurd (omega arith)
+      go false true e f i h = rw f refl
+      go false false e f i h = rw f (ap (λ n. 1 + n) (i (omega arith)))
+
+  position-without : (ys : List Y) (near far : ℕ) → position sought ys ≡ Some near → position leaves ys ≡ Some far → near < far → (rest : List Y) → without leaves ys ≡ rest → length rest + 1 ≡ length ys → position sought rest ≡ Some near
+  position-without ys near far p q h rest is long =
+      let a = position_is sought ys near p in
+      let b = position_is leaves ys far q in
+      let same : position_or_len sought rest ≡ near = ap (position_or_len sought) (sym is) ∙ position_or_len-without ys (omega (arith, a.1, b.1)) ∙ a.1 in
+      rw (same, lt-ltb near (length rest) (omega (arith, b.0))) refl
+
+module _ {X Y : Type 0} (f : X → Y) where
+  map-remove : (xs : List X) (i : ℕ) → map f (remove xs i) ≡ remove (map f xs) i
+  map-remove xs i = map-append f (take i xs) (drop (suc i) xs) ∙ (λ k. sym (take-map f i xs) k ++ sym (drop-map f (suc i) xs) k)
+
+  map-insert : (xs : List X) (i : ℕ) (x : X) → map f (insert xs i x) ≡ insert (map f xs) i (f x)
+  map-insert xs i x = map-append f (take i xs) (x ∷ drop i xs) ∙ (λ k. sym (take-map f i xs) k ++ f x ∷ sym (drop-map f i xs) k)
+
+  pub exchanged-nearest : (xs : List X) (leaves sought : Y → Bool) (x : X) (from to : ℕ) → from < to → to < length xs → position leaves (reverse (map f xs)) ≡ Some (length (reverse (map f xs)) - 1 - from)
+      → position sought (reverse (map f xs)) ≡ Some (length (reverse (map f xs)) - 1 - to) → reverse (exchanged from to (f x) (map f xs)) ≡ put_before sought (f x) (without leaves (reverse (map f xs)))
+  exchanged-nearest xs leaves sought x from to order within p q =
+      let long : length (reverse (map f xs)) ≡ length xs = length-reverse (map f xs) ∙ length-map xs f in
+      let far = length (reverse (map f xs)) - 1 - from in
+      let near = length (reverse (map f xs)) - 1 - to in
+      let less = length-remove xs from (omega arith) in
+      let left : reverse (map f (remove xs from)) ≡ without leaves (reverse (map f xs)) = remove_nearest f leaves xs from far p (omega arith) in
+      let many : length (reverse (map f (remove xs from))) ≡ length (remove xs from) = length-reverse (map f (remove xs from)) ∙ length-map (remove xs from) f in
+      let place : position sought (reverse (map f (remove xs from))) ≡ Some near = position-without leaves sought (reverse (map f xs)) near far q p (omega arith) (reverse (map f (remove xs from))) (sym left) (omega arith) in
+      let next : to - 1 + 1 ≡ to = omega arith in
+      ap reverse (ap (λ l. insert l to (f x)) (sym (map-remove xs from)) ∙ sym (map-insert (remove xs from) to x) ∙ ap (λ n. map f (insert (remove xs from) n x)) (sym next))
+      ∙ insert_nearest f sought (remove xs from) (to - 1) near x place (omega arith) ∙ ap (put_before sought (f x)) left
+
+pub length-put-le : {Y : Type 0} (sought : Y → Bool) (y : Y) (ys : List Y) → length (put_before sought y ys) ≤ suc (length ys)
+length-put-le sought y [] = omega arith
+length-put-le sought y (x ∷ ys) = go (sought x) (length-put-le sought y ys)
+  where
+    go : (v : Bool) → length (put_before sought y ys) ≤ suc (length ys) → length (cond v (y ∷ x ∷ ys) (x ∷ put_before sought y ys)) ≤ suc (suc (length ys))
+    go true i = omega arith
+    go false i = omega arith
+
+-- an index that is not the first was found
+pub found-below : (o : Option ℕ) (P : Type 0) (Q : ℕ → Type 0) → MatchOption o P Q → 0 < unwrap_or o 0 → Q (unwrap_or o 0)
+found-below None P Q h below = absurd (omega arith)
+found-below (Some i) P Q h below = h
+
+-- one item is left out
+pub length-left : (items left : List Item) (i : ℕ) → i < length items → map opened_by left ≡ map opened_by (remove_range items i (i + 1)) → length left + 1 ≡ length items
+length-left items left i h e =
+    let next : i + 1 ≡ suc i = omega arith in
+    let same : length left ≡ length (remove items i) = sym (length-map left opened_by) ∙ ap length e ∙ length-map (remove_range items i (i + 1)) opened_by ∙ ap (λ n. length (remove_range items i n)) next in
+    omega (arith, length-remove items i h)
