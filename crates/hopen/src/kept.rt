@@ -255,6 +255,9 @@ pub(crate) fn remove_run(last: &mut LastPlaces, items: &mut Vec<Item>, from: usi
     ensures nodes { length last.new.nodes.items ≡ length last.old.nodes.items }
     ensures capacity { vec_capacity items.new ≡ vec_capacity items.old }
 {
+    if from == to {
+        return;
+    }
     unwind(last, items, from);
     items.drain(from..to);
     rewind(last, items, from);
