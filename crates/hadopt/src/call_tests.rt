@@ -109,22 +109,36 @@ fn attr(name: NameId, value: &str, alloc: Global) -> Result<Vec<Attr>, AllocErro
     Ok(attrs)
 }
 
+/// Adds an attribute to the current node.
+fn add(site: &mut Site, name: NameId, value: &str, alloc: Global) -> Result<(), Fail> {
+    let attrs = attr(name, value, alloc)?;
+    if let Some(div) = site.current() {
+        site.add_missing(div.node, attrs)?;
+    }
+    Ok(())
+}
+
+/// The values of the current node's attributes.
+fn values(site: &Site, alloc: Global) -> Result<String, AllocError> {
+    let mut values = String::new(alloc);
+    if let Some(attrs) = site.current().and_then(|div| site.tree().attrs(div.node)) {
+        for attr in attrs {
+            values.push_str(&attr.value)?;
+        }
+    }
+    Ok(values)
+}
+
 /// An attribute that the element has stays as it was.
 #[test]
 fn missing_attributes_are_added(rt: HostRuntime) -> Result<(), Fail> {
     let alloc = rt.alloc();
     let mut site = opened("", 100, 100, alloc)?;
-    let Some(div) = site.current() else {
-        return Ok(());
-    };
-    site.add_missing(div.node, attr(Tag::A.number(), "1", alloc)?)?;
-    site.add_missing(div.node, attr(Tag::A.number(), "2", alloc)?)?;
-    site.add_missing(div.node, attr(Tag::B.number(), "2", alloc)?)?;
-    let Some(attrs) = site.tree().attrs(div.node) else {
-        return Ok(());
-    };
-    assert_eq!(rt; attrs.len(), 2);
-    assert_eq!(rt; attrs[0].value.as_str(), "1");
+    add(&mut site, Tag::A.number(), "1", alloc)?;
+    add(&mut site, Tag::A.number(), "2", alloc)?;
+    add(&mut site, Tag::B.number(), "3", alloc)?;
+    let values = values(&site, alloc)?;
+    assert_eq!(rt; values.as_str(), "13");
     Ok(())
 }
 

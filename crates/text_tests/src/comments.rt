@@ -2,49 +2,38 @@
 
 use crate::kept_errors::Errors;
 use hmarkup::{CommentKind, CommentWalk};
-use names::ErrorCode::{
-    AbruptClosingOfEmptyComment as Abrupt, EofInComment as Eof,
-    IncorrectlyClosedComment as Incorrect, NestedComment as Nested,
-    UnexpectedNullCharacter as Null,
-};
-use names::{ErrorCode, Placed, Refusal};
+use names::ErrorCode::{NestedComment as Nested, UnexpectedNullCharacter as Null};
+use names::{Placed, Refusal};
 use std::alloc::Global;
 use std::process::Abort;
 use std::test::Fail;
 
-/// A text after the opening mark, the comment's data, the byte offset after it, and its errors.
-type Row = (&'static str, &'static str, u64, &'static [(ErrorCode, u64)]);
-
-/// What follows `<!--`, from byte 4 on.
-const COMMENTS: [Row; 19] = [
-    (">", "", 5, &[(Abrupt, 4)]),
-    ("->", "", 6, &[(Abrupt, 5)]),
-    ("-->", "", 7, &[]),
-    ("--!>", "", 8, &[(Incorrect, 7)]),
-    ("", "", 4, &[(Eof, 4)]),
-    ("a-->b", "a", 8, &[]),
-    ("a--!>b", "a", 9, &[(Incorrect, 8)]),
-    ("a--->", "a-", 9, &[]),
-    ("a->b-->", "a->b", 11, &[]),
-    ("a--!-->", "a--!", 11, &[]),
-    ("a--", "a", 7, &[(Eof, 7)]),
-    ("a--!", "a", 8, &[(Eof, 8)]),
-    ("a---", "a-", 8, &[(Eof, 8)]),
-    ("<!--a-->", "<!--a", 12, &[(Nested, 8)]),
-    ("a<!-->", "a<!", 10, &[]),
-    ("<!--!>", "<!", 10, &[(Nested, 8), (Incorrect, 9)]),
-    ("<!--\0-->", "<!--\u{FFFD}", 12, &[(Nested, 8), (Null, 8)]),
-    ("\0-->", "\u{FFFD}", 8, &[(Null, 4)]),
-    ("é-->", "é", 9, &[]),
-];
+/// What follows `<!--`, from byte 4 on. A row a line: the text, `|`, the byte offset after the comment, its data, and its errors.
+const COMMENTS: &str = ">|5 (); 4 abrupt-closing-of-empty-comment
+->|6 (); 5 abrupt-closing-of-empty-comment
+-->|7 ()
+--!>|8 (); 7 incorrectly-closed-comment
+|4 (); 4 eof-in-comment
+a-->b|8 (a)
+a--!>b|9 (a); 8 incorrectly-closed-comment
+a--->|9 (a-)
+a->b-->|11 (a->b)
+a--!-->|11 (a--!)
+a--|7 (a); 7 eof-in-comment
+a--!|8 (a); 8 eof-in-comment
+a---|8 (a-); 8 eof-in-comment
+<!--a-->|12 (<!--a); 8 nested-comment
+a<!-->|10 (a<!)
+<!--!>|10 (<!); 8 nested-comment; 9 incorrectly-closed-comment
+<!--\0-->|12 (<!--\u{FFFD}); 8 nested-comment; 8 unexpected-null-character
+\0-->|8 (\u{FFFD}); 4 unexpected-null-character
+é-->|9 (é)";
 
 /// What follows the `<` of a bogus comment, from byte 1 on.
-const BOGUS: [Row; 4] = [
-    ("?a>b", "?a", 4, &[]),
-    ("?a--", "?a--", 5, &[]),
-    ("?\0>", "?\u{FFFD}", 4, &[(Null, 2)]),
-    (">", "", 2, &[]),
-];
+const BOGUS: &str = "?a>b|4 (?a)
+?a--|5 (?a--)
+?\0>|4 (?\u{FFFD}); 2 unexpected-null-character
+>|2 ()";
 
 /// Reads the text, which begins at byte `at`; returns the comment's data and the byte offset after it.
 fn read(
@@ -64,36 +53,50 @@ fn read(
     Ok((walk.into_data(), at))
 }
 
-/// Reads each row with a walk of this kind; its text begins at byte `at`.
+/// Reads the text with a walk of this kind, and prints the result in the form of the rows.
+fn shown(alloc: Global, kind: CommentKind, text: &str, at: u64) -> Result<String, Refusal> {
+    let mut errors = Errors::new(alloc, 9);
+    let walk = match kind {
+        CommentKind::Comment => CommentWalk::comment(alloc),
+        CommentKind::Bogus => CommentWalk::bogus(alloc),
+    };
+    let (data, after) = read(walk, text, at, &mut errors)?;
+    let mut line = format!(in alloc; "{after} ({data})")?;
+    errors.show(&mut line, alloc)?;
+    Ok(line)
+}
+
+/// Reads each row with a walk of this kind; its text begins at byte `at`. Returns how many rows there are.
 fn reads_rows(
     rt: &impl Abort,
     alloc: Global,
     kind: CommentKind,
-    rows: &[Row],
+    rows: &str,
     at: u64,
-) -> Result<(), Fail> {
-    for &(text, data, end, told) in rows {
-        let mut errors = Errors::new(alloc, 9);
-        let walk = match kind {
-            CommentKind::Comment => CommentWalk::comment(alloc),
-            CommentKind::Bogus => CommentWalk::bogus(alloc),
-        };
-        let (found, after) = read(walk, text, at, &mut errors)?;
-        assert_eq!(rt; found.as_str(), data, "of {text}");
-        assert_eq!(rt; after, end, "after {text}");
-        assert_eq!(rt; errors.kept.as_slice(), told, "of {text}");
+) -> Result<usize, Fail> {
+    let mut count = 0usize;
+    for row in rows.lines() {
+        if let Some((text, wanted)) = row.split_once('|') {
+            let found = shown(alloc, kind, text, at)?;
+            assert_eq!(rt; found.as_str(), wanted, "of {text}");
+            count = count.wrapping_add(1);
+        }
     }
-    Ok(())
+    Ok(count)
 }
 
 #[test]
 fn reads_comments(rt: HostRuntime) -> Result<(), Fail> {
-    reads_rows(&rt, rt.alloc(), CommentKind::Comment, &COMMENTS, 4)
+    let count = reads_rows(&rt, rt.alloc(), CommentKind::Comment, COMMENTS, 4)?;
+    assert_eq!(rt; count, 19);
+    Ok(())
 }
 
 #[test]
 fn reads_bogus_comments(rt: HostRuntime) -> Result<(), Fail> {
-    reads_rows(&rt, rt.alloc(), CommentKind::Bogus, &BOGUS, 1)
+    let count = reads_rows(&rt, rt.alloc(), CommentKind::Bogus, BOGUS, 1)?;
+    assert_eq!(rt; count, 4);
+    Ok(())
 }
 
 #[test]

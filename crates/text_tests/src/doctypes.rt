@@ -4,29 +4,39 @@ use crate::doctype_cases::CASES;
 use crate::kept_errors::Errors;
 use hmarkup::{Doctype, DoctypeWalk};
 use names::{ErrorCode, Placed, Refusal};
-use std::alloc::Global;
+use std::alloc::{AllocError, Global};
 use std::process::Abort;
 use std::test::Fail;
+
+/// Adds a part of a doctype to a line.
+fn show_part(part: &Option<String>, line: &mut String) -> Result<(), AllocError> {
+    let Some(text) = part else {
+        return line.push_str(" -");
+    };
+    line.push_str(" (")?;
+    line.push_str(text)?;
+    line.push(')')
+}
+
+/// A doctype and the offset after it.
+fn line(doctype: &Doctype, after: u64, alloc: Global) -> Result<String, AllocError> {
+    let mut line = format!(in alloc; "{after}")?;
+    for part in [&doctype.name, &doctype.public_id, &doctype.system_id] {
+        show_part(part, &mut line)?;
+    }
+    if doctype.forced {
+        line.push_str(" quirks")?;
+    }
+    Ok(line)
+}
 
 /// Reads the text, which begins at byte 9, and prints the result in the form of the cases.
 fn shown(alloc: Global, text: &str) -> Result<String, Fail> {
     let mut errors = Errors::new(alloc, 9);
     let (doctype, after) = read(DoctypeWalk::new(alloc), text, &mut errors)?;
-    let mut shown = format!(in alloc; "{after}")?;
-    for part in [&doctype.name, &doctype.public_id, &doctype.system_id] {
-        match part {
-            Some(text) => shown.push_str(format!(in alloc; " ({text})")?.as_str())?,
-            None => shown.push_str(" -")?,
-        }
-    }
-    if doctype.forced {
-        shown.push_str(" quirks")?;
-    }
-    for (code, at) in &errors.kept {
-        let name = code.text();
-        shown.push_str(format!(in alloc; "; {at} {name}")?.as_str())?;
-    }
-    Ok(shown)
+    let mut line = line(&doctype, after, alloc)?;
+    errors.show(&mut line, alloc)?;
+    Ok(line)
 }
 
 /// Reads the text, which begins at byte 9; returns the doctype and the byte offset after it.

@@ -4,7 +4,7 @@ ghost use Rattle.std.specs.Prelude.{◌≡◌, []};
 
 use hmarkup::ErrorSink;
 use names::{ErrorCode, ParseError, Refusal};
-use std::alloc::Global;
+use std::alloc::{AllocError, Global};
 
 /// Keeps up to `room` errors, and refuses the next.
 #[derive(Drop)]
@@ -23,6 +23,15 @@ impl Errors {
             room,
             kept: Vec::new(alloc),
         }
+    }
+
+    /// Adds each error's offset and code to a line.
+    pub fn show(&self, line: &mut String, alloc: Global) -> Result<(), AllocError> {
+        for (code, at) in &self.kept {
+            let name = code.text();
+            line.push_str(format!(in alloc; "; {at} {name}")?.as_str())?;
+        }
+        Ok(())
     }
 }
 

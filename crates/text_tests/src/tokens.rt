@@ -101,7 +101,20 @@ impl TokenSink for Lines {
     }
 }
 
-/// The lines of a text, of which the sink takes this many, and the answer.
+/// Feeds a text character by character, and ends it.
+fn feed(
+    tokenizer: &mut Tokenizer<'_>,
+    names: &mut Names,
+    text: &str,
+    lines: &mut Lines,
+) -> Result<(), Refusal> {
+    for (place, ch) in text.char_indices() {
+        tokenizer.feed_char(names, ch, place as u64, lines)?;
+    }
+    tokenizer.finish(names, text.len() as u64, lines)
+}
+
+/// The lines of a text, of which the sink takes this many, and the answer. A refusal is given again.
 fn run(
     alloc: Global,
     start: Start,
@@ -117,16 +130,10 @@ fn run(
         left,
     };
     let mut tokenizer = Tokenizer::new(alloc, &table, start);
-    for (place, ch) in text.char_indices() {
-        if let Err(refusal) = tokenizer.feed_char(&mut names, ch, place as u64, &mut lines) {
-            let again = tokenizer.feed_char(&mut names, 'x', 0, &mut lines);
-            if again != Err(refusal) {
-                return Err(Refusal::Read);
-            }
-            return Ok((lines.text, again));
-        }
+    let answer = feed(&mut tokenizer, &mut names, text, &mut lines);
+    if answer.is_err() && feed(&mut tokenizer, &mut names, "x", &mut lines) != answer {
+        return Err(Refusal::Read);
     }
-    let answer = tokenizer.finish(&mut names, text.len() as u64, &mut lines);
     Ok((lines.text, answer))
 }
 
