@@ -131,7 +131,7 @@ fn run(
     };
     let mut tokenizer = Tokenizer::new(alloc, &table, start);
     let answer = feed(&mut tokenizer, &mut names, text, &mut lines);
-    if answer.is_err() && feed(&mut tokenizer, &mut names, "x", &mut lines) != answer {
+    if answer.is_err() && tokenizer.feed_char(&mut names, 'x', 0, &mut lines) != answer {
         return Err(Refusal::Read);
     }
     Ok((lines.text, answer))
