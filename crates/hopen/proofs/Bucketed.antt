@@ -6,7 +6,7 @@ use Rattle.std.proofs.Math.Dec.{eqb-suc-zero}
 use Rattle.std.proofs.Math.Seq.{drop-nil}
 use Rattle.std.proofs.lemmas.Bool.{eqb-true, eqb-false}
 use Rattle.std.proofs.lemmas.List.{drop-drop, drop-map, take-map, get_or-drop, get_or-reverse, length-drop, length-map}
-use Rattle.hopen.specs.Chains.{last_of}
+use Rattle.hopen.proofs.Chained.{last_of}
 use Rattle.hopen.specs.Formatting.{EntryOf, Item, marker, entry, as_entry, after_marker}
 use Rattle.hopen.specs.Listed.{number_by}
 use Rattle.hopen.proofs.Earliest.{farthest}

@@ -141,7 +141,7 @@ same-bucket new e equal = go (nat_eq new.name e.name) refl (are_among nat_eq new
   where
     go : (u : Bool) → nat_eq new.name e.name ≡ u → (v : Bool) → are_among nat_eq new.attrs e.attrs ≡ v → (w : Bool) → are_among nat_eq e.attrs new.attrs ≡ w → (u && (v && w)) ≡ true
         → bucket new ≡ bucket e
-    go true name true there true back equal = λ i. total (eqb-true new.name e.name name i) (same-hashes new.attrs e.attrs there back i) % 16381
+    go true name true there true back equal = λ i. total (eqb-true new.name e.name name i) (same-hashes new.attrs e.attrs there back i) % 4294967296
     go true name true there false back equal = cc
     go true name false there w back equal = cc
     go false name v there w back equal = cc

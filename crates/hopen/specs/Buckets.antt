@@ -29,4 +29,4 @@ total start (x ∷ xs) = total ((start + x) % 2 ^ 64) xs
 
 -- the bucket of an entry
 abbrev pub bucket : EntryOf ℕ → ℕ
-bucket e = total e.name (distinct (map hash_of e.attrs)) % 16381
+bucket e = total e.name (distinct (map hash_of e.attrs)) % 2 ^ 32

@@ -17,3 +17,4 @@ pub mod Exchanged
 pub mod Chains
 pub mod Listed
 pub mod Buckets
+pub mod Holes

@@ -1,23 +1,38 @@
 -- What is kept of the list of active formatting elements besides its items.
-use Rattle.std.specs.Prelude.{◌≡◌, ℕ, zero, suc, map}
+use Rattle.std.specs.Prelude.{◌≡◌, ℕ, zero, suc, ◌<◌, ◌≤◌, ◌==◌, false, List, length, map, slice_index_or, if◌then◌else◌}
+use Rattle.std.specs.List.{All}
 use Rattle.hopen.specs.Buckets.{bucket}
 use Rattle.hopen.specs.Formatting.{EntryOf, Item, marker, entry}
-use Rattle.hopen.specs.Items.{item_of}
-use Rattle.hopen.specs.declared.formatting.Formatting.TheInside.{Inside}
+use Rattle.hopen.specs.Items.{IsStored, is_gone, item_of, nowhere}
+use Rattle.hopen.specs.declared.entry.Item.{Item as Stored}
+use Rattle.hopen.specs.declared.slots.Slots.{Slots}
 
--- the number of an item by one of its entry, above the number that markers have
+-- the number of an item by one of its entry: markers have the first, and holes the next
 abbrev pub number_by : (EntryOf ℕ → ℕ) → Item ℕ → ℕ
 number_by number marker = zero
 number_by number (entry e) = suc (number e)
 
--- by its name, and by its bucket
-abbrev pub name_of : Item ℕ → ℕ
-name_of = number_by (λ e. e.name)
+abbrev pub unless_hole : (EntryOf ℕ → ℕ) → EntryOf ℕ → ℕ
+unless_hole number e = if e.name == nowhere then zero else suc (number e)
 
-abbrev pub bucket_of : Item ℕ → ℕ
-bucket_of = number_by bucket
+-- by its name, by its hash, and by its node
+abbrev pub by_name : EntryOf ℕ → ℕ
+by_name = unless_hole (λ e. e.name)
 
--- the numbers that are kept are those of the items
-pub record IsListed (f : Inside) : Type 0 where
-  pub names : f.names ≡ map (λ i. name_of (item_of i)) f.items.items
-  pub buckets : f.buckets ≡ map (λ i. bucket_of (item_of i)) f.items.items
+abbrev pub by_hash : EntryOf ℕ → ℕ
+by_hash = unless_hole bucket
+
+abbrev pub by_node : EntryOf ℕ → ℕ
+by_node = unless_hole (λ e. e.node)
+
+abbrev pub numbers_by : (EntryOf ℕ → ℕ) → List Stored → List ℕ
+numbers_by number items = map (λ i. number_by number (item_of i)) items
+
+-- The numbers that are kept are those of the items, and from an index on there is no hole.
+pub record IsListed (s : Slots) : Type 0 where
+  pub names : s.names ≡ numbers_by by_name s.items.items
+  pub hashes : s.hashes ≡ numbers_by by_hash s.items.items
+  pub nodes : s.nodes ≡ numbers_by by_node s.items.items
+  pub stored : All IsStored s.items.items
+  pub within : s.solid ≤ length s.items.items
+  pub solid : (i : ℕ) → s.solid ≤ i → i < length s.items.items → (x : Stored) → is_gone (slice_index_or s.items.items i x) ≡ false

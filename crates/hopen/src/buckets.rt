@@ -7,8 +7,8 @@ ghost use Rattle.hopen.specs.Buckets.{bucket, distinct, hash_bytes, hash_of, tot
 use names::{Attr, NameId};
 use std::alloc::{AllocError, Global};
 
-/// How many buckets there are, a prime.
-const BUCKETS: u64 = 16_381;
+/// How many hashes there are.
+const HASHES: u64 = 1 << 32;
 
 /// The factor of a hash for each byte.
 const FACTOR: u64 = 1_099_511_628_211;
@@ -53,12 +53,12 @@ fn total(start: u64, hashes: &[u64]) -> u64
     sum
 }
 
-/// The number of the bucket of an entry with a name and attributes, above that of markers. Equal entries have the same bucket, and few others have it.
-pub(crate) fn find_bucket(alloc: Global, name: NameId, attrs: &[Attr]) -> Result<usize, AllocError>
+/// The number of the hash of an entry with a name and attributes. Equal entries have the same, and few others have it.
+pub(crate) fn find_hash(alloc: Global, name: NameId, attrs: &[Attr]) -> Result<usize, AllocError>
     // whatever the entry's node
-    ensures { IfOk result (λ n. n ≡ suc (bucket (record { node = 0; name = name; attrs = map attribute_of attrs.now }))) }
+    ensures { IfOk result (λ n. n ≡ suc (suc (bucket (record { node = 0; name = name; attrs = map attribute_of attrs.now })))) }
 {
     let hashes = hash_attrs(alloc, attrs)?;
     let sum = total(name.index() as u64, &hashes);
-    Ok((sum % BUCKETS) as usize + 1)
+    Ok((sum % HASHES) as usize + 2)
 }

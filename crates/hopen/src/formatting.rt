@@ -1,39 +1,32 @@
 //! The list of active formatting elements (HTML Standard, 13.2.4.3).
 
-ghost use Rattle.std.specs.Prelude.{◌≡◌, ℕ, suc, ◌<◌, ◌≤◌, ◌∷◌, [], IsTrue, OnOk, OnErr, IfSome, find, insert, map, length, nat_eq, position, remove, reverse, slice_get, slice_index_or, vec_len, vec_capacity};
+ghost use Rattle.std.specs.Prelude.{◌≡◌, ℕ, suc, ◌-◌, ◌≤◌, ◌∷◌, [], IsTrue, OnOk, OnErr, find, length, map, nat_eq, remove, take};
 ghost use Rattle.std.specs.List.{list_any};
-ghost use Rattle.std.specs.Option.{option_map, option_map_or};
+ghost use Rattle.std.specs.Option.{is_some, option_map};
 ghost use Rattle.hnodes.specs.Rows.{attribute_of};
-ghost use Rattle.hopen.specs.Formatting.{cleared, entry_at, entry_of, find_entry, is_entry, marker, pushed, with_node, with_room, without_entry, for_node, booked, has_bookmark};
-ghost use Rattle.hopen.specs.Items.{entry_is, item_of, items_of};
-ghost use Rattle.hopen.specs.Buckets.{bucket};
-ghost use Rattle.hopen.specs.Listed.{bucket_of};
-ghost use Rattle.hopen.specs.Nearest.{changed_at, put_before, without};
+ghost use Rattle.hopen.specs.Formatting.{cleared, entry_at, entry_of, find_entry, is_entry, marker, pushed, with_node, without_entry, for_node, booked, has_bookmark};
+ghost use Rattle.hopen.specs.Items.{entry_is, items_of, live};
+ghost use Rattle.hopen.specs.Listed.{IsListed};
+ghost use Rattle.hopen.specs.Nearest.{changed_at, without};
+ghost use Rattle.hopen.specs.Holes.{nth_live};
 
 use crate::attributes::copy_attrs;
 use crate::bookmark::Bookmark;
-use crate::buckets::find_bucket;
-use crate::chains::Chains;
-use crate::entry::{Entry, Item, MARKER, name_number};
+use crate::buckets::find_hash;
+use crate::entry::{Entry, Item};
+use crate::slots::{MARKER, Numbers, Slots, name_number, node_number};
 use hnodes::NodeId;
 use names::{Attr, NameId};
 use std::alloc::{AllocError, Global};
 use std::marker::Model;
 
-/// How many equal entries there may be after the last marker.
-const MOST_EQUAL: usize = 3;
-
 /// The list of active formatting elements.
 ///
-/// `find`, `get` and `renew` take the same time at any length. `push` compares the new entry with those of its bucket after the last
-/// marker, which are few; the calls by a node search for its entry from the last one on. An edit in the middle takes a step for each item after it.
+/// Each call takes the same time at any length, amortized, where few entries have the same hash; but `len` counts, and `get` and `renew`
+/// pass the holes that removed entries left, unless `reach` closed them.
 #[derive(Debug, Drop)]
 pub struct Formatting {
-    items: Vec<Item>,
-    /// The number of each item's name, and that of markers.
-    names: Chains,
-    /// The number of each item's bucket, and that of markers.
-    buckets: Chains,
+    slots: Slots,
     alloc: Global,
 }
 
@@ -41,97 +34,76 @@ impl Model for Formatting {
     ghost use Rattle.std.specs.Prelude.{ℕ, List};
     ghost use Rattle.hopen.specs.Formatting.{Item};
     ghost use Rattle.hopen.specs.ItemCoding.{coded_items};
-    ghost use Rattle.hopen.specs.Items.{items_of};
+    ghost use Rattle.hopen.specs.Items.{items_of, live};
 
     ghost Value = { List (Item ℕ) };
 
     ghost coded = { coded_items };
 
-    ghost view = { λ f. items_of f.items.items };
+    ghost view = { λ f. live (items_of f.slots.items.items) };
 
     ghost use Rattle.hopen.specs.Listed.{IsListed};
 
-    ghost invariant = { IsListed };
+    ghost invariant = { λ f. IsListed f.slots };
 }
 
-/// How many items come after the entry that gives way to a new one: the earliest of the equal entries after the last marker, if there
-/// are three. Equal entries are in the same bucket.
-fn giving_way(
-    items: &[Item],
-    buckets: &Chains,
-    number: usize,
-    name: NameId,
-    attrs: &[Attr],
-) -> Option<usize>
-    requires kept { buckets.now ≡ map (λ i. bucket_of (item_of i)) items.now }
-    requires number { number ≡ suc (bucket (record { node = 0; name = name; attrs = map attribute_of attrs.now })) }
-    ensures within { IfSome result (λ back. back < length items.now) }
-    ensures room { option_map_or (remove (items_of items.now)) result (items_of items.now)
-        ≡ with_room nat_eq (record { node = 0; name = name; attrs = map attribute_of attrs.now }) (items_of items.now) }
+/// The index of the item with `back` items after it, holes not counted, among the first items.
+fn walk(items: &[Item], end: usize, back: usize) -> Option<usize>
+    requires { end ≤ length items.now }
+    ensures { result ≡ option_map (λ up. end - 1 - up) (nth_live back (items_of (take end items.now))) }
 {
-    let marker = buckets.last(MARKER);
-    let mut place = buckets.last(number);
-    let mut equal = 0;
-    let mut earliest = None;
-    while place > marker {
-        if items[place - 1].is_equal(name, attrs) {
-            equal += 1;
-            earliest = Some(items.len() - place);
+    let mut left = back;
+    let mut index = end;
+    while index > 0 {
+        index -= 1;
+        if !items[index].is_hole() {
+            if left == 0 {
+                return Some(index);
+            }
+            left -= 1;
         }
-        place = buckets.before(place);
     }
-    if equal < MOST_EQUAL { None } else { earliest }
+    None
 }
 
-/// How many items come after the entry of a node; `None` if it has no entry.
-fn back_of(items: &[Item], node: NodeId) -> Option<usize>
-    ensures { result ≡ position (λ i. is_entry node (item_of i)) (reverse items.now) }
+/// The index of the item with `back` items after it, holes not counted.
+fn slot(slots: &Slots, back: usize) -> Option<usize>
+    requires { IsListed slots.now }
+    ensures { result ≡ option_map (λ up. length slots.now.items.items - 1 - up) (nth_live back (items_of slots.now.items.items)) }
 {
-    items.iter().rev().position(|item| item.is_of(node))
-}
-
-/// Sets the node of the item with `back` items after it.
-fn set_node(items: &mut [Item], back: usize, node: NodeId)
-    requires { back < length items.old }
-    ensures { items_of items.new ≡ changed_at back (for_node node) (items_of items.old) }
-{
-    let index = items.len() - 1 - back;
-    items[index].set_node(node);
-}
-
-/// Removes the entry of a node, and returns the index where it stood and the entry. The list then has room for one item.
-fn take(items: &mut Vec<Item>, node: NodeId) -> (usize, Item)
-    requires { IsTrue (list_any (is_entry node) (items_of items.old.items)) }
-    ensures item { Some (item_of result.1) ≡ find (is_entry node) (items_of items.old.items) }
-    ensures items { items_of items.new.items ≡ without (is_entry node) (items_of items.old.items) }
-    ensures room { vec_len items.new < vec_capacity items.new }
-    ensures within { result.0 < length items.old.items }
-    ensures at { result.1 ≡ slice_index_or items.old.items result.0 result.1 }
-    ensures left { items.new.items ≡ remove items.old.items result.0 }
-{
-    let Some(back) = back_of(items, node) else {
-        unreachable!()
-    };
-    let index = items.len() - 1 - back;
-    (index, items.remove(index))
-}
-
-/// Inserts an item right after the entry of a node, and returns the index where it stands.
-fn insert_after(items: &mut Vec<Item>, mark: NodeId, item: Item) -> usize
-    requires mark { IsTrue (list_any (is_entry mark) (items_of items.old.items)) }
-    requires room { vec_len items.old < vec_capacity items.old }
-    ensures items { items_of items.new.items ≡ put_before (is_entry mark) (item_of item) (items_of items.old.items) }
-    ensures within { result ≤ length items.old.items }
-    ensures put { items.new.items ≡ insert items.old.items result item }
-{
-    let Some(back) = back_of(items, mark) else {
-        unreachable!()
-    };
-    let index = items.len() - back;
-    if items.insert(index, item).is_err() {
-        unreachable!()
+    let len = slots.items.len();
+    if back < len - slots.solid {
+        return Some(len - 1 - back);
     }
-    index
+    walk(&slots.items, len, back)
+}
+
+/// Removes the holes at the end.
+fn trim(slots: &mut Slots)
+    requires { IsListed slots.old }
+    ensures listed { IsListed slots.new }
+    ensures same { live (items_of slots.new.items.items) ≡ live (items_of slots.old.items.items) }
+{
+    let mut len = slots.items.len();
+    while len > 0 && slots.items[len - 1].is_hole() {
+        len -= 1;
+    }
+    slots.truncate(len);
+}
+
+/// Where the items have no room for one more, closes the holes and makes room for as many as there are.
+fn make_room(slots: &mut Slots) -> Result<(), AllocError>
+    requires { IsListed slots.old }
+    ensures listed { IsListed slots.new }
+    ensures same { live (items_of slots.new.items.items) ≡ live (items_of slots.old.items.items) }
+{
+    if slots.items.len() < slots.items.capacity() {
+        return Ok(());
+    }
+    if slots.solid > 0 {
+        slots.close(0);
+    }
+    slots.items.reserve(slots.items.len())
 }
 
 impl Formatting {
@@ -140,9 +112,7 @@ impl Formatting {
         ensures { result ≡ [] }
     {
         Formatting {
-            items: Vec::new(alloc),
-            names: Chains::new(alloc),
-            buckets: Chains::new(alloc),
+            slots: Slots::new(alloc),
             alloc,
         }
     }
@@ -154,11 +124,18 @@ impl Formatting {
         ensures err { OnErr result (self.new ≡ self.old) }
     {
         let attrs = copy_attrs(self.alloc, attrs)?;
-        let number = find_bucket(self.alloc, name, &attrs)?;
-        let earliest = giving_way(&self.items, &self.buckets, number, name, &attrs);
-        self.put(Item::Entry(Entry { node, name, attrs }), number)?;
+        let hash = find_hash(self.alloc, name, &attrs)?;
+        make_room(&mut self.slots)?;
+        let earliest = self.slots.giving_way(hash, name, &attrs);
+        let numbers = Numbers {
+            name: name_number(name),
+            hash,
+            node: node_number(node),
+        };
+        self.slots.put(Item::Entry(Entry { node, name, attrs }), numbers)?;
         if let Some(back) = earliest {
-            self.cut(back + 1);
+            let index = self.slots.items.len() - 2 - back;
+            self.slots.hide(index);
         }
         Ok(())
     }
@@ -168,51 +145,51 @@ impl Formatting {
         ensures ok { OnOk result (self.new ≡ marker ∷ self.old) }
         ensures err { OnErr result (self.new ≡ self.old) }
     {
-        self.put(Item::Marker, MARKER)
+        make_room(&mut self.slots)?;
+        let numbers = Numbers {
+            name: MARKER,
+            hash: MARKER,
+            node: MARKER,
+        };
+        self.slots.put(Item::Marker, numbers)
     }
 
     /// Removes the last marker and everything after it, or everything if there is no marker (13.2.4.3).
     pub fn clear(&mut self)
         ensures { self.new ≡ cleared self.old }
     {
-        let len = self.names.last(MARKER).saturating_sub(1);
-        self.names.truncate(len);
-        self.buckets.truncate(len);
-        self.items.truncate(len);
+        let len = self.slots.names.last(MARKER).saturating_sub(1);
+        self.slots.truncate(len);
+        trim(&mut self.slots);
     }
 
     /// How many items there are.
     pub fn len(&self) -> usize
         ensures { result ≡ length self.now }
     {
-        self.items.len()
+        self.slots.items.iter().filter(|item| !item.is_hole()).count()
     }
 
     /// The last entry with a name after the last marker; `None` if there is none.
     pub fn find(&self, name: NameId) -> Option<&Entry>
         ensures { option_map (λ e. entry_is e.now) result ≡ find_entry nat_eq name self.now }
     {
-        let place = self.names.last(name_number(name));
-        if place <= self.names.last(MARKER) {
+        let place = self.slots.names.last(name_number(name));
+        if place <= self.slots.names.last(MARKER) {
             return None;
         }
-        self.items[place - 1].entry()
+        self.slots.items[place - 1].entry()
     }
 
     /// The entry of a node; `None` if it has no entry.
     pub fn entry_of(&self, node: NodeId) -> Option<&Entry>
         ensures { option_map (λ e. entry_is e.now) result ≡ entry_of node self.now }
     {
-        let mut rest = self.items.as_slice();
-        while let Some((item, before)) = rest.split_last() {
-            if let Item::Entry(entry) = item {
-                if entry.node == node {
-                    return Some(entry);
-                }
-            }
-            rest = before;
+        let place = self.slots.nodes.last(node_number(node));
+        if place == 0 {
+            return None;
         }
-        None
+        self.slots.items[place - 1].entry()
     }
 
     /// The entry with `back` items after it: 0 is the last one. `None` for a marker, and past the first item; so a loop that goes back,
@@ -220,27 +197,39 @@ impl Formatting {
     pub fn get(&self, back: usize) -> Option<&Entry>
         ensures { option_map (λ e. entry_is e.now) result ≡ entry_at back self.now }
     {
-        if back >= self.items.len() {
-            return None;
+        let index = slot(&self.slots, back)?;
+        self.slots.items[index].entry()
+    }
+
+    /// Makes `get` and `renew` take the same time at any length, for as many items after the one that they are called for. A loop that
+    /// goes back calls it before them.
+    pub fn reach(&mut self, back: usize)
+        ensures { self.new ≡ self.old }
+    {
+        if back < self.slots.items.len() - self.slots.solid {
+            return;
         }
-        self.items[self.items.len() - 1 - back].entry()
+        // twice as far, so that a loop that goes back closes few times
+        match slot(&self.slots, back.saturating_mul(2)) {
+            Some(index) => self.slots.close(index),
+            None => self.slots.close(0),
+        }
     }
 
     /// Removes the entry of a node; does nothing if it has no entry.
     pub fn remove(&mut self, node: NodeId)
         ensures { self.new ≡ without_entry node self.old }
     {
-        while let Some(back) = self.back(node) {
-            self.cut(back);
-        }
+        while self.hide(node) {}
     }
 
     /// Sets the node of a node's entry, which was made for the same token; does nothing if there is no such entry.
     pub fn replace(&mut self, from: NodeId, to: NodeId)
         ensures { self.new ≡ with_node from to self.old }
     {
-        if let Some(back) = self.back(from) {
-            self.renew(back, to);
+        let place = self.slots.nodes.last(node_number(from));
+        if place > 0 {
+            self.slots.renew(place - 1, to);
         }
     }
 
@@ -248,8 +237,10 @@ impl Formatting {
     pub fn renew(&mut self, back: usize, node: NodeId)
         ensures { self.new ≡ changed_at back (for_node node) self.old }
     {
-        if back < self.items.len() {
-            set_node(&mut self.items, back, node);
+        if let Some(index) = slot(&self.slots, back) {
+            if self.slots.items[index].entry().is_some() {
+                self.slots.renew(index, node);
+            }
         }
     }
 
@@ -262,48 +253,23 @@ impl Formatting {
         match bookmark {
             Bookmark::InPlace => self.replace(from, to),
             Bookmark::After(mark) => {
-                let (old, mut item) = take(&mut self.items, from);
-                item.set_node(to);
-                let new = insert_after(&mut self.items, mark, item);
-                self.names.shift(old, new);
-                self.buckets.shift(old, new);
+                let index = self.slots.nodes.last(node_number(from)) - 1;
+                self.slots.move_after(index, to, mark);
             }
         }
     }
 
-    /// How many items come after the entry of a node; `None` if it has no entry.
-    fn back(&self, node: NodeId) -> Option<usize>
-        ensures { result ≡ position (is_entry node) self.now }
+    /// Removes the last entry of a node. Returns whether there was one.
+    fn hide(&mut self, node: NodeId) -> bool
+        ensures there { result ≡ list_any (is_entry node) self.old }
+        ensures entry { self.new ≡ without (is_entry node) self.old }
     {
-        back_of(&self.items, node)
-    }
-
-    /// Adds an item at the end, with the number of its bucket. On an error nothing changes.
-    fn put(&mut self, item: Item, number: usize) -> Result<(), AllocError>
-        requires { number ≡ bucket_of (item_of item) }
-        ensures ok { OnOk result (self.new ≡ item_of item ∷ self.old) }
-        ensures err { OnErr result (self.new ≡ self.old) }
-    {
-        self.items.reserve(1)?;
-        self.names.push(item.number())?;
-        if let Err(error) = self.buckets.push(number) {
-            self.names.truncate(self.items.len());
-            return Err(error);
+        let place = self.slots.nodes.last(node_number(node));
+        if place == 0 {
+            return false;
         }
-        if self.items.push(item).is_err() {
-            unreachable!()
-        }
-        Ok(())
-    }
-
-    /// Removes the item with `back` items after it.
-    fn cut(&mut self, back: usize)
-        requires { back < length self.old }
-        ensures { self.new ≡ remove self.old back }
-    {
-        let index = self.items.len() - 1 - back;
-        self.names.remove(index);
-        self.buckets.remove(index);
-        self.items.remove(index);
+        self.slots.hide(place - 1);
+        trim(&mut self.slots);
+        true
     }
 }

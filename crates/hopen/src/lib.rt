@@ -12,6 +12,7 @@ mod kept;
 pub mod laws;
 mod name_sets;
 pub mod scope;
+mod slots;
 mod sought;
 pub mod stack;
 mod window;
