@@ -1,11 +1,11 @@
 //! The list of active formatting elements (HTML Standard, 13.2.4.3).
 
 ghost use Rattle.std.specs.Prelude.{◌≡◌, ℕ, suc, ◌-◌, ◌≤◌, ◌∷◌, [], IsTrue, OnOk, OnErr, find, length, map, nat_eq, remove, take};
-ghost use Rattle.std.specs.List.{list_any};
+ghost use Rattle.std.specs.List.{All, list_any};
 ghost use Rattle.std.specs.Option.{is_some, option_map};
 ghost use Rattle.hnodes.specs.Rows.{attribute_of};
 ghost use Rattle.hopen.specs.Formatting.{cleared, entry_at, entry_of, find_entry, is_entry, marker, pushed, with_node, without_entry, for_node, booked, has_bookmark};
-ghost use Rattle.hopen.specs.Items.{entry_is, items_of, live};
+ghost use Rattle.hopen.specs.Items.{IsStored, entry_is, items_of, live};
 ghost use Rattle.hopen.specs.Listed.{IsListed};
 ghost use Rattle.hopen.specs.Nearest.{changed_at, without};
 ghost use Rattle.hopen.specs.Holes.{nth_live};
@@ -49,7 +49,8 @@ impl Model for Formatting {
 
 /// The index of the item with `back` items after it, holes not counted, among the first items.
 fn walk(items: &[Item], end: usize, back: usize) -> Option<usize>
-    requires { end ≤ length items.now }
+    requires within { end ≤ length items.now }
+    requires stored { All IsStored items.now }
     ensures { result ≡ option_map (λ up. end - 1 - up) (nth_live back (items_of (take end items.now))) }
 {
     let mut left = back;
