@@ -18,3 +18,5 @@ pub mod Listed
 pub mod SameBucket
 pub mod Bucketed
 pub mod Holes
+pub mod Live
+pub mod LiveEdits

@@ -125,7 +125,7 @@ find-at name low (entry e ∷ items) h = go (eqb e.name name) refl (rw (eqb-suc-
         rw (named-same name low e false s, more, turned e.name name false s) (i (rw (named-same name low e false s) at h))
 
 -- the nearest of a node leaves
-filter-without : {X : Type 0} (sought : X → Bool) (xs : List X) → filter (λ x. not (sought x)) (without sought xs) ≡ filter (λ x. not (sought x)) xs
+pub filter-without : {X : Type 0} (sought : X → Bool) (xs : List X) → filter (λ x. not (sought x)) (without sought xs) ≡ filter (λ x. not (sought x)) xs
 filter-without sought [] = refl
 filter-without sought (x ∷ xs) = go (sought x) refl (filter-without sought xs)
   where
@@ -134,7 +134,7 @@ filter-without sought (x ∷ xs) = go (sought x) refl (filter-without sought xs)
     go true s i = refl
     go false s i = rw s (ap (λ ys. x ∷ ys) i)
 
-filter-all : {X : Type 0} (sought : X → Bool) (xs : List X) → list_any sought xs ≡ false → filter (λ x. not (sought x)) xs ≡ xs
+pub filter-all : {X : Type 0} (sought : X → Bool) (xs : List X) → list_any sought xs ≡ false → filter (λ x. not (sought x)) xs ≡ xs
 filter-all sought [] e = refl
 filter-all sought (x ∷ xs) e = go (sought x) e (filter-all sought xs)
   where

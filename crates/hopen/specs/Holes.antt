@@ -7,4 +7,4 @@ use Rattle.hopen.specs.Items.{is_hole}
 abbrev pub nth_live : ℕ → List (Item ℕ) → Option ℕ
 nth_live n [] = None
 nth_live zero (x ∷ xs) = if is_hole x then option_map suc (nth_live zero xs) else Some 0
-nth_live (suc n) (x ∷ xs) = option_map suc (nth_live (if is_hole x then suc n else n) xs)
+nth_live (suc n) (x ∷ xs) = if is_hole x then option_map suc (nth_live (suc n) xs) else option_map suc (nth_live n xs)

@@ -152,7 +152,8 @@ impl Formatting {
             hash: MARKER,
             node: MARKER,
         };
-        self.slots.put(Item::Marker, numbers)
+        self.slots.put(Item::Marker, numbers)?;
+        Ok(())
     }
 
     /// Removes the last marker and everything after it, or everything if there is no marker (13.2.4.3).
@@ -168,7 +169,13 @@ impl Formatting {
     pub fn len(&self) -> usize
         ensures { result ≡ length self.now }
     {
-        self.slots.items.iter().filter(|item| !item.is_hole()).count()
+        let mut count = 0;
+        for item in &self.slots.items {
+            if !item.is_hole() {
+                count += 1;
+            }
+        }
+        count
     }
 
     /// The last entry with a name after the last marker; `None` if there is none.
