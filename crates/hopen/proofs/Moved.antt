@@ -1,14 +1,27 @@
--- Exchanges of neighbours in a list, what a run of them comes to, and the numbers of the items.
-use Rattle.std.proofs.Common.{◌≡◌, ◌≢◌, ℕ, zero, suc, ◌+◌, ◌<◌, ◌≤◌, false, List, [], ◌∷◌, length, get_or, set, map, refl, sym, ◌∙◌, ap, arith}
+-- Exchanges of neighbours in a list and what a run of them comes to; an entry that becomes that of another node, and where an entry
+-- stands among the others.
+use Rattle.std.proofs.Common.{◌≡◌, ◌≢◌, ℕ, zero, suc, ◌+◌, ◌-◌, ◌<◌, ◌≤◌, ◌==◌, ◌⊎◌, inl, inr, Bool, true, false, IsTrue, cond, eqb, List, [], ◌∷◌, ◌++◌, Some, None, is_some, length, get_or, set, take, drop, map, reverse, refl, sym, ◌∙◌, ap, arith, subst}
 use Rattle.std.specs.Prelude.{max}
-use Rattle.std.specs.List.{All, insert, remove}
-use Rattle.std.proofs.lemmas.List.{length-set, get_or-set_other, get_or-map, map-set}
-use Rattle.std.proofs.lemmas.List.Elements.{All-get_or, All-set}
-use Rattle.hopen.specs.Formatting.{EntryOf}
-use Rattle.hopen.specs.Items.{IsStored, is_gone, item_of}
+use Rattle.std.specs.List.{All, insert, list_any, position, remove}
+use Rattle.std.proofs.Math.Dec.{eqb-zero-suc}
+use Rattle.std.proofs.lemmas.Bool.{eqb-true}
+use Rattle.std.proofs.lemmas.List.{append_assoc, drop-set-lt, get_or-map, get_or-reverse, get_or-set_other, length-append, length-map, length-reverse, length-set, length-take-le, map-set, reverse-append, set-get_or, set-set, set_split, take-set}
+use Rattle.std.proofs.lemmas.List.Edits.{length-remove}
+use Rattle.std.proofs.lemmas.List.Elements.{All-get_or, All-head, All-set, All-tail}
+use Rattle.hopen.specs.Chains.{last_up, none}
+use Rattle.hopen.specs.Formatting.{EntryOf, for_node, is_entry}
+use Rattle.hopen.specs.Items.{IsStored, hole, is_gone, item_of, items_of, nowhere, renamed, told}
 use Rattle.hopen.specs.Listed.{IsListed, by_hash, by_name, by_node, number_by, numbers_by}
+use Rattle.hopen.specs.Nearest.{changed_at, put_before}
+use Rattle.hopen.specs.Places.{last_place}
 use Rattle.hopen.specs.declared.entry.Item.{Item as Stored}
+use Rattle.hopen.specs.declared.entry.Item.TheVariants as stored
 use Rattle.hopen.specs.declared.slots.Slots.{Slots}
+use Rattle.hopen.proofs.Chained.{last-is}
+use Rattle.hopen.proofs.ItemLists.{not_missing}
+use Rattle.hopen.proofs.Listed.{number-same}
+use Rattle.hopen.proofs.Nearest.{insert_nearest, position_nearest, reverse-map, set_nearest}
+use Rattle.hopen.proofs.Places.{last_place-le, position-none, position-some}
 
 -- the members at an index and at the next one in each other's place
 abbrev pub exchanged : {X : Type 0} → List X → ℕ → X → List X
@@ -75,3 +88,82 @@ NoHoleFrom from items = (i : ℕ) → from ≤ i → i < length items → (x : S
 
 pub solid-exchanged : (items : List Stored) (solid i : ℕ) (d : Stored) → NoHoleFrom solid items → NoHoleFrom (max solid (i + 2)) (exchanged items i d)
 solid-exchanged items solid i d all k h l x = ap is_gone (exchanged-above items i k d x (omega arith)) ∙ all k (omega arith) (omega (arith, length-exchanged items i d)) x
+
+-- an entry that becomes that of another node
+module _ (node : ℕ) where
+  renamed-name : (x : Stored) → number_by by_name (item_of (renamed node x)) ≡ number_by by_name (item_of x)
+  renamed-name stored.Hole = refl
+  renamed-name stored.Marker = refl
+  renamed-name (stored.Entry e) = refl
+
+  renamed-hash : (x : Stored) → number_by by_hash (item_of (renamed node x)) ≡ number_by by_hash (item_of x)
+  renamed-hash stored.Hole = refl
+  renamed-hash stored.Marker = refl
+  renamed-hash (stored.Entry e) = refl
+
+  renamed-node : (x : Stored) → is_some (told x) ≡ true → IsStored x → number_by by_node (item_of (renamed node x)) ≡ suc (suc node)
+  renamed-node stored.Hole some is = cc
+  renamed-node stored.Marker some is = cc
+  renamed-node (stored.Entry e) some is = go (eqb e.name nowhere) refl
+    where
+      go : (v : Bool) → eqb e.name nowhere ≡ v → suc (cond v zero (suc node)) ≡ suc (suc node)
+      go true gone = absurd (omega (arith, eqb-true e.name nowhere gone, is.1))
+      go false there = refl
+
+  renamed-gone : (x : Stored) → is_gone (renamed node x) ≡ is_gone x
+  renamed-gone stored.Hole = refl
+  renamed-gone stored.Marker = refl
+  renamed-gone (stored.Entry e) = refl
+
+  renamed-stored : (x : Stored) → node < nowhere → IsStored x → IsStored (renamed node x)
+  renamed-stored stored.Hole low is = tt
+  renamed-stored stored.Marker low is = tt
+  renamed-stored (stored.Entry e) low is = (low, is.1)
+
+  pub renamed-item : (x : Stored) → is_some (told x) ≡ true → item_of (renamed node x) ≡ for_node node (item_of x)
+  renamed-item stored.Hole some = cc
+  renamed-item stored.Marker some = refl
+  renamed-item (stored.Entry e) some = refl
+
+  -- a write that leaves what a member is seen as
+  map-set_same : {X Y : Type 0} (f : X → Y) (xs : List X) (i : ℕ) (d y : X) → i < length xs → f y ≡ f (get_or xs i d) → map f (set xs i y) ≡ map f xs
+  map-set_same f xs i d y h same = map-set f xs i y ∙ ap (set (map f xs) i) (same ∙ sym (get_or-map f xs i d (f d) h)) ∙ set-get_or (map f xs) i (f d)
+
+  module _ (items : List Stored) (i : ℕ) (h : i < length items) (some : is_some (told (get_or items i stored.Hole)) ≡ true) where
+    abbrev there : Stored
+    there = get_or items i stored.Hole
+
+    abbrev now : List Stored
+    now = set items i (renamed node there)
+
+    same-by : {Y : Type 0} (f : Stored → Y) → f (renamed node there) ≡ f there → map f now ≡ map f items
+    same-by f same = map-set_same f items i stored.Hole (renamed node there) h same
+
+    renewed-solid : (solid : ℕ) → NoHoleFrom solid items → NoHoleFrom solid now
+    renewed-solid solid all k from l x =
+        let within : k < length items = omega (arith, length-set items i (renamed node there)) in
+        sym (get_or-map is_gone now k x true l) ∙ ap (λ bs. get_or bs k true) (same-by is_gone (renamed-gone there)) ∙ get_or-map is_gone items k x true within ∙ all k from within x
+
+    -- its place in the list, as that is seen from the last item on
+    pub renewed-items : items_of now ≡ changed_at (length items - 1 - i) (for_node node) (items_of items)
+    renewed-items = set_nearest item_of (for_node node) items i (length items - 1 - i) stored.Hole (renamed node there) (omega arith) (renamed-item there some)
+
+-- what is kept of the list stays so
+pub listed-renewed : (node i : ℕ) (old new : Slots) → IsListed old → i < length old.items.items → is_some (told (get_or old.items.items i stored.Hole)) ≡ true → node < nowhere
+    → new.names ≡ old.names → new.hashes ≡ old.hashes → new.nodes ≡ set (set old.nodes i none) i (suc (suc node)) → new.solid ≡ old.solid
+    → new.items.items ≡ set old.items.items i (renamed node (get_or old.items.items i stored.Hole)) → IsListed new
+listed-renewed node i old new listed h some low names hashes nodes solid items =
+    let xs = old.items.items in
+    let x = get_or xs i stored.Hole in
+    let stored : IsStored x = All-get_or IsStored xs i stored.Hole h listed.stored in
+    let ns : set (set old.nodes i none) i (suc (suc node)) ≡ numbers_by by_node (set xs i (renamed node x)) =
+          set-set old.nodes i none (suc (suc node)) ∙ ap (λ l. set l i (suc (suc node))) listed.nodes ∙ ap (set (numbers_by by_node xs) i) (sym (renamed-node node x some stored))
+          ∙ sym (map-set (λ y. number_by by_node (item_of y)) xs i (renamed node x)) in
+    record {
+      names = names ∙ listed.names ∙ sym (same-by node xs i h some (λ y. number_by by_name (item_of y)) (renamed-name node x)) ∙ ap (numbers_by by_name) (sym items);
+      hashes = hashes ∙ listed.hashes ∙ sym (same-by node xs i h some (λ y. number_by by_hash (item_of y)) (renamed-hash node x)) ∙ ap (numbers_by by_hash) (sym items);
+      nodes = nodes ∙ ns ∙ ap (numbers_by by_node) (sym items);
+      stored = subst (All IsStored) (sym items) (All-set IsStored xs i (renamed node x) (renamed-stored node x low stored) listed.stored);
+      within = omega (arith, solid, ap length items, length-set xs i (renamed node x), listed.within);
+      solid = subst (λ n. NoHoleFrom n new.items.items) (sym solid) (subst (NoHoleFrom old.solid) (sym items) (renewed-solid node xs i h some old.solid listed.solid));
+    }
