@@ -10,7 +10,7 @@ use Rattle.std.proofs.lemmas.List.Edits.{length-remove}
 use Rattle.std.proofs.lemmas.List.Elements.{All-get_or, All-head, All-set, All-tail}
 use Rattle.hopen.specs.Chains.{last_up, none}
 use Rattle.hopen.specs.Formatting.{EntryOf, for_node, is_entry}
-use Rattle.hopen.specs.Items.{IsStored, hole, is_gone, item_of, items_of, nowhere, renamed, told}
+use Rattle.hopen.specs.Items.{IsStored, entry_is, is_gone, item_of, items_of, nowhere, renamed, told}
 use Rattle.hopen.specs.Listed.{IsListed, by_hash, by_name, by_node, number_by, numbers_by}
 use Rattle.hopen.specs.Nearest.{changed_at, put_before}
 use Rattle.hopen.specs.Places.{last_place}
@@ -167,3 +167,90 @@ listed-renewed node i old new listed h some low names hashes nodes solid items =
       within = omega (arith, solid, ap length items, length-set xs i (renamed node x), listed.within);
       solid = subst (λ n. NoHoleFrom n new.items.items) (sym solid) (subst (NoHoleFrom old.solid) (sym items) (renewed-solid node xs i h some old.solid listed.solid));
     }
+
+-- what stands in one list and in that list without a member that is not sought
+module _ {X : Type 0} (sought : X → Bool) where
+  abbrev Around : (with' without' low : ℕ) → Type 0
+  Around with' without' low = ((with' ≡ without') × (without' ≤ low)) ⊎ ((with' ≡ suc without') × (low < without'))
+
+  around : (near far : List X) (x : X) → sought x ≡ false → Around (last_place sought (near ++ x ∷ far)) (last_place sought (near ++ far)) (length far)
+  around [] far x other = inl (rw other refl, last_place-le sought far)
+  around (y ∷ near) far x other = go (sought y) (around near far x other)
+    where
+      go : (v : Bool) → Around (last_place sought (near ++ x ∷ far)) (last_place sought (near ++ far)) (length far)
+          → Around (cond v (suc (length (near ++ x ∷ far))) (last_place sought (near ++ x ∷ far))) (cond v (suc (length (near ++ far))) (last_place sought (near ++ far))) (length far)
+      go true i = inr (omega (arith, length-append near (x ∷ far), length-append near far), omega (arith, length-append near far))
+      go false i = i
+
+  reverse-set : (xs : List X) (i : ℕ) (d : X) → i < length xs → reverse (set xs i d) ≡ reverse (drop (suc i) xs) ++ d ∷ reverse (take i xs)
+  reverse-set xs i d h =
+      ap reverse (set_split xs i d h) ∙ reverse-append (take i xs) (d ∷ drop (suc i) xs) ∙ ap (λ l. l ++ reverse (take i xs)) (reverse-append (d ∷ []) (drop (suc i) xs))
+      ∙ append_assoc (reverse (drop (suc i) xs)) (d ∷ []) (reverse (take i xs))
+
+  -- the place without the member at an index, from that in a list where one that is not sought stands there
+  pub record IsPlaceWithout (xs : List X) (i place : ℕ) : Type 0 where
+    pub below : place ≤ i → place ≡ last_place sought (reverse (remove xs i))
+    pub above : i < place → place - 1 ≡ last_place sought (reverse (remove xs i))
+
+  pub place-without : (xs : List X) (i place : ℕ) (d : X) → i < length xs → sought d ≡ false → place ≡ last_place sought (reverse (set xs i d)) → IsPlaceWithout xs i place
+  place-without xs i place d h other is =
+      let with' : last_place sought (reverse (set xs i d)) ≡ last_place sought (reverse (drop (suc i) xs) ++ d ∷ reverse (take i xs)) = ap (last_place sought) (reverse-set xs i d h) in
+      let without' : last_place sought (reverse (remove xs i)) ≡ last_place sought (reverse (drop (suc i) xs) ++ reverse (take i xs)) = ap (last_place sought) (reverse-append (take i xs) (drop (suc i) xs)) in
+      let low : length (reverse (take i xs)) ≡ i = length-reverse (take i xs) ∙ length-take-le i xs (omega arith) in
+      go (around (reverse (drop (suc i) xs)) (reverse (take i xs)) d other) with' without' low
+    where
+      go : Around (last_place sought (reverse (drop (suc i) xs) ++ d ∷ reverse (take i xs))) (last_place sought (reverse (drop (suc i) xs) ++ reverse (take i xs))) (length (reverse (take i xs)))
+          → last_place sought (reverse (set xs i d)) ≡ last_place sought (reverse (drop (suc i) xs) ++ d ∷ reverse (take i xs))
+          → last_place sought (reverse (remove xs i)) ≡ last_place sought (reverse (drop (suc i) xs) ++ reverse (take i xs))
+          → length (reverse (take i xs)) ≡ i → IsPlaceWithout xs i place
+      go (inl w) with' without' low = record { below = λ h. omega (arith, w.0, w.1, is); above = λ h. absurd (omega (arith, w.0, w.1, is)) }
+      go (inr w) with' without' low = record { below = λ h. absurd (omega (arith, w.0, w.1, is)); above = λ h. omega (arith, w.0, w.1, is) }
+
+module _ (mark : ℕ) (low : mark < nowhere) where
+  -- whether a stored item is the entry of the mark
+  abbrev pub is_mark : Stored → Bool
+  is_mark x = is_entry mark (item_of x)
+
+  pub no-hole : is_mark stored.Hole ≡ false
+  no-hole = go (eqb nowhere mark) refl
+    where
+      go : (v : Bool) → eqb nowhere mark ≡ v → v ≡ false
+      go true same = absurd (omega (arith, eqb-true nowhere mark same))
+      go false same = refl
+
+  node-same : (x : Stored) → IsStored x → eqb (number_by by_node (item_of x)) (suc (suc mark)) ≡ is_mark x
+  node-same stored.Hole is = number-same (λ e. e.node) mark (record { node = nowhere; name = nowhere; attrs = [] }) (eqb nowhere mark) (λ _. no-hole) refl
+  node-same stored.Marker is = eqb-zero-suc (suc mark)
+  node-same (stored.Entry e) is = number-same (λ x. x.node) mark (entry_is e) (eqb e.node mark) (λ gone. absurd (omega (arith, gone, is.1))) refl
+
+  place-node : (xs : List Stored) → All IsStored xs → last_place (λ k. k == suc (suc mark)) (map (λ x. number_by by_node (item_of x)) xs) ≡ last_place is_mark xs
+  place-node [] all = refl
+  place-node (x ∷ xs) all = λ k. cond (node-same x (All-head IsStored x xs all) k) (suc (length-map xs (λ y. number_by by_node (item_of y)) k)) (place-node xs (All-tail IsStored x xs all) k)
+
+  All-turned : (xs : List Stored) → All IsStored xs → All IsStored (reverse xs)
+  All-turned xs all k d l = let h : k < length xs = omega (arith, length-reverse xs) in subst IsStored (sym (get_or-reverse xs k d h)) (all (length xs - 1 - k) d (omega arith))
+
+  -- what the numbers say, where that at an index is cleared
+  pub mark-place : (xs : List Stored) (ns : List ℕ) (i place : ℕ) → i < length xs → All IsStored xs → ns ≡ numbers_by by_node xs
+      → place ≡ last_up (λ k. k == suc (suc mark)) (set ns i none) (length (set ns i none)) → IsPlaceWithout is_mark xs i place
+  mark-place xs ns i place h all are is =
+      let cleared : set ns i none ≡ numbers_by by_node (set xs i stored.Hole) = ap (λ l. set l i none) are ∙ sym (map-set (λ x. number_by by_node (item_of x)) xs i stored.Hole) in
+      place-without is_mark xs i place stored.Hole h no-hole
+      (is ∙ ap (λ l. last_up (λ k. k == suc (suc mark)) l (length l)) cleared ∙ last-is (suc (suc mark)) (numbers_by by_node (set xs i stored.Hole))
+      ∙ ap (last_place (λ k. k == suc (suc mark))) (reverse-map (λ x. number_by by_node (item_of x)) (set xs i stored.Hole))
+      ∙ place-node (reverse (set xs i stored.Hole)) (All-turned (set xs i stored.Hole) (All-set IsStored xs i stored.Hole tt all)))
+
+-- an item that is put right after the entry of the mark
+pub insert-after : (mark : ℕ) (rest : List Stored) (y : Stored) (to : ℕ) → to ≡ last_place (λ x. is_entry mark (item_of x)) (reverse rest) → IsTrue (list_any (is_entry mark) (items_of rest))
+    → items_of (insert rest to y) ≡ put_before (is_entry mark) (item_of y) (items_of rest)
+insert-after mark rest y zero is there =
+    absurd (not_missing mark rest there (position_nearest item_of (is_entry mark) rest ∙ position-none (λ x. is_entry mark (item_of x)) (reverse rest) (sym is)))
+insert-after mark rest y (suc i) is there =
+    let found : position (is_entry mark) (items_of rest) ≡ Some (length (reverse rest) - 1 - i) = position_nearest item_of (is_entry mark) rest ∙ position-some (λ x. is_entry mark (item_of x)) (reverse rest) i (sym is) in
+    let next : suc i ≡ i + 1 = omega arith in
+    ap (λ n. items_of (insert rest n y)) next
+    ∙ insert_nearest item_of (is_entry mark) rest i (length (reverse rest) - 1 - i) y found (omega (arith, length-reverse rest, last_place-le (λ x. is_entry mark (item_of x)) (reverse rest)))
+
+-- a write where the member is taken out
+pub remove-set : {X : Type 0} (xs : List X) (i : ℕ) (y : X) → remove (set xs i y) i ≡ remove xs i
+remove-set xs i y = ap (λ l. l ++ drop (suc i) (set xs i y)) (take-set xs i y) ∙ ap (λ l. take i xs ++ l) (drop-set-lt (suc i) xs i y (omega arith))
