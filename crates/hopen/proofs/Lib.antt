@@ -20,3 +20,4 @@ pub mod Bucketed
 pub mod Holes
 pub mod Live
 pub mod LiveEdits
+pub mod Moved
