@@ -17,3 +17,4 @@ pub mod Chained
 pub mod Listed
 pub mod SameBucket
 pub mod Bucketed
+pub mod Slotted
