@@ -21,3 +21,4 @@ pub mod Holes
 pub mod Live
 pub mod LiveEdits
 pub mod Moved
+pub mod Slotted
