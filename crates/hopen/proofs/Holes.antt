@@ -186,6 +186,13 @@ module _ (node : ℕ) (low : node < nowhere) where
       go true same is rest = let never : suc (length (map (number_by by_node) items)) ≡ 0 = rw (node-same e true slots.0 same) at is in absurd (omega arith)
       go false same is rest = rest (rw (node-same e false slots.0 same) at is)
 
+  pub node-some : (items : List (Item ℕ)) → AreSlots items → list_any (is_entry node) items ≡ true → 0 < node_place node items
+  node-some items slots there = go (node_place node items) refl
+    where
+      go : (n : ℕ) → node_place node items ≡ n → 0 < n
+      go zero is = let never : true ≡ false = sym there ∙ node-none items slots is in cc
+      go (suc n) is = omega arith
+
   node-first : (items : List (Item ℕ)) → AreSlots items → 0 < node_place node items → position_or_len (is_entry node) items ≡ length items - node_place node items
   node-first [] slots some = absurd (omega arith)
   node-first (marker ∷ items) slots some =

@@ -22,3 +22,4 @@ pub mod Live
 pub mod LiveEdits
 pub mod Moved
 pub mod Slotted
+pub mod Marked
