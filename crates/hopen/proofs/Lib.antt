@@ -18,3 +18,4 @@ pub mod Listed
 pub mod SameBucket
 pub mod Bucketed
 pub mod Moved
+pub mod Closed
