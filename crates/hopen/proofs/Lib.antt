@@ -23,3 +23,4 @@ pub mod LiveEdits
 pub mod Moved
 pub mod Slotted
 pub mod Marked
+pub mod Closed
