@@ -280,3 +280,11 @@ pub marker-is : (x : Stored) → is_gone x ≡ false → is_some (told x) ≡ fa
 marker-is stored.Hole there none = cc
 marker-is stored.Marker there none = refl
 marker-is (stored.Entry e) there none = cc
+
+pub length-live-le : (xs : List (Item ℕ)) → length (live xs) ≤ length xs
+length-live-le [] = omega arith
+length-live-le (x ∷ xs) = go (is_hole x) (length-live-le xs)
+  where
+    go : (v : Bool) → length (live xs) ≤ length xs → length (cond (not v) (x ∷ live xs) (live xs)) ≤ suc (length xs)
+    go true rest = omega (arith, rest)
+    go false rest = omega (arith, rest)

@@ -178,6 +178,13 @@ impl Formatting {
         count
     }
 
+    /// At least as many as there are items: also the holes that removed entries left count. Takes the same time at any length.
+    pub fn max_len(&self) -> usize
+        ensures { length self.now ≤ result }
+    {
+        self.slots.items.len()
+    }
+
     /// The last entry with a name after the last marker; `None` if there is none.
     pub fn find(&self, name: NameId) -> Option<&Entry>
         ensures { option_map (λ e. entry_is e.now) result ≡ find_entry nat_eq name self.now }
