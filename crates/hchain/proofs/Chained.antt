@@ -273,3 +273,29 @@ module _ (last : List ℕ) (links : List Link) (k next : ℕ) (x : Link) (is_nex
   more-some some wide before c =
       subst (λ (m : ℕ). ChainedTo (set last (x.number % length last) m) links m) (sym is_next)
       (number-comes last links k x.number number-is some wide (before-is ∙ before) c)
+
+-- a list with one link more
+module _ (last : List ℕ) (links : List Link) (x : Link) (place : ℕ) (is_place : place ≡ suc (length links)) (c : IsChained last links) where
+  abbrev more : List Link
+  more = links ++ x ∷ []
+
+  more-len : length more ≡ place
+  more-len = omega (arith, length_push links x)
+
+  more-front : take (length links) links ≡ take (length links) more
+  more-front = sym (take-append-le (length links) links (x ∷ []) (omega arith))
+
+  pub chained-push : x.number ≢ none → 0 < length last → x.before ≡ get_or last (x.number % length last) 0 → IsChained (set last (x.number % length last) place) more
+  chained-push some wide before =
+      let next = set last (x.number % length last) place in
+      let front : ChainedTo last more (length links) = chained-front last (length links) links more more-front (omega arith) (omega (arith, more-len)) (chained-all last links c) in
+      let all : ChainedTo next more place = more-some last more (length links) place x is_place (omega (arith, more-len)) (get_or_push links x x (length links) refl) some wide before front in
+      is_chained-all next more (λ _. omega (arith, length-set last (x.number % length last) place)) (subst (λ (m : ℕ). ChainedTo next more m) (sym more-len) all)
+
+-- links that differ in their hints alone
+pub chained-same : (last : List ℕ) (xs ys : List Link) → numbers_of ys ≡ numbers_of xs → befores_of ys ≡ befores_of xs → IsChained last xs → IsChained last ys
+chained-same last xs ys numbers befores c = record {
+    wide = λ some. c.wide (omega (arith, ap length numbers, length-map xs number_of, length-map ys number_of));
+    says = subst (λ (ns : List ℕ). Says last ns) (sym numbers) c.says;
+    kept = subst (λ (ns : List ℕ). Keep (length last) ns (befores_of ys)) (sym numbers) (subst (λ (bs : List ℕ). Keep (length last) (numbers_of xs) bs) (sym befores) c.kept);
+  }
