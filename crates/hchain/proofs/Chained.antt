@@ -299,3 +299,15 @@ chained-same last xs ys numbers befores c = record {
     says = subst (λ (ns : List ℕ). Says last ns) (sym numbers) c.says;
     kept = subst (λ (ns : List ℕ). Keep (length last) ns (befores_of ys)) (sym numbers) (subst (λ (bs : List ℕ). Keep (length last) (numbers_of xs) bs) (sym befores) c.kept);
   }
+
+pub chained_to-same : (last : List ℕ) (xs ys : List Link) (k : ℕ) → numbers_of ys ≡ numbers_of xs → befores_of ys ≡ befores_of xs → ChainedTo last xs k → ChainedTo last ys k
+chained_to-same last xs ys k numbers befores c = record {
+    says = λ g h. c.says g h ∙ ap (λ ns. last_up (is_in (length last) g) ns k) (sym numbers);
+    kept = λ i h some.
+        ap (λ bs. get_or bs i 0) befores ∙ c.kept i h (λ e. some (ap (λ ns. get_or ns i 0) numbers ∙ e))
+        ∙ ap (λ ns. last_up (is_in (length last) (get_or ns i 0 % length last)) ns i) (sym numbers);
+  }
+
+-- a table says no place past the end
+pub says-le : (last : List ℕ) (links : List Link) (k g : ℕ) → ChainedTo last links k → g < length last → get_or last g 0 ≤ k
+says-le last links k g c h = omega (arith, c.says g h, last_up-le (is_in (length last) g) (numbers_of links) k)

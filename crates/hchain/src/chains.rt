@@ -48,7 +48,10 @@ impl Model for Chains {
 /// Walks down a group from one of its places to where a number of the group stands; 0 if it stands nowhere on the way.
 fn find_down(links: &[Link], from: usize, number: usize) -> usize
     requires within { from ≤ length links.now }
-    requires group { (width : ℕ) × Keep width (numbers_of links.now) (befores_of links.now) × (0 < from → is_in width (number % width) (slice_index (numbers_of links.now) (from - 1)) ≡ true) }
+    requires group {
+        (width : ℕ) × Keep width (numbers_of links.now) (befores_of links.now)
+        × (0 < from → is_in width (number % width) (slice_index (numbers_of links.now) (from - 1)) ≡ true)
+    }
     requires number { number ≢ none }
     ensures { result ≡ last_up (λ k. k == number) (numbers_of links.now) from }
 {
@@ -79,6 +82,17 @@ fn unwind(last: &mut [u32], links: &[Link], from: usize)
     }
 }
 
+/// Says at a place, if it is one, where the next number of its group stands.
+fn hint_at(links: &mut [Link], place: u32, next: u32)
+    requires { place ≤ length links.old }
+    ensures numbers { numbers_of links.new ≡ numbers_of links.old }
+    ensures befores { befores_of links.new ≡ befores_of links.old }
+{
+    if place > 0 {
+        links[place as usize - 1].hint = next;
+    }
+}
+
 /// Puts the links from an index on into the table again, with the places that they have now.
 fn rewind(last: &mut [u32], links: &mut [Link], from: usize)
     requires chained { IsChained last.old (take from links.old) }
@@ -91,9 +105,12 @@ fn rewind(last: &mut [u32], links: &mut [Link], from: usize)
     for index in from..links.len() {
         let number = links[index].number as usize;
         if number != NONE {
+            let place = index as u32 + 1;
             let group = number % last.len();
-            links[index].before = last[group];
-            last[group] = index as u32 + 1;
+            let before = last[group];
+            links[index].before = before;
+            hint_at(links, before, place);
+            last[group] = place;
         }
     }
 }
@@ -114,17 +131,6 @@ fn make_room(alloc: Global, last: &mut Vec<u32>, links: &mut [Link]) -> Result<(
     rewind(&mut table, links, 0);
     *last = table;
     Ok(())
-}
-
-/// Says at a place, if it is one, where the next number of its group stands.
-fn hint_at(links: &mut [Link], place: u32, next: u32)
-    requires { place ≤ length links.old }
-    ensures numbers { numbers_of links.new ≡ numbers_of links.old }
-    ensures befores { befores_of links.new ≡ befores_of links.old }
-{
-    if place > 0 {
-        links[place as usize - 1].hint = next;
-    }
 }
 
 /// Brings each link that isn't `NONE` to the front, in their order, and counts them.
