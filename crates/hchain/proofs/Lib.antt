@@ -1,3 +1,5 @@
+pub mod Groups
 pub mod LastUp
+pub mod Walked
 pub mod Chained
 pub mod Tails

@@ -1,7 +1,7 @@
-use Rattle.std.proofs.Common.{◌≡◌, ◌-◌, ◌<◌, length, get_or, sym, ◌∙◌, arith}
+use Rattle.std.proofs.Common.{◌-◌, ◌<◌, length, get_or, ◌∙◌, arith}
 use Rattle.std.proofs.lemmas.List.{get_or_default}
 use Rattle.hchain.specs.declared.chains.Link.{Link}
-use Rattle.hchain.proofs.Chained.{walk-le, walk-on, walk-here, walk-not}
+use Rattle.hchain.proofs.Walked.{IsAt, walk-le, walk-on, walk-not}
 use Rattle.hchain.proofs.chains.find_down.Goals as goal
 
 abbrev nothing : Link
@@ -11,20 +11,18 @@ pub loop-place-smaller : goal.loop-place-smaller
 loop-place-smaller c =
     let links = c.args.links.now in
     let place = c.loop-place.place in
-    let within : place - 1 < length links = omega arith in
     let x : Link = get_or links (place - 1) nothing in
-    let at : get_or links (place - 1) x ≡ x = get_or_default links (place - 1) x nothing within in
-    omega (arith, walk-le links c.args.number place c.requires.number c.loop-place.invariant.walks (omega arith) c.loop-place.invariant.within x at)
+    let at : IsAt links place x = record { some = omega arith; within = omega arith; is = get_or_default links (place - 1) nothing x (omega arith) } in
+    omega (arith, walk-le c.requires.number c.loop-place.invariant.walks at)
 
 pub loop-place-preserved : goal.loop-place-preserved
 loop-place-preserved c =
     let links = c.args.links.now in
     let place = c.loop-place.place in
-    let within : place - 1 < length links = omega arith in
     let x : Link = get_or links (place - 1) nothing in
-    let at : get_or links (place - 1) x ≡ x = get_or_default links (place - 1) x nothing within in
+    let at : IsAt links place x = record { some = omega arith; within = omega arith; is = get_or_default links (place - 1) nothing x (omega arith) } in
     record {
-      within = omega (arith, walk-le links c.args.number place c.requires.number c.loop-place.invariant.walks (omega arith) c.loop-place.invariant.within x at);
-      walks = walk-on links c.args.number place c.requires.number c.loop-place.invariant.walks (omega arith) c.loop-place.invariant.within x at;
-      same = c.loop-place.invariant.same ∙ walk-not links c.args.number place c.requires.number c.loop-place.invariant.walks (omega arith) c.loop-place.invariant.within x at c.if-link-number.false;
+      within = omega (arith, walk-le c.requires.number c.loop-place.invariant.walks at);
+      walks = walk-on c.requires.number c.loop-place.invariant.walks at;
+      same = c.loop-place.invariant.same ∙ walk-not c.requires.number c.loop-place.invariant.walks at c.if-link-number.false;
     }

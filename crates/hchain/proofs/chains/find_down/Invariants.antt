@@ -1,7 +1,7 @@
 use Rattle.std.proofs.Common.{◌≡◌, ◌==◌, ◌≤◌, length}
 use Rattle.hchain.specs.Chains.{last_up}
 use Rattle.hchain.specs.Linked.{numbers_of}
-use Rattle.hchain.proofs.Chained.{Walks}
+use Rattle.hchain.proofs.Walked.{Walks}
 use Rattle.hchain.proofs.chains.find_down.Given as goal
 
 abbrev pub invariant-loop-place : goal.invariant-loop-place

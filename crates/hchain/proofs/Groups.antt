@@ -1,0 +1,22 @@
+-- Whether a number is of a group.
+use Rattle.std.proofs.Common.{◌≡◌, ◌≢◌, ℕ, suc, ◌<◌, ◌≤◌, ◌-◌, ◌%◌, ◌&&◌, Bool, true, false, not, eqb, List, [], ◌∷◌, ◌++◌, length, map, take, get_or, set, ◌⊎◌, inl, inr, refl, sym, ◌∙◌, ap, subst, arith}
+use Rattle.std.proofs.lemmas.Bool.{eqb-true, eqb-false, eq-eqb, ne_eqb, and_parts, and_from, and_left, and_right, not_from_false, not_from_true, not-true, cases_eq, cases_lt}
+use Rattle.hchain.specs.Chains.{none}
+use Rattle.hchain.specs.Linked.{is_in}
+
+-- whether a number is of a group
+module _ (width group n : ℕ) where
+  pub in-group : n ≢ none → n % width ≡ group → is_in width group n ≡ true
+  in-group some is = and_from (not (eqb n none)) (eqb (n % width) group) (not_from_false (eqb n none) (ne_eqb n none some)) (eq-eqb (n % width) group is)
+
+  pub not-in-group : n % width ≢ group → is_in width group n ≡ false
+  not-in-group other = and_right (not (eqb n none)) (eqb (n % width) group) (ne_eqb (n % width) group other)
+
+  pub none-in-group : n ≡ none → is_in width group n ≡ false
+  none-in-group is = and_left (not (eqb n none)) (eqb (n % width) group) (not_from_true (eqb n none) (eq-eqb n none is))
+
+  pub group-of : is_in width group n ≡ true → (n ≢ none) × (n % width ≡ group)
+  group-of e =
+      let parts = and_parts (not (eqb n none)) (eqb (n % width) group) e in
+      (eqb-false n none (not-true (eqb n none) parts.0), eqb-true (n % width) group parts.1)
+
