@@ -1,4 +1,4 @@
-use Rattle.std.proofs.Common.{◌≡◌, ◌≤◌, ◌<◌, ◌-◌, length}
+use Rattle.std.proofs.Common.{◌≤◌, ◌-◌, length}
 use Rattle.hchain.proofs.Chained.{ChainedTo}
 use Rattle.hchain.proofs.chains.unwind.Given as goal
 
@@ -6,7 +6,6 @@ abbrev pub invariant-loop-end : goal.invariant-loop-end
 invariant-loop-end l = record {
   within : l.end ≤ length l.links;
   above : l.from ≤ l.end;
-  wide : 0 < length l.links → 0 < length l.last;
   chained : ChainedTo l.last l.links l.end;
 }
 
