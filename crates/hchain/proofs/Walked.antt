@@ -5,15 +5,12 @@ use Rattle.std.proofs.lemmas.List.{get_or-map, get_or_default, length-map}
 use Rattle.hchain.specs.Chains.{none, last_up}
 use Rattle.hchain.specs.Linked.{number_of, before_of, numbers_of, befores_of, is_in, Keep, IsChained}
 use Rattle.hchain.specs.declared.chains.Link.{Link}
-use Rattle.hchain.proofs.Groups.{in-group, group-of}
+use Rattle.hchain.proofs.Groups.{nearest, in-group, group-of}
 use Rattle.hchain.proofs.LastUp.{last_up-not, last_up-le, last_up-found, last_up-down}
 
--- where a number stands last among the first links, and where one of its group does
+-- where a number stands last among the first links
 abbrev pub sought_up : List Link → ℕ → ℕ → ℕ
 sought_up links number k = last_up (λ n. eqb n number) (numbers_of links) k
-
-abbrev pub group_up : List Link → (width number : ℕ) → ℕ → ℕ
-group_up links width number k = last_up (is_in width (number % width)) (numbers_of links) k
 
 -- the sought number is of its own group
 own-group : (width number : ℕ) → number ≢ none → (n : ℕ) → eqb n number ≡ true → is_in width (number % width) n ≡ true
@@ -22,7 +19,7 @@ own-group width number some n e =
     in-group width (number % width) n (λ is. some (sym same ∙ is)) (ap (λ m. m % width) same)
 
 -- so what a search for it finds is found from the nearest place of its group on
-from-group : (links : List Link) (width number k : ℕ) → number ≢ none → sought_up links number k ≡ sought_up links number (group_up links width number k)
+from-group : (links : List Link) (width number k : ℕ) → number ≢ none → sought_up links number k ≡ sought_up links number (nearest links width (number % width) k)
 from-group links width number k some = last_up-down (is_in width (number % width)) (λ n. eqb n number) (numbers_of links) (own-group width number some) k
 
 -- at the place, if it is one, a number of the sought one's group stands
@@ -31,7 +28,7 @@ pub record Walks (links : List Link) (number place : ℕ) : Type 0 where
   pub kept : Keep width (numbers_of links) (befores_of links)
   pub group : 0 < place → is_in width (number % width) (get_or (numbers_of links) (place - 1) 0) ≡ true
 
-walks-up : (links : List Link) (width number place k : ℕ) → Keep width (numbers_of links) (befores_of links) → place ≡ group_up links width number k → Walks links number place
+walks-up : (links : List Link) (width number place k : ℕ) → Keep width (numbers_of links) (befores_of links) → place ≡ nearest links width (number % width) k → Walks links number place
 walks-up links width number place k kept is = record {
     width = width;
     kept = kept;
@@ -55,7 +52,7 @@ module _ {links : List Link} {place : ℕ} {x : Link} (at : IsAt links place x) 
 
 -- a step of the walk
 module _ {links : List Link} {number place : ℕ} {x : Link} (some : number ≢ none) (w : Walks links number place) (at : IsAt links place x) where
-  kept-at : x.before ≡ group_up links w.width number (place - 1)
+  kept-at : x.before ≡ nearest links w.width (number % w.width) (place - 1)
   kept-at =
       let in_group = group-of w.width (number % w.width) (get_or (numbers_of links) (place - 1) 0) (w.group at.some) in
       sym (before-at at) ∙ w.kept (place - 1) (omega (arith, at.some, at.within, length-map links number_of)) in_group.0
@@ -88,7 +85,7 @@ walk-from {last} {links} {place} {x} c at some = record {
 
 -- the walk from the last place of a group
 module _ {last : List ℕ} {links : List Link} (c : IsChained last links) (number place : ℕ) (some : number ≢ none) (wide : 0 < length last) (is : place ≡ get_or last (number % length last) place) where
-  last-at : place ≡ group_up links (length last) number (length (numbers_of links))
+  last-at : place ≡ nearest links (length last) (number % length last) (length (numbers_of links))
   last-at =
       let within : number % length last < length last = omega arith in
       is ∙ get_or_default last (number % length last) place 0 within ∙ c.says (number % length last) within

@@ -41,11 +41,11 @@ loop-index-preserved c =
       then-number-ne-NONE w ↦
           let put = set links i x in
           let len : length put ≡ length links = length-set links i x in
-          let front = chained-front last i links put (sym (take-set-le i links i x (omega arith))) (omega arith) (omega arith) c.loop-index.invariant.chained in
+          let front = chained-front i links put (sym (take-set-le i links i x (omega arith))) (omega arith) (omega arith) last c.loop-index.invariant.chained in
           let more = more-some last put i (i + 1) x (omega arith) (omega arith) (get_or-set_same links i x x within) w.if-number-ne-NONE.true wide refl front in
           rw (w.links-is, w.last-is) (record {
             within = omega (arith, ap length w.links-is);
-            chained = chained_to-same (set last group (i + 1)) put w.hint_at.new.links (i + 1) w.hint_at.ensures.numbers w.hint_at.ensures.befores more;
+            chained = chained_to-same (set last group (i + 1)) put w.hint_at.new.links w.hint_at.ensures.numbers w.hint_at.ensures.befores (i + 1) more;
             same = w.hint_at.ensures.numbers ∙ map-set_same number_of links i x nothing refl ∙ c.loop-index.invariant.same;
           })
     | else-number-ne-NONE w ↦
