@@ -31,31 +31,31 @@ module _ (k : ℕ) (xs ys : List Link) (same : take k xs ≡ take k ys) (in_xs :
 
   pub chained-front : (last : List ℕ) → ChainedTo last xs k → ChainedTo last ys k
   chained-front last c = record {
-      says = λ g h. c.says g h ∙ nearest-front (length last) g k (omega arith);
-      kept = λ i h some.
-          let e : get_or (numbers_of xs) i 0 ≡ get_or (numbers_of ys) i 0 = same-front number_of i h in
-          sym (same-front before_of i h) ∙ c.kept i h (λ is. some (sym e ∙ is))
-          ∙ nearest-front (length last) (get_or (numbers_of xs) i 0 % length last) i (omega arith)
-          ∙ ap (λ n. nearest ys (length last) (n % length last) i) e;
-    }
+    says = λ g h. c.says g h ∙ nearest-front (length last) g k (omega arith);
+    kept = λ i h some.
+        let e : get_or (numbers_of xs) i 0 ≡ get_or (numbers_of ys) i 0 = same-front number_of i h in
+        sym (same-front before_of i h) ∙ c.kept i h (λ is. some (sym e ∙ is))
+        ∙ nearest-front (length last) (get_or (numbers_of xs) i 0 % length last) i (omega arith)
+        ∙ ap (λ n. nearest ys (length last) (n % length last) i) e;
+  }
 
 -- links that differ in their hints alone
 module _ (last : List ℕ) (xs ys : List Link) (numbers : numbers_of ys ≡ numbers_of xs) (befores : befores_of ys ≡ befores_of xs) where
   pub chained-same : IsChained last xs → IsChained last ys
   chained-same c = record {
-      wide = λ some. c.wide (omega (arith, ap length numbers, length-map xs number_of, length-map ys number_of));
-      says = subst (λ (ns : List ℕ). Says last ns) (sym numbers) c.says;
-      kept = subst (λ (ns : List ℕ). Keep (length last) ns (befores_of ys)) (sym numbers)
+    wide = λ some. c.wide (omega (arith, ap length numbers, length-map xs number_of, length-map ys number_of));
+    says = subst (λ (ns : List ℕ). Says last ns) (sym numbers) c.says;
+    kept = subst (λ (ns : List ℕ). Keep (length last) ns (befores_of ys)) (sym numbers)
         (subst (λ (bs : List ℕ). Keep (length last) (numbers_of xs) bs) (sym befores) c.kept);
-    }
+  }
 
   pub chained_to-same : (k : ℕ) → ChainedTo last xs k → ChainedTo last ys k
   chained_to-same k c = record {
-      says = λ g h. c.says g h ∙ ap (λ ns. last_up (is_in (length last) g) ns k) (sym numbers);
-      kept = λ i h some.
-          ap (λ bs. get_or bs i 0) befores ∙ c.kept i h (λ e. some (ap (λ ns. get_or ns i 0) numbers ∙ e))
-          ∙ ap (λ ns. last_up (is_in (length last) (get_or ns i 0 % length last)) ns i) (sym numbers);
-    }
+    says = λ g h. c.says g h ∙ ap (λ ns. last_up (is_in (length last) g) ns k) (sym numbers);
+    kept = λ i h some.
+        ap (λ bs. get_or bs i 0) befores ∙ c.kept i h (λ e. some (ap (λ ns. get_or ns i 0) numbers ∙ e))
+        ∙ ap (λ ns. last_up (is_in (length last) (get_or ns i 0 % length last)) ns i) (sym numbers);
+  }
 
 -- what is said and kept of a whole list
 module _ (last : List ℕ) (links : List Link) where
@@ -109,19 +109,19 @@ module _ (last : List ℕ) (links : List Link) (k n : ℕ) (at : get_or (numbers
   -- where it is none, nothing is to do
   none-comes : n ≡ none → ChainedTo last links k → ChainedTo last links (suc k)
   none-comes is c = record {
-      says = λ g h. c.says g h ∙ sym (others g (none-in-group width g n is));
-      kept = λ i h some.
-          elim (cases_lt i k) [
-            inl less ↦ c.kept i less some
+    says = λ g h. c.says g h ∙ sym (others g (none-in-group width g n is));
+    kept = λ i h some.
+        elim (cases_lt i k) [
+          | inl less ↦ c.kept i less some
           | inr past ↦ absurd (some (ap (λ m. get_or (numbers_of links) m 0) (omega arith) ∙ at ∙ is))
-          ];
-    }
+        ];
+  }
 
   none-goes : n ≡ none → ChainedTo last links (suc k) → ChainedTo last links k
   none-goes is c = record {
-      says = λ g h. c.says g h ∙ others g (none-in-group width g n is);
-      kept = λ i h some. c.kept i (omega arith) some;
-    }
+    says = λ g h. c.says g h ∙ others g (none-in-group width g n is);
+    kept = λ i h some. c.kept i (omega arith) some;
+  }
 
   module _ (some : n ≢ none) (wide : 0 < width) where
     group-within : group < width
@@ -148,8 +148,8 @@ module _ (last : List ℕ) (links : List Link) (k n : ℕ) (at : get_or (numbers
         record {
           says = λ g h.
               elim (cases_eq g group) [
-                inl e ↦ said-same b g k e is
-              | inr ne ↦ said-other b g k ne (c.says g (omega (arith, len b)) ∙ others g (not-in-group width g n (λ e. ne (sym e))))
+                | inl e ↦ said-same b g k e is
+                | inr ne ↦ said-other b g k ne (c.says g (omega (arith, len b)) ∙ others g (not-in-group width g n (λ e. ne (sym e))))
               ];
           kept = λ i h some_i. c.kept i (omega arith) some_i ∙ ap (λ w. own_nearest links w i) (sym (len b));
         }
@@ -161,15 +161,15 @@ module _ (last : List ℕ) (links : List Link) (k n : ℕ) (at : get_or (numbers
         record {
           says = λ g h.
               elim (cases_eq g group) [
-                inl e ↦ said-same (suc k) g (suc k) e here
-              | inr ne ↦ said-other (suc k) g (suc k) ne (c.says g (omega (arith, len (suc k))) ∙ sym (others g (not-in-group width g n (λ e. ne (sym e)))))
+                | inl e ↦ said-same (suc k) g (suc k) e here
+                | inr ne ↦ said-other (suc k) g (suc k) ne (c.says g (omega (arith, len (suc k))) ∙ sym (others g (not-in-group width g n (λ e. ne (sym e)))))
               ];
           kept = λ i h some_i.
               elim (cases_lt i k) [
-                inl less ↦ c.kept i less some_i ∙ ap (λ w. own_nearest links w i) (sym (len (suc k)))
-              | inr past ↦
-                  let e : i ≡ k = omega arith in
-                  ap (λ m. get_or (befores_of links) m 0) e ∙ own ∙ (λ t. own_nearest links (sym (len (suc k)) t) (sym e t))
+                | inl less ↦ c.kept i less some_i ∙ ap (λ w. own_nearest links w i) (sym (len (suc k)))
+                | inr past ↦
+                    let e : i ≡ k = omega arith in
+                    ap (λ m. get_or (befores_of links) m 0) e ∙ own ∙ (λ t. own_nearest links (sym (len (suc k)) t) (sym e t))
               ];
         }
 
@@ -211,5 +211,5 @@ module _ (last : List ℕ) (links : List Link) (x : Link) (place : ℕ) (is_plac
       let same : take (length links) links ≡ take (length links) more = sym (take-append-le (length links) links (x ∷ []) (omega arith)) in
       let front : ChainedTo last more (length links) = chained-front (length links) links more same (omega arith) (omega (arith, more-len)) last (chained-all last links c) in
       let all : ChainedTo told more place =
-          more-some last more (length links) place x is_place (omega (arith, more-len)) (get_or_push links x x (length links) refl) some wide before front in
+      more-some last more (length links) place x is_place (omega (arith, more-len)) (get_or_push links x x (length links) refl) some wide before front in
       is_chained-all told more (λ _. omega (arith, length-set last (x.number % length last) place)) (subst (λ (m : ℕ). ChainedTo told more m) (sym more-len) all)

@@ -30,12 +30,12 @@ pub record Walks (links : List Link) (number place : ℕ) : Type 0 where
 
 walks-up : (links : List Link) (width number place k : ℕ) → Keep width (numbers_of links) (befores_of links) → place ≡ nearest links width (number % width) k → Walks links number place
 walks-up links width number place k kept is = record {
-    width = width;
-    kept = kept;
-    group =
+  width = width;
+  kept = kept;
+  group =
       subst (λ (m : ℕ). 0 < m → is_in width (number % width) (get_or (numbers_of links) (m - 1) 0) ≡ true) (sym is)
       (last_up-found (is_in width (number % width)) (numbers_of links) k);
-  }
+}
 
 -- the link at a place
 pub record IsAt (links : List Link) (place : ℕ) (x : Link) : Type 0 where
@@ -78,10 +78,10 @@ module _ {links : List Link} {number place : ℕ} {x : Link} (some : number ≢ 
 -- the walk from a place of a list on
 pub walk-from : {last : List ℕ} {links : List Link} {place : ℕ} {x : Link} → IsChained last links → IsAt links place x → x.number ≢ none → Walks links x.number place
 walk-from {last} {links} {place} {x} c at some = record {
-    width = length last;
-    kept = c.kept;
-    group = λ _. ap (is_in (length last) (x.number % length last)) (number-at at) ∙ in-group (length last) (x.number % length last) x.number some refl;
-  }
+  width = length last;
+  kept = c.kept;
+  group = λ _. ap (is_in (length last) (x.number % length last)) (number-at at) ∙ in-group (length last) (x.number % length last) x.number some refl;
+}
 
 -- the walk from the last place of a group
 module _ {last : List ℕ} {links : List Link} (c : IsChained last links) (number place : ℕ) (some : number ≢ none) (wide : 0 < length last) (is : place ≡ get_or last (number % length last) place) where

@@ -48,10 +48,8 @@ impl Model for Chains {
 /// Walks down a group from one of its places to where a number of the group stands; 0 if it stands nowhere on the way.
 fn find_down(links: &[Link], from: usize, number: usize) -> usize
     requires within { from ≤ length links.now }
-    requires group {
-        (width : ℕ) × Keep width (numbers_of links.now) (befores_of links.now)
-        × (0 < from → is_in width (number % width) (slice_index (numbers_of links.now) (from - 1)) ≡ true)
-    }
+    requires group { (width : ℕ) × Keep width (numbers_of links.now) (befores_of links.now)
+        × (0 < from → is_in width (number % width) (slice_index (numbers_of links.now) (from - 1)) ≡ true) }
     requires number { number ≢ none }
     ensures { result ≡ last_up (λ k. k == number) (numbers_of links.now) from }
 {
@@ -196,7 +194,11 @@ impl Chains {
         make_room(self.alloc, &mut self.last, &mut self.links)?;
         let group = number % self.last.len();
         let before = self.last[group];
-        self.links.push(Link { number: number as u64, before, hint: 0 })?;
+        self.links.push(Link {
+            number: number as u64,
+            before,
+            hint: 0,
+        })?;
         hint_at(&mut self.links, before, place);
         self.last[group] = place;
         Ok(())
@@ -315,7 +317,11 @@ mod tests {
                 return false;
             }
             let number = self.chains.links[index].number as usize;
-            let before = if number == NONE { 0 } else { self.chains.before(index + 1) };
+            let before = if number == NONE {
+                0
+            } else {
+                self.chains.before(index + 1)
+            };
             number == self.plain[index] && before == searched(&self.plain[..index], number)
         }
 

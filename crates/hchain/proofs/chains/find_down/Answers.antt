@@ -1,4 +1,4 @@
-use Rattle.std.proofs.Common.{◌-◌, ◌<◌, length, get_or, ◌∙◌, arith}
+use Rattle.std.proofs.Common.{◌-◌, get_or, ◌∙◌, arith}
 use Rattle.std.proofs.lemmas.List.{get_or_default}
 use Rattle.hchain.specs.declared.chains.Link.{Link}
 use Rattle.hchain.proofs.Walked.{IsAt, walk-le, walk-on, walk-not}

@@ -1,4 +1,4 @@
-use Rattle.std.proofs.Common.{◌≡◌, ◌==◌, ◌<◌, not, eqb, true, false, length, get_or, refl, arith}
+use Rattle.std.proofs.Common.{◌≡◌, ◌<◌, not, eqb, true, false, length, get_or, arith}
 use Rattle.std.proofs.lemmas.Bool.{ne_eqb, eq-eqb, not_from_false, not_from_true}
 use Rattle.std.proofs.lemmas.List.{get_or_default}
 use Rattle.std.proofs.lemmas.List.Filters.{FiltersInPlace-more_no, FiltersInPlace-more_set}
@@ -14,10 +14,10 @@ loop-index-preserved c =
     let within : c.loop-index.index < length links = omega arith in
     let at : x ≡ get_or links c.loop-index.index x = get_or_default links c.loop-index.index (record { number = 0; before = 0; hint = 0 }) x within in
     elim c.if-link-ne-NONE.branch [
-      then-link-ne-NONE w ↦
+      | then-link-ne-NONE w ↦
           let is : not (eqb x.number none) ≡ true = not_from_false (eqb x.number none) (ne_eqb x.number none w.if-link-ne-NONE.true) in
           rw (w.links-is, w.kept-is) (FiltersInPlace-more_set c.loop-index.invariant within is at)
-    | else-link-ne-NONE w ↦
+      | else-link-ne-NONE w ↦
           let is : not (eqb x.number none) ≡ false = not_from_true (eqb x.number none) (eq-eqb x.number none w.if-link-ne-NONE.false) in
           rw (w.links-is, w.kept-is) (FiltersInPlace-more_no c.loop-index.invariant within is at)
     ]

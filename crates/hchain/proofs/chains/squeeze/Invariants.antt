@@ -1,4 +1,4 @@
-use Rattle.std.proofs.Common.{◌≡◌, ◌≤◌, ◌==◌, not, length}
+use Rattle.std.proofs.Common.{◌==◌, not}
 use Rattle.std.proofs.lemmas.List.Filters.{FiltersInPlace}
 use Rattle.hchain.specs.Chains.{none}
 use Rattle.hchain.proofs.chains.squeeze.Given as goal

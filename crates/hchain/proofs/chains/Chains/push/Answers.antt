@@ -1,4 +1,4 @@
-use Rattle.std.proofs.Common.{◌≡◌, ℕ, ◌<◌, ◌≤◌, ◌%◌, List, [], ◌∷◌, ◌++◌, suc, length, get_or, set, ap, sym, ◌∙◌, subst, arith, rules}
+use Rattle.std.proofs.Common.{◌≡◌, ℕ, ◌<◌, ◌%◌, List, [], ◌∷◌, ◌++◌, suc, length, get_or, set, ap, sym, ◌∙◌, subst, arith, rules}
 use Rattle.std.proofs.lemmas.List.{with_items_is, length_push, get_or_default}
 use Rattle.hchain.specs.Linked.{IsChained, AreChains}
 use Rattle.hchain.specs.declared.chains.Link.{Link}
@@ -37,7 +37,7 @@ invariant_of-self-2 c =
     let is_place : place ≡ suc (length links) = omega arith in
     let more : IsChained next (links ++ x ∷ []) = chained-push last links x place is_place chained c.requires wide before in
     let same : IsChained next c.hint_at.new.links =
-        chained-same next c.deref_mut-2.result.now c.hint_at.new.links c.hint_at.ensures.numbers c.hint_at.ensures.befores (subst (λ (ys : List Link). IsChained next ys) (sym passed) more) in
+    chained-same next c.deref_mut-2.result.now c.hint_at.new.links c.hint_at.ensures.numbers c.hint_at.ensures.befores (subst (λ (ys : List Link). IsChained next ys) (sym passed) more) in
     subst (λ (ys : List Link). AreChains (set last (c.args.number % c.len-2.result) place) ys) (sym whole) (record {
       chained = subst (λ (m : ℕ). IsChained (set last (c.args.number % m) place) c.hint_at.new.links) (sym len) same;
       fits = omega (arith, ap length passed, length_push links x);
