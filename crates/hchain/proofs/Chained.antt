@@ -7,7 +7,7 @@ use Rattle.hchain.specs.Chains.{none, last_up}
 use Rattle.hchain.specs.Linked.{number_of, before_of, numbers_of, befores_of, is_in, Keep, Says, IsChained}
 use Rattle.hchain.specs.declared.chains.Link.{Link}
 use Rattle.hchain.proofs.Groups.{nearest, own_nearest, in-group, not-in-group, none-in-group}
-use Rattle.hchain.proofs.LastUp.{last_up-here, last_up-not, last_up-le, last_up-same}
+use Rattle.hchain.proofs.LastUp.{up-sought, up-other, up-within, up-alike}
 
 -- what a table says, and what is kept, of the first links
 pub record ChainedTo (last : List ℕ) (links : List Link) (k : ℕ) : Type 0 where
@@ -16,7 +16,7 @@ pub record ChainedTo (last : List ℕ) (links : List Link) (k : ℕ) : Type 0 wh
 
 -- a table says no place past the end
 pub says-le : (last : List ℕ) (links : List Link) (k g : ℕ) → ChainedTo last links k → g < length last → get_or last g 0 ≤ k
-says-le last links k g c h = omega (arith, c.says g h, last_up-le (is_in (length last) g) (numbers_of links) k)
+says-le last links k g c h = omega (arith, c.says g h, up-within (is_in (length last) g) (numbers_of links) k)
 
 -- links that begin alike
 module _ (k : ℕ) (xs ys : List Link) (same : take k xs ≡ take k ys) (in_xs : k ≤ length xs) (in_ys : k ≤ length ys) where
@@ -27,7 +27,7 @@ module _ (k : ℕ) (xs ys : List Link) (same : take k xs ≡ take k ys) (in_xs :
       ∙ get_or-take k (map f ys) i 0 h
 
   nearest-front : (width group i : ℕ) → i ≤ k → nearest xs width group i ≡ nearest ys width group i
-  nearest-front width group i h = last_up-same (is_in width group) (numbers_of xs) (numbers_of ys) i (λ m less. same-front number_of m (omega arith))
+  nearest-front width group i h = up-alike (is_in width group) (numbers_of ys) (numbers_of xs) i (λ m less. ap (is_in width group) (same-front number_of m (omega arith)))
 
   pub chained-front : (last : List ℕ) → ChainedTo last xs k → ChainedTo last ys k
   chained-front last c = record {
@@ -104,7 +104,7 @@ module _ (last : List ℕ) (links : List Link) (k n : ℕ) (at : get_or (numbers
   group = n % width
 
   others : (g : ℕ) → is_in width g n ≡ false → nearest links width g (suc k) ≡ nearest links width g k
-  others g e = last_up-not (is_in width g) (numbers_of links) k (ap (is_in width g) at ∙ e)
+  others g e = up-other (is_in width g) (numbers_of links) k (ap (is_in width g) at ∙ e)
 
   -- where it is none, nothing is to do
   none-comes : n ≡ none → ChainedTo last links k → ChainedTo last links (suc k)
@@ -156,7 +156,7 @@ module _ (last : List ℕ) (links : List Link) (k n : ℕ) (at : get_or (numbers
 
     number-comes : get_or (befores_of links) k 0 ≡ get_or last group 0 → ChainedTo last links k → ChainedTo (set last group (suc k)) links (suc k)
     number-comes before c =
-        let here : suc k ≡ nearest links width group (suc k) = sym (last_up-here (is_in width group) (numbers_of links) k (ap (is_in width group) at ∙ in-group width group n some refl)) in
+        let here : suc k ≡ nearest links width group (suc k) = sym (up-sought (is_in width group) (numbers_of links) k (ap (is_in width group) at ∙ in-group width group n some refl)) in
         let own : get_or (befores_of links) k 0 ≡ own_nearest links width k = before ∙ c.says group group-within ∙ ap (λ m. nearest links width (m % width) k) (sym at) in
         record {
           says = λ g h.

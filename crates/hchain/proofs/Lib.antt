@@ -1,5 +1,5 @@
-pub mod Groups
 pub mod LastUp
+pub mod Groups
 pub mod Walked
 pub mod Chained
 pub mod Tails

@@ -1,16 +1,25 @@
 -- The walk down a group to where a number stands.
-use Rattle.std.proofs.Common.{◌≡◌, ◌≢◌, ℕ, suc, ◌<◌, ◌≤◌, ◌-◌, ◌%◌, true, eqb, List, length, get_or, refl, sym, ◌∙◌, ap, subst, arith}
-use Rattle.std.proofs.lemmas.Bool.{eqb-true, ne_eqb}
+use Rattle.std.proofs.Common.{◌≡◌, ◌≢◌, ℕ, zero, suc, ◌<◌, ◌≤◌, ◌-◌, ◌%◌, Bool, true, false, eqb, List, length, get_or, refl, sym, ◌∙◌, ap, subst, arith}
+use Rattle.std.proofs.lemmas.Bool.{eqb-true, ne_eqb, cond_both, both_ways, false_from_ne_true}
 use Rattle.std.proofs.lemmas.List.{get_or-map, get_or_default, length-map}
 use Rattle.hchain.specs.Chains.{none, last_up}
 use Rattle.hchain.specs.Linked.{number_of, before_of, numbers_of, befores_of, is_in, Keep, IsChained}
 use Rattle.hchain.specs.declared.chains.Link.{Link}
 use Rattle.hchain.proofs.Groups.{nearest, in-group, group-of}
-use Rattle.hchain.proofs.LastUp.{last_up-not, last_up-le, last_up-found, last_up-down}
+use Rattle.hchain.proofs.LastUp.{up-other, up-within, up-found}
 
 -- where a number stands last among the first links
 abbrev pub sought_up : List Link → ℕ → ℕ → ℕ
 sought_up links number k = last_up (λ n. eqb n number) (numbers_of links) k
+
+-- who seeks fewer numbers may go on from where more are sought
+up-down : (p q : ℕ → Bool) (ns : List ℕ) → ((n : ℕ) → q n ≡ true → p n ≡ true) → (k : ℕ) → last_up q ns k ≡ last_up q ns (last_up p ns k)
+up-down p q ns fewer zero = refl
+up-down p q ns fewer (suc i) =
+    let not_sought : p (get_or ns i 0) ≡ false → q (get_or ns i 0) ≡ false =
+    λ e. false_from_ne_true (q (get_or ns i 0)) (λ t. both_ways (p (get_or ns i 0)) e (fewer (get_or ns i 0) t)) in
+    cond_both (p (get_or ns i 0)) (suc i) (last_up p ns i) (λ m. last_up q ns (suc i) ≡ last_up q ns m)
+    (λ _. refl) (λ e. up-other q ns i (not_sought e) ∙ up-down p q ns fewer i)
 
 -- the sought number is of its own group
 own-group : (width number : ℕ) → number ≢ none → (n : ℕ) → eqb n number ≡ true → is_in width (number % width) n ≡ true
@@ -20,7 +29,7 @@ own-group width number some n e =
 
 -- so what a search for it finds is found from the nearest place of its group on
 from-group : (links : List Link) (width number k : ℕ) → number ≢ none → sought_up links number k ≡ sought_up links number (nearest links width (number % width) k)
-from-group links width number k some = last_up-down (is_in width (number % width)) (λ n. eqb n number) (numbers_of links) (own-group width number some) k
+from-group links width number k some = up-down (is_in width (number % width)) (λ n. eqb n number) (numbers_of links) (own-group width number some) k
 
 -- at the place, if it is one, a number of the sought one's group stands
 pub record Walks (links : List Link) (number place : ℕ) : Type 0 where
@@ -34,7 +43,7 @@ walks-up links width number place k kept is = record {
   kept = kept;
   group =
       subst (λ (m : ℕ). 0 < m → is_in width (number % width) (get_or (numbers_of links) (m - 1) 0) ≡ true) (sym is)
-      (last_up-found (is_in width (number % width)) (numbers_of links) k);
+      (up-found (is_in width (number % width)) (numbers_of links) k);
 }
 
 -- the link at a place
@@ -59,7 +68,7 @@ module _ {links : List Link} {number place : ℕ} {x : Link} (some : number ≢ 
       ∙ ap (λ g. last_up (is_in w.width g) (numbers_of links) (place - 1)) in_group.1
 
   pub walk-le : x.before ≤ place - 1
-  walk-le = omega (arith, kept-at, last_up-le (is_in w.width (number % w.width)) (numbers_of links) (place - 1))
+  walk-le = omega (arith, kept-at, up-within (is_in w.width (number % w.width)) (numbers_of links) (place - 1))
 
   pub walk-on : Walks links number x.before
   walk-on = walks-up links w.width number x.before (place - 1) w.kept kept-at
@@ -72,7 +81,7 @@ module _ {links : List Link} {number place : ℕ} {x : Link} (some : number ≢ 
   walk-not other =
       let next : place ≡ suc (place - 1) = omega (arith, at.some) in
       ap (sought_up links number) next
-      ∙ last_up-not (λ n. eqb n number) (numbers_of links) (place - 1) (ne_eqb (get_or (numbers_of links) (place - 1) 0) number (λ same. other (sym (number-at at) ∙ same)))
+      ∙ up-other (λ n. eqb n number) (numbers_of links) (place - 1) (ne_eqb (get_or (numbers_of links) (place - 1) 0) number (λ same. other (sym (number-at at) ∙ same)))
       ∙ walk-down
 
 -- the walk from a place of a list on
@@ -91,7 +100,7 @@ module _ {last : List ℕ} {links : List Link} (c : IsChained last links) (numbe
       is ∙ get_or_default last (number % length last) place 0 within ∙ c.says (number % length last) within
 
   pub last-le : place ≤ length links
-  last-le = omega (arith, last-at, last_up-le (is_in (length last) (number % length last)) (numbers_of links) (length (numbers_of links)), length-map links number_of)
+  last-le = omega (arith, last-at, up-within (is_in (length last) (number % length last)) (numbers_of links) (length (numbers_of links)), length-map links number_of)
 
   pub last-walks : Walks links number place
   last-walks = walks-up links (length last) number place (length (numbers_of links)) c.kept last-at
