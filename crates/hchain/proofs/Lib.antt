@@ -1,0 +1,5 @@
+pub mod LastUp
+pub mod Groups
+pub mod Walked
+pub mod Chained
+pub mod Tails

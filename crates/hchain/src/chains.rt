@@ -1,7 +1,8 @@
 //! Lists of numbers.
 
-ghost use Rattle.std.specs.Prelude.{◌≡◌, ◌≢◌, ◌==◌, ℕ, ◌<◌, ◌≤◌, ◌-◌, ◌++◌, OnOk, OnErr, [], ◌∷◌, drop, filter, length, not, slice_index, take};
+ghost use Rattle.std.specs.Prelude.{◌≡◌, ◌≢◌, ◌==◌, ℕ, ◌%◌, ◌<◌, ◌≤◌, ◌-◌, ◌^◌, ◌++◌, OnOk, OnErr, [], ◌∷◌, drop, filter, length, not, slice_index, take, true};
 ghost use Rattle.hchain.specs.Chains.{last_up, none};
+ghost use Rattle.hchain.specs.Linked.{IsChained, Keep, befores_of, is_in, numbers_of};
 
 use std::alloc::{AllocError, Global};
 use std::marker::Model;
@@ -44,6 +45,108 @@ impl Model for Chains {
     ghost invariant = { λ c. AreChains c.last.items c.links.items };
 }
 
+/// Walks down a group from one of its places to where a number of the group stands; 0 if it stands nowhere on the way.
+fn find_down(links: &[Link], from: usize, number: usize) -> usize
+    requires within { from ≤ length links.now }
+    requires group { (width : ℕ) × Keep width (numbers_of links.now) (befores_of links.now)
+        × (0 < from → is_in width (number % width) (slice_index (numbers_of links.now) (from - 1)) ≡ true) }
+    requires number { number ≢ none }
+    ensures { result ≡ last_up (λ k. k == number) (numbers_of links.now) from }
+{
+    let mut place = from;
+    while place > 0 {
+        let link = links[place - 1];
+        if link.number as usize == number {
+            return place;
+        }
+        place = link.before as usize;
+    }
+    0
+}
+
+/// Takes the links from an index on out of the table, the last one first.
+fn unwind(last: &mut [u32], links: &[Link], from: usize)
+    requires chained { IsChained last.old links.now }
+    requires within { from ≤ length links.now }
+    ensures { IsChained last.new (take from links.now) }
+{
+    let mut end = links.len();
+    while end > from {
+        end -= 1;
+        let link = links[end];
+        if link.number as usize != NONE {
+            last[link.number as usize % last.len()] = link.before;
+        }
+    }
+}
+
+/// Says at a place, if it is one, where the next number of its group stands.
+fn hint_at(links: &mut [Link], place: u32, next: u32)
+    requires { place ≤ length links.old }
+    ensures numbers { numbers_of links.new ≡ numbers_of links.old }
+    ensures befores { befores_of links.new ≡ befores_of links.old }
+{
+    if place > 0 {
+        links[place as usize - 1].hint = next;
+    }
+}
+
+/// Puts the links from an index on into the table again, with the places that they have now.
+fn rewind(last: &mut [u32], links: &mut [Link], from: usize)
+    requires chained { IsChained last.old (take from links.old) }
+    requires within { from ≤ length links.old }
+    requires places { length links.old < 2 ^ 32 }
+    requires wide { 0 < length links.old → 0 < length last.old }
+    ensures chained { IsChained last.new links.new }
+    ensures same { numbers_of links.new ≡ numbers_of links.old }
+{
+    for index in from..links.len() {
+        let number = links[index].number as usize;
+        if number != NONE {
+            let place = index as u32 + 1;
+            let group = number % last.len();
+            let before = last[group];
+            links[index].before = before;
+            hint_at(links, before, place);
+            last[group] = place;
+        }
+    }
+}
+
+/// Makes a larger table where there are as many numbers as groups.
+fn make_room(alloc: Global, last: &mut Vec<u32>, links: &mut [Link]) -> Result<(), AllocError>
+    requires chained { IsChained last.old.items links.old }
+    requires places { length links.old < 2 ^ 32 }
+    ensures chained { IsChained last.new.items links.new }
+    ensures same { numbers_of links.new ≡ numbers_of links.old }
+    ensures room { OnOk result (0 < length last.new.items) }
+{
+    if links.len() < last.len() {
+        return Ok(());
+    }
+    let mut table = Vec::new(alloc);
+    table.resize(2 * last.len() + 61, 0)?;
+    rewind(&mut table, links, 0);
+    *last = table;
+    Ok(())
+}
+
+/// Brings each link that isn't `NONE` to the front, in their order, and counts them.
+fn squeeze(links: &mut [Link]) -> usize
+    ensures within { result ≤ length links.new }
+    ensures front { take result links.new ≡ filter (λ x. not (x.number == none)) links.old }
+{
+    let mut kept = 0;
+    for index in 0..links.len() {
+        let link = links[index];
+        if link.number as usize != NONE {
+            links[kept] = link;
+            kept += 1;
+        }
+    }
+    kept
+}
+
 impl Chains {
     /// An empty list.
     pub fn new(alloc: Global) -> Self
@@ -61,7 +164,11 @@ impl Chains {
         requires { number ≢ none }
         ensures { result ≡ last_up (λ k. k == number) self.now (length self.now) }
     {
-        0
+        if self.last.is_empty() {
+            return 0;
+        }
+        let place = self.last[number % self.last.len()];
+        find_down(&self.links, place as usize, number)
     }
 
     /// The nearest place before another place where the same number stands.
@@ -71,7 +178,8 @@ impl Chains {
         requires number { slice_index self.now (place - 1) ≢ none }
         ensures { result ≡ last_up (λ k. k == slice_index self.now (place - 1)) self.now (place - 1) }
     {
-        0
+        let link = self.links[place - 1];
+        find_down(&self.links, link.before as usize, link.number as usize)
     }
 
     /// Adds a number at the end. There is room for fewer than 2³² numbers. On an error nothing changes.
@@ -80,7 +188,19 @@ impl Chains {
         ensures ok { OnOk result (self.new ≡ self.old ++ number ∷ []) }
         ensures err { OnErr result (self.new ≡ self.old) }
     {
-        let _ = number;
+        let Ok(place) = u32::try_from(self.links.len() + 1) else {
+            return Err(AllocError);
+        };
+        make_room(self.alloc, &mut self.last, &mut self.links)?;
+        let group = number % self.last.len();
+        let before = self.last[group];
+        self.links.push(Link {
+            number: number as u64,
+            before,
+            hint: 0,
+        })?;
+        hint_at(&mut self.links, before, place);
+        self.last[group] = place;
         Ok(())
     }
 
@@ -89,7 +209,8 @@ impl Chains {
         requires { len ≤ length self.old }
         ensures { self.new ≡ take len self.old }
     {
-        let _ = len;
+        unwind(&mut self.last, &self.links, len);
+        self.links.truncate(len);
     }
 
     /// Takes out each `NONE` from an index on.
@@ -97,6 +218,158 @@ impl Chains {
         requires { from ≤ length self.old }
         ensures { self.new ≡ take from self.old ++ filter (λ n. not (n == none)) (drop from self.old) }
     {
-        let _ = from;
+        unwind(&mut self.last, &self.links, from);
+        let kept = squeeze(&mut self.links[from..]);
+        self.links.truncate(from + kept);
+        rewind(&mut self.last, &mut self.links, from);
+    }
+}
+
+#[cfg(test)]
+mod tests {
+    use super::{Chains, NONE};
+    use std::alloc::{AllocError, Global};
+    use std::test::Fail;
+
+    /// A list, and the same numbers in a plain one.
+    #[derive(Drop)]
+    struct Both {
+        chains: Chains,
+        plain: Vec<usize>,
+    }
+
+    /// The last place of a number in a plain list, by a search.
+    fn searched(plain: &[usize], number: usize) -> usize {
+        let mut place = 0;
+        for (index, other) in plain.iter().enumerate() {
+            if *other == number && number != NONE {
+                place = index + 1;
+            }
+        }
+        place
+    }
+
+    impl Both {
+        fn new(alloc: Global) -> Self {
+            Both {
+                chains: Chains::new(alloc),
+                plain: Vec::new(alloc),
+            }
+        }
+
+        fn push(&mut self, number: usize) -> Result<(), AllocError> {
+            if number != NONE {
+                self.chains.push(number)?;
+                self.plain.push(number)?;
+            }
+            Ok(())
+        }
+
+        /// Adds so many numbers: every other one leaves 2 where it is divided by 61, and so is in one group of a small table.
+        fn fill(&mut self, count: u32) -> Result<(), AllocError> {
+            for turn in 0..count {
+                let turn = turn as usize;
+                if turn % 2 == 0 {
+                    self.push(turn * 13 % 90 * 61 + 2)?;
+                } else {
+                    self.push(turn % 17 + 3)?;
+                }
+            }
+            Ok(())
+        }
+
+        fn clear(&mut self, index: usize) {
+            if index < self.chains.links.len() && index < self.plain.len() {
+                self.chains.clear(index);
+                self.plain[index] = NONE;
+            }
+        }
+
+        fn truncate(&mut self, len: usize) {
+            if len <= self.chains.links.len() {
+                self.chains.truncate(len);
+                self.plain.truncate(len);
+            }
+        }
+
+        fn compact(&mut self, from: usize, alloc: Global) -> Result<(), AllocError> {
+            if from <= self.chains.links.len() {
+                self.chains.compact(from);
+            }
+            let mut left = Vec::new(alloc);
+            for (index, number) in self.plain.iter().enumerate() {
+                if index < from || *number != NONE {
+                    left.push(*number)?;
+                }
+            }
+            self.plain = left;
+            Ok(())
+        }
+
+        /// Whether the last place of a number is the one that a search finds.
+        fn knows(&self, number: usize) -> bool {
+            number == NONE || self.chains.last(number) == searched(&self.plain, number)
+        }
+
+        /// Whether the number at an index is that of the plain list, and so is the place before it.
+        fn agrees_at(&self, index: usize) -> bool {
+            if index >= self.chains.links.len() || index >= self.plain.len() {
+                return false;
+            }
+            let number = self.chains.links[index].number as usize;
+            let before = if number == NONE {
+                0
+            } else {
+                self.chains.before(index + 1)
+            };
+            number == self.plain[index] && before == searched(&self.plain[..index], number)
+        }
+
+        fn agrees(&self) -> bool {
+            self.chains.links.len() == self.plain.len()
+                && (0..self.plain.len()).all(|index| self.agrees_at(index))
+                && self.plain.iter().all(|number| self.knows(*number))
+                && [0, 2, 3, 63, 64, 5492, usize::MAX]
+                    .iter()
+                    .all(|number| self.knows(*number))
+        }
+    }
+
+    /// The table grows at the first number, at the 62nd and at the 184th.
+    #[test]
+    fn questions_agree_with_a_search(rt: HostRuntime) -> Result<(), Fail> {
+        let mut both = Both::new(rt.alloc());
+        assert!(rt; both.agrees());
+        for count in [1, 60, 1, 122, 66] {
+            both.fill(count)?;
+            assert!(rt; both.agrees());
+        }
+        assert_eq!(rt; both.chains.last.len(), 427);
+        Ok(())
+    }
+
+    #[test]
+    fn edits_agree_with_those_of_a_plain_list(rt: HostRuntime) -> Result<(), Fail> {
+        let alloc = rt.alloc();
+        let mut both = Both::new(alloc);
+        both.fill(210)?;
+        for index in 0..70 {
+            both.clear(index * 3);
+        }
+        assert!(rt; both.agrees());
+        both.compact(150, alloc)?;
+        assert_eq!(rt; both.plain.len(), 190);
+        assert!(rt; both.agrees());
+        both.truncate(120);
+        assert!(rt; both.agrees());
+        both.fill(40)?;
+        both.compact(0, alloc)?;
+        assert_eq!(rt; both.plain.len(), 120);
+        assert!(rt; both.agrees());
+        both.truncate(0);
+        both.compact(0, alloc)?;
+        both.fill(3)?;
+        assert!(rt; both.agrees());
+        Ok(())
     }
 }

@@ -1,0 +1,20 @@
+-- Lists whose tail is written anew.
+use Rattle.std.proofs.Common.{◌≡◌, ℕ, ◌+◌, ◌≤◌, ◌-◌, Bool, true, false, cond, List, [], ◌∷◌, ◌++◌, length, map, take, drop, refl, sym, ◌∙◌, ap, arith}
+use Rattle.std.proofs.lemmas.List.{take-append-le, length-take-le}
+use Rattle.std.proofs.Math.Seq.{take-append-add}
+use Rattle.std.specs.List.{filter}
+
+-- what is left of a list whose tail begins anew
+pub take-anew : {X : Type 0} (a k : ℕ) (xs ys zs : List X) → a ≤ length xs → k ≤ length ys → take (a + k) (take a xs ++ (ys ++ zs)) ≡ take a xs ++ take k ys
+take-anew a k xs ys zs in_xs in_ys =
+    ap (λ n. take (n + k) (take a xs ++ (ys ++ zs))) (sym (length-take-le a xs in_xs)) ∙ take-append-add (take a xs) (ys ++ zs) k ∙ ap (λ m. take a xs ++ m) (take-append-le k ys zs in_ys)
+
+-- a test of what the members are seen as
+module _ {X Y : Type 0} (f : X → Y) (p : Y → Bool) where
+  pub map-filter : (xs : List X) → map f (filter (λ x. p (f x)) xs) ≡ filter p (map f xs)
+  map-filter [] = refl
+  map-filter (x ∷ xs) = go (p (f x)) (map-filter xs)
+    where
+      go : (b : Bool) → map f (filter (λ y. p (f y)) xs) ≡ filter p (map f xs) → map f (cond b (x ∷ filter (λ y. p (f y)) xs) (filter (λ y. p (f y)) xs)) ≡ cond b (f x ∷ filter p (map f xs)) (filter p (map f xs))
+      go true rest = ap (λ ys. f x ∷ ys) rest
+      go false rest = rest

@@ -1,0 +1,32 @@
+use Rattle.std.proofs.Common.{◌≡◌, ◌+◌, ◌-◌, ◌≤◌, ◌==◌, not, List, length, take, drop, ◌++◌, ap, sym, ◌∙◌, arith}
+use Rattle.std.proofs.lemmas.List.{with_items_is, take_rest, map-append, take-map, drop-map, length-append, length-take-le, length-drop, length-map}
+use Rattle.std.specs.List.{filter}
+use borrow.Rule.Slice.PartMut.{post_of}
+use Rattle.hchain.specs.Chains.{none}
+use Rattle.hchain.specs.Linked.{number_of, numbers_of}
+use Rattle.hchain.specs.declared.chains.Link.{Link}
+use Rattle.hchain.proofs.Tails.{take-anew, map-filter}
+use Rattle.hchain.proofs.chains.Chains.compact.Goals as goal
+
+pub returns : goal.returns
+returns c =
+    let links : List Link = c.self.inside.links.items in
+    let from = c.args.from in
+    let kept = c.squeeze-kept.result in
+    let all : List Link = c.deref_mut-2.result.now in
+    let tail : List Link = c.squeeze-kept.new.links in
+    let same : all ≡ links = c.deref_mut-2.ensures.value in
+    let within : from ≤ length all = omega (arith, ap length same, ap length c.self.view_is, length-map links number_of) in
+    let end : List Link = post_of from (length all - from) all in
+    let end_len : length end ≡ 0 = omega (arith, length-drop (length all - from) (drop from all), length-drop from all) in
+    let tail_len : length tail ≡ length all - from = omega (arith, c.squeeze-kept.auto.links, ap length (take_rest all from), length-drop from all) in
+    let whole : length (take from all ++ (tail ++ end)) ≡ c.self.inside.links.len = omega (arith, length-append (take from all) (tail ++ end), length-append tail end, length-take-le from all within, ap length same) in
+    let items : c.truncate.new.self.items ≡ take from links ++ filter (λ x. not (x.number == none)) (drop from links) =
+    c.truncate.ensures.items ∙ ap (take (from + kept)) (with_items_is c.self.inside.links (take from all ++ (tail ++ end)) whole)
+    ∙ take-anew from kept all tail end within (omega arith) ∙ ap (λ ys. take from all ++ ys) (c.squeeze-kept.ensures.front ∙ ap (filter (λ x. not (x.number == none))) (take_rest all from))
+    ∙ ap (λ ys. take from ys ++ filter (λ x. not (x.number == none)) (drop from ys)) same in
+    let numbers : numbers_of (take from links ++ filter (λ x. not (x.number == none)) (drop from links)) ≡ take from (numbers_of links) ++ filter (λ n. not (n == none)) (drop from (numbers_of links)) =
+    map-append number_of (take from links) (filter (λ x. not (x.number == none)) (drop from links))
+    ∙ (λ t. sym (take-map number_of from links) t ++ (map-filter number_of (λ n. not (n == none)) (drop from links) ∙ ap (filter (λ n. not (n == none))) (sym (drop-map number_of from links))) t) in
+    ap numbers_of (with_items_is c.truncate.new.self c.rewind.new.links (omega arith)) ∙ c.rewind.ensures.same ∙ ap numbers_of (c.deref_mut-4.ensures.value ∙ items) ∙ numbers
+    ∙ ap (λ ns. take from ns ++ filter (λ n. not (n == none)) (drop from ns)) c.self.view_is

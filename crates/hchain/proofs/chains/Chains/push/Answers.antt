@@ -1,0 +1,44 @@
+use Rattle.std.proofs.Common.{◌≡◌, ℕ, ◌<◌, ◌%◌, List, [], ◌∷◌, ◌++◌, suc, length, get_or, set, ap, sym, ◌∙◌, subst, arith, rules}
+use Rattle.std.proofs.lemmas.List.{with_items_is, length_push, get_or_default}
+use Rattle.hchain.specs.Linked.{IsChained, AreChains}
+use Rattle.hchain.specs.declared.chains.Link.{Link}
+use Rattle.hchain.proofs.Chained.{chained-push, chained-same}
+use Rattle.hchain.proofs.Walked.{last-le}
+use Rattle.hchain.proofs.chains.Chains.push.Goals as goal
+
+pub hint_at-requires : goal.hint_at-requires
+hint_at-requires c =
+    let last = c.make_room.new.last.items in
+    let links : List Link = c.make_room.new.links in
+    let x : Link = record { number = c.args.number; before = c.index-before.result.now; hint = 0 } in
+    let chained : IsChained last links = c.in_ok-make_room.ensures.chained in
+    let wide : 0 < length last = c.in_ok-make_room.ensures.room in
+    let pushed : c.push.new.self.items ≡ links ++ x ∷ [] = c.in_ok-push.ensures.items ∙ ap (λ ys. ys ++ x ∷ []) (with_items_is c.self.inside.links links (omega arith)) in
+    let is : x.before ≡ get_or last (c.args.number % length last) x.before = search rules in
+    omega (arith, last-le chained c.args.number x.before c.requires wide is, ap length c.deref_mut-2.ensures.value, ap length pushed, length_push links x)
+
+pub invariant_of-self-2 : goal.invariant_of-self-2
+invariant_of-self-2 c =
+    let last = c.make_room.new.last.items in
+    let links : List Link = c.make_room.new.links in
+    let place = c.in-Ok.place in
+    let x : Link = record { number = c.args.number; before = c.index-before.result.now; hint = 0 } in
+    let chained : IsChained last links = c.in_ok-make_room.ensures.chained in
+    let wide : 0 < length last = c.in_ok-make_room.ensures.room in
+    let len : c.len-2.result ≡ length last = search rules in
+    let next = set last (c.args.number % length last) place in
+    -- the list has the link, and then its hints change
+    let pushed : c.push.new.self.items ≡ links ++ x ∷ [] = c.in_ok-push.ensures.items ∙ ap (λ ys. ys ++ x ∷ []) (with_items_is c.self.inside.links links (omega arith)) in
+    let passed : c.deref_mut-2.result.now ≡ links ++ x ∷ [] = c.deref_mut-2.ensures.value ∙ pushed in
+    let whole = with_items_is c.push.new.self c.hint_at.new.links (omega arith) in
+    -- what the table said is what the link keeps
+    let is : x.before ≡ get_or last (c.args.number % length last) x.before = search rules in
+    let before : x.before ≡ get_or last (c.args.number % length last) 0 = is ∙ get_or_default last (c.args.number % length last) x.before 0 (omega arith) in
+    let is_place : place ≡ suc (length links) = omega arith in
+    let more : IsChained next (links ++ x ∷ []) = chained-push last links x place is_place chained c.requires wide before in
+    let same : IsChained next c.hint_at.new.links =
+    chained-same next c.deref_mut-2.result.now c.hint_at.new.links c.hint_at.ensures.numbers c.hint_at.ensures.befores (subst (λ (ys : List Link). IsChained next ys) (sym passed) more) in
+    subst (λ (ys : List Link). AreChains (set last (c.args.number % c.len-2.result) place) ys) (sym whole) (record {
+      chained = subst (λ (m : ℕ). IsChained (set last (c.args.number % m) place) c.hint_at.new.links) (sym len) same;
+      fits = omega (arith, ap length passed, length_push links x);
+    })

@@ -1,0 +1,15 @@
+use Rattle.std.proofs.Common.{◌≡◌, ◌==◌, ◌≤◌, length}
+use Rattle.hchain.specs.Chains.{last_up}
+use Rattle.hchain.specs.Linked.{numbers_of}
+use Rattle.hchain.proofs.Walked.{Walks}
+use Rattle.hchain.proofs.chains.find_down.Given as goal
+
+abbrev pub invariant-loop-place : goal.invariant-loop-place
+invariant-loop-place l = record {
+  within : l.place ≤ length l.links;
+  walks : Walks l.links l.number l.place;
+  same : last_up (λ k. k == l.number) (numbers_of l.links) l.from ≡ last_up (λ k. k == l.number) (numbers_of l.links) l.place;
+}
+
+abbrev pub decreases-loop-place : goal.decreases-loop-place
+decreases-loop-place l = l.place

@@ -1,0 +1,11 @@
+use Rattle.std.proofs.Common.{◌≡◌, ◌≤◌, length}
+use Rattle.hchain.specs.Linked.{numbers_of}
+use Rattle.hchain.proofs.Chained.{ChainedTo}
+use Rattle.hchain.proofs.chains.rewind.Given as goal
+
+abbrev pub invariant-loop-index : goal.invariant-loop-index
+invariant-loop-index l = record {
+  within : l.index ≤ length l.links;
+  chained : ChainedTo l.last l.links l.index;
+  same : numbers_of l.links ≡ numbers_of l.initial.links;
+}

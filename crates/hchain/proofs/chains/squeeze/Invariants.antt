@@ -1,0 +1,7 @@
+use Rattle.std.proofs.Common.{◌==◌, not}
+use Rattle.std.proofs.lemmas.List.Filters.{FiltersInPlace}
+use Rattle.hchain.specs.Chains.{none}
+use Rattle.hchain.proofs.chains.squeeze.Given as goal
+
+abbrev pub invariant-loop-index : goal.invariant-loop-index
+invariant-loop-index l = FiltersInPlace (λ x. not (x.number == none)) l.initial.links l.links l.kept l.index
