@@ -1,0 +1,2 @@
+pub mod LastUp
+pub mod Relinked

@@ -1,0 +1,253 @@
+-- A list of numbers that keeps where its groups stand, where one number changes.
+use Rattle.std.proofs.Common.{◌≡◌, ◌≢◌, ℕ, zero, suc, ◌-◌, ◌<◌, ◌≤◌, ◌%◌, eqb, Bool, true, false, cond, not, ◌&&◌, List, length, get_or, set, ◌⊎◌, inl, inr, refl, sym, ◌∙◌, ap, subst, arith}
+use Rattle.std.proofs.lemmas.Bool.{cases_Bool, cases_lt, false≢true, eqb-true, eqb-false, eq-eqb, false_from_ne_true}
+use Rattle.std.proofs.lemmas.List.{get_or-set_same, get_or-set_other, length-map}
+use Rattle.std.proofs.Math.ListN.{get_or-map}
+use Rattle.hchain.specs.Chains.{none, last_up}
+use Rattle.hchain.specs.Linked.{number_of, before_of, numbers_of, befores_of, is_in, Keep, Says, IsChained}
+use Rattle.hchain.specs.declared.chains.Link.{Link}
+use Rattle.hchain.proofs.LastUp.{up-sought, up-other, up-within, up-found, up-least, up-past, up-alike, up-alike-from}
+
+-- where the next place is kept: past the last index, or at the next place
+abbrev pub until : (len next : ℕ) → ℕ
+until len zero = len
+until len (suc n) = n
+
+until-some : (len next : ℕ) → 0 < next → until len next ≡ next - 1
+until-some len zero h = absurd (omega arith)
+until-some len (suc n) h = omega arith
+
+until-ne : (len next j : ℕ) → j < len → suc j ≢ next → j ≢ until len next
+until-ne len zero j h ne e = omega arith
+until-ne len (suc n) j h ne e = ne (omega arith)
+
+until-other : (len next j : ℕ) → next ≤ j → 0 < next → j ≢ until len next
+until-other len zero j h some e = omega arith
+until-other len (suc n) j h some e = omega arith
+
+-- the next place past an index where a number is sought; 0 is none
+pub record IsNext (s : ℕ → Bool) (xs : List ℕ) (i next : ℕ) : Type 0 where
+  pub found : 0 < next → (suc i < next) × (next ≤ length xs) × (s (get_or xs (next - 1) 0) ≡ true)
+  pub least : (j : ℕ) → i < j → j < length xs → s (get_or xs j 0) ≡ true → (0 < next) × (next ≤ suc j)
+
+module _ (w g : ℕ) where
+  pub in-none : is_in w g none ≡ false
+  in-none = refl
+
+  -- what is in a group
+  pub in-group : (n : ℕ) → is_in w g n ≡ true → (n ≢ none) × (n % w ≡ g)
+  in-group n e = go (eqb n 1) (eqb (n % w) g) refl refl e
+    where
+      go : (a b : Bool) → eqb n 1 ≡ a → eqb (n % w) g ≡ b → not a && b ≡ true → (n ≢ none) × (n % w ≡ g)
+      go true b p q r = absurd (false≢true r)
+      go false true p q r = (eqb-false n 1 p, eqb-true (n % w) g q)
+      go false false p q r = absurd (false≢true r)
+
+  pub group-in : (n : ℕ) → n ≢ none → n % w ≡ g → is_in w g n ≡ true
+  group-in n a b = go (eqb n 1) (eqb (n % w) g) refl refl
+    where
+      go : (p q : Bool) → eqb n 1 ≡ p → eqb (n % w) g ≡ q → not p && q ≡ true
+      go true q e f = absurd (a (eqb-true n 1 e))
+      go false true e f = refl
+      go false false e f = absurd (eqb-false (n % w) g f b)
+
+  -- what a number of a group keeps
+  pub keep-at : (xs bs : List ℕ) → Keep w xs bs → (i : ℕ) → i < length xs → is_in w g (get_or xs i 0) ≡ true → get_or bs i 0 ≡ last_up (is_in w g) xs i
+  keep-at xs bs k i h e =
+      let n = in-group (get_or xs i 0) e in
+      k i h n.0 ∙ ap (λ m. last_up (is_in w m) xs i) n.1
+
+-- a walk down a group
+module _ (s : ℕ → Bool) (xs : List ℕ) (i at next : ℕ) (within : i < length xs) (is : at ≡ last_up s xs (until (length xs) next)) (found : 0 < next → (suc i < next) × (next ≤ length xs) × (s (get_or xs (next - 1) 0) ≡ true)) where
+  until-past : (i < until (length xs) next) × (until (length xs) next ≤ length xs)
+  until-past = go next found
+    where
+      go : (n : ℕ) → (0 < n → (suc i < n) × (n ≤ length xs) × (s (get_or xs (n - 1) 0) ≡ true)) → (i < until (length xs) n) × (until (length xs) n ≤ length xs)
+      go zero f = (within, omega arith)
+      go (suc n) f = let a = f (omega arith) in (omega (arith, a.0), omega (arith, a.1))
+
+  pub walk-within : at ≤ length xs
+  walk-within = omega (arith, up-within s xs (until (length xs) next), until-past.1)
+
+  pub walk-found : 0 < at → s (get_or xs (at - 1) 0) ≡ true
+  walk-found h =
+      let here : 0 < last_up s xs (until (length xs) next) = omega arith in
+      ap (λ m. s (get_or xs (m - 1) 0)) is ∙ up-found s xs (until (length xs) next) here
+
+  -- it has come to an index
+  pub walk-before : at ≤ suc i → at ≡ last_up s xs (suc i)
+  walk-before h = is ∙ up-past s xs (suc i) (until (length xs) next) until-past.0 (λ j a b. false_from_ne_true _ (λ e. absurd (omega (arith, up-least s xs (until (length xs) next) j b e))))
+
+  pub walk-next : at ≤ suc i → IsNext s xs i next
+  walk-next h = record { found = found; least = λ j a b e. go next is j a b e }
+    where
+      go : (n : ℕ) → at ≡ last_up s xs (until (length xs) n) → (j : ℕ) → i < j → j < length xs → s (get_or xs j 0) ≡ true → (0 < n) × (n ≤ suc j)
+      go zero f j a b e = absurd (omega (arith, up-least s xs (length xs) j b e))
+      go (suc n) f j a b e = elim (cases_lt j n) as (λ _. (0 < suc n) × (suc n ≤ suc j)) [ inl less ↦ absurd (omega (arith, up-least s xs n j less e)) | inr more ↦ (omega arith, omega arith) ]
+
+-- the numbers of links, and what they keep
+pub length-numbers : (links : List Link) → length (numbers_of links) ≡ length links
+length-numbers links = length-map links number_of
+
+pub before-at : (links : List Link) (i : ℕ) → get_or (befores_of links) i 0 ≡ (get_or links i (record { number = 0; before = 0; hint = 0 })).before
+before-at links i = get_or-map before_of links i (record { number = 0; before = 0; hint = 0 })
+
+pub number-at : (links : List Link) (i : ℕ) → get_or (numbers_of links) i 0 ≡ (get_or links i (record { number = 0; before = 0; hint = 0 })).number
+number-at links i = get_or-map number_of links i (record { number = 0; before = 0; hint = 0 })
+
+-- a step of a walk over links
+module _ (last : List ℕ) (links : List Link) (chained : IsChained last links) (g i at next : ℕ) (within : i < length links) (is : at ≡ last_up (is_in (length last) g) (numbers_of links) (until (length (numbers_of links)) next)) (found : 0 < next → (suc i < next) × (next ≤ length (numbers_of links)) × (is_in (length last) g (get_or (numbers_of links) (next - 1) 0) ≡ true)) where
+  down-at : at ≤ length (numbers_of links)
+  down-at = walk-within (is_in (length last) g) (numbers_of links) i at next (omega (arith, length-numbers links)) is found
+
+  pub down-found : 0 < at → is_in (length last) g (get_or (numbers_of links) (at - 1) 0) ≡ true
+  down-found h = walk-found (is_in (length last) g) (numbers_of links) i at next (omega (arith, length-numbers links)) is found h
+
+  pub down-within : at ≤ length links
+  down-within = omega (arith, length-numbers links, down-at)
+
+  down-kept : 0 < at → (get_or links (at - 1) (record { number = 0; before = 0; hint = 0 })).before ≡ last_up (is_in (length last) g) (numbers_of links) (at - 1)
+  down-kept h = sym (before-at links (at - 1)) ∙ keep-at (length last) g (numbers_of links) (befores_of links) chained.kept (at - 1) (omega (arith, down-at)) (down-found h)
+
+  pub down-is : 0 < at → (get_or links (at - 1) (record { number = 0; before = 0; hint = 0 })).before ≡ last_up (is_in (length last) g) (numbers_of links) (until (length (numbers_of links)) at)
+  down-is h = down-kept h ∙ ap (λ n. last_up (is_in (length last) g) (numbers_of links) n) (sym (until-some (length (numbers_of links)) at h))
+
+  pub down-less : 0 < at → (get_or links (at - 1) (record { number = 0; before = 0; hint = 0 })).before < at
+  down-less h = omega (arith, down-kept h, up-within (is_in (length last) g) (numbers_of links) (at - 1))
+
+-- two lists that differ at one index, in one group, and the next place of that group
+module _ (w g i next : ℕ) (xs ys : List ℕ) where
+  pub record Differ : Type 0 where
+    pub len : length ys ≡ length xs
+    pub within : i < length xs
+    pub same : (j : ℕ) → j ≢ i → get_or ys j 0 ≡ get_or xs j 0
+    pub others : (h : ℕ) → h ≢ g → is_in w h (get_or ys i 0) ≡ is_in w h (get_or xs i 0)
+    pub next_is : IsNext (is_in w g) xs i next
+
+  module _ (d : Differ) where
+    s : ℕ → Bool
+    s = is_in w g
+
+    alike : (h j : ℕ) → (h ≢ g) ⊎ (j ≢ i) → is_in w h (get_or ys j 0) ≡ is_in w h (get_or xs j 0)
+    alike h j (inr e) = ap (λ n. is_in w h n) (d.same j e)
+    alike h j (inl e) = go (cases_Bool (eqb j i))
+      where
+        go : (eqb j i ≡ true) ⊎ (eqb j i ≡ false) → is_in w h (get_or ys j 0) ≡ is_in w h (get_or xs j 0)
+        go (inl f) = let f2 : j ≡ i = eqb-true j i f in subst (λ (m : ℕ). is_in w h (get_or ys m 0) ≡ is_in w h (get_or xs m 0)) (sym f2) (d.others h e)
+        go (inr f) = ap (λ n. is_in w h n) (d.same j (eqb-false j i f))
+
+    -- what keeps a place of the group before the index, or past the next place
+    up-group : (k : ℕ) → (k ≤ i) ⊎ ((0 < next) × (next ≤ k)) → last_up (is_in w g) ys k ≡ last_up (is_in w g) xs k
+    up-group k (inl h) = up-alike (is_in w g) xs ys k (λ j a. alike g j (inr (omega arith)))
+    up-group k (inr h) =
+        let f = d.next_is.found h.0 in
+        up-alike-from (is_in w g) xs ys (next - 1) k (omega arith) f.2 (alike g (next - 1) (inr (omega (arith, f.0))) ∙ f.2) (λ j a b. alike g j (inr (omega (arith, f.0))))
+
+    -- a place that anything but the next place keeps
+    pub slot : (h k : ℕ) → (k ≡ length xs) ⊎ ((k < length xs) × (is_in w h (get_or xs k 0) ≡ true)) → (h ≢ g) ⊎ (k ≢ until (length xs) next) → last_up (is_in w h) ys k ≡ last_up (is_in w h) xs k
+    slot h k at (inl e) = up-alike (is_in w h) xs ys k (λ j a. alike h j (inl e))
+    slot h k at (inr e) = group (cases_Bool (eqb h g))
+      where
+        past : (next : ℕ) → k ≢ until (length xs) next → IsNext (is_in w g) xs i next → (k ≡ length xs) ⊎ ((k < length xs) × (is_in w g (get_or xs k 0) ≡ true)) → i < k → (0 < next) × (next ≤ k)
+        past zero n m (inl f) a = absurd (n f)
+        past zero n m (inr f) a = absurd (omega (arith, (m.least k a f.0 f.1).0))
+        past (suc b) n m (inl f) a = (omega arith, omega (arith, (m.found (omega arith)).1))
+        past (suc b) n m (inr f) a = (omega arith, omega (arith, (m.least k a f.0 f.1).1))
+
+        place : (k ≡ length xs) ⊎ ((k < length xs) × (is_in w g (get_or xs k 0) ≡ true)) → (k ≤ i) ⊎ (i < k) → last_up (is_in w g) ys k ≡ last_up (is_in w g) xs k
+        place f (inl a) = up-group k (inl a)
+        place f (inr a) = up-group k (inr (past next e d.next_is f a))
+
+        group : (eqb h g ≡ true) ⊎ (eqb h g ≡ false) → last_up (is_in w h) ys k ≡ last_up (is_in w h) xs k
+        group (inl f) =
+            let f2 : h ≡ g = eqb-true h g f in
+            let at2 : (k ≡ length xs) ⊎ ((k < length xs) × (is_in w g (get_or xs k 0) ≡ true)) = subst (λ (m : ℕ). (k ≡ length xs) ⊎ ((k < length xs) × (is_in w m (get_or xs k 0) ≡ true))) f2 at in
+            subst (λ (m : ℕ). last_up (is_in w m) ys k ≡ last_up (is_in w m) xs k) (sym f2) (place at2 (order (cases_lt i k)))
+          where
+            order : (i < k) ⊎ (k ≤ i) → (k ≤ i) ⊎ (i < k)
+            order (inl a) = inr a
+            order (inr a) = inl a
+        group (inr f) = up-alike (is_in w h) xs ys k (λ j a. alike h j (inl (eqb-false h g f)))
+
+    -- what the next place keeps
+    pub slot-next : last_up (is_in w g) ys (until (length xs) next) ≡ last_up (is_in w g) ys (suc i)
+    slot-next = go next d.next_is
+      where
+        go : (next : ℕ) → IsNext (is_in w g) xs i next → last_up (is_in w g) ys (until (length xs) next) ≡ last_up (is_in w g) ys (suc i)
+        go zero m = up-past (is_in w g) ys (suc i) (length xs) d.within (λ j a b. false_from_ne_true _ (λ e. absurd (omega (arith, (m.least j a b (sym (alike g j (inr (omega arith))) ∙ e)).0))))
+        go (suc n) m =
+            let f = m.found (omega arith) in
+            up-past (is_in w g) ys (suc i) n (omega (arith, f.0)) (λ j a b. false_from_ne_true _ (λ e. absurd (omega (arith, (m.least j a (omega (arith, f.1)) (sym (alike g j (inr (omega arith))) ∙ e)).1))))
+
+-- the table and the kept places of two such lists: what kept a place for the group keeps another one
+module _ (last new xs ys bs ds : List ℕ) (g i next v : ℕ) where
+  pub record Mended : Type 0 where
+    pub differ : Differ (length last) g i next xs ys
+    pub len : length new ≡ length last
+    pub table-other : (h : ℕ) → (h ≢ g) ⊎ (0 < next) → get_or new h 0 ≡ get_or last h 0
+    pub table-next : next ≡ 0 → get_or new g 0 ≡ v
+    pub before-other : (j : ℕ) → j ≢ i → suc j ≢ next → get_or ds j 0 ≡ get_or bs j 0
+    pub before-next : 0 < next → get_or ds (next - 1) 0 ≡ v
+    pub before-here : get_or ys i 0 ≢ none → get_or ds i 0 ≡ last_up (is_in (length last) (get_or ys i 0 % length last)) ys i
+    pub keeps : v ≡ last_up (is_in (length last) g) ys (suc i)
+
+  module _ (m : Mended) where
+    w : ℕ
+    w = length last
+
+    up-next : v ≡ last_up (is_in (length last) g) ys (until (length xs) next)
+    up-next = m.keeps ∙ sym (slot-next (length last) g i next xs ys m.differ)
+
+    says-group : Says last xs → g < length last → get_or new g 0 ≡ last_up (is_in (length last) g) ys (length xs)
+    says-group says h = go next refl
+      where
+        go : (n : ℕ) → next ≡ n → get_or new g 0 ≡ last_up (is_in (length last) g) ys (length xs)
+        go zero e = m.table-next e ∙ up-next ∙ ap (λ n. last_up (is_in (length last) g) ys (until (length xs) n)) e
+        go (suc n) e =
+            let some : 0 < next = omega arith in
+            let past : length xs ≢ until (length xs) next = until-other (length xs) next (length xs) (omega (arith, (m.differ.next_is.found some).1)) some in
+            m.table-other g (inr some) ∙ says g h ∙ sym (slot (length last) g i next xs ys m.differ g (length xs) (inl refl) (inr past))
+
+    says-in : Says last xs → (h : ℕ) → h < length last → get_or new h 0 ≡ last_up (is_in (length last) h) ys (length xs)
+    says-in says h a = go (cases_Bool (eqb h g))
+      where
+        go : (eqb h g ≡ true) ⊎ (eqb h g ≡ false) → get_or new h 0 ≡ last_up (is_in (length last) h) ys (length xs)
+        go (inl e) =
+            let same : h ≡ g = eqb-true h g e in
+            subst (λ (k : ℕ). get_or new k 0 ≡ last_up (is_in (length last) k) ys (length xs)) (sym same) (says-group says (subst (λ (k : ℕ). k < length last) same a))
+        go (inr e) =
+            let other : h ≢ g = eqb-false h g e in
+            m.table-other h (inl other) ∙ says h a ∙ sym (slot (length last) g i next xs ys m.differ h (length xs) (inl refl) (inl other))
+
+    pub mended-says : Says last xs → Says new ys
+    mended-says says h a =
+        says-in says h (omega (arith, m.len)) ∙ (λ t. last_up (is_in (sym m.len t) h) ys (sym m.differ.len t))
+
+    kept-at : Keep (length last) xs bs → (j : ℕ) → j < length xs → j ≢ i → get_or xs j 0 ≢ none → get_or ds j 0 ≡ last_up (is_in (length last) (get_or xs j 0 % length last)) ys j
+    kept-at keep j h other some = go (cases_Bool (eqb (suc j) next))
+      where
+        go : (eqb (suc j) next ≡ true) ⊎ (eqb (suc j) next ≡ false) → get_or ds j 0 ≡ last_up (is_in (length last) (get_or xs j 0 % length last)) ys j
+        go (inl e) =
+            let same : suc j ≡ next = eqb-true (suc j) next e in
+            let positive : 0 < next = omega arith in
+            let place : next - 1 ≡ j = omega arith in
+            let in_it : is_in (length last) g (get_or xs j 0) ≡ true = subst (λ (k : ℕ). is_in (length last) g (get_or xs k 0) ≡ true) place (m.differ.next_is.found positive).2 in
+            let group : get_or xs j 0 % length last ≡ g = (in-group (length last) g (get_or xs j 0) in_it).1 in
+            let at : until (length xs) next ≡ j = sym (ap (λ n. until (length xs) n) same) in
+            subst (λ (k : ℕ). get_or ds k 0 ≡ v) place (m.before-next positive) ∙ up-next ∙ (λ t. last_up (is_in (length last) (sym group t)) ys (at t))
+        go (inr e) =
+            let ne : suc j ≢ next = eqb-false (suc j) next e in
+            let at : j ≢ until (length xs) next = until-ne (length xs) next j h ne in
+            m.before-other j other ne ∙ keep j h some ∙ sym (slot (length last) g i next xs ys m.differ (get_or xs j 0 % length last) j (inr (h, group-in (length last) (get_or xs j 0 % length last) (get_or xs j 0) some refl)) (inr at))
+
+    pub mended-keep : Keep (length last) xs bs → Keep (length new) ys ds
+    mended-keep keep j h some = go (cases_Bool (eqb j i)) ∙ ap (λ n. last_up (is_in n (get_or ys j 0 % n)) ys j) (sym m.len)
+      where
+        go : (eqb j i ≡ true) ⊎ (eqb j i ≡ false) → get_or ds j 0 ≡ last_up (is_in (length last) (get_or ys j 0 % length last)) ys j
+        go (inl e) =
+            let same : j ≡ i = eqb-true j i e in
+            subst (λ (k : ℕ). get_or ys k 0 ≢ none → get_or ds k 0 ≡ last_up (is_in (length last) (get_or ys k 0 % length last)) ys k) (sym same) m.before-here some
+        go (inr e) =
+            let other : j ≢ i = eqb-false j i e in
+            let is : get_or ys j 0 ≡ get_or xs j 0 = m.differ.same j other in
+            kept-at keep j (omega (arith, m.differ.len)) other (λ n. some (is ∙ n)) ∙ ap (λ n. last_up (is_in (length last) (n % length last)) ys j) (sym is)
