@@ -1,2 +1,3 @@
 pub mod LastUp
 pub mod Relinked
+pub mod Edited

@@ -1,7 +1,7 @@
 -- A list of numbers that keeps where its groups stand, where one number changes.
-use Rattle.std.proofs.Common.{◌≡◌, ◌≢◌, ℕ, zero, suc, ◌-◌, ◌<◌, ◌≤◌, ◌%◌, eqb, Bool, true, false, cond, not, ◌&&◌, List, length, get_or, set, ◌⊎◌, inl, inr, refl, sym, ◌∙◌, ap, subst, arith}
+use Rattle.std.proofs.Common.{◌≡◌, ◌≢◌, ℕ, zero, suc, ◌+◌, ◌-◌, ◌<◌, ◌≤◌, ◌%◌, eqb, Bool, true, false, cond, not, ◌&&◌, List, length, get_or, set, ◌⊎◌, inl, inr, refl, sym, ◌∙◌, ap, subst, add-one, arith}
 use Rattle.std.proofs.lemmas.Bool.{cases_Bool, cases_lt, false≢true, eqb-true, eqb-false, eq-eqb, false_from_ne_true}
-use Rattle.std.proofs.lemmas.List.{get_or-set_same, get_or-set_other, length-map}
+use Rattle.std.proofs.lemmas.List.{get_or-set_same, get_or-set_other, length-map, length-set, map-set}
 use Rattle.std.proofs.Math.ListN.{get_or-map}
 use Rattle.hchain.specs.Chains.{none, last_up}
 use Rattle.hchain.specs.Linked.{number_of, before_of, numbers_of, befores_of, is_in, Keep, Says, IsChained}
@@ -251,3 +251,141 @@ module _ (last new xs ys bs ds : List ℕ) (g i next v : ℕ) where
             let other : j ≢ i = eqb-false j i e in
             let is : get_or ys j 0 ≡ get_or xs j 0 = m.differ.same j other in
             kept-at keep j (omega (arith, m.differ.len)) other (λ n. some (is ∙ n)) ∙ ap (λ n. last_up (is_in (length last) (n % length last)) ys j) (sym is)
+
+-- a next place, as clauses say it
+pub is-next : (s : ℕ → Bool) (xs : List ℕ) (i n len : ℕ) → len ≡ length xs → (0 < n → (i + 1 < n) × (n ≤ len) × (s (get_or xs (n - 1) 0) ≡ true)) → ((j : ℕ) → i < j → j < len → s (get_or xs j 0) ≡ true → (0 < n) × (n ≤ j + 1)) → IsNext s xs i n
+is-next s xs i n len e f l = record {
+  found = λ h. (omega (arith, (f h).0), omega (arith, (f h).1), (f h).2);
+  least = λ j a b t. (omega (arith, (l j a (omega arith) t).0), omega (arith, (l j a (omega arith) t).1));
+}
+
+pub next-found : (s : ℕ → Bool) (xs : List ℕ) (i n len : ℕ) → len ≡ length xs → IsNext s xs i n → 0 < n → (i + 1 < n) × (n ≤ len) × (s (get_or xs (n - 1) 0) ≡ true)
+next-found s xs i n len e m h = (omega (arith, (m.found h).0), omega (arith, (m.found h).1), (m.found h).2)
+
+pub next-least : (s : ℕ → Bool) (xs : List ℕ) (i n len : ℕ) → len ≡ length xs → IsNext s xs i n → (j : ℕ) → i < j → j < len → s (get_or xs j 0) ≡ true → (0 < n) × (n ≤ j + 1)
+next-least s xs i n len e m j a b t = (omega (arith, (m.least j a (omega arith) t).0), omega (arith, (m.least j a (omega arith) t).1))
+
+-- .. in a list that is the same past an index
+pub next-same : (s : ℕ → Bool) (xs ys : List ℕ) (i n : ℕ) → length ys ≡ length xs → ((j : ℕ) → i < j → get_or ys j 0 ≡ get_or xs j 0) → IsNext s xs i n → IsNext s ys i n
+next-same s xs ys i n len same m = record {
+  found = λ h. ((m.found h).0, omega (arith, (m.found h).1), ap s (same (n - 1) (omega (arith, (m.found h).0))) ∙ (m.found h).2);
+  least = λ j a b t. m.least j a (omega arith) (sym (ap s (same j a)) ∙ t);
+}
+
+-- a hint that a link bears out
+module _ (last : List ℕ) (links : List Link) (chained : IsChained last links) (i n : ℕ) (some : 0 < n) (within : n ≤ length links) (number : (get_or links (n - 1) (record { number = 0; before = 0; hint = 0 })).number ≢ none) (before : (get_or links (n - 1) (record { number = 0; before = 0; hint = 0 })).before ≡ i + 1) where
+  hint-number : get_or (numbers_of links) (n - 1) 0 ≢ none
+  hint-number e = number (sym (number-at links (n - 1)) ∙ e)
+
+  hint-up : last_up (is_in (length last) (get_or (numbers_of links) (n - 1) 0 % length last)) (numbers_of links) (n - 1) ≡ suc i
+  hint-up = sym (chained.kept (n - 1) (omega (arith, length-numbers links)) hint-number) ∙ before-at links (n - 1) ∙ before ∙ add-one i
+
+  hint-group : get_or (numbers_of links) i 0 % length last ≡ get_or (numbers_of links) (n - 1) 0 % length last
+  hint-group =
+      let h : ℕ = get_or (numbers_of links) (n - 1) 0 % length last in
+      let found : is_in (length last) h (get_or (numbers_of links) (last_up (is_in (length last) h) (numbers_of links) (n - 1) - 1) 0) ≡ true = up-found (is_in (length last) h) (numbers_of links) (n - 1) (omega (arith, hint-up)) in
+      let place : last_up (is_in (length last) h) (numbers_of links) (n - 1) - 1 ≡ i = omega (arith, hint-up) in
+      (in-group (length last) h (get_or (numbers_of links) i 0) (subst (λ (m : ℕ). is_in (length last) h (get_or (numbers_of links) m 0) ≡ true) place found)).1
+
+  hint-least : (j : ℕ) → i < j → is_in (length last) (get_or (numbers_of links) (n - 1) 0 % length last) (get_or (numbers_of links) j 0) ≡ true → n ≤ suc j
+  hint-least j a t = elim (cases_lt j (n - 1)) as (λ _. n ≤ suc j) [ inl less ↦ absurd (omega (arith, hint-up, up-least (is_in (length last) (get_or (numbers_of links) (n - 1) 0 % length last)) (numbers_of links) (n - 1) j less t)) | inr more ↦ omega arith ]
+
+  pub hint-next : IsNext (is_in (length last) (get_or (numbers_of links) i 0 % length last)) (numbers_of links) i n
+  hint-next =
+      let h : ℕ = get_or (numbers_of links) (n - 1) 0 % length last in
+      let it : IsNext (is_in (length last) h) (numbers_of links) i n = record {
+        found = λ _. (omega (arith, hint-up, up-within (is_in (length last) h) (numbers_of links) (n - 1)), omega (arith, length-numbers links), group-in (length last) h (get_or (numbers_of links) (n - 1) 0) hint-number refl);
+        least = λ j a b t. (some, hint-least j a t);
+      } in
+      subst (λ (g : ℕ). IsNext (is_in (length last) g) (numbers_of links) i n) (sym hint-group) it
+
+-- a list where one number is another one
+pub not-in : (w g h n : ℕ) → h ≢ g → n % w ≡ g → is_in w h n ≡ false
+not-in w g h n ne is = false_from_ne_true (is_in w h n) (λ e. ne (sym (in-group w h n e).1 ∙ is))
+
+pub differ-set : (w g i next : ℕ) (xs : List ℕ) (n : ℕ) → i < length xs → ((h : ℕ) → h ≢ g → is_in w h n ≡ is_in w h (get_or xs i 0)) → IsNext (is_in w g) xs i next → Differ w g i next xs (set xs i n)
+differ-set w g i next xs n within others next_is = record {
+  len = length-set xs i n;
+  within = within;
+  same = λ j e. get_or-set_other xs i j n 0 e;
+  others = λ h e. ap (λ m. is_in w h m) (get_or-set_same xs i n 0 within) ∙ others h e;
+  next_is = next_is;
+}
+
+-- a link is written, and what kept a place of its group
+module _ (last : List ℕ) (links : List Link) (x : Link) (g i next v : ℕ) (last2 : List ℕ) (links2 links3 : List Link) where
+  pub record Rewritten : Type 0 where
+    pub differ : Differ (length last) g i next (numbers_of links) (set (numbers_of links) i x.number)
+    pub group : g < length last
+    pub numbers2 : numbers_of links2 ≡ numbers_of (set links i x)
+    pub table2 : last2 ≡ cond (eqb next 0) (set last g v) last
+    pub befores2 : (j : ℕ) → get_or (befores_of links2) j 0 ≡ cond (eqb (j + 1) next) v (get_or (befores_of (set links i x)) j 0)
+    pub numbers3 : numbers_of links3 ≡ numbers_of links2
+    pub befores3 : befores_of links3 ≡ befores_of links2
+    pub here : x.number ≢ none → x.before ≡ last_up (is_in (length last) (x.number % length last)) (set (numbers_of links) i x.number) i
+    pub keeps : v ≡ last_up (is_in (length last) g) (set (numbers_of links) i x.number) (suc i)
+
+  module _ (r : Rewritten) where
+    pub rewritten-numbers : numbers_of links3 ≡ set (numbers_of links) i x.number
+    rewritten-numbers = r.numbers3 ∙ r.numbers2 ∙ map-set number_of links i x
+
+    befores-at : (j : ℕ) → get_or (befores_of links3) j 0 ≡ cond (eqb (suc j) next) v (get_or (set (befores_of links) i x.before) j 0)
+    befores-at j =
+        ap (λ ds. get_or ds j 0) r.befores3 ∙ r.befores2 j ∙ (λ t. cond (eqb (add-one j t) next) v (get_or (map-set before_of links i x t) j 0))
+
+    no-next : 0 < next → eqb next 0 ≡ false
+    no-next h = go (eqb next 0) refl
+      where
+        go : (b : Bool) → eqb next 0 ≡ b → b ≡ false
+        go true e = absurd (omega (arith, eqb-true next 0 e))
+        go false e = refl
+
+    eqb-no : (a b : ℕ) → a ≢ b → eqb a b ≡ false
+    eqb-no a b ne = false_from_ne_true (eqb a b) (λ e. ne (eqb-true a b e))
+
+    table-at : (h : ℕ) → h ≢ g → get_or last2 h 0 ≡ get_or last h 0
+    table-at h ne = ap (λ t. get_or t h 0) r.table2 ∙ go (eqb next 0)
+      where
+        go : (b : Bool) → get_or (cond b (set last g v) last) h 0 ≡ get_or last h 0
+        go true = get_or-set_other last g h v 0 ne
+        go false = refl
+
+    mended : Mended last last2 (numbers_of links) (set (numbers_of links) i x.number) (befores_of links) (befores_of links3) g i next v
+    mended = record {
+      differ = r.differ;
+      len = ap length r.table2 ∙ same_len (eqb next 0);
+      table-other = other;
+      table-next = λ e. ap (λ t. get_or t g 0) (r.table2 ∙ ap (λ b. cond b (set last g v) last) (eq-eqb next 0 e)) ∙ get_or-set_same last g v 0 r.group;
+      before-other = λ j ne nn. befores-at j ∙ ap (λ b. cond b v (get_or (set (befores_of links) i x.before) j 0)) (eqb-no (suc j) next nn) ∙ get_or-set_other (befores_of links) i j x.before 0 ne;
+      before-next = λ h. let e : suc (next - 1) ≡ next = omega arith in befores-at (next - 1) ∙ ap (λ b. cond b v (get_or (set (befores_of links) i x.before) (next - 1) 0)) (eq-eqb (suc (next - 1)) next e);
+      before-here = λ some. here-at some;
+      keeps = r.keeps;
+    }
+      where
+        same_len : (b : Bool) → length (cond b (set last g v) last) ≡ length last
+        same_len true = length-set last g v
+        same_len false = refl
+
+        other : (h : ℕ) → (h ≢ g) ⊎ (0 < next) → get_or last2 h 0 ≡ get_or last h 0
+        other h (inl ne) = table-at h ne
+        other h (inr some) = ap (λ t. get_or t h 0) (r.table2 ∙ ap (λ b. cond b (set last g v) last) (no-next some))
+
+        not-next : suc i ≢ next
+        not-next e = let some : 0 < next = omega arith in omega (arith, (r.differ.next_is.found some).0)
+
+        number_is : get_or (set (numbers_of links) i x.number) i 0 ≡ x.number
+        number_is = get_or-set_same (numbers_of links) i x.number 0 r.differ.within
+
+        here-at : get_or (set (numbers_of links) i x.number) i 0 ≢ none → get_or (befores_of links3) i 0 ≡ last_up (is_in (length last) (get_or (set (numbers_of links) i x.number) i 0 % length last)) (set (numbers_of links) i x.number) i
+        here-at some =
+            befores-at i ∙ ap (λ b. cond b v (get_or (set (befores_of links) i x.before) i 0)) (eqb-no (suc i) next not-next)
+            ∙ get_or-set_same (befores_of links) i x.before 0 (omega (arith, r.differ.within, length-map links number_of, length-map links before_of))
+            ∙ r.here (λ e. some (number_is ∙ e))
+            ∙ ap (λ n. last_up (is_in (length last) (n % length last)) (set (numbers_of links) i x.number) i) (sym number_is)
+
+    pub rewritten : IsChained last links → IsChained last2 links3
+    rewritten c = record {
+      wide = λ _. omega (arith, r.group, ap length r.table2, mended.len);
+      says = subst (λ (ys : List ℕ). Says last2 ys) (sym rewritten-numbers) (mended-says last last2 (numbers_of links) (set (numbers_of links) i x.number) (befores_of links) (befores_of links3) g i next v mended c.says);
+      kept = subst (λ (ys : List ℕ). Keep (length last2) ys (befores_of links3)) (sym rewritten-numbers) (mended-keep last last2 (numbers_of links) (set (numbers_of links) i x.number) (befores_of links) (befores_of links3) g i next v mended c.kept);
+    }

@@ -31,13 +31,89 @@ fn link_at(last: &[u32], links: &[Link], index: usize, number: u64) -> Link
     }
 }
 
+/// The next place of the group of a number after its index; 0 is none. It takes constant time where the hint is right.
+fn above(last: &[u32], links: &[Link], index: usize) -> u32
+    requires chained { IsChained last.now links.now }
+    requires fits { length links.now < 2 ^ 32 }
+    requires within { index < length links.now }
+    requires number { slice_index (numbers_of links.now) index ≢ none }
+    ensures next { 0 < result → (index + 1 < result) × (result ≤ length links.now) × IsTrue (is_in (length last.now) (slice_index (numbers_of links.now) index % length last.now) (slice_index (numbers_of links.now) (result - 1))) }
+    ensures least { (j : ℕ) → index < j → j < length links.now → IsTrue (is_in (length last.now) (slice_index (numbers_of links.now) index % length last.now) (slice_index (numbers_of links.now) j)) → (0 < result) × (result ≤ j + 1) }
+{
+    let Link { number, hint, .. } = links[index];
+    if hint > 0 && hint as usize <= links.len() {
+        let next = links[hint as usize - 1];
+        if next.number != NONE as u64 && next.before as usize == index + 1 {
+            return hint;
+        }
+    }
+    link_at(last, links, index, number).hint
+}
+
+/// Changes the place that the next place of a group keeps, or the table where there is no next place.
+fn keep(last: &mut [u32], links: &mut [Link], group: usize, next: u32, place: u32)
+    requires group { group < length last.old }
+    requires next { next ≤ length links.old }
+    ensures numbers { numbers_of links.new ≡ numbers_of links.old }
+    ensures table { last.new ≡ (if next == 0 then slice_set last.old group place else last.old) }
+    ensures befores { (j : ℕ) → slice_index (befores_of links.new) j ≡ (if j + 1 == next then place else slice_index (befores_of links.old) j) }
+{
+    if next > 0 {
+        links[next as usize - 1].before = place;
+    } else {
+        last[group] = place;
+    }
+}
+
+/// Changes the hint at a place, if there is one.
+fn give_hint(links: &mut [Link], place: u32, next: u32)
+    requires { place ≤ length links.old }
+    ensures numbers { numbers_of links.new ≡ numbers_of links.old }
+    ensures befores { befores_of links.new ≡ befores_of links.old }
+{
+    if place > 0 {
+        links[place as usize - 1].hint = next;
+    }
+}
+
+/// Takes out the number at an index. The hint of the link that it gives is right.
+fn take_out(last: &mut [u32], links: &mut [Link], index: usize) -> Link
+    requires chained { IsChained last.old links.old }
+    requires fits { length links.old < 2 ^ 32 }
+    requires within { index < length links.old }
+    requires number { slice_index (numbers_of links.old) index ≢ none }
+    ensures chained { IsChained last.new links.new }
+    ensures numbers { numbers_of links.new ≡ slice_set (numbers_of links.old) index none }
+    ensures number { result.number ≡ slice_index (numbers_of links.old) index }
+    ensures before { result.before ≡ last_up (is_in (length last.old) (result.number % length last.old)) (numbers_of links.new) (index + 1) }
+    ensures next { 0 < result.hint → (index + 1 < result.hint) × (result.hint ≤ length links.old) × IsTrue (is_in (length last.old) (result.number % length last.old) (slice_index (numbers_of links.new) (result.hint - 1))) }
+    ensures least { (j : ℕ) → index < j → j < length links.old → IsTrue (is_in (length last.old) (result.number % length last.old) (slice_index (numbers_of links.new) j)) → (0 < result.hint) × (result.hint ≤ j + 1) }
+{
+    let hint = above(last, links, index);
+    let Link { number, before, .. } = links[index];
+    links[index] = Link {
+        number: NONE as u64,
+        before: 0,
+        hint: 0,
+    };
+    keep(last, links, number as usize % last.len(), hint, before);
+    give_hint(links, before, hint);
+    Link {
+        number,
+        before,
+        hint,
+    }
+}
+
 impl Chains {
     /// Puts `NONE` at an index.
     pub fn clear(&mut self, index: usize)
         requires { index < length self.old }
         ensures { self.new ≡ slice_set self.old index none }
     {
-        let _ = index;
+        if self.links[index].number != NONE as u64 {
+            take_out(&mut self.last, &mut self.links, index);
+        }
     }
 
     /// Puts a number at an index where nothing is. Allocates nothing.

@@ -1,0 +1,30 @@
+use Rattle.std.proofs.Common.{◌≡◌, ℕ, suc, ◌+◌, ◌-◌, ◌%◌, List, Bool, length, get_or, set, refl, sym, ◌∙◌, ap, subst, add-one, arith}
+use Rattle.std.proofs.lemmas.List.{length-set}
+use Rattle.hchain.specs.Chains.{none, last_up}
+use Rattle.hchain.specs.Linked.{is_in, numbers_of}
+use Rattle.hchain.specs.declared.chains.Link.{Link}
+use Rattle.hchain.proofs.Relinked.{IsNext, Rewritten, rewritten, rewritten-numbers, next-found, next-least, length-numbers}
+use Rattle.hchain.proofs.Edited.{out-differ, out-group, out-before, out-within, out-next}
+use Rattle.hchain.proofs.relink.take_out.Goals as goal
+
+pub give_hint-requires : goal.give_hint-requires
+give_hint-requires c =
+    omega (arith, c.keep.auto.links, length-set c.args.links.now c.args.index (record { number = 1; before = 0; hint = 0 }), out-within c.args.last.now c.args.links.now c.requires.chained c.args.index c.above-hint.result c.requires.within c.requires.number c.above-hint.ensures.next c.above-hint.ensures.least)
+
+pub returns-clause-chained : goal.returns-clause-chained
+returns-clause-chained c =
+    let old : Link = get_or c.args.links.now c.args.index (record { number = 0; before = 0; hint = 0 }) in
+    let x : Link = record { number = 1; before = 0; hint = 0 } in
+    let g : ℕ = old.number % length c.args.last.now in
+    let r : Rewritten c.args.last.now c.args.links.now x g c.args.index c.above-hint.result old.before c.keep.new.last c.keep.new.links c.give_hint.new.links = record {
+      differ = out-differ c.args.last.now c.args.links.now c.requires.chained c.args.index c.above-hint.result c.requires.within c.requires.number c.above-hint.ensures.next c.above-hint.ensures.least;
+      group = out-group c.args.last.now c.args.links.now c.requires.chained c.args.index c.above-hint.result c.requires.within c.requires.number c.above-hint.ensures.next c.above-hint.ensures.least;
+      numbers2 = c.keep.ensures.numbers;
+      table2 = c.keep.ensures.table;
+      befores2 = c.keep.ensures.befores;
+      numbers3 = c.give_hint.ensures.numbers;
+      befores3 = c.give_hint.ensures.befores;
+      here = λ ne. absurd (ne refl);
+      keeps = out-before c.args.last.now c.args.links.now c.requires.chained c.args.index c.above-hint.result c.requires.within c.requires.number c.above-hint.ensures.next c.above-hint.ensures.least;
+    } in
+    rewritten c.args.last.now c.args.links.now x g c.args.index c.above-hint.result old.before c.keep.new.last c.keep.new.links c.give_hint.new.links r c.requires.chained
