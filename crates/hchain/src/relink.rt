@@ -105,15 +105,59 @@ fn take_out(last: &mut [u32], links: &mut [Link], index: usize) -> Link
     }
 }
 
+/// Puts a link at an index where nothing is, where it keeps the place before it, and its hint is right.
+fn put_in(last: &mut [u32], links: &mut [Link], index: usize, link: Link)
+    requires chained { IsChained last.old links.old }
+    requires fits { length links.old < 2 ^ 32 }
+    requires within { index < length links.old }
+    requires free { slice_index (numbers_of links.old) index ≡ none }
+    requires number { link.number ≢ none }
+    requires before { link.before ≡ last_up (is_in (length last.old) (link.number % length last.old)) (numbers_of links.old) (index + 1) }
+    requires next { 0 < link.hint → (index + 1 < link.hint) × (link.hint ≤ length links.old) × IsTrue (is_in (length last.old) (link.number % length last.old) (slice_index (numbers_of links.old) (link.hint - 1))) }
+    requires least { (j : ℕ) → index < j → j < length links.old → IsTrue (is_in (length last.old) (link.number % length last.old) (slice_index (numbers_of links.old) j)) → (0 < link.hint) × (link.hint ≤ j + 1) }
+    ensures chained { IsChained last.new links.new }
+    ensures numbers { numbers_of links.new ≡ slice_set (numbers_of links.old) index link.number }
+{
+    let place = index as u32 + 1;
+    links[index] = link;
+    keep(last, links, link.number as usize % last.len(), link.hint, place);
+    give_hint(links, link.before, place);
+}
+
+/// Takes out what stands at an index.
+fn clear_at(last: &mut [u32], links: &mut [Link], index: usize)
+    requires chained { IsChained last.old links.old }
+    requires fits { length links.old < 2 ^ 32 }
+    requires within { index < length links.old }
+    ensures chained { IsChained last.new links.new }
+    ensures numbers { numbers_of links.new ≡ slice_set (numbers_of links.old) index none }
+{
+    if links[index].number != NONE as u64 {
+        take_out(last, links, index);
+    }
+}
+
+/// Puts a number at an index where nothing is.
+fn set_at(last: &mut [u32], links: &mut [Link], index: usize, number: usize)
+    requires chained { IsChained last.old links.old }
+    requires fits { length links.old < 2 ^ 32 }
+    requires within { index < length links.old }
+    requires free { slice_index (numbers_of links.old) index ≡ none }
+    requires number { number ≢ none }
+    ensures chained { IsChained last.new links.new }
+    ensures numbers { numbers_of links.new ≡ slice_set (numbers_of links.old) index number }
+{
+    let link = link_at(last, links, index, number as u64);
+    put_in(last, links, index, link);
+}
+
 impl Chains {
     /// Puts `NONE` at an index.
     pub fn clear(&mut self, index: usize)
         requires { index < length self.old }
         ensures { self.new ≡ slice_set self.old index none }
     {
-        if self.links[index].number != NONE as u64 {
-            take_out(&mut self.last, &mut self.links, index);
-        }
+        clear_at(&mut self.last, &mut self.links, index);
     }
 
     /// Puts a number at an index where nothing is. Allocates nothing.
@@ -123,7 +167,7 @@ impl Chains {
         requires number { number ≢ none }
         ensures { self.new ≡ slice_set self.old index number }
     {
-        let _ = (index, number);
+        set_at(&mut self.last, &mut self.links, index, number);
     }
 
     /// Exchanges the numbers at an index and at the next one.

@@ -1,7 +1,7 @@
 use Rattle.std.proofs.Common.{◌≡◌, ℕ, suc, ◌+◌, ◌-◌, ◌%◌, List, Bool, length, get_or, set, refl, sym, ◌∙◌, ap, subst, add-one, arith}
-use Rattle.std.proofs.lemmas.List.{length-set}
+use Rattle.std.proofs.lemmas.List.{length-set, map-set}
 use Rattle.hchain.specs.Chains.{none, last_up}
-use Rattle.hchain.specs.Linked.{is_in, numbers_of}
+use Rattle.hchain.specs.Linked.{is_in, number_of, numbers_of}
 use Rattle.hchain.specs.declared.chains.Link.{Link}
 use Rattle.hchain.proofs.Relinked.{IsNext, Rewritten, rewritten, rewritten-numbers, next-found, next-least, length-numbers}
 use Rattle.hchain.proofs.Edited.{out-differ, out-group, out-before, out-within, out-next}
@@ -28,3 +28,36 @@ returns-clause-chained c =
       keeps = out-before c.args.last.now c.args.links.now c.requires.chained c.args.index c.above-hint.result c.requires.within c.requires.number c.above-hint.ensures.next c.above-hint.ensures.least;
     } in
     rewritten c.args.last.now c.args.links.now x g c.args.index c.above-hint.result old.before c.keep.new.last c.keep.new.links c.give_hint.new.links r c.requires.chained
+
+pub returns-clause-numbers : goal.returns-clause-numbers
+returns-clause-numbers c =
+    let x : Link = record { number = 1; before = 0; hint = 0 } in
+    c.give_hint.ensures.numbers ∙ c.keep.ensures.numbers ∙ map-set number_of c.args.links.now c.args.index x
+
+pub returns-clause-before : goal.returns-clause-before
+returns-clause-before c =
+    let old : Link = get_or c.args.links.now c.args.index (record { number = 0; before = 0; hint = 0 }) in
+    let x : Link = record { number = 1; before = 0; hint = 0 } in
+    let ys : numbers_of c.give_hint.new.links ≡ set (numbers_of c.args.links.now) c.args.index none = c.give_hint.ensures.numbers ∙ c.keep.ensures.numbers ∙ map-set number_of c.args.links.now c.args.index x in
+    out-before c.args.last.now c.args.links.now c.requires.chained c.args.index c.above-hint.result c.requires.within c.requires.number c.above-hint.ensures.next c.above-hint.ensures.least
+    ∙ (λ t. last_up (is_in (length c.args.last.now) (old.number % length c.args.last.now)) (sym ys t) (sym (add-one c.args.index) t))
+
+pub returns-clause-next : goal.returns-clause-next
+returns-clause-next c =
+    let old : Link = get_or c.args.links.now c.args.index (record { number = 0; before = 0; hint = 0 }) in
+    let x : Link = record { number = 1; before = 0; hint = 0 } in
+    let s = is_in (length c.args.last.now) (old.number % length c.args.last.now) in
+    let ys : numbers_of c.give_hint.new.links ≡ set (numbers_of c.args.links.now) c.args.index none = c.give_hint.ensures.numbers ∙ c.keep.ensures.numbers ∙ map-set number_of c.args.links.now c.args.index x in
+    let len : length c.args.links.now ≡ length (numbers_of c.give_hint.new.links) = sym (ap length ys ∙ length-set (numbers_of c.args.links.now) c.args.index none ∙ length-numbers c.args.links.now) in
+    let m : IsNext s (set (numbers_of c.args.links.now) c.args.index none) c.args.index c.above-hint.result = out-next c.args.last.now c.args.links.now c.requires.chained c.args.index c.above-hint.result c.requires.within c.requires.number c.above-hint.ensures.next c.above-hint.ensures.least in
+    next-found s (numbers_of c.give_hint.new.links) c.args.index c.above-hint.result (length c.args.links.now) len (subst (λ (zs : List ℕ). IsNext s zs c.args.index c.above-hint.result) (sym ys) m)
+
+pub returns-clause-least : goal.returns-clause-least
+returns-clause-least c =
+    let old : Link = get_or c.args.links.now c.args.index (record { number = 0; before = 0; hint = 0 }) in
+    let x : Link = record { number = 1; before = 0; hint = 0 } in
+    let s = is_in (length c.args.last.now) (old.number % length c.args.last.now) in
+    let ys : numbers_of c.give_hint.new.links ≡ set (numbers_of c.args.links.now) c.args.index none = c.give_hint.ensures.numbers ∙ c.keep.ensures.numbers ∙ map-set number_of c.args.links.now c.args.index x in
+    let len : length c.args.links.now ≡ length (numbers_of c.give_hint.new.links) = sym (ap length ys ∙ length-set (numbers_of c.args.links.now) c.args.index none ∙ length-numbers c.args.links.now) in
+    let m : IsNext s (set (numbers_of c.args.links.now) c.args.index none) c.args.index c.above-hint.result = out-next c.args.last.now c.args.links.now c.requires.chained c.args.index c.above-hint.result c.requires.within c.requires.number c.above-hint.ensures.next c.above-hint.ensures.least in
+    next-least s (numbers_of c.give_hint.new.links) c.args.index c.above-hint.result (length c.args.links.now) len (subst (λ (zs : List ℕ). IsNext s zs c.args.index c.above-hint.result) (sym ys) m)
