@@ -7,5 +7,27 @@ use Rattle.hchain.proofs.Relinked.{Rewritten, rewritten, rewritten-numbers, leng
 use Rattle.hchain.proofs.Edited.{in-differ, in-group-less, in-here, in-within, in-hint, in-keeps}
 use Rattle.hchain.proofs.relink.put_in.Goals as goal
 
+pub give_hint-requires : goal.give_hint-requires
+give_hint-requires c =
+    omega (arith, c.keep.auto.links, length-set c.args.links.now c.args.index c.args.link, in-within c.args.last.now c.args.links.now c.requires.chained c.args.index c.args.link c.requires.within c.requires.free c.requires.number c.requires.before c.requires.next c.requires.least)
+
 pub returns-clause-chained : goal.returns-clause-chained
-returns-clause-chained c = ?
+returns-clause-chained c =
+    let x : Link = c.args.link in
+    let g : ℕ = x.number % length c.args.last.now in
+    let v : ℕ = c.args.index + 1 in
+    let r : Rewritten c.args.last.now c.args.links.now x g c.args.index x.hint v c.keep.new.last c.keep.new.links c.give_hint.new.links = record {
+      differ = in-differ c.args.last.now c.args.links.now c.requires.chained c.args.index c.args.link c.requires.within c.requires.free c.requires.number c.requires.before c.requires.next c.requires.least;
+      group = in-group-less c.args.last.now c.args.links.now c.requires.chained c.args.index c.args.link c.requires.within c.requires.free c.requires.number c.requires.before c.requires.next c.requires.least;
+      numbers2 = c.keep.ensures.numbers;
+      table2 = c.keep.ensures.table;
+      befores2 = c.keep.ensures.befores;
+      numbers3 = c.give_hint.ensures.numbers;
+      befores3 = c.give_hint.ensures.befores;
+      here = λ ne. in-here c.args.last.now c.args.links.now c.requires.chained c.args.index c.args.link c.requires.within c.requires.free c.requires.number c.requires.before c.requires.next c.requires.least;
+      keeps = add-one c.args.index ∙ in-keeps c.args.last.now c.args.links.now c.requires.chained c.args.index c.args.link c.requires.within c.requires.free c.requires.number c.requires.before c.requires.next c.requires.least;
+    } in
+    rewritten c.args.last.now c.args.links.now x g c.args.index x.hint v c.keep.new.last c.keep.new.links c.give_hint.new.links r c.requires.chained
+
+pub returns-clause-numbers : goal.returns-clause-numbers
+returns-clause-numbers c = c.give_hint.ensures.numbers ∙ c.keep.ensures.numbers ∙ map-set number_of c.args.links.now c.args.index c.args.link
