@@ -1,3 +1,4 @@
 pub mod LastUp
 pub mod Relinked
 pub mod Edited
+pub mod Swapped

@@ -151,6 +151,81 @@ fn set_at(last: &mut [u32], links: &mut [Link], index: usize, number: usize)
     put_in(last, links, index, link);
 }
 
+/// Moves the number at the next index to an index where nothing is.
+fn move_down(last: &mut [u32], links: &mut [Link], index: usize)
+    requires chained { IsChained last.old links.old }
+    requires fits { length links.old < 2 ^ 32 }
+    requires within { index + 1 < length links.old }
+    requires free { slice_index (numbers_of links.old) index ≡ none }
+    requires number { slice_index (numbers_of links.old) (index + 1) ≢ none }
+    ensures chained { IsChained last.new links.new }
+    ensures numbers { numbers_of links.new ≡ slice_set (slice_set (numbers_of links.old) index (slice_index (numbers_of links.old) (index + 1))) (index + 1) none }
+{
+    let link = take_out(last, links, index + 1);
+    put_in(last, links, index, link);
+}
+
+/// Moves the number at an index to the next one, where nothing is.
+fn move_up(last: &mut [u32], links: &mut [Link], index: usize)
+    requires chained { IsChained last.old links.old }
+    requires fits { length links.old < 2 ^ 32 }
+    requires within { index + 1 < length links.old }
+    requires free { slice_index (numbers_of links.old) (index + 1) ≡ none }
+    requires number { slice_index (numbers_of links.old) index ≢ none }
+    ensures chained { IsChained last.new links.new }
+    ensures numbers { numbers_of links.new ≡ slice_set (slice_set (numbers_of links.old) index none) (index + 1) (slice_index (numbers_of links.old) index) }
+{
+    let link = take_out(last, links, index);
+    put_in(last, links, index + 1, link);
+}
+
+/// Exchanges two numbers. If they are of one group, the one that moves up keeps the place of the other one.
+fn exchange(last: &mut [u32], links: &mut [Link], index: usize)
+    requires chained { IsChained last.old links.old }
+    requires fits { length links.old < 2 ^ 32 }
+    requires within { index + 1 < length links.old }
+    requires first { slice_index (numbers_of links.old) index ≢ none }
+    requires second { slice_index (numbers_of links.old) (index + 1) ≢ none }
+    ensures chained { IsChained last.new links.new }
+    ensures numbers { numbers_of links.new ≡ slice_set (slice_set (numbers_of links.old) index (slice_index (numbers_of links.old) (index + 1))) (index + 1) (slice_index (numbers_of links.old) index) }
+{
+    let first = take_out(last, links, index);
+    let second = take_out(last, links, index + 1);
+    put_in(last, links, index, second);
+    if first.number as usize % last.len() == second.number as usize % last.len() {
+        let link = Link {
+            number: first.number,
+            before: index as u32 + 1,
+            hint: second.hint,
+        };
+        put_in(last, links, index + 1, link);
+    } else {
+        put_in(last, links, index + 1, first);
+    }
+}
+
+/// Exchanges what stands at an index and at the next one.
+fn swap_at(last: &mut [u32], links: &mut [Link], index: usize)
+    requires chained { IsChained last.old links.old }
+    requires fits { length links.old < 2 ^ 32 }
+    requires within { index + 1 < length links.old }
+    ensures chained { IsChained last.new links.new }
+    ensures numbers { numbers_of links.new ≡ slice_set (slice_set (numbers_of links.old) index (slice_index (numbers_of links.old) (index + 1))) (index + 1) (slice_index (numbers_of links.old) index) }
+{
+    let first = links[index].number;
+    let second = links[index + 1].number;
+    if first == second {
+        return;
+    }
+    if first == NONE as u64 {
+        move_down(last, links, index);
+    } else if second == NONE as u64 {
+        move_up(last, links, index);
+    } else {
+        exchange(last, links, index);
+    }
+}
+
 impl Chains {
     /// Puts `NONE` at an index.
     pub fn clear(&mut self, index: usize)
@@ -175,6 +250,6 @@ impl Chains {
         requires { index + 1 < length self.old }
         ensures { self.new ≡ slice_set (slice_set self.old index (slice_index self.old (index + 1))) (index + 1) (slice_index self.old index) }
     {
-        let _ = index;
+        swap_at(&mut self.last, &mut self.links, index);
     }
 }
