@@ -139,3 +139,40 @@ module _ (w i : ℕ) (xs ys1 ys2 ys3 : List ℕ) (first second : Link) (e1 : ys1
       let second_is : second.number ≡ get_or xs (i + 1) 0 = n2 ∙ ap (λ ys. get_or ys (i + 1) 0) e1 ∙ get_or-set_other xs i (i + 1) none 0 ne in
       let three : ys3 ≡ set (set xs i second.number) (i + 1) none = e3 ∙ ap (λ ys. set ys i second.number) e2 ∙ set_comm ys1 (i + 1) i none second.number ne ∙ ap (λ ys. set ys (i + 1) none) (ap (λ ys. set ys i second.number) e1 ∙ set-set xs i none second.number) in
       ap (λ ys. set ys (i + 1) first.number) three ∙ set-set (set xs i second.number) (i + 1) none first.number ∙ (λ t. set (set xs i (second_is t)) (i + 1) (n1 t))
+
+pub fit-width : (w v : ℕ) (ys : List ℕ) (i : ℕ) (x : Link) → v ≡ w → Fit w ys i x → Fit v ys i x
+fit-width w v ys i x e f = subst (λ (n : ℕ). Fit n ys i x) (sym e) f
+
+-- two neighbours that were taken out
+pub record Pair (w i : ℕ) (xs ys1 ys2 : List ℕ) (first second : Link) : Type 0 where
+  pub e1 : ys1 ≡ set xs i none
+  pub e2 : ys2 ≡ set ys1 (i + 1) none
+  pub within : i + 1 < length xs
+  pub n1 : first.number ≡ get_or xs i 0
+  pub n2 : second.number ≡ get_or ys1 (i + 1) 0
+  pub some : second.number ≢ none
+  pub f1 : Fit w ys1 i first
+  pub f2 : Fit w ys2 (i + 1) second
+
+module _ (w i : ℕ) (xs ys1 ys2 : List ℕ) (first second : Link) (p : Pair w i xs ys1 ys2 first second) (v : ℕ) (width : v ≡ w) where
+  pub pair-free-lower : get_or ys2 i 0 ≡ none
+  pair-free-lower = free-lower w i xs ys1 ys2 (set ys2 i second.number) first second p.e1 p.e2 refl p.within p.n1 p.n2 p.some p.f1 p.f2
+
+  pub pair-lower : Fit v ys2 i second
+  pair-lower = fit-width w v ys2 i second width (fit-lower w i xs ys1 ys2 (set ys2 i second.number) first second p.e1 p.e2 refl p.within p.n1 p.n2 p.some p.f1 p.f2)
+
+  module _ (ys3 : List ℕ) (e3 : ys3 ≡ set ys2 i second.number) where
+    pub pair-free-upper : get_or ys3 (i + 1) 0 ≡ none
+    pair-free-upper = free-upper w i xs ys1 ys2 ys3 first second p.e1 p.e2 e3 p.within p.n1 p.n2 p.some p.f1 p.f2
+
+    pub pair-same : first.number % v ≡ second.number % v → Fit v ys3 (i + 1) (record { number = first.number; before = i + 1; hint = second.hint })
+    pair-same group =
+        fit-width w v ys3 (i + 1) (record { number = first.number; before = i + 1; hint = second.hint }) width
+        (fit-same w i xs ys1 ys2 ys3 first second p.e1 p.e2 e3 p.within p.n1 p.n2 p.some p.f1 p.f2 (subst (λ (n : ℕ). first.number % n ≡ second.number % n) width group) (record { number = first.number; before = i + 1; hint = second.hint }) refl refl refl)
+
+    pub pair-other : first.number % v ≢ second.number % v → Fit v ys3 (i + 1) first
+    pair-other group =
+        fit-width w v ys3 (i + 1) first width (fit-other w i xs ys1 ys2 ys3 first second p.e1 p.e2 e3 p.within p.n1 p.n2 p.some p.f1 p.f2 (λ same. group (subst (λ (n : ℕ). first.number % n ≡ second.number % n) (sym width) same)))
+
+    pub pair-exchanged : set ys3 (i + 1) first.number ≡ set (set xs i (get_or xs (i + 1) 0)) (i + 1) (get_or xs i 0)
+    pair-exchanged = exchanged w i xs ys1 ys2 ys3 first second p.e1 p.e2 e3 p.within p.n1 p.n2 p.some p.f1 p.f2
