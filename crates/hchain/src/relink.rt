@@ -120,7 +120,13 @@ fn put_in(last: &mut [u32], links: &mut [Link], index: usize, link: Link)
 {
     let place = index as u32 + 1;
     links[index] = link;
-    keep(last, links, link.number as usize % last.len(), link.hint, place);
+    keep(
+        last,
+        links,
+        link.number as usize % last.len(),
+        link.hint,
+        place,
+    );
     give_hint(links, link.before, place);
 }
 
