@@ -15,8 +15,12 @@ fn link_at(last: &[u32], links: &[Link], index: usize, number: u64) -> Link
     requires within { index < length links.now }
     ensures number { result.number ≡ number }
     ensures before { result.before ≡ last_up (is_in (length last.now) (number % length last.now)) (numbers_of links.now) (index + 1) }
-    ensures next { 0 < result.hint → (index + 1 < result.hint) × (result.hint ≤ length links.now) × IsTrue (is_in (length last.now) (number % length last.now) (slice_index (numbers_of links.now) (result.hint - 1))) }
-    ensures least { (j : ℕ) → index < j → j < length links.now → IsTrue (is_in (length last.now) (number % length last.now) (slice_index (numbers_of links.now) j)) → (0 < result.hint) × (result.hint ≤ j + 1) }
+    ensures next { let numbers = numbers_of links.now in
+        let sought = is_in (length last.now) (number % length last.now) in
+        0 < result.hint → (index + 1 < result.hint) × (result.hint ≤ length links.now) × IsTrue (sought (slice_index numbers (result.hint - 1))) }
+    ensures least { let numbers = numbers_of links.now in
+        let sought = is_in (length last.now) (number % length last.now) in
+        (j : ℕ) → index < j → j < length links.now → IsTrue (sought (slice_index numbers j)) → (0 < result.hint) × (result.hint ≤ j + 1) }
 {
     let mut before = last[number as usize % last.len()];
     let mut hint = 0;
@@ -37,8 +41,12 @@ fn above(last: &[u32], links: &[Link], index: usize) -> u32
     requires fits { length links.now < 2 ^ 32 }
     requires within { index < length links.now }
     requires number { slice_index (numbers_of links.now) index ≢ none }
-    ensures next { 0 < result → (index + 1 < result) × (result ≤ length links.now) × IsTrue (is_in (length last.now) (slice_index (numbers_of links.now) index % length last.now) (slice_index (numbers_of links.now) (result - 1))) }
-    ensures least { (j : ℕ) → index < j → j < length links.now → IsTrue (is_in (length last.now) (slice_index (numbers_of links.now) index % length last.now) (slice_index (numbers_of links.now) j)) → (0 < result) × (result ≤ j + 1) }
+    ensures next { let numbers = numbers_of links.now in
+        let sought = is_in (length last.now) (slice_index numbers index % length last.now) in
+        0 < result → (index + 1 < result) × (result ≤ length links.now) × IsTrue (sought (slice_index numbers (result - 1))) }
+    ensures least { let numbers = numbers_of links.now in
+        let sought = is_in (length last.now) (slice_index numbers index % length last.now) in
+        (j : ℕ) → index < j → j < length links.now → IsTrue (sought (slice_index numbers j)) → (0 < result) × (result ≤ j + 1) }
 {
     let Link { number, hint, .. } = links[index];
     if hint > 0 && hint as usize <= links.len() {
@@ -86,8 +94,12 @@ fn take_out(last: &mut [u32], links: &mut [Link], index: usize) -> Link
     ensures numbers { numbers_of links.new ≡ slice_set (numbers_of links.old) index none }
     ensures number { result.number ≡ slice_index (numbers_of links.old) index }
     ensures before { result.before ≡ last_up (is_in (length last.old) (result.number % length last.old)) (numbers_of links.new) (index + 1) }
-    ensures next { 0 < result.hint → (index + 1 < result.hint) × (result.hint ≤ length links.old) × IsTrue (is_in (length last.old) (result.number % length last.old) (slice_index (numbers_of links.new) (result.hint - 1))) }
-    ensures least { (j : ℕ) → index < j → j < length links.old → IsTrue (is_in (length last.old) (result.number % length last.old) (slice_index (numbers_of links.new) j)) → (0 < result.hint) × (result.hint ≤ j + 1) }
+    ensures next { let numbers = numbers_of links.new in
+        let sought = is_in (length last.old) (result.number % length last.old) in
+        0 < result.hint → (index + 1 < result.hint) × (result.hint ≤ length links.old) × IsTrue (sought (slice_index numbers (result.hint - 1))) }
+    ensures least { let numbers = numbers_of links.new in
+        let sought = is_in (length last.old) (result.number % length last.old) in
+        (j : ℕ) → index < j → j < length links.old → IsTrue (sought (slice_index numbers j)) → (0 < result.hint) × (result.hint ≤ j + 1) }
 {
     let hint = above(last, links, index);
     let Link { number, before, .. } = links[index];
@@ -113,8 +125,12 @@ fn put_in(last: &mut [u32], links: &mut [Link], index: usize, link: Link)
     requires free { slice_index (numbers_of links.old) index ≡ none }
     requires number { link.number ≢ none }
     requires before { link.before ≡ last_up (is_in (length last.old) (link.number % length last.old)) (numbers_of links.old) (index + 1) }
-    requires next { 0 < link.hint → (index + 1 < link.hint) × (link.hint ≤ length links.old) × IsTrue (is_in (length last.old) (link.number % length last.old) (slice_index (numbers_of links.old) (link.hint - 1))) }
-    requires least { (j : ℕ) → index < j → j < length links.old → IsTrue (is_in (length last.old) (link.number % length last.old) (slice_index (numbers_of links.old) j)) → (0 < link.hint) × (link.hint ≤ j + 1) }
+    requires next { let numbers = numbers_of links.old in
+        let sought = is_in (length last.old) (link.number % length last.old) in
+        0 < link.hint → (index + 1 < link.hint) × (link.hint ≤ length links.old) × IsTrue (sought (slice_index numbers (link.hint - 1))) }
+    requires least { let numbers = numbers_of links.old in
+        let sought = is_in (length last.old) (link.number % length last.old) in
+        (j : ℕ) → index < j → j < length links.old → IsTrue (sought (slice_index numbers j)) → (0 < link.hint) × (link.hint ≤ j + 1) }
     ensures chained { IsChained last.new links.new }
     ensures numbers { numbers_of links.new ≡ slice_set (numbers_of links.old) index link.number }
 {
