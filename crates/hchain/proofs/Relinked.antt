@@ -8,6 +8,10 @@ use Rattle.hchain.specs.Linked.{number_of, before_of, numbers_of, befores_of, is
 use Rattle.hchain.specs.declared.chains.Link.{Link}
 use Rattle.hchain.proofs.LastUp.{up-sought, up-other, up-within, up-found, up-least, up-past, up-alike, up-alike-from}
 
+-- a link, or an empty one past the end
+abbrev pub nth : List Link → ℕ → Link
+nth links i = get_or links i (record { number = 0; before = 0; hint = 0 })
+
 -- where the next place is kept: past the last index, or at the next place
 abbrev pub until : (len next : ℕ) → ℕ
 until len zero = len
@@ -57,63 +61,77 @@ module _ (w g : ℕ) where
       let n = in-group (get_or xs i 0) e in
       k i h n.0 ∙ ap (λ m. last_up (is_in w m) xs i) n.1
 
--- a walk down a group
-module _ (s : ℕ → Bool) (xs : List ℕ) (i at next : ℕ) (within : i < length xs) (is : at ≡ last_up s xs (until (length xs) next)) (found : 0 < next → (suc i < next) × (next ≤ length xs) × (s (get_or xs (next - 1) 0) ≡ true)) where
+-- a walk down a group: the place that it is at, and the one that it passed last
+pub record Walk (s : ℕ → Bool) (xs : List ℕ) (i at next : ℕ) : Type 0 where
+  pub within : i < length xs
+  pub is : at ≡ last_up s xs (until (length xs) next)
+  pub found : 0 < next → (suc i < next) × (next ≤ length xs) × (s (get_or xs (next - 1) 0) ≡ true)
+
+module _ (s : ℕ → Bool) (xs : List ℕ) (i at next : ℕ) (k : Walk s xs i at next) where
   until-past : (i < until (length xs) next) × (until (length xs) next ≤ length xs)
-  until-past = go next found
+  until-past = go next k.found
     where
       go : (n : ℕ) → (0 < n → (suc i < n) × (n ≤ length xs) × (s (get_or xs (n - 1) 0) ≡ true)) → (i < until (length xs) n) × (until (length xs) n ≤ length xs)
-      go zero f = (within, omega arith)
+      go zero f = (k.within, omega arith)
       go (suc n) f = let a = f (omega arith) in (omega (arith, a.0), omega (arith, a.1))
 
   pub walk-within : at ≤ length xs
-  walk-within = omega (arith, up-within s xs (until (length xs) next), until-past.1)
+  walk-within = omega (arith, k.is, up-within s xs (until (length xs) next), until-past.1)
 
   pub walk-found : 0 < at → s (get_or xs (at - 1) 0) ≡ true
   walk-found h =
-      let here : 0 < last_up s xs (until (length xs) next) = omega arith in
-      ap (λ m. s (get_or xs (m - 1) 0)) is ∙ up-found s xs (until (length xs) next) here
+      let here : 0 < last_up s xs (until (length xs) next) = omega (arith, k.is) in
+      ap (λ m. s (get_or xs (m - 1) 0)) k.is ∙ up-found s xs (until (length xs) next) here
 
   -- it has come to an index
   pub walk-before : at ≤ suc i → at ≡ last_up s xs (suc i)
-  walk-before h = is ∙ up-past s xs (suc i) (until (length xs) next) until-past.0 (λ j a b. false_from_ne_true _ (λ e. absurd (omega (arith, up-least s xs (until (length xs) next) j b e))))
+  walk-before h = k.is ∙ up-past s xs (suc i) (until (length xs) next) until-past.0 (λ j a b. false_from_ne_true _ (passed j a b))
+    where
+      passed : (j : ℕ) → suc i ≤ j → j < until (length xs) next → s (get_or xs j 0) ≢ true
+      passed j a b e = absurd (omega (arith, k.is, up-least s xs (until (length xs) next) j b e))
 
   pub walk-next : at ≤ suc i → IsNext s xs i next
-  walk-next h = record { found = found; least = λ j a b e. go next is j a b e }
+  walk-next h = record { found = k.found; least = λ j a b e. go next k.is j a b e }
     where
       go : (n : ℕ) → at ≡ last_up s xs (until (length xs) n) → (j : ℕ) → i < j → j < length xs → s (get_or xs j 0) ≡ true → (0 < n) × (n ≤ suc j)
       go zero f j a b e = absurd (omega (arith, up-least s xs (length xs) j b e))
-      go (suc n) f j a b e = elim (cases_lt j n) as (λ _. (0 < suc n) × (suc n ≤ suc j)) [ inl less ↦ absurd (omega (arith, up-least s xs n j less e)) | inr more ↦ (omega arith, omega arith) ]
+      go (suc n) f j a b e =
+          elim (cases_lt j n) as (λ _. (0 < suc n) × (suc n ≤ suc j)) [ inl less ↦ absurd (omega (arith, up-least s xs n j less e)) | inr more ↦ (omega arith, omega arith) ]
 
 -- the numbers of links, and what they keep
 pub length-numbers : (links : List Link) → length (numbers_of links) ≡ length links
 length-numbers links = length-map links number_of
 
-pub before-at : (links : List Link) (i : ℕ) → get_or (befores_of links) i 0 ≡ (get_or links i (record { number = 0; before = 0; hint = 0 })).before
+pub before-at : (links : List Link) (i : ℕ) → get_or (befores_of links) i 0 ≡ (nth links i).before
 before-at links i = get_or-map before_of links i (record { number = 0; before = 0; hint = 0 })
 
-pub number-at : (links : List Link) (i : ℕ) → get_or (numbers_of links) i 0 ≡ (get_or links i (record { number = 0; before = 0; hint = 0 })).number
+pub number-at : (links : List Link) (i : ℕ) → get_or (numbers_of links) i 0 ≡ (nth links i).number
 number-at links i = get_or-map number_of links i (record { number = 0; before = 0; hint = 0 })
 
 -- a step of a walk over links
-module _ (last : List ℕ) (links : List Link) (chained : IsChained last links) (g i at next : ℕ) (within : i < length links) (is : at ≡ last_up (is_in (length last) g) (numbers_of links) (until (length (numbers_of links)) next)) (found : 0 < next → (suc i < next) × (next ≤ length (numbers_of links)) × (is_in (length last) g (get_or (numbers_of links) (next - 1) 0) ≡ true)) where
-  down-at : at ≤ length (numbers_of links)
-  down-at = walk-within (is_in (length last) g) (numbers_of links) i at next (omega (arith, length-numbers links)) is found
-
+module _ (last : List ℕ) (links : List Link) (chained : IsChained last links) (g i at next : ℕ) (k : Walk (is_in (length last) g) (numbers_of links) i at next) where
   pub down-found : 0 < at → is_in (length last) g (get_or (numbers_of links) (at - 1) 0) ≡ true
-  down-found h = walk-found (is_in (length last) g) (numbers_of links) i at next (omega (arith, length-numbers links)) is found h
+  down-found h = walk-found (is_in (length last) g) (numbers_of links) i at next k h
 
   pub down-within : at ≤ length links
-  down-within = omega (arith, length-numbers links, down-at)
+  down-within = omega (arith, length-numbers links, walk-within (is_in (length last) g) (numbers_of links) i at next k)
 
-  down-kept : 0 < at → (get_or links (at - 1) (record { number = 0; before = 0; hint = 0 })).before ≡ last_up (is_in (length last) g) (numbers_of links) (at - 1)
-  down-kept h = sym (before-at links (at - 1)) ∙ keep-at (length last) g (numbers_of links) (befores_of links) chained.kept (at - 1) (omega (arith, down-at)) (down-found h)
+  down-kept : 0 < at → (nth links (at - 1)).before ≡ last_up (is_in (length last) g) (numbers_of links) (at - 1)
+  down-kept h =
+      let within : at - 1 < length (numbers_of links) = omega (arith, length-numbers links, down-within) in
+      sym (before-at links (at - 1)) ∙ keep-at (length last) g (numbers_of links) (befores_of links) chained.kept (at - 1) within (down-found h)
 
-  pub down-is : 0 < at → (get_or links (at - 1) (record { number = 0; before = 0; hint = 0 })).before ≡ last_up (is_in (length last) g) (numbers_of links) (until (length (numbers_of links)) at)
-  down-is h = down-kept h ∙ ap (λ n. last_up (is_in (length last) g) (numbers_of links) n) (sym (until-some (length (numbers_of links)) at h))
-
-  pub down-less : 0 < at → (get_or links (at - 1) (record { number = 0; before = 0; hint = 0 })).before < at
+  pub down-less : 0 < at → (nth links (at - 1)).before < at
   down-less h = omega (arith, down-kept h, up-within (is_in (length last) g) (numbers_of links) (at - 1))
+
+  pub down-walk : suc i < at → Walk (is_in (length last) g) (numbers_of links) i (nth links (at - 1)).before at
+  down-walk h =
+      let some : 0 < at = omega arith in
+      record {
+        within = k.within;
+        is = down-kept some ∙ ap (λ n. last_up (is_in (length last) g) (numbers_of links) n) (sym (until-some (length (numbers_of links)) at some));
+        found = λ _. (h, omega (arith, length-numbers links, down-within), down-found some);
+      }
 
 -- two lists that differ at one index, in one group, and the next place of that group
 module _ (w g i next : ℕ) (xs ys : List ℕ) where
@@ -265,6 +283,17 @@ next-found s xs i n len e m h = (omega (arith, (m.found h).0), omega (arith, (m.
 pub next-least : (s : ℕ → Bool) (xs : List ℕ) (i n len : ℕ) → len ≡ length xs → IsNext s xs i n → (j : ℕ) → i < j → j < len → s (get_or xs j 0) ≡ true → (0 < n) × (n ≤ j + 1)
 next-least s xs i n len e m j a b t = (omega (arith, (m.least j a (omega arith) t).0), omega (arith, (m.least j a (omega arith) t).1))
 
+-- what a link keeps is right for an index
+pub record Fit (w : ℕ) (ys : List ℕ) (i : ℕ) (x : Link) : Type 0 where
+  pub before : x.before ≡ last_up (is_in w (x.number % w)) ys (i + 1)
+  pub next : IsNext (is_in w (x.number % w)) ys i x.hint
+
+pub fit : (w : ℕ) (ys : List ℕ) (i : ℕ) (x : Link) (len : ℕ) → len ≡ length ys → x.before ≡ last_up (is_in w (x.number % w)) ys (i + 1)
+    → (0 < x.hint → (i + 1 < x.hint) × (x.hint ≤ len) × (is_in w (x.number % w) (get_or ys (x.hint - 1) 0) ≡ true))
+    → ((j : ℕ) → i < j → j < len → is_in w (x.number % w) (get_or ys j 0) ≡ true → (0 < x.hint) × (x.hint ≤ j + 1))
+    → Fit w ys i x
+fit w ys i x len e b f l = record { before = b; next = is-next (is_in w (x.number % w)) ys i x.hint len e f l }
+
 -- .. in a list that is the same past an index
 pub next-same : (s : ℕ → Bool) (xs ys : List ℕ) (i n : ℕ) → length ys ≡ length xs → ((j : ℕ) → i < j → get_or ys j 0 ≡ get_or xs j 0) → IsNext s xs i n → IsNext s ys i n
 next-same s xs ys i n len same m = record {
@@ -273,7 +302,8 @@ next-same s xs ys i n len same m = record {
 }
 
 -- a hint that a link bears out
-module _ (last : List ℕ) (links : List Link) (chained : IsChained last links) (i n : ℕ) (some : 0 < n) (within : n ≤ length links) (number : (get_or links (n - 1) (record { number = 0; before = 0; hint = 0 })).number ≢ none) (before : (get_or links (n - 1) (record { number = 0; before = 0; hint = 0 })).before ≡ i + 1) where
+module _ (last : List ℕ) (links : List Link) (chained : IsChained last links) (i n : ℕ) (some : 0 < n) (within : n ≤ length links) (number : (nth links (n - 1)).number ≢ none)
+    (before : (nth links (n - 1)).before ≡ i + 1) where
   hint-number : get_or (numbers_of links) (n - 1) 0 ≢ none
   hint-number e = number (sym (number-at links (n - 1)) ∙ e)
 

@@ -3,8 +3,8 @@ use Rattle.std.proofs.lemmas.List.{length-set, get_or-set_other, set_comm}
 use Rattle.hchain.specs.Chains.{none, last_up}
 use Rattle.hchain.specs.Linked.{is_in, numbers_of}
 use Rattle.hchain.specs.declared.chains.Link.{Link}
-use Rattle.hchain.proofs.Relinked.{next-found, next-least, length-numbers}
-use Rattle.hchain.proofs.Swapped.{Fit, Pair, fit, fit-width, fit-down, fit-up, pair-free-lower, pair-lower, pair-free-upper, pair-same, pair-other, pair-exchanged}
+use Rattle.hchain.proofs.Relinked.{Fit, fit, next-found, next-least, length-numbers}
+use Rattle.hchain.proofs.Swapped.{Pair, fit-width, fit-down, fit-up, free-lower, fit-lower, free-upper, fit-same, fit-other, exchanged}
 use Rattle.hchain.proofs.relink.exchange.Goals as goal
 
 -- the two links that were taken out
@@ -46,12 +46,12 @@ put_in-requires c =
     let last2 : List ℕ = c.take_out-second.new.last in
     let width : length last2 ≡ length last0 = c.take_out-second.auto.last ∙ c.take_out-first.auto.last in
     let x : Link = second in
-    let f : Fit (length last2) (numbers_of links2) (i) x = pair-lower (length last0) i (numbers_of links0) (numbers_of links1) (numbers_of links2) first second p (length last2) width in
+    let f : Fit (length last2) (numbers_of links2) (i) x = fit-lower (length last0) i (numbers_of links0) (numbers_of links1) (numbers_of links2) first second p (length last2) width in
     record {
       chained = c.take_out-second.ensures.chained;
       fits = omega (arith, c.take_out-first.auto.links, c.take_out-second.auto.links);
       within = omega (arith, c.take_out-first.auto.links, c.take_out-second.auto.links);
-      free = pair-free-lower (length last0) i (numbers_of links0) (numbers_of links1) (numbers_of links2) first second p (length last2) width;
+      free = free-lower (length last0) i (numbers_of links0) (numbers_of links1) (numbers_of links2) first second p;
       number = p.some;
       before = f.before;
       next = next-found (is_in (length last2) (x.number % length last2)) (numbers_of links2) (i) x.hint (length links2) (sym (length-numbers links2)) f.next;
@@ -75,12 +75,12 @@ put_in-requires-then-first-last c =
     let links3 : List Link = c.put_in.new.links in
     let width : length last3 ≡ length last0 = c.put_in.auto.last ∙ c.take_out-second.auto.last ∙ c.take_out-first.auto.last in
     let x : Link = record { number = first.number; before = i + 1; hint = second.hint } in
-    let f : Fit (length last3) (numbers_of links3) (i + 1) x = pair-same (length last0) i (numbers_of links0) (numbers_of links1) (numbers_of links2) first second p (length last3) width (numbers_of links3) c.put_in.ensures.numbers c.if-first-last.true in
+    let f : Fit (length last3) (numbers_of links3) (i + 1) x = fit-same (length last0) i (numbers_of links0) (numbers_of links1) (numbers_of links2) first second p (numbers_of links3) c.put_in.ensures.numbers (length last3) width c.if-first-last.true in
     record {
       chained = c.put_in.ensures.chained;
       fits = omega (arith, c.take_out-first.auto.links, c.take_out-second.auto.links, c.put_in.auto.links);
       within = omega (arith, c.take_out-first.auto.links, c.take_out-second.auto.links, c.put_in.auto.links);
-      free = pair-free-upper (length last0) i (numbers_of links0) (numbers_of links1) (numbers_of links2) first second p (length last3) width (numbers_of links3) c.put_in.ensures.numbers;
+      free = free-upper (length last0) i (numbers_of links0) (numbers_of links1) (numbers_of links2) first second p (numbers_of links3) c.put_in.ensures.numbers;
       number = λ e. c.requires.first (sym c.take_out-first.ensures.number ∙ e);
       before = f.before;
       next = next-found (is_in (length last3) (x.number % length last3)) (numbers_of links3) (i + 1) x.hint (length links3) (sym (length-numbers links3)) f.next;
@@ -104,12 +104,12 @@ put_in-requires-else-first-last c =
     let links3 : List Link = c.put_in.new.links in
     let width : length last3 ≡ length last0 = c.put_in.auto.last ∙ c.take_out-second.auto.last ∙ c.take_out-first.auto.last in
     let x : Link = first in
-    let f : Fit (length last3) (numbers_of links3) (i + 1) x = pair-other (length last0) i (numbers_of links0) (numbers_of links1) (numbers_of links2) first second p (length last3) width (numbers_of links3) c.put_in.ensures.numbers c.if-first-last.false in
+    let f : Fit (length last3) (numbers_of links3) (i + 1) x = fit-other (length last0) i (numbers_of links0) (numbers_of links1) (numbers_of links2) first second p (numbers_of links3) c.put_in.ensures.numbers (length last3) width c.if-first-last.false in
     record {
       chained = c.put_in.ensures.chained;
       fits = omega (arith, c.take_out-first.auto.links, c.take_out-second.auto.links, c.put_in.auto.links);
       within = omega (arith, c.take_out-first.auto.links, c.take_out-second.auto.links, c.put_in.auto.links);
-      free = pair-free-upper (length last0) i (numbers_of links0) (numbers_of links1) (numbers_of links2) first second p (length last3) width (numbers_of links3) c.put_in.ensures.numbers;
+      free = free-upper (length last0) i (numbers_of links0) (numbers_of links1) (numbers_of links2) first second p (numbers_of links3) c.put_in.ensures.numbers;
       number = λ e. c.requires.first (sym c.take_out-first.ensures.number ∙ e);
       before = f.before;
       next = next-found (is_in (length last3) (x.number % length last3)) (numbers_of links3) (i + 1) x.hint (length links3) (sym (length-numbers links3)) f.next;
@@ -132,7 +132,7 @@ returns-then-first-last-clause-numbers c =
     let last3 : List ℕ = c.put_in.new.last in
     let links3 : List Link = c.put_in.new.links in
     let width : length last3 ≡ length last0 = c.put_in.auto.last ∙ c.take_out-second.auto.last ∙ c.take_out-first.auto.last in
-    c.put_in-then-first-last.ensures.numbers ∙ pair-exchanged (length last0) i (numbers_of links0) (numbers_of links1) (numbers_of links2) first second p (length last3) width (numbers_of links3) c.put_in.ensures.numbers
+    c.put_in-then-first-last.ensures.numbers ∙ exchanged (length last0) i (numbers_of links0) (numbers_of links1) (numbers_of links2) first second p (numbers_of links3) c.put_in.ensures.numbers
 
 pub returns-else-first-last-clause-numbers : goal.returns-else-first-last-clause-numbers
 returns-else-first-last-clause-numbers c =
@@ -150,4 +150,4 @@ returns-else-first-last-clause-numbers c =
     let last3 : List ℕ = c.put_in.new.last in
     let links3 : List Link = c.put_in.new.links in
     let width : length last3 ≡ length last0 = c.put_in.auto.last ∙ c.take_out-second.auto.last ∙ c.take_out-first.auto.last in
-    c.put_in-else-first-last.ensures.numbers ∙ pair-exchanged (length last0) i (numbers_of links0) (numbers_of links1) (numbers_of links2) first second p (length last3) width (numbers_of links3) c.put_in.ensures.numbers
+    c.put_in-else-first-last.ensures.numbers ∙ exchanged (length last0) i (numbers_of links0) (numbers_of links1) (numbers_of links2) first second p (numbers_of links3) c.put_in.ensures.numbers

@@ -3,8 +3,8 @@ use Rattle.std.proofs.lemmas.List.{length-set, get_or-set_same, get_or-set_other
 use Rattle.hchain.specs.Chains.{none, last_up}
 use Rattle.hchain.specs.Linked.{is_in, numbers_of}
 use Rattle.hchain.specs.declared.chains.Link.{Link}
-use Rattle.hchain.proofs.Relinked.{next-found, next-least, length-numbers}
-use Rattle.hchain.proofs.Swapped.{Fit, Pair, fit, fit-width, fit-down, fit-up, pair-free-lower, pair-lower, pair-free-upper, pair-same, pair-other, pair-exchanged}
+use Rattle.hchain.proofs.Relinked.{Fit, fit, next-found, next-least, length-numbers}
+use Rattle.hchain.proofs.Swapped.{Pair, fit-width, fit-down, fit-up, free-lower, fit-lower, free-upper, fit-same, fit-other, exchanged}
 use Rattle.hchain.proofs.relink.move_up.Goals as goal
 
 pub put_in-requires : goal.put_in-requires
