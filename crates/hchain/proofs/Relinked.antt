@@ -6,7 +6,7 @@ use Rattle.std.proofs.Math.ListN.{get_or-map}
 use Rattle.hchain.specs.Chains.{none, last_up}
 use Rattle.hchain.specs.Linked.{number_of, before_of, numbers_of, befores_of, is_in, Keep, Says, IsChained}
 use Rattle.hchain.specs.declared.chains.Link.{Link}
-use Rattle.hchain.proofs.LastUp.{up-sought, up-other, up-within, up-found, up-least, up-past, up-alike, up-alike-from}
+use Rattle.hchain.proofs.LastUp.{up-within, up-found, up-least, up-past, up-alike, up-alike-from}
 
 -- a link, or an empty one past the end
 abbrev pub nth : List Link → ℕ → Link

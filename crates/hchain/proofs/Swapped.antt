@@ -109,7 +109,7 @@ module _ (w i : ℕ) (xs ys1 ys2 : List ℕ) (first second : Link) (p : Pair w i
     same-group : first.number % w ≡ second.number % w → Fit w ys3 (i + 1) (record { number = first.number; before = i + 1; hint = second.hint })
     same-group group =
         let next2 : IsNext (is_in w (second.number % w)) ys3 (i + 1) second.hint =
-            next-same (is_in w (second.number % w)) ys2 ys3 (i + 1) second.hint (len3 ∙ sym len2) (λ j a. same-past2 j a) p.f2.next in
+        next-same (is_in w (second.number % w)) ys2 ys3 (i + 1) second.hint (len3 ∙ sym len2) (λ j a. same-past2 j a) p.f2.next in
         record {
           before = sym up-second ∙ ap (λ k. last_up (is_in w k) ys3 (i + 1 + 1)) (sym group);
           next = subst (λ (k : ℕ). IsNext (is_in w k) ys3 (i + 1) second.hint) (sym group) next2;
@@ -163,5 +163,5 @@ module _ (w i : ℕ) (xs ys1 ys2 : List ℕ) (first second : Link) (p : Pair w i
         let second_is : second.number ≡ get_or xs (i + 1) 0 = p.n2 ∙ ap (λ ys. get_or ys (i + 1) 0) p.e1 ∙ get_or-set_other xs i (i + 1) none 0 ne in
         let lower : set ys1 i second.number ≡ set xs i second.number = ap (λ ys. set ys i second.number) p.e1 ∙ set-set xs i none second.number in
         let three : ys3 ≡ set (set xs i second.number) (i + 1) none =
-            e3 ∙ ap (λ ys. set ys i second.number) p.e2 ∙ set_comm ys1 (i + 1) i none second.number ne ∙ ap (λ ys. set ys (i + 1) none) lower in
+        e3 ∙ ap (λ ys. set ys i second.number) p.e2 ∙ set_comm ys1 (i + 1) i none second.number ne ∙ ap (λ ys. set ys (i + 1) none) lower in
         ap (λ ys. set ys (i + 1) first.number) three ∙ set-set (set xs i second.number) (i + 1) none first.number ∙ (λ t. set (set xs i (second_is t)) (i + 1) (p.n1 t))

@@ -1,7 +1,6 @@
-use Rattle.std.proofs.Common.{◌≡◌, ℕ, ◌-◌, ◌%◌, length, get_or, sym, arith}
+use Rattle.std.proofs.Common.{ℕ, ◌%◌, length, get_or, sym}
 use Rattle.hchain.specs.Linked.{is_in, numbers_of}
-use Rattle.hchain.specs.declared.chains.Link.{Link}
-use Rattle.hchain.proofs.Relinked.{IsNext, hint-next, next-found, next-least, length-numbers}
+use Rattle.hchain.proofs.Relinked.{hint-next, next-found, next-least, length-numbers}
 use Rattle.hchain.proofs.relink.above.Goals as goal
 
 pub returns-then-next-index-clause-next : goal.returns-then-next-index-clause-next

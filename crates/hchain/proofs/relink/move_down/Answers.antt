@@ -1,10 +1,10 @@
-use Rattle.std.proofs.Common.{◌≡◌, ◌≢◌, ℕ, suc, ◌+◌, ◌-◌, ◌<◌, ◌≤◌, ◌%◌, true, List, length, get_or, set, refl, sym, ◌∙◌, ap, subst, arith}
-use Rattle.std.proofs.lemmas.List.{length-set, get_or-set_same, get_or-set_other, set_comm}
-use Rattle.hchain.specs.Chains.{none, last_up}
+use Rattle.std.proofs.Common.{◌≢◌, ℕ, ◌+◌, ◌%◌, List, length, get_or, set, sym, ◌∙◌, ap, arith}
+use Rattle.std.proofs.lemmas.List.{get_or-set_same, get_or-set_other, set_comm}
+use Rattle.hchain.specs.Chains.{none}
 use Rattle.hchain.specs.Linked.{is_in, numbers_of}
 use Rattle.hchain.specs.declared.chains.Link.{Link}
 use Rattle.hchain.proofs.Relinked.{Fit, fit, next-found, next-least, length-numbers}
-use Rattle.hchain.proofs.Swapped.{Pair, fit-width, fit-down, fit-up, free-lower, fit-lower, free-upper, fit-same, fit-other, exchanged}
+use Rattle.hchain.proofs.Swapped.{fit-width, fit-down}
 use Rattle.hchain.proofs.relink.move_down.Goals as goal
 
 pub put_in-requires : goal.put_in-requires
