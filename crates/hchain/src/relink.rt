@@ -181,7 +181,8 @@ fn move_down(last: &mut [u32], links: &mut [Link], index: usize)
     requires free { slice_index (numbers_of links.old) index ≡ none }
     requires number { slice_index (numbers_of links.old) (index + 1) ≢ none }
     ensures chained { IsChained last.new links.new }
-    ensures numbers { numbers_of links.new ≡ slice_set (slice_set (numbers_of links.old) index (slice_index (numbers_of links.old) (index + 1))) (index + 1) none }
+    ensures numbers { let old = numbers_of links.old in
+        numbers_of links.new ≡ slice_set (slice_set old index (slice_index old (index + 1))) (index + 1) none }
 {
     let link = take_out(last, links, index + 1);
     put_in(last, links, index, link);
@@ -209,7 +210,8 @@ fn exchange(last: &mut [u32], links: &mut [Link], index: usize)
     requires first { slice_index (numbers_of links.old) index ≢ none }
     requires second { slice_index (numbers_of links.old) (index + 1) ≢ none }
     ensures chained { IsChained last.new links.new }
-    ensures numbers { numbers_of links.new ≡ slice_set (slice_set (numbers_of links.old) index (slice_index (numbers_of links.old) (index + 1))) (index + 1) (slice_index (numbers_of links.old) index) }
+    ensures numbers { let old = numbers_of links.old in
+        numbers_of links.new ≡ slice_set (slice_set old index (slice_index old (index + 1))) (index + 1) (slice_index old index) }
 {
     let first = take_out(last, links, index);
     let second = take_out(last, links, index + 1);
@@ -232,7 +234,8 @@ fn swap_at(last: &mut [u32], links: &mut [Link], index: usize)
     requires fits { length links.old < 2 ^ 32 }
     requires within { index + 1 < length links.old }
     ensures chained { IsChained last.new links.new }
-    ensures numbers { numbers_of links.new ≡ slice_set (slice_set (numbers_of links.old) index (slice_index (numbers_of links.old) (index + 1))) (index + 1) (slice_index (numbers_of links.old) index) }
+    ensures numbers { let old = numbers_of links.old in
+        numbers_of links.new ≡ slice_set (slice_set old index (slice_index old (index + 1))) (index + 1) (slice_index old index) }
 {
     let first = links[index].number;
     let second = links[index + 1].number;
