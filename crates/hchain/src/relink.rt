@@ -1,9 +1,255 @@
 //! Edits of one place of a list of numbers, or of two neighbours.
 
-ghost use Rattle.std.specs.Prelude.{◌≡◌, ◌≢◌, ◌<◌, ◌+◌, length, slice_index, slice_set};
-ghost use Rattle.hchain.specs.Chains.{none};
+ghost use Rattle.std.specs.Prelude.{◌≡◌, ◌≢◌, ℕ, ◌<◌, ◌≤◌, ◌+◌, ◌-◌, ◌^◌, ◌%◌, ◌==◌, IsTrue, if◌then◌else◌, length, slice_index, slice_set};
+ghost use Rattle.hchain.specs.Chains.{last_up, none};
+ghost use Rattle.hchain.specs.Linked.{IsChained, befores_of, is_in, numbers_of};
 
-use crate::chains::Chains;
+use crate::chains::{Chains, Link, NONE};
+
+/// What a number at an index keeps: the nearest place before it where its group stands, and the next one as a hint; 0 is none.
+///
+/// It walks down the group from its last place.
+fn link_at(last: &[u32], links: &[Link], index: usize, number: u64) -> Link
+    requires chained { IsChained last.now links.now }
+    requires fits { length links.now < 2 ^ 32 }
+    requires within { index < length links.now }
+    ensures number { result.number ≡ number }
+    ensures before { result.before ≡ last_up (is_in (length last.now) (number % length last.now)) (numbers_of links.now) (index + 1) }
+    ensures next { let numbers = numbers_of links.now in
+        let sought = is_in (length last.now) (number % length last.now) in
+        0 < result.hint → (index + 1 < result.hint) × (result.hint ≤ length links.now) × IsTrue (sought (slice_index numbers (result.hint - 1))) }
+    ensures least { let numbers = numbers_of links.now in
+        let sought = is_in (length last.now) (number % length last.now) in
+        (j : ℕ) → index < j → j < length links.now → IsTrue (sought (slice_index numbers j)) → (0 < result.hint) × (result.hint ≤ j + 1) }
+{
+    let mut before = last[number as usize % last.len()];
+    let mut hint = 0;
+    while before as usize > index + 1 {
+        hint = before;
+        before = links[before as usize - 1].before;
+    }
+    Link {
+        number,
+        before,
+        hint,
+    }
+}
+
+/// The next place of the group of a number after its index; 0 is none. It takes constant time where the hint is right.
+fn above(last: &[u32], links: &[Link], index: usize) -> u32
+    requires chained { IsChained last.now links.now }
+    requires fits { length links.now < 2 ^ 32 }
+    requires within { index < length links.now }
+    requires number { slice_index (numbers_of links.now) index ≢ none }
+    ensures next { let numbers = numbers_of links.now in
+        let sought = is_in (length last.now) (slice_index numbers index % length last.now) in
+        0 < result → (index + 1 < result) × (result ≤ length links.now) × IsTrue (sought (slice_index numbers (result - 1))) }
+    ensures least { let numbers = numbers_of links.now in
+        let sought = is_in (length last.now) (slice_index numbers index % length last.now) in
+        (j : ℕ) → index < j → j < length links.now → IsTrue (sought (slice_index numbers j)) → (0 < result) × (result ≤ j + 1) }
+{
+    let Link { number, hint, .. } = links[index];
+    if hint > 0 && hint as usize <= links.len() {
+        let next = links[hint as usize - 1];
+        if next.number != NONE as u64 && next.before as usize == index + 1 {
+            return hint;
+        }
+    }
+    link_at(last, links, index, number).hint
+}
+
+/// Changes the place that the next place of a group keeps, or the table where there is no next place.
+fn keep(last: &mut [u32], links: &mut [Link], group: usize, next: u32, place: u32)
+    requires group { group < length last.old }
+    requires next { next ≤ length links.old }
+    ensures numbers { numbers_of links.new ≡ numbers_of links.old }
+    ensures table { last.new ≡ (if next == 0 then slice_set last.old group place else last.old) }
+    ensures befores { (j : ℕ) → slice_index (befores_of links.new) j ≡ (if j + 1 == next then place else slice_index (befores_of links.old) j) }
+{
+    if next > 0 {
+        links[next as usize - 1].before = place;
+    } else {
+        last[group] = place;
+    }
+}
+
+/// Changes the hint at a place, if there is one.
+fn give_hint(links: &mut [Link], place: u32, next: u32)
+    requires { place ≤ length links.old }
+    ensures numbers { numbers_of links.new ≡ numbers_of links.old }
+    ensures befores { befores_of links.new ≡ befores_of links.old }
+{
+    if place > 0 {
+        links[place as usize - 1].hint = next;
+    }
+}
+
+/// Takes out the number at an index. The hint of the link that it gives is right.
+fn take_out(last: &mut [u32], links: &mut [Link], index: usize) -> Link
+    requires chained { IsChained last.old links.old }
+    requires fits { length links.old < 2 ^ 32 }
+    requires within { index < length links.old }
+    requires number { slice_index (numbers_of links.old) index ≢ none }
+    ensures chained { IsChained last.new links.new }
+    ensures numbers { numbers_of links.new ≡ slice_set (numbers_of links.old) index none }
+    ensures number { result.number ≡ slice_index (numbers_of links.old) index }
+    ensures before { result.before ≡ last_up (is_in (length last.old) (result.number % length last.old)) (numbers_of links.new) (index + 1) }
+    ensures next { let numbers = numbers_of links.new in
+        let sought = is_in (length last.old) (result.number % length last.old) in
+        0 < result.hint → (index + 1 < result.hint) × (result.hint ≤ length links.old) × IsTrue (sought (slice_index numbers (result.hint - 1))) }
+    ensures least { let numbers = numbers_of links.new in
+        let sought = is_in (length last.old) (result.number % length last.old) in
+        (j : ℕ) → index < j → j < length links.old → IsTrue (sought (slice_index numbers j)) → (0 < result.hint) × (result.hint ≤ j + 1) }
+{
+    let hint = above(last, links, index);
+    let Link { number, before, .. } = links[index];
+    links[index] = Link {
+        number: NONE as u64,
+        before: 0,
+        hint: 0,
+    };
+    keep(last, links, number as usize % last.len(), hint, before);
+    give_hint(links, before, hint);
+    Link {
+        number,
+        before,
+        hint,
+    }
+}
+
+/// Puts a link at an index where nothing is, where it keeps the place before it, and its hint is right.
+fn put_in(last: &mut [u32], links: &mut [Link], index: usize, link: Link)
+    requires chained { IsChained last.old links.old }
+    requires fits { length links.old < 2 ^ 32 }
+    requires within { index < length links.old }
+    requires free { slice_index (numbers_of links.old) index ≡ none }
+    requires number { link.number ≢ none }
+    requires before { link.before ≡ last_up (is_in (length last.old) (link.number % length last.old)) (numbers_of links.old) (index + 1) }
+    requires next { let numbers = numbers_of links.old in
+        let sought = is_in (length last.old) (link.number % length last.old) in
+        0 < link.hint → (index + 1 < link.hint) × (link.hint ≤ length links.old) × IsTrue (sought (slice_index numbers (link.hint - 1))) }
+    requires least { let numbers = numbers_of links.old in
+        let sought = is_in (length last.old) (link.number % length last.old) in
+        (j : ℕ) → index < j → j < length links.old → IsTrue (sought (slice_index numbers j)) → (0 < link.hint) × (link.hint ≤ j + 1) }
+    ensures chained { IsChained last.new links.new }
+    ensures numbers { numbers_of links.new ≡ slice_set (numbers_of links.old) index link.number }
+{
+    let place = index as u32 + 1;
+    links[index] = link;
+    keep(
+        last,
+        links,
+        link.number as usize % last.len(),
+        link.hint,
+        place,
+    );
+    give_hint(links, link.before, place);
+}
+
+/// Takes out what stands at an index.
+fn clear_at(last: &mut [u32], links: &mut [Link], index: usize)
+    requires chained { IsChained last.old links.old }
+    requires fits { length links.old < 2 ^ 32 }
+    requires within { index < length links.old }
+    ensures chained { IsChained last.new links.new }
+    ensures numbers { numbers_of links.new ≡ slice_set (numbers_of links.old) index none }
+{
+    if links[index].number != NONE as u64 {
+        take_out(last, links, index);
+    }
+}
+
+/// Puts a number at an index where nothing is.
+fn set_at(last: &mut [u32], links: &mut [Link], index: usize, number: usize)
+    requires chained { IsChained last.old links.old }
+    requires fits { length links.old < 2 ^ 32 }
+    requires within { index < length links.old }
+    requires free { slice_index (numbers_of links.old) index ≡ none }
+    requires number { number ≢ none }
+    ensures chained { IsChained last.new links.new }
+    ensures numbers { numbers_of links.new ≡ slice_set (numbers_of links.old) index number }
+{
+    let link = link_at(last, links, index, number as u64);
+    put_in(last, links, index, link);
+}
+
+/// Moves the number at the next index to an index where nothing is.
+fn move_down(last: &mut [u32], links: &mut [Link], index: usize)
+    requires chained { IsChained last.old links.old }
+    requires fits { length links.old < 2 ^ 32 }
+    requires within { index + 1 < length links.old }
+    requires free { slice_index (numbers_of links.old) index ≡ none }
+    requires number { slice_index (numbers_of links.old) (index + 1) ≢ none }
+    ensures chained { IsChained last.new links.new }
+    ensures numbers { let old = numbers_of links.old in
+        numbers_of links.new ≡ slice_set (slice_set old index (slice_index old (index + 1))) (index + 1) none }
+{
+    let link = take_out(last, links, index + 1);
+    put_in(last, links, index, link);
+}
+
+/// Moves the number at an index to the next one, where nothing is.
+fn move_up(last: &mut [u32], links: &mut [Link], index: usize)
+    requires chained { IsChained last.old links.old }
+    requires fits { length links.old < 2 ^ 32 }
+    requires within { index + 1 < length links.old }
+    requires free { slice_index (numbers_of links.old) (index + 1) ≡ none }
+    requires number { slice_index (numbers_of links.old) index ≢ none }
+    ensures chained { IsChained last.new links.new }
+    ensures numbers { numbers_of links.new ≡ slice_set (slice_set (numbers_of links.old) index none) (index + 1) (slice_index (numbers_of links.old) index) }
+{
+    let link = take_out(last, links, index);
+    put_in(last, links, index + 1, link);
+}
+
+/// Exchanges two numbers. If they are of one group, the one that moves up keeps the place of the other one.
+fn exchange(last: &mut [u32], links: &mut [Link], index: usize)
+    requires chained { IsChained last.old links.old }
+    requires fits { length links.old < 2 ^ 32 }
+    requires within { index + 1 < length links.old }
+    requires first { slice_index (numbers_of links.old) index ≢ none }
+    requires second { slice_index (numbers_of links.old) (index + 1) ≢ none }
+    ensures chained { IsChained last.new links.new }
+    ensures numbers { let old = numbers_of links.old in
+        numbers_of links.new ≡ slice_set (slice_set old index (slice_index old (index + 1))) (index + 1) (slice_index old index) }
+{
+    let first = take_out(last, links, index);
+    let second = take_out(last, links, index + 1);
+    put_in(last, links, index, second);
+    if first.number as usize % last.len() == second.number as usize % last.len() {
+        let link = Link {
+            number: first.number,
+            before: index as u32 + 1,
+            hint: second.hint,
+        };
+        put_in(last, links, index + 1, link);
+    } else {
+        put_in(last, links, index + 1, first);
+    }
+}
+
+/// Exchanges what stands at an index and at the next one.
+fn swap_at(last: &mut [u32], links: &mut [Link], index: usize)
+    requires chained { IsChained last.old links.old }
+    requires fits { length links.old < 2 ^ 32 }
+    requires within { index + 1 < length links.old }
+    ensures chained { IsChained last.new links.new }
+    ensures numbers { let old = numbers_of links.old in
+        numbers_of links.new ≡ slice_set (slice_set old index (slice_index old (index + 1))) (index + 1) (slice_index old index) }
+{
+    let first = links[index].number;
+    let second = links[index + 1].number;
+    if first == second {
+        return;
+    }
+    if first == NONE as u64 {
+        move_down(last, links, index);
+    } else if second == NONE as u64 {
+        move_up(last, links, index);
+    } else {
+        exchange(last, links, index);
+    }
+}
 
 impl Chains {
     /// Puts `NONE` at an index.
@@ -11,7 +257,7 @@ impl Chains {
         requires { index < length self.old }
         ensures { self.new ≡ slice_set self.old index none }
     {
-        let _ = index;
+        clear_at(&mut self.last, &mut self.links, index);
     }
 
     /// Puts a number at an index where nothing is. Allocates nothing.
@@ -21,7 +267,7 @@ impl Chains {
         requires number { number ≢ none }
         ensures { self.new ≡ slice_set self.old index number }
     {
-        let _ = (index, number);
+        set_at(&mut self.last, &mut self.links, index, number);
     }
 
     /// Exchanges the numbers at an index and at the next one.
@@ -29,6 +275,6 @@ impl Chains {
         requires { index + 1 < length self.old }
         ensures { self.new ≡ slice_set (slice_set self.old index (slice_index self.old (index + 1))) (index + 1) (slice_index self.old index) }
     {
-        let _ = index;
+        swap_at(&mut self.last, &mut self.links, index);
     }
 }

@@ -1,0 +1,10 @@
+use Rattle.std.proofs.Common.{set, sym, ◌∙◌, ap}
+use Rattle.std.proofs.lemmas.List.{set-get_or}
+use Rattle.hchain.specs.Linked.{numbers_of}
+use Rattle.hchain.proofs.Relinked.{number-at}
+use Rattle.hchain.proofs.relink.clear_at.Goals as goal
+
+pub returns-else-links-index-clause-numbers : goal.returns-else-links-index-clause-numbers
+returns-else-links-index-clause-numbers c =
+    sym (set-get_or (numbers_of c.args.links.now) c.args.index 0)
+    ∙ ap (λ n. set (numbers_of c.args.links.now) c.args.index n) (number-at c.args.links.now c.args.index ∙ c.if-links-index.false)

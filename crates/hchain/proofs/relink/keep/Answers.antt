@@ -1,0 +1,23 @@
+use Rattle.std.proofs.Common.{◌≡◌, ◌+◌, ◌-◌, ◌<◌, ℕ, List, Bool, true, false, eqb, cond, length, get_or, set, refl, ◌∙◌, ap, arith}
+use Rattle.std.proofs.Math.Seq.{map-set_same}
+use Rattle.std.proofs.lemmas.Bool.{eqb-true, eqb-false}
+use Rattle.std.proofs.lemmas.List.{get_or-set_same, get_or-set_other, map-set, length-map}
+use Rattle.hchain.specs.Linked.{number_of, before_of, befores_of}
+use Rattle.hchain.proofs.relink.keep.Goals as goal
+
+pub returns-then-next-gt0-clause-numbers : goal.returns-then-next-gt0-clause-numbers
+returns-then-next-gt0-clause-numbers c = map-set_same number_of c.args.links.now (c.args.next - 1) _ (record { number = 0; before = 0; hint = 0 }) refl
+
+-- a list with another number before a place
+set_at : (bs : List ℕ) (next v j : ℕ) → 0 < next → next - 1 < length bs → get_or (set bs (next - 1) v) j 0 ≡ cond (eqb (j + 1) next) v (get_or bs j 0)
+set_at bs next v j some within = go (eqb (j + 1) next) refl
+  where
+    go : (b : Bool) → eqb (j + 1) next ≡ b → get_or (set bs (next - 1) v) j 0 ≡ cond b v (get_or bs j 0)
+    go true e =
+        let same : j ≡ next - 1 = omega (arith, eqb-true (j + 1) next e) in
+        ap (λ m. get_or (set bs (next - 1) v) m 0) same ∙ get_or-set_same bs (next - 1) v 0 within
+    go false e = get_or-set_other bs (next - 1) j v 0 (λ same. eqb-false (j + 1) next e (omega arith))
+
+pub returns-then-next-gt0-clause-befores : goal.returns-then-next-gt0-clause-befores
+returns-then-next-gt0-clause-befores c j =
+    ap (λ bs. get_or bs j 0) (map-set before_of c.args.links.now (c.args.next - 1) _) ∙ set_at (befores_of c.args.links.now) c.args.next c.args.place j (omega arith) (omega (arith, length-map c.args.links.now before_of))

@@ -1,0 +1,10 @@
+use Rattle.std.proofs.Common.{◌%◌, length}
+use Rattle.hchain.specs.Linked.{is_in, numbers_of}
+use Rattle.hchain.proofs.Relinked.{Walk}
+use Rattle.hchain.proofs.relink.link_at.Given as goal
+
+abbrev pub invariant-loop-before : goal.invariant-loop-before
+invariant-loop-before l = Walk (is_in (length l.last) (l.number % length l.last)) (numbers_of l.links) l.index l.before l.hint
+
+abbrev pub decreases-loop-before : goal.decreases-loop-before
+decreases-loop-before l = l.before
