@@ -2,7 +2,7 @@
 use Rattle.std.proofs.Common.{◌≡◌, ℕ, zero, suc, ◌-◌, ◌<◌, ◌≤◌, ◌==◌, Bool, List, [], ◌∷◌, ◌++◌, length, map, reverse, take, take-suc, drop, get_or, refl, sym, ◌∙◌, ap, arith, if◌then◌else◌}
 use Rattle.std.proofs.lemmas.List.{map-append, take-map, drop-map, reverse-append, length-reverse, length-take-le, take_all}
 use Rattle.std.specs.List.{insert, remove}
-use Rattle.hopen.specs.Chains.{last_up}
+use Rattle.hchain.specs.Chains.{last_up}
 use Rattle.hopen.specs.Places.{last_place}
 
 -- where a number stands last, in a list whose last member comes first

@@ -6,7 +6,7 @@ use Rattle.std.proofs.lemmas.List.{append-nil, append_assoc, drop-map, drop-set-
 use Rattle.std.proofs.lemmas.List.Edits.{between_more, length-swap, swap_is, swapped_from_swap}
 use Rattle.std.proofs.lemmas.List.Elements.{All-append, All-drop, All-filter, All-get_or, All-head, All-tail, All-take, filter-append, filter_passes}
 use Rattle.hopen.specs.Buckets.{bucket}
-use Rattle.hopen.specs.Chains.{none}
+use Rattle.hchain.specs.Chains.{none}
 use Rattle.hopen.specs.Formatting.{EntryOf}
 use Rattle.hopen.specs.Items.{IsStored, entry_is, is_gone, item_of, nowhere}
 use Rattle.hopen.specs.Listed.{IsListed, by_hash, by_name, by_node, number_by, numbers_by, unless_hole}

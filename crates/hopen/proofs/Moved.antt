@@ -8,7 +8,7 @@ use Rattle.std.proofs.lemmas.Bool.{eqb-true}
 use Rattle.std.proofs.lemmas.List.{append_assoc, drop-set-lt, get_or-map, get_or-reverse, get_or-set_other, length-append, length-map, length-reverse, length-set, length-take-le, map-set, reverse-append, set-get_or, set-set, set_split, take-set}
 use Rattle.std.proofs.lemmas.List.Edits.{length-remove}
 use Rattle.std.proofs.lemmas.List.Elements.{All-get_or, All-head, All-set, All-tail}
-use Rattle.hopen.specs.Chains.{last_up, none}
+use Rattle.hchain.specs.Chains.{last_up, none}
 use Rattle.hopen.specs.Formatting.{EntryOf, for_node, is_entry}
 use Rattle.hopen.specs.Items.{IsStored, entry_is, is_gone, item_of, items_of, nowhere, renamed, told}
 use Rattle.hopen.specs.Listed.{IsListed, by_hash, by_name, by_node, number_by, numbers_by}

@@ -4,7 +4,7 @@ use Rattle.std.specs.List.{All}
 use Rattle.std.proofs.lemmas.List.{take-map, map-set, length-set, length-take-le, get_or-take, get_or-set_other}
 use Rattle.std.proofs.lemmas.List.Elements.{All-take, All-set}
 use Rattle.hopen.specs.Buckets.{bucket}
-use Rattle.hopen.specs.Chains.{none}
+use Rattle.hchain.specs.Chains.{none}
 use Rattle.hopen.specs.Formatting.{EntryOf}
 use Rattle.hopen.specs.Items.{IsStored, is_gone, item_of}
 use Rattle.hopen.specs.Listed.{IsListed, by_hash, by_name, by_node, number_by, numbers_by, unless_hole}

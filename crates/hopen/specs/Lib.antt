@@ -14,7 +14,6 @@ pub mod Places
 pub mod NameSets
 pub mod Kept
 pub mod Exchanged
-pub mod Chains
 pub mod Listed
 pub mod Buckets
 pub mod Holes

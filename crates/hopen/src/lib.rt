@@ -4,7 +4,6 @@
 pub mod attributes;
 pub mod bookmark;
 mod buckets;
-mod chains;
 pub mod entry;
 mod exchange;
 pub mod formatting;

@@ -5,15 +5,15 @@ ghost use Rattle.std.specs.List.{list_any};
 ghost use Rattle.std.specs.Option.{option_map_or};
 ghost use Rattle.hnodes.specs.Rows.{attribute_of};
 ghost use Rattle.hopen.specs.Buckets.{bucket};
-ghost use Rattle.hopen.specs.Chains.{none};
+ghost use Rattle.hchain.specs.Chains.{none};
 ghost use Rattle.hopen.specs.Formatting.{for_node, is_entry, with_room};
 ghost use Rattle.hopen.specs.Items.{IsStored, is_gone, item_of, items_of, live, told, renamed};
 ghost use Rattle.hopen.specs.Listed.{IsListed, by_hash, by_name, by_node, number_by};
 ghost use Rattle.hopen.specs.Nearest.{changed_at, put_before};
 ghost use Rattle.hopen.specs.declared.entry.Item.TheVariants as stored;
 
-use crate::chains::Chains;
 use crate::entry::Item;
+use hchain::Chains;
 use hnodes::NodeId;
 use names::{Attr, NameId};
 use std::alloc::{AllocError, Global};

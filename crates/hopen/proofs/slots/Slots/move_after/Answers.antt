@@ -2,7 +2,7 @@ use Rattle.std.proofs.Common.{◌≡◌, ◌<◌, ◌==◌, suc, length, get_or,
 use Rattle.std.specs.List.{insert, remove}
 use Rattle.std.proofs.lemmas.List.{get_or_read, get_or-set_same, length-reverse, length-set}
 use Rattle.std.proofs.lemmas.List.Edits.{length-remove}
-use Rattle.hopen.specs.Chains.{last_up}
+use Rattle.hchain.specs.Chains.{last_up}
 use Rattle.hopen.specs.Formatting.{is_entry}
 use Rattle.hopen.specs.Items.{item_of, items_of, nowhere, renamed}
 use Rattle.hopen.specs.Nearest.{put_before}
