@@ -24,3 +24,4 @@ pub mod Moved
 pub mod Slotted
 pub mod Marked
 pub mod Closed
+pub mod Pushed
