@@ -1,11 +1,12 @@
 -- Equal entries have the same bucket.
-use Rattle.std.proofs.Common.{◌≡◌, ℕ, ◌<◌, Bool, true, false, cond, ltb, eqb, nat_eq, nat_cmp, Less, IsSorted, IsPermutation, bytes_eq, ◌&&◌, ◌||◌, ◌%◌, List, [], ◌∷◌, map, refl, sym, ◌∙◌, ap, arith}
+use Rattle.std.proofs.Common.{◌≡◌, ◌≢◌, ℕ, zero, suc, ◌<◌, Bool, true, false, cond, ltb, eqb, nat_eq, nat_cmp, Less, IsSorted, IsPermutation, bytes_eq, ◌&&◌, ◌||◌, ◌%◌, List, [], ◌∷◌, map, refl, sym, ◌∙◌, ap, arith}
 use Rattle.std.specs.List.{list_any, dedup, dedup_from, AllByRecursion}
 use Rattle.std.specs.List.Sorted.{IsStrictlySortedBy}
 use Rattle.std.specs.Cmp.{both_ways, nat_cmp_is, unsigned_ties}
+use Rattle.std.specs.Option.{option_map_or}
 use Rattle.std.specs.FinMap.{nat_cmp-IsAntisymmetric}
 use Rattle.std.specs.BTreeMap.{is_at}
-use Rattle.std.proofs.lemmas.Bool.{ltb-true, ltb-false, eqb-true, eqb-false}
+use Rattle.std.proofs.lemmas.Bool.{ltb-true, ltb-false, eqb-true, eqb-false, ne_eqb}
 use Rattle.std.proofs.lemmas.Cmp.{nat_cmp_total}
 use Rattle.std.proofs.lemmas.List.Kept.{IsStrictlySortedBy-dedup}
 use Rattle.std.proofs.lemmas.List.Sorted.{list_any-IsPermutation}
@@ -13,7 +14,11 @@ use Rattle.std.proofs.lemmas.Map.Lookups.{btree_set_from_contains}
 use Rattle.names.proofs.TableLemmas.{bytes_eq-true}
 use Rattle.hnodes.specs.Forest.{Attribute}
 use Rattle.hopen.specs.Buckets.{bucket, distinct, hash_bytes, hash_of, put_in, total}
-use Rattle.hopen.specs.Formatting.{EntryOf, are_among, is_equal, same_attribute}
+use Rattle.hopen.specs.Formatting.{EntryOf, are_among, as_entry, is_equal, same_attribute, same_attributes}
+use Rattle.hopen.specs.Items.{item_of, nowhere, told}
+use Rattle.hopen.specs.Listed.{by_hash}
+use Rattle.hopen.specs.declared.entry.Item.{Item as Stored}
+use Rattle.hopen.specs.declared.entry.Item.TheVariants as stored
 
 -- numbers that ascend, with one more
 abbrev AllAbove : ℕ → List ℕ → Type 0
@@ -145,3 +150,19 @@ same-bucket new e equal = go (nat_eq new.name e.name) refl (are_among nat_eq new
     go true name true there false back equal = cc
     go true name false there w back equal = cc
     go false name v there w back equal = cc
+
+-- An entry that is equal to one with a name is no hole, and has the number of the same hash.
+pub same-number : (new e : EntryOf ℕ) → new.name < nowhere → is_equal nat_eq new e ≡ true → suc (by_hash e) ≡ suc (suc (bucket new))
+same-number new e named equal = go (nat_eq new.name e.name) refl equal
+  where
+    go : (u : Bool) → nat_eq new.name e.name ≡ u → (u && same_attributes nat_eq new.attrs e.attrs) ≡ true → suc (by_hash e) ≡ suc (suc (bucket new))
+    go true name all =
+        let other : e.name ≢ nowhere = omega (arith, eqb-true new.name e.name name) in
+        rw (ne_eqb e.name nowhere other) (ap (λ n. suc (suc n)) (sym (same-bucket new e equal)))
+    go false name all = cc
+
+-- an item that is told to be equal is seen as such an entry
+pub told-equal : (new : EntryOf ℕ) → new.name < nowhere → (x : Stored) → option_map_or (is_equal nat_eq new) (told x) false ≡ option_map_or (is_equal nat_eq new) (as_entry (item_of x)) false
+told-equal new named stored.Hole = let other : new.name ≢ nowhere = omega arith in rw (ne_eqb new.name nowhere other) refl
+told-equal new named stored.Marker = refl
+told-equal new named (stored.Entry e) = refl
