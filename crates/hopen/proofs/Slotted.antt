@@ -1,5 +1,5 @@
 -- The items of a list and their numbers, where the last ones leave, and where one becomes a hole.
-use Rattle.std.proofs.Common.{◌≡◌, ◌≢◌, ℕ, suc, ◌+◌, ◌<◌, ◌≤◌, Bool, true, false, List, length, map, take, set, get_or, min, max, subst, sym, ◌∙◌, ap, arith}
+use Rattle.std.proofs.Common.{◌≡◌, ◌≢◌, ℕ, ◌+◌, ◌<◌, ◌≤◌, length, take, set, get_or, min, max, subst, sym, ◌∙◌, ap, arith}
 use Rattle.std.specs.List.{All}
 use Rattle.std.proofs.lemmas.List.{take-map, map-set, length-set, length-take-le, get_or-take, get_or-set_other}
 use Rattle.std.proofs.lemmas.List.Elements.{All-take, All-set}
@@ -8,7 +8,6 @@ use Rattle.hopen.specs.Chains.{none}
 use Rattle.hopen.specs.Formatting.{EntryOf}
 use Rattle.hopen.specs.Items.{IsStored, is_gone, item_of}
 use Rattle.hopen.specs.Listed.{IsListed, by_hash, by_name, by_node, number_by, numbers_by, unless_hole}
-use Rattle.hopen.specs.declared.entry.Item.{Item as Stored}
 use Rattle.hopen.specs.declared.entry.Item.TheVariants as stored
 use Rattle.hopen.specs.declared.slots.Slots.{Slots}
 
