@@ -3,7 +3,6 @@ use Rattle.std.specs.List.{remove}
 use Rattle.std.specs.Option.{option_map_or}
 use Rattle.std.proofs.lemmas.List.{length-map}
 use Rattle.hnodes.specs.Rows.{attribute_of}
-use Rattle.hchain.specs.Chains.{none}
 use Rattle.hopen.specs.Formatting.{EntryOf, Item, after_marker, as_entry, is_equal}
 use Rattle.hopen.specs.Items.{item_of, items_of, nowhere}
 use Rattle.hopen.specs.Listed.{by_hash, number_by, numbers_by}
