@@ -1,7 +1,8 @@
 -- Going up the stack, and going back over the list.
-use Rattle.std.proofs.Common.{◌≡◌, ℕ, zero, suc, ◌+◌, Bool, true, false, not, ◌&&◌, ◌||◌, List, [], ◌∷◌, refl, arith, drop, length, Some, slice_get}
+use Rattle.std.proofs.Common.{◌≡◌, ℕ, zero, suc, ◌+◌, Bool, true, false, not, ◌&&◌, ◌||◌, List, [], ◌∷◌, refl, arith, drop, length, Some, slice_get, sym, ◌==◌, if◌then◌else◌}
 use Rattle.std.specs.List.{list_all}
 use Rattle.std.specs.Option.{option_map_or}
+use Rattle.std.proofs.Math.Dec.{eqb-suc-zero}
 use Rattle.hopen.specs.Nearest.{before}
 use Rattle.hopen.specs.Stack.{OpenNode, in_scope, is_open}
 use Rattle.hopen.specs.Formatting.{Item, marker, entry, entry_at}
@@ -34,3 +35,13 @@ goes_on s [] back goes = cc
 goes_on s (marker ∷ items) zero goes = cc
 goes_on s (entry e ∷ items) zero goes = rw (goes) (omega arith)
 goes_on s (x ∷ items) (suc back) goes = let e : suc back + 1 ≡ suc (back + 1) = omega arith in rw (e) (goes_on s items back goes)
+
+-- going back ends at once where it stops at the last item
+pub stopped-at-once : (s : SiteOf ℕ) (items : List (Item ℕ)) → stops_at s 0 items ≡ (length (before (stops_going_back s) items) == 0)
+stopped-at-once s [] = refl
+stopped-at-once s (marker ∷ items) = refl
+stopped-at-once s (entry e ∷ items) = go (is_open e.node (stack s))
+  where
+    go : (v : Bool) → v ≡ (length (if v then [] else entry e ∷ before (stops_going_back s) items) == 0)
+    go true = refl
+    go false = sym (eqb-suc-zero (length (before (stops_going_back s) items)))
