@@ -21,7 +21,7 @@ pub(crate) struct Link {
 
 /// A list of numbers.
 ///
-/// Numbers that leave the same remainder are a group, and there are at least half as many groups as numbers. A question walks the
+/// Numbers that leave the same remainder are a group, and there are more groups than numbers. A question walks the
 /// group of a number; an edit of one place mends what keeps it. A number takes 16 bytes, and a group 4.
 #[derive(Debug, Drop)]
 pub struct Chains {

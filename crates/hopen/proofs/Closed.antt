@@ -133,7 +133,7 @@ module _ (from end index : ℕ) (old items : List Stored) (is : IsTaken from end
       let new : set (set items end next) index last ≡ swap items end index = swap_is items end index stored.Hole low high in
       let within : end < length (swap items end index) = omega (arith, length-swap items end index) in
       let before : take end (swap items end index) ≡ take end items =
-            ap (take end) (sym new) ∙ take-set-le end (set items end next) index last is.below ∙ take-set-le end items end next (omega arith) in
+      ap (take end) (sym new) ∙ take-set-le end (set items end next) index last is.below ∙ take-set-le end items end next (omega arith) in
       let moved : get_or (swap items end index) end stored.Hole ≡ next = (swapped_from_swap items (swap items end index) end index stored.Hole low high refl).0 in
       record {
         above = omega (arith, is.above);

@@ -157,8 +157,8 @@ listed-renewed node i old new listed h some low names hashes nodes solid items =
     let x = get_or xs i stored.Hole in
     let stored : IsStored x = All-get_or IsStored xs i stored.Hole h listed.stored in
     let ns : set (set old.nodes i none) i (suc (suc node)) ≡ numbers_by by_node (set xs i (renamed node x)) =
-          set-set old.nodes i none (suc (suc node)) ∙ ap (λ l. set l i (suc (suc node))) listed.nodes ∙ ap (set (numbers_by by_node xs) i) (sym (renamed-node node x some stored))
-          ∙ sym (map-set (λ y. number_by by_node (item_of y)) xs i (renamed node x)) in
+    set-set old.nodes i none (suc (suc node)) ∙ ap (λ l. set l i (suc (suc node))) listed.nodes ∙ ap (set (numbers_by by_node xs) i) (sym (renamed-node node x some stored))
+    ∙ sym (map-set (λ y. number_by by_node (item_of y)) xs i (renamed node x)) in
     record {
       names = names ∙ listed.names ∙ sym (same-by node xs i h some (λ y. number_by by_name (item_of y)) (renamed-name node x)) ∙ ap (numbers_by by_name) (sym items);
       hashes = hashes ∙ listed.hashes ∙ sym (same-by node xs i h some (λ y. number_by by_hash (item_of y)) (renamed-hash node x)) ∙ ap (numbers_by by_hash) (sym items);

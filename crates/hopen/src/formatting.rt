@@ -133,7 +133,8 @@ impl Formatting {
             hash,
             node: node_number(node),
         };
-        self.slots.put(Item::Entry(Entry { node, name, attrs }), numbers)?;
+        self.slots
+            .put(Item::Entry(Entry { node, name, attrs }), numbers)?;
         if let Some(back) = earliest {
             let index = self.slots.items.len() - 2 - back;
             self.slots.hide(index);

@@ -18,12 +18,12 @@ loop-index-preserved c =
     let here : i < length items = omega (arith, is.size) in
     let seen : is_gone (get_or items i stored.Hole) ≡ c.is_hole.result = sym (c.is_hole.ensures ∙ ap is_gone (get_or_read items i c.index.result.now here c.index.ensures stored.Hole)) in
     elim c.if-not-is_hole.branch [
-      then-not-is_hole w ↦
-        subst (λ n. IsTaken from n (i + 1) old c.if-not-is_hole.items.items) (sym w.end-is)
-        (subst (IsTaken from (c.loop-index.end + 1) (i + 1) old) (sym (ap (λ (v : Vec Stored Global). v.items) w.items-is ∙ w.swap.ensures.items))
-        (taken-item from c.loop-index.end i old items is within (seen ∙ w.if-not-is_hole.true)))
+      | then-not-is_hole w ↦
+          subst (λ n. IsTaken from n (i + 1) old c.if-not-is_hole.items.items) (sym w.end-is)
+          (subst (IsTaken from (c.loop-index.end + 1) (i + 1) old) (sym (ap (λ (v : Vec Stored Global). v.items) w.items-is ∙ w.swap.ensures.items))
+          (taken-item from c.loop-index.end i old items is within (seen ∙ w.if-not-is_hole.true)))
       | else-not-is_hole w ↦
-        subst (λ n. IsTaken from n (i + 1) old c.if-not-is_hole.items.items) (sym w.end-is)
-        (subst (IsTaken from c.loop-index.end (i + 1) old) (sym (ap (λ (v : Vec Stored Global). v.items) w.items-is))
-        (taken-hole from c.loop-index.end i old items is within (seen ∙ w.if-not-is_hole.false)))
+          subst (λ n. IsTaken from n (i + 1) old c.if-not-is_hole.items.items) (sym w.end-is)
+          (subst (IsTaken from c.loop-index.end (i + 1) old) (sym (ap (λ (v : Vec Stored Global). v.items) w.items-is))
+          (taken-hole from c.loop-index.end i old items is within (seen ∙ w.if-not-is_hole.false)))
     ]

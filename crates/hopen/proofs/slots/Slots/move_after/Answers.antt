@@ -27,9 +27,9 @@ shift-requires-clause-to c =
     let rest = remove items c.args.index in
     let low : c.args.mark < nowhere = omega arith in
     let placed = mark-place c.args.mark low items c.args.self.now.nodes c.args.index c.last-place.result c.requires.within c.requires.listed.stored c.requires.listed.nodes
-          (c.last-place.ensures ∙ ap (λ n. last_up (λ k. k == n) c.clear.new.self (length c.clear.new.self)) c.node_number.ensures ∙ ap (λ l. last_up (λ k. k == suc (suc c.args.mark)) l (length l)) c.clear.ensures) in
+    (c.last-place.ensures ∙ ap (λ n. last_up (λ k. k == n) c.clear.new.self (length c.clear.new.self)) c.node_number.ensures ∙ ap (λ l. last_up (λ k. k == suc (suc c.args.mark)) l (length l)) c.clear.ensures) in
     let to : c.if-place-index.shift ≡ last_place (λ x. is_entry c.args.mark (item_of x)) (reverse rest) =
-          elim c.if-place-index.branch [ then-place-index w ↦ w.shift-is ∙ placed.below w.if-place-index.true | else-place-index w ↦ w.shift-is ∙ placed.above w.if-place-index.false ] in
+    elim c.if-place-index.branch [ then-place-index w ↦ w.shift-is ∙ placed.below w.if-place-index.true | else-place-index w ↦ w.shift-is ∙ placed.above w.if-place-index.false ] in
     omega (arith, last_place-le (λ x. is_entry c.args.mark (item_of x)) (reverse rest), length-reverse rest, length-remove items c.args.index c.requires.within, length-set items c.args.index c.set_node.new.self)
 
 pub returns-clause-items : goal.returns-clause-items
@@ -39,9 +39,9 @@ returns-clause-items c =
     let it = get_or items c.args.index stored.Hole in
     let low : c.args.mark < nowhere = omega arith in
     let placed = mark-place c.args.mark low items c.args.self.now.nodes c.args.index c.last-place.result c.requires.within c.requires.listed.stored c.requires.listed.nodes
-          (c.last-place.ensures ∙ ap (λ n. last_up (λ k. k == n) c.clear.new.self (length c.clear.new.self)) c.node_number.ensures ∙ ap (λ l. last_up (λ k. k == suc (suc c.args.mark)) l (length l)) c.clear.ensures) in
+    (c.last-place.ensures ∙ ap (λ n. last_up (λ k. k == n) c.clear.new.self (length c.clear.new.self)) c.node_number.ensures ∙ ap (λ l. last_up (λ k. k == suc (suc c.args.mark)) l (length l)) c.clear.ensures) in
     let to : c.if-place-index.shift ≡ last_place (λ x. is_entry c.args.mark (item_of x)) (reverse rest) =
-          elim c.if-place-index.branch [ then-place-index w ↦ w.shift-is ∙ placed.below w.if-place-index.true | else-place-index w ↦ w.shift-is ∙ placed.above w.if-place-index.false ] in
+    elim c.if-place-index.branch [ then-place-index w ↦ w.shift-is ∙ placed.below w.if-place-index.true | else-place-index w ↦ w.shift-is ∙ placed.above w.if-place-index.false ] in
     let new : c.set_node.new.self ≡ renamed c.args.node it = c.set_node.ensures ∙ ap (renamed c.args.node) (get_or_read items c.args.index c.index_mut.result.now c.requires.within c.index_mut.ensures.value stored.Hole) in
     ap items_of
     (c.shift.ensures.items ∙ ap (λ l. insert l c.if-place-index.shift (get_or (set items c.args.index c.set_node.new.self) c.args.index stored.Hole)) (remove-set items c.args.index c.set_node.new.self)
