@@ -1,6 +1,6 @@
 -- What is kept of a list of numbers: the numbers that leave the same remainder are a group, and each keeps the nearest place before it
 -- where one of its group stands.
-use Rattle.std.specs.Prelude.{◌≡◌, ◌≢◌, ℕ, ◌<◌, ◌^◌, ◌%◌, ◌==◌, ◌&&◌, Bool, not, List, length, map, slice_index}
+use Rattle.std.specs.Prelude.{◌≡◌, ◌≢◌, ℕ, ◌+◌, ◌-◌, ◌<◌, ◌≤◌, ◌^◌, ◌%◌, ◌==◌, ◌&&◌, Bool, IsTrue, not, List, length, map, slice_index}
 use Rattle.hchain.specs.Chains.{none, last_up}
 use Rattle.hchain.specs.declared.chains.Link.{Link}
 
@@ -19,6 +19,20 @@ befores_of links = map before_of links
 -- whether a number is of a group, where there are so many groups
 abbrev pub is_in : (width group : ℕ) → ℕ → Bool
 is_in width group n = not (n == none) && n % width == group
+
+-- .. of the group of a number
+abbrev pub group_of : (width number : ℕ) → ℕ → Bool
+group_of width number = is_in width (number % width)
+
+-- a place, if it is one, comes after an index, among so many numbers, and what is sought stands there
+abbrev pub StandsAfter : (ℕ → Bool) → (count : ℕ) → (numbers : List ℕ) → (index place : ℕ) → Type 0
+StandsAfter sought count numbers index place =
+    0 < place → (index + 1 < place) × (place ≤ count) × IsTrue (sought (slice_index numbers (place - 1)))
+
+-- what is sought stands nowhere after an index and before a place; nor after the index at all where the place is 0
+abbrev pub NoneBetween : (ℕ → Bool) → (count : ℕ) → (numbers : List ℕ) → (index place : ℕ) → Type 0
+NoneBetween sought count numbers index place =
+    (j : ℕ) → index < j → j < count → IsTrue (sought (slice_index numbers j)) → (0 < place) × (place ≤ j + 1)
 
 -- each number keeps the nearest place before it where one of its group stands
 abbrev pub Keep : (width : ℕ) → (numbers befores : List ℕ) → Type 0

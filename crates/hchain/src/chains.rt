@@ -81,7 +81,7 @@ fn unwind(last: &mut [u32], links: &[Link], from: usize)
 }
 
 /// Says at a place, if it is one, where the next number of its group stands.
-fn hint_at(links: &mut [Link], place: u32, next: u32)
+pub(crate) fn hint_at(links: &mut [Link], place: u32, next: u32)
     requires { place ≤ length links.old }
     ensures numbers { numbers_of links.new ≡ numbers_of links.old }
     ensures befores { befores_of links.new ≡ befores_of links.old }

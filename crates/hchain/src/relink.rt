@@ -2,9 +2,9 @@
 
 ghost use Rattle.std.specs.Prelude.{◌≡◌, ◌≢◌, ℕ, ◌<◌, ◌≤◌, ◌+◌, ◌-◌, ◌^◌, ◌%◌, ◌==◌, IsTrue, if◌then◌else◌, length, slice_index, slice_set};
 ghost use Rattle.hchain.specs.Chains.{last_up, none};
-ghost use Rattle.hchain.specs.Linked.{IsChained, befores_of, is_in, numbers_of};
+ghost use Rattle.hchain.specs.Linked.{IsChained, NoneBetween, StandsAfter, befores_of, group_of, numbers_of};
 
-use crate::chains::{Chains, Link, NONE};
+use crate::chains::{Chains, Link, NONE, hint_at};
 
 /// What a number at an index keeps: the nearest place before it where its group stands, and the next one as a hint; 0 is none.
 ///
@@ -14,13 +14,9 @@ fn link_at(last: &[u32], links: &[Link], index: usize, number: u64) -> Link
     requires fits { length links.now < 2 ^ 32 }
     requires within { index < length links.now }
     ensures number { result.number ≡ number }
-    ensures before { result.before ≡ last_up (is_in (length last.now) (number % length last.now)) (numbers_of links.now) (index + 1) }
-    ensures next { let numbers = numbers_of links.now in
-        let sought = is_in (length last.now) (number % length last.now) in
-        0 < result.hint → (index + 1 < result.hint) × (result.hint ≤ length links.now) × IsTrue (sought (slice_index numbers (result.hint - 1))) }
-    ensures least { let numbers = numbers_of links.now in
-        let sought = is_in (length last.now) (number % length last.now) in
-        (j : ℕ) → index < j → j < length links.now → IsTrue (sought (slice_index numbers j)) → (0 < result.hint) × (result.hint ≤ j + 1) }
+    ensures before { result.before ≡ last_up (group_of (length last.now) number) (numbers_of links.now) (index + 1) }
+    ensures next { StandsAfter (group_of (length last.now) number) (length links.now) (numbers_of links.now) index result.hint }
+    ensures least { NoneBetween (group_of (length last.now) number) (length links.now) (numbers_of links.now) index result.hint }
 {
     let mut before = last[number as usize % last.len()];
     let mut hint = 0;
@@ -42,11 +38,9 @@ fn above(last: &[u32], links: &[Link], index: usize) -> u32
     requires within { index < length links.now }
     requires number { slice_index (numbers_of links.now) index ≢ none }
     ensures next { let numbers = numbers_of links.now in
-        let sought = is_in (length last.now) (slice_index numbers index % length last.now) in
-        0 < result → (index + 1 < result) × (result ≤ length links.now) × IsTrue (sought (slice_index numbers (result - 1))) }
+        StandsAfter (group_of (length last.now) (slice_index numbers index)) (length links.now) numbers index result }
     ensures least { let numbers = numbers_of links.now in
-        let sought = is_in (length last.now) (slice_index numbers index % length last.now) in
-        (j : ℕ) → index < j → j < length links.now → IsTrue (sought (slice_index numbers j)) → (0 < result) × (result ≤ j + 1) }
+        NoneBetween (group_of (length last.now) (slice_index numbers index)) (length links.now) numbers index result }
 {
     let Link { number, hint, .. } = links[index];
     if hint > 0 && hint as usize <= links.len() {
@@ -73,17 +67,6 @@ fn keep(last: &mut [u32], links: &mut [Link], group: usize, next: u32, place: u3
     }
 }
 
-/// Changes the hint at a place, if there is one.
-fn give_hint(links: &mut [Link], place: u32, next: u32)
-    requires { place ≤ length links.old }
-    ensures numbers { numbers_of links.new ≡ numbers_of links.old }
-    ensures befores { befores_of links.new ≡ befores_of links.old }
-{
-    if place > 0 {
-        links[place as usize - 1].hint = next;
-    }
-}
-
 /// Takes out the number at an index. The hint of the link that it gives is right.
 fn take_out(last: &mut [u32], links: &mut [Link], index: usize) -> Link
     requires chained { IsChained last.old links.old }
@@ -93,13 +76,9 @@ fn take_out(last: &mut [u32], links: &mut [Link], index: usize) -> Link
     ensures chained { IsChained last.new links.new }
     ensures numbers { numbers_of links.new ≡ slice_set (numbers_of links.old) index none }
     ensures number { result.number ≡ slice_index (numbers_of links.old) index }
-    ensures before { result.before ≡ last_up (is_in (length last.old) (result.number % length last.old)) (numbers_of links.new) (index + 1) }
-    ensures next { let numbers = numbers_of links.new in
-        let sought = is_in (length last.old) (result.number % length last.old) in
-        0 < result.hint → (index + 1 < result.hint) × (result.hint ≤ length links.old) × IsTrue (sought (slice_index numbers (result.hint - 1))) }
-    ensures least { let numbers = numbers_of links.new in
-        let sought = is_in (length last.old) (result.number % length last.old) in
-        (j : ℕ) → index < j → j < length links.old → IsTrue (sought (slice_index numbers j)) → (0 < result.hint) × (result.hint ≤ j + 1) }
+    ensures before { result.before ≡ last_up (group_of (length last.old) result.number) (numbers_of links.new) (index + 1) }
+    ensures next { StandsAfter (group_of (length last.old) result.number) (length links.old) (numbers_of links.new) index result.hint }
+    ensures least { NoneBetween (group_of (length last.old) result.number) (length links.old) (numbers_of links.new) index result.hint }
 {
     let hint = above(last, links, index);
     let Link { number, before, .. } = links[index];
@@ -109,7 +88,7 @@ fn take_out(last: &mut [u32], links: &mut [Link], index: usize) -> Link
         hint: 0,
     };
     keep(last, links, number as usize % last.len(), hint, before);
-    give_hint(links, before, hint);
+    hint_at(links, before, hint);
     Link {
         number,
         before,
@@ -124,13 +103,9 @@ fn put_in(last: &mut [u32], links: &mut [Link], index: usize, link: Link)
     requires within { index < length links.old }
     requires free { slice_index (numbers_of links.old) index ≡ none }
     requires number { link.number ≢ none }
-    requires before { link.before ≡ last_up (is_in (length last.old) (link.number % length last.old)) (numbers_of links.old) (index + 1) }
-    requires next { let numbers = numbers_of links.old in
-        let sought = is_in (length last.old) (link.number % length last.old) in
-        0 < link.hint → (index + 1 < link.hint) × (link.hint ≤ length links.old) × IsTrue (sought (slice_index numbers (link.hint - 1))) }
-    requires least { let numbers = numbers_of links.old in
-        let sought = is_in (length last.old) (link.number % length last.old) in
-        (j : ℕ) → index < j → j < length links.old → IsTrue (sought (slice_index numbers j)) → (0 < link.hint) × (link.hint ≤ j + 1) }
+    requires before { link.before ≡ last_up (group_of (length last.old) link.number) (numbers_of links.old) (index + 1) }
+    requires next { StandsAfter (group_of (length last.old) link.number) (length links.old) (numbers_of links.old) index link.hint }
+    requires least { NoneBetween (group_of (length last.old) link.number) (length links.old) (numbers_of links.old) index link.hint }
     ensures chained { IsChained last.new links.new }
     ensures numbers { numbers_of links.new ≡ slice_set (numbers_of links.old) index link.number }
 {
@@ -143,7 +118,7 @@ fn put_in(last: &mut [u32], links: &mut [Link], index: usize, link: Link)
         link.hint,
         place,
     );
-    give_hint(links, link.before, place);
+    hint_at(links, link.before, place);
 }
 
 /// Takes out what stands at an index.

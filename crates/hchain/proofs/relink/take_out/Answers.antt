@@ -19,8 +19,8 @@ out last links i next chained within some found least = record {
   next_is = is-next (is_in (length last) (get_or (numbers_of links) i 0 % length last)) (numbers_of links) i next (length links) (sym (length-numbers links)) found least;
 }
 
-pub give_hint-requires : goal.give_hint-requires
-give_hint-requires c =
+pub hint_at-requires : goal.hint_at-requires
+hint_at-requires c =
     let o : Out c.args.last.now c.args.links.now c.args.index c.above-hint.result = out c.args.last.now c.args.links.now c.args.index c.above-hint.result c.requires.chained c.requires.within c.requires.number c.above-hint.ensures.next c.above-hint.ensures.least in
     omega (arith, c.keep.auto.links, length-set c.args.links.now c.args.index (record { number = 1; before = 0; hint = 0 }), out-within c.args.last.now c.args.links.now c.args.index c.above-hint.result o)
 
@@ -30,30 +30,30 @@ returns-clause-chained c =
     let old : Link = get_or c.args.links.now c.args.index (record { number = 0; before = 0; hint = 0 }) in
     let x : Link = record { number = 1; before = 0; hint = 0 } in
     let g : ℕ = old.number % length c.args.last.now in
-    let r : Rewritten c.args.last.now c.args.links.now x g c.args.index c.above-hint.result old.before c.keep.new.last c.keep.new.links c.give_hint.new.links = record {
+    let r : Rewritten c.args.last.now c.args.links.now x g c.args.index c.above-hint.result old.before c.keep.new.last c.keep.new.links c.hint_at.new.links = record {
       differ = out-differ c.args.last.now c.args.links.now c.args.index c.above-hint.result o;
       group = out-group c.args.last.now c.args.links.now c.args.index c.above-hint.result o;
       numbers2 = c.keep.ensures.numbers;
       table2 = c.keep.ensures.table;
       befores2 = c.keep.ensures.befores;
-      numbers3 = c.give_hint.ensures.numbers;
-      befores3 = c.give_hint.ensures.befores;
+      numbers3 = c.hint_at.ensures.numbers;
+      befores3 = c.hint_at.ensures.befores;
       here = λ ne. absurd (ne refl);
       keeps = out-before c.args.last.now c.args.links.now c.args.index c.above-hint.result o;
     } in
-    rewritten c.args.last.now c.args.links.now x g c.args.index c.above-hint.result old.before c.keep.new.last c.keep.new.links c.give_hint.new.links r c.requires.chained
+    rewritten c.args.last.now c.args.links.now x g c.args.index c.above-hint.result old.before c.keep.new.last c.keep.new.links c.hint_at.new.links r c.requires.chained
 
 pub returns-clause-numbers : goal.returns-clause-numbers
 returns-clause-numbers c =
     let x : Link = record { number = 1; before = 0; hint = 0 } in
-    c.give_hint.ensures.numbers ∙ c.keep.ensures.numbers ∙ map-set number_of c.args.links.now c.args.index x
+    c.hint_at.ensures.numbers ∙ c.keep.ensures.numbers ∙ map-set number_of c.args.links.now c.args.index x
 
 pub returns-clause-before : goal.returns-clause-before
 returns-clause-before c =
     let o : Out c.args.last.now c.args.links.now c.args.index c.above-hint.result = out c.args.last.now c.args.links.now c.args.index c.above-hint.result c.requires.chained c.requires.within c.requires.number c.above-hint.ensures.next c.above-hint.ensures.least in
     let old : Link = get_or c.args.links.now c.args.index (record { number = 0; before = 0; hint = 0 }) in
     let x : Link = record { number = 1; before = 0; hint = 0 } in
-    let ys : numbers_of c.give_hint.new.links ≡ set (numbers_of c.args.links.now) c.args.index none = c.give_hint.ensures.numbers ∙ c.keep.ensures.numbers ∙ map-set number_of c.args.links.now c.args.index x in
+    let ys : numbers_of c.hint_at.new.links ≡ set (numbers_of c.args.links.now) c.args.index none = c.hint_at.ensures.numbers ∙ c.keep.ensures.numbers ∙ map-set number_of c.args.links.now c.args.index x in
     out-before c.args.last.now c.args.links.now c.args.index c.above-hint.result o
     ∙ (λ t. last_up (is_in (length c.args.last.now) (old.number % length c.args.last.now)) (sym ys t) (sym (add-one c.args.index) t))
 
@@ -63,10 +63,10 @@ returns-clause-next c =
     let old : Link = get_or c.args.links.now c.args.index (record { number = 0; before = 0; hint = 0 }) in
     let x : Link = record { number = 1; before = 0; hint = 0 } in
     let s = is_in (length c.args.last.now) (old.number % length c.args.last.now) in
-    let ys : numbers_of c.give_hint.new.links ≡ set (numbers_of c.args.links.now) c.args.index none = c.give_hint.ensures.numbers ∙ c.keep.ensures.numbers ∙ map-set number_of c.args.links.now c.args.index x in
-    let len : length c.args.links.now ≡ length (numbers_of c.give_hint.new.links) = sym (ap length ys ∙ length-set (numbers_of c.args.links.now) c.args.index none ∙ length-numbers c.args.links.now) in
+    let ys : numbers_of c.hint_at.new.links ≡ set (numbers_of c.args.links.now) c.args.index none = c.hint_at.ensures.numbers ∙ c.keep.ensures.numbers ∙ map-set number_of c.args.links.now c.args.index x in
+    let len : length c.args.links.now ≡ length (numbers_of c.hint_at.new.links) = sym (ap length ys ∙ length-set (numbers_of c.args.links.now) c.args.index none ∙ length-numbers c.args.links.now) in
     let m : IsNext s (set (numbers_of c.args.links.now) c.args.index none) c.args.index c.above-hint.result = out-next c.args.last.now c.args.links.now c.args.index c.above-hint.result o in
-    next-found s (numbers_of c.give_hint.new.links) c.args.index c.above-hint.result (length c.args.links.now) len (subst (λ (zs : List ℕ). IsNext s zs c.args.index c.above-hint.result) (sym ys) m)
+    next-found s (numbers_of c.hint_at.new.links) c.args.index c.above-hint.result (length c.args.links.now) len (subst (λ (zs : List ℕ). IsNext s zs c.args.index c.above-hint.result) (sym ys) m)
 
 pub returns-clause-least : goal.returns-clause-least
 returns-clause-least c =
@@ -74,7 +74,7 @@ returns-clause-least c =
     let old : Link = get_or c.args.links.now c.args.index (record { number = 0; before = 0; hint = 0 }) in
     let x : Link = record { number = 1; before = 0; hint = 0 } in
     let s = is_in (length c.args.last.now) (old.number % length c.args.last.now) in
-    let ys : numbers_of c.give_hint.new.links ≡ set (numbers_of c.args.links.now) c.args.index none = c.give_hint.ensures.numbers ∙ c.keep.ensures.numbers ∙ map-set number_of c.args.links.now c.args.index x in
-    let len : length c.args.links.now ≡ length (numbers_of c.give_hint.new.links) = sym (ap length ys ∙ length-set (numbers_of c.args.links.now) c.args.index none ∙ length-numbers c.args.links.now) in
+    let ys : numbers_of c.hint_at.new.links ≡ set (numbers_of c.args.links.now) c.args.index none = c.hint_at.ensures.numbers ∙ c.keep.ensures.numbers ∙ map-set number_of c.args.links.now c.args.index x in
+    let len : length c.args.links.now ≡ length (numbers_of c.hint_at.new.links) = sym (ap length ys ∙ length-set (numbers_of c.args.links.now) c.args.index none ∙ length-numbers c.args.links.now) in
     let m : IsNext s (set (numbers_of c.args.links.now) c.args.index none) c.args.index c.above-hint.result = out-next c.args.last.now c.args.links.now c.args.index c.above-hint.result o in
-    next-least s (numbers_of c.give_hint.new.links) c.args.index c.above-hint.result (length c.args.links.now) len (subst (λ (zs : List ℕ). IsNext s zs c.args.index c.above-hint.result) (sym ys) m)
+    next-least s (numbers_of c.hint_at.new.links) c.args.index c.above-hint.result (length c.args.links.now) len (subst (λ (zs : List ℕ). IsNext s zs c.args.index c.above-hint.result) (sym ys) m)
