@@ -1,6 +1,7 @@
 //! The tree of a document, and the nodes that are not in it yet, in one vector of linked nodes.
 #![tactic(auto)]
 
+mod attributes;
 mod laws;
 mod links;
 mod node;
