@@ -1,5 +1,7 @@
 -- Where a number stands last in a list of numbers, and whether an attribute of a name is there.
-use Rattle.std.proofs.Common.{◌≡◌, ℕ, zero, suc, ◌==◌, ◌||◌, Bool, true, false, cond, ltb, nat_eq, List, [], ◌∷◌, length, map, get_or, refl, sym, ◌∙◌, ap}
+use Rattle.std.proofs.Common.{◌≡◌, ℕ, zero, suc, ◌==◌, ◌||◌, Bool, true, false, cond, ltb, nat_eq, List, [], ◌∷◌, length, map, get_or, refl, sym, ◌∙◌, ap, arith}
+use Rattle.std.proofs.Math.Dec.{eqb-suc-suc}
+use Rattle.std.proofs.lemmas.Bool.{lt-ltb}
 use Rattle.std.specs.List.{list_any}
 use Rattle.names.specs.declared.attr.Attr.{Attr}
 use Rattle.hchain.specs.Chains.{last_up}
@@ -8,7 +10,7 @@ use Rattle.hnodes.specs.Rows.{attribute_of}
 
 module _ (s : ℕ → Bool) where
   -- where it stands with a number more at the front, which is sought or not
-  up : Bool → ℕ → ℕ
+  abbrev up : Bool → ℕ → ℕ
   up v zero = cond v 1 0
   up v (suc n) = suc (suc n)
 
@@ -26,13 +28,14 @@ module _ (s : ℕ → Bool) where
     where
       go : (v : Bool) (n : ℕ) → ltb 0 n ≡ list_any s xs → ltb 0 (up v n) ≡ (v || list_any s xs)
       go true zero e = refl
-      go true (suc n) e = refl
+      go true (suc n) e = lt-ltb 0 (suc (suc n)) (omega arith)
       go false zero e = e
-      go false (suc n) e = e
+      go false (suc n) e = lt-ltb 0 (suc (suc n)) (omega arith) ∙ sym (lt-ltb 0 (suc n) (omega arith)) ∙ e
 
 any-named : (name : ℕ) (attrs : List Attr) → list_any (λ k. k == suc (suc name)) (numbers_of attrs) ≡ list_any (λ a. nat_eq a.0 name) (map attribute_of attrs)
 any-named name [] = refl
-any-named name (a ∷ attrs) = ap (λ b. nat_eq a.name name || b) (any-named name attrs)
+any-named name (a ∷ attrs) =
+    λ i. (eqb-suc-suc (suc a.name) (suc name) ∙ eqb-suc-suc a.name name) i || any-named name attrs i
 
 -- a search of the attributes
 pub searched-is : (name : ℕ) (attrs : List Attr) → list_any (λ (a : Attr). nat_eq a.name name) attrs ≡ list_any (λ a. nat_eq a.0 name) (map attribute_of attrs)
