@@ -438,7 +438,8 @@ impl Tree {
         match &self.nodes[at.number as usize].content {
             Content::Document => Kind::Document,
             Content::Doctype(_) => Kind::Doctype,
-            Content::Element(_, _) | Content::Wide(_, _) => Kind::Element,
+            Content::Element(_, _) => Kind::Element,
+            Content::Wide(_, _) => Kind::Element,
             Content::Comment(_) => Kind::Comment,
             Content::Text(_) => Kind::Text,
         }
@@ -450,7 +451,8 @@ impl Tree {
         ensures { result ≡ name_of at self.now.trees }
     {
         match &self.nodes[at.number as usize].content {
-            Content::Element(name, _) | Content::Wide(name, _) => Some(*name),
+            Content::Element(name, _) => Some(*name),
+            Content::Wide(name, _) => Some(*name),
             _ => None,
         }
     }
