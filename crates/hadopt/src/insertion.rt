@@ -1,7 +1,6 @@
 //! What is inserted (HTML Standard, 13.2.6.1).
 
 ghost use Rattle.std.specs.Prelude.{◌≡◌, ◌<◌, ◌+◌, ◌^◌, ◌∷◌, ℕ, List, Some, false, length, map, nat_eq, string_bytes, IfOk, OnOk};
-ghost use Rattle.std.specs.List.{list_any};
 ghost use Rattle.std.specs.Str.{chars};
 ghost use Rattle.hnodes.specs.Edits.{IsPlace};
 ghost use Rattle.hnodes.specs.Forest.{Attribute, comment, doctype};
@@ -14,7 +13,7 @@ ghost use Rattle.hopen.specs.Opens.{open_of};
 ghost use Rattle.names.specs.Placed.{placed};
 ghost use Rattle.names.specs.Tags.{number_of};
 ghost use Rattle.hadopt.specs.Gives.{Gives};
-ghost use Rattle.hadopt.specs.Inserts.{added, pushed, inserted, put, put_each, listed, has_attribute, with_missing};
+ghost use Rattle.hadopt.specs.Inserts.{added, pushed, inserted, put, put_each, listed, with_missing};
 ghost use Rattle.hadopt.specs.Kept.{Kept, OpenStands, PlaceStands};
 ghost use Rattle.hadopt.specs.Naming.{numbers};
 ghost use Rattle.hadopt.specs.Site.{Goes, and_then, stack, trees, with_items, with_trees};
@@ -24,13 +23,6 @@ use hnodes::{Doctype, NodeId, Place};
 use hopen::Open;
 use names::{Attr, NameId, Refusal, Tag};
 use std::alloc::AllocError;
-
-/// Whether an attribute of a name is among others.
-fn has_name(attrs: &[Attr], name: NameId) -> bool
-    ensures { result ≡ list_any (λ a. nat_eq a.name name) attrs.now }
-{
-    attrs.iter().any(|attr| attr.name == name)
-}
 
 impl Site {
     /// Inserts a new element at a place and makes it the current node. `at` is the byte offset of the token, here as in all calls.
@@ -136,22 +128,9 @@ impl Site {
         ensures kept { Kept numbers self.old → IfOk result (λ _. Kept numbers self.new) }
     {
         for attr in attrs {
-            if !self.has_attribute(node, attr.name) {
-                self.tree.add_attr(node, attr)?;
-            }
+            self.tree.add_missing_attr(node, attr)?;
         }
         Ok(())
-    }
-
-    /// Whether an element has an attribute of a name.
-    fn has_attribute(&self, node: NodeId, name: NameId) -> bool
-        requires { node < self.now.nodes.made }
-        ensures { result ≡ has_attribute numbers name (attributes_of node (trees self.now)) }
-    {
-        match self.tree.attrs(node) {
-            Some(attrs) => has_name(attrs, name),
-            None => false,
-        }
     }
 
     /// Makes an existing node the current one.

@@ -1,5 +1,5 @@
 -- What a node holds, and what is seen of it.
-use Rattle.std.proofs.Common.{◌≡◌, ℕ, ◌<◌, Bool, true, false, eqb, cond, List, Option, Some, None, length, get_or, set, refl, ◌∙◌, Vec, Global, String}
+use Rattle.std.proofs.Common.{◌≡◌, ℕ, ◌<◌, Bool, true, false, eqb, cond, List, Option, Some, None, length, get_or, set, refl, ◌∙◌, Vec, Global, String, Box}
 use Rattle.std.specs.Option.{option_map}
 use Rattle.hnodes.specs.Forest.{Attribute}
 use Rattle.hnodes.specs.Edits.{with_text, with_attribute}
@@ -24,12 +24,14 @@ pub not_text : (more : List ℕ) (w : Content) → ((a : String Global) → w �
 not_text more content.Document h = refl
 not_text more (content.Doctype d) h = refl
 not_text more (content.Element a b) h = refl
+not_text more (content.Wide a b) h = refl
 not_text more (content.Comment a) h = refl
 not_text more (content.Text a) h = absurd (h a refl)
 
-pub not_element : (a : Attribute ℕ) (w : Content) → ((n : ℕ) (b : Vec Attr Global) → w ≡ content.Element n b → ⊥) → content_is w ≡ with_attribute a (content_is w)
-not_element a content.Document h = refl
-not_element a (content.Doctype d) h = refl
-not_element a (content.Element n b) h = absurd (h n b refl)
-not_element a (content.Comment t) h = refl
-not_element a (content.Text t) h = refl
+pub not_element : (a : Attribute ℕ) (w : Content) → ((n : ℕ) (b : Vec Attr Global) → w ≡ content.Element n b → ⊥) → ((n : ℕ) (b : Box (List (Attribute ℕ)) Global) → w ≡ content.Wide n b → ⊥) → content_is w ≡ with_attribute a (content_is w)
+not_element a content.Document h i = refl
+not_element a (content.Doctype d) h i = refl
+not_element a (content.Element n b) h i = absurd (h n b refl)
+not_element a (content.Wide n b) h i = absurd (i n b refl)
+not_element a (content.Comment t) h i = refl
+not_element a (content.Text t) h i = refl

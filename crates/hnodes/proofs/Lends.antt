@@ -1,7 +1,7 @@
 -- What the calls that lend answer.
-use Rattle.std.proofs.Common.{◌≡◌, ℕ, ◌<◌, [], Option, Some, None, length, get_or, refl, sym, ◌∙◌, ap, arith, option_and_then, IfSome, Vec, Global, String, Box}
+use Rattle.std.proofs.Common.{◌≡◌, ℕ, ◌<◌, List, [], Option, Some, None, length, get_or, refl, sym, ◌∙◌, ap, arith, option_and_then, IfSome, Vec, Global, String, Box}
 use Rattle.std.specs.Option.{option_map}
-use Rattle.hnodes.specs.Forest.{times}
+use Rattle.hnodes.specs.Forest.{Attribute, times}
 use Rattle.hnodes.specs.Spots.{Spot, spot_of, parent_of, what_of, name_in, attributes_in, text_in, doctype_in}
 use Rattle.hnodes.specs.Edits.{Nodes}
 use Rattle.hnodes.specs.Passed.{own_text}
@@ -91,24 +91,27 @@ near t v n k x e s h same g = record {
     around = links-among look v.trees n one (once-of (length t.nodes.items) look v.trees o.stands) o.stands.rows
 
 -- what is not of a kind answers nothing
-pub no_name : (w : Content) → ((a : ℕ) (b : Vec Attr Global) → w ≡ content.Element a b → ⊥) → None ≡ name_in (content_is w)
-no_name content.Document h = refl
-no_name (content.Doctype d) h = refl
-no_name (content.Element a b) h = absurd (h a b refl)
-no_name (content.Comment t) h = refl
-no_name (content.Text t) h = refl
+pub no_name : (w : Content) → ((a : ℕ) (b : Vec Attr Global) → w ≡ content.Element a b → ⊥) → ((a : ℕ) (b : Box (List (Attribute ℕ)) Global) → w ≡ content.Wide a b → ⊥) → None ≡ name_in (content_is w)
+no_name content.Document h i = refl
+no_name (content.Doctype d) h i = refl
+no_name (content.Element a b) h i = absurd (h a b refl)
+no_name (content.Wide a b) h i = absurd (i a b refl)
+no_name (content.Comment t) h i = refl
+no_name (content.Text t) h i = refl
 
-pub no_attributes : (w : Content) → ((a : ℕ) (b : Vec Attr Global) → w ≡ content.Element a b → ⊥) → None ≡ attributes_in (content_is w)
-no_attributes content.Document h = refl
-no_attributes (content.Doctype d) h = refl
-no_attributes (content.Element a b) h = absurd (h a b refl)
-no_attributes (content.Comment t) h = refl
-no_attributes (content.Text t) h = refl
+pub no_attributes : (w : Content) → ((a : ℕ) (b : Vec Attr Global) → w ≡ content.Element a b → ⊥) → ((a : ℕ) (b : Box (List (Attribute ℕ)) Global) → w ≡ content.Wide a b → ⊥) → None ≡ attributes_in (content_is w)
+no_attributes content.Document h i = refl
+no_attributes (content.Doctype d) h i = refl
+no_attributes (content.Element a b) h i = absurd (h a b refl)
+no_attributes (content.Wide a b) h i = absurd (i a b refl)
+no_attributes (content.Comment t) h i = refl
+no_attributes (content.Text t) h i = refl
 
 pub no_text : (w : Content) → ((a : String Global) → w ≡ content.Comment a → ⊥) → ((a : String Global) → w ≡ content.Text a → ⊥) → None ≡ text_in (content_is w)
 no_text content.Document h i = refl
 no_text (content.Doctype d) h i = refl
 no_text (content.Element a b) h i = refl
+no_text (content.Wide a b) h i = refl
 no_text (content.Comment a) h i = absurd (h a refl)
 no_text (content.Text a) h i = absurd (i a refl)
 
@@ -116,6 +119,7 @@ pub no_characters : (w : Content) → ((a : String Global) → w ≡ content.Tex
 no_characters content.Document i = refl
 no_characters (content.Doctype d) i = refl
 no_characters (content.Element a b) i = refl
+no_characters (content.Wide a b) i = refl
 no_characters (content.Comment a) i = refl
 no_characters (content.Text a) i = absurd (i a refl)
 
@@ -123,5 +127,6 @@ pub no_doctype : (w : Content) → ((a : Box DoctypeOf Global) → w ≡ content
 no_doctype content.Document h = refl
 no_doctype (content.Doctype d) h = absurd (h d refl)
 no_doctype (content.Element a b) h = refl
+no_doctype (content.Wide a b) h = refl
 no_doctype (content.Comment a) h = refl
 no_doctype (content.Text a) h = refl

@@ -12,6 +12,7 @@ pub mod Rows
 pub mod Relinks
 pub mod Makes
 pub mod Contents
+pub mod Indexed
 pub mod Opened
 pub mod Whats
 pub mod Spots

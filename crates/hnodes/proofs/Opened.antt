@@ -89,6 +89,14 @@ pub edited_view : (t : Inside) (v : Nodes ℕ) (new : List Node) (g : Forest ℕ
     → record { limit = t.limit; made = length new; trees = whole (length new) (look_in new) } ≡ record v { trees = g }
 edited_view t v new g o same s = rw (same, whole-stands (length t.nodes.items) (look_in new) g s, o.made, o.limit) refl
 
+-- a call of which nothing is seen
+module _ (t : Inside) (v : Nodes ℕ) (new : List Node) where
+  pub stayed : Opened t v → IsUnchanged t.nodes.items new → ((f : Forest ℕ) × StandsIn (length new) (look_in new) f) × (standing (look_in new 0) ≡ Some (document, None)) × (length new ≤ t.limit)
+  stayed o is = edited t v new v.trees o is.0 (StandsIn-same (length t.nodes.items) (look_in t.nodes.items) (look_in new) v.trees o.stands is.1) (ap standing (is.1 0))
+
+  pub stayed_view : Opened t v → IsUnchanged t.nodes.items new → record { limit = t.limit; made = length new; trees = whole (length new) (look_in new) } ≡ v
+  stayed_view o is = edited_view t v new v.trees o is.0 (StandsIn-same (length t.nodes.items) (look_in t.nodes.items) (look_in new) v.trees o.stands is.1)
+
 -- A call that may change what node n is.
 module _ {E : Type 0} (t : Inside) (v : Nodes ℕ) (new : List Node) (n : ℕ) (g : What ℕ → What ℕ) (r : Result (Unit {0}) E) where
   pub became : Opened t v → g document ≡ document → OnOk r (IsChanged n (with_what g) t.nodes.items new) → OnErr r (IsUnchanged t.nodes.items new)
@@ -98,7 +106,7 @@ module _ {E : Type 0} (t : Inside) (v : Nodes ℕ) (new : List Node) (n : ℕ) (
       go : (a : Result (Unit {0}) E) → OnOk a (IsChanged n (with_what g) t.nodes.items new) → OnErr a (IsUnchanged t.nodes.items new)
           → ((f : Forest ℕ) × StandsIn (length new) (look_in new) f) × (standing (look_in new 0) ≡ Some (document, None)) × (length new ≤ t.limit)
       go (Ok u) is _ = ((change_what n g v.trees, rw is.0 (StandsIn-what n g (length t.nodes.items) (look_in t.nodes.items) (look_in new) v.trees o.stands is.1)), document-what n g (look_in t.nodes.items) (look_in new) same is.1 0 o.begun, rw is.0 o.fits)
-      go (Err e) _ is = edited t v new v.trees o is.0 (StandsIn-same (length t.nodes.items) (look_in t.nodes.items) (look_in new) v.trees o.stands is.1) (ap standing (is.1 0))
+      go (Err e) _ is = stayed t v new o is
 
   pub became_view : Opened t v → OnOk r (IsChanged n (with_what g) t.nodes.items new)
       → OnOk r (record { limit = t.limit; made = length new; trees = whole (length new) (look_in new) } ≡ record v { trees = change_what n g v.trees })

@@ -2,12 +2,14 @@ pub mod Forest
 pub mod Spots
 pub mod Passed
 pub mod Edits
+pub mod Attributes
 pub mod Makes
 pub mod Spelled
 pub mod Links
 pub mod Raw
 pub mod Coding
 pub mod Rows
+pub mod Numbered
 pub mod View
 pub mod Worked
 pub mod Named

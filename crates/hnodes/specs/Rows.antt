@@ -18,6 +18,7 @@ abbrev pub content_is : Content → What ℕ
 content_is content.Document = document
 content_is (content.Doctype d) = doctype (string_bytes d.value.name) (string_bytes d.value.public_id) (string_bytes d.value.system_id)
 content_is (content.Element name attrs) = element name (map attribute_of attrs.items)
+content_is (content.Wide name attrs) = element name attrs.value
 content_is (content.Comment t) = comment (string_bytes t)
 content_is (content.Text t) = text (string_bytes t)
 

@@ -1,6 +1,9 @@
 //! The tree of a document, and the nodes that are not in it yet, in one vector of linked nodes.
 #![tactic(auto)]
 
+#[cfg(test)]
+mod attribute_tests;
+mod attributes;
 mod laws;
 mod links;
 mod node;

@@ -5,7 +5,9 @@ ghost use Rattle.hnodes.specs.Edits.{with_char, with_text, with_attribute};
 ghost use Rattle.hnodes.specs.Links.{alone, with_what};
 ghost use Rattle.hnodes.specs.Rows.{attribute_of, content_is, row_of, IsChanged, IsUnchanged};
 
+use crate::attributes::Indexed;
 use names::{Attr, NameId, Refusal};
+use std::alloc::{AllocError, Global};
 use std::marker::Model;
 
 /// The number of a node of one tree, in the order in which its nodes were made. The document is the first, 0.
@@ -60,12 +62,17 @@ pub struct Doctype {
     pub system_id: String,
 }
 
+/// Where an element has more attributes than these, it gets an index before it gets another.
+const FEW: usize = 16;
+
 /// What a node is.
 #[derive(Drop)]
 pub(crate) enum Content {
     Document,
     Doctype(Box<Doctype>),
     Element(NameId, Vec<Attr>),
+    /// An element that had more than `FEW` attributes when it got others.
+    Wide(NameId, Box<Indexed>),
     Comment(String),
     Text(String),
 }
@@ -181,8 +188,37 @@ pub(crate) fn push_attr(nodes: &mut Vec<Node>, at: NodeId, attr: Attr) -> Result
     ensures err { OnErr result (IsUnchanged nodes.old.items nodes.new.items) }
     ensures memory { IfErr result (λ e. e ≡ Refusal.Memory) }
 {
-    if let Content::Element(_, attrs) = &mut nodes[at.number as usize].content {
-        attrs.push(attr)?;
+    match &mut nodes[at.number as usize].content {
+        Content::Element(_, attrs) => attrs.push(attr)?,
+        Content::Wide(_, indexed) => indexed.push(attr)?,
+        _ => {}
     }
+    Ok(())
+}
+
+/// Makes an index of the attributes of an element with more than a few.
+pub(crate) fn widen(nodes: &mut Vec<Node>, at: NodeId, alloc: Global) -> Result<(), Refusal>
+    requires { at < length nodes.old.items }
+    ensures same { IsUnchanged nodes.old.items nodes.new.items }
+    ensures memory { IfErr result (λ e. e ≡ Refusal.Memory) }
+{
+    widen_content(&mut nodes[at.number as usize].content, alloc)?;
+    Ok(())
+}
+
+/// Makes an index of the attributes of an element with more than a few.
+fn widen_content(content: &mut Content, alloc: Global) -> Result<(), AllocError>
+    ensures { content_is content.new ≡ content_is content.old }
+{
+    let Content::Element(name, attrs) = content else {
+        return Ok(());
+    };
+    if attrs.len() <= FEW {
+        return Ok(());
+    }
+    let name = *name;
+    let mut indexed = Box::new(alloc, Indexed::new(alloc))?;
+    indexed.take(attrs, alloc)?;
+    *content = Content::Wide(name, indexed);
     Ok(())
 }

@@ -2,6 +2,7 @@
 
 ghost use Rattle.std.specs.Prelude.{◌≡◌, ◌<◌, ◌≤◌, ◌↔◌, ◌⊎◌, ℕ, Some, None, OnOk, OnErr, IfOk, IfErr, IfSome, IsSome, IsFalse, IsTrue, map, string_bytes, length, leb, nat_eq, if◌then◌else◌};
 ghost use Rattle.std.specs.Option.{option_map};
+ghost use Rattle.hnodes.specs.Attributes.{add_missing, is_present};
 ghost use Rattle.hnodes.specs.Forest.{document, doctype, element, comment, text, tree, none, change_what, IsOutside};
 ghost use Rattle.hnodes.specs.Spots.{parent_of, first_child_of, last_child_of, next_of, previous_of, kind_of, what_of, name_of, attributes_of, value_of, text_of, doctype_of};
 ghost use Rattle.hnodes.specs.Edits.{make, graft, graft_last, graft_before, move_all, add_attribute, add_char, add_chars, with_char, with_text, text_before, IsPlace, place_node, AreNodes};
@@ -14,9 +15,10 @@ ghost use Rattle.names.specs.declared.refusal.Refusal.TheVariants.{TooManyNodes,
 ghost use Rattle.std.specs.Char.{encode_utf8};
 ghost use Rattle.std.specs.Str.{chars};
 
+use crate::attributes::has_name;
 use crate::links::{detach, hook};
 use crate::node::{
-    Content, Doctype, Kind, Link, Node, NodeId, Place, push_attr, push_char, push_text,
+    Content, Doctype, Kind, Link, Node, NodeId, Place, push_attr, push_char, push_text, widen,
 };
 use names::{Attr, NameId, Refusal, Tag};
 use std::alloc::{AllocError, Global};
@@ -326,6 +328,42 @@ impl Tree {
         push_attr(&mut self.nodes, at, attr)
     }
 
+    /// Adds an attribute after an element's others, unless it has one of this name; does nothing to another node. Takes amortized
+    /// constant time, however many attributes there are.
+    pub fn add_missing_attr(&mut self, at: NodeId, attr: Attr) -> Result<(), Refusal>
+        requires { at < self.old.made }
+        ensures ok { OnOk result (self.new ≡ record self.old { trees = add_missing nat_eq at (attribute_of attr) self.old.trees }) }
+        ensures memory { IfErr result (λ e. e ≡ Memory) }
+        ensures err { OnErr result (self.new ≡ self.old) }
+    {
+        self.widen(at)?;
+        if self.has_attr(at, attr.name) {
+            return Ok(());
+        }
+        self.add_attr(at, attr)
+    }
+
+    /// Makes an index of the attributes of an element with more than a few.
+    fn widen(&mut self, at: NodeId) -> Result<(), Refusal>
+        requires { at < self.old.made }
+        ensures same { self.new ≡ self.old }
+        ensures memory { IfErr result (λ e. e ≡ Memory) }
+    {
+        widen(&mut self.nodes, at, self.alloc)
+    }
+
+    /// Whether an element has an attribute of a name.
+    fn has_attr(&self, at: NodeId, name: NameId) -> bool
+        requires { at < self.now.made }
+        ensures { result ≡ is_present nat_eq name (attributes_of at self.now.trees) }
+    {
+        match &self.nodes[at.number as usize].content {
+            Content::Element(_, attrs) => has_name(attrs, name),
+            Content::Wide(_, indexed) => indexed.has(name),
+            _ => false,
+        }
+    }
+
     /// Whether a node is another one or inside it, to be tested before a node moves. Takes as many steps as the node is deep.
     pub fn is_inside(&self, node: NodeId, top: NodeId) -> bool
         requires node_in { node < self.now.made }
@@ -401,6 +439,7 @@ impl Tree {
             Content::Document => Kind::Document,
             Content::Doctype(_) => Kind::Doctype,
             Content::Element(_, _) => Kind::Element,
+            Content::Wide(_, _) => Kind::Element,
             Content::Comment(_) => Kind::Comment,
             Content::Text(_) => Kind::Text,
         }
@@ -413,6 +452,7 @@ impl Tree {
     {
         match &self.nodes[at.number as usize].content {
             Content::Element(name, _) => Some(*name),
+            Content::Wide(name, _) => Some(*name),
             _ => None,
         }
     }
@@ -424,6 +464,7 @@ impl Tree {
     {
         match &self.nodes[at.number as usize].content {
             Content::Element(_, attrs) => Some(attrs),
+            Content::Wide(_, indexed) => Some(indexed.attrs()),
             _ => None,
         }
     }

@@ -1,14 +1,21 @@
-use Rattle.std.proofs.Common.{◌≡◌, ◌<◌, map}
+use Rattle.std.proofs.Common.{◌≡◌, ◌<◌, map, ℕ}
 use Rattle.std.specs.Vec.Iter.{into_iter_items}
 use Rattle.hnodes.specs.Rows.{attribute_of}
 use Rattle.hadopt.specs.Inserts.{with_missing}
+use Rattle.hadopt.specs.Made.{AreMade}
 use Rattle.hadopt.specs.Naming.{numbers}
-use Rattle.hadopt.specs.Site.{trees, with_trees}
+use Rattle.hadopt.specs.Site.{SiteOf, trees, with_trees}
+use Rattle.hadopt.specs.declared.site.Site.TheInside.{Inside}
 use Rattle.hadopt.proofs.site.Site.add_missing.Given as goal
+
+-- the value of a site
+abbrev site_of : Inside → SiteOf ℕ
+site_of s = record { nodes = s.tree; open_nodes = s.stack; items = s.list; foster = s.foster; errors = s.errors.items }
 
 abbrev pub invariant-loop-attr : goal.invariant-loop-attr
 invariant-loop-attr l = record {
-  node_in : l.node < l.self.nodes.made;
+  node_in : l.node < l.self-inside.tree.made;
+  made : AreMade l.self-inside.tree.made l.self-inside.stack.stack;
   same : with_trees (with_missing numbers l.node (map attribute_of l.fn.attrs.items) (trees l.fn.self)) l.fn.self
-      ≡ with_trees (with_missing numbers l.node (map attribute_of (into_iter_items l.attr-iterator)) (trees l.self)) l.self;
+      ≡ with_trees (with_missing numbers l.node (map attribute_of (into_iter_items l.attr-iterator)) l.self-inside.tree.trees) (site_of l.self-inside);
 }

@@ -7,5 +7,10 @@ use Rattle.hnodes.proofs.tree.Tree.attrs.Goals as goal
 pub returns-in-Element : goal.returns-in-Element
 returns-in-Element c = ap (λ xs. Some (map attribute_of xs)) c.deref.ensures.value ∙ ap (λ w. attributes_in (content_is w)) (sym c.in-Element.is) ∙ ap (option_and_then attributes_in) (lent_what c.self.inside c.args.self.now c.args.at c.at.inside.number c.index.result.now c.self.view_is c.self.invariant c.requires c.at.view_is c.index.ensures)
 
+pub returns-in-Wide : goal.returns-in-Wide
+returns-in-Wide c =
+    ap (λ xs. Some xs) (c.attrs.ensures ∙ c.deref-in-Wide.ensures) ∙ ap (λ w. attributes_in (content_is w)) (sym c.in-Wide.is)
+    ∙ ap (option_and_then attributes_in) (lent_what c.self.inside c.args.self.now c.args.at c.at.inside.number c.index.result.now c.self.view_is c.self.invariant c.requires c.at.view_is c.index.ensures)
+
 pub returns-in_default : goal.returns-in_default
-returns-in_default c = no_attributes c.index.result.now.content c.in_default.not-Element ∙ ap (option_and_then attributes_in) (lent_what c.self.inside c.args.self.now c.args.at c.at.inside.number c.index.result.now c.self.view_is c.self.invariant c.requires c.at.view_is c.index.ensures)
+returns-in_default c = no_attributes c.index.result.now.content c.in_default.not-Element c.in_default.not-Wide ∙ ap (option_and_then attributes_in) (lent_what c.self.inside c.args.self.now c.args.at c.at.inside.number c.index.result.now c.self.view_is c.self.invariant c.requires c.at.view_is c.index.ensures)

@@ -14,6 +14,9 @@ returns-in-Doctype c = ap (λ w. Some (kind_in (content_is w))) (sym c.in-Doctyp
 pub returns-in-Element : goal.returns-in-Element
 returns-in-Element c = ap (λ w. Some (kind_in (content_is w))) (sym c.in-Element.is) ∙ ap (option_map kind_in) (lent_what c.self.inside c.args.self.now c.args.at c.at.inside.number c.index.result.now c.self.view_is c.self.invariant c.requires c.at.view_is c.index.ensures)
 
+pub returns-in-Wide : goal.returns-in-Wide
+returns-in-Wide c = ap (λ w. Some (kind_in (content_is w))) (sym c.in-Wide.is) ∙ ap (option_map kind_in) (lent_what c.self.inside c.args.self.now c.args.at c.at.inside.number c.index.result.now c.self.view_is c.self.invariant c.requires c.at.view_is c.index.ensures)
+
 pub returns-in-Comment : goal.returns-in-Comment
 returns-in-Comment c = ap (λ w. Some (kind_in (content_is w))) (sym c.in-Comment.is) ∙ ap (option_map kind_in) (lent_what c.self.inside c.args.self.now c.args.at c.at.inside.number c.index.result.now c.self.view_is c.self.invariant c.requires c.at.view_is c.index.ensures)
 

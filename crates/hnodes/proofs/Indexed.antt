@@ -1,0 +1,48 @@
+-- Where a number stands last in a list of numbers, and whether an attribute of a name is there.
+use Rattle.std.proofs.Common.{◌≡◌, ℕ, zero, suc, ◌==◌, ◌||◌, Bool, true, false, cond, ltb, nat_eq, List, [], ◌∷◌, length, map, get_or, refl, sym, ◌∙◌, ap, arith}
+use Rattle.std.proofs.Math.Dec.{eqb-suc-suc}
+use Rattle.std.proofs.lemmas.Bool.{lt-ltb}
+use Rattle.std.specs.List.{list_any}
+use Rattle.names.specs.declared.attr.Attr.{Attr}
+use Rattle.hchain.specs.Chains.{last_up}
+use Rattle.hnodes.specs.Numbered.{numbers_of}
+use Rattle.hnodes.specs.Rows.{attribute_of}
+
+module _ (s : ℕ → Bool) where
+  -- where it stands with a number more at the front, which is sought or not
+  abbrev up : Bool → ℕ → ℕ
+  up v zero = cond v 1 0
+  up v (suc n) = suc (suc n)
+
+  up-front : (x : ℕ) (xs : List ℕ) (k : ℕ) → last_up s (x ∷ xs) (suc k) ≡ up (s x) (last_up s xs k)
+  up-front x xs zero = refl
+  up-front x xs (suc k) = go (s (get_or xs k 0)) (up-front x xs k)
+    where
+      go : (v : Bool) → last_up s (x ∷ xs) (suc k) ≡ up (s x) (last_up s xs k) → cond v (suc (suc k)) (last_up s (x ∷ xs) (suc k)) ≡ up (s x) (cond v (suc k) (last_up s xs k))
+      go true e = refl
+      go false e = e
+
+  last-any : (xs : List ℕ) → ltb 0 (last_up s xs (length xs)) ≡ list_any s xs
+  last-any [] = refl
+  last-any (x ∷ xs) = ap (ltb 0) (up-front x xs (length xs)) ∙ go (s x) (last_up s xs (length xs)) (last-any xs)
+    where
+      go : (v : Bool) (n : ℕ) → ltb 0 n ≡ list_any s xs → ltb 0 (up v n) ≡ (v || list_any s xs)
+      go true zero e = refl
+      go true (suc n) e = lt-ltb 0 (suc (suc n)) (omega arith)
+      go false zero e = e
+      go false (suc n) e = lt-ltb 0 (suc (suc n)) (omega arith) ∙ sym (lt-ltb 0 (suc n) (omega arith)) ∙ e
+
+any-named : (name : ℕ) (attrs : List Attr) → list_any (λ k. k == suc (suc name)) (numbers_of attrs) ≡ list_any (λ a. nat_eq a.0 name) (map attribute_of attrs)
+any-named name [] = refl
+any-named name (a ∷ attrs) =
+    λ i. (eqb-suc-suc (suc a.name) (suc name) ∙ eqb-suc-suc a.name name) i || any-named name attrs i
+
+-- a search of the attributes
+pub searched-is : (name : ℕ) (attrs : List Attr) → list_any (λ (a : Attr). nat_eq a.name name) attrs ≡ list_any (λ a. nat_eq a.0 name) (map attribute_of attrs)
+searched-is name [] = refl
+searched-is name (a ∷ attrs) = ap (λ b. nat_eq a.name name || b) (searched-is name attrs)
+
+-- a number stands somewhere where an attribute of its name is there
+pub named-is : (names : List ℕ) (attrs : List Attr) (number name : ℕ) → names ≡ numbers_of attrs → number ≡ suc (suc name)
+    → ltb 0 (last_up (λ k. k == number) names (length names)) ≡ list_any (λ a. nat_eq a.0 name) (map attribute_of attrs)
+named-is names attrs number name same is = (λ i. ltb 0 (last_up (λ k. k == is i) (same i) (length (same i)))) ∙ last-any (λ k. k == suc (suc name)) (numbers_of attrs) ∙ any-named name attrs
