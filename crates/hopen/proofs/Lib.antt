@@ -25,3 +25,4 @@ pub mod Slotted
 pub mod Marked
 pub mod Closed
 pub mod Pushed
+pub mod ByName

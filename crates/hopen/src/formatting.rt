@@ -127,7 +127,7 @@ impl Formatting {
         let attrs = copy_attrs(self.alloc, attrs)?;
         let hash = find_hash(self.alloc, name, &attrs)?;
         make_room(&mut self.slots)?;
-        let earliest = self.slots.giving_way(hash, name, &attrs);
+        let earliest = self.slots.giving_way(self.alloc, hash, name, &attrs)?;
         let numbers = Numbers {
             name: name_number(name),
             hash,
