@@ -13,7 +13,7 @@ use Rattle.hopen.specs.Listed.{by_node, number_by, unless_hole}
 use Rattle.hopen.specs.Nearest.{changed_at}
 use Rattle.hopen.specs.declared.entry.Item.{Item as Stored}
 use Rattle.hopen.specs.declared.entry.Item.TheVariants as stored
-use Rattle.hopen.proofs.Bucketed.{last-at, number-at}
+use Rattle.hopen.proofs.ByHash.{last-at, number-at}
 use Rattle.hopen.proofs.ItemLists.{along_last, items_of_more, length-items_of}
 use Rattle.hopen.proofs.Live.{AllSolid, nth-none, nth-real, nth-within}
 use Rattle.hopen.proofs.Listed.{number-same, place, place-le}

@@ -12,8 +12,8 @@ ghost use Rattle.hopen.specs.Holes.{nth_live};
 
 use crate::attributes::copy_attrs;
 use crate::bookmark::Bookmark;
-use crate::buckets::find_hash;
 use crate::entry::{Entry, Item};
+use crate::hashes::find_hash;
 use crate::slots::{MARKER, Numbers, Slots, name_number, node_number};
 use hnodes::NodeId;
 use names::{Attr, NameId};

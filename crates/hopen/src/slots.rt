@@ -4,7 +4,7 @@ ghost use Rattle.std.specs.Prelude.{◌≡◌, ℕ, suc, ◌+◌, ◌-◌, ◌<�
 ghost use Rattle.std.specs.List.{list_any};
 ghost use Rattle.std.specs.Option.{option_map_or};
 ghost use Rattle.hnodes.specs.Rows.{attribute_of};
-ghost use Rattle.hopen.specs.Buckets.{bucket};
+ghost use Rattle.hopen.specs.Hashes.{entry_hash};
 ghost use Rattle.hchain.specs.Chains.{none};
 ghost use Rattle.hopen.specs.Formatting.{for_node, is_entry, with_room};
 ghost use Rattle.hopen.specs.Items.{IsStored, is_gone, item_of, items_of, live, told, renamed};
@@ -81,7 +81,7 @@ impl Slots {
         attrs: &[Attr],
     ) -> Result<Option<usize>, AllocError>
         requires listed { IsListed self.now }
-        requires number { number ≡ suc (suc (bucket (record { node = 0; name = name; attrs = map attribute_of attrs.now }))) }
+        requires number { number ≡ suc (suc (entry_hash (record { node = 0; name = name; attrs = map attribute_of attrs.now }))) }
         ensures within { IfOk result (λ earliest. IfSome earliest (λ back. back < length self.now.items.items)) }
         ensures room { IfOk result (λ earliest. option_map_or (remove (items_of self.now.items.items)) earliest (items_of self.now.items.items)
             ≡ with_room nat_eq (record { node = 0; name = name; attrs = map attribute_of attrs.now }) (items_of self.now.items.items)) }

@@ -7,13 +7,13 @@ use Rattle.hopen.specs.Formatting.{EntryOf, Item, after_marker, as_entry, is_equ
 use Rattle.hopen.specs.Items.{item_of, items_of, nowhere}
 use Rattle.hopen.specs.Listed.{by_hash, number_by, numbers_by}
 use Rattle.hopen.specs.declared.entry.Item.{Item as Stored}
-use Rattle.hopen.proofs.Bucketed.{Steps, last-at, length-after, number-at, numbers-before, skips, steps}
+use Rattle.hopen.proofs.ByHash.{Steps, last-at, length-after, number-at, numbers-before, skips, steps}
 use Rattle.hopen.proofs.Chained.{before-is, last-is, last_of}
 use Rattle.hopen.proofs.Earliest.{farthest, farthest-within, room-made, room-there}
 use Rattle.hopen.proofs.ItemLists.{length-items_of}
 use Rattle.hopen.proofs.Listed.{numbers-back, place, place-le}
 use Rattle.hopen.proofs.Nearest.{slice_get_nearest}
-use Rattle.hopen.proofs.SameBucket.{same-number, told-equal}
+use Rattle.hopen.proofs.SameHash.{same-number, told-equal}
 use Rattle.hopen.proofs.slots.Slots.giving_way.Goals as goal
 use Rattle.hopen.proofs.slots.Slots.giving_way.Goals.{then-branch, else-branch}
 
