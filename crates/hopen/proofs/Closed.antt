@@ -5,7 +5,7 @@ use Rattle.std.proofs.lemmas.Bool.{eqb-true}
 use Rattle.std.proofs.lemmas.List.{append-nil, append_assoc, drop-map, drop-set-lt, drop_more, get_or-append_right, length-append, length-take-le, map-append, take-map, take-set-le, take_more}
 use Rattle.std.proofs.lemmas.List.Edits.{between_more, length-swap, swap_is, swapped_from_swap}
 use Rattle.std.proofs.lemmas.List.Elements.{All-append, All-drop, All-filter, All-get_or, All-head, All-tail, All-take, filter-append, filter_passes}
-use Rattle.hopen.specs.Buckets.{bucket}
+use Rattle.hopen.specs.Hashes.{entry_hash}
 use Rattle.hchain.specs.Chains.{none}
 use Rattle.hopen.specs.Formatting.{EntryOf}
 use Rattle.hopen.specs.Items.{IsStored, entry_is, is_gone, item_of, nowhere}
@@ -80,7 +80,7 @@ listed-closed from old new listed h names hashes nodes solid items =
     let kept = filter stays (drop from xs) in
     record {
       names = names ∙ numbers-closed (λ e. e.name) xs from old.names listed.stored listed.names ∙ ap (numbers_by by_name) (sym items);
-      hashes = hashes ∙ numbers-closed bucket xs from old.hashes listed.stored listed.hashes ∙ ap (numbers_by by_hash) (sym items);
+      hashes = hashes ∙ numbers-closed entry_hash xs from old.hashes listed.stored listed.hashes ∙ ap (numbers_by by_hash) (sym items);
       nodes = nodes ∙ numbers-closed (λ e. e.node) xs from old.nodes listed.stored listed.nodes ∙ ap (numbers_by by_node) (sym items);
       stored = subst (All IsStored) (sym items) (All-append IsStored (take from xs) kept (All-take IsStored from xs listed.stored) (All-filter stays IsStored (drop from xs) (All-drop IsStored from xs listed.stored)));
       within = omega (arith, solid, ap length items, length-append (take from xs) kept, length-take-le from xs h);

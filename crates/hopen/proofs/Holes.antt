@@ -1,19 +1,19 @@
 -- Vectors of items with holes, and where the entry of a node stands in them.
-use Rattle.std.proofs.Common.{◌≡◌, ℕ, zero, suc, ◌+◌, ◌-◌, ◌<◌, ◌≤◌, eqb, Bool, true, false, cond, not, ◌||◌, ◌⊎◌, List, [], ◌∷◌, ◌++◌, Option, Some, None, is_some, length, map, filter, reverse, take, take-suc, drop, get_or, set, refl, sym, ◌∙◌, ap, subst, inl, inr, arith, if◌then◌else◌}
+use Rattle.std.proofs.Common.{◌≡◌, ℕ, zero, suc, ◌+◌, ◌-◌, ◌<◌, ◌≤◌, eqb, Bool, true, false, cond, not, ◌||◌, ◌⊎◌, List, [], ◌∷◌, ◌++◌, Option, Some, None, is_some, length, map, filter, take, take-suc, drop, get_or, refl, sym, ◌∙◌, ap, subst, inl, inr, arith}
 use Rattle.std.specs.List.{All, position, position_or_len, list_any, slice_get, find}
 use Rattle.std.specs.Option.{option_and_then, option_map, option_map_or}
-use Rattle.std.proofs.Math.Dec.{eqb-suc-zero, eqb-zero-suc}
-use Rattle.std.proofs.lemmas.Bool.{eqb-true, eqb-false, lt-ltb}
+use Rattle.std.proofs.Math.Dec.{eqb-zero-suc}
+use Rattle.std.proofs.lemmas.Bool.{eqb-true, lt-ltb}
 use Rattle.std.proofs.lemmas.List.{append-nil, drop_at, get_or-map, length-append, length-map, take-append-drop, take_at}
 use Rattle.std.proofs.lemmas.List.Elements.{All-drop, All-take, filter-append}
 use Rattle.hopen.specs.Formatting.{EntryOf, Item, marker, entry, as_entry, entry_of, for_node, is_entry}
 use Rattle.hopen.specs.Holes.{nth_live}
-use Rattle.hopen.specs.Items.{AreSlots, IsSlot, IsStored, entry_is, hole, is_gone, is_hole, item_of, items_of, live, nowhere, told}
+use Rattle.hopen.specs.Items.{AreSlots, IsSlot, IsStored, hole, is_gone, is_hole, item_of, items_of, live, nowhere, told}
 use Rattle.hopen.specs.Listed.{by_node, number_by, unless_hole}
 use Rattle.hopen.specs.Nearest.{changed_at}
 use Rattle.hopen.specs.declared.entry.Item.{Item as Stored}
 use Rattle.hopen.specs.declared.entry.Item.TheVariants as stored
-use Rattle.hopen.proofs.Bucketed.{last-at, number-at}
+use Rattle.hopen.proofs.ByHash.{last-at, number-at}
 use Rattle.hopen.proofs.ItemLists.{along_last, items_of_more, length-items_of}
 use Rattle.hopen.proofs.Live.{AllSolid, nth-none, nth-real, nth-within}
 use Rattle.hopen.proofs.Listed.{number-same, place, place-le}

@@ -15,8 +15,8 @@ pub mod ExchangedTables
 pub mod ExchangedStack
 pub mod Chained
 pub mod Listed
-pub mod SameBucket
-pub mod Bucketed
+pub mod SameHash
+pub mod ByHash
 pub mod Holes
 pub mod Live
 pub mod LiveEdits
@@ -25,3 +25,4 @@ pub mod Slotted
 pub mod Marked
 pub mod Closed
 pub mod Pushed
+pub mod ByName

@@ -1,18 +1,18 @@
 -- The numbers of the items of a list.
-use Rattle.std.proofs.Common.{◌≡◌, ℕ, zero, suc, ◌-◌, ◌<◌, ◌≤◌, nat_eq, eqb, Bool, true, false, cond, not, ◌||◌, List, [], ◌∷◌, Some, None, is_some, get_or, length, map, reverse, take, drop, filter, refl, sym, ◌∙◌, ap, arith, if◌then◌else◌}
-use Rattle.std.specs.List.{list_any, position, slice_get, insert, remove}
+use Rattle.std.proofs.Common.{◌≡◌, ℕ, zero, suc, ◌-◌, ◌<◌, ◌≤◌, nat_eq, eqb, Bool, true, false, cond, not, ◌||◌, List, [], ◌∷◌, Some, None, is_some, length, map, reverse, take, drop, filter, refl, sym, ◌∙◌, ap, arith, if◌then◌else◌}
+use Rattle.std.specs.List.{list_any, position, slice_get, remove}
 use Rattle.std.specs.Option.{option_and_then}
-use Rattle.std.proofs.lemmas.List.{reverse-reverse, length-map, get_or-map}
+use Rattle.std.proofs.lemmas.List.{reverse-reverse, length-map}
 use Rattle.std.proofs.lemmas.Simd.{map-map}
 use Rattle.std.proofs.Math.Dec.{eqb-suc-zero, eqb-zero-suc}
 use Rattle.std.proofs.lemmas.Bool.{eqb-true, eqb-false, eq-eqb}
-use Rattle.hopen.specs.Nearest.{without, changed_at}
-use Rattle.hopen.specs.Formatting.{EntryOf, Item, marker, entry, as_entry, cleared, find_entry, for_node, is_entry, without_entry}
+use Rattle.hopen.specs.Nearest.{without}
+use Rattle.hopen.specs.Formatting.{EntryOf, Item, marker, entry, as_entry, cleared, find_entry, is_entry, without_entry}
 use Rattle.hopen.specs.Items.{item_of, items_of, nowhere}
 use Rattle.hopen.specs.Listed.{by_name, number_by, unless_hole}
 use Rattle.hopen.specs.declared.entry.Item.{Item as Stored}
 use Rattle.hopen.proofs.Nearest.{reverse-map, words, is_some-position, drop_nearest}
-use Rattle.hopen.proofs.Chained.{last_of, map-insert, map-remove}
+use Rattle.hopen.proofs.Chained.{last_of}
 use Rattle.hopen.proofs.ItemLists.{length-items_of}
 use Rattle.hopen.proofs.Places.{last_place-le}
 

@@ -1,9 +1,9 @@
 -- An entry that moves to a bookmark.
-use Rattle.std.proofs.Common.{◌≡◌, ℕ, suc, ◌+◌, ◌-◌, ◌<◌, ◌≤◌, true, Some, List, Option, length, get_or, sym, ◌∙◌, ap, arith}
-use Rattle.std.specs.List.{All, find, list_any, position, remove}
+use Rattle.std.proofs.Common.{◌≡◌, ℕ, suc, ◌+◌, ◌-◌, ◌<◌, true, Some, List, length, get_or, sym, ◌∙◌, ap, arith}
+use Rattle.std.specs.List.{All, list_any, position, remove}
 use Rattle.std.specs.Option.{is_some, option_map_or}
 use Rattle.std.proofs.lemmas.List.{get_or_default}
-use Rattle.hopen.specs.Formatting.{Item, booked, for_node, has_bookmark, is_entry}
+use Rattle.hopen.specs.Formatting.{booked, for_node, has_bookmark, is_entry}
 use Rattle.hopen.specs.Items.{AreSlots, IsStored, item_of, items_of, live, nowhere, told}
 use Rattle.hopen.specs.Listed.{by_node}
 use Rattle.hopen.specs.Nearest.{put_before, without}

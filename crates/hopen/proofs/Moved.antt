@@ -1,12 +1,11 @@
 -- Exchanges of neighbours in a list and what a run of them comes to; an entry that becomes that of another node, and where an entry
 -- stands among the others.
-use Rattle.std.proofs.Common.{◌≡◌, ◌≢◌, ℕ, zero, suc, ◌+◌, ◌-◌, ◌<◌, ◌≤◌, ◌==◌, ◌⊎◌, inl, inr, Bool, true, false, IsTrue, cond, eqb, List, [], ◌∷◌, ◌++◌, Some, None, is_some, length, get_or, set, take, drop, map, reverse, refl, sym, ◌∙◌, ap, arith, subst}
+use Rattle.std.proofs.Common.{◌≡◌, ◌≢◌, ℕ, zero, suc, ◌+◌, ◌-◌, ◌<◌, ◌≤◌, ◌==◌, ◌⊎◌, inl, inr, Bool, true, false, IsTrue, cond, eqb, List, [], ◌∷◌, ◌++◌, Some, is_some, length, get_or, set, take, drop, map, reverse, refl, sym, ◌∙◌, ap, arith, subst}
 use Rattle.std.specs.Prelude.{max}
 use Rattle.std.specs.List.{All, insert, list_any, position, remove}
 use Rattle.std.proofs.Math.Dec.{eqb-zero-suc}
 use Rattle.std.proofs.lemmas.Bool.{eqb-true}
 use Rattle.std.proofs.lemmas.List.{append_assoc, drop-set-lt, get_or-map, get_or-reverse, get_or-set_other, length-append, length-map, length-reverse, length-set, length-take-le, map-set, reverse-append, set-get_or, set-set, set_split, take-set}
-use Rattle.std.proofs.lemmas.List.Edits.{length-remove}
 use Rattle.std.proofs.lemmas.List.Elements.{All-get_or, All-head, All-set, All-tail}
 use Rattle.hchain.specs.Chains.{last_up, none}
 use Rattle.hopen.specs.Formatting.{EntryOf, for_node, is_entry}

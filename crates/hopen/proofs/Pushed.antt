@@ -1,5 +1,5 @@
 -- A new entry comes last, and what gives way to it leaves a hole.
-use Rattle.std.proofs.Common.{◌≡◌, ℕ, suc, ◌<◌, nat_eq, eqb, cond, not, Bool, false, List, ◌∷◌, Option, Some, None, sym, ◌∙◌, ap}
+use Rattle.std.proofs.Common.{◌≡◌, ℕ, suc, ◌<◌, nat_eq, cond, not, Bool, List, ◌∷◌, Option, Some, None, sym, ◌∙◌, ap}
 use Rattle.std.specs.List.{remove}
 use Rattle.std.specs.Option.{option_map_or}
 use Rattle.hopen.specs.Formatting.{EntryOf, Item, entry, pushed, with_room}

@@ -3,7 +3,7 @@ use Rattle.std.proofs.Common.{◌≡◌, ◌≢◌, ℕ, ◌+◌, ◌<◌, ◌�
 use Rattle.std.specs.List.{All}
 use Rattle.std.proofs.lemmas.List.{take-map, map-set, length-set, length-take-le, get_or-take, get_or-set_other}
 use Rattle.std.proofs.lemmas.List.Elements.{All-take, All-set}
-use Rattle.hopen.specs.Buckets.{bucket}
+use Rattle.hopen.specs.Hashes.{entry_hash}
 use Rattle.hchain.specs.Chains.{none}
 use Rattle.hopen.specs.Formatting.{EntryOf}
 use Rattle.hopen.specs.Items.{IsStored, is_gone, item_of}
@@ -39,7 +39,7 @@ module _ (old new : Slots) (listed : IsListed old) (n : ℕ) where
       let numbers = λ (number : EntryOf ℕ → ℕ). sym (map-set (λ i. number_by (unless_hole number) (item_of i)) xs n stored.Hole) ∙ ap (numbers_by (unless_hole number)) (sym items) in
       record {
         names = names ∙ ap (λ ns. set ns n none) listed.names ∙ numbers (λ e. e.name);
-        hashes = hashes ∙ ap (λ ns. set ns n none) listed.hashes ∙ numbers bucket;
+        hashes = hashes ∙ ap (λ ns. set ns n none) listed.hashes ∙ numbers entry_hash;
         nodes = nodes ∙ ap (λ ns. set ns n none) listed.nodes ∙ numbers (λ e. e.node);
         stored = subst (All IsStored) (sym items) (All-set IsStored xs n stored.Hole tt listed.stored);
         within = omega (arith, listed.within);

@@ -15,5 +15,5 @@ pub mod NameSets
 pub mod Kept
 pub mod Exchanged
 pub mod Listed
-pub mod Buckets
+pub mod Hashes
 pub mod Holes

@@ -1,7 +1,7 @@
 -- What is kept of the list of active formatting elements besides its items.
 use Rattle.std.specs.Prelude.{◌≡◌, ℕ, zero, suc, ◌<◌, ◌≤◌, ◌==◌, false, List, length, map, slice_index_or, if◌then◌else◌}
 use Rattle.std.specs.List.{All}
-use Rattle.hopen.specs.Buckets.{bucket}
+use Rattle.hopen.specs.Hashes.{entry_hash}
 use Rattle.hopen.specs.Formatting.{EntryOf, Item, marker, entry}
 use Rattle.hopen.specs.Items.{IsStored, is_gone, item_of, nowhere}
 use Rattle.hopen.specs.declared.entry.Item.{Item as Stored}
@@ -20,7 +20,7 @@ abbrev pub by_name : EntryOf ℕ → ℕ
 by_name = unless_hole (λ e. e.name)
 
 abbrev pub by_hash : EntryOf ℕ → ℕ
-by_hash = unless_hole bucket
+by_hash = unless_hole entry_hash
 
 abbrev pub by_node : EntryOf ℕ → ℕ
 by_node = unless_hole (λ e. e.node)

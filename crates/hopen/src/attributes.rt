@@ -1,12 +1,17 @@
 //! Lists of attributes: copies, and which are equal.
 
-ghost use Rattle.std.specs.Prelude.{◌≡◌, IfOk, map, nat_eq};
+ghost use Rattle.std.specs.Prelude.{◌≡◌, suc, IfOk, map, nat_eq};
 ghost use Rattle.std.specs.List.{list_any};
 ghost use Rattle.hnodes.specs.Rows.{attribute_of};
 ghost use Rattle.hopen.specs.Formatting.{same_attribute, are_among, same_attributes};
 
+use crate::slots::name_number;
+use hchain::Chains;
 use names::Attr;
 use std::alloc::{AllocError, Global};
+
+/// How many attributes are searched one by one.
+const FEW: usize = 16;
 
 /// Copies a list of attributes, in order.
 pub fn copy_attrs(alloc: Global, attrs: &[Attr]) -> Result<Vec<Attr>, AllocError>
@@ -31,16 +36,66 @@ fn contains(attrs: &[Attr], attr: &Attr) -> bool
     attrs.iter().any(|other| is_same(attr, other))
 }
 
-/// Whether each attribute of one list is in another.
-fn are_all_in(attrs: &[Attr], others: &[Attr]) -> bool
+fn are_found(attrs: &[Attr], others: &[Attr]) -> bool
     ensures { result ≡ are_among nat_eq (map attribute_of attrs.now) (map attribute_of others.now) }
 {
     attrs.iter().all(|attr| contains(others, attr))
 }
 
-/// Whether two lists have the same attributes, in any order.
-pub(crate) fn are_same(xs: &[Attr], ys: &[Attr]) -> bool
-    ensures { result ≡ same_attributes nat_eq (map attribute_of xs.now) (map attribute_of ys.now) }
+/// The numbers of the names of attributes, in order.
+fn index_names(alloc: Global, attrs: &[Attr]) -> Result<Chains, AllocError>
+    ensures { IfOk result (λ names. names ≡ map (λ a. suc (suc a.name)) attrs.now) }
 {
-    are_all_in(xs, ys) && are_all_in(ys, xs)
+    let mut names = Chains::new(alloc);
+    for attr in attrs {
+        names.push(name_number(attr.name))?;
+    }
+    Ok(names)
+}
+
+/// `contains`, by the numbers of the names: only attributes of the same name are looked at.
+fn contains_by_name(names: &Chains, attrs: &[Attr], attr: &Attr) -> bool
+    requires { names.now ≡ map (λ a. suc (suc a.name)) attrs.now }
+    ensures { result ≡ list_any (same_attribute nat_eq (attribute_of attr.now)) (map attribute_of attrs.now) }
+{
+    let mut place = names.last(name_number(attr.name));
+    while place > 0 {
+        if is_same(attr, &attrs[place - 1]) {
+            return true;
+        }
+        place = names.before(place);
+    }
+    false
+}
+
+/// `are_found`, by the numbers of the names of the others.
+fn are_found_by_name(names: &Chains, attrs: &[Attr], others: &[Attr]) -> bool
+    requires { names.now ≡ map (λ a. suc (suc a.name)) others.now }
+    ensures { result ≡ are_among nat_eq (map attribute_of attrs.now) (map attribute_of others.now) }
+{
+    for attr in attrs {
+        if !contains_by_name(names, others, attr) {
+            return false;
+        }
+    }
+    true
+}
+
+/// Whether each attribute of one list is in another. A long list is searched by its names.
+fn are_all_in(alloc: Global, attrs: &[Attr], others: &[Attr]) -> Result<bool, AllocError>
+    ensures { IfOk result (λ all. all ≡ are_among nat_eq (map attribute_of attrs.now) (map attribute_of others.now)) }
+{
+    if others.len() <= FEW {
+        return Ok(are_found(attrs, others));
+    }
+    let names = index_names(alloc, others)?;
+    Ok(are_found_by_name(&names, attrs, others))
+}
+
+/// Whether two lists have the same attributes, in any order. It takes as many steps as there are attributes, where few of a list have
+/// the same name.
+pub(crate) fn are_same(alloc: Global, xs: &[Attr], ys: &[Attr]) -> Result<bool, AllocError>
+    ensures { IfOk result (λ same. same ≡ same_attributes nat_eq (map attribute_of xs.now) (map attribute_of ys.now)) }
+{
+    Ok(are_all_in(alloc, xs, ys)? && are_all_in(alloc, ys, xs)?)
 }

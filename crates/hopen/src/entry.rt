@@ -1,6 +1,6 @@
 //! Entries of the list of active formatting elements, and markers (HTML Standard, 13.2.4.3).
 
-ghost use Rattle.std.specs.Prelude.{◌≡◌, suc, map, nat_eq, false};
+ghost use Rattle.std.specs.Prelude.{◌≡◌, suc, IfOk, map, nat_eq, false};
 ghost use Rattle.hnodes.specs.Rows.{attribute_of};
 ghost use Rattle.std.specs.Option.{option_map, option_map_or};
 ghost use Rattle.hopen.specs.Formatting.{for_node, is_equal};
@@ -9,6 +9,7 @@ ghost use Rattle.hopen.specs.Items.{entry_is, is_gone, item_of, renamed, told};
 use crate::attributes::are_same;
 use hnodes::NodeId;
 use names::{Attr, NameId};
+use std::alloc::{AllocError, Global};
 
 /// An entry: its node, and the name and the attributes of the token that the node was made for.
 #[derive(Debug, Drop)]
@@ -20,11 +21,17 @@ pub struct Entry {
 
 impl Entry {
     /// Whether it was made for an equal token: with the same name, and the same attributes in whatever order.
-    pub(crate) fn is_equal(&self, name: NameId, attrs: &[Attr]) -> bool
+    pub(crate) fn is_equal(
+        &self,
+        alloc: Global,
+        name: NameId,
+        attrs: &[Attr],
+    ) -> Result<bool, AllocError>
         // whatever the new entry's node
-        ensures { result ≡ is_equal nat_eq (record { node = 0; name = name; attrs = map attribute_of attrs.now }) (entry_is self.now) }
+        ensures { IfOk result (λ equal. equal
+            ≡ is_equal nat_eq (record { node = 0; name = name; attrs = map attribute_of attrs.now }) (entry_is self.now)) }
     {
-        name == self.name && are_same(attrs, &self.attrs)
+        Ok(name == self.name && are_same(alloc, attrs, &self.attrs)?)
     }
 }
 
@@ -58,12 +65,18 @@ impl Item {
     }
 
     /// Whether it is an entry that was made for an equal token.
-    pub(crate) fn is_equal(&self, name: NameId, attrs: &[Attr]) -> bool
-        ensures { result ≡ option_map_or (is_equal nat_eq (record { node = 0; name = name; attrs = map attribute_of attrs.now })) (told self.now) false }
+    pub(crate) fn is_equal(
+        &self,
+        alloc: Global,
+        name: NameId,
+        attrs: &[Attr],
+    ) -> Result<bool, AllocError>
+        ensures { IfOk result (λ equal. equal
+            ≡ option_map_or (is_equal nat_eq (record { node = 0; name = name; attrs = map attribute_of attrs.now })) (told self.now) false) }
     {
         match self {
-            Item::Hole | Item::Marker => false,
-            Item::Entry(entry) => entry.is_equal(name, attrs),
+            Item::Hole | Item::Marker => Ok(false),
+            Item::Entry(entry) => entry.is_equal(alloc, name, attrs),
         }
     }
 

@@ -12,8 +12,8 @@ ghost use Rattle.hopen.specs.Holes.{nth_live};
 
 use crate::attributes::copy_attrs;
 use crate::bookmark::Bookmark;
-use crate::buckets::find_hash;
 use crate::entry::{Entry, Item};
+use crate::hashes::find_hash;
 use crate::slots::{MARKER, Numbers, Slots, name_number, node_number};
 use hnodes::NodeId;
 use names::{Attr, NameId};
@@ -127,7 +127,7 @@ impl Formatting {
         let attrs = copy_attrs(self.alloc, attrs)?;
         let hash = find_hash(self.alloc, name, &attrs)?;
         make_room(&mut self.slots)?;
-        let earliest = self.slots.giving_way(hash, name, &attrs);
+        let earliest = self.slots.giving_way(self.alloc, hash, name, &attrs)?;
         let numbers = Numbers {
             name: name_number(name),
             hash,

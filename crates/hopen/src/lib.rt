@@ -3,10 +3,10 @@
 
 pub mod attributes;
 pub mod bookmark;
-mod buckets;
 pub mod entry;
 mod exchange;
 pub mod formatting;
+mod hashes;
 mod kept;
 pub mod laws;
 mod name_sets;

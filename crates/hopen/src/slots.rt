@@ -1,10 +1,10 @@
 //! The items of the list of active formatting elements, with the holes that entries leave: nothing moves where one is removed.
 
-ghost use Rattle.std.specs.Prelude.{◌≡◌, ℕ, suc, ◌+◌, ◌-◌, ◌<◌, ◌≤◌, ◌++◌, ◌∷◌, [], IfSome, OnOk, OnErr, IsTrue, is_some, true, false, insert, length, map, nat_eq, not, remove, slice_index_or, slice_set, filter, take, drop};
+ghost use Rattle.std.specs.Prelude.{◌≡◌, ℕ, suc, ◌+◌, ◌-◌, ◌<◌, ◌≤◌, ◌++◌, ◌∷◌, [], IfOk, IfSome, OnOk, OnErr, IsTrue, is_some, true, false, insert, length, map, nat_eq, not, remove, slice_index_or, slice_set, filter, take, drop};
 ghost use Rattle.std.specs.List.{list_any};
 ghost use Rattle.std.specs.Option.{option_map_or};
 ghost use Rattle.hnodes.specs.Rows.{attribute_of};
-ghost use Rattle.hopen.specs.Buckets.{bucket};
+ghost use Rattle.hopen.specs.Hashes.{entry_hash};
 ghost use Rattle.hchain.specs.Chains.{none};
 ghost use Rattle.hopen.specs.Formatting.{for_node, is_entry, with_room};
 ghost use Rattle.hopen.specs.Items.{IsStored, is_gone, item_of, items_of, live, told, renamed};
@@ -73,25 +73,31 @@ impl Slots {
 
     /// How many items come after the entry that gives way to a new one: the earliest of the equal entries after the last marker, if
     /// there are three. Equal entries have the same hash.
-    pub(crate) fn giving_way(&self, number: usize, name: NameId, attrs: &[Attr]) -> Option<usize>
+    pub(crate) fn giving_way(
+        &self,
+        alloc: Global,
+        number: usize,
+        name: NameId,
+        attrs: &[Attr],
+    ) -> Result<Option<usize>, AllocError>
         requires listed { IsListed self.now }
-        requires number { number ≡ suc (suc (bucket (record { node = 0; name = name; attrs = map attribute_of attrs.now }))) }
-        ensures within { IfSome result (λ back. back < length self.now.items.items) }
-        ensures room { option_map_or (remove (items_of self.now.items.items)) result (items_of self.now.items.items)
-            ≡ with_room nat_eq (record { node = 0; name = name; attrs = map attribute_of attrs.now }) (items_of self.now.items.items) }
+        requires number { number ≡ suc (suc (entry_hash (record { node = 0; name = name; attrs = map attribute_of attrs.now }))) }
+        ensures within { IfOk result (λ earliest. IfSome earliest (λ back. back < length self.now.items.items)) }
+        ensures room { IfOk result (λ earliest. option_map_or (remove (items_of self.now.items.items)) earliest (items_of self.now.items.items)
+            ≡ with_room nat_eq (record { node = 0; name = name; attrs = map attribute_of attrs.now }) (items_of self.now.items.items)) }
     {
         let marker = self.hashes.last(MARKER);
         let mut place = self.hashes.last(number);
         let mut equal = 0;
         let mut earliest = None;
         while place > marker {
-            if self.items[place - 1].is_equal(name, attrs) {
+            if self.items[place - 1].is_equal(alloc, name, attrs)? {
                 equal += 1;
                 earliest = Some(self.items.len() - place);
             }
             place = self.hashes.before(place);
         }
-        if equal < MOST_EQUAL { None } else { earliest }
+        Ok(if equal < MOST_EQUAL { None } else { earliest })
     }
 
     /// Adds an item at the end. On an error no item changes.

@@ -1,4 +1,4 @@
-use Rattle.std.proofs.Common.{◌≡◌, sym, ◌∙◌, ap}
+use Rattle.std.proofs.Common.{◌∙◌, ap}
 use Rattle.hopen.specs.Items.{items_of, live}
 use Rattle.hopen.proofs.Holes.{live-tail}
 use Rattle.hopen.proofs.formatting.make_room.Goals as goal

@@ -1,6 +1,6 @@
-use Rattle.std.proofs.Common.{◌≡◌, ◌-◌, suc, true, length, get_or, take, take_all, subst, sym, ◌∙◌, ap, arith}
+use Rattle.std.proofs.Common.{◌≡◌, ◌-◌, true, take_all, subst, sym, ◌∙◌, ap, arith}
 use Rattle.hopen.specs.Items.{IsStored, is_hole, item_of, items_of, live}
-use Rattle.hopen.proofs.Holes.{gone-is, live-dropped, taken}
+use Rattle.hopen.proofs.Holes.{gone-is, live-dropped}
 use Rattle.hopen.proofs.formatting.trim.Goals as goal
 
 pub loop-len-init : goal.loop-len-init

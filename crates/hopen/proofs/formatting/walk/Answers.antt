@@ -1,8 +1,8 @@
-use Rattle.std.proofs.Common.{◌≡◌, ℕ, suc, ◌+◌, ◌-◌, ◌<◌, ◌≤◌, Option, Some, None, false, true, length, get_or, take, refl, arith, subst, ◌∷◌, sym, ◌∙◌, ap}
+use Rattle.std.proofs.Common.{◌≡◌, suc, ◌+◌, ◌-◌, true, take, arith, subst, ◌∷◌, sym, ◌∙◌, ap}
 use Rattle.std.specs.Option.{option_map}
 use Rattle.hopen.specs.Holes.{nth_live}
 use Rattle.hopen.specs.Items.{IsStored, is_hole, item_of, items_of}
-use Rattle.hopen.proofs.Holes.{from-end, further, gone-is, none-further, nth-here, nth-hole, nth-more, taken}
+use Rattle.hopen.proofs.Holes.{further, gone-is, none-further, nth-hole, taken}
 use Rattle.hopen.proofs.formatting.walk.Goals as goal
 
 pub loop-index-init : goal.loop-index-init

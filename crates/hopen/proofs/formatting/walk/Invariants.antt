@@ -1,4 +1,4 @@
-use Rattle.std.proofs.Common.{◌≡◌, ◌+◌, ◌-◌, ◌≤◌, length, take}
+use Rattle.std.proofs.Common.{◌≡◌, ◌+◌, ◌-◌, ◌≤◌, take}
 use Rattle.std.specs.Option.{option_map}
 use Rattle.hopen.specs.Holes.{nth_live}
 use Rattle.hopen.specs.Items.{items_of}

@@ -1,4 +1,4 @@
-use Rattle.std.proofs.Common.{◌≡◌, ◌+◌, ◌<◌, true, false, get_or, length, sym, ◌∙◌, ap, arith, subst, Vec, Global}
+use Rattle.std.proofs.Common.{◌≡◌, ◌+◌, ◌<◌, get_or, length, sym, ◌∙◌, ap, arith, subst, Vec, Global}
 use Rattle.std.proofs.lemmas.List.{get_or_read}
 use Rattle.hopen.specs.Items.{is_gone}
 use Rattle.hopen.specs.declared.entry.Item.{Item as Stored}

@@ -1,5 +1,4 @@
-use Rattle.std.proofs.Common.{◌≡◌, ◌≤◌, length, map, reverse, take, sym, ◌∙◌, ap, arith}
-use Rattle.std.proofs.lemmas.List.{length-map}
+use Rattle.std.proofs.Common.{◌≡◌, reverse, sym, ◌∙◌, ap, arith}
 use Rattle.hopen.specs.Formatting.{cleared}
 use Rattle.hopen.specs.Items.{items_of, live}
 use Rattle.hopen.specs.Listed.{by_name}

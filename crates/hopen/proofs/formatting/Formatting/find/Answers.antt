@@ -1,7 +1,7 @@
-use Rattle.std.proofs.Common.{◌≡◌, ◌≢◌, ℕ, suc, ◌+◌, ◌-◌, ◌<◌, false, length, map, reverse, nat_eq, subst, sym, ◌∙◌, ap, arith}
+use Rattle.std.proofs.Common.{◌≡◌, suc, ◌+◌, ◌-◌, length, reverse, nat_eq, sym, ◌∙◌, ap, arith}
 use Rattle.std.specs.Option.{option_and_then}
 use Rattle.hopen.specs.Formatting.{as_entry, find_entry}
-use Rattle.hopen.specs.Items.{IsStored, is_gone, item_of, items_of, nowhere}
+use Rattle.hopen.specs.Items.{item_of, items_of}
 use Rattle.hopen.specs.Listed.{by_name}
 use Rattle.hopen.proofs.Chained.{last-is, last_of}
 use Rattle.hopen.proofs.Holes.{place-there, told-is}

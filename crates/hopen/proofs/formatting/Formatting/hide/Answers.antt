@@ -1,18 +1,17 @@
-use Rattle.std.proofs.Common.{◌≡◌, ℕ, suc, ◌+◌, ◌-◌, ◌<◌, ◌≤◌, true, false, None, Some, length, get_or, reverse, refl, subst, sym, ◌∙◌, ap, arith}
-use Rattle.std.specs.List.{list_any, position, remove}
+use Rattle.std.proofs.Common.{◌≡◌, suc, ◌+◌, ◌-◌, ◌<◌, length, reverse, refl, sym, ◌∙◌, ap, arith}
+use Rattle.std.specs.List.{list_any}
 use Rattle.std.specs.Option.{is_some}
-use Rattle.std.proofs.lemmas.List.{get_or_default}
-use Rattle.hopen.specs.Formatting.{for_node, is_entry, with_node}
+use Rattle.hopen.specs.Formatting.{is_entry}
 use Rattle.hopen.specs.Items.{hole, item_of, items_of, live}
 use Rattle.hopen.specs.Listed.{by_node}
-use Rattle.hopen.specs.Nearest.{changed_at, without}
+use Rattle.hopen.specs.Nearest.{without}
 use Rattle.hopen.specs.declared.entry.Item.TheVariants as stored
 use Rattle.hopen.proofs.Chained.{last-is, last_of}
-use Rattle.hopen.proofs.Holes.{no-position, node-at, node-none, node_place, place-told, slots-are}
+use Rattle.hopen.proofs.Holes.{no-position, node-at, node-none, node_place, slots-are}
 use Rattle.hopen.proofs.ItemLists.{length-items_of}
 use Rattle.hopen.proofs.Listed.{numbers-back, place-le}
 use Rattle.hopen.proofs.Live.{any-live}
-use Rattle.hopen.proofs.LiveEdits.{hide-live, with_node-live, without1-live}
+use Rattle.hopen.proofs.LiveEdits.{hide-live, without1-live}
 use Rattle.hopen.proofs.Nearest.{is_some-position, no_words, set_nearest, words}
 use Rattle.hopen.proofs.formatting.Formatting.hide.Goals as goal
 

@@ -1,4 +1,4 @@
-use Rattle.std.proofs.Common.{◌≡◌, not, filter, length, take_all, sym, ◌∙◌, ap, arith}
+use Rattle.std.proofs.Common.{not, filter, length, take_all, sym, ◌∙◌, ap}
 use Rattle.hopen.specs.Items.{is_gone}
 use Rattle.hopen.proofs.Holes.{length-live}
 use Rattle.hopen.proofs.formatting.Formatting.len.Goals as goal

@@ -1,6 +1,6 @@
-use Rattle.std.proofs.Common.{◌≡◌, ◌∷◌, ◌∙◌, ap, sym}
+use Rattle.std.proofs.Common.{◌∷◌, ◌∙◌, ap}
 use Rattle.hopen.specs.Formatting.{marker}
-use Rattle.hopen.specs.Items.{item_of, items_of, live}
+use Rattle.hopen.specs.Items.{items_of, live}
 use Rattle.hopen.specs.declared.entry.Item.TheVariants as stored
 use Rattle.hopen.proofs.ItemLists.{items_of_more}
 use Rattle.hopen.proofs.formatting.Formatting.marker.Goals as goal

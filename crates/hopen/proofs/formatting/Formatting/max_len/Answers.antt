@@ -1,4 +1,4 @@
-use Rattle.std.proofs.Common.{◌≡◌, ◌≤◌, length, ap, arith}
+use Rattle.std.proofs.Common.{length, ap, arith}
 use Rattle.hopen.specs.Items.{items_of}
 use Rattle.hopen.proofs.Holes.{length-live-le}
 use Rattle.hopen.proofs.ItemLists.{length-items_of}

@@ -1,6 +1,6 @@
-use Rattle.std.proofs.Common.{◌≡◌, sym, ◌∙◌, ap}
+use Rattle.std.proofs.Common.{◌∙◌, ap}
 use Rattle.hopen.specs.Items.{items_of, live}
-use Rattle.hopen.proofs.Holes.{live-tail, nth-index}
+use Rattle.hopen.proofs.Holes.{live-tail}
 use Rattle.hopen.proofs.formatting.Formatting.reach.Goals as goal
 
 pub returns-in-Some : goal.returns-in-Some

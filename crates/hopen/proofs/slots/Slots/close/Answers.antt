@@ -1,4 +1,4 @@
-use Rattle.std.proofs.Common.{◌≡◌, refl}
+use Rattle.std.proofs.Common.{refl}
 use Rattle.hopen.proofs.Closed.{listed-closed}
 use Rattle.hopen.proofs.slots.Slots.close.Goals as goal
 

@@ -7,15 +7,15 @@ use Rattle.hopen.specs.Formatting.{EntryOf, Item, after_marker, as_entry, is_equ
 use Rattle.hopen.specs.Items.{item_of, items_of, nowhere}
 use Rattle.hopen.specs.Listed.{by_hash, number_by, numbers_by}
 use Rattle.hopen.specs.declared.entry.Item.{Item as Stored}
-use Rattle.hopen.proofs.Bucketed.{Steps, last-at, length-after, number-at, numbers-before, skips, steps}
+use Rattle.hopen.proofs.ByHash.{Steps, last-at, length-after, number-at, numbers-before, skips, steps}
 use Rattle.hopen.proofs.Chained.{before-is, last-is, last_of}
 use Rattle.hopen.proofs.Earliest.{farthest, farthest-within, room-made, room-there}
 use Rattle.hopen.proofs.ItemLists.{length-items_of}
 use Rattle.hopen.proofs.Listed.{numbers-back, place, place-le}
 use Rattle.hopen.proofs.Nearest.{slice_get_nearest}
-use Rattle.hopen.proofs.SameBucket.{same-number, told-equal}
+use Rattle.hopen.proofs.SameHash.{same-number, told-equal}
 use Rattle.hopen.proofs.slots.Slots.giving_way.Goals as goal
-use Rattle.hopen.proofs.slots.Slots.giving_way.Goals.{then-is_equal, else-is_equal}
+use Rattle.hopen.proofs.slots.Slots.giving_way.Goals.{then-branch, else-branch}
 
 pub loop-place-init : goal.loop-place-init
 loop-place-init c =
@@ -92,27 +92,27 @@ module _ (c : goal.After-before-place) where
       (slice_get_nearest item_of items (p - 1) (length view - p) c.index.result.now at ∙ ap (λ y. Some (item_of y)) (sym c.index.ensures))
       (c.before-place.ensures ∙ before-is (get_or hashes (p - 1) 0) hashes (p - 1) (omega arith) ∙ (λ i. last_of (number i) (numbers i)))
 
-  told : c.is_equal.result ≡ here
-  told = c.is_equal.ensures ∙ told-equal new named c.index.result.now
+  told : c.in_ok-is_equal.field-0 ≡ here
+  told = c.in_ok-is_equal.ensures ∙ told-equal new named c.index.result.now
 
-  more : c.if-is_equal.equal ≡ c.loop-place.equal + (if here then 1 else 0)
+  more : c.if-branch.equal ≡ c.loop-place.equal + (if here then 1 else 0)
   more =
-      elim c.if-is_equal.branch [
-        | then-is_equal w ↦ w.equal-is ∙ ap (λ v. c.loop-place.equal + (if v then 1 else 0)) (sym w.if-is_equal.true ∙ told)
-        | else-is_equal w ↦ w.equal-is ∙ sym (add-zero c.loop-place.equal) ∙ ap (λ v. c.loop-place.equal + (if v then 1 else 0)) (sym w.if-is_equal.false ∙ told)
+      elim c.if-branch.branch [
+        | then-branch w ↦ w.equal-is ∙ ap (λ v. c.loop-place.equal + (if v then 1 else 0)) (sym w.if-branch.true ∙ told)
+        | else-branch w ↦ w.equal-is ∙ sym (add-zero c.loop-place.equal) ∙ ap (λ v. c.loop-place.equal + (if v then 1 else 0)) (sym w.if-branch.false ∙ told)
       ]
 
-  few : c.if-is_equal.equal ≤ c.loop-place.equal + 1
-  few = elim c.if-is_equal.branch [ then-is_equal w ↦ omega (arith, w.equal-is) | else-is_equal w ↦ omega (arith, w.equal-is) ]
+  few : c.if-branch.equal ≤ c.loop-place.equal + 1
+  few = elim c.if-branch.branch [ then-branch w ↦ omega (arith, w.equal-is) | else-branch w ↦ omega (arith, w.equal-is) ]
 
-  found : c.if-is_equal.earliest ≡ (if here then Some (length view - c.loop-place.place) else c.loop-place.earliest)
+  found : c.if-branch.earliest ≡ (if here then Some (length view - c.loop-place.place) else c.loop-place.earliest)
   found =
       let same : length items ≡ length view = sym (length-items_of items) in
-      elim c.if-is_equal.branch [
-        | then-is_equal w ↦ let size : w.len.result ≡ length view = omega (arith, w.len.ensures, same) in
-            w.earliest-is ∙ (λ i. if (sym w.if-is_equal.true ∙ told) i then Some (size i - c.loop-place.place) else c.loop-place.earliest)
-        | else-is_equal w ↦ w.earliest-is
-            ∙ ap (λ v. if v then Some (length view - c.loop-place.place) else c.loop-place.earliest) (sym w.if-is_equal.false ∙ told)
+      elim c.if-branch.branch [
+        | then-branch w ↦ let size : w.len.result ≡ length view = omega (arith, w.len.ensures, same) in
+            w.earliest-is ∙ (λ i. if (sym w.if-branch.true ∙ told) i then Some (size i - c.loop-place.place) else c.loop-place.earliest)
+        | else-branch w ↦ w.earliest-is
+            ∙ ap (λ v. if v then Some (length view - c.loop-place.place) else c.loop-place.earliest) (sym w.if-branch.false ∙ told)
       ]
 
 pub loop-place-smaller : goal.loop-place-smaller

@@ -1,7 +1,6 @@
-use Rattle.std.proofs.Common.{◌≡◌, ◌+◌, ◌-◌, ◌<◌, ◌≤◌, List, length, get_or, sym, ◌∙◌, ap, arith}
+use Rattle.std.proofs.Common.{◌≡◌, ◌+◌, ◌-◌, length, get_or, sym, ◌∙◌, ap, arith}
 use Rattle.std.specs.List.{insert, remove}
 use Rattle.std.proofs.lemmas.List.Edits.{length-remove}
-use Rattle.hopen.specs.declared.entry.Item.{Item as Stored}
 use Rattle.hopen.specs.declared.entry.Item.TheVariants as stored
 use Rattle.hopen.proofs.Moved.{exchanged, exchanged-down, insert-remove}
 use Rattle.hopen.proofs.slots.Slots.lower.Goals as goal

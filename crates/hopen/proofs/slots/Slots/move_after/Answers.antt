@@ -1,4 +1,4 @@
-use Rattle.std.proofs.Common.{◌≡◌, ◌<◌, ◌==◌, suc, length, get_or, set, reverse, refl, sym, ◌∙◌, ap, arith}
+use Rattle.std.proofs.Common.{◌≡◌, ◌<◌, ◌==◌, suc, length, get_or, set, reverse, refl, ◌∙◌, ap, arith}
 use Rattle.std.specs.List.{insert, remove}
 use Rattle.std.proofs.lemmas.List.{get_or_read, get_or-set_same, length-reverse, length-set}
 use Rattle.std.proofs.lemmas.List.Edits.{length-remove}

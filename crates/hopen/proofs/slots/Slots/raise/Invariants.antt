@@ -1,4 +1,4 @@
-use Rattle.std.proofs.Common.{◌≡◌, ◌≤◌, get_or}
+use Rattle.std.proofs.Common.{◌≡◌, get_or}
 use Rattle.std.specs.List.{insert, remove}
 use Rattle.hopen.specs.Listed.{IsListed}
 use Rattle.hopen.specs.declared.entry.Item.TheVariants as stored

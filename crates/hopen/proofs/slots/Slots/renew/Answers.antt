@@ -1,6 +1,6 @@
-use Rattle.std.proofs.Common.{◌≡◌, suc, ◌<◌, length, get_or, set, refl, sym, ◌∙◌, ap, arith}
+use Rattle.std.proofs.Common.{◌≡◌, suc, get_or, set, refl, ◌∙◌, ap, arith}
 use Rattle.std.proofs.lemmas.List.{get_or_read}
-use Rattle.hopen.specs.Items.{items_of, nowhere, renamed}
+use Rattle.hopen.specs.Items.{items_of, renamed}
 use Rattle.hopen.specs.declared.entry.Item.TheVariants as stored
 use Rattle.hopen.proofs.Moved.{listed-renewed, renewed-items}
 use Rattle.hopen.proofs.slots.Slots.renew.Goals as goal

@@ -5,7 +5,7 @@ use Rattle.std.proofs.lemmas.Iterator.Search.{all_from_yields_List}
 use Rattle.std.proofs.lemmas.List.Folds.{list_all-map}
 use Rattle.hnodes.specs.Rows.{attribute_of}
 use Rattle.hopen.specs.Formatting.{same_attribute}
-use Rattle.hopen.proofs.attributes.are_all_in.Goals as goal
+use Rattle.hopen.proofs.attributes.are_found.Goals as goal
 
 pub returns : goal.returns
 returns c =

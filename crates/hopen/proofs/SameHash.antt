@@ -1,4 +1,4 @@
--- Equal entries have the same bucket, and the same number by it.
+-- Equal entries have the same hash, and the same number by it.
 use Rattle.std.proofs.Common.{◌≡◌, ◌≢◌, ℕ, suc, ◌<◌, Bool, true, false, cond, ltb, eqb, nat_eq, nat_cmp, Less, IsSorted, IsPermutation, bytes_eq, ◌&&◌, ◌||◌, ◌%◌, List, [], ◌∷◌, map, refl, sym, ◌∙◌, ap, arith}
 use Rattle.std.specs.List.{list_any, dedup, dedup_from, AllByRecursion}
 use Rattle.std.specs.List.Sorted.{IsStrictlySortedBy}
@@ -13,7 +13,7 @@ use Rattle.std.proofs.lemmas.List.Sorted.{list_any-IsPermutation}
 use Rattle.std.proofs.lemmas.Map.Lookups.{btree_set_from_contains}
 use Rattle.names.proofs.TableLemmas.{bytes_eq-true}
 use Rattle.hnodes.specs.Forest.{Attribute}
-use Rattle.hopen.specs.Buckets.{bucket, distinct, hash_bytes, hash_of, put_in, total}
+use Rattle.hopen.specs.Hashes.{entry_hash, distinct, hash_bytes, hash_of, put_in, total}
 use Rattle.hopen.specs.Formatting.{EntryOf, are_among, as_entry, is_equal, same_attribute, same_attributes}
 use Rattle.hopen.specs.Items.{item_of, nowhere, told}
 use Rattle.hopen.specs.Listed.{by_hash}
@@ -141,24 +141,24 @@ same-hashes xs ys there back =
     (λ p. any-distinct p (map hash_of xs) ∙ both_ways (list_any p (map hash_of xs)) (list_any p (map hash_of ys)) (any-among p xs ys there) (any-among p ys xs back)
     ∙ sym (any-distinct p (map hash_of ys)))
 
-pub same-bucket : (new e : EntryOf ℕ) → is_equal nat_eq new e ≡ true → bucket new ≡ bucket e
-same-bucket new e equal = go (nat_eq new.name e.name) refl (are_among nat_eq new.attrs e.attrs) refl (are_among nat_eq e.attrs new.attrs) refl equal
+pub same-entry_hash : (new e : EntryOf ℕ) → is_equal nat_eq new e ≡ true → entry_hash new ≡ entry_hash e
+same-entry_hash new e equal = go (nat_eq new.name e.name) refl (are_among nat_eq new.attrs e.attrs) refl (are_among nat_eq e.attrs new.attrs) refl equal
   where
     go : (u : Bool) → nat_eq new.name e.name ≡ u → (v : Bool) → are_among nat_eq new.attrs e.attrs ≡ v → (w : Bool) → are_among nat_eq e.attrs new.attrs ≡ w → (u && (v && w)) ≡ true
-        → bucket new ≡ bucket e
+        → entry_hash new ≡ entry_hash e
     go true name true there true back equal = λ i. total (eqb-true new.name e.name name i) (same-hashes new.attrs e.attrs there back i) % 4294967296
     go true name true there false back equal = cc
     go true name false there w back equal = cc
     go false name v there w back equal = cc
 
 -- An entry that is equal to one with a name is no hole, and has the number of the same hash.
-pub same-number : (new e : EntryOf ℕ) → new.name < nowhere → is_equal nat_eq new e ≡ true → suc (by_hash e) ≡ suc (suc (bucket new))
+pub same-number : (new e : EntryOf ℕ) → new.name < nowhere → is_equal nat_eq new e ≡ true → suc (by_hash e) ≡ suc (suc (entry_hash new))
 same-number new e named equal = go (nat_eq new.name e.name) refl equal
   where
-    go : (u : Bool) → nat_eq new.name e.name ≡ u → (u && same_attributes nat_eq new.attrs e.attrs) ≡ true → suc (by_hash e) ≡ suc (suc (bucket new))
+    go : (u : Bool) → nat_eq new.name e.name ≡ u → (u && same_attributes nat_eq new.attrs e.attrs) ≡ true → suc (by_hash e) ≡ suc (suc (entry_hash new))
     go true name all =
         let other : e.name ≢ nowhere = omega (arith, eqb-true new.name e.name name) in
-        rw (ne_eqb e.name nowhere other) (ap (λ n. suc (suc n)) (sym (same-bucket new e equal)))
+        rw (ne_eqb e.name nowhere other) (ap (λ n. suc (suc n)) (sym (same-entry_hash new e equal)))
     go false name all = cc
 
 -- an item that is told to be equal is seen as such an entry

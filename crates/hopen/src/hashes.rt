@@ -2,7 +2,7 @@
 
 ghost use Rattle.std.specs.Prelude.{◌≡◌, suc, IfOk, map};
 ghost use Rattle.hnodes.specs.Rows.{attribute_of};
-ghost use Rattle.hopen.specs.Buckets.{bucket, distinct, hash_bytes, hash_of, total};
+ghost use Rattle.hopen.specs.Hashes.{entry_hash, distinct, hash_bytes, hash_of, total};
 
 use names::{Attr, NameId};
 use std::alloc::{AllocError, Global};
@@ -56,7 +56,7 @@ fn total(start: u64, hashes: &[u64]) -> u64
 /// The number of the hash of an entry with a name and attributes. Equal entries have the same, and few others have it.
 pub(crate) fn find_hash(alloc: Global, name: NameId, attrs: &[Attr]) -> Result<usize, AllocError>
     // whatever the entry's node
-    ensures { IfOk result (λ n. n ≡ suc (suc (bucket (record { node = 0; name = name; attrs = map attribute_of attrs.now })))) }
+    ensures { IfOk result (λ n. n ≡ suc (suc (entry_hash (record { node = 0; name = name; attrs = map attribute_of attrs.now })))) }
 {
     let hashes = hash_attrs(alloc, attrs)?;
     let sum = total(name.index() as u64, &hashes);

@@ -27,6 +27,6 @@ abbrev pub total : ℕ → List ℕ → ℕ
 total start [] = start
 total start (x ∷ xs) = total ((start + x) % 2 ^ 64) xs
 
--- the bucket of an entry
-abbrev pub bucket : EntryOf ℕ → ℕ
-bucket e = total e.name (distinct (map hash_of e.attrs)) % 2 ^ 32
+-- the hash of an entry
+abbrev pub entry_hash : EntryOf ℕ → ℕ
+entry_hash e = total e.name (distinct (map hash_of e.attrs)) % 2 ^ 32

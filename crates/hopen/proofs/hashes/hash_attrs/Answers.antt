@@ -1,9 +1,9 @@
 use Rattle.std.proofs.Common.{eqb, map, ◌∙◌, ap, take_all}
 use Rattle.std.proofs.lemmas.List.Filters.{dedup_is}
 use Rattle.hnodes.specs.Rows.{attribute_of}
-use Rattle.hopen.specs.Buckets.{distinct, hash_of}
-use Rattle.hopen.proofs.SameBucket.{sorted-distinct}
-use Rattle.hopen.proofs.buckets.hash_attrs.Goals as goal
+use Rattle.hopen.specs.Hashes.{distinct, hash_of}
+use Rattle.hopen.proofs.SameHash.{sorted-distinct}
+use Rattle.hopen.proofs.hashes.hash_attrs.Goals as goal
 
 pub returns : goal.returns
 returns c =

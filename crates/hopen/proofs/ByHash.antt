@@ -1,4 +1,4 @@
--- Only the entries of its bucket can be equal to an entry.
+-- Only the entries with its hash can be equal to an entry.
 use Rattle.std.proofs.Common.{add-zero, reverse, take, ◌≡◌, ℕ, zero, suc, ◌+◌, ◌-◌, ◌<◌, ◌≤◌, eqb, Bool, true, false, cond, List, [], ◌∷◌, Option, Some, length, map, filter, drop, get_or, refl, sym, ◌∙◌, ap, arith, if◌then◌else◌}
 use Rattle.std.specs.List.{slice_get}
 use Rattle.std.specs.Option.{option_map_or}

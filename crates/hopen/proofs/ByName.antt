@@ -1,0 +1,49 @@
+-- A search in a list by the numbers of its members, where what is sought has one number.
+use Rattle.std.proofs.Common.{◌≡◌, ℕ, zero, suc, ◌+◌, ◌-◌, ◌<◌, ◌≤◌, ◌==◌, eqb, Bool, true, false, cond, ◌||◌, List, [], ◌∷◌, length, map, take, get_or, refl, sym, ◌∙◌, ap, arith}
+use Rattle.std.specs.List.{list_any}
+use Rattle.std.proofs.lemmas.Bool.{eqb-true, eqb-false}
+use Rattle.std.proofs.lemmas.List.Folds.{list_any_more}
+use Rattle.hchain.specs.Chains.{last_up}
+
+module _ {X : Type 0} (sought : X → Bool) where
+  or-false : (v : Bool) → (v || false) ≡ v
+  or-false true = refl
+  or-false false = refl
+
+  -- a member that isn't sought is not missed
+  pub any-less : (xs : List X) (p : ℕ) (x : X) → 0 < p → p ≤ length xs → x ≡ get_or xs (p - 1) x → sought x ≡ false
+      → list_any sought (take (p - 1) xs) ≡ list_any sought (take p xs)
+  any-less xs p x some within is other =
+      let last : (p - 1) + 1 ≡ p = omega arith in
+      sym (or-false (list_any sought (take (p - 1) xs))) ∙ ap (λ v. list_any sought (take (p - 1) xs) || v) (sym other ∙ ap sought is)
+      ∙ sym (list_any_more sought xs (p - 1) x (omega arith)) ∙ ap (λ k. list_any sought (take k xs)) last
+
+  module _ (number : X → ℕ) (n : ℕ) (law : (x : X) → sought x ≡ true → number x ≡ n) where
+    not-sought : (x : X) → eqb (number x) n ≡ false → sought x ≡ false
+    not-sought x other = go (sought x) refl
+      where
+        go : (v : Bool) → sought x ≡ v → v ≡ false
+        go true here = absurd (eqb-false (number x) n other (law x here))
+        go false here = refl
+
+    any-skip : (xs : List X) (p : ℕ) → p < length xs → eqb (get_or (map number xs) p 0) n ≡ false → list_any sought (take p xs) ≡ list_any sought (take (suc p) xs)
+    any-skip [] p h other = absurd (omega arith)
+    any-skip (x ∷ xs) zero h other = ap (λ v. v || false) (sym (not-sought x other))
+    any-skip (x ∷ xs) (suc p) h other = ap (λ v. sought x || v) (any-skip xs p (omega arith) other)
+
+    -- where the number stands last among so many members
+    pub record Last (xs : List X) (p q : ℕ) : Type 0 where
+      pub within : q ≤ p
+      pub there : 0 < q → get_or (map number xs) (q - 1) 0 ≡ n
+      pub same : list_any sought (take q xs) ≡ list_any sought (take p xs)
+
+    pub last-found : (xs : List X) (p : ℕ) → p ≤ length xs → Last xs p (last_up (λ k. k == n) (map number xs) p)
+    last-found xs zero h = record { within = omega arith; there = λ some. absurd (omega arith); same = refl }
+    last-found xs (suc p) h = go (eqb (get_or (map number xs) p 0) n) refl (last-found xs p (omega arith))
+      where
+        go : (v : Bool) → eqb (get_or (map number xs) p 0) n ≡ v → Last xs p (last_up (λ k. k == n) (map number xs) p)
+            → Last xs (suc p) (cond v (suc p) (last_up (λ k. k == n) (map number xs) p))
+        go true is rest =
+            let last : suc p - 1 ≡ p = omega arith in
+            record { within = omega arith; there = λ some. ap (λ k. get_or (map number xs) k 0) last ∙ eqb-true (get_or (map number xs) p 0) n is; same = refl }
+        go false is rest = record { within = omega (arith, rest.within); there = rest.there; same = rest.same ∙ any-skip xs p (omega arith) is }
