@@ -32,7 +32,10 @@ fn count(tree: &Tree, node: NodeId, value: &str) -> usize {
         return 0;
     }
     match tree.attrs(node) {
-        Some(attrs) => attrs.iter().filter(|attr| attr.value.as_str() == value).count(),
+        Some(attrs) => attrs
+            .iter()
+            .filter(|attr| attr.value.as_str() == value)
+            .count(),
         None => 0,
     }
 }
