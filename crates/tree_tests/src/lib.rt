@@ -3,7 +3,11 @@
 #![tactic(auto)]
 
 #[cfg(test)]
+mod equal_tests;
+#[cfg(test)]
 mod fixed;
+#[cfg(test)]
+mod formatting_deep_tests;
 #[cfg(test)]
 mod formatting_plain;
 #[cfg(test)]
