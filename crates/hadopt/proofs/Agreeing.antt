@@ -1,10 +1,10 @@
 -- The numbers of a table of names agree with its texts.
-use Rattle.std.proofs.Common.{◌≡◌, ℕ, length, Some, refl, sym}
+use Rattle.std.proofs.Common.{◌≡◌, length, Some, refl, sym}
 use Rattle.std.specs.Prelude.{slice_get}
 use Rattle.names.proofs.AllTexts.{spelled}
 use Rattle.names.proofs.KnownNumbers.{text_of_first}
 use Rattle.names.specs.Names.{Texts, AreNames}
-use Rattle.names.specs.Spelling.{IsSpelled, spelling}
+use Rattle.names.specs.Spelling.{spelling}
 use Rattle.names.specs.Tags.{known, number_of, tag_text, tags, type_name}
 use Rattle.names.specs.declared.tag.Tag.{Tag}
 use Rattle.names.specs.declared.tag.Tag.TheVariants.{Other}

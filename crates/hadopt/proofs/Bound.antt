@@ -8,9 +8,9 @@ use Rattle.hnodes.specs.Edits.{make}
 use Rattle.hopen.specs.Stack.{OpenNode, is_node, is_open, above, current, in_scope, furthest_block}
 use Rattle.hopen.specs.Scopes.{stops, is_named}
 use Rattle.hopen.specs.declared.scope.Scope.TheVariants.{Default}
-use Rattle.hopen.specs.declared.bookmark.Bookmark.TheVariants.{InPlace}
+use Rattle.hformat.specs.declared.bookmark.Bookmark.TheVariants.{InPlace}
 use Rattle.hopen.specs.Nearest.{before}
-use Rattle.hopen.specs.Formatting.{EntryOf, Item, marker, entry, entries, is_of_node, entry_of, find_entry, without_entry}
+use Rattle.hformat.specs.Formatting.{EntryOf, Item, marker, entry, entries, is_of_node, entry_of, find_entry, without_entry}
 use Rattle.names.specs.declared.error.ErrorCode.TheVariants.{TreeInBody}
 use Rattle.names.specs.declared.refusal.Refusal.TheVariants.{TooManyNodes}
 use Rattle.names.specs.Sets.{is_special}

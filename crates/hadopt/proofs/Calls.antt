@@ -4,7 +4,7 @@ use Rattle.std.specs.Char.{encode_utf8}
 use Rattle.std.specs.Prelude.{Result, IfOk}
 use Rattle.hnodes.specs.Forest.{Attribute, What, element, text}
 use Rattle.hnodes.specs.declared.node.Place.{Place}
-use Rattle.hopen.specs.Formatting.{Item, marker, entry, entries, cleared, without_entry}
+use Rattle.hformat.specs.Formatting.{Item, marker, entry, entries, cleared, without_entry}
 use Rattle.hopen.specs.Stack.{OpenNode, current}
 use Rattle.names.specs.declared.tag.Tag.TheVariants.{Table}
 use Rattle.names.specs.declared.error.ErrorCode.{ErrorCode}

@@ -8,7 +8,7 @@ use Rattle.hnodes.specs.Edits.{AreCounted, graft_last, make}
 use Rattle.hnodes.specs.declared.node.Place.TheVariants.{LastIn}
 use Rattle.hopen.specs.Nearest.{without}
 use Rattle.hopen.specs.Stack.{OpenNode, is_node}
-use Rattle.hopen.specs.Formatting.{EntryOf, Item, marker, entry, entries, is_of_node, entry_of, without_entry, for_node, with_node}
+use Rattle.hformat.specs.Formatting.{EntryOf, Item, marker, entry, entries, is_of_node, entry_of, without_entry, for_node, with_node}
 use Rattle.names.specs.declared.tag.Tag.TheVariants.{Table}
 use Rattle.names.specs.declared.refusal.Refusal.TheVariants.{TooManyNodes}
 use Rattle.hnodes.proofs.Counted.{at-most, is-there, not-there, deep-there, times-new, counted-new, counted-graft}

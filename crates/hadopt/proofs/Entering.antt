@@ -1,11 +1,10 @@
 -- An entry that is pushed for a new element, before or after that becomes the current node.
-use Rattle.std.proofs.Common.{◌≡◌, ℕ, Bool, true, false, cond, not, List, [], ◌∷◌, length, leb, refl, filter}
+use Rattle.std.proofs.Common.{◌≡◌, ℕ, Bool, true, false, cond, not, List, [], ◌∷◌, length, leb, filter}
 use Rattle.std.specs.List.{list_any}
 use Rattle.std.specs.Prelude.{◌&&◌}
 use Rattle.hnodes.specs.Forest.{Attribute}
-use Rattle.hopen.specs.Formatting.{EntryOf, Item, marker, entry, entries, after_marker, is_equal, most_equal, without_earliest, with_room, pushed as entry_pushed}
+use Rattle.hformat.specs.Formatting.{EntryOf, Item, marker, entry, entries, after_marker, is_equal, most_equal, without_earliest, with_room, pushed as entry_pushed}
 use Rattle.hopen.specs.Stack.{OpenNode}
-use Rattle.names.specs.declared.refusal.Refusal.{Refusal}
 use Rattle.names.specs.declared.refusal.Refusal.TheVariants.{TooDeep}
 use Rattle.hadopt.specs.Inserts.{pushed, listed}
 use Rattle.hadopt.specs.Naming.{Naming}

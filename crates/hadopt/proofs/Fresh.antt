@@ -1,13 +1,12 @@
 -- What a call that makes a node says of the new one.
-use Rattle.std.proofs.Common.{◌≡◌, ℕ, suc, ◌<◌, ◌+◌, ◌∙◌, Bool, true, false, cond, leb, List, Option, Some, None, Ok, Err, refl, sym, arith, ap}
+use Rattle.std.proofs.Common.{◌≡◌, ℕ, ◌<◌, Bool, true, false, cond, leb, List, Some, None, Ok, Err, refl, arith}
 use Rattle.std.proofs.lemmas.Bool.{eq-eqb}
-use Rattle.std.specs.Option.{option_and_then}
 use Rattle.std.specs.Prelude.{Result, IfOk, OnOk}
 use Rattle.hnodes.proofs.Counted.{not-there}
-use Rattle.hnodes.proofs.Spots.{spot_below-absent, spot_of-absent}
+use Rattle.hnodes.proofs.Spots.{spot_below-absent}
 use Rattle.hnodes.specs.Edits.{Nodes, AreNodes, make}
 use Rattle.hnodes.specs.Forest.{Attribute, What, element, Forest, none, tree, times, join}
-use Rattle.hnodes.specs.Spots.{spot_of, either_of, attributes_of}
+use Rattle.hnodes.specs.Spots.{spot_of, attributes_of}
 use Rattle.names.specs.declared.refusal.Refusal.{Refusal}
 use Rattle.names.specs.declared.refusal.Refusal.TheVariants.{TooManyNodes}
 use Rattle.hadopt.specs.Inserts.{made}

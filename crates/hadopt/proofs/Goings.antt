@@ -5,7 +5,7 @@ use Rattle.std.specs.Option.{option_map_or}
 use Rattle.std.proofs.Math.Dec.{eqb-suc-zero}
 use Rattle.hopen.specs.Nearest.{before}
 use Rattle.hopen.specs.Stack.{OpenNode, in_scope, is_open}
-use Rattle.hopen.specs.Formatting.{Item, marker, entry, entry_at}
+use Rattle.hformat.specs.Formatting.{Item, marker, entry, entry_at}
 use Rattle.hadopt.specs.Site.{SiteOf, stack}
 use Rattle.hadopt.specs.Reconstructs.{stops_going_back}
 

@@ -1,9 +1,10 @@
 -- What is inserted keeps what the open nodes need.
-use Rattle.std.proofs.Common.{◌≡◌, ◌≢◌, ℕ, zero, suc, ◌+◌, ◌<◌, Bool, true, false, eqb, leb, cond, List, [], ◌∷◌, Option, Some, None, refl, sym, ◌∙◌, subst, arith, inl, inr, find, reverse, is_some, is_none, length}
+use Rattle.std.proofs.Common.{◌≡◌, ◌≢◌, ℕ, zero, suc, ◌+◌, ◌<◌, Bool, true, false, leb, cond, List, [], ◌∷◌, Option, Some, None, refl, sym, ◌∙◌, subst, arith, inl, inr, find, reverse, is_some, is_none, length}
 use Rattle.std.specs.Prelude.{◌&&◌, slice_get}
 use Rattle.std.specs.Char.{encode_utf8}
 use Rattle.std.specs.Option.{option_map_or}
-use Rattle.hnodes.specs.Forest.{Attribute, What, document, element, text, Forest, none, tree, times, change_what}
+use Rattle.hnodes.specs.Attributes.{is_present}
+use Rattle.hnodes.specs.Forest.{Attribute, What, document, element, text, Forest, times, change_what}
 use Rattle.hnodes.specs.Spots.{parent_of, attributes_of}
 use Rattle.hnodes.specs.Edits.{AreCounted, place_node, graft, make, char_into, with_char, with_attribute, add_attribute, text_before}
 use Rattle.hnodes.proofs.Inside.{tree_at-among}
@@ -12,8 +13,8 @@ use Rattle.hnodes.specs.declared.node.Place.TheVariants.{LastIn, Before}
 use Rattle.hopen.specs.Nearest.{before, changed_at}
 use Rattle.hopen.specs.Stack.{OpenNode, current, above}
 use Rattle.hopen.specs.Scopes.{is_named}
-use Rattle.hopen.specs.declared.bookmark.Bookmark.TheVariants.{InPlace}
-use Rattle.hopen.specs.Formatting.{EntryOf, Item, marker, entry, for_node, entry_at}
+use Rattle.hformat.specs.declared.bookmark.Bookmark.TheVariants.{InPlace}
+use Rattle.hformat.specs.Formatting.{EntryOf, Item, marker, entry, for_node, entry_at}
 use Rattle.names.specs.declared.tag.Tag.TheVariants.{Table}
 use Rattle.names.specs.declared.refusal.Refusal.TheVariants.{TooManyNodes, TooDeep}
 use Rattle.hnodes.proofs.Counted.{counted-what, Begins, NotBefore, below-document, in-document, at-most, not-there, deep-there, times-new, counted-new}
@@ -22,7 +23,7 @@ use Rattle.hnodes.proofs.Outside.{deep-what, deep-new, deep-newest, graft-apart}
 use Rattle.hadopt.specs.Naming.{Naming}
 use Rattle.hadopt.specs.Site.{Goes, Refused, and_then, SiteOf, stack, trees, with_trees, with_stack, from_top, node_of}
 use Rattle.hadopt.specs.Places.{is_fostering, beside, foster_place, place}
-use Rattle.hadopt.specs.Inserts.{added, pushed, inserted, put, has_attribute, with_missing}
+use Rattle.hadopt.specs.Inserts.{added, pushed, inserted, put, with_missing}
 use Rattle.hadopt.specs.Reconstructs.{stops_going_back, renewed, renewed_each, reconstructed}
 use Rattle.hadopt.specs.Adopts.{Climb}
 use Rattle.hadopt.specs.Kept.{PlaceStands}
@@ -57,7 +58,7 @@ module _ {N : Type 0} (n : Naming N) where
 
   pub missing-well : (k : ℕ) (attrs : List (Attribute N)) (s : SiteOf N) → Well n s → Well n (with_trees (with_missing n k attrs (trees s)) s)
   missing-well k [] s h = h
-  missing-well k (a ∷ attrs) s h = go (λ f m. missing-well k attrs (with_trees f s) m) (has_attribute n a.0 (attributes_of k (trees s)))
+  missing-well k (a ∷ attrs) s h = go (λ f m. missing-well k attrs (with_trees f s) m) (is_present n.same a.0 (attributes_of k (trees s)))
     where
       go : ((f : Forest N) → Well n (with_trees f s) → Well n (with_trees (with_missing n k attrs f) s)) → (v : Bool) → Well n (with_trees (with_missing n k attrs (cond v (trees s) (add_attribute k a (trees s)))) s)
       go rest true = rest (trees s) h

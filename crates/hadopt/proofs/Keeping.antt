@@ -1,10 +1,7 @@
 -- What is kept, as it is told and as the proofs use it.
-use Rattle.std.proofs.Common.{◌≡◌, ℕ, ◌<◌, ◌≤◌, List, refl, sym, ◌∙◌, arith}
-use Rattle.hnodes.specs.Forest.{Forest, times, tree_at}
-use Rattle.hopen.specs.Stack.{OpenNode}
-use Rattle.hnodes.specs.Edits.{AreCounted}
+use Rattle.std.proofs.Common.{◌≡◌, ℕ, refl, sym, ◌∙◌}
 use Rattle.hnodes.proofs.Counted.{at-most, below-document, in-document}
-use Rattle.hnodes.proofs.Deep.{deep, deep-is}
+use Rattle.hnodes.proofs.Deep.{deep-is}
 use Rattle.hadopt.specs.Naming.{Naming, numbers, texts}
 use Rattle.names.specs.Tags.{number_of, tag_text}
 use Rattle.names.specs.declared.tag.Tag.TheVariants.{Table}

@@ -6,7 +6,7 @@ use Rattle.std.specs.List.{list_any}
 use Rattle.std.proofs.lemmas.Bool.{eq-eqb, eqb-true, ne_eqb}
 use Rattle.hopen.specs.Stack.{OpenNode, is_node, is_open, in_scope, furthest_block, above, below, current}
 use Rattle.hopen.specs.Nearest.{before}
-use Rattle.hopen.specs.declared.bookmark.Bookmark.TheVariants.{InPlace}
+use Rattle.hformat.specs.declared.bookmark.Bookmark.TheVariants.{InPlace}
 use Rattle.hnodes.specs.Forest.{Forest}
 use Rattle.hnodes.specs.Edits.{AreCounted, place_node}
 use Rattle.hnodes.proofs.Counted.{at-most, deep-there, is-there}
@@ -21,10 +21,8 @@ use Rattle.hadopt.proofs.Keeping.{to-well, from-well, numbers-tell}
 use Rattle.hadopt.proofs.Booked.{Booked, climbed-booked, bookmark-there, way-others}
 use Rattle.hopen.specs.Scopes.{stops}
 use Rattle.hopen.specs.declared.scope.Scope.TheVariants.{Default}
-use Rattle.hopen.specs.Formatting.{EntryOf, Item, marker, entry, is_entry, after_marker, find_entry}
-use Rattle.names.specs.Tags.{tag_of, number_of}
-use Rattle.names.specs.declared.tag.Tag.{Tag}
-use Rattle.names.specs.declared.tag.Tag.TheVariants.{Other}
+use Rattle.hformat.specs.Formatting.{EntryOf, Item, marker, entry, is_entry, after_marker, find_entry}
+use Rattle.names.specs.Tags.{tag_of}
 use Rattle.names.specs.declared.error.ErrorCode.{ErrorCode}
 use Rattle.hadopt.specs.Naming.{numbers}
 use Rattle.hadopt.specs.Site.{Outcome, Goes, Refused, SiteOf, stack, trees, with_stack, error_unless}

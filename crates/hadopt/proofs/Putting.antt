@@ -17,10 +17,10 @@ use Rattle.names.specs.Placed.{placed}
 use Rattle.names.specs.declared.refusal.Refusal.{Refusal}
 use Rattle.names.specs.declared.refusal.Refusal.TheVariants.{TooManyNodes, Memory}
 use Rattle.hadopt.specs.Gives.{Gives}
-use Rattle.hadopt.specs.Inserts.{put, put_each}
+use Rattle.hadopt.specs.Inserts.{put_each}
 use Rattle.hadopt.specs.Made.{AreMade}
 use Rattle.hadopt.proofs.Made.{more}
-use Rattle.hadopt.specs.Site.{Outcome, Goes, Refused, and_then, SiteOf, trees}
+use Rattle.hadopt.specs.Site.{Goes, Refused, and_then, SiteOf, trees}
 
 module _ {N : Type 0} (place : Place) where
   -- where a text stands before the place

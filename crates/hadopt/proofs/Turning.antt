@@ -10,9 +10,9 @@ use Rattle.hopen.specs.Nearest.{before, without, put_before}
 use Rattle.hopen.specs.Stack.{OpenNode, is_node, is_open, current, above, below, in_scope, furthest_block}
 use Rattle.hopen.specs.Scopes.{is_named, stops}
 use Rattle.hopen.specs.declared.scope.Scope.TheVariants.{Default}
-use Rattle.hopen.specs.declared.bookmark.Bookmark.{Bookmark}
-use Rattle.hopen.specs.declared.bookmark.Bookmark.TheVariants.{InPlace, After}
-use Rattle.hopen.specs.Formatting.{EntryOf, Item, marker, entry, is_entry, find_entry, without_entry, for_node, booked}
+use Rattle.hformat.specs.declared.bookmark.Bookmark.{Bookmark}
+use Rattle.hformat.specs.declared.bookmark.Bookmark.TheVariants.{InPlace, After}
+use Rattle.hformat.specs.Formatting.{EntryOf, Item, marker, entry, is_entry, find_entry, without_entry, for_node, booked}
 use Rattle.names.specs.declared.tag.Tag.TheVariants.{Table}
 use Rattle.names.specs.declared.error.ErrorCode.{ErrorCode}
 use Rattle.names.specs.declared.error.ErrorCode.TheVariants.{TreeInBody}

@@ -1,7 +1,7 @@
 -- The way up of the adoption agency in two parts: the first nodes, which keep their entry, and the others, which leave.
-use Rattle.std.specs.Prelude.{◌≡◌, ◌⊎◌, ℕ, ◌<◌, ◌≤◌, ◌-◌, ◌+◌, ◌==◌, false, List, [], ◌∷◌, ◌++◌, Result, Ok, Err, length, drop}
+use Rattle.std.specs.Prelude.{◌≡◌, ◌⊎◌, ℕ, ◌<◌, ◌≤◌, ◌+◌, ◌==◌, false, List, [], ◌∷◌, ◌++◌, Result, Ok, Err, length, drop}
 use Rattle.std.specs.List.{remove_range}
-use Rattle.hopen.specs.Formatting.{Item, without_entry}
+use Rattle.hformat.specs.Formatting.{Item, without_entry}
 use Rattle.hopen.specs.Nearest.{before}
 use Rattle.hopen.specs.Stack.{OpenNode, is_node}
 use Rattle.names.specs.declared.refusal.Refusal.{Refusal}
@@ -9,7 +9,7 @@ use Rattle.names.specs.declared.refusal.Refusal.TheVariants.{Memory}
 use Rattle.hadopt.specs.Adopts.{Climb, climbed, most_kept}
 use Rattle.hadopt.specs.Kept.{Each, Pairs}
 use Rattle.hadopt.specs.Naming.{numbers}
-use Rattle.hadopt.specs.Site.{Outcome, Goes, Refused, SiteOf, stack, with_stack, with_items}
+use Rattle.hadopt.specs.Site.{Outcome, Refused, SiteOf, stack, with_stack, with_items}
 use Rattle.hadopt.specs.declared.adopting.Halfway.{Halfway}
 
 -- open nodes were made, and no two are the same

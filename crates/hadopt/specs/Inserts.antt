@@ -1,13 +1,11 @@
 -- What is inserted (13.2.6.1). `at` is the place of the token. Nodes are counted before the open ones.
-use Rattle.std.specs.Prelude.{ℕ, Bool, false, ◌&&◌, nat_le, is_none, length, List, [], ◌∷◌, Option, if◌then◌else◌}
-use Rattle.std.specs.List.{list_any}
-use Rattle.std.specs.Option.{option_map_or}
+use Rattle.std.specs.Prelude.{ℕ, ◌&&◌, nat_le, is_none, length, List, [], ◌∷◌, if◌then◌else◌}
 use Rattle.hnodes.specs.Forest.{Attribute, What, element, Forest}
-use Rattle.hnodes.specs.Spots.{attributes_of}
-use Rattle.hnodes.specs.Edits.{graft, make, add_attribute, add_char, text_before}
+use Rattle.hnodes.specs.Attributes.{add_missing}
+use Rattle.hnodes.specs.Edits.{graft, make, add_char, text_before}
 use Rattle.hnodes.specs.declared.node.Place.{Place}
 use Rattle.hopen.specs.Stack.{OpenNode, current}
-use Rattle.hopen.specs.Formatting.{pushed as entry_pushed}
+use Rattle.hformat.specs.Formatting.{pushed as entry_pushed}
 use Rattle.names.specs.declared.placed.Placed.{Placed}
 use Rattle.names.specs.declared.refusal.Refusal.TheVariants.{TooManyNodes, TooDeep}
 use Rattle.hadopt.specs.Naming.{Naming}
@@ -53,11 +51,7 @@ module _ {N : Type 0} (n : Naming N) where
   listed name attrs s =
       with_items (entry_pushed n.same (record { node = node_of (current (stack s)); name = name; attrs = attrs }) s.items) s
 
-  abbrev pub has_attribute : N → Option (List (Attribute N)) → Bool
-  has_attribute name attrs = option_map_or (list_any (λ a. n.same a.0 name)) attrs false
-
   -- those of the attributes that a node lacks
   abbrev pub with_missing : ℕ → List (Attribute N) → Forest N → Forest N
   with_missing node [] f = f
-  with_missing node (a ∷ attrs) f =
-      with_missing node attrs (if has_attribute a.0 (attributes_of node f) then f else add_attribute node a f)
+  with_missing node (a ∷ attrs) f = with_missing node attrs (add_missing n.same node a f)

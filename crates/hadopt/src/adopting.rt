@@ -8,11 +8,11 @@ ghost use Rattle.hopen.specs.Nearest.{before};
 ghost use Rattle.hopen.specs.Stack.{is_node, is_open, above, in_scope, furthest_block};
 ghost use Rattle.hopen.specs.Scopes.{stops};
 ghost use Rattle.hopen.specs.declared.scope.Scope.TheVariants.{Default};
-ghost use Rattle.hopen.specs.Formatting.{is_entry};
+ghost use Rattle.hformat.specs.Formatting.{is_entry};
 ghost use Rattle.names.specs.Tags.{tag_of};
 ghost use Rattle.hopen.specs.Opens.{open_of};
-ghost use Rattle.hopen.specs.Items.{entry_is};
-ghost use Rattle.hopen.specs.declared.bookmark.Bookmark.TheVariants.{InPlace};
+ghost use Rattle.hformat.specs.Items.{entry_is};
+ghost use Rattle.hformat.specs.declared.bookmark.Bookmark.TheVariants.{InPlace};
 ghost use Rattle.hadopt.specs.Naming.{numbers};
 ghost use Rattle.hadopt.specs.Climbs.{AreDifferent, HalfGives, way_after, way_left, without_entries};
 ghost use Rattle.hadopt.specs.Site.{Goes, and_then, stack, with_items};
@@ -24,8 +24,9 @@ ghost use Rattle.hadopt.specs.Kept.{Kept};
 ghost use Rattle.hadopt.specs.Settles.{Settles, TurnsBy};
 
 use crate::site::Site;
+use hformat::{Bookmark, Entry};
 use hnodes::{NodeId, Place};
-use hopen::{Bookmark, Entry, Open};
+use hopen::Open;
 use names::{ErrorCode, NameId, Refusal};
 
 /// How a turn ends: another one comes, or the agency has ended.

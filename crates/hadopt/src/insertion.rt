@@ -8,7 +8,7 @@ ghost use Rattle.hnodes.specs.Rows.{attribute_of};
 ghost use Rattle.hnodes.specs.Spots.{attributes_of};
 ghost use Rattle.hnodes.specs.declared.node.Place.TheVariants.{LastIn};
 ghost use Rattle.hnodes.specs.declared.node.Place.{Place};
-ghost use Rattle.hopen.specs.Formatting.{pushed as entry_pushed};
+ghost use Rattle.hformat.specs.Formatting.{pushed as entry_pushed};
 ghost use Rattle.hopen.specs.Opens.{open_of};
 ghost use Rattle.names.specs.Placed.{placed};
 ghost use Rattle.names.specs.Tags.{number_of};

@@ -3,8 +3,8 @@
 ghost use Rattle.std.specs.Prelude.{◌≡◌, ◌∷◌, IfOk, IsTrue, nat_eq};
 ghost use Rattle.std.specs.List.{list_any};
 ghost use Rattle.std.specs.Option.{option_map};
-ghost use Rattle.hopen.specs.Formatting.{marker, cleared, entry_of, entry_at, find_entry, is_entry, without_entry, with_node, for_node, booked, has_bookmark};
-ghost use Rattle.hopen.specs.Items.{entry_is};
+ghost use Rattle.hformat.specs.Formatting.{marker, cleared, entry_of, entry_at, find_entry, is_entry, without_entry, with_node, for_node, booked, has_bookmark};
+ghost use Rattle.hformat.specs.Items.{entry_is};
 ghost use Rattle.hopen.specs.Nearest.{changed_at};
 ghost use Rattle.hadopt.specs.Gives.{Gives};
 ghost use Rattle.hadopt.specs.Kept.{Kept};
@@ -12,8 +12,8 @@ ghost use Rattle.hadopt.specs.Naming.{numbers};
 ghost use Rattle.hadopt.specs.Site.{Goes, with_items};
 
 use crate::site::Site;
+use hformat::{Bookmark, Entry, copy_attrs};
 use hnodes::NodeId;
-use hopen::{Bookmark, Entry, copy_attrs};
 use names::{NameId, Refusal};
 use std::alloc::AllocError;
 

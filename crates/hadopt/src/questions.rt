@@ -3,7 +3,7 @@
 ghost use Rattle.std.specs.Prelude.{◌≡◌, ◌<◌, IfSome, length, nat_eq, slice_get};
 ghost use Rattle.std.specs.List.{list_all, position};
 ghost use Rattle.std.specs.Option.{option_map};
-ghost use Rattle.hopen.specs.Formatting.{find_entry};
+ghost use Rattle.hformat.specs.Formatting.{find_entry};
 ghost use Rattle.hopen.specs.Opens.{open_of};
 ghost use Rattle.hopen.specs.Scopes.{stops as stops_node, stops_item, is_named, is_of};
 ghost use Rattle.hopen.specs.Stack.{current as current_of, is_node, is_open, in_scope as is_in_scope, furthest_block};

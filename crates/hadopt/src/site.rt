@@ -7,8 +7,9 @@ ghost use Rattle.hadopt.specs.Kept.{Kept};
 ghost use Rattle.hadopt.specs.Naming.{numbers};
 ghost use Rattle.hadopt.specs.Site.{Goes, with_error, error_unless};
 
+use hformat::Formatting;
 use hnodes::Tree;
-use hopen::{Formatting, OpenStack};
+use hopen::OpenStack;
 use names::{ErrorCode, ParseError, Refusal};
 use std::alloc::{AllocError, Global};
 use std::marker::Model;

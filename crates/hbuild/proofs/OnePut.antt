@@ -8,7 +8,7 @@ use Rattle.hnodes.specs.declared.node.Place.{Place}
 use Rattle.hnodes.specs.declared.node.Place.TheVariants.{LastIn}
 use Rattle.hopen.specs.Nearest.{before}
 use Rattle.hopen.specs.Stack.{is_open, current}
-use Rattle.hopen.specs.Formatting.{Item, marker, entry}
+use Rattle.hformat.specs.Formatting.{Item, marker, entry}
 use Rattle.hadopt.specs.Naming.{numbers}
 use Rattle.hadopt.specs.Site.{SiteOf, stack, node_of}
 use Rattle.hadopt.specs.Inserts as inserts

@@ -13,7 +13,7 @@ use Rattle.hnodes.specs.declared.node.Place.TheVariants.{LastIn}
 use Rattle.hopen.specs.Stack.{OpenNode, in_scope}
 use Rattle.hopen.specs.Scopes.{stops, stops_item}
 use Rattle.hopen.specs.declared.scope.Scope.TheVariants as scope
-use Rattle.hopen.specs.Formatting.{Item, marker, entry, entry_of, find_entry, without_entry, pushed, cleared}
+use Rattle.hformat.specs.Formatting.{Item, marker, entry, entry_of, find_entry, without_entry, pushed, cleared}
 use Rattle.names.specs.declared.error.ParseError.{ParseError}
 use Rattle.names.specs.declared.placed.Placed.{Placed}
 use Rattle.names.specs.declared.tag.Tag.TheVariants as tag

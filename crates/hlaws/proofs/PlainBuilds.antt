@@ -1,7 +1,7 @@
 -- The tokens of a plain list build it from each quiet state.
 use Rattle.std.proofs.Common.{◌≡◌, ℕ, suc, ◌+◌, ◌≤◌, Bool, true, false, not, List, ◌∷◌, length, refl, sym, ap, subst, arith}
 use Rattle.hnodes.specs.Forest.{Forest, size}
-use Rattle.hopen.specs.Formatting.{Item}
+use Rattle.hformat.specs.Formatting.{Item}
 use Rattle.hadopt.specs.Naming.{texts}
 use Rattle.hadopt.specs.Site.{trees}
 use Rattle.hmodes.specs.State.{State}

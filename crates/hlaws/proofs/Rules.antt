@@ -10,7 +10,7 @@ use Rattle.hnodes.specs.declared.node.Place.TheVariants.{LastIn}
 use Rattle.hopen.specs.Stack.{OpenNode, in_scope}
 use Rattle.hopen.specs.Scopes.{stops}
 use Rattle.hopen.specs.declared.scope.Scope.TheVariants as scope
-use Rattle.hopen.specs.Formatting.{Item, marker, entry, entry_of, without_entry, pushed}
+use Rattle.hformat.specs.Formatting.{Item, marker, entry, entry_of, without_entry, pushed}
 use Rattle.names.specs.declared.error.ParseError.{ParseError}
 use Rattle.names.specs.declared.tag.Tag.TheVariants as tag
 use Rattle.names.specs.Placed.{is_space}

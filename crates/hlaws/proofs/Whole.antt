@@ -12,7 +12,7 @@ use Rattle.hnodes.specs.declared.node.Place.TheVariants.{LastIn}
 use Rattle.hopen.specs.Stack.{OpenNode, is_open, in_scope}
 use Rattle.hopen.specs.Scopes.{stops, stops_item}
 use Rattle.hopen.specs.declared.scope.Scope.TheVariants as scope
-use Rattle.hopen.specs.Formatting.{EntryOf, Item, marker, entry, with_room, without_entry, entry_of, find_entry, cleared}
+use Rattle.hformat.specs.Formatting.{EntryOf, Item, marker, entry, with_room, without_entry, entry_of, find_entry, cleared}
 use Rattle.names.specs.declared.error.ParseError.{ParseError}
 use Rattle.names.specs.declared.placed.Placed.{Placed}
 use Rattle.names.specs.declared.tag.Tag.{Tag}

@@ -2,6 +2,7 @@
 use Rattle.std.proofs.Common.{◌≡◌, ◌≢◌, ℕ, ◌+◌, ◌<◌, Bool, true, false, cond, leb, List, [], ◌∷◌, Option, Some, None, refl, sym, ◌∙◌, subst, arith, length, is_none}
 use Rattle.std.specs.Prelude.{◌&&◌}
 use Rattle.std.specs.Char.{encode_utf8}
+use Rattle.hnodes.specs.Attributes.{is_present}
 use Rattle.hnodes.specs.Forest.{Attribute, What, element, text, Forest, none, tree, join, change_what}
 use Rattle.hnodes.specs.Edits.{graft, make, char_into, with_char, with_attribute, add_attribute, text_before}
 use Rattle.hnodes.specs.Spots.{attributes_of}
@@ -10,7 +11,7 @@ use Rattle.hopen.specs.Stack.{OpenNode}
 use Rattle.names.specs.declared.refusal.Refusal.TheVariants.{TooManyNodes, TooDeep}
 use Rattle.hadopt.specs.Naming.{Naming}
 use Rattle.hadopt.specs.Site.{Goes, Refused, SiteOf, and_then, stack, trees, with_stack, with_trees}
-use Rattle.hadopt.specs.Inserts.{added, inserted, pushed, put, has_attribute, with_missing}
+use Rattle.hadopt.specs.Inserts.{added, inserted, pushed, put, with_missing}
 use Rattle.hnodes.proofs.Deep.{deep, deep-is}
 use Rattle.hnodes.proofs.Counted.{at-most, not-there, deep-there, counted-new}
 use Rattle.hnodes.proofs.Outside.{deep-what, deep-new, deep-newest, graft-apart}
@@ -86,7 +87,7 @@ module _ {N : Type 0} (n : Naming N) where
 
   pub missing-steady : (k : ℕ) (attrs : List (Attribute N)) (s : SiteOf N) → Steady s (with_trees (with_missing n k attrs (trees s)) s)
   missing-steady k [] s = steady-same s s refl
-  missing-steady k (a ∷ attrs) s = go (λ f. missing-steady k attrs (with_trees f s)) (has_attribute n a.0 (attributes_of k (trees s)))
+  missing-steady k (a ∷ attrs) s = go (λ f. missing-steady k attrs (with_trees f s)) (is_present n.same a.0 (attributes_of k (trees s)))
     where
       go : ((f : Forest N) → Steady (with_trees f s) (with_trees (with_missing n k attrs f) s)) → (v : Bool) → Steady s (with_trees (with_missing n k attrs (cond v (trees s) (add_attribute k a (trees s)))) s)
       go rest true = rest (trees s)

@@ -9,7 +9,7 @@ use Rattle.hnodes.specs.declared.node.Place.{Place}
 use Rattle.hnodes.specs.declared.node.Place.TheVariants.{LastIn}
 use Rattle.hopen.specs.Nearest.{before, changed_at}
 use Rattle.hopen.specs.Stack.{OpenNode}
-use Rattle.hopen.specs.Formatting.{EntryOf, entry_at, for_node}
+use Rattle.hformat.specs.Formatting.{EntryOf, entry_at, for_node}
 use Rattle.names.specs.declared.placed.Placed.{Placed}
 use Rattle.names.specs.declared.refusal.Refusal.TheVariants.{TooManyNodes, TooDeep}
 use Rattle.names.specs.declared.tag.Tag.TheVariants as tag

@@ -5,6 +5,7 @@ use Rattle.std.specs.List.{list_any, list_all}
 use Rattle.std.specs.Option.{option_map, option_map_or}
 use Rattle.std.specs.Str.{str_eq_ignore_ascii_case}
 use Rattle.std.proofs.lemmas.Option.{slice_get-map}
+use Rattle.hnodes.specs.Attributes.{is_present}
 use Rattle.hnodes.specs.Forest.{Attribute, Forest}
 use Rattle.hnodes.specs.Forest as forest
 use Rattle.hnodes.specs.Spots.{attributes_of}
@@ -16,9 +17,11 @@ use Rattle.hopen.specs.Stack.{OpenNode, is_node, current}
 use Rattle.hopen.specs.Scopes.{stops, stops_item, is_of, is_of_group, stops_in}
 use Rattle.hopen.specs.declared.scope.Scope.{Scope}
 use Rattle.hopen.specs.declared.scope.Scope.TheVariants.{Default}
-use Rattle.hopen.specs.Formatting.{EntryOf, find_entry, pushed}
-use Rattle.hopen.specs.Spelled.{spelled_open, spelled_stack, spelled_entry, spelled_items, StackKnowsNoNames, FormattingKnowsNoNames}
-use Rattle.hopen.proofs.Spellings.{stack_spelled, formatting_spelled}
+use Rattle.hformat.specs.Formatting.{EntryOf, find_entry, pushed}
+use Rattle.hopen.specs.Spelled.{spelled_open, spelled_stack, StackKnowsNoNames}
+use Rattle.hformat.specs.Spelled.{spelled_entry, spelled_items, FormattingKnowsNoNames}
+use Rattle.hopen.proofs.Spellings.{stack_spelled}
+use Rattle.hformat.proofs.Spellings.{formatting_spelled}
 use Rattle.names.specs.declared.tag.Tag.{Tag}
 use Rattle.names.specs.declared.tag.Tag.TheVariants as tag
 use Rattle.names.specs.declared.placed.Placed.{Placed}
@@ -27,7 +30,7 @@ use Rattle.hadopt.specs.Naming.{Naming}
 use Rattle.hadopt.specs.Site.{Outcome, Goes, SiteOf, and_then, stack, trees, with_trees, with_stack, with_items, from_top, node_of}
 use Rattle.hadopt.specs.Site as site
 use Rattle.hadopt.specs.Places.{place, is_fostering}
-use Rattle.hadopt.specs.Inserts.{added, inserted, listed, with_missing, has_attribute}
+use Rattle.hadopt.specs.Inserts.{added, inserted, listed, with_missing}
 use Rattle.hadopt.specs.Inserts as inserts
 use Rattle.hadopt.specs.Closes.{past, is, is_table_context, is_body_context, is_row_context, popped_while_not, without_implied, popped_to}
 use Rattle.hadopt.specs.Adopts.{adopted}
@@ -138,8 +141,8 @@ module _ {N M : Type 0} (m : Naming N) (n : Naming M) (g : N → M) (a : Agree m
   stack-words : StackKnowsNoNames m.tag n.tag m.same n.same g
   stack-words = stack_spelled m.tag n.tag m.same n.same g a.spelling
 
-  list-words : FormattingKnowsNoNames m.tag n.tag m.same n.same g
-  list-words = formatting_spelled m.tag n.tag m.same n.same g a.spelling
+  list-words : FormattingKnowsNoNames m.same n.same g
+  list-words = formatting_spelled m.same n.same g a.spelling.names
 
   name-spelled : (t : Token N) → token_name n (spelled_token g t) ≡ g (token_name m t)
   name-spelled (doctype b c d e) = a.known tag.Html
@@ -209,12 +212,12 @@ module _ {N M : Type 0} (m : Naming N) (n : Naming M) (g : N → M) (a : Agree m
 
   missing-spelled : (k : ℕ) (attrs : List (Attribute N)) (f : Forest N) → with_missing n k (map (spelled_attribute g) attrs) (spelled g f) ≡ spelled g (with_missing m k attrs f)
   missing-spelled k [] f = refl
-  missing-spelled k (b ∷ attrs) f = (λ i. with_missing n k (map (spelled_attribute g) attrs) (cond (has_it i) (spelled g f) (add_attribute k (spelled_attribute g b) (spelled g f)))) ∙ go (has_attribute m b.0 (attributes_of k f)) (missing-spelled k attrs)
+  missing-spelled k (b ∷ attrs) f = (λ i. with_missing n k (map (spelled_attribute g) attrs) (cond (has_it i) (spelled g f) (add_attribute k (spelled_attribute g b) (spelled g f)))) ∙ go (is_present m.same b.0 (attributes_of k f)) (missing-spelled k attrs)
     where
-      has_it : has_attribute n (g b.0) (attributes_of k (spelled g f)) ≡ has_attribute m b.0 (attributes_of k f)
-      has_it = ap (has_attribute n (g b.0)) ((questions g).attrs k f) ∙ there (attributes_of k f)
+      has_it : is_present n.same (g b.0) (attributes_of k (spelled g f)) ≡ is_present m.same b.0 (attributes_of k f)
+      has_it = ap (is_present n.same (g b.0)) ((questions g).attrs k f) ∙ there (attributes_of k f)
         where
-          there : (o : Option (List (Attribute N))) → has_attribute n (g b.0) (option_map (map (spelled_attribute g)) o) ≡ has_attribute m b.0 o
+          there : (o : Option (List (Attribute N))) → is_present n.same (g b.0) (option_map (map (spelled_attribute g)) o) ≡ is_present m.same b.0 o
           there None = refl
           there (Some l) = any-map (spelled_attribute g) (λ c. m.same c.0 b.0) (λ c. n.same c.0 (g b.0)) (λ c. a.spelling.names c.0 b.0) l
 

@@ -7,8 +7,8 @@ use Rattle.hnodes.specs.Forest.{What, document, element}
 use Rattle.hnodes.specs.Forest as forest
 use Rattle.hnodes.specs.declared.node.Place.TheVariants.{LastIn}
 use Rattle.hopen.specs.Stack.{is_node}
-use Rattle.hopen.specs.Formatting.{EntryOf, Item, entry, entries, cleared, find_entry, without_entry, with_room, without_earliest, is_equal, after_marker, most_equal}
-use Rattle.hopen.specs.Formatting as list
+use Rattle.hformat.specs.Formatting.{EntryOf, Item, entry, entries, cleared, find_entry, without_entry, with_room, without_earliest, is_equal, after_marker, most_equal}
+use Rattle.hformat.specs.Formatting as list
 use Rattle.names.specs.declared.placed.Placed.{Placed}
 use Rattle.names.specs.declared.tag.Tag.{Tag}
 use Rattle.names.specs.declared.tag.Tag.TheVariants as tag

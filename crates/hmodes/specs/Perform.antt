@@ -7,8 +7,8 @@ use Rattle.hnodes.specs.declared.node.Place.TheVariants.{LastIn}
 use Rattle.hopen.specs.Nearest.{without}
 use Rattle.hopen.specs.Stack.{OpenNode, is_node, current}
 use Rattle.hopen.specs.Scopes.{is_of}
-use Rattle.hopen.specs.Formatting.{find_entry, without_entry, pushed, cleared}
-use Rattle.hopen.specs.Formatting as list
+use Rattle.hformat.specs.Formatting.{find_entry, without_entry, pushed, cleared}
+use Rattle.hformat.specs.Formatting as list
 use Rattle.names.specs.declared.tag.Tag.TheVariants as tag
 use Rattle.names.specs.declared.placed.Placed.{Placed}
 use Rattle.hadopt.specs.Naming.{Naming}

@@ -34,8 +34,8 @@ impl Model for Indexed {
     ghost invariant = { AreNumbered };
 }
 
-/// The number of a name in the lists of numbers.
-fn name_number(name: NameId) -> usize
+/// The number of a name in lists of numbers.
+pub fn name_number(name: NameId) -> usize
     ensures { result ≡ suc (suc name) }
 {
     name.index() + 2
@@ -48,8 +48,8 @@ pub(crate) fn has_name(attrs: &[Attr], name: NameId) -> bool
     attrs.iter().any(|attr| attr.name == name)
 }
 
-/// The numbers of the names of attributes.
-fn index_attrs(attrs: &[Attr], alloc: Global) -> Result<Chains, AllocError>
+/// The numbers of the names of attributes, in order, by which those of a name are found.
+pub fn index_attrs(attrs: &[Attr], alloc: Global) -> Result<Chains, AllocError>
     ensures { IfOk result (λ names. names ≡ numbers_of attrs.now) }
 {
     let mut names = Chains::new(alloc);

@@ -3,7 +3,7 @@
 
 #[cfg(test)]
 mod attribute_tests;
-mod attributes;
+pub mod attributes;
 mod laws;
 mod links;
 mod node;
@@ -16,6 +16,7 @@ mod tree;
 mod walk_tests;
 mod walks;
 
+pub use attributes::{index_attrs, name_number};
 pub use laws::{edits_know_no_names, questions_know_no_names};
 pub use node::{Doctype, Kind, NodeId, Place};
 pub use tree::Tree;

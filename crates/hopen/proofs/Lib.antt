@@ -2,9 +2,6 @@ pub mod Images
 pub mod Nearest
 pub mod Opened
 pub mod Searches
-pub mod ItemLists
-pub mod Earliest
-pub mod Bookmarks
 pub mod Spellings
 pub mod Places
 pub mod Tables
@@ -13,16 +10,3 @@ pub mod Exchanged
 pub mod ExchangedItems
 pub mod ExchangedTables
 pub mod ExchangedStack
-pub mod Chained
-pub mod Listed
-pub mod SameHash
-pub mod ByHash
-pub mod Holes
-pub mod Live
-pub mod LiveEdits
-pub mod Moved
-pub mod Slotted
-pub mod Marked
-pub mod Closed
-pub mod Pushed
-pub mod ByName

@@ -4,16 +4,9 @@ pub mod Scopes
 pub mod Opens
 pub mod StackView
 pub mod Coding
-pub mod Formatting
-pub mod Items
-pub mod ItemCoding
 pub mod Rows
-pub mod ItemRows
 pub mod Spelled
 pub mod Places
 pub mod NameSets
 pub mod Kept
 pub mod Exchanged
-pub mod Listed
-pub mod Hashes
-pub mod Holes

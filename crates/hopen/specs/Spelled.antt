@@ -1,12 +1,9 @@
--- The same lists under other names, as a number of a name and its text.
+-- The same open nodes under other names, as a number of a name and its text.
 use Rattle.std.specs.Prelude.{◌≡◌, ℕ, Bool, List, map, drop, find, reverse, slice_get, position}
 use Rattle.std.specs.Option.{option_map}
-use Rattle.hnodes.specs.Spelled.{spelled_attribute}
-use Rattle.hopen.specs.Nearest.{after, without, changed, put_before, changed_at}
+use Rattle.hopen.specs.Nearest.{after, without, changed, put_before}
 use Rattle.hopen.specs.Stack.{OpenNode, is_node, is_open, current, above, below, in_scope, furthest_block}
 use Rattle.hopen.specs.Scopes.{stops, is_named, is_of}
-use Rattle.hopen.specs.Formatting.{EntryOf, Item, marker, entry, entry_at, entry_of, cleared, without_entry, for_node, with_node, booked, pushed, find_entry}
-use Rattle.hopen.specs.declared.bookmark.Bookmark.{Bookmark}
 use Rattle.hopen.specs.declared.scope.Group.{Group}
 use Rattle.hopen.specs.declared.scope.Scope.{Scope}
 use Rattle.hopen.specs.declared.scope.Scope.TheVariants.{Default}
@@ -19,16 +16,6 @@ module _ {N M : Type 0} where
 
   abbrev pub spelled_stack : (N → M) → List (OpenNode N) → List (OpenNode M)
   spelled_stack g stack = map (spelled_open g) stack
-
-  abbrev pub spelled_entry : (N → M) → EntryOf N → EntryOf M
-  spelled_entry g e = record { node = e.node; name = g e.name; attrs = map (spelled_attribute g) e.attrs }
-
-  abbrev pub spelled_item : (N → M) → Item N → Item M
-  spelled_item g marker = marker
-  spelled_item g (entry e) = entry (spelled_entry g e)
-
-  abbrev pub spelled_items : (N → M) → List (Item N) → List (Item M)
-  spelled_items g items = map (spelled_item g) items
 
 module _ {N M : Type 0} (tag : N → Tag) (tag' : M → Tag) (same : N → N → Bool) (same' : M → M → Bool) where
   -- What is done with the open nodes and then spelled is what is done with them as they are spelled, and what is asked of them has
@@ -59,17 +46,3 @@ module _ {N M : Type 0} (tag : N → Tag) (tag' : M → Tag) (same : N → N →
     pub is_before_special : (a : N) (s : List (OpenNode N))
         → in_scope (λ x. is_special (tag' x.name)) (is_named same' (g a)) (spelled_stack g s) ≡ in_scope (λ x. is_special (tag x.name)) (is_named same a) s
     pub furthest : (n : ℕ) (s : List (OpenNode N)) → furthest_block tag' n (spelled_stack g s) ≡ option_map (spelled_open g) (furthest_block tag n s)
-
-  -- The same of the list of active formatting elements.
-  pub record FormattingKnowsNoNames (g : N → M) : Type 0 where
-    pub push : (e : EntryOf N) (items : List (Item N)) → pushed same' (spelled_entry g e) (spelled_items g items) ≡ spelled_items g (pushed same e items)
-    pub clear : (items : List (Item N)) → cleared (spelled_items g items) ≡ spelled_items g (cleared items)
-    pub find : (a : N) (items : List (Item N)) → find_entry same' (g a) (spelled_items g items) ≡ option_map (spelled_entry g) (find_entry same a items)
-    pub entry_of_node : (n : ℕ) (items : List (Item N)) → entry_of n (spelled_items g items) ≡ option_map (spelled_entry g) (entry_of n items)
-    pub get : (back : ℕ) (items : List (Item N)) → entry_at back (spelled_items g items) ≡ option_map (spelled_entry g) (entry_at back items)
-    pub remove : (n : ℕ) (items : List (Item N)) → without_entry n (spelled_items g items) ≡ spelled_items g (without_entry n items)
-    pub replace : (old new : ℕ) (items : List (Item N)) → with_node old new (spelled_items g items) ≡ spelled_items g (with_node old new items)
-    pub renew : (back new : ℕ) (items : List (Item N))
-        → changed_at back (for_node new) (spelled_items g items) ≡ spelled_items g (changed_at back (for_node new) items)
-    pub move_to_bookmark : (old new : ℕ) (bookmark : Bookmark) (items : List (Item N))
-        → booked old new bookmark (spelled_items g items) ≡ spelled_items g (booked old new bookmark items)

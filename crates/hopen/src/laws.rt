@@ -1,16 +1,11 @@
 //! Laws of the definitions.
 
 ghost use Rattle.std.specs.Prelude.{ℕ, List, nat_eq, bytes_eq};
-ghost use Rattle.hopen.specs.Spelled.{StackKnowsNoNames, FormattingKnowsNoNames};
+ghost use Rattle.hopen.specs.Spelled.{StackKnowsNoNames};
 ghost use Rattle.names.specs.Spelling.{SpellsNumbers};
 ghost use Rattle.names.specs.Tags.{tag_of, tag_named};
 
 /// What is done with the open nodes, and asked of them, is the same over the numbers of names as over their texts.
 pub fn stack_knows_no_names()
     ensures { (texts : ℕ → List ℕ) → SpellsNumbers texts → StackKnowsNoNames tag_of tag_named nat_eq bytes_eq texts }
-{}
-
-/// What is done with the formatting list, and asked of it, is the same over the numbers of names as over their texts.
-pub fn formatting_knows_no_names()
-    ensures { (texts : ℕ → List ℕ) → SpellsNumbers texts → FormattingKnowsNoNames tag_of tag_named nat_eq bytes_eq texts }
 {}

@@ -2,7 +2,7 @@
 //! the first entry gives way.
 
 use hnodes::Tree;
-use hopen::Formatting;
+use hformat::Formatting;
 use names::{Attr, NameId, Names, Refusal};
 use std::alloc::Global;
 use std::test::Fail;

@@ -2,12 +2,12 @@
 
 ghost use Rattle.std.specs.Prelude.{◌≡◌, ◌<◌, IsTrue};
 ghost use Rattle.std.specs.List.{list_any};
-ghost use Rattle.hopen.specs.Formatting.{is_entry, has_bookmark};
+ghost use Rattle.hformat.specs.Formatting.{is_entry, has_bookmark};
 
 use crate::fixed::pick;
 use crate::formatting_plain::{Plain, Row};
 use hnodes::{NodeId, Tree};
-use hopen::{Bookmark, Entry, Formatting, copy_attrs};
+use hformat::{Bookmark, Entry, Formatting, copy_attrs};
 use names::{Attr, NameId, Names, Refusal};
 use std::alloc::Global;
 use std::test::Fail;

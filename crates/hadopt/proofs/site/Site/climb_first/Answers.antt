@@ -1,7 +1,7 @@
 use Rattle.std.proofs.Common.{◌≡◌, ◌-◌, ◌∙◌, sym, ap, arith, subst, ℕ, Some, None, reverse, slice_get, length}
 use Rattle.std.specs.Option.{option_map}
 use Rattle.hopen.specs.Opens.{open_of}
-use Rattle.hopen.specs.declared.bookmark.Bookmark.TheVariants.{InPlace}
+use Rattle.hformat.specs.declared.bookmark.Bookmark.TheVariants.{InPlace}
 use Rattle.hopen.specs.Nearest.{before}
 use Rattle.hopen.specs.Stack.{above, is_node}
 use Rattle.hadopt.specs.Adopts.{Climb, climbed}

@@ -1,7 +1,7 @@
-use Rattle.std.proofs.Common.{◌<◌, ◌≤◌, ◌-◌}
+use Rattle.std.proofs.Common.{◌<◌, ◌≤◌}
 use Rattle.hopen.specs.Nearest.{before}
 use Rattle.hopen.specs.Stack.{is_node, above}
-use Rattle.hopen.specs.declared.bookmark.Bookmark.TheVariants.{InPlace}
+use Rattle.hformat.specs.declared.bookmark.Bookmark.TheVariants.{InPlace}
 use Rattle.hadopt.specs.Naming.{numbers}
 use Rattle.hadopt.specs.Adopts.{climbed}
 use Rattle.hadopt.specs.Climbs.{AreDifferent}

@@ -1,10 +1,7 @@
-use Rattle.std.proofs.Common.{ℕ, ap, sym, nat_eq, reverse, find, Some, ◌∙◌}
+use Rattle.std.proofs.Common.{ap, sym, nat_eq, reverse, Some, ◌∙◌}
 use Rattle.std.specs.Option.{option_map}
 use Rattle.hopen.specs.Opens.{open_of}
-use Rattle.hadopt.specs.Site.{SiteOf}
 use Rattle.hopen.specs.Scopes.{is_named}
-use Rattle.names.specs.Tags.{number_of}
-use Rattle.names.specs.declared.tag.Tag.TheVariants as tag
 use Rattle.hadopt.proofs.Made.{each-found, each-got, each-reverse, within}
 use Rattle.hadopt.proofs.site.Site.foster_place.Goals as goal
 

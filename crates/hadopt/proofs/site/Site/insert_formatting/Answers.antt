@@ -1,4 +1,4 @@
-use Rattle.std.proofs.Common.{ℕ, ◌≡◌, ◌∙◌, ap, sym, map, nat_eq, Ok}
+use Rattle.std.proofs.Common.{ℕ, ◌∙◌, ap, sym, map, Ok}
 use Rattle.std.specs.Prelude.{Result}
 use Rattle.hnodes.specs.Edits.{graft, place_node}
 use Rattle.hnodes.specs.Forest.{element}

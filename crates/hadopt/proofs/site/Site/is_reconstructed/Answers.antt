@@ -1,7 +1,5 @@
-use Rattle.std.proofs.Common.{◌≡◌, Bool, true, false, ◌==◌, length, sym, ◌∙◌, refl, arith}
-use Rattle.hopen.specs.Nearest.{before}
-use Rattle.hadopt.specs.Reconstructs.{stops_going_back}
-use Rattle.hadopt.proofs.Goings.{stopped-at-once, stops_at}
+use Rattle.std.proofs.Common.{◌∙◌}
+use Rattle.hadopt.proofs.Goings.{stopped-at-once}
 use Rattle.hadopt.proofs.site.Site.is_reconstructed.Goals as goal
 
 pub returns : goal.returns

@@ -1,4 +1,4 @@
-use Rattle.std.proofs.Common.{◌≡◌, ap, arith, ℕ, length}
+use Rattle.std.proofs.Common.{ap, arith, ℕ, length}
 use Rattle.hadopt.specs.Site.{SiteOf, stack}
 use Rattle.hadopt.proofs.Halves.{way-fits}
 use Rattle.hadopt.proofs.site.Site.leave_way.Goals as goal

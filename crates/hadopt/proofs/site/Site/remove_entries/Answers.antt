@@ -1,6 +1,6 @@
 use Rattle.std.proofs.Common.{◌≡◌, ◌+◌, ◌∙◌, ap, sym, arith, ℕ, true, false, eqb, List, [], ◌∷◌, Some, slice_get, drop, length, refl}
 use Rattle.std.specs.Option.{option_map}
-use Rattle.hopen.specs.Formatting.{without_entry}
+use Rattle.hformat.specs.Formatting.{without_entry}
 use Rattle.hopen.specs.Nearest.{before}
 use Rattle.hopen.specs.Opens.{open_of}
 use Rattle.hopen.specs.Stack.{OpenNode, is_node}

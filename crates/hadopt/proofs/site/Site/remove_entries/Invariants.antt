@@ -1,4 +1,4 @@
-use Rattle.std.proofs.Common.{◌≡◌, ◌+◌, ◌≤◌, length, drop}
+use Rattle.std.proofs.Common.{◌≡◌, ◌+◌, length, drop}
 use Rattle.hopen.specs.Nearest.{before}
 use Rattle.hopen.specs.Stack.{is_node}
 use Rattle.hadopt.specs.Climbs.{way_after, without_entries}

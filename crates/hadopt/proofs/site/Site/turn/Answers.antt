@@ -1,7 +1,7 @@
 use Rattle.std.proofs.Common.{◌≡◌, ◌∙◌, ap, sym, nat_eq, Some, None, ℕ}
 use Rattle.std.specs.Option.{option_map}
-use Rattle.hopen.specs.Items.{entry_is}
-use Rattle.hopen.specs.Formatting.{find_entry}
+use Rattle.hformat.specs.Items.{entry_is}
+use Rattle.hformat.specs.Formatting.{find_entry}
 use Rattle.hadopt.specs.Naming.{numbers}
 use Rattle.hadopt.specs.Site.{Goes, SiteOf}
 use Rattle.hadopt.specs.Closes.{other_end}

@@ -1,0 +1,290 @@
+-- Vectors of items with holes, and where the entry of a node stands in them.
+use Rattle.std.proofs.Common.{◌≡◌, ℕ, zero, suc, ◌+◌, ◌-◌, ◌<◌, ◌≤◌, eqb, Bool, true, false, cond, not, ◌||◌, ◌⊎◌, List, [], ◌∷◌, ◌++◌, Option, Some, None, is_some, length, map, filter, take, take-suc, drop, get_or, refl, sym, ◌∙◌, ap, subst, inl, inr, arith}
+use Rattle.std.specs.List.{All, position, position_or_len, list_any, slice_get, find}
+use Rattle.std.specs.Option.{option_and_then, option_map, option_map_or}
+use Rattle.std.proofs.Math.Dec.{eqb-zero-suc}
+use Rattle.std.proofs.lemmas.Bool.{eqb-true, lt-ltb}
+use Rattle.std.proofs.lemmas.List.{append-nil, drop_at, get_or-map, length-append, length-map, take-append-drop, take_at}
+use Rattle.std.proofs.lemmas.List.Elements.{All-drop, All-take, filter-append}
+use Rattle.hformat.specs.Formatting.{EntryOf, Item, marker, entry, as_entry, entry_of, for_node, is_entry}
+use Rattle.hformat.specs.Holes.{nth_live}
+use Rattle.hformat.specs.Items.{AreSlots, IsSlot, IsStored, hole, is_gone, is_hole, item_of, items_of, live, nowhere, told}
+use Rattle.hformat.specs.Listed.{by_node, number_by, unless_hole}
+use Rattle.hopen.specs.Nearest.{changed_at}
+use Rattle.hformat.specs.declared.entry.Item.{Item as Stored}
+use Rattle.hformat.specs.declared.entry.Item.TheVariants as stored
+use Rattle.hformat.proofs.ByHash.{last-at, number-at}
+use Rattle.hformat.proofs.ItemLists.{along_last, items_of_more, length-items_of}
+use Rattle.hformat.proofs.Live.{AllSolid, nth-none, nth-real, nth-within}
+use Rattle.hformat.proofs.Listed.{number-same, place, place-le}
+use Rattle.hopen.proofs.Nearest.{get_nearest, is_some-position, reverse_split, slice_get_nearest}
+
+-- a smaller number is another
+pub apart : (a b : ℕ) → a < b → eqb a b ≡ false
+apart a b h = go (eqb a b) refl
+  where
+    go : (v : Bool) → eqb a b ≡ v → v ≡ false
+    go true is = absurd (omega (arith, eqb-true a b is))
+    go false is = refl
+
+pub gone-is : (x : Stored) → IsStored x → is_hole (item_of x) ≡ is_gone x
+gone-is stored.Hole s = refl
+gone-is stored.Marker s = refl
+gone-is (stored.Entry e) s = apart e.name nowhere s.1
+
+-- what is told of an item that is no hole
+pub told-is : (x : Stored) → is_gone x ≡ false → told x ≡ as_entry (item_of x)
+told-is stored.Hole there = cc
+told-is stored.Marker there = refl
+told-is (stored.Entry e) there = refl
+
+pub slot-is : (x : Stored) → IsStored x → IsSlot (item_of x)
+slot-is stored.Hole s = inl refl
+slot-is stored.Marker s = tt
+slot-is (stored.Entry e) s = inr s
+
+pub slots-are : (items : List Stored) → All IsStored items → AreSlots (items_of items)
+slots-are items = along_last (λ xs. All IsStored xs → AreSlots (items_of xs)) (λ all. tt) more items
+  where
+    more : (front : List Stored) (x : Stored) → (All IsStored front → AreSlots (items_of front)) → All IsStored (front ++ x ∷ []) → AreSlots (items_of (front ++ x ∷ []))
+    more front x before all =
+        let first : All IsStored front = subst (λ (xs : List Stored). All IsStored xs) (take_at front (x ∷ []) (length front) refl) (All-take IsStored (length front) (front ++ x ∷ []) all) in
+        let last : All IsStored (x ∷ []) = subst (λ (xs : List Stored). All IsStored xs) (drop_at front (x ∷ []) (length front) refl) (All-drop IsStored (length front) (front ++ x ∷ []) all) in
+        subst AreSlots (sym (items_of_more front x)) (slot-is x (last 0 x (omega arith)), before first)
+
+-- without the holes, part by part
+pub live-parts : (xs ys : List Stored) → live (items_of (xs ++ ys)) ≡ live (items_of ys) ++ live (items_of xs)
+live-parts xs ys = ap live (reverse_split item_of xs ys) ∙ filter-append (λ i. not (is_hole i)) (items_of ys) (items_of xs)
+
+-- nothing is lost with the holes
+live-first : (x : Stored) (items left : List Stored) → IsStored x → live (items_of left) ≡ live (items_of items)
+    → live (items_of (cond (not (is_gone x)) (x ∷ left) left)) ≡ live (items_of (x ∷ items))
+live-first x items left s rest = go (is_gone x) refl ∙ sym (live-parts (x ∷ []) items)
+  where
+    go : (v : Bool) → is_gone x ≡ v → live (items_of (cond (not v) (x ∷ left) left)) ≡ live (items_of items) ++ live (item_of x ∷ [])
+    go true is = rest ∙ sym (append-nil (live (items_of items))) ∙ ap (λ (v : Bool). live (items_of items) ++ cond (not v) (item_of x ∷ []) []) (sym (gone-is x s ∙ is))
+    go false is = live-parts (x ∷ []) left ∙ ap (λ l. l ++ live (item_of x ∷ [])) rest
+
+pub live-closed : (items : List Stored) → All IsStored items → live (items_of (filter (λ x. not (is_gone x)) items)) ≡ live (items_of items)
+live-closed [] all = refl
+live-closed (x ∷ items) all = live-first x items (filter (λ y. not (is_gone y)) items) (all 0 x (omega arith)) (live-closed items (λ k y h. all (suc k) y (omega arith)))
+
+pub live-tail : (items : List Stored) (from : ℕ) → All IsStored items → live (items_of (take from items ++ filter (λ x. not (is_gone x)) (drop from items))) ≡ live (items_of items)
+live-tail items from all =
+    live-parts (take from items) (filter (λ x. not (is_gone x)) (drop from items)) ∙ ap (λ l. l ++ live (items_of (take from items))) (live-closed (drop from items) (All-drop IsStored from items all))
+    ∙ sym (live-parts (take from items) (drop from items)) ∙ ap (λ xs. live (items_of xs)) (take-append-drop from items)
+
+-- one item more on the way from the last one on
+pub taken : (items : List Stored) (k j : ℕ) (x : Stored) → k ≡ suc j → j < length items → x ≡ get_or items j x → items_of (take k items) ≡ item_of x ∷ items_of (take j items)
+taken items k j x next within is = ap (λ n. items_of (take n items)) next ∙ ap items_of (take-suc items j x within) ∙ items_of_more (take j items) (get_or items j x) ∙ ap (λ y. item_of y ∷ items_of (take j items)) (sym is)
+
+pub further : (c : ℕ) (o : Option ℕ) → option_map (λ k. c + k) (option_map suc o) ≡ option_map (λ k. suc c + k) o
+further c None = refl
+further c (Some k) = ap (λ n. Some n) (let one : c + suc k ≡ suc c + k = omega arith in one)
+
+pub none-further : (o : Option ℕ) → option_map (λ k. 0 + k) o ≡ o
+none-further None = refl
+none-further (Some k) = ap (λ n. Some n) (let same : 0 + k ≡ k = omega arith in same)
+
+-- a hole is passed, and so is an item where more are to be
+pub nth-hole : (n : ℕ) (x : Item ℕ) (xs : List (Item ℕ)) → is_hole x ≡ true → nth_live n (x ∷ xs) ≡ option_map suc (nth_live n xs)
+nth-hole zero x xs is = rw is refl
+nth-hole (suc n) x xs is = rw is refl
+
+pub nth-more : (n m : ℕ) (x : Item ℕ) (xs : List (Item ℕ)) → is_hole x ≡ false → n ≡ suc m → nth_live n (x ∷ xs) ≡ option_map suc (nth_live m xs)
+nth-more zero m x xs is next = absurd (omega arith)
+nth-more (suc n) m x xs is next = rw is (ap (λ k. option_map suc (nth_live k xs)) (let same : n ≡ m = omega arith in same))
+
+pub nth-here : (n : ℕ) (x : Item ℕ) (xs : List (Item ℕ)) → is_hole x ≡ false → n ≡ 0 → nth_live n (x ∷ xs) ≡ Some 0
+nth-here zero x xs is none = rw is refl
+nth-here (suc n) x xs is none = absurd (omega arith)
+
+-- so many from the end on, as indexes of a vector
+pub from-end : (end c n : ℕ) (o : Option ℕ) (i : ℕ) → o ≡ Some i → end - 1 - (c + i) ≡ n → option_map (λ up. end - 1 - up) (option_map (λ k. c + k) o) ≡ Some n
+from-end end c n o i is at = ap (λ p. option_map (λ up. end - 1 - up) (option_map (λ k. c + k) p)) is ∙ ap (λ m. Some m) at
+
+-- a hole at the end leaves
+pub live-dropped : (items : List Stored) (k j : ℕ) (x : Stored) → k ≡ suc j → j < length items → x ≡ get_or items j x → is_hole (item_of x) ≡ true → live (items_of (take k items)) ≡ live (items_of (take j items))
+live-dropped items k j x next within is gone = ap live (taken items k j x next within is) ∙ ap (λ v. cond (not v) (item_of x ∷ live (items_of (take j items))) (live (items_of (take j items)))) gone
+
+-- how many are live
+pub length-live : (items : List Stored) → All IsStored items → length (live (items_of items)) ≡ length (filter (λ x. not (is_gone x)) items)
+length-live [] all = refl
+length-live (x ∷ items) all = ap length (live-parts (x ∷ []) items) ∙ length-append (live (items_of items)) (live (item_of x ∷ [])) ∙ go (is_gone x) refl (length-live items (λ k y h. all (suc k) y (omega arith)))
+  where
+    go : (v : Bool) → is_gone x ≡ v → length (live (items_of items)) ≡ length (filter (λ y. not (is_gone y)) items)
+        → length (live (items_of items)) + length (live (item_of x ∷ [])) ≡ length (cond (not v) (x ∷ filter (λ y. not (is_gone y)) items) (filter (λ y. not (is_gone y)) items))
+    go true is rest = rw (gone-is x (all 0 x (omega arith)), is) (omega (arith, rest))
+    go false is rest = rw (gone-is x (all 0 x (omega arith)), is) (omega (arith, rest))
+
+-- what stands at the last place of a number is no hole
+module _ (of : EntryOf ℕ → ℕ) (items : List Stored) (n p : ℕ) (x : Stored) (some : 0 < p) (at : place (unless_hole of) (suc (suc n)) (items_of items) ≡ p) (is : x ≡ get_or items (p - 1) x) where
+  place-within : p ≤ length items
+  place-within = omega (arith, place-le (unless_hole of) (suc (suc n)) (items_of items), length-items_of items)
+
+  place-number : number_by (unless_hole of) (item_of x) ≡ suc (suc n)
+  place-number =
+      let size : length (map (number_by (unless_hole of)) (items_of items)) ≡ length items = length-map (items_of items) (number_by (unless_hole of)) ∙ length-items_of items in
+      ap (λ y. number_by (unless_hole of) (item_of y)) is ∙ sym (get_or-map (λ y. number_by (unless_hole of) (item_of y)) items (p - 1) x 0 (omega (arith, place-within)))
+      ∙ number-at (unless_hole of) items p some place-within ∙ ap (λ k. get_or (map (number_by (unless_hole of)) (items_of items)) (k - p) 0) (sym size)
+      ∙ last-at (suc (suc n)) p (map (number_by (unless_hole of)) (items_of items)) at some
+
+  pub place-there : is_gone x ≡ false
+  place-there = go x refl place-number
+    where
+      go : (y : Stored) → y ≡ x → number_by (unless_hole of) (item_of x) ≡ suc (suc n) → is_gone x ≡ false
+      go stored.Hole same number =
+          let one : 1 ≡ suc (suc n) = ap (λ z. number_by (unless_hole of) (item_of z)) same ∙ number in
+          absurd (omega arith)
+      go stored.Marker same number = ap is_gone (sym same)
+      go (stored.Entry e) same number = ap is_gone (sym same)
+
+  pub place-told : is_some (told x) ≡ true
+  place-told = go x refl place-number
+    where
+      go : (y : Stored) → y ≡ x → number_by (unless_hole of) (item_of x) ≡ suc (suc n) → is_some (told x) ≡ true
+      go stored.Hole same number =
+          let one : 1 ≡ suc (suc n) = ap (λ z. number_by (unless_hole of) (item_of z)) same ∙ number in
+          absurd (omega arith)
+      go stored.Marker same number =
+          let zeroth : 0 ≡ suc (suc n) = ap (λ z. number_by (unless_hole of) (item_of z)) same ∙ number in
+          absurd (omega arith)
+      go (stored.Entry e) same number = ap (λ z. is_some (told z)) (sym same)
+
+-- where the last entry of a node stands
+abbrev pub node_place : ℕ → List (Item ℕ) → ℕ
+node_place node items = place by_node (suc (suc node)) items
+
+pub entry_of-is : (node : ℕ) (items : List (Item ℕ)) → entry_of node items ≡ option_and_then as_entry (find (is_entry node) items)
+entry_of-is node [] = refl
+entry_of-is node (marker ∷ items) = entry_of-is node items
+entry_of-is node (entry e ∷ items) = go (eqb e.node node) (entry_of-is node items)
+  where
+    go : (v : Bool) → entry_of node items ≡ option_and_then as_entry (find (is_entry node) items)
+        → cond v (Some e) (entry_of node items) ≡ option_and_then as_entry (cond v (Some (entry e)) (find (is_entry node) items))
+    go true rest = refl
+    go false rest = rest
+
+module _ (node : ℕ) (low : node < nowhere) where
+  node-same : (e : EntryOf ℕ) (v : Bool) → IsSlot (entry e) → eqb e.node node ≡ v → eqb (suc (by_node e)) (suc (suc node)) ≡ v
+  node-same e v slot same = number-same (λ x. x.node) node e v (λ gone. none v same slot gone) same
+    where
+      none : (w : Bool) → eqb e.node node ≡ w → (entry e ≡ hole) ⊎ ((e.node < nowhere) × (e.name < nowhere)) → e.name ≡ nowhere → w ≡ false
+      none w is (inr h) gone = absurd (omega (arith, h.1))
+      none true is (inl h) gone =
+          let far : e.node ≡ nowhere = ap (λ i. option_map_or (λ x. x.node) (as_entry i) 0) h in
+          absurd (omega (arith, eqb-true e.node node is))
+      none false is (inl h) gone = refl
+
+  pub node-none : (items : List (Item ℕ)) → AreSlots items → node_place node items ≡ 0 → list_any (is_entry node) items ≡ false
+  node-none [] slots is = refl
+  node-none (marker ∷ items) slots is = node-none items slots.1 (rw (eqb-zero-suc (suc node)) at is)
+  node-none (entry e ∷ items) slots is = go (eqb e.node node) refl is (node-none items slots.1)
+    where
+      go : (v : Bool) → eqb e.node node ≡ v → cond (eqb (suc (by_node e)) (suc (suc node))) (suc (length (map (number_by by_node) items))) (node_place node items) ≡ 0
+          → (node_place node items ≡ 0 → list_any (is_entry node) items ≡ false) → (v || list_any (is_entry node) items) ≡ false
+      go true same is rest = let never : suc (length (map (number_by by_node) items)) ≡ 0 = rw (node-same e true slots.0 same) at is in absurd (omega arith)
+      go false same is rest = rest (rw (node-same e false slots.0 same) at is)
+
+  pub node-some : (items : List (Item ℕ)) → AreSlots items → list_any (is_entry node) items ≡ true → 0 < node_place node items
+  node-some items slots there = go (node_place node items) refl
+    where
+      go : (n : ℕ) → node_place node items ≡ n → 0 < n
+      go zero is = let never : true ≡ false = sym there ∙ node-none items slots is in cc
+      go (suc n) is = omega arith
+
+  node-first : (items : List (Item ℕ)) → AreSlots items → 0 < node_place node items → position_or_len (is_entry node) items ≡ length items - node_place node items
+  node-first [] slots some = absurd (omega arith)
+  node-first (marker ∷ items) slots some =
+      let there : 0 < node_place node items = rw (eqb-zero-suc (suc node)) at some in
+      rw (eqb-zero-suc (suc node)) (omega (arith, node-first items slots.1 there, place-le by_node (suc (suc node)) items))
+  node-first (entry e ∷ items) slots some = go (eqb e.node node) refl some (node-first items slots.1)
+    where
+      go : (v : Bool) → eqb e.node node ≡ v → 0 < cond (eqb (suc (by_node e)) (suc (suc node))) (suc (length (map (number_by by_node) items))) (node_place node items)
+          → (0 < node_place node items → position_or_len (is_entry node) items ≡ length items - node_place node items)
+          → cond (not v) (1 + position_or_len (is_entry node) items) 0 ≡ suc (length items) - cond (eqb (suc (by_node e)) (suc (suc node))) (suc (length (map (number_by by_node) items))) (node_place node items)
+      go true same some rest = rw (node-same e true slots.0 same) (omega (arith, length-map items (number_by by_node)))
+      go false same some rest =
+          let there : 0 < node_place node items = rw (node-same e false slots.0 same) at some in
+          rw (node-same e false slots.0 same) (omega (arith, rest there, place-le by_node (suc (suc node)) items))
+
+  pub node-at : (items : List (Item ℕ)) → AreSlots items → 0 < node_place node items → position (is_entry node) items ≡ Some (length items - node_place node items)
+  node-at items slots some =
+      let first = node-first items slots some in
+      rw (lt-ltb (position_or_len (is_entry node) items) (length items) (omega (arith, place-le by_node (suc (suc node)) items))) (ap (λ k. Some k) first)
+
+pub no-position : {X : Type 0} (sought : X → Bool) (xs : List X) → list_any sought xs ≡ false → position sought xs ≡ None
+no-position sought xs none = go (position sought xs) refl
+  where
+    go : (o : Option ℕ) → position sought xs ≡ o → o ≡ None
+    go None is = refl
+    go (Some k) is =
+        let never : true ≡ false = ap is_some (sym is) ∙ is_some-position sought xs ∙ none in
+        cc
+
+-- the last ones of a vector, where there is no hole from an index on
+solid-from : (k : ℕ) (xs : List (Item ℕ)) → ((j : ℕ) → j < k → j < length xs → is_hole (get_or xs j hole) ≡ false) → AllSolid k xs
+solid-from zero xs there = tt
+solid-from (suc k) [] there = tt
+solid-from (suc k) (x ∷ xs) there = (there 0 (omega arith) (omega arith), solid-from k xs (λ j h w. there (suc j) (omega arith) (omega arith)))
+
+pub solid-end : (items : List Stored) (solid k : ℕ) → All IsStored items → ((i : ℕ) → solid ≤ i → i < length items → (x : Stored) → is_gone (get_or items i x) ≡ false)
+    → k ≤ length items - solid → AllSolid k (items_of items)
+solid-end items solid k all there h = solid-from k (items_of items) at
+  where
+    at : (j : ℕ) → j < k → j < length (items_of items) → is_hole (get_or (items_of items) j hole) ≡ false
+    at j below within =
+        let i = length items - suc j in
+        let low : i < length items = omega (arith, length-items_of items) in
+        let is : i + suc j ≡ length items = omega (arith, length-items_of items) in
+        ap is_hole (get_nearest item_of items i j stored.Hole hole is) ∙ gone-is (get_or items i stored.Hole) (all i stored.Hole low) ∙ there i (omega arith) low stored.Hole
+
+-- an index that was found for an item with so many after it
+none-map : {X Y : Type 0} (f : X → Y) (o : Option X) → option_map f o ≡ None → o ≡ None
+none-map f None is = refl
+none-map f (Some x) is = cc
+
+nth-up : (len index : ℕ) (o : Option ℕ) → ((up : ℕ) → o ≡ Some up → up < len) → Some index ≡ option_map (λ up. len - 1 - up) o → (up : ℕ) × ((o ≡ Some up) × (index + suc up ≡ len))
+nth-up len index None within is = cc
+nth-up len index (Some up) within is =
+    let low : up < len = within up refl in
+    let at : index ≡ len - 1 - up = cc in
+    let sum : index + suc up ≡ len = omega arith in
+    (up, (refl, sum))
+
+module _ (items : List Stored) (stored : All IsStored items) (back : ℕ) where
+  pub nth-missing : option_map (λ up. length items - 1 - up) (nth_live back (items_of items)) ≡ None → length (live (items_of items)) ≤ back
+  nth-missing is = nth-none back (items_of items) (none-map (λ up. length items - 1 - up) (nth_live back (items_of items)) is)
+
+  module _ (index : ℕ) (found : Some index ≡ option_map (λ up. length items - 1 - up) (nth_live back (items_of items))) where
+    pub nth-index : (up : ℕ) × ((nth_live back (items_of items) ≡ Some up) × (index + suc up ≡ length items))
+    nth-index =
+        let size : length (items_of items) ≡ length items = length-items_of items in
+        nth-up (length items) index (nth_live back (items_of items)) (λ up is. omega (arith, nth-within back up (items_of items) is)) found
+
+    pub nth-item : (x : Stored) → x ≡ get_or items index x → slice_get (items_of items) nth-index.0 ≡ Some (item_of x)
+    nth-item x is = slice_get_nearest item_of items index nth-index.0 x nth-index.1.1 ∙ ap (λ y. Some (item_of y)) (sym is)
+
+    pub nth-there : (x : Stored) → x ≡ get_or items index x → is_gone x ≡ false
+    nth-there x is =
+        let within : index < length items = omega (arith, nth-index.1.1) in
+        sym (gone-is x (subst IsStored (sym is) (stored index x within))) ∙ nth-real back nth-index.0 (items_of items) nth-index.1.0 (item_of x) (nth-item x is)
+
+pub changed-marker : (up node : ℕ) (items : List (Item ℕ)) → slice_get items up ≡ Some marker → changed_at up (for_node node) items ≡ items
+changed-marker up node [] is = refl
+changed-marker zero node (i ∷ items) is = ap (λ (j : Item ℕ). for_node node j ∷ items) (let same : i ≡ marker = cc in same) ∙ ap (λ (j : Item ℕ). j ∷ items) (let same : marker ≡ i = cc in same)
+changed-marker (suc up) node (i ∷ items) is = ap (λ xs. i ∷ xs) (changed-marker up node items is)
+
+-- what is told of no entry, and is no hole, is a marker
+pub marker-is : (x : Stored) → is_gone x ≡ false → is_some (told x) ≡ false → item_of x ≡ marker
+marker-is stored.Hole there none = cc
+marker-is stored.Marker there none = refl
+marker-is (stored.Entry e) there none = cc
+
+pub length-live-le : (xs : List (Item ℕ)) → length (live xs) ≤ length xs
+length-live-le [] = omega arith
+length-live-le (x ∷ xs) = go (is_hole x) (length-live-le xs)
+  where
+    go : (v : Bool) → length (live xs) ≤ length xs → length (cond (not v) (x ∷ live xs) (live xs)) ≤ suc (length xs)
+    go true rest = omega (arith, rest)
+    go false rest = omega (arith, rest)

@@ -1,0 +1,17 @@
+pub mod ItemLists
+pub mod Earliest
+pub mod Bookmarks
+pub mod Chained
+pub mod Listed
+pub mod SameHash
+pub mod ByHash
+pub mod Holes
+pub mod Live
+pub mod LiveEdits
+pub mod Moved
+pub mod Slotted
+pub mod Marked
+pub mod Closed
+pub mod Pushed
+pub mod ByName
+pub mod Spellings

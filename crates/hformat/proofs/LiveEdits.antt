@@ -1,0 +1,205 @@
+-- Edits of lists with holes: what is left without the holes, and that each item is still a marker, an entry or the hole.
+use Rattle.std.proofs.Common.{◌≡◌, ℕ, zero, suc, ◌<◌, nat_eq, nat_le, Bool, true, false, cond, not, ◌&&◌, List, [], ◌∷◌, ◌++◌, Option, Some, None, inl, inr, length, take, drop, filter, refl, subst, ◌∙◌, ap}
+use Rattle.std.specs.List.{find, list_any, slice_get, insert, remove}
+use Rattle.std.specs.Option.{option_map_or}
+use Rattle.std.proofs.lemmas.Bool.{cases_Bool}
+use Rattle.hopen.specs.Nearest.{without, changed, put_before, changed_at}
+use Rattle.hformat.specs.Formatting.{EntryOf, Item, marker, entry, after_marker, cleared, is_entry, without_entry, for_node, with_node, booked, has_bookmark, without_earliest, most_equal, is_equal, with_room}
+use Rattle.hformat.specs.Items.{nowhere, hole, is_hole, live, IsSlot, AreSlots}
+use Rattle.hformat.specs.declared.bookmark.Bookmark.{Bookmark}
+use Rattle.hformat.specs.declared.bookmark.Bookmark.TheVariants.{InPlace, After}
+use Rattle.hformat.proofs.Live.{apart, is_hole-for_node, Spares, spares-node, find_is-live, any-live, any_after-live, filter_after-live}
+
+pub live-cons : (x : Item ℕ) (xs ys : List (Item ℕ)) → live xs ≡ live ys → live (x ∷ xs) ≡ live (x ∷ ys)
+live-cons x xs ys same = ap (λ l. cond (not (is_hole x)) (x ∷ l) l) same
+
+-- up to the last marker
+pub cleared-live : (xs : List (Item ℕ)) → cleared (live xs) ≡ live (cleared xs)
+cleared-live [] = refl
+cleared-live (marker ∷ xs) = refl
+cleared-live (entry e ∷ xs) = elim (cases_Bool (is_hole (entry e))) [ inl h ↦ rw h (cleared-live xs) | inr h ↦ rw h (cleared-live xs) ]
+
+-- room for a new entry
+module _ (sought : EntryOf ℕ → Bool) (spares : (e : EntryOf ℕ) → is_hole (entry e) ≡ true → sought e ≡ false) where
+  pub earliest-live : (xs : List (Item ℕ)) → without_earliest sought (live xs) ≡ live (without_earliest sought xs)
+  earliest-live [] = refl
+  earliest-live (marker ∷ xs) = refl
+  earliest-live (entry e ∷ xs) = elim (cases_Bool (is_hole (entry e))) [
+    | inl h ↦ rw (h, spares e h) (rw h (earliest-live xs))
+    | inr h ↦ rw (h, any_after-live sought spares xs) (go (sought e && not (list_any sought (after_marker xs))) h (earliest-live xs))
+  ]
+    where
+      go : (v : Bool) → is_hole (entry e) ≡ false → without_earliest sought (live xs) ≡ live (without_earliest sought xs)
+          → cond v (live xs) (entry e ∷ without_earliest sought (live xs)) ≡ live (cond v xs (entry e ∷ without_earliest sought xs))
+      go true h i = refl
+      go false h i = rw h (ap (λ l. entry e ∷ l) i)
+
+pub room-live : (new : EntryOf ℕ) (xs : List (Item ℕ)) → new.name < nowhere → with_room nat_eq new (live xs) ≡ live (with_room nat_eq new xs)
+room-live new xs low = rw (filter_after-live (is_equal nat_eq new) spares xs) (go (nat_le most_equal (length (filter (is_equal nat_eq new) (after_marker xs)))))
+  where
+    spares : (e : EntryOf ℕ) → is_hole (entry e) ≡ true → is_equal nat_eq new e ≡ false
+    spares e h = rw (apart new.name e.name low h) refl
+
+    go : (v : Bool) → cond v (without_earliest (is_equal nat_eq new) (live xs)) (live xs) ≡ live (cond v (without_earliest (is_equal nat_eq new) xs) xs)
+    go true = earliest-live (is_equal nat_eq new) spares xs
+    go false = refl
+
+-- a hole in an item's place
+pub hide-live : (k : ℕ) (xs : List (Item ℕ)) → live (changed_at k (λ _. hole) xs) ≡ live (remove xs k)
+hide-live zero [] = refl
+hide-live (suc k) [] = refl
+hide-live zero (x ∷ xs) = refl
+hide-live (suc k) (x ∷ xs) = live-cons x (changed_at k (λ _. hole) xs) (remove xs k) (hide-live k xs)
+
+-- a test that keeps items
+pub filter-live : (kept : Item ℕ → Bool) (xs : List (Item ℕ)) → filter kept (live xs) ≡ live (filter kept xs)
+filter-live kept [] = refl
+filter-live kept (x ∷ xs) = go (is_hole x) (kept x) refl refl (filter-live kept xs)
+  where
+    go : (v w : Bool) → is_hole x ≡ v → kept x ≡ w → filter kept (live xs) ≡ live (filter kept xs)
+        → filter kept (cond (not v) (x ∷ live xs) (live xs)) ≡ live (cond w (x ∷ filter kept xs) (filter kept xs))
+    go true true h k i = rw h i
+    go true false h k i = i
+    go false true h k i = rw (h, k) (ap (λ l. x ∷ l) i)
+    go false false h k i = rw k i
+
+pub without-live : (node : ℕ) (xs : List (Item ℕ)) → without_entry node (live xs) ≡ live (without_entry node xs)
+without-live node xs = filter-live (λ i. not (is_entry node i)) xs
+
+-- edits at the nearest that is sought, where no hole is
+module _ (sought : Item ℕ → Bool) where
+  pub changed_spared : (f : Item ℕ → Item ℕ) → ((i : Item ℕ) → is_hole (f i) ≡ is_hole i) → (xs : List (Item ℕ)) → Spares sought xs
+      → changed sought f (live xs) ≡ live (changed sought f xs)
+  changed_spared f same [] s = refl
+  changed_spared f same (x ∷ xs) s = go (is_hole x) (sought x) refl refl (changed_spared f same xs s.1)
+    where
+      go : (v w : Bool) → is_hole x ≡ v → sought x ≡ w → changed sought f (live xs) ≡ live (changed sought f xs)
+          → changed sought f (cond (not v) (x ∷ live xs) (live xs)) ≡ live (cond w (f x ∷ xs) (x ∷ changed sought f xs))
+      go true true h k i = let never : sought x ≡ false = s.0 h in cc
+      go true false h k i = rw h i
+      go false true h k i = rw (k, same x, h) refl
+      go false false h k i = rw (h, k) (ap (λ l. x ∷ l) i)
+
+  pub without_spared : (xs : List (Item ℕ)) → Spares sought xs → without sought (live xs) ≡ live (without sought xs)
+  without_spared [] s = refl
+  without_spared (x ∷ xs) s = go (is_hole x) (sought x) refl refl (without_spared xs s.1)
+    where
+      go : (v w : Bool) → is_hole x ≡ v → sought x ≡ w → without sought (live xs) ≡ live (without sought xs)
+          → without sought (cond (not v) (x ∷ live xs) (live xs)) ≡ live (cond w xs (x ∷ without sought xs))
+      go true true h k i = let never : sought x ≡ false = s.0 h in cc
+      go true false h k i = rw h i
+      go false true h k i = rw k refl
+      go false false h k i = rw (h, k) (ap (λ l. x ∷ l) i)
+
+  pub put_spared : (new : Item ℕ) → is_hole new ≡ false → (xs : List (Item ℕ)) → Spares sought xs
+      → put_before sought new (live xs) ≡ live (put_before sought new xs)
+  put_spared new real [] s = refl
+  put_spared new real (x ∷ xs) s = go (is_hole x) (sought x) refl refl (put_spared new real xs s.1)
+    where
+      go : (v w : Bool) → is_hole x ≡ v → sought x ≡ w → put_before sought new (live xs) ≡ live (put_before sought new xs)
+          → put_before sought new (cond (not v) (x ∷ live xs) (live xs)) ≡ live (cond w (new ∷ x ∷ xs) (x ∷ put_before sought new xs))
+      go true true h k i = let never : sought x ≡ false = s.0 h in cc
+      go true false h k i = rw h i
+      go false true h k i = rw (k, real, h) refl
+      go false false h k i = rw (h, k) (ap (λ l. x ∷ l) i)
+
+  -- what is found is no hole
+  pub found_real : (x : Item ℕ) (xs : List (Item ℕ)) → Spares sought xs → find sought xs ≡ Some x → is_hole x ≡ false
+  found_real x [] s found = cc
+  found_real x (y ∷ xs) s found = go (is_hole y) (sought y) refl refl (found_real x xs s.1) found
+    where
+      go : (v w : Bool) → is_hole y ≡ v → sought y ≡ w → (find sought xs ≡ Some x → is_hole x ≡ false)
+          → cond w (Some y) (find sought xs) ≡ Some x → is_hole x ≡ false
+      go true true h k i found = let never : sought y ≡ false = s.0 h in cc
+      go false true h k i found = let same : y ≡ x = cc in rw (← same) h
+      go v false h k i found = i found
+
+-- edits at the entry of a node
+module _ (old : ℕ) (xs : List (Item ℕ)) (slots : AreSlots xs) (low : old < nowhere) where
+  pub with_node-live : (new : ℕ) → with_node old new (live xs) ≡ live (with_node old new xs)
+  with_node-live new = changed_spared (is_entry old) (for_node new) (is_hole-for_node new) xs (spares-node old xs slots low)
+
+  pub without1-live : without (is_entry old) (live xs) ≡ live (without (is_entry old) xs)
+  without1-live = without_spared (is_entry old) xs (spares-node old xs slots low)
+
+-- the items stay markers, entries or the hole
+pub slots-drop : (k : ℕ) (xs : List (Item ℕ)) → AreSlots xs → AreSlots (drop k xs)
+slots-drop zero xs s = s
+slots-drop (suc k) [] s = tt
+slots-drop (suc k) (x ∷ xs) s = slots-drop k xs s.1
+
+pub slots-take : (k : ℕ) (xs : List (Item ℕ)) → AreSlots xs → AreSlots (take k xs)
+slots-take zero xs s = tt
+slots-take (suc k) [] s = tt
+slots-take (suc k) (x ∷ xs) s = (s.0, slots-take k xs s.1)
+
+pub slots-append : (xs ys : List (Item ℕ)) → AreSlots xs → AreSlots ys → AreSlots (xs ++ ys)
+slots-append [] ys s t = t
+slots-append (x ∷ xs) ys s t = (s.0, slots-append xs ys s.1 t)
+
+pub slots-remove : (k : ℕ) (xs : List (Item ℕ)) → AreSlots xs → AreSlots (remove xs k)
+slots-remove k xs s = slots-append (take k xs) (drop (suc k) xs) (slots-take k xs s) (slots-drop (suc k) xs s)
+
+pub slots-insert : (k : ℕ) (x : Item ℕ) (xs : List (Item ℕ)) → AreSlots xs → IsSlot x → AreSlots (insert xs k x)
+slots-insert k x xs s t = slots-append (take k xs) (x ∷ drop k xs) (slots-take k xs s) (t, slots-drop k xs s)
+
+slots-either : (v : Bool) (xs ys : List (Item ℕ)) → AreSlots xs → AreSlots ys → AreSlots (cond v xs ys)
+slots-either true xs ys s t = s
+slots-either false xs ys s t = t
+
+pub slots-filter : (kept : Item ℕ → Bool) (xs : List (Item ℕ)) → AreSlots xs → AreSlots (filter kept xs)
+slots-filter kept [] s = tt
+slots-filter kept (x ∷ xs) s =
+    let rest : AreSlots (filter kept xs) = slots-filter kept xs s.1 in
+    slots-either (kept x) (x ∷ filter kept xs) (filter kept xs) (s.0, rest) rest
+
+pub slots-changed : (k : ℕ) (f : Item ℕ → Item ℕ) → ((i : Item ℕ) → IsSlot i → IsSlot (f i)) → (xs : List (Item ℕ)) → AreSlots xs
+    → AreSlots (changed_at k f xs)
+slots-changed k f same [] s = tt
+slots-changed zero f same (x ∷ xs) s = (same x s.0, s.1)
+slots-changed (suc k) f same (x ∷ xs) s = (s.0, slots-changed k f same xs s.1)
+
+pub slots-at : (k : ℕ) (x : Item ℕ) (xs : List (Item ℕ)) → AreSlots xs → slice_get xs k ≡ Some x → IsSlot x
+slots-at k x [] s at = cc
+slots-at zero x (y ∷ xs) s at = let same : y ≡ x = cc in subst IsSlot same s.0
+slots-at (suc k) x (y ∷ xs) s at = slots-at k x xs s.1 at
+
+pub slots-for_node : (node : ℕ) (i : Item ℕ) → node < nowhere → is_hole i ≡ false → IsSlot i → IsSlot (for_node node i)
+slots-for_node node marker low real s = tt
+slots-for_node node (entry e) low real (inl same) = let hidden : is_hole (entry e) ≡ true = ap is_hole same in cc
+slots-for_node node (entry e) low real (inr s) = inr (low, s.1)
+
+pub slots-renewed : (k node : ℕ) (x : Item ℕ) (xs : List (Item ℕ)) → AreSlots xs → slice_get xs k ≡ Some x → is_hole x ≡ false → node < nowhere
+    → AreSlots (changed_at k (for_node node) xs)
+slots-renewed k node x [] s at real low = tt
+slots-renewed zero node x (y ∷ xs) s at real low = let same : y ≡ x = cc in (slots-for_node node y low (ap is_hole same ∙ real) s.0, s.1)
+slots-renewed (suc k) node x (y ∷ xs) s at real low = (s.0, slots-renewed k node x xs s.1 at real low)
+
+pub slots-without : (sought : Item ℕ → Bool) (xs : List (Item ℕ)) → AreSlots xs → AreSlots (without sought xs)
+slots-without sought [] s = tt
+slots-without sought (x ∷ xs) s = slots-either (sought x) xs (x ∷ without sought xs) s.1 (s.0, slots-without sought xs s.1)
+
+-- a bookmark after the entry of a node
+abbrev pub IsBookmark : Bookmark → Type 0
+IsBookmark InPlace = Unit {0}
+IsBookmark (After n) = n < nowhere
+
+pub booked-live : (old new : ℕ) (b : Bookmark) (xs : List (Item ℕ)) → AreSlots xs → old < nowhere → IsBookmark b
+    → booked old new b (live xs) ≡ live (booked old new b xs)
+booked-live old new InPlace xs s low in_list = with_node-live old xs s low new
+booked-live old new (After n) xs s low in_list = rw (find_is-live old xs s low, without1-live old xs s low) (go (find (is_entry old) xs) refl)
+  where
+    go : (o : Option (Item ℕ)) → find (is_entry old) xs ≡ o
+        → option_map_or (λ i. put_before (is_entry n) (for_node new i) (live (without (is_entry old) xs))) o (live xs)
+        ≡ live (option_map_or (λ i. put_before (is_entry n) (for_node new i) (without (is_entry old) xs)) o xs)
+    go None found = refl
+    go (Some i) found =
+        let real : is_hole i ≡ false = found_real (is_entry old) i xs (spares-node old xs s low) found in
+        let left : Spares (is_entry n) (without (is_entry old) xs) = spares-node n (without (is_entry old) xs) (slots-without (is_entry old) xs s) in_list in
+        put_spared (is_entry n) (for_node new i) (is_hole-for_node new i ∙ real) (without (is_entry old) xs) left
+
+pub has_bookmark-live : (old : ℕ) (b : Bookmark) (xs : List (Item ℕ)) → AreSlots xs → old < nowhere → IsBookmark b
+    → has_bookmark old b (live xs) ≡ has_bookmark old b xs
+has_bookmark-live old InPlace xs s low in_list = refl
+has_bookmark-live old (After n) xs s low in_list =
+    rw (without1-live old xs s low) (any-live n (without (is_entry old) xs) (slots-without (is_entry old) xs s) in_list)

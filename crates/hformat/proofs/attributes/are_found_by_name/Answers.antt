@@ -1,0 +1,25 @@
+use Rattle.std.proofs.Common.{◌≡◌, Bool, false, List, map, nat_eq, rules, sym, ◌∙◌, ap, arith}
+use Rattle.std.specs.List.{list_all, list_any}
+use Rattle.std.proofs.lemmas.List.{take_all}
+use Rattle.std.proofs.lemmas.List.Folds.{list_all-map, list_all_at}
+use Rattle.hnodes.specs.Rows.{attribute_of}
+use Rattle.names.specs.declared.attr.Attr.{Attr}
+use Rattle.hformat.specs.Formatting.{are_among, same_attribute}
+use Rattle.hformat.proofs.attributes.are_found_by_name.Goals as goal
+
+-- whether an attribute is in the other list
+abbrev there : List Attr → Attr → Bool
+there others x = list_any (same_attribute nat_eq (attribute_of x)) (map attribute_of others)
+
+seen : (xs others : List Attr) → list_all (there others) xs ≡ are_among nat_eq (map attribute_of xs) (map attribute_of others)
+seen xs others = sym (list_all-map (λ a. list_any (same_attribute nat_eq a) (map attribute_of others)) attribute_of xs)
+
+pub returns-then-not-contains_by_name : goal.returns-then-not-contains_by_name
+returns-then-not-contains_by_name c =
+    let missing : c.contains_by_name.result ≡ false = search rules in
+    sym (list_all_at (there c.args.others.now) c.args.attrs.now c.loop-attr.attr-index c.attr-item.result (omega arith)
+    (ap (there c.args.others.now) (sym c.attr-item.is) ∙ sym c.contains_by_name.ensures ∙ missing)) ∙ seen c.args.attrs.now c.args.others.now
+
+pub returns : goal.returns
+returns c =
+    sym c.loop-attr.invariant ∙ ap (list_all (there c.args.others.now)) (take_all c.loop-attr.attr-index c.args.attrs.now (omega arith)) ∙ seen c.args.attrs.now c.args.others.now

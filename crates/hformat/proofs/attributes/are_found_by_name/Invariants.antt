@@ -1,0 +1,8 @@
+use Rattle.std.proofs.Common.{◌≡◌, true, map, nat_eq, take}
+use Rattle.std.specs.List.{list_all, list_any}
+use Rattle.hnodes.specs.Rows.{attribute_of}
+use Rattle.hformat.specs.Formatting.{same_attribute}
+use Rattle.hformat.proofs.attributes.are_found_by_name.Given as goal
+
+abbrev pub invariant-loop-attr : goal.invariant-loop-attr
+invariant-loop-attr l = list_all (λ x. list_any (same_attribute nat_eq (attribute_of x)) (map attribute_of l.others)) (take l.attr-index l.attrs) ≡ true

@@ -1,0 +1,12 @@
+use Rattle.std.proofs.Common.{rules, tests, ◌∙◌, sym, refl, nat_eq}
+use Rattle.std.proofs.lemmas.Iterator.{YieldsList-from_slice}
+use Rattle.std.proofs.lemmas.Iterator.Search.{any_from_yields_List}
+use Rattle.hnodes.specs.Rows.{attribute_of}
+use Rattle.hformat.specs.Formatting.{same_attribute}
+use Rattle.hopen.proofs.Images.{any-map}
+use Rattle.hformat.proofs.attributes.contains.Goals as goal
+
+pub returns : goal.returns
+returns c =
+    any_from_yields_List (λ y. same_attribute nat_eq (attribute_of c.args.attr.now) (attribute_of y)) _ _ _ c.any.ensures.ran (YieldsList-from_slice c.args.attrs.now cc) (λ x b q k. search (rules, tests))
+    ∙ sym (any-map attribute_of (λ y. same_attribute nat_eq (attribute_of c.args.attr.now) (attribute_of y)) (same_attribute nat_eq (attribute_of c.args.attr.now)) (λ _. refl) c.args.attrs.now)

@@ -1,0 +1,47 @@
+use Rattle.std.proofs.Common.{◌≡◌, suc, ◌+◌, ◌-◌, ◌<◌, length, reverse, sym, ◌∙◌, ap, arith}
+use Rattle.std.specs.Option.{option_and_then}
+use Rattle.hformat.specs.Formatting.{as_entry, entry_of, is_entry}
+use Rattle.hformat.specs.Items.{item_of, items_of}
+use Rattle.hformat.specs.Listed.{by_node}
+use Rattle.hformat.proofs.Chained.{last-is, last_of}
+use Rattle.hformat.proofs.Holes.{entry_of-is, no-position, node-at, node-none, node_place, place-there, slots-are, told-is}
+use Rattle.hformat.proofs.ItemLists.{length-items_of}
+use Rattle.hformat.proofs.Listed.{numbers-back, place-le}
+use Rattle.hformat.proofs.Live.{entry_of-live}
+use Rattle.hopen.proofs.Nearest.{no_words, slice_get_nearest, words}
+use Rattle.hformat.proofs.formatting.Formatting.entry_of.Goals as goal
+
+pub returns-then-place-eq0 : goal.returns-then-place-eq0
+returns-then-place-eq0 c =
+    let items = c.self.inside.slots.items.items in
+    let numbers = ap reverse c.self.invariant.nodes ∙ numbers-back by_node items in
+    let place : c.last-place.result ≡ node_place c.args.node (items_of items) =
+    c.last-place.ensures ∙ last-is c.node_number.result c.self.inside.slots.nodes ∙ (λ i. last_of (c.node_number.ensures i) (numbers i)) in
+    let slots = slots-are items c.self.invariant.stored in
+    let none = node-none c.args.node (omega arith) (items_of items) slots (sym place ∙ c.if-place-eq0.true) in
+    sym (ap (entry_of c.args.node) (sym c.self.view_is) ∙ entry_of-live c.args.node (items_of items) slots (omega arith) ∙ entry_of-is c.args.node (items_of items)
+    ∙ ap (option_and_then as_entry) ((no_words (is_entry c.args.node) (items_of items) (no-position (is_entry c.args.node) (items_of items) none)).find_is))
+
+pub index-requires : goal.index-requires
+index-requires c =
+    let items = c.self.inside.slots.items.items in
+    let numbers = ap reverse c.self.invariant.nodes ∙ numbers-back by_node items in
+    let place : c.last-place.result ≡ node_place c.args.node (items_of items) =
+    c.last-place.ensures ∙ last-is c.node_number.result c.self.inside.slots.nodes ∙ (λ i. last_of (c.node_number.ensures i) (numbers i)) in
+    omega (arith, c.if-place-eq0.false, place-le by_node (suc (suc c.args.node)) (items_of items), length-items_of items)
+
+pub returns : goal.returns
+returns c =
+    let items = c.self.inside.slots.items.items in
+    let numbers = ap reverse c.self.invariant.nodes ∙ numbers-back by_node items in
+    let place : c.last-place.result ≡ node_place c.args.node (items_of items) =
+    c.last-place.ensures ∙ last-is c.node_number.result c.self.inside.slots.nodes ∙ (λ i. last_of (c.node_number.ensures i) (numbers i)) in
+    let slots = slots-are items c.self.invariant.stored in
+    let some : 0 < c.last-place.result = omega (arith, c.if-place-eq0.false) in
+    let x = c.index.result.now in
+    let back = length (items_of items) - node_place c.args.node (items_of items) in
+    let at : (c.last-place.result - 1) + suc back ≡ length items = omega (arith, place-le by_node (suc (suc c.args.node)) (items_of items), length-items_of items) in
+    c.entry.ensures ∙ told-is x (place-there (λ e. e.node) items c.args.node c.last-place.result x some (sym place) c.index.ensures)
+    ∙ ap (λ y. as_entry (item_of y)) c.index.ensures ∙ ap (option_and_then as_entry) (sym (slice_get_nearest item_of items (c.last-place.result - 1) back x at))
+    ∙ ap (option_and_then as_entry) (sym ((words (is_entry c.args.node) (items_of items) back (node-at c.args.node (omega arith) (items_of items) slots (omega arith))).find_is))
+    ∙ sym (entry_of-is c.args.node (items_of items)) ∙ sym (entry_of-live c.args.node (items_of items) slots (omega arith)) ∙ ap (entry_of c.args.node) c.self.view_is

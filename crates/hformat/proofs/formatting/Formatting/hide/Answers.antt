@@ -1,0 +1,66 @@
+use Rattle.std.proofs.Common.{◌≡◌, suc, ◌+◌, ◌-◌, ◌<◌, length, reverse, refl, sym, ◌∙◌, ap, arith}
+use Rattle.std.specs.List.{list_any}
+use Rattle.std.specs.Option.{is_some}
+use Rattle.hformat.specs.Formatting.{is_entry}
+use Rattle.hformat.specs.Items.{hole, item_of, items_of, live}
+use Rattle.hformat.specs.Listed.{by_node}
+use Rattle.hopen.specs.Nearest.{without}
+use Rattle.hformat.specs.declared.entry.Item.TheVariants as stored
+use Rattle.hformat.proofs.Chained.{last-is, last_of}
+use Rattle.hformat.proofs.Holes.{no-position, node-at, node-none, node_place, slots-are}
+use Rattle.hformat.proofs.ItemLists.{length-items_of}
+use Rattle.hformat.proofs.Listed.{numbers-back, place-le}
+use Rattle.hformat.proofs.Live.{any-live}
+use Rattle.hformat.proofs.LiveEdits.{hide-live, without1-live}
+use Rattle.hopen.proofs.Nearest.{is_some-position, no_words, set_nearest, words}
+use Rattle.hformat.proofs.formatting.Formatting.hide.Goals as goal
+
+pub returns-then-place-eq0-clause-there : goal.returns-then-place-eq0-clause-there
+returns-then-place-eq0-clause-there c =
+    let items = c.self.inside.slots.items.items in
+    let place : c.last-place.result ≡ node_place c.args.node (items_of items) =
+    c.last-place.ensures ∙ last-is c.node_number.result c.self.inside.slots.nodes ∙ (λ i. last_of (c.node_number.ensures i) ((ap reverse c.self.invariant.nodes ∙ numbers-back by_node items) i)) in
+    let slots = slots-are items c.self.invariant.stored in
+    sym (ap (list_any (is_entry c.args.node)) (sym c.self.view_is) ∙ any-live c.args.node (items_of items) slots (omega arith) ∙ node-none c.args.node (omega arith) (items_of items) slots (omega arith))
+
+pub returns-then-place-eq0-clause-entry : goal.returns-then-place-eq0-clause-entry
+returns-then-place-eq0-clause-entry c =
+    let items = c.self.inside.slots.items.items in
+    let place : c.last-place.result ≡ node_place c.args.node (items_of items) =
+    c.last-place.ensures ∙ last-is c.node_number.result c.self.inside.slots.nodes ∙ (λ i. last_of (c.node_number.ensures i) ((ap reverse c.self.invariant.nodes ∙ numbers-back by_node items) i)) in
+    let slots = slots-are items c.self.invariant.stored in
+    let none = no-position (is_entry c.args.node) (items_of items) (node-none c.args.node (omega arith) (items_of items) slots (omega arith)) in
+    sym c.self.view_is ∙ ap live (sym (no_words (is_entry c.args.node) (items_of items) none).without_is)
+    ∙ sym (without1-live c.args.node (items_of items) slots (omega arith)) ∙ ap (without (is_entry c.args.node)) c.self.view_is
+
+pub hide-requires-clause-within : goal.hide-requires-clause-within
+hide-requires-clause-within c =
+    let items = c.self.inside.slots.items.items in
+    let place : c.last-place.result ≡ node_place c.args.node (items_of items) =
+    c.last-place.ensures ∙ last-is c.node_number.result c.self.inside.slots.nodes ∙ (λ i. last_of (c.node_number.ensures i) ((ap reverse c.self.invariant.nodes ∙ numbers-back by_node items) i)) in
+    let slots = slots-are items c.self.invariant.stored in
+    omega (arith, c.if-place-eq0.false, place-le by_node (suc (suc c.args.node)) (items_of items), length-items_of items)
+
+pub returns-clause-there : goal.returns-clause-there
+returns-clause-there c =
+    let items = c.self.inside.slots.items.items in
+    let place : c.last-place.result ≡ node_place c.args.node (items_of items) =
+    c.last-place.ensures ∙ last-is c.node_number.result c.self.inside.slots.nodes ∙ (λ i. last_of (c.node_number.ensures i) ((ap reverse c.self.invariant.nodes ∙ numbers-back by_node items) i)) in
+    let slots = slots-are items c.self.invariant.stored in
+    let some : 0 < c.last-place.result = omega (arith, c.if-place-eq0.false) in
+    sym (ap (list_any (is_entry c.args.node)) (sym c.self.view_is) ∙ any-live c.args.node (items_of items) slots (omega arith)
+    ∙ sym (is_some-position (is_entry c.args.node) (items_of items)) ∙ ap is_some (node-at c.args.node (omega arith) (items_of items) slots (omega arith)))
+
+pub returns-clause-entry : goal.returns-clause-entry
+returns-clause-entry c =
+    let items = c.self.inside.slots.items.items in
+    let place : c.last-place.result ≡ node_place c.args.node (items_of items) =
+    c.last-place.ensures ∙ last-is c.node_number.result c.self.inside.slots.nodes ∙ (λ i. last_of (c.node_number.ensures i) ((ap reverse c.self.invariant.nodes ∙ numbers-back by_node items) i)) in
+    let slots = slots-are items c.self.invariant.stored in
+    let some : 0 < c.last-place.result = omega (arith, c.if-place-eq0.false) in
+    let up = length (items_of items) - node_place c.args.node (items_of items) in
+    let i = c.last-place.result - 1 in
+    let at : i + suc up ≡ length items = omega (arith, place-le by_node (suc (suc c.args.node)) (items_of items), length-items_of items) in
+    c.trim.ensures.same ∙ ap (λ xs. live (items_of xs)) c.hide.ensures.items ∙ ap live (set_nearest item_of (λ _. hole) items i up stored.Hole stored.Hole at refl)
+    ∙ hide-live up (items_of items) ∙ ap live (sym (words (is_entry c.args.node) (items_of items) up (node-at c.args.node (omega arith) (items_of items) slots (omega arith))).without_is)
+    ∙ sym (without1-live c.args.node (items_of items) slots (omega arith)) ∙ ap (without (is_entry c.args.node)) c.self.view_is

@@ -1,0 +1,10 @@
+use Rattle.std.proofs.Common.{◌∷◌, ◌∙◌, ap}
+use Rattle.hformat.specs.Formatting.{marker}
+use Rattle.hformat.specs.Items.{items_of, live}
+use Rattle.hformat.specs.declared.entry.Item.TheVariants as stored
+use Rattle.hformat.proofs.ItemLists.{items_of_more}
+use Rattle.hformat.proofs.formatting.Formatting.marker.Goals as goal
+
+pub returns-clause-ok : goal.returns-clause-ok
+returns-clause-ok c =
+    ap (λ xs. live (items_of xs)) c.in_ok-put.ensures.ok ∙ ap live (items_of_more c.make_room.new.slots.items.items stored.Marker) ∙ ap (λ l. marker ∷ l) (c.make_room.ensures.same ∙ c.self.view_is)

@@ -1,0 +1,13 @@
+use Rattle.std.proofs.Common.{◌∙◌, ap}
+use Rattle.hformat.specs.Items.{items_of, live}
+use Rattle.hformat.proofs.Holes.{live-tail}
+use Rattle.hformat.proofs.formatting.make_room.Goals as goal
+use Rattle.hformat.proofs.formatting.make_room.Goals.{then-slots-gt0, else-slots-gt0}
+
+pub returns-clause-same : goal.returns-clause-same
+returns-clause-same c =
+    ap (λ xs. live (items_of xs)) c.reserve.ensures.items
+    ∙ elim c.if-slots-gt0.branch [
+      | then-slots-gt0 w ↦ ap (λ s. live (items_of s.items.items)) w.slots-is ∙ ap (λ xs. live (items_of xs)) w.close.ensures.items ∙ live-tail c.args.slots.now.items.items 0 c.requires.stored
+      | else-slots-gt0 w ↦ ap (λ s. live (items_of s.items.items)) w.slots-is
+    ]

@@ -1,0 +1,16 @@
+use Rattle.std.proofs.Common.{◌≡◌, ◌-◌, ◌≤◌, Some, length, sym, ◌∙◌, ap, arith}
+use Rattle.std.specs.Option.{option_map}
+use Rattle.hformat.specs.Items.{items_of}
+use Rattle.hformat.proofs.Holes.{solid-end}
+use Rattle.hformat.proofs.ItemLists.{length-items_of}
+use Rattle.hformat.proofs.Live.{nth-solid}
+use Rattle.hformat.proofs.formatting.slot.Goals as goal
+
+pub returns-then-back-len : goal.returns-then-back-len
+returns-then-back-len c =
+    let items = c.args.slots.now.items.items in
+    let k = length items - c.args.slots.now.solid in
+    let most : k ≤ length items - c.args.slots.now.solid = omega arith in
+    let nth = nth-solid k c.args.back (items_of items) (solid-end items c.args.slots.now.solid k c.requires.stored c.requires.solid most) (omega arith) (omega (arith, length-items_of items)) in
+    let size : c.len-len.result ≡ length items = omega arith in
+    ap (λ n. Some (n - 1 - c.args.back)) size ∙ sym (ap (option_map (λ up. length items - 1 - up)) nth)

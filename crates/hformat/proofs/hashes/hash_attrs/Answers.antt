@@ -1,0 +1,12 @@
+use Rattle.std.proofs.Common.{eqb, map, ◌∙◌, ap, take_all}
+use Rattle.std.proofs.lemmas.List.Filters.{dedup_is}
+use Rattle.hnodes.specs.Rows.{attribute_of}
+use Rattle.hformat.specs.Hashes.{distinct, hash_of}
+use Rattle.hformat.proofs.SameHash.{sorted-distinct}
+use Rattle.hformat.proofs.hashes.hash_attrs.Goals as goal
+
+pub returns : goal.returns
+returns c =
+    dedup_is eqb c.sort_unstable.new.self.items c.dedup.new.self.items c.dedup.ensures.filtered
+    ∙ sorted-distinct c.loop-attr.hashes.items c.sort_unstable.new.self.items c.sort_unstable.ensures.permutation c.sort_unstable.ensures.sorted
+    ∙ ap distinct c.loop-attr.invariant ∙ ap (λ xs. distinct (map hash_of (map attribute_of xs))) (take_all c.loop-attr.attr-index c.args.attrs.now c.loop-attr-test.false)

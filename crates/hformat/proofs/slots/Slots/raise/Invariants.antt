@@ -1,0 +1,13 @@
+use Rattle.std.proofs.Common.{◌≡◌, get_or}
+use Rattle.std.specs.List.{insert, remove}
+use Rattle.hformat.specs.Listed.{IsListed}
+use Rattle.hformat.specs.declared.entry.Item.TheVariants as stored
+use Rattle.hformat.proofs.slots.Slots.raise.Given as goal
+
+-- the item that moves stands at the index
+abbrev pub invariant-loop-index : goal.invariant-loop-index
+invariant-loop-index l =
+    record {
+      listed : IsListed l.self;
+      moved : l.self.items.items ≡ insert (remove l.fn.self.items.items l.fn.from) l.index (get_or l.fn.self.items.items l.fn.from stored.Hole);
+    }

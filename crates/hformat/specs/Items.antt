@@ -1,0 +1,67 @@
+-- What the items of a vector say.
+use Rattle.std.specs.Prelude.{◌≡◌, ℕ, ◌<◌, ◌⊎◌, ◌==◌, Bool, true, false, not, List, [], ◌∷◌, Option, Some, None, filter, map, reverse}
+use Rattle.hnodes.specs.Rows.{attribute_of}
+use Rattle.hformat.specs.Formatting.{EntryOf, Item, marker, entry}
+use Rattle.hformat.specs.declared.entry.Entry.{Entry}
+use Rattle.hformat.specs.declared.entry.Item.{Item as Stored}
+use Rattle.hformat.specs.declared.entry.Item.TheVariants as stored
+
+abbrev pub entry_is : Entry → EntryOf ℕ
+entry_is e = record { node = e.node; name = e.name; attrs = map attribute_of e.attrs.items }
+
+-- no node and no name has this number
+abbrev pub nowhere : ℕ
+nowhere = 4294967296
+
+-- what stands where an entry was: it is found by no question
+abbrev pub hole : Item ℕ
+hole = entry (record { node = nowhere; name = nowhere; attrs = [] })
+
+abbrev pub is_hole : Item ℕ → Bool
+is_hole marker = false
+is_hole (entry e) = e.name == nowhere
+
+-- without the holes
+abbrev pub live : List (Item ℕ) → List (Item ℕ)
+live items = filter (λ i. not (is_hole i)) items
+
+-- a marker, an entry of a node and a name, or the hole
+abbrev pub IsSlot : Item ℕ → Type 0
+IsSlot marker = Unit {0}
+IsSlot (entry e) = (entry e ≡ hole) ⊎ ((e.node < nowhere) × (e.name < nowhere))
+
+abbrev pub AreSlots : List (Item ℕ) → Type 0
+AreSlots [] = Unit {0}
+AreSlots (i ∷ items) = IsSlot i × AreSlots items
+
+abbrev pub item_of : Stored → Item ℕ
+item_of stored.Hole = hole
+item_of stored.Marker = marker
+item_of (stored.Entry e) = entry (entry_is e)
+
+-- the last one first
+abbrev pub items_of : List Stored → List (Item ℕ)
+items_of items = reverse (map item_of items)
+
+-- what a vector holds where no entry is
+abbrev pub is_gone : Stored → Bool
+is_gone stored.Hole = true
+is_gone stored.Marker = false
+is_gone (stored.Entry e) = false
+
+abbrev pub told : Stored → Option (EntryOf ℕ)
+told stored.Hole = None
+told stored.Marker = None
+told (stored.Entry e) = Some (entry_is e)
+
+-- with another node
+abbrev pub renamed : ℕ → Stored → Stored
+renamed node stored.Hole = stored.Hole
+renamed node stored.Marker = stored.Marker
+renamed node (stored.Entry e) = stored.Entry (record e { node = node })
+
+-- code's nodes and names have smaller numbers
+abbrev pub IsStored : Stored → Type 0
+IsStored stored.Hole = Unit {0}
+IsStored stored.Marker = Unit {0}
+IsStored (stored.Entry e) = (e.node < nowhere) × (e.name < nowhere)

@@ -1,0 +1,9 @@
+pub mod Formatting
+pub mod Items
+pub mod ItemCoding
+pub mod ItemRows
+pub mod Listed
+pub mod Hashes
+pub mod Holes
+pub mod Rows
+pub mod Spelled

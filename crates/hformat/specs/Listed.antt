@@ -1,0 +1,38 @@
+-- What is kept of the list of active formatting elements besides its items.
+use Rattle.std.specs.Prelude.{◌≡◌, ℕ, zero, suc, ◌<◌, ◌≤◌, ◌==◌, false, List, length, map, slice_index_or, if◌then◌else◌}
+use Rattle.std.specs.List.{All}
+use Rattle.hformat.specs.Hashes.{entry_hash}
+use Rattle.hformat.specs.Formatting.{EntryOf, Item, marker, entry}
+use Rattle.hformat.specs.Items.{IsStored, is_gone, item_of, nowhere}
+use Rattle.hformat.specs.declared.entry.Item.{Item as Stored}
+use Rattle.hformat.specs.declared.slots.Slots.{Slots}
+
+-- the number of an item by one of its entry: markers have the first, and holes the next
+abbrev pub number_by : (EntryOf ℕ → ℕ) → Item ℕ → ℕ
+number_by number marker = zero
+number_by number (entry e) = suc (number e)
+
+abbrev pub unless_hole : (EntryOf ℕ → ℕ) → EntryOf ℕ → ℕ
+unless_hole number e = if e.name == nowhere then zero else suc (number e)
+
+-- by its name, by its hash, and by its node
+abbrev pub by_name : EntryOf ℕ → ℕ
+by_name = unless_hole (λ e. e.name)
+
+abbrev pub by_hash : EntryOf ℕ → ℕ
+by_hash = unless_hole entry_hash
+
+abbrev pub by_node : EntryOf ℕ → ℕ
+by_node = unless_hole (λ e. e.node)
+
+abbrev pub numbers_by : (EntryOf ℕ → ℕ) → List Stored → List ℕ
+numbers_by number items = map (λ i. number_by number (item_of i)) items
+
+-- The numbers that are kept are those of the items, and from an index on there is no hole.
+pub record IsListed (s : Slots) : Type 0 where
+  pub names : s.names ≡ numbers_by by_name s.items.items
+  pub hashes : s.hashes ≡ numbers_by by_hash s.items.items
+  pub nodes : s.nodes ≡ numbers_by by_node s.items.items
+  pub stored : All IsStored s.items.items
+  pub within : s.solid ≤ length s.items.items
+  pub solid : (i : ℕ) → s.solid ≤ i → i < length s.items.items → (x : Stored) → is_gone (slice_index_or s.items.items i x) ≡ false

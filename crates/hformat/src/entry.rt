@@ -1,0 +1,91 @@
+//! Entries of the list of active formatting elements, and markers (HTML Standard, 13.2.4.3).
+
+ghost use Rattle.std.specs.Prelude.{◌≡◌, suc, IfOk, map, nat_eq, false};
+ghost use Rattle.hnodes.specs.Rows.{attribute_of};
+ghost use Rattle.std.specs.Option.{option_map, option_map_or};
+ghost use Rattle.hformat.specs.Formatting.{for_node, is_equal};
+ghost use Rattle.hformat.specs.Items.{entry_is, is_gone, item_of, renamed, told};
+
+use crate::attributes::are_same;
+use hnodes::NodeId;
+use names::{Attr, NameId};
+use std::alloc::{AllocError, Global};
+
+/// An entry: its node, and the name and the attributes of the token that the node was made for.
+#[derive(Debug, Drop)]
+pub struct Entry {
+    pub node: NodeId,
+    pub name: NameId,
+    pub attrs: Vec<Attr>,
+}
+
+impl Entry {
+    /// Whether it was made for an equal token: with the same name, and the same attributes in whatever order.
+    pub(crate) fn is_equal(
+        &self,
+        alloc: Global,
+        name: NameId,
+        attrs: &[Attr],
+    ) -> Result<bool, AllocError>
+        // whatever the new entry's node
+        ensures { IfOk result (λ equal. equal
+            ≡ is_equal nat_eq (record { node = 0; name = name; attrs = map attribute_of attrs.now }) (entry_is self.now)) }
+    {
+        Ok(name == self.name && are_same(alloc, attrs, &self.attrs)?)
+    }
+}
+
+/// A marker or an entry, or the hole that an entry left.
+#[derive(Debug, Drop)]
+pub(crate) enum Item {
+    Hole,
+    Marker,
+    Entry(Entry),
+}
+
+impl Item {
+    /// The entry, if it is one.
+    pub(crate) fn entry(&self) -> Option<&Entry>
+        ensures { option_map (λ e. entry_is e.now) result ≡ told self.now }
+    {
+        match self {
+            Item::Hole | Item::Marker => None,
+            Item::Entry(entry) => Some(entry),
+        }
+    }
+
+    /// Whether it is a hole.
+    pub(crate) fn is_hole(&self) -> bool
+        ensures { result ≡ is_gone self.now }
+    {
+        match self {
+            Item::Hole => true,
+            Item::Marker | Item::Entry(_) => false,
+        }
+    }
+
+    /// Whether it is an entry that was made for an equal token.
+    pub(crate) fn is_equal(
+        &self,
+        alloc: Global,
+        name: NameId,
+        attrs: &[Attr],
+    ) -> Result<bool, AllocError>
+        ensures { IfOk result (λ equal. equal
+            ≡ option_map_or (is_equal nat_eq (record { node = 0; name = name; attrs = map attribute_of attrs.now })) (told self.now) false) }
+    {
+        match self {
+            Item::Hole | Item::Marker => Ok(false),
+            Item::Entry(entry) => entry.is_equal(alloc, name, attrs),
+        }
+    }
+
+    /// Sets the node of an entry; does nothing to a marker or a hole.
+    pub(crate) fn set_node(&mut self, node: NodeId)
+        ensures { self.new ≡ renamed node self.old }
+    {
+        if let Item::Entry(entry) = self {
+            entry.node = node;
+        }
+    }
+}

@@ -1,0 +1,16 @@
+//! The list of active formatting elements (HTML Standard, 13.2.4.3).
+#![tactic(auto)]
+
+pub mod attributes;
+pub mod bookmark;
+pub mod entry;
+pub mod formatting;
+mod hashes;
+pub mod laws;
+mod slots;
+
+pub use attributes::copy_attrs;
+pub use bookmark::Bookmark;
+pub use entry::Entry;
+pub use formatting::Formatting;
+pub use laws::formatting_knows_no_names;

@@ -1,0 +1,269 @@
+//! The items of the list of active formatting elements, with the holes that entries leave: nothing moves where one is removed.
+
+ghost use Rattle.std.specs.Prelude.{◌≡◌, ℕ, suc, ◌+◌, ◌-◌, ◌<◌, ◌≤◌, ◌++◌, ◌∷◌, [], IfOk, IfSome, OnOk, OnErr, IsTrue, is_some, true, false, insert, length, map, nat_eq, not, remove, slice_index_or, slice_set, filter, take, drop};
+ghost use Rattle.std.specs.List.{list_any};
+ghost use Rattle.std.specs.Option.{option_map_or};
+ghost use Rattle.hnodes.specs.Rows.{attribute_of};
+ghost use Rattle.hformat.specs.Hashes.{entry_hash};
+ghost use Rattle.hchain.specs.Chains.{none};
+ghost use Rattle.hformat.specs.Formatting.{for_node, is_entry, with_room};
+ghost use Rattle.hformat.specs.Items.{IsStored, is_gone, item_of, items_of, live, told, renamed};
+ghost use Rattle.hformat.specs.Listed.{IsListed, by_hash, by_name, by_node, number_by};
+ghost use Rattle.hopen.specs.Nearest.{changed_at, put_before};
+ghost use Rattle.hformat.specs.declared.entry.Item.TheVariants as stored;
+
+use crate::entry::Item;
+use hchain::Chains;
+use hnodes::NodeId;
+use names::{Attr, NameId};
+use std::alloc::{AllocError, Global};
+
+/// How many equal entries there may be after the last marker.
+const MOST_EQUAL: usize = 3;
+
+/// The number of markers, in each list of numbers.
+pub(crate) const MARKER: usize = 0;
+
+/// The number of the entry of a node.
+pub(crate) fn node_number(node: NodeId) -> usize
+    ensures { result ≡ suc (suc node) }
+{
+    node.index() + 2
+}
+
+/// The numbers of an item: those of its name, its hash and its node.
+#[derive(Clone, Copy)]
+pub(crate) struct Numbers {
+    pub(crate) name: usize,
+    pub(crate) hash: usize,
+    pub(crate) node: usize,
+}
+
+/// Items, and where each of their numbers stands last.
+#[derive(Debug, Drop)]
+pub(crate) struct Slots {
+    pub(crate) items: Vec<Item>,
+    pub(crate) names: Chains,
+    pub(crate) hashes: Chains,
+    pub(crate) nodes: Chains,
+    /// From this index on there is no hole.
+    pub(crate) solid: usize,
+}
+
+impl Slots {
+    pub(crate) fn new(alloc: Global) -> Self
+        ensures items { result.items.items ≡ [] }
+        ensures listed { IsListed result }
+    {
+        Slots {
+            items: Vec::new(alloc),
+            names: Chains::new(alloc),
+            hashes: Chains::new(alloc),
+            nodes: Chains::new(alloc),
+            solid: 0,
+        }
+    }
+
+    /// How many items come after the entry that gives way to a new one: the earliest of the equal entries after the last marker, if
+    /// there are three. Equal entries have the same hash.
+    pub(crate) fn giving_way(
+        &self,
+        alloc: Global,
+        number: usize,
+        name: NameId,
+        attrs: &[Attr],
+    ) -> Result<Option<usize>, AllocError>
+        requires listed { IsListed self.now }
+        requires number { number ≡ suc (suc (entry_hash (record { node = 0; name = name; attrs = map attribute_of attrs.now }))) }
+        ensures within { IfOk result (λ earliest. IfSome earliest (λ back. back < length self.now.items.items)) }
+        ensures room { IfOk result (λ earliest. option_map_or (remove (items_of self.now.items.items)) earliest (items_of self.now.items.items)
+            ≡ with_room nat_eq (record { node = 0; name = name; attrs = map attribute_of attrs.now }) (items_of self.now.items.items)) }
+    {
+        let marker = self.hashes.last(MARKER);
+        let mut place = self.hashes.last(number);
+        let mut equal = 0;
+        let mut earliest = None;
+        while place > marker {
+            if self.items[place - 1].is_equal(alloc, name, attrs)? {
+                equal += 1;
+                earliest = Some(self.items.len() - place);
+            }
+            place = self.hashes.before(place);
+        }
+        Ok(if equal < MOST_EQUAL { None } else { earliest })
+    }
+
+    /// Adds an item at the end. On an error no item changes.
+    pub(crate) fn put(&mut self, item: Item, numbers: Numbers) -> Result<(), AllocError>
+        requires listed { IsListed self.old }
+        requires stored { IsStored item }
+        requires there { is_gone item ≡ false }
+        requires name { numbers.name ≡ number_by by_name (item_of item) }
+        requires hash { numbers.hash ≡ number_by by_hash (item_of item) }
+        requires node { numbers.node ≡ number_by by_node (item_of item) }
+        ensures listed { IsListed self.new }
+        ensures ok { OnOk result (self.new.items.items ≡ self.old.items.items ++ item ∷ []) }
+        ensures err { OnErr result (self.new.items.items ≡ self.old.items.items) }
+    {
+        self.items.reserve(1)?;
+        self.names.push(numbers.name)?;
+        if let Err(error) = self.hashes.push(numbers.hash) {
+            self.names.truncate(self.items.len());
+            return Err(error);
+        }
+        if let Err(error) = self.nodes.push(numbers.node) {
+            self.names.truncate(self.items.len());
+            self.hashes.truncate(self.items.len());
+            return Err(error);
+        }
+        if self.items.push(item).is_err() {
+            unreachable!()
+        }
+        Ok(())
+    }
+
+    /// Leaves so many items.
+    pub(crate) fn truncate(&mut self, len: usize)
+        requires listed { IsListed self.old }
+        requires within { len ≤ length self.old.items.items }
+        ensures listed { IsListed self.new }
+        ensures items { self.new.items.items ≡ take len self.old.items.items }
+    {
+        self.names.truncate(len);
+        self.hashes.truncate(len);
+        self.nodes.truncate(len);
+        self.items.truncate(len);
+        self.solid = self.solid.min(len);
+    }
+
+    /// Leaves a hole at an index.
+    pub(crate) fn hide(&mut self, index: usize)
+        requires listed { IsListed self.old }
+        requires within { index < length self.old.items.items }
+        ensures listed { IsListed self.new }
+        ensures items { self.new.items.items ≡ slice_set self.old.items.items index stored.Hole }
+    {
+        self.names.clear(index);
+        self.hashes.clear(index);
+        self.nodes.clear(index);
+        self.items[index] = Item::Hole;
+        self.solid = self.solid.max(index + 1);
+    }
+
+    /// Sets the node of the entry at an index.
+    pub(crate) fn renew(&mut self, index: usize, node: NodeId)
+        requires listed { IsListed self.old }
+        requires within { index < length self.old.items.items }
+        requires entry { is_some (told (slice_index_or self.old.items.items index stored.Hole)) ≡ true }
+        ensures listed { IsListed self.new }
+        ensures items { items_of self.new.items.items ≡ changed_at (length self.old.items.items - 1 - index) (for_node node) (items_of self.old.items.items) }
+    {
+        self.nodes.clear(index);
+        self.nodes.set(index, node_number(node));
+        self.items[index].set_node(node);
+    }
+
+    /// Exchanges the items at an index and at the next one.
+    fn swap(&mut self, index: usize)
+        requires listed { IsListed self.old }
+        requires within { index + 1 < length self.old.items.items }
+        ensures listed { IsListed self.new }
+        ensures items { self.new.items.items ≡ slice_set (slice_set self.old.items.items index (slice_index_or self.old.items.items (index + 1) stored.Hole)) (index + 1)
+            (slice_index_or self.old.items.items index stored.Hole) }
+    {
+        self.names.swap(index);
+        self.hashes.swap(index);
+        self.nodes.swap(index);
+        self.items.swap(index, index + 1);
+        self.solid = self.solid.max(index + 2);
+    }
+
+    /// Takes the item at an index out and puts it at an index of what is left, in a step for each item between them.
+    pub(crate) fn shift(&mut self, from: usize, to: usize)
+        requires listed { IsListed self.old }
+        requires from { from < length self.old.items.items }
+        requires to { to < length self.old.items.items }
+        ensures listed { IsListed self.new }
+        ensures items { self.new.items.items ≡ insert (remove self.old.items.items from) to (slice_index_or self.old.items.items from stored.Hole) }
+    {
+        if from < to {
+            self.raise(from, to);
+        } else {
+            self.lower(from, to);
+        }
+    }
+
+    /// Moves an item up to a greater index.
+    fn raise(&mut self, from: usize, to: usize)
+        requires listed { IsListed self.old }
+        requires from { from ≤ to }
+        requires to { to < length self.old.items.items }
+        ensures listed { IsListed self.new }
+        ensures items { self.new.items.items ≡ insert (remove self.old.items.items from) to (slice_index_or self.old.items.items from stored.Hole) }
+    {
+        for index in from..to {
+            self.swap(index);
+        }
+    }
+
+    /// Moves an item down to a smaller index.
+    fn lower(&mut self, from: usize, to: usize)
+        requires listed { IsListed self.old }
+        requires from { from < length self.old.items.items }
+        requires to { to ≤ from }
+        ensures listed { IsListed self.new }
+        ensures items { self.new.items.items ≡ insert (remove self.old.items.items from) to (slice_index_or self.old.items.items from stored.Hole) }
+    {
+        let mut index = from;
+        while index > to {
+            index -= 1;
+            self.swap(index);
+        }
+    }
+
+    /// Sets the node of the entry at an index, and moves it right after the entry of another node.
+    pub(crate) fn move_after(&mut self, index: usize, node: NodeId, mark: NodeId)
+        requires listed { IsListed self.old }
+        requires within { index < length self.old.items.items }
+        requires entry { is_some (told (slice_index_or self.old.items.items index stored.Hole)) ≡ true }
+        requires mark { IsTrue (list_any (is_entry mark) (items_of (remove self.old.items.items index))) }
+        ensures listed { IsListed self.new }
+        ensures items { items_of self.new.items.items
+            ≡ put_before (is_entry mark) (for_node node (item_of (slice_index_or self.old.items.items index stored.Hole))) (items_of (remove self.old.items.items index)) }
+    {
+        self.nodes.clear(index);
+        let place = self.nodes.last(node_number(mark));
+        self.nodes.set(index, node_number(node));
+        self.items[index].set_node(node);
+        self.shift(index, if place <= index { place } else { place - 1 });
+    }
+
+    /// Takes the holes from an index on out.
+    pub(crate) fn close(&mut self, from: usize)
+        requires listed { IsListed self.old }
+        requires within { from ≤ length self.old.items.items }
+        ensures listed { IsListed self.new }
+        ensures items { self.new.items.items ≡ take from self.old.items.items ++ filter (λ i. not (is_gone i)) (drop from self.old.items.items) }
+    {
+        self.names.compact(from);
+        self.hashes.compact(from);
+        self.nodes.compact(from);
+        take_holes(&mut self.items, from);
+        self.solid = from;
+    }
+}
+
+/// Takes the holes from an index on out.
+fn take_holes(items: &mut Vec<Item>, from: usize)
+    requires { from ≤ length items.old.items }
+    ensures { items.new.items ≡ take from items.old.items ++ filter (λ i. not (is_gone i)) (drop from items.old.items) }
+{
+    let mut end = from;
+    for index in from..items.len() {
+        if !items[index].is_hole() {
+            items.swap(end, index);
+            end += 1;
+        }
+    }
+    items.truncate(end);
+}

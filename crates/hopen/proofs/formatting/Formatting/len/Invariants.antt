@@ -1,9 +1,0 @@
-use Rattle.std.proofs.Common.{◌≡◌, ◌≤◌, not, filter, length, take}
-use Rattle.hopen.specs.Items.{is_gone}
-use Rattle.hopen.proofs.formatting.Formatting.len.Given as goal
-
-abbrev pub invariant-loop-item : goal.invariant-loop-item
-invariant-loop-item l = record {
-  count : l.count ≡ length (filter (λ x. not (is_gone x)) (take l.item-index l.item-items));
-  few : l.count ≤ l.item-index;
-}

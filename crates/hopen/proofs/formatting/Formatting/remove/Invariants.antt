@@ -1,9 +1,0 @@
-use Rattle.std.proofs.Common.{◌≡◌, length}
-use Rattle.hopen.specs.Formatting.{without_entry}
-use Rattle.hopen.proofs.formatting.Formatting.remove.Given as goal
-
-abbrev pub invariant-loop-node : goal.invariant-loop-node
-invariant-loop-node l = without_entry l.node l.self ≡ without_entry l.node l.initial.self
-
-abbrev pub decreases-loop-node : goal.decreases-loop-node
-decreases-loop-node l = length l.self

@@ -1,7 +1,0 @@
-use Rattle.std.proofs.Common.{◌≡◌, map, take}
-use Rattle.hnodes.specs.Rows.{attribute_of}
-use Rattle.hopen.specs.Hashes.{hash_of}
-use Rattle.hopen.proofs.hashes.hash_attrs.Given as goal
-
-abbrev pub invariant-loop-attr : goal.invariant-loop-attr
-invariant-loop-attr l = l.hashes.items ≡ map hash_of (map attribute_of (take l.attr-index l.attrs))

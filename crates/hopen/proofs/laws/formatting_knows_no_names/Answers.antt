@@ -1,7 +1,0 @@
-use Rattle.std.specs.Prelude.{nat_eq, bytes_eq}
-use Rattle.names.specs.Tags.{tag_of, tag_named}
-use Rattle.hopen.proofs.Spellings.{formatting_spelled}
-use Rattle.hopen.proofs.laws.formatting_knows_no_names.Goals as goal
-
-pub returns : goal.returns
-returns c = λ texts s. formatting_spelled tag_of tag_named nat_eq bytes_eq texts s
