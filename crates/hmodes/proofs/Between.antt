@@ -1,5 +1,5 @@
 -- What holds of the state between two rules.
-use Rattle.std.proofs.Common.{◌≡◌, ℕ, ◌<◌, Bool, true, false, not, cond, List, Option, Some, None, refl, sym, ◌∙◌, subst}
+use Rattle.std.proofs.Common.{◌≡◌, ℕ, ◌<◌, Bool, true, false, not, cond, List, Option, Some, None, refl, subst}
 use Rattle.std.specs.Prelude.{◌&&◌, IfSome}
 use Rattle.hmarkup.specs.Quirks.{QuirkLine}
 use Rattle.names.specs.declared.error.ErrorCode.TheVariants.{NonVoidHtmlElementStartTagWithTrailingSolidus}
@@ -7,7 +7,6 @@ use Rattle.names.specs.declared.tag.Tag.TheVariants as tag
 use Rattle.hnodes.proofs.Counted.{deep-there}
 use Rattle.hadopt.specs.Naming.{Naming, numbers, texts}
 use Rattle.hadopt.specs.Site.{Outcome, Goes, stack, trees, with_error}
-use Rattle.hadopt.specs.Site as site
 use Rattle.hadopt.specs.Kept.{TellsTables, Kept}
 use Rattle.hadopt.proofs.Climbing.{OnGoes}
 use Rattle.hadopt.proofs.Keeping.{from-well, numbers-tell, texts-tell}

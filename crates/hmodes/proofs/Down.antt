@@ -1,9 +1,8 @@
 -- Each rule that has a token go again does so in a mode that is lower for it, or with fewer open tables.
-use Rattle.std.proofs.Common.{◌≡◌, ℕ, ◌+◌, ◌<◌, ◌≤◌, Bool, true, false, not, cond, if◌then◌else◌, List, [], ◌∷◌, Option, Some, None, refl, sym, ◌∙◌, subst, arith, leb, ltb}
+use Rattle.std.proofs.Common.{◌≡◌, ℕ, ◌+◌, ◌<◌, Bool, true, false, not, cond, if◌then◌else◌, List, [], ◌∷◌, Option, Some, None, refl, sym, ◌∙◌, subst, arith, leb, ltb}
 use Rattle.std.proofs.lemmas.Bool.{leb-true, ltb-true}
 use Rattle.std.specs.Prelude.{◌&&◌, ◌||◌, ◌==◌}
 use Rattle.names.specs.declared.placed.Placed.{Placed}
-use Rattle.names.specs.declared.tag.Tag.{Tag}
 use Rattle.names.specs.declared.tag.Tag.TheVariants as tag
 use Rattle.names.specs.Placed.{is_space}
 use Rattle.hadopt.specs.Naming.{Naming}
@@ -12,16 +11,12 @@ use Rattle.hadopt.specs.Site as site
 use Rattle.hmodes.specs.declared.mode.Mode.{Mode}
 use Rattle.hmodes.specs.declared.mode.Mode.TheVariants.{Initial, BeforeHtml, BeforeHead, InHead, InHeadNoscript, AfterHead, InBody, Text, InTable, InTableText, InCaption, InColumnGroup, InTableBody, InRow, InCell, AfterBody, AfterAfterBody}
 use Rattle.hmodes.specs.declared.family.Family.TheVariants as family
-use Rattle.hmodes.specs.Families.{family_of}
-use Rattle.hmodes.specs.Words.{Kind, Nul, Ws, Char, Comment, Doctype, Start, End, Eof, Do, ◌▸◌, when, unless, choose, fostered, each_pending, again, again_as, to, save_mode, to_saved, reset, insert, insert_named, insert_root, insert_root_named, insert_comment, comment_in_document, comment_in_first, insert_doctype, put, push_head, reconstruct, adopt, adopt_listed}
-use Rattle.hmodes.specs.State.{Token, doctype, start, end, comment, character, eof, Control, State, Flow, Done, Again, Refused, flow_then, flow_map, kind_of, renamed, character_kind}
+use Rattle.hmodes.specs.Words.{Kind, Nul, Ws, Char, Start, End, Do, ◌▸◌, when, unless, choose, fostered, each_pending, again, again_as, to, save_mode, to_saved, reset, insert, insert_named, insert_root, insert_root_named, insert_comment, comment_in_document, comment_in_first, insert_doctype, put, push_head, reconstruct, adopt, adopt_listed}
+use Rattle.hmodes.specs.State.{Token, doctype, start, end, comment, character, eof, Control, State, Flow, Done, Again, Refused, flow_then, flow_map, kind_of, renamed}
 use Rattle.hmodes.specs.Questions.{answer_of}
 use Rattle.hmodes.specs.Perform.{perform, with_foster, with_control, each_of, flow_of}
 use Rattle.hmodes.specs.Rules.{rule_of}
 use Rattle.hmodes.specs.Step.{Rule}
-use Rattle.hmodes.specs.Head.{initial, before_html, before_head, in_head, in_head_noscript, after_head}
-use Rattle.hmodes.specs.Body.{in_body, text, after_body, after_after_body}
-use Rattle.hmodes.specs.Table.{in_table, in_table_text, in_caption, in_column_group, in_table_body, in_row, in_cell}
 use Rattle.hmodes.proofs.Once.{both}
 use Rattle.hmodes.proofs.Facts.{is_texty, leaves, leaves-true, reset-found}
 

@@ -1,5 +1,5 @@
 -- The rules that a token goes by come to an end: a number that falls with each.
-use Rattle.std.proofs.Common.{◌≡◌, ℕ, zero, suc, ◌+◌, ◌<◌, ◌≤◌, Bool, true, false, cond, if◌then◌else◌, List, [], ◌∷◌, Option, Some, length, drop, refl, sym, ◌∙◌, ap, subst, arith}
+use Rattle.std.proofs.Common.{◌≡◌, ℕ, zero, suc, ◌+◌, ◌<◌, ◌≤◌, Bool, true, false, cond, if◌then◌else◌, List, [], ◌∷◌, Option, Some, length, drop, refl, ap, subst, arith}
 use Rattle.std.proofs.lemmas.Bool.{leb-true}
 use Rattle.std.specs.Prelude.{not, ◌&&◌, ◌||◌}
 use Rattle.hopen.specs.Nearest.{after}
@@ -14,7 +14,7 @@ use Rattle.hadopt.specs.Site as site
 use Rattle.hmodes.specs.declared.mode.Mode.{Mode}
 use Rattle.hmodes.specs.declared.mode.Mode.TheVariants.{Text, InTable, InTableText, InColumnGroup, InTableBody, InRow}
 use Rattle.hmodes.specs.declared.family.Family.TheVariants as family
-use Rattle.hmodes.specs.Words.{Kind, Nul, Ws, Char, Start, Do, ◌▸◌, pop_to, reset, again}
+use Rattle.hmodes.specs.Words.{Kind, Nul, Ws, Char, Start, ◌▸◌, pop_to, reset, again}
 use Rattle.hmodes.specs.State.{Token, State, Flow, Done, Again, Refused, kind_of}
 use Rattle.hmodes.specs.Perform.{perform, with_site}
 use Rattle.hmodes.specs.Rules.{rule_of, code_of}

@@ -1,5 +1,5 @@
 -- Programs that never have the token go again, save no mode and adopt nothing: what refuses them is a limit.
-use Rattle.std.proofs.Common.{◌≡◌, ◌⊎◌, inl, inr, ℕ, zero, suc, Bool, true, false, not, cond, leb, List, [], ◌∷◌, Option, Some, None, refl, ◌∙◌, length, is_none}
+use Rattle.std.proofs.Common.{◌≡◌, inl, inr, ℕ, zero, suc, Bool, true, false, cond, leb, List, [], ◌∷◌, Option, Some, None, refl, ◌∙◌, length, is_none}
 use Rattle.std.specs.Prelude.{◌&&◌}
 use Rattle.std.specs.Option.{option_map_or}
 use Rattle.hnodes.specs.Forest.{Attribute, What, element}
@@ -19,12 +19,12 @@ use Rattle.hadopt.specs.Site as site
 use Rattle.hadopt.specs.Places.{place}
 use Rattle.hadopt.specs.Inserts.{made, added, inserted, pushed}
 use Rattle.hadopt.specs.Inserts as inserts
-use Rattle.hadopt.specs.Reconstructs.{stops_going_back, renewed, renewed_each, reconstructed}
+use Rattle.hadopt.specs.Reconstructs.{stops_going_back, renewed, renewed_each}
 use Rattle.hmodes.specs.Words.{Do, ◌▸◌, when, unless, choose, fostered, each_pending, again, again_as, save_mode, insert, insert_named, insert_root, insert_root_named, insert_comment, comment_in_document, comment_in_first, insert_doctype, put, push_head, reconstruct, adopt, adopt_listed}
 use Rattle.hmodes.specs.State.{Token, character, State, Flow, Done, Again, Refused, flow_then, flow_map, token_name, token_attrs, token_text, token_char}
 use Rattle.hmodes.specs.Doctypes.{doctype_node}
 use Rattle.hmodes.specs.Questions.{answer_of}
-use Rattle.hmodes.specs.Perform.{perform, with_foster, with_control, each_of, flow_of, head_pushed, current_node, inserted_here}
+use Rattle.hmodes.specs.Perform.{perform, with_foster, with_control, each_of, flow_of, head_pushed, current_node}
 use Rattle.hmodes.specs.RawFollows.{IsLimit}
 use Rattle.hmodes.proofs.Once.{both}
 

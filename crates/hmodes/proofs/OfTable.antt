@@ -1,24 +1,21 @@
 -- What is spelled alike by a table and by one with a text more has the names of the table.
-use Rattle.std.proofs.Common.{◌≡◌, ℕ, ◌<◌, false, List, [], ◌∷◌, map, length, Option, Some, refl, sym, ◌∙◌, ap, ap₂, subst, arith}
-use Rattle.std.specs.Option.{option_map}
-use Rattle.hnodes.specs.Forest.{Attribute, What, document, doctype, element, comment, text, Forest, none, tree}
+use Rattle.std.proofs.Common.{◌≡◌, ℕ, ◌<◌, false, List, [], ◌∷◌, map, length, Some, refl, sym, ap, ap₂, subst, arith}
+use Rattle.hnodes.specs.Forest.{Attribute, What, document, element, Forest, none, tree}
 use Rattle.hnodes.specs.Named.{AttributesAreOf, NodeIsOf, AreOf}
 use Rattle.hnodes.specs.Spelled.{spelled_attribute, spelled_what, spelled}
 use Rattle.hmarkup.specs.Quirks.{QuirkLine}
 use Rattle.names.specs.Names.{Texts, AreNames, IsOf}
 use Rattle.names.specs.Spelling.{spelling}
-use Rattle.names.specs.Tags.{known, number_of}
+use Rattle.names.specs.Tags.{number_of}
 use Rattle.names.specs.declared.tag.Tag.TheVariants as tag
 use Rattle.names.proofs.Longer.{longer, longer-names, known-within, spelled-alike, alike-within}
 use Rattle.hadopt.specs.Naming.{Naming, numbers, texts}
 use Rattle.hadopt.specs.Site.{Outcome, Goes, trees}
 use Rattle.hadopt.specs.Site as site
-use Rattle.hadopt.specs.Spelled.{Agree, outcome_map, spelled_site}
 use Rattle.hmodes.specs.Beginning.{Limits, document_begins, fragment_begins}
 use Rattle.hmodes.specs.OfTable.{TokenIsOf, TokensAreOf}
 use Rattle.hmodes.specs.Spelled.{spelled_token, spelled_placed, spelled_state}
-use Rattle.hmodes.specs.State.{Token, start, end, comment, character, eof, PlacedToken, State}
-use Rattle.hmodes.specs.State as state
+use Rattle.hmodes.specs.State.{Token, start, end, PlacedToken, State}
 use Rattle.hmodes.specs.Step.{Steps, none, and, refused}
 use Rattle.hmodes.specs.Step as step
 use Rattle.hmodes.proofs.Names.{steps_spelled}

@@ -1,11 +1,10 @@
 -- A start tag of a raw kind leads to the mode "text", by a test on the programs of each mode.
-use Rattle.std.proofs.Common.{◌≡◌, ◌≢◌, ◌⊎◌, inl, inr, ℕ, ◌<◌, Bool, true, false, not, cond, leb, eqb, List, [], ◌∷◌, Option, Some, None, refl, sym, ◌∙◌, ap, subst, arith, length}
+use Rattle.std.proofs.Common.{◌≡◌, ◌≢◌, ◌⊎◌, inl, inr, ℕ, ◌<◌, Bool, true, false, not, cond, leb, List, ◌∷◌, Option, Some, None, refl, sym, ◌∙◌, ap, subst, arith, length}
 use Rattle.std.specs.Prelude.{◌&&◌, ◌||◌, IfSome}
 use Rattle.std.proofs.lemmas.Bool.{ne_eqb}
 use Rattle.hnodes.specs.Forest.{Attribute}
-use Rattle.hopen.specs.Stack.{OpenNode, current, is_node}
+use Rattle.hopen.specs.Stack.{OpenNode, current}
 use Rattle.names.specs.Sets.{raw_kind}
-use Rattle.names.specs.declared.refusal.Refusal.{Refusal}
 use Rattle.names.specs.declared.refusal.Refusal.TheVariants.{TooManyNodes, TooDeep}
 use Rattle.names.specs.declared.tag.Tag.{Tag}
 use Rattle.names.specs.declared.tag.Tag.TheVariants as tag
@@ -21,11 +20,11 @@ use Rattle.hmodes.specs.Families.{family_of}
 use Rattle.hmodes.specs.Words.{Do, Start, Char, ◌▸◌, choose, fostered, each_pending, again, to, to_saved, save_mode, insert, put, drop_lf, push_head, remove_head, pending_is_ws}
 use Rattle.hmodes.specs.Programs.{raw}
 use Rattle.hmodes.specs.Head.{after_head, late}
-use Rattle.hmodes.specs.Perform.{perform, with_foster, with_site, with_control, inserted_here, flow_of, head_pushed, removed}
+use Rattle.hmodes.specs.Perform.{perform, with_foster, with_site, inserted_here, flow_of, head_pushed, removed}
 use Rattle.hmodes.specs.Rules.{rule_of, code_of}
 use Rattle.names.specs.declared.error.ErrorCode.TheVariants.{NonVoidHtmlElementStartTagWithTrailingSolidus}
-use Rattle.hmodes.specs.State.{Token, start, Control, State, Flow, Done, Again, Refused, flow_then, flow_map, kind_of}
-use Rattle.hmodes.specs.Step.{Rule, Chain, ends, refuses, goes_again, Step, drops, goes, begun, finished}
+use Rattle.hmodes.specs.State.{Token, start, Control, State, Flow, Done, Again, Refused, flow_then, flow_map}
+use Rattle.hmodes.specs.Step.{Rule, Chain, ends, refuses, goes_again, drops, goes, begun, finished}
 use Rattle.hmodes.specs.RawFollows.{is_ended, IsLimit, IsInText, ComesToText, RawFollows}
 use Rattle.hmodes.proofs.Mild.{is_mild, Mild, perform-mild}
 use Rattle.hnodes.specs.declared.node.Place.{Place}

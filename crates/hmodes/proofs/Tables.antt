@@ -1,5 +1,5 @@
 -- The numbers of a table of names and its texts agree.
-use Rattle.std.proofs.Common.{◌≡◌, ◌≢◌, refl, sym, length}
+use Rattle.std.proofs.Common.{◌≢◌, refl, sym, length}
 use Rattle.names.specs.Names.{Texts, AreNames}
 use Rattle.names.specs.Spelling.{IsSpelled, spelling}
 use Rattle.names.specs.Tags.{tags, tag_text, number_of, type_name}
