@@ -1,8 +1,8 @@
 //! Tests of which long lists of attributes are equal: three entries of one list, and then one of another. Where the lists are equal
 //! the first entry gives way.
 
-use hnodes::Tree;
 use hformat::Formatting;
+use hnodes::Tree;
 use names::{Attr, NameId, Names, Refusal};
 use std::alloc::Global;
 use std::test::Fail;

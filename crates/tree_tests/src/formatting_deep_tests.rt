@@ -1,7 +1,7 @@
 //! A test of a long list of active formatting elements, against a plain list of the same edits.
 
-use hnodes::{NodeId, Tree};
 use hformat::{Entry, Formatting};
+use hnodes::{NodeId, Tree};
 use names::{Attr, NameId, Names, Refusal};
 use std::alloc::Global;
 use std::test::Fail;

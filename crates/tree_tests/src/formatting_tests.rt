@@ -6,8 +6,8 @@ ghost use Rattle.hformat.specs.Formatting.{is_entry, has_bookmark};
 
 use crate::fixed::pick;
 use crate::formatting_plain::{Plain, Row};
-use hnodes::{NodeId, Tree};
 use hformat::{Bookmark, Entry, Formatting, copy_attrs};
+use hnodes::{NodeId, Tree};
 use names::{Attr, NameId, Names, Refusal};
 use std::alloc::Global;
 use std::test::Fail;
