@@ -36,11 +36,17 @@ third_equal = refl
 marker_between : push_b 9 (b 5 ∷ b 4 ∷ marker ∷ b 2 ∷ b 1 ∷ []) ≡ entry (b_turned 9) ∷ b 5 ∷ b 4 ∷ marker ∷ b 2 ∷ b 1 ∷ []
 marker_between = refl
 
+abbrev b_other_value : EntryOf Text
+b_other_value = made_for 9 (codes "b") (attribute (codes "x") (codes "1") ∷ attribute (codes "y") (codes "3") ∷ [])
+
+abbrev b_one_less : EntryOf Text
+b_one_less = made_for 9 (codes "b") (attribute (codes "x") (codes "1") ∷ [])
+
 -- another value, or one attribute less, is not equal
-another_value : pushed bytes_eq (made_for 9 (codes "b") (attribute (codes "x") (codes "1") ∷ attribute (codes "y") (codes "3") ∷ [])) (b 3 ∷ b 2 ∷ b 1 ∷ []) ≡ entry (made_for 9 (codes "b") (attribute (codes "x") (codes "1") ∷ attribute (codes "y") (codes "3") ∷ [])) ∷ b 3 ∷ b 2 ∷ b 1 ∷ []
+another_value : pushed bytes_eq b_other_value (b 3 ∷ b 2 ∷ b 1 ∷ []) ≡ entry b_other_value ∷ b 3 ∷ b 2 ∷ b 1 ∷ []
 another_value = refl
 
-one_less : pushed bytes_eq (made_for 9 (codes "b") (attribute (codes "x") (codes "1") ∷ [])) (b 3 ∷ b 2 ∷ b 1 ∷ []) ≡ entry (made_for 9 (codes "b") (attribute (codes "x") (codes "1") ∷ [])) ∷ b 3 ∷ b 2 ∷ b 1 ∷ []
+one_less : pushed bytes_eq b_one_less (b 3 ∷ b 2 ∷ b 1 ∷ []) ≡ entry b_one_less ∷ b 3 ∷ b 2 ∷ b 1 ∷ []
 one_less = refl
 
 -- up to and with the last marker
