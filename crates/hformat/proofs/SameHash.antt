@@ -13,7 +13,7 @@ use Rattle.std.proofs.lemmas.List.Sorted.{list_any-IsPermutation}
 use Rattle.std.proofs.lemmas.Map.Lookups.{btree_set_from_contains}
 use Rattle.names.proofs.TableLemmas.{bytes_eq-true}
 use Rattle.hnodes.specs.Forest.{Attribute}
-use Rattle.hformat.specs.Hashes.{entry_hash, distinct, hash_bytes, hash_of, put_in, total}
+use Rattle.hformat.specs.Hashes.{entry_hash, distinct, hash_of, put_in, total}
 use Rattle.hformat.specs.Formatting.{EntryOf, are_among, as_entry, is_equal, same_attribute, same_attributes}
 use Rattle.hformat.specs.Items.{item_of, nowhere, told}
 use Rattle.hformat.specs.Listed.{by_hash}
@@ -109,7 +109,7 @@ same-hash : (a b : Attribute ℕ) → same_attribute nat_eq a b ≡ true → has
 same-hash a b e = go (nat_eq a.0 b.0) refl e
   where
     go : (v : Bool) → nat_eq a.0 b.0 ≡ v → (v && bytes_eq a.1 b.1) ≡ true → hash_of a ≡ hash_of b
-    go true name bytes = λ i. hash_bytes (eqb-true a.0 b.0 name i) (bytes_eq-true a.1 b.1 bytes i)
+    go true name bytes = λ i. hash_of (eqb-true a.0 b.0 name i, bytes_eq-true a.1 b.1 bytes i)
     go false name bytes = cc
 
 module _ (p : ℕ → Bool) where
@@ -146,7 +146,7 @@ same-entry_hash new e equal = go (nat_eq new.name e.name) refl (are_among nat_eq
   where
     go : (u : Bool) → nat_eq new.name e.name ≡ u → (v : Bool) → are_among nat_eq new.attrs e.attrs ≡ v → (w : Bool) → are_among nat_eq e.attrs new.attrs ≡ w → (u && (v && w)) ≡ true
         → entry_hash new ≡ entry_hash e
-    go true name true there true back equal = λ i. total (eqb-true new.name e.name name i) (same-hashes new.attrs e.attrs there back i) % 4294967296
+    go true name true there true back equal = λ i. total (eqb-true new.name e.name name i) (same-hashes new.attrs e.attrs there back i)
     go true name true there false back equal = cc
     go true name false there w back equal = cc
     go false name v there w back equal = cc

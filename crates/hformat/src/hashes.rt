@@ -2,32 +2,30 @@
 
 ghost use Rattle.std.specs.Prelude.{◌≡◌, suc, IfOk, map};
 ghost use Rattle.hnodes.specs.Rows.{attribute_of};
-ghost use Rattle.hformat.specs.Hashes.{entry_hash, distinct, hash_bytes, hash_of, total};
+ghost use Rattle.hformat.specs.Hashes.{entry_hash, distinct, fed_name, hash_of, total};
 
 use names::{Attr, NameId};
 use std::alloc::{AllocError, Global};
+use std::hash::{FoldHasher, Hash, Hasher};
 
 /// How many hashes there are.
 const HASHES: u64 = 1 << 32;
 
-/// The factor of a hash for each byte.
-const FACTOR: u64 = 1_099_511_628_211;
-
-/// The hash of bytes, from that of what stands before them.
-fn hash_bytes(start: u64, bytes: &[u8]) -> u64
-    ensures { result ≡ hash_bytes start bytes.now }
+/// A hasher that was fed a name.
+fn feed_name(name: NameId) -> FoldHasher
+    ensures { result ≡ fed_name name }
 {
-    let mut hash = start;
-    for byte in bytes {
-        hash = hash.wrapping_mul(FACTOR).wrapping_add(*byte as u64);
-    }
-    hash
+    let mut hasher = FoldHasher::default();
+    hasher.write_usize(name.index());
+    hasher
 }
 
 fn hash_attr(attr: &Attr) -> u64
     ensures { result ≡ hash_of (attribute_of attr.now) }
 {
-    hash_bytes(attr.name.index() as u64, attr.value.as_bytes())
+    let mut hasher = feed_name(attr.name);
+    hasher.write(attr.value.as_bytes());
+    hasher.finish()
 }
 
 /// The hashes of attributes, each once, the least one first.
@@ -43,14 +41,12 @@ fn hash_attrs(alloc: Global, attrs: &[Attr]) -> Result<Vec<u64>, AllocError>
     Ok(hashes)
 }
 
-fn total(start: u64, hashes: &[u64]) -> u64
-    ensures { result ≡ total start hashes.now }
+fn total(name: NameId, hashes: &[u64]) -> u64
+    ensures { result ≡ total name hashes.now }
 {
-    let mut sum = start;
-    for hash in hashes {
-        sum = sum.wrapping_add(*hash);
-    }
-    sum
+    let mut hasher = feed_name(name);
+    u64::hash_slice(hashes, &mut hasher);
+    hasher.finish() % HASHES
 }
 
 /// The number of the hash of an entry with a name and attributes. Equal entries have the same, and few others have it.
@@ -59,6 +55,5 @@ pub(crate) fn find_hash(alloc: Global, name: NameId, attrs: &[Attr]) -> Result<u
     ensures { IfOk result (λ n. n ≡ suc (suc (entry_hash (record { node = 0; name = name; attrs = map attribute_of attrs.now })))) }
 {
     let hashes = hash_attrs(alloc, attrs)?;
-    let sum = total(name.index() as u64, &hashes);
-    Ok((sum % HASHES) as usize + 2)
+    Ok(total(name, &hashes) as usize + 2)
 }
