@@ -168,8 +168,9 @@ impl Slots {
         requires listed { IsListed self.old }
         requires within { index + 1 < length self.old.items.items }
         ensures listed { IsListed self.new }
-        ensures items { self.new.items.items ≡ slice_set (slice_set self.old.items.items index (slice_index_or self.old.items.items (index + 1) stored.Hole)) (index + 1)
-            (slice_index_or self.old.items.items index stored.Hole) }
+        ensures items { self.new.items.items
+            ≡ slice_set (slice_set self.old.items.items index (slice_index_or self.old.items.items (index + 1) stored.Hole))
+            (index + 1) (slice_index_or self.old.items.items index stored.Hole) }
     {
         self.names.swap(index);
         self.hashes.swap(index);
@@ -229,7 +230,8 @@ impl Slots {
         requires mark { IsTrue (list_any (is_entry mark) (items_of (remove self.old.items.items index))) }
         ensures listed { IsListed self.new }
         ensures items { items_of self.new.items.items
-            ≡ put_before (is_entry mark) (for_node node (item_of (slice_index_or self.old.items.items index stored.Hole))) (items_of (remove self.old.items.items index)) }
+            ≡ put_before (is_entry mark) (for_node node (item_of (slice_index_or self.old.items.items index stored.Hole)))
+            (items_of (remove self.old.items.items index)) }
     {
         self.nodes.clear(index);
         let place = self.nodes.last(node_number(mark));
