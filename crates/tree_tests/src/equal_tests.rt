@@ -82,7 +82,6 @@ fn the_order_of_attributes_is_not_looked_at(rt: HostRuntime) -> Result<(), Fail>
     Ok(())
 }
 
-/// The lists where two names have 1 and 2, and 2 and 1, have the same hash.
 #[test]
 fn one_value_makes_a_difference(rt: HostRuntime) -> Result<(), Fail> {
     let alloc = rt.alloc();

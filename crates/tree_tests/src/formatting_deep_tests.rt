@@ -1,4 +1,4 @@
-//! A test of a long list of active formatting elements, against a plain list of the same edits.
+//! Tests of long lists of active formatting elements: against a plain list of the same edits, and with many attributes.
 
 use hformat::{Entry, Formatting};
 use hnodes::{NodeId, Tree};
@@ -143,5 +143,39 @@ fn twenty_thousand_edits_in_the_middle_of_fifty_thousand_entries(
         assert!(rt; deep.finds_at(index), "entry {index}");
     }
     assert!(rt; agrees(&mut deep.list, &deep.plain));
+    Ok(())
+}
+
+/// Attributes with two numbers whose sum is always the same.
+fn make_pair(
+    alloc: Global,
+    first: NameId,
+    second: NameId,
+    number: u32,
+) -> Result<Vec<Attr>, Refusal> {
+    let mut attrs = Vec::new(alloc);
+    for (name, value) in [(first, number), (second, 999_999u32.wrapping_sub(number))] {
+        attrs.push(Attr {
+            name,
+            value: format!(in alloc; "{value}")?,
+        })?;
+    }
+    Ok(attrs)
+}
+
+/// What one value gains the other loses. If these had few hashes, a push would compare with thousands of entries, which takes minutes.
+#[test]
+fn a_hundred_thousand_entries_whose_values_change_together(rt: HostRuntime) -> Result<(), Fail> {
+    let alloc = rt.alloc();
+    let mut names = Names::new(alloc)?;
+    let first = names.intern(alloc, "x")?;
+    let second = names.intern(alloc, "y")?;
+    let node = Tree::new(alloc, 1)?.document();
+    let mut list = Formatting::new(alloc);
+    for number in 200_000u32..300_000 {
+        let attrs = make_pair(alloc, first, second, number)?;
+        list.push(node, first, &attrs)?;
+    }
+    assert_eq!(rt; list.len(), 100_000);
     Ok(())
 }
