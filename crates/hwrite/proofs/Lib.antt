@@ -10,9 +10,9 @@ pub mod Wrote
 pub mod Escapes
 pub mod Parts
 pub mod Tested
+pub mod Regions
 pub mod Contexts
 pub mod PlainNames
 pub mod Entering
 pub mod Output
 pub mod Kept
-pub mod Above

@@ -16,6 +16,8 @@ use Rattle.hnodes.proofs.ChildSpots.{spot_among, child-spot, root-spot}
 use Rattle.hnodes.proofs.TreeOrder.{IsInside, Entered, entered, apart, own-inside}
 use Rattle.hnodes.proofs.WaysUp.{way-step}
 use Rattle.hwrite.specs.Walk.{goes_in, visits, visits_inside, after_ends, visits_from}
+use Rattle.hwrite.specs.declared.walk.Reach.{Reach}
+use Rattle.hwrite.specs.declared.walk.Reach.TheVariants.{Whole}
 use Rattle.hwrite.specs.declared.walk.Visit.TheVariants.{Enter, Leave}
 
 module _ (made : ℕ) (f : Forest ℕ) (counted : AreCounted made f) (root : ℕ) where
@@ -28,11 +30,11 @@ module _ (made : ℕ) (f : Forest ℕ) (counted : AreCounted made f) (root : ℕ
   placed q m w L k R h h' is = child-spot m q w L k R f (is-there made f counted q h) (is-there made f counted m h') is
 
   -- A walk that has come to a child is to visit it, the siblings after it, and what comes after the end of their parent.
-  pub comes : (skips : Bool) (q m : ℕ) (w : What ℕ) (L k R : Forest ℕ) → q < made → children_of q f ≡ join L (tree m w k R) → IsTrue (is_among root (way_up (Some q) f))
-      → (visits_from skips root (Some (Enter m)) f ≡ visits skips (tree m w k R) ++ after_ends skips root (way_up (Some q) f) f) × IsInside made root f m
-  comes skips q m w L k R h is inside = (
-    (λ i. Enter m ∷ visits_inside skips (spot i) ++ cond (other i) [] (Leave m ∷ visits skips (trees_after (spot i)) ++ after_ends skips root (a.up i) f))
-        ∙ sym (append_assoc (Enter m ∷ cond (goes_in skips w) (visits skips k) []) (Leave m ∷ visits skips R) (after_ends skips root (way_up (Some q) f) f)),
+  pub comes : (reach : Reach) (q m : ℕ) (w : What ℕ) (L k R : Forest ℕ) → q < made → children_of q f ≡ join L (tree m w k R) → IsTrue (is_among root (way_up (Some q) f))
+      → (visits_from reach root (Some (Enter m)) f ≡ visits reach (tree m w k R) ++ after_ends reach root (way_up (Some q) f) f) × IsInside made root f m
+  comes reach q m w L k R h is inside = (
+    (λ i. Enter m ∷ visits_inside reach (spot i) ++ cond (other i) [] (Leave m ∷ visits reach (trees_after (spot i)) ++ after_ends reach root (a.up i) f))
+        ∙ sym (append_assoc (Enter m ∷ cond (goes_in reach w) (visits reach k) []) (Leave m ∷ visits reach R) (after_ends reach root (way_up (Some q) f) f)),
     within,
   )
     where
@@ -49,15 +51,15 @@ module _ (made : ℕ) (f : Forest ℕ) (counted : AreCounted made f) (root : ℕ
       other = apart m root f within.1
 
   -- to the first child
-  pub first : (skips : Bool) (n c : ℕ) → n < made → first_child_of n f ≡ Some c → IsTrue (is_among root (way_up (Some n) f))
-      → (visits_from skips root (Some (Enter c)) f ≡ visits skips (children_of n f) ++ after_ends skips root (way_up (Some n) f) f) × IsInside made root f c
-  first skips n c h is inside = go (children_of n f) refl (sym (first_child-is n f (is-there made f counted n h)) ∙ is)
+  pub first : (reach : Reach) (n c : ℕ) → n < made → first_child_of n f ≡ Some c → IsTrue (is_among root (way_up (Some n) f))
+      → (visits_from reach root (Some (Enter c)) f ≡ visits reach (children_of n f) ++ after_ends reach root (way_up (Some n) f) f) × IsInside made root f c
+  first reach n c h is inside = go (children_of n f) refl (sym (first_child-is n f (is-there made f counted n h)) ∙ is)
     where
       go : (g : Forest ℕ) → children_of n f ≡ g → first_or g None ≡ Some c
-          → (visits_from skips root (Some (Enter c)) f ≡ visits skips (children_of n f) ++ after_ends skips root (way_up (Some n) f) f) × IsInside made root f c
+          → (visits_from reach root (Some (Enter c)) f ≡ visits reach (children_of n f) ++ after_ends reach root (way_up (Some n) f) f) × IsInside made root f c
       go none e j = cc
       go (tree b w k R) e j =
-          rw e (subst (λ (m : ℕ). (visits_from skips root (Some (Enter m)) f ≡ visits skips (tree b w k R) ++ after_ends skips root (way_up (Some n) f) f) × IsInside made root f m) (some_inj j) (comes skips n b w none k R h e inside))
+          rw e (subst (λ (m : ℕ). (visits_from reach root (Some (Enter m)) f ≡ visits reach (tree b w k R) ++ after_ends reach root (way_up (Some n) f) f) × IsInside made root f m) (some_inj j) (comes reach n b w none k R h e inside))
 
   no-child : (n : ℕ) → n < made → first_child_of n f ≡ None → children_of n f ≡ none
   no-child n h is = go (children_of n f) (sym (first_child-is n f (is-there made f counted n h)) ∙ is)
@@ -66,56 +68,56 @@ module _ (made : ℕ) (f : Forest ℕ) (counted : AreCounted made f) (root : ℕ
       go none j = refl
       go (tree b w k R) j = cc
 
-  at_root : (skips : Bool) → after_ends skips root (way_up (Some root) f) f ≡ []
-  at_root skips = rw (eq-eqb root root refl) refl
+  at_root : (reach : Reach) → after_ends reach root (way_up (Some root) f) f ≡ []
+  at_root reach = rw (eq-eqb root root refl) refl
 
   root-among : IsTrue (is_among root (way_up (Some root) f))
   root-among = rw (eq-eqb root root refl) refl
 
   -- the beginning
-  pub begins : (skips : Bool) (c : ℕ) → root < made → first_child_of root f ≡ Some c → visits_from skips root (Some (Enter c)) f ≡ visits skips (children_of root f)
-  begins skips c h is = (first skips root c h is root-among).0 ∙ ap (λ vs. visits skips (children_of root f) ++ vs) (at_root skips) ∙ append-nil (visits skips (children_of root f))
+  pub begins : (reach : Reach) (c : ℕ) → root < made → first_child_of root f ≡ Some c → visits_from reach root (Some (Enter c)) f ≡ visits reach (children_of root f)
+  begins reach c h is = (first reach root c h is root-among).0 ∙ ap (λ vs. visits reach (children_of root f) ++ vs) (at_root reach) ∙ append-nil (visits reach (children_of root f))
 
   pub begins-inside : (c : ℕ) → root < made → first_child_of root f ≡ Some c → IsInside made root f c
-  begins-inside c h is = (first false root c h is root-among).1
+  begins-inside c h is = (first Whole root c h is root-among).1
 
-  pub begins-none : (skips : Bool) → root < made → first_child_of root f ≡ None → [] ≡ visits skips (children_of root f)
-  begins-none skips h is = ap (visits skips) (sym (no-child root h is))
+  pub begins-none : (reach : Reach) → root < made → first_child_of root f ≡ None → [] ≡ visits reach (children_of root f)
+  begins-none reach h is = ap (visits reach) (sym (no-child root h is))
 
   -- what a walk visits inside a node
-  inner : (skips goes : Bool) (n : ℕ) → n < made → ((w : What ℕ) → what_of n f ≡ Some w → goes_in skips w ≡ goes) → visits_inside skips (spot_of n f) ≡ (cond goes (visits skips (children_of n f)) [])
-  inner skips goes n h is = go (spot_of n f) (spot-children n f (is-there made f counted n h)) is
+  inner : (reach : Reach) (goes : Bool) (n : ℕ) → n < made → ((w : What ℕ) → what_of n f ≡ Some w → goes_in reach w ≡ goes) → visits_inside reach (spot_of n f) ≡ (cond goes (visits reach (children_of n f)) [])
+  inner reach goes n h is = go (spot_of n f) (spot-children n f (is-there made f counted n h)) is
     where
-      go : (o : Option (Spot ℕ)) → option_map (λ s. s.children) o ≡ Some (children_of n f) → ((w : What ℕ) → option_map (λ s. s.what) o ≡ Some w → goes_in skips w ≡ goes)
-          → visits_inside skips o ≡ (cond goes (visits skips (children_of n f)) [])
+      go : (o : Option (Spot ℕ)) → option_map (λ s. s.children) o ≡ Some (children_of n f) → ((w : What ℕ) → option_map (λ s. s.what) o ≡ Some w → goes_in reach w ≡ goes)
+          → visits_inside reach o ≡ (cond goes (visits reach (children_of n f)) [])
       go None e j = cc
-      go (Some s) e j = λ i. cond (j s.what refl i) (visits skips (some_inj e i)) []
+      go (Some s) e j = λ i. cond (j s.what refl i) (visits reach (some_inj e i)) []
 
   -- into a node
-  pub descends : (skips : Bool) (n c : ℕ) → n < made → IsTrue (is_among root (ancestors_of n f)) → first_child_of n f ≡ Some c → ((w : What ℕ) → what_of n f ≡ Some w → goes_in skips w ≡ true)
-      → visits_from skips root (Some (Enter n)) f ≡ Enter n ∷ visits_from skips root (Some (Enter c)) f
-  descends skips n c h inside is goes =
-      ap (λ vs. Enter n ∷ vs ++ after_ends skips root (way_up (Some n) f) f) (inner skips true n h goes)
-      ∙ ap (λ vs. Enter n ∷ vs) (sym (first skips n c h is (own-inside made f counted root n inside)).0)
+  pub descends : (reach : Reach) (n c : ℕ) → n < made → IsTrue (is_among root (ancestors_of n f)) → first_child_of n f ≡ Some c → ((w : What ℕ) → what_of n f ≡ Some w → goes_in reach w ≡ true)
+      → visits_from reach root (Some (Enter n)) f ≡ Enter n ∷ visits_from reach root (Some (Enter c)) f
+  descends reach n c h inside is goes =
+      ap (λ vs. Enter n ∷ vs ++ after_ends reach root (way_up (Some n) f) f) (inner reach true n h goes)
+      ∙ ap (λ vs. Enter n ∷ vs) (sym (first reach n c h is (own-inside made f counted root n inside)).0)
 
   pub descends-inside : (n c : ℕ) → n < made → IsTrue (is_among root (ancestors_of n f)) → first_child_of n f ≡ Some c → IsInside made root f c
-  descends-inside n c h inside is = (first false n c h is (own-inside made f counted root n inside)).1
+  descends-inside n c h inside is = (first Whole n c h is (own-inside made f counted root n inside)).1
 
   -- past a node into which the walk does not go, and past one that has no children
-  pub passes : (skips : Bool) (n : ℕ) → n < made → ((w : What ℕ) → what_of n f ≡ Some w → goes_in skips w ≡ false) → visits_from skips root (Some (Enter n)) f ≡ Enter n ∷ visits_from skips root (Some (Leave n)) f
-  passes skips n h stays = ap (λ vs. Enter n ∷ vs ++ after_ends skips root (way_up (Some n) f) f) (inner skips false n h stays)
+  pub passes : (reach : Reach) (n : ℕ) → n < made → ((w : What ℕ) → what_of n f ≡ Some w → goes_in reach w ≡ false) → visits_from reach root (Some (Enter n)) f ≡ Enter n ∷ visits_from reach root (Some (Leave n)) f
+  passes reach n h stays = ap (λ vs. Enter n ∷ vs ++ after_ends reach root (way_up (Some n) f) f) (inner reach false n h stays)
 
-  pub turns : (skips : Bool) (n : ℕ) → n < made → first_child_of n f ≡ None → ((w : What ℕ) → what_of n f ≡ Some w → goes_in skips w ≡ true)
-      → visits_from skips root (Some (Enter n)) f ≡ Enter n ∷ visits_from skips root (Some (Leave n)) f
-  turns skips n h is goes = ap (λ vs. Enter n ∷ vs ++ after_ends skips root (way_up (Some n) f) f) (inner skips true n h goes ∙ ap (visits skips) (no-child n h is))
+  pub turns : (reach : Reach) (n : ℕ) → n < made → first_child_of n f ≡ None → ((w : What ℕ) → what_of n f ≡ Some w → goes_in reach w ≡ true)
+      → visits_from reach root (Some (Enter n)) f ≡ Enter n ∷ visits_from reach root (Some (Leave n)) f
+  turns reach n h is goes = ap (λ vs. Enter n ∷ vs ++ after_ends reach root (way_up (Some n) f) f) (inner reach true n h goes ∙ ap (visits reach) (no-child n h is))
 
   -- to the next sibling
-  pub next : (skips : Bool) (n m : ℕ) → n < made → IsTrue (is_among root (ancestors_of n f)) → next_of n f ≡ Some m
-      → (visits_from skips root (Some (Leave n)) f ≡ Leave n ∷ visits_from skips root (Some (Enter m)) f) × IsInside made root f m
-  next skips n m h inside is = go (level n f (is-there made f counted n h) (at-most made f counted))
+  pub next : (reach : Reach) (n m : ℕ) → n < made → IsTrue (is_among root (ancestors_of n f)) → next_of n f ≡ Some m
+      → (visits_from reach root (Some (Leave n)) f ≡ Leave n ∷ visits_from reach root (Some (Enter m)) f) × IsInside made root f m
+  next reach n m h inside is = go (level n f (is-there made f counted n h) (at-most made f counted))
     where
       Goal : Type 0
-      Goal = (visits_from skips root (Some (Leave n)) f ≡ Leave n ∷ visits_from skips root (Some (Enter m)) f) × IsInside made root f m
+      Goal = (visits_from reach root (Some (Leave n)) f ≡ Leave n ∷ visits_from reach root (Some (Enter m)) f) × IsInside made root f m
 
       go : Here n f ⊎ Below n f → Goal
       go (inl p) = absurd (let no : None ≡ Some m = ap (option_and_then (λ (s : Spot ℕ). first_or s.after None)) (sym (root-spot n p.what p.left p.kids p.right f (at-most made f counted n) p.is)) ∙ is in cc)
@@ -133,15 +135,15 @@ module _ (made : ℕ) (f : Forest ℕ) (counted : AreCounted made f) (root : ℕ
           rest : (R : Forest ℕ) → children_of p.parent f ≡ join p.left (tree n p.what p.kids R) → first_or R None ≡ Some m → trees_after (spot_of n f) ≡ R → Goal
           rest none e j t = absurd (let no : None ≡ Some m = j in cc)
           rest (tree b w k R) e j t =
-              let a = comes skips p.parent b w (join p.left (tree n p.what p.kids none)) k R low (e ∙ sym (join-assoc p.left (tree n p.what p.kids none) (tree b w k R))) (subst (λ (xs : List ℕ). IsTrue (is_among root xs)) up inside) in
-              subst (λ (x : ℕ). (visits_from skips root (Some (Leave n)) f ≡ Leave n ∷ visits_from skips root (Some (Enter x)) f) × IsInside made root f x) (some_inj j)
-              ((λ i. cond (apart n root f inside i) [] (Leave n ∷ visits skips (t i) ++ after_ends skips root (up i) f)) ∙ ap (λ vs. Leave n ∷ vs) (sym a.0), a.1)
+              let a = comes reach p.parent b w (join p.left (tree n p.what p.kids none)) k R low (e ∙ sym (join-assoc p.left (tree n p.what p.kids none) (tree b w k R))) (subst (λ (xs : List ℕ). IsTrue (is_among root xs)) up inside) in
+              subst (λ (x : ℕ). (visits_from reach root (Some (Leave n)) f ≡ Leave n ∷ visits_from reach root (Some (Enter x)) f) × IsInside made root f x) (some_inj j)
+              ((λ i. cond (apart n root f inside i) [] (Leave n ∷ visits reach (t i) ++ after_ends reach root (up i) f)) ∙ ap (λ vs. Leave n ∷ vs) (sym a.0), a.1)
 
   -- to the end of the parent
-  pub climbs : (skips : Bool) (n : ℕ) → n < made → IsTrue (is_among root (ancestors_of n f)) → next_of n f ≡ None
-      → visits_from skips root (Some (Leave n)) f ≡ Leave n ∷ after_ends skips root (way_up (parent_of n f) f) f
-  climbs skips n h inside is =
-      (λ i. cond (apart n root f inside i) [] (Leave n ∷ visits skips (last (spot_of n f) is i) ++ after_ends skips root (parents n h i) f))
+  pub climbs : (reach : Reach) (n : ℕ) → n < made → IsTrue (is_among root (ancestors_of n f)) → next_of n f ≡ None
+      → visits_from reach root (Some (Leave n)) f ≡ Leave n ∷ after_ends reach root (way_up (parent_of n f) f) f
+  climbs reach n h inside is =
+      (λ i. cond (apart n root f inside i) [] (Leave n ∷ visits reach (last (spot_of n f) is i) ++ after_ends reach root (parents n h i) f))
     where
       last : (o : Option (Spot ℕ)) → option_and_then (λ (s : Spot ℕ). first_or s.after None) o ≡ None → trees_after o ≡ none
       last None e = refl
@@ -156,5 +158,5 @@ module _ (made : ℕ) (f : Forest ℕ) (counted : AreCounted made f) (root : ℕ
       let there : IsTrue (is_among root (way_up (Some p) f)) = subst (λ (o : Option ℕ). IsTrue (is_among root (way_up o f))) is (subst (λ (xs : List ℕ). IsTrue (is_among root xs)) (parents n h) inside) in
       subst (λ (u : Bool). IsTrue (cond u true (is_among root (ancestors_of p f)))) (ne_eqb p root apart') there
 
-  pub ends : (skips : Bool) (n p : ℕ) → parent_of n f ≡ Some p → p ≡ root → after_ends skips root (way_up (parent_of n f) f) f ≡ []
-  ends skips n p is same = ap (λ o. after_ends skips root (way_up o f) f) (is ∙ ap (λ q. Some q) same) ∙ at_root skips
+  pub ends : (reach : Reach) (n p : ℕ) → parent_of n f ≡ Some p → p ≡ root → after_ends reach root (way_up (parent_of n f) f) f ≡ []
+  ends reach n p is same = ap (λ o. after_ends reach root (way_up o f) f) (is ∙ ap (λ q. Some q) same) ∙ at_root reach

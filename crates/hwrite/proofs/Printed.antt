@@ -12,9 +12,11 @@ use Rattle.hwrite.specs.Lines.{node_lines, tree_lines, tree_text}
 use Rattle.hnodes.specs.Named.{AreOf, IsLent}
 use Rattle.hwrite.specs.Printing.{one_less, depth_after, IsOpen, lines_of, visit_lines}
 use Rattle.hwrite.specs.Walk.{node_of, goes_in, visits}
+use Rattle.hwrite.specs.declared.walk.Reach.{Reach}
+use Rattle.hwrite.specs.declared.walk.Reach.TheVariants.{Whole}
 use Rattle.hwrite.specs.declared.walk.Visit.{Visit}
 use Rattle.hwrite.specs.declared.walk.Visit.TheVariants.{Enter, Leave}
-use Rattle.hwrite.proofs.Runs.{run, walked, run-visits, goes-whole}
+use Rattle.hwrite.proofs.Runs.{run, walked, run-visits}
 use Rattle.hwrite.proofs.Seen.{Seen, seen, lent-visits}
 
 -- only what is open is left, all along
@@ -22,13 +24,13 @@ abbrev Balanced : ℕ → List Visit → Type 0
 Balanced depth [] = Unit {0}
 Balanced depth (v ∷ vs) = IsOpen depth v × Balanced (depth_after v depth) vs
 
-balanced : (skips : Bool) (f : Forest ℕ) (depth : ℕ) (more : List Visit) → Balanced depth more → Balanced depth (visits skips f ++ more)
-balanced skips none depth more h = h
-balanced skips (tree b w kids rest) depth more h = (tt, go (goes_in skips w) (balanced skips kids (suc depth) (Leave b ∷ (visits skips rest ++ more))) (omega arith, balanced skips rest depth more h))
+balanced : (reach : Reach) (f : Forest ℕ) (depth : ℕ) (more : List Visit) → Balanced depth more → Balanced depth (visits reach f ++ more)
+balanced reach none depth more h = h
+balanced reach (tree b w kids rest) depth more h = (tt, go (goes_in reach w) (balanced reach kids (suc depth) (Leave b ∷ (visits reach rest ++ more))) (omega arith, balanced reach rest depth more h))
   where
-    go : (u : Bool) → (Balanced (suc depth) (Leave b ∷ (visits skips rest ++ more)) → Balanced (suc depth) (visits skips kids ++ (Leave b ∷ (visits skips rest ++ more)))) → Balanced (suc depth) (Leave b ∷ (visits skips rest ++ more))
-        → Balanced (suc depth) ((cond u (visits skips kids) [] ++ Leave b ∷ visits skips rest) ++ more)
-    go true l r = subst (Balanced (suc depth)) (sym (append_assoc (visits skips kids) (Leave b ∷ visits skips rest) more)) (l r)
+    go : (u : Bool) → (Balanced (suc depth) (Leave b ∷ (visits reach rest ++ more)) → Balanced (suc depth) (visits reach kids ++ (Leave b ∷ (visits reach rest ++ more)))) → Balanced (suc depth) (Leave b ∷ (visits reach rest ++ more))
+        → Balanced (suc depth) ((cond u (visits reach kids) [] ++ Leave b ∷ visits reach rest) ++ more)
+    go true l r = subst (Balanced (suc depth)) (sym (append_assoc (visits reach kids) (Leave b ∷ visits reach rest) more)) (l r)
     go false l r = r
 
 module _ (texts : ℕ → List ℕ) (f : Forest ℕ) where
@@ -42,12 +44,11 @@ module _ (texts : ℕ → List ℕ) (f : Forest ℕ) where
   abbrev pub leaves : ℕ → Printing → Printing
   leaves n s = (one_less s.0, s.1)
 
-  prints : (made root p : ℕ) (g : Forest ℕ) → Seen made f root p g → (depth : ℕ) (out : List ℕ) → walked enters leaves false g (depth, out) ≡ (depth, out ++ tree_lines depth (spelled texts g))
+  prints : (made root p : ℕ) (g : Forest ℕ) → Seen made f root p g → (depth : ℕ) (out : List ℕ) → walked enters leaves Whole g (depth, out) ≡ (depth, out ++ tree_lines depth (spelled texts g))
   prints made root p none s depth out = ap (λ (t : List ℕ). (depth, t)) (sym (append-nil out))
   prints made root p (tree b w kids rest) s depth out =
-      ap (λ u. walked enters leaves false rest (leaves b (cond u (walked enters leaves false kids (enters b (depth, out))) (enters b (depth, out))))) (goes-whole w)
-      ∙ ap (λ o. walked enters leaves false rest (leaves b (walked enters leaves false kids (suc depth, out ++ lines_of texts depth o)))) s.0.what
-      ∙ ap (λ (q : Printing). walked enters leaves false rest (leaves b q)) (prints made root b kids s.1 (suc depth) (out ++ node_lines depth (spelled_what texts w)))
+      ap (λ o. walked enters leaves Whole rest (leaves b (walked enters leaves Whole kids (suc depth, out ++ lines_of texts depth o)))) s.0.what
+      ∙ ap (λ (q : Printing). walked enters leaves Whole rest (leaves b q)) (prints made root b kids s.1 (suc depth) (out ++ node_lines depth (spelled_what texts w)))
       ∙ prints made root p rest s.2 depth ((out ++ node_lines depth (spelled_what texts w)) ++ tree_lines (suc depth) (spelled texts kids))
       ∙ ap (λ (t : List ℕ). (depth, t)) (regrouped (node_lines depth (spelled_what texts w)) (tree_lines (suc depth) (spelled texts kids)) (tree_lines depth (spelled texts rest)))
     where
@@ -62,16 +63,16 @@ pub record IsPrinting (names : Texts) (made : ℕ) (f : Forest ℕ) (root depth 
   pub same : run (enters (text_of names) f) (leaves (text_of names) f) left (depth, out) ≡ (0, tree_text (spelled (text_of names) (children_of root f)))
 
 pub begun : (names : Texts) (made : ℕ) (f : Forest ℕ) (root : ℕ) (out : List ℕ) (left items : List Visit) → AreCounted made f → root < made → AreOf names (children_of root f) → out ≡ [] → left ≡ items
-    → items ≡ visits false (children_of root f) → length items < 2 ^ 33 → IsPrinting names made f root 0 out left
+    → items ≡ visits Whole (children_of root f) → length items < 2 ^ 33 → IsPrinting names made f root 0 out left
 begun names made f root out left items counted h of empty same visited few = record {
   few = let long : length left ≡ length items = ap length same in omega (arith, few, long);
-  balanced = subst (Balanced 0) (append-nil (visits false (children_of root f)) ∙ sym is) (balanced false (children_of root f) 0 [] tt);
-  lent = subst (AllByRecursion (λ v. IsLent names made f (node_of v))) (sym is) (lent-visits names made f root false counted h of);
-  same = (λ i. run (enters (text_of names) f) (leaves (text_of names) f) (is i) (0, empty i)) ∙ run-visits (enters (text_of names) f) (leaves (text_of names) f) false (children_of root f) (0, [])
+  balanced = subst (Balanced 0) (append-nil (visits Whole (children_of root f)) ∙ sym is) (balanced Whole (children_of root f) 0 [] tt);
+  lent = subst (AllByRecursion (λ v. IsLent names made f (node_of v))) (sym is) (lent-visits names made f root Whole counted h of);
+  same = (λ i. run (enters (text_of names) f) (leaves (text_of names) f) (is i) (0, empty i)) ∙ run-visits (enters (text_of names) f) (leaves (text_of names) f) Whole (children_of root f) (0, [])
       ∙ prints (text_of names) f made root root (children_of root f) (seen made f counted root h) 0 [];
 }
   where
-    is : left ≡ visits false (children_of root f)
+    is : left ≡ visits Whole (children_of root f)
     is = same ∙ visited
 
 -- one visit more

@@ -17,6 +17,8 @@ use Rattle.hnodes.proofs.Families.{spot-children}
 use Rattle.std.proofs.lemmas.List.{append_assoc, append-nil}
 use Rattle.hnodes.specs.Named.{NodeIsOf, AreOf, IsLent}
 use Rattle.hwrite.specs.Walk.{node_of, goes_in, visits}
+use Rattle.hwrite.specs.declared.walk.Reach.{Reach}
+use Rattle.hwrite.specs.declared.walk.Reach.TheVariants.{Whole}
 use Rattle.hwrite.specs.declared.walk.Visit.{Visit}
 use Rattle.hwrite.specs.declared.walk.Visit.TheVariants.{Leave}
 use Rattle.hwrite.proofs.Moves.{comes, parents}
@@ -30,6 +32,7 @@ pub record IsSeen (made : ℕ) (f : Forest ℕ) (root p b : ℕ) (w : What ℕ) 
   pub parent : parent_of b f ≡ Some p
   pub first : first_child_of b f ≡ first_or kids None
   pub next : next_of b f ≡ first_or rest None
+  pub kids_are : children_of b f ≡ kids
 
 -- of each node of a list of trees below p
 abbrev pub Seen : (made : ℕ) (f : Forest ℕ) (root p : ℕ) → Forest ℕ → Type 0
@@ -48,13 +51,14 @@ module _ (made : ℕ) (f : Forest ℕ) (counted : AreCounted made f) (root : ℕ
       parent = ap (option_and_then (λ (s : Spot ℕ). s.parent)) spot;
       first = ap (option_and_then (λ (s : Spot ℕ). first_or s.children None)) spot;
       next = ap (option_and_then (λ (s : Spot ℕ). first_or s.after None)) spot;
+      kids_are = kids;
     },
     seen-among b none k within.0 kids below,
     seen-among q (join L (tree b w k none)) R h (is ∙ sym (join-assoc L (tree b w k none) R)) inside,
   )
     where
       within : IsInside made root f b
-      within = (comes made f counted root false q b w L k R h is inside).1
+      within = (comes made f counted root Whole q b w L k R h is inside).1
 
       spot : spot_of b f ≡ Some (spot_among b q w L k R (Some q) None)
       spot = child-spot b q w L k R f (is-there made f counted q h) (is-there made f counted b within.0) is
@@ -74,14 +78,14 @@ Each P none = Unit {0}
 Each P (tree b w kids rest) = P b × Each P kids × Each P rest
 
 -- and so of each visit
-pub each-visits : (P : ℕ → Type 0) (skips : Bool) (f : Forest ℕ) (more : List Visit) → Each P f → AllByRecursion (λ v. P (node_of v)) more → AllByRecursion (λ v. P (node_of v)) (visits skips f ++ more)
-each-visits P skips none more h t = t
-each-visits P skips (tree b w kids rest) more h t =
-    (h.0, go (goes_in skips w) (each-visits P skips kids (Leave b ∷ (visits skips rest ++ more)) h.1) (h.0, each-visits P skips rest more h.2 t))
+pub each-visits : (P : ℕ → Type 0) (reach : Reach) (f : Forest ℕ) (more : List Visit) → Each P f → AllByRecursion (λ v. P (node_of v)) more → AllByRecursion (λ v. P (node_of v)) (visits reach f ++ more)
+each-visits P reach none more h t = t
+each-visits P reach (tree b w kids rest) more h t =
+    (h.0, go (goes_in reach w) (each-visits P reach kids (Leave b ∷ (visits reach rest ++ more)) h.1) (h.0, each-visits P reach rest more h.2 t))
   where
-    go : (u : Bool) → (AllByRecursion (λ v. P (node_of v)) (Leave b ∷ (visits skips rest ++ more)) → AllByRecursion (λ v. P (node_of v)) (visits skips kids ++ (Leave b ∷ (visits skips rest ++ more))))
-        → AllByRecursion (λ v. P (node_of v)) (Leave b ∷ (visits skips rest ++ more)) → AllByRecursion (λ v. P (node_of v)) ((cond u (visits skips kids) [] ++ Leave b ∷ visits skips rest) ++ more)
-    go true l r = subst (AllByRecursion (λ v. P (node_of v))) (sym (append_assoc (visits skips kids) (Leave b ∷ visits skips rest) more)) (l r)
+    go : (u : Bool) → (AllByRecursion (λ v. P (node_of v)) (Leave b ∷ (visits reach rest ++ more)) → AllByRecursion (λ v. P (node_of v)) (visits reach kids ++ (Leave b ∷ (visits reach rest ++ more))))
+        → AllByRecursion (λ v. P (node_of v)) (Leave b ∷ (visits reach rest ++ more)) → AllByRecursion (λ v. P (node_of v)) ((cond u (visits reach kids) [] ++ Leave b ∷ visits reach rest) ++ more)
+    go true l r = subst (AllByRecursion (λ v. P (node_of v))) (sym (append_assoc (visits reach kids) (Leave b ∷ visits reach rest) more)) (l r)
     go false l r = r
 
 each-lent : (names : Texts) (made : ℕ) (f : Forest ℕ) (root p : ℕ) (g : Forest ℕ) → Seen made f root p g → AreOf names g → Each (IsLent names made f) g
@@ -90,8 +94,23 @@ each-lent names made f root p (tree b w kids rest) s h =
     ((s.0.made_is, λ v is. subst (NodeIsOf names) (some_inj (sym s.0.what ∙ is)) h.0), each-lent names made f root b kids s.1 h.1, each-lent names made f root p rest s.2 h.2)
 
 -- the nodes that a walk visits are such nodes
-pub lent-visits : (names : Texts) (made : ℕ) (f : Forest ℕ) (root : ℕ) (skips : Bool) → AreCounted made f → root < made → AreOf names (children_of root f)
-    → AllByRecursion (λ v. IsLent names made f (node_of v)) (visits skips (children_of root f))
-lent-visits names made f root skips counted h of =
-    subst (AllByRecursion (λ v. IsLent names made f (node_of v))) (append-nil (visits skips (children_of root f)))
-    (each-visits (IsLent names made f) skips (children_of root f) [] (each-lent names made f root root (children_of root f) (seen made f counted root h) of) tt)
+pub lent-visits : (names : Texts) (made : ℕ) (f : Forest ℕ) (root : ℕ) (reach : Reach) → AreCounted made f → root < made → AreOf names (children_of root f)
+    → AllByRecursion (λ v. IsLent names made f (node_of v)) (visits reach (children_of root f))
+lent-visits names made f root reach counted h of =
+    subst (AllByRecursion (λ v. IsLent names made f (node_of v))) (append-nil (visits reach (children_of root f)))
+    (each-visits (IsLent names made f) reach (children_of root f) [] (each-lent names made f root root (children_of root f) (seen made f counted root h) of) tt)
+
+-- a node that was made, where the names of what stands in it are those of the table
+abbrev pub IsRoot : Texts → (made : ℕ) → Forest ℕ → ℕ → Type 0
+IsRoot names made f n = (n < made) × AreOf names (children_of n f)
+
+each-root : (names : Texts) (made : ℕ) (f : Forest ℕ) (root p : ℕ) (g : Forest ℕ) → Seen made f root p g → AreOf names g → Each (IsRoot names made f) g
+each-root names made f root p none s h = tt
+each-root names made f root p (tree b w kids rest) s h =
+    ((s.0.made_is, subst (AreOf names) (sym s.0.kids_are) h.1), each-root names made f root b kids s.1 h.1, each-root names made f root p rest s.2 h.2)
+
+pub root-visits : (names : Texts) (made : ℕ) (f : Forest ℕ) (root : ℕ) (reach : Reach) → AreCounted made f → root < made → AreOf names (children_of root f)
+    → AllByRecursion (λ v. IsRoot names made f (node_of v)) (visits reach (children_of root f))
+root-visits names made f root reach counted h of =
+    subst (AllByRecursion (λ v. IsRoot names made f (node_of v))) (append-nil (visits reach (children_of root f)))
+    (each-visits (IsRoot names made f) reach (children_of root f) [] (each-root names made f root root (children_of root f) (seen made f counted root h) of) tt)

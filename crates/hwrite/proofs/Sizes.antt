@@ -7,6 +7,7 @@ use Rattle.hnodes.proofs.Counted.{at-most, is-there, was-made}
 use Rattle.hnodes.proofs.Families.{family}
 use Rattle.hnodes.proofs.Inside.{tree_at-size}
 use Rattle.hwrite.specs.Walk.{goes_in, visits}
+use Rattle.hwrite.specs.declared.walk.Reach.{Reach}
 use Rattle.hwrite.specs.declared.walk.Visit.TheVariants.{Enter, Leave}
 
 -- how many nodes have a number below k, each as often as it is there
@@ -54,15 +55,15 @@ module _ (made : ℕ) (f : Forest ℕ) (counted : AreCounted made f) where
       let a : size (tree_at q f) ≡ 1 + (size (children_of q f) + 0) = ap size fam.1 in
       omega (arith, tree_at-size q f, size-total made f (was-made made f counted), total-most made)
 
-visits-long : (skips : Bool) (f : Forest ℕ) → length (visits skips f) ≤ 2 * size f
-visits-long skips none = omega arith
-visits-long skips (tree b w kids rest) = go (goes_in skips w) (visits-long skips kids) (visits-long skips rest)
+visits-long : (reach : Reach) (f : Forest ℕ) → length (visits reach f) ≤ 2 * size f
+visits-long reach none = omega arith
+visits-long reach (tree b w kids rest) = go (goes_in reach w) (visits-long reach kids) (visits-long reach rest)
   where
-    go : (u : Bool) → length (visits skips kids) ≤ 2 * size kids → length (visits skips rest) ≤ 2 * size rest
-        → length (Enter b ∷ cond u (visits skips kids) [] ++ Leave b ∷ visits skips rest) ≤ 2 * (1 + (size kids + size rest))
-    go true l r = omega (arith, length-append (visits skips kids) (Leave b ∷ visits skips rest))
+    go : (u : Bool) → length (visits reach kids) ≤ 2 * size kids → length (visits reach rest) ≤ 2 * size rest
+        → length (Enter b ∷ cond u (visits reach kids) [] ++ Leave b ∷ visits reach rest) ≤ 2 * (1 + (size kids + size rest))
+    go true l r = omega (arith, length-append (visits reach kids) (Leave b ∷ visits reach rest))
     go false l r = omega arith
 
 -- a walk inside a node is not long
-pub walk-long : (made : ℕ) (f : Forest ℕ) → AreCounted made f → (q : ℕ) → q < made → (skips : Bool) → length (visits skips (children_of q f)) ≤ 2 * made
-walk-long made f counted q h skips = omega (arith, visits-long skips (children_of q f), inside-few made f counted q h)
+pub walk-long : (made : ℕ) (f : Forest ℕ) → AreCounted made f → (q : ℕ) → q < made → (reach : Reach) → length (visits reach (children_of q f)) ≤ 2 * made
+walk-long made f counted q h reach = omega (arith, visits-long reach (children_of q f), inside-few made f counted q h)

@@ -15,6 +15,7 @@ use Rattle.hwrite.specs.Walk.{node_of, goes_in, visits}
 use Rattle.hwrite.specs.Written.{has_no_references, is_raw_in, start_tag_text, end_tag_text, node_text, written_among, written}
 use Rattle.hwrite.specs.Writing.{holds_raw, stands_raw, opening, closing, opening_of, closing_of, visit_text}
 use Rattle.hwrite.specs.declared.escaping.Escaping.TheVariants.{One}
+use Rattle.hwrite.specs.declared.walk.Reach.TheVariants.{Written}
 use Rattle.hwrite.specs.declared.walk.Visit.{Visit}
 use Rattle.hwrite.specs.declared.walk.Visit.TheVariants.{Enter, Leave}
 use Rattle.hwrite.proofs.KnownNames.{tags-agree}
@@ -39,10 +40,10 @@ module _ (texts : ℕ → List ℕ) (f : Forest ℕ) where
 
     -- a node and what is inside it, and then those after it
     node-writes : (p b : ℕ) (w : What ℕ) (kids rest : Forest ℕ) → IsSeen made f root p b w kids rest → (out : List ℕ)
-        → ((out : List ℕ) → walked enters leaves true kids out ≡ out ++ written_among One (holds_raw (name_of b f)) (spelled texts kids))
-        → leaves b (cond (goes_in true w) (walked enters leaves true kids (enters b out)) (enters b out)) ≡ out ++ node_text One (holds_raw (name_of p f)) (spelled_what texts w) (written_among One (is_raw_in (name_in (spelled_what texts w))) (spelled texts kids))
+        → ((out : List ℕ) → walked enters leaves Written kids out ≡ out ++ written_among One (holds_raw (name_of b f)) (spelled texts kids))
+        → leaves b (cond (goes_in Written w) (walked enters leaves Written kids (enters b out)) (enters b out)) ≡ out ++ node_text One (holds_raw (name_of p f)) (spelled_what texts w) (written_among One (is_raw_in (name_in (spelled_what texts w))) (spelled texts kids))
     node-writes p b w kids rest s out inner =
-        (λ i. cond (goes_in true w) (walked enters leaves true kids (out ++ opening_of texts (begins i) (s.what i))) (out ++ opening_of texts (begins i) (s.what i)) ++ closing_of texts (s.what i))
+        (λ i. cond (goes_in Written w) (walked enters leaves Written kids (out ++ opening_of texts (begins i) (s.what i))) (out ++ opening_of texts (begins i) (s.what i)) ++ closing_of texts (s.what i))
         ∙ go w s.what
       where
         raw : Bool
@@ -52,7 +53,7 @@ module _ (texts : ℕ → List ℕ) (f : Forest ℕ) where
         begins = ap (λ o. holds_raw (option_and_then (λ q. name_of q f) o)) s.parent
 
         go : (v : What ℕ) → what_of b f ≡ Some v
-            → cond (goes_in true v) (walked enters leaves true kids (out ++ opening texts raw v)) (out ++ opening texts raw v) ++ closing texts v ≡ out ++ node_text One raw (spelled_what texts v) (written_among One (is_raw_in (name_in (spelled_what texts v))) (spelled texts kids))
+            → cond (goes_in Written v) (walked enters leaves Written kids (out ++ opening texts raw v)) (out ++ opening texts raw v) ++ closing texts v ≡ out ++ node_text One raw (spelled_what texts v) (written_among One (is_raw_in (name_in (spelled_what texts v))) (spelled texts kids))
         go document e = append-nil (out ++ [])
         go (doctype n x y) e = append-nil (out ++ opening texts raw (doctype n x y))
         go (comment t) e = append-nil (out ++ opening texts raw (comment t))
@@ -68,17 +69,17 @@ module _ (texts : ℕ → List ℕ) (f : Forest ℕ) where
             own : holds_raw (name_of b f) ≡ is_raw_in (Some (texts name))
             own = ap (λ o. holds_raw (option_and_then name_in o)) e ∙ raw-same (Some name)
 
-            under : (u : Bool) → cond (not u) (walked enters leaves true kids (out ++ start)) (out ++ start) ++ cond u [] end ≡ out ++ (start ++ cond u [] (written_among One (is_raw_in (Some (texts name))) (spelled texts kids) ++ end))
+            under : (u : Bool) → cond (not u) (walked enters leaves Written kids (out ++ start)) (out ++ start) ++ cond u [] end ≡ out ++ (start ++ cond u [] (written_among One (is_raw_in (Some (texts name))) (spelled texts kids) ++ end))
             under true = append_assoc out start []
             under false =
                 ap (λ t. t ++ end) (inner (out ++ start) ∙ ap (λ r. (out ++ start) ++ written_among One r (spelled texts kids)) own)
                 ∙ append_assoc (out ++ start) (written_among One (is_raw_in (Some (texts name))) (spelled texts kids)) end
                 ∙ append_assoc out start (written_among One (is_raw_in (Some (texts name))) (spelled texts kids) ++ end)
 
-    writes : (p : ℕ) (g : Forest ℕ) → Seen made f root p g → (out : List ℕ) → walked enters leaves true g out ≡ out ++ written_among One (holds_raw (name_of p f)) (spelled texts g)
+    writes : (p : ℕ) (g : Forest ℕ) → Seen made f root p g → (out : List ℕ) → walked enters leaves Written g out ≡ out ++ written_among One (holds_raw (name_of p f)) (spelled texts g)
     writes p none s out = sym (append-nil out)
     writes p (tree b w kids rest) s out =
-        ap (walked enters leaves true rest) (node-writes p b w kids rest s.0 out (λ o. writes b kids s.1 o))
+        ap (walked enters leaves Written rest) (node-writes p b w kids rest s.0 out (λ o. writes b kids s.1 o))
         ∙ writes p rest s.2 (out ++ node_text One (holds_raw (name_of p f)) (spelled_what texts w) (written_among One (is_raw_in (name_in (spelled_what texts w))) (spelled texts kids)))
         ∙ append_assoc out (node_text One (holds_raw (name_of p f)) (spelled_what texts w) (written_among One (is_raw_in (name_in (spelled_what texts w))) (spelled texts kids))) (written_among One (holds_raw (name_of p f)) (spelled texts rest))
 
@@ -113,13 +114,13 @@ pub record IsWriting (names : Texts) (made : ℕ) (f : Forest ℕ) (node : ℕ) 
   pub same : HasLeft old now (wanted names f node) (visits_text names f left)
 
 pub begun : (names : Texts) (made : ℕ) (f : Forest ℕ) (node : ℕ) (old : Option (List ℕ)) (left items : List Visit) → AreNames names → AreCounted made f → node < made → AreOf names (children_of node f) → left ≡ items
-    → items ≡ visits true (children_of node f) → IsWriting names made f node old old left
+    → items ≡ visits Written (children_of node f) → IsWriting names made f node old old left
 begun names made f node old left items table counted h of same visited = record {
-  lent = subst (AllByRecursion (λ v. IsLent names made f (node_of v))) (sym is) (lent-visits names made f node true counted h of);
+  lent = subst (AllByRecursion (λ v. IsLent names made f (node_of v))) (sym is) (lent-visits names made f node Written counted h of);
   same = subst (HasLeft old old (wanted names f node)) (sym whole) (none_put old (wanted names f node));
 }
   where
-    is : left ≡ visits true (children_of node f)
+    is : left ≡ visits Written (children_of node f)
     is = same ∙ visited
 
     tags : (id : ℕ) → tag_of id ≡ tag_named (text_of names id)
@@ -127,7 +128,7 @@ begun names made f node old left items table counted h of same visited = record 
 
     whole : visits_text names f left ≡ wanted names f node
     whole =
-        ap (visits_text names f) is ∙ run-visits (enters (text_of names) f) (leaves (text_of names) f) true (children_of node f) []
+        ap (visits_text names f) is ∙ run-visits (enters (text_of names) f) (leaves (text_of names) f) Written (children_of node f) []
         ∙ writes (text_of names) f tags made node node (children_of node f) (seen made f counted node h) [] ∙ ap (λ r. written_among One r (spelled (text_of names) (children_of node f))) (raw-same (text_of names) f tags made node (name_of node f))
 
 module _ (names : Texts) (made : ℕ) (f : Forest ℕ) (node : ℕ) (old now : Option (List ℕ)) (v : Visit) (before left : List Visit) (is : before ≡ v ∷ left) (s : IsWriting names made f node old now before) where

@@ -6,6 +6,7 @@ pub mod Lines
 pub mod ContentRows
 pub mod PlainRows
 pub mod Testing
+pub mod Regions
 pub mod Walk
 pub mod Lent
 pub mod Printing

@@ -1,15 +1,14 @@
 -- What a walk knows of where a node stands, and what it tests there. Names are numbers, and texts are theirs.
-use Rattle.std.specs.Prelude.{ℕ, Bool, true, false, not, ◌&&◌, ◌||◌, eqb, nat_eq, List, [], ◌∷◌, Option, Some, None, codes, map, option_and_then, if◌then◌else◌}
+use Rattle.std.specs.Prelude.{ℕ, Bool, true, false, not, ◌&&◌, eqb, nat_eq, List, Option, Some, None, codes, map, option_and_then, if◌then◌else◌}
 use Rattle.std.specs.List.{list_any}
 use Rattle.names.specs.declared.tag.Tag.{Tag}
 use Rattle.names.specs.declared.tag.Tag.TheVariants as tag
 use Rattle.names.specs.Tags.{tag_of}
 use Rattle.hnodes.specs.Forest.{Attribute, What, element, comment, text, Forest}
-use Rattle.hnodes.specs.Passed.{ancestors_of}
 use Rattle.hnodes.specs.Spelled.{spelled_attribute}
 use Rattle.hnodes.specs.Spots.{first_child_of, name_of, next_of, parent_of, what_of}
 use Rattle.hwrite.specs.ContentTable.{row, takes_role, texts_in, takes_comments}
-use Rattle.hwrite.specs.Plain.{Inside, begins_with, is_clean, is_plain_name, is_plain_text, is_plain_comment, are_plain_attributes, is_nested, is_a, is_button, is_form, inserts_marker, drops_line_feed}
+use Rattle.hwrite.specs.Plain.{Inside, begins_with, is_clean, is_plain_name, is_plain_text, is_plain_comment, are_plain_attributes, is_nested, is_a, is_button, drops_line_feed}
 use Rattle.hwrite.specs.declared.around.Around.{Around}
 use Rattle.hwrite.specs.declared.around.Standing.{Standing}
 use Rattle.hwrite.specs.declared.content.Content.{Content}
@@ -62,37 +61,17 @@ tag_or_other (Some name) = tag_of name
 abbrev pub tag_at : ℕ → Forest ℕ → Tag
 tag_at n f = tag_or_other (name_of n f)
 
--- with nothing around but a form, or not even that
-abbrev pub alone : (in_form : Bool) → Around
-alone in_form = record { in_a = false; in_button = false; in_form = in_form; in_phrasing = false }
+-- with nothing around
+abbrev pub alone : Around
+alone = record { in_a = false; in_button = false; in_phrasing = false }
 
--- what is around the top of a context of this name
-abbrev pub around_top : Tag → Around
-around_top context = alone (is_form context)
-
--- what is around once an element of this name is entered, or left, where it inserts no marker
+-- what is around once an element of this name is entered, or left: one that inserts a marker is not gone into
 abbrev pub marked : Tag → (inside : Bool) → Around → Around
 marked t inside a = record {
   in_a = if is_a t then inside else a.in_a;
   in_button = if is_button t then inside else a.in_button;
-  in_form = if is_form t then inside else a.in_form;
   in_phrasing = if is_phrasing (row t).1 then inside else a.in_phrasing;
 }
-
--- what is around within an element of this name: a marker hides all but a form
-abbrev pub around_within : Tag → Around → Around
-around_within t a = if inserts_marker t then alone a.in_form else marked t true a
-
--- what is around within these nodes, the nearest first, up to one that inserts a marker or to node root
-abbrev pub around_in : (root : ℕ) → Around → List ℕ → Forest ℕ → Around
-around_in root a [] f = a
-around_in root a (n ∷ up) f = if eqb n root || inserts_marker (tag_at n f) then a else around_in root (marked (tag_at n f) true a) up f
-
--- what is around once node n is left: behind a marker it is sought again
-abbrev pub around_after : (root n : ℕ) → Around → Forest ℕ → Around
-around_after root n a f =
-    if inserts_marker (tag_at n f) then record (around_in root (alone false) (ancestors_of n f) f) { in_form = a.in_form }
-    else marked (tag_at n f) false a
 
 abbrev pub standing_at_top : Content → Around → Standing
 standing_at_top top around = record { content = top; texts = texts_at_top top; around = around }
@@ -109,7 +88,7 @@ standing_of root top around None f = standing_at_top top around
 standing_of root top around (Some p) f = if eqb p root then standing_at_top top around else standing_in (tag_at p f) around
 
 abbrev pub inside_is : Standing → Inside
-inside_is s = record { content = s.content; texts = s.texts; in_a = s.around.in_a; in_button = s.around.in_button; in_form = s.around.in_form }
+inside_is s = record { content = s.content; texts = s.texts; in_a = s.around.in_a; in_button = s.around.in_button; in_form = false }
 
 -- WHAT IS TESTED THERE
 
@@ -152,8 +131,8 @@ module _ (spelling : ℕ → List ℕ) where
   abbrev pub is_plain_at : Inside → ℕ → Forest ℕ → Bool
   is_plain_at inside n f = is_plain_what inside (what_of n f) (begins_at (first_child_of n f) f) (is_text_at (next_of n f) f)
 
-  -- what is around what comes after a visit, if what is visited is plain
+  -- what is around what comes after a visit in a region, if what is visited is plain
   abbrev pub after_visit : Forest ℕ → (root : ℕ) (top : Content) → Visit → Around → Option Around
   after_visit f root top (Enter n) around =
-      if is_plain_at (inside_is (standing_of root top around (parent_of n f) f)) n f then Some (around_within (tag_at n f) around) else None
-  after_visit f root top (Leave n) around = Some (around_after root n around f)
+      if is_plain_at (inside_is (standing_of root top around (parent_of n f) f)) n f then Some (marked (tag_at n f) true around) else None
+  after_visit f root top (Leave n) around = Some (marked (tag_at n f) false around)

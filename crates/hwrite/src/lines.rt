@@ -15,7 +15,7 @@ ghost use Rattle.hwrite.specs.Walk.{node_of};
 
 use crate::node::Node;
 use crate::sorted::{in_order, name_text};
-use crate::walk::{Visit, Walk};
+use crate::walk::{Reach, Visit, Walk};
 use hnodes::{Doctype, NodeId, Tree};
 use names::{Attr, NameId, Names, ParseError, Refusal};
 use std::alloc::{AllocError, Global};
@@ -185,7 +185,7 @@ pub fn tree_text(
 {
     let mut text = String::new(alloc);
     let mut depth = 0;
-    for visit in Walk::whole(tree, root) {
+    for visit in Walk::new(tree, root, Reach::Whole) {
         depth = push_visit(alloc, &mut text, tree, names, depth, visit)?;
     }
     Ok(text.into_bytes())

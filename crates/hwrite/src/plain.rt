@@ -4,13 +4,13 @@ ghost use Rattle.std.specs.Prelude.{◌≡◌, ◌<◌, IfSome, false, map};
 ghost use Rattle.names.specs.Names.{AreNames, text_of};
 ghost use Rattle.names.specs.Tags.{tag_of};
 ghost use Rattle.hnodes.specs.Forest.{children_of, element};
-ghost use Rattle.hnodes.specs.Passed.{ancestors_of};
 ghost use Rattle.hnodes.specs.Named.{AreOf, NodeIsOf, IsLent};
 ghost use Rattle.hnodes.specs.Rows.{attribute_of};
 ghost use Rattle.hnodes.specs.Spelled.{spelled};
 ghost use Rattle.hnodes.specs.Spots.{first_child_of, next_of, parent_of, what_of};
-ghost use Rattle.hwrite.specs.Plain.{is_plain, drops_line_feed};
-ghost use Rattle.hwrite.specs.Testing.{alone, around_in, around_after, tag_at, standing_of, inside_is, is_text_at, begins_at, is_plain_element, is_plain_at, after_visit};
+ghost use Rattle.hwrite.specs.Plain.{is_form, is_plain, drops_line_feed};
+ghost use Rattle.hwrite.specs.Regions.{are_region, form_after, in_region};
+ghost use Rattle.hwrite.specs.Testing.{tag_at, standing_of, inside_is, is_phrasing, is_text_at, begins_at, is_plain_element, is_plain_at, after_visit};
 ghost use Rattle.hwrite.specs.Walk.{node_of};
 
 use crate::around::{Around, Standing};
@@ -19,7 +19,7 @@ use crate::context::context_tag;
 use crate::node::Node;
 use crate::plain_texts::{are_plain_attributes, begins_with, is_plain_comment, is_plain_text};
 use crate::rows::{inserts_marker, row};
-use crate::walk::{Visit, Walk};
+use crate::walk::{Reach, Visit, Walk};
 use hnodes::{Kind, NodeId, Tree};
 use names::{Attr, NameId, Names, Tag};
 
@@ -115,37 +115,7 @@ fn is_plain_node(tree: &Tree, names: &Names, standing: Standing, node: NodeId) -
     }
 }
 
-/// What is around a node but for a form, up to the next marker or to the root.
-fn around_above(tree: &Tree, root: NodeId, node: NodeId) -> Around
-    requires { node < tree.now.made }
-    ensures { result ≡ around_in root (alone false) (ancestors_of node tree.now.trees) tree.now.trees }
-{
-    let mut around = Around::alone(false);
-    let mut below = node;
-    while let Some(above) = tree.parent(below) {
-        let tag = tag_at(tree, above);
-        if above == root || inserts_marker(tag) {
-            return around;
-        }
-        around = around.marked(tag, true);
-        below = above;
-    }
-    around
-}
-
-/// What is around what comes after a node, where this is around its children. Goes up from a node that inserts a marker.
-fn around_after(tree: &Tree, root: NodeId, node: NodeId, around: Around) -> Around
-    requires { node < tree.now.made }
-    ensures { result ≡ around_after root node around tree.now.trees }
-{
-    let tag = tag_at(tree, node);
-    if inserts_marker(tag) {
-        return around_above(tree, root, node).with_form_of(around);
-    }
-    around.marked(tag, false)
-}
-
-/// What is around the nodes that come after a visit; None if what is visited is not plain.
+/// What is around the nodes of a region that come after a visit; None if what is visited is not plain.
 fn after_visit(
     tree: &Tree,
     names: &Names,
@@ -164,15 +134,63 @@ fn after_visit(
             if !is_plain_node(tree, names, standing, node) {
                 return None;
             }
-            Some(around.within(tag_at(tree, node)))
+            Some(around.marked(tag_at(tree, node), true))
         }
-        Visit::Leave(node) => Some(around_after(tree, root, node, around)),
+        Visit::Leave(node) => Some(around.marked(tag_at(tree, node), false)),
+    }
+}
+
+/// Whether what stands in a node is content of it, wherever forms are, down to the elements that insert a marker: what stands in
+/// those is a region by itself.
+fn is_region(tree: &Tree, names: &Names, root: NodeId, top: Content) -> bool
+    requires made { root < tree.now.made }
+    requires table { AreNames names.now }
+    requires names { AreOf names.now (children_of root tree.now.trees) }
+    requires not_phrasing { is_phrasing top ≡ false }
+    ensures { result ≡ are_region (in_region top) (spelled (text_of names.now) (children_of root tree.now.trees)) }
+{
+    let mut around = Around::alone();
+    for visit in Walk::new(tree, root, Reach::Region) {
+        match after_visit(tree, names, root, top, around, visit) {
+            Some(after) => around = after,
+            None => return false,
+        }
+    }
+    true
+}
+
+/// Whether an element of this name is a form.
+fn is_form(tag: Tag) -> bool
+    ensures { result ≡ is_form tag }
+{
+    matches!(tag, Tag::Form)
+}
+
+/// Whether a form is around the nodes that come after a visit. None if a form stands in a form, or if what stands in an element
+/// that inserts a marker is not its content. No marker hides a form.
+fn form_after(tree: &Tree, names: &Names, in_form: bool, visit: Visit) -> Option<bool>
+    requires made { node_of visit < tree.now.made }
+    requires table { AreNames names.now }
+    requires names { AreOf names.now (children_of (node_of visit) tree.now.trees) }
+    ensures { result ≡ form_after (text_of names.now) tree.now.trees visit in_form }
+{
+    match visit {
+        Visit::Enter(node) => {
+            let tag = tag_at(tree, node);
+            if in_form && is_form(tag) {
+                return None;
+            }
+            if inserts_marker(tag) && !is_region(tree, names, node, Content::Flow) {
+                return None;
+            }
+            Some(in_form || is_form(tag))
+        }
+        Visit::Leave(node) => Some(in_form && !is_form(tag_at(tree, node))),
     }
 }
 
 /// Whether the children of a node are a plain list in an element of this name: they come back from the parser as they are. Takes
-/// no memory, and as many steps as there are nodes and bytes, pairs of attributes in one tag, and nodes from each caption, cell,
-/// object and marquee up to the next one around it.
+/// no memory, and as many steps as there are nodes, bytes, and pairs of attributes in one tag.
 pub fn is_plain(tree: &Tree, names: &Names, root: NodeId, context: &str) -> bool
     requires made { root < tree.now.made }
     requires table { AreNames names.now }
@@ -183,10 +201,13 @@ pub fn is_plain(tree: &Tree, names: &Names, root: NodeId, context: &str) -> bool
     let Some(top) = row(tag).1.at_top() else {
         return false;
     };
-    let mut around = Around::at_top(tag);
-    for visit in Walk::whole(tree, root) {
-        match after_visit(tree, names, root, top, around, visit) {
-            Some(after) => around = after,
+    if !is_region(tree, names, root, top) {
+        return false;
+    }
+    let mut in_form = is_form(tag);
+    for visit in Walk::new(tree, root, Reach::Whole) {
+        match form_after(tree, names, in_form, visit) {
+            Some(after) => in_form = after,
             None => return false,
         }
     }

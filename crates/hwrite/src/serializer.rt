@@ -21,7 +21,7 @@ use crate::escaping::Setting;
 use crate::node::Node;
 use crate::sink::{put, put_parts};
 use crate::sorted::name_text;
-use crate::walk::{Visit, Walk};
+use crate::walk::{Reach, Visit, Walk};
 use hnodes::{NodeId, Tree};
 use names::{Attr, NameId, Names, RawKind, Refusal};
 use std::alloc::Global;
@@ -158,7 +158,7 @@ pub fn serialize<W: Write>(tree: &Tree, names: &Names, node: NodeId, out: &mut W
     ensures { Puts (W.contents out.old) (W.contents out.new)
         (written One (option_map (text_of names.now) (name_of node tree.now.trees)) (spelled (text_of names.now) (children_of node tree.now.trees))) result }
 {
-    for visit in Walk::written(tree, node) {
+    for visit in Walk::new(tree, node, Reach::Written) {
         put_visit(out, tree, names, visit)?;
     }
     Ok(())

@@ -8,6 +8,7 @@ ghost use Rattle.hwrite.specs.Walk.{goes_in, visits, visits_from, node_of};
 ghost use Rattle.hnodes.specs.Spots.{what_of};
 ghost use Rattle.hwrite.specs.declared.walk.Visit.TheVariants.{Enter, Leave};
 
+use crate::rows::inserts_marker;
 use hnodes::{NodeId, Tree};
 use std::marker::Model;
 
@@ -18,13 +19,23 @@ pub(crate) enum Visit {
     Leave(NodeId),
 }
 
+/// Which nodes a walk goes into.
+#[derive(Clone, Copy, Debug, PartialEq, Eq)]
+pub(crate) enum Reach {
+    /// All.
+    Whole,
+    /// Elements that are not void: what stands in a void element, or in a node that is no element, is not written.
+    Written,
+    /// All but elements that insert a marker into the list of active formatting elements.
+    Region,
+}
+
 /// What is left of a walk over the nodes inside one, in tree order.
 #[derive(Drop)]
 pub(crate) struct Walk<'a> {
     tree: &'a Tree,
     root: NodeId,
-    /// Whether the walk goes only into elements that are not void.
-    skips: bool,
+    reach: Reach,
     next: Option<Visit>,
 }
 
@@ -36,16 +47,16 @@ impl<'a> Model for Walk<'a> {
 
     ghost Value = { List Visit };
 
-    ghost view = { λ s. visits_from s.skips s.root s.next s.tree.now.trees };
+    ghost view = { λ s. visits_from s.reach s.root s.next s.tree.now.trees };
 
     ghost invariant = { λ s. IfSome s.next (λ v. (node_of v < s.tree.now.made) × IsTrue (is_among s.root (ancestors_of (node_of v) s.tree.now.trees))) };
 }
 
 impl<'a> Walk<'a> {
-    /// A walk over all nodes inside `root`.
-    pub(crate) fn whole(tree: &'a Tree, root: NodeId) -> Walk<'a>
+    /// A walk over nodes inside `root`.
+    pub(crate) fn new(tree: &'a Tree, root: NodeId, reach: Reach) -> Walk<'a>
         requires { root < tree.now.made }
-        ensures visits { result ≡ visits false (children_of root tree.now.trees) }
+        ensures visits { result ≡ visits reach (children_of root tree.now.trees) }
         ensures few { length result < 2 ^ 33 }
         ensures nodes { AreNodes tree.now }
     {
@@ -54,21 +65,7 @@ impl<'a> Walk<'a> {
         Walk {
             tree,
             root,
-            skips: false,
-            next: first_visit(tree, root),
-        }
-    }
-
-    /// A walk over those that are written: what stands in a void element, or in a node that is no element, is not.
-    pub(crate) fn written(tree: &'a Tree, root: NodeId) -> Walk<'a>
-        requires { root < tree.now.made }
-        ensures visits { result ≡ visits true (children_of root tree.now.trees) }
-        ensures nodes { AreNodes tree.now }
-    {
-        Walk {
-            tree,
-            root,
-            skips: true,
+            reach,
             next: first_visit(tree, root),
         }
     }
@@ -87,7 +84,7 @@ impl<'a> Iterator for Walk<'a> {
     fn next(&mut self) -> Option<Visit> {
         let visit = self.next?;
         self.next = match visit {
-            Visit::Enter(node) => Some(visit_inside(self.tree, self.root, self.skips, node)),
+            Visit::Enter(node) => Some(visit_inside(self.tree, self.root, self.reach, node)),
             Visit::Leave(node) => visit_after(self.tree, self.root, node),
         };
         Some(visit)
@@ -97,7 +94,7 @@ impl<'a> Iterator for Walk<'a> {
 /// The first visit inside a node.
 fn first_visit(tree: &Tree, root: NodeId) -> Option<Visit>
     requires { root < tree.now.made }
-    ensures visits { (skips : Bool) → visits_from skips root result tree.now.trees ≡ visits skips (children_of root tree.now.trees) }
+    ensures visits { (reach : Reach) → visits_from reach root result tree.now.trees ≡ visits reach (children_of root tree.now.trees) }
     ensures inside { IfSome result (λ v. (node_of v < tree.now.made) × IsTrue (is_among root (ancestors_of (node_of v) tree.now.trees))) }
     ensures nodes { AreNodes tree.now }
 {
@@ -108,14 +105,14 @@ fn first_visit(tree: &Tree, root: NodeId) -> Option<Visit>
 }
 
 /// The visit after a node was entered.
-fn visit_inside(tree: &Tree, root: NodeId, skips: bool, node: NodeId) -> Visit
+fn visit_inside(tree: &Tree, root: NodeId, reach: Reach, node: NodeId) -> Visit
     requires made { node < tree.now.made }
     requires inside { IsTrue (is_among root (ancestors_of node tree.now.trees)) }
-    ensures visits { visits_from skips root (Some (Enter node)) tree.now.trees ≡ Enter node ∷ visits_from skips root (Some result) tree.now.trees }
+    ensures visits { visits_from reach root (Some (Enter node)) tree.now.trees ≡ Enter node ∷ visits_from reach root (Some result) tree.now.trees }
     ensures inside { (node_of result < tree.now.made) × IsTrue (is_among root (ancestors_of (node_of result) tree.now.trees)) }
 {
     let child = tree.first_child(node);
-    if !goes_in(tree, skips, node) {
+    if !goes_in(tree, reach, node) {
         return Visit::Leave(node);
     }
     match child {
@@ -125,13 +122,16 @@ fn visit_inside(tree: &Tree, root: NodeId, skips: bool, node: NodeId) -> Visit
 }
 
 /// Whether a walk goes into a node.
-fn goes_in(tree: &Tree, skips: bool, node: NodeId) -> bool
+fn goes_in(tree: &Tree, reach: Reach, node: NodeId) -> bool
     requires { node < tree.now.made }
-    ensures { (w : What ℕ) → what_of node tree.now.trees ≡ Some w → goes_in skips w ≡ result }
+    ensures { (w : What ℕ) → what_of node tree.now.trees ≡ Some w → goes_in reach w ≡ result }
 {
-    match tree.name(node) {
-        Some(name) => !(skips && name.tag().is_void()),
-        None => !skips,
+    match (reach, tree.name(node)) {
+        (Reach::Whole, _) => true,
+        (Reach::Written, Some(name)) => !name.tag().is_void(),
+        (Reach::Written, None) => false,
+        (Reach::Region, Some(name)) => !inserts_marker(name.tag()),
+        (Reach::Region, None) => true,
     }
 }
 
@@ -139,7 +139,7 @@ fn goes_in(tree: &Tree, skips: bool, node: NodeId) -> bool
 fn visit_after(tree: &Tree, root: NodeId, node: NodeId) -> Option<Visit>
     requires made { node < tree.now.made }
     requires inside { IsTrue (is_among root (ancestors_of node tree.now.trees)) }
-    ensures visits { (skips : Bool) → visits_from skips root (Some (Leave node)) tree.now.trees ≡ Leave node ∷ visits_from skips root result tree.now.trees }
+    ensures visits { (reach : Reach) → visits_from reach root (Some (Leave node)) tree.now.trees ≡ Leave node ∷ visits_from reach root result tree.now.trees }
     ensures inside { IfSome result (λ v. (node_of v < tree.now.made) × IsTrue (is_among root (ancestors_of (node_of v) tree.now.trees))) }
 {
     if let Some(next) = tree.next(node) {

@@ -5,8 +5,8 @@ use Rattle.hwrite.proofs.lines.tree_text.Goals as goal
 
 pub loop-visit-init : goal.loop-visit-init
 loop-visit-init c =
-    begun c.args.names.now c.args.tree.now.made c.args.tree.now.trees c.args.root _ _ _ c.whole-visit-items.ensures.nodes.counted c.requires.made c.requires.names c.new-text.ensures.bytes
-    c.into_iter-visit-iterator.ensures.into_iter_gives c.whole-visit-items.ensures.visits c.whole-visit-items.ensures.few
+    begun c.args.names.now c.args.tree.now.made c.args.tree.now.trees c.args.root _ _ _ c.new-visit-items.ensures.nodes.counted c.requires.made c.requires.names c.new-text.ensures.bytes
+    c.into_iter-visit-iterator.ensures.into_iter_gives c.new-visit-items.ensures.visits c.new-visit-items.ensures.few
 
 pub push_visit-requires : goal.push_visit-requires
 push_visit-requires c =

@@ -1,5 +1,5 @@
-use Rattle.hwrite.proofs.Tested.{IsTesting}
+use Rattle.hwrite.proofs.Regions.{IsFinding}
 use Rattle.hwrite.proofs.plain.is_plain.Given as goal
 
 abbrev pub invariant-loop-visit : goal.invariant-loop-visit
-invariant-loop-visit l = IsTesting l.names l.tree.made l.tree.trees l.fn.root l.top l.context l.around l.visit-iterator
+invariant-loop-visit l = IsFinding l.names l.tree.made l.tree.trees l.fn.root l.context l.in_form l.visit-iterator

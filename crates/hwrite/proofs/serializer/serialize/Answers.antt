@@ -4,8 +4,8 @@ use Rattle.hwrite.proofs.serializer.serialize.Goals as goal
 
 pub loop-visit-init : goal.loop-visit-init
 loop-visit-init g c =
-    begun c.args.names.now c.args.tree.now.made c.args.tree.now.trees c.args.node _ _ _ c.requires.table c.written-visit-items.ensures.nodes.counted c.requires.made c.requires.names
-    c.into_iter-visit-iterator.ensures.into_iter_gives c.written-visit-items.ensures.visits
+    begun c.args.names.now c.args.tree.now.made c.args.tree.now.trees c.args.node _ _ _ c.requires.table c.new-visit-items.ensures.nodes.counted c.requires.made c.requires.names
+    c.into_iter-visit-iterator.ensures.into_iter_gives c.new-visit-items.ensures.visits
 
 pub put_visit-requires : goal.put_visit-requires
 put_visit-requires g c = next_is c.args.names.now c.args.tree.now.made c.args.tree.now.trees c.args.node _ _ c.in-Some.visit _ _ c.in-Some.ensures.steps c.loop-visit.invariant
