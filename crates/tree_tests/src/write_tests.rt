@@ -259,3 +259,19 @@ fn a_hundred_thousand_elements_deep_are_written_and_plain(rt: HostRuntime) -> Re
     assert_eq!(rt; text.len(), 1_100_000);
     Ok(())
 }
+
+/// What stands in an object is tested by itself, without a look at the elements around it.
+#[test]
+fn a_hundred_thousand_objects_are_plain_at_that_depth(rt: HostRuntime) -> Result<(), Fail> {
+    let mut steps = Vec::new(rt.alloc());
+    for _ in 0..DEPTH {
+        steps.push(Open("div"))?;
+    }
+    for _ in 0..DEPTH {
+        steps.push(Open("object"))?;
+        steps.push(Close)?;
+    }
+    let (tree, names) = built(rt.alloc(), &steps)?;
+    assert!(rt; is_plain(&tree, &names, tree.document(), "div"));
+    Ok(())
+}
