@@ -14,7 +14,7 @@ use Rattle.hnodes.specs.Spelled.{spelled, spelled_what}
 use Rattle.hnodes.specs.Spots.{name_in}
 use Rattle.hwrite.specs.ContentTable.{row, takes_role}
 use Rattle.hwrite.specs.Plain.{Inside, are_content, are_content_if, are_plain_attributes, begins_with_line_feed, drops_line_feed, in_context, in_context_of, inside_node, inserts_marker, is_form, is_nested, is_plain, is_plain_node}
-use Rattle.hwrite.specs.Regions.{are_region, begins_region, form_after, have_regions, in_region, makes_form, without_form}
+use Rattle.hwrite.specs.Regions.{are_region_content, begins_region, form_after, have_plain_regions, in_region, makes_form, without_form}
 use Rattle.hwrite.specs.Testing.{is_phrasing, tag_at, tag_or_other, texts_at_top, top_content}
 use Rattle.hwrite.specs.Walk.{node_of, visits}
 use Rattle.hwrite.specs.declared.content.Content.{Content}
@@ -30,36 +30,23 @@ use Rattle.hwrite.proofs.Tested.{is_left, none_left, tells}
 
 -- BY REGIONS
 
--- an element that stands in none of its name, whether forms are asked for or not
-nested_apart : (i : Inside) (t : Tag) → not (is_nested i t) ≡ (not (is_nested (without_form i) t) && not (i.in_form && is_form t))
-nested_apart i tag.A = go (not i.in_a) i.in_form
-  where
-    go : (u v : Bool) → u ≡ (u && not (v && false))
-    go true true = refl
-    go true false = refl
-    go false v = refl
-nested_apart i tag.Button = go (not i.in_button) i.in_form
-  where
-    go : (u v : Bool) → u ≡ (u && not (v && false))
-    go true true = refl
-    go true false = refl
-    go false v = refl
-nested_apart i tag.Form = go i.in_form
-  where
-    go : (v : Bool) → not v ≡ not (v && true)
-    go true = refl
-    go false = refl
-nested_apart i _ = go i.in_form
-  where
-    go : (v : Bool) → true ≡ not (v && false)
-    go true = refl
-    go false = refl
-
+-- where the node is no form
 no_form : (u v : Bool) → v ≡ (v && not (u && false))
 no_form true true = refl
 no_form true false = refl
 no_form false true = refl
 no_form false false = refl
+
+-- an element that stands in none of its name, whether forms are asked for or not
+nested_apart : (i : Inside) (t : Tag) → not (is_nested i t) ≡ (not (is_nested (without_form i) t) && not (i.in_form && is_form t))
+nested_apart i tag.A = no_form i.in_form (not i.in_a)
+nested_apart i tag.Button = no_form i.in_form (not i.in_button)
+nested_apart i tag.Form = go i.in_form
+  where
+    go : (v : Bool) → not v ≡ not (v && true)
+    go true = refl
+    go false = refl
+nested_apart i _ = no_form i.in_form true
 
 -- a node by itself
 node_apart : (i : Inside) (w : What (List ℕ)) (kids rest : Forest (List ℕ)) → is_plain_node i w kids rest ≡ (is_plain_node (without_form i) w kids rest && not (i.in_form && makes_form w))
@@ -126,11 +113,11 @@ sorted_region true true true false false b = refl
 sorted_region true true false a true b = refl
 sorted_region true true false a false b = refl
 
-pub by_regions : (i : Inside) (f : Forest (List ℕ)) → are_content i f ≡ (are_region (without_form i) f && have_regions i.in_form f)
+pub by_regions : (i : Inside) (f : Forest (List ℕ)) → are_content i f ≡ (are_region_content (without_form i) f && have_plain_regions i.in_form f)
 by_regions i none = refl
 by_regions i (tree n w kids rest) =
     (λ k. node_apart i w kids rest k && by_regions (inside_node w i) kids k && by_regions i rest k)
-    ∙ ap (λ u. (node && apart) && (are_region (without_form (inside_node w i)) kids && have_regions u kids) && (are_region (without_form i) rest && have_regions i.in_form rest)) (form_below i w)
+    ∙ ap (λ u. (node && apart) && (are_region_content (without_form (inside_node w i)) kids && have_plain_regions u kids) && (are_region_content (without_form i) rest && have_plain_regions i.in_form rest)) (form_below i w)
     ∙ go (begins_region w) refl
   where
     node : Bool
@@ -140,18 +127,18 @@ by_regions i (tree n w kids rest) =
     apart = not (i.in_form && makes_form w)
 
     forms : Bool
-    forms = have_regions (i.in_form || makes_form w) kids
+    forms = have_plain_regions (i.in_form || makes_form w) kids
 
     go : (m : Bool) → begins_region w ≡ m
-        → ((node && apart) && (are_region (without_form (inside_node w i)) kids && forms) && (are_region (without_form i) rest && have_regions i.in_form rest))
-        ≡ ((node && cond m true (are_region (without_form (inside_node w (without_form i))) kids) && are_region (without_form i) rest)
-        && (apart && cond m (are_region (in_region content.Flow) kids) true && forms && have_regions i.in_form rest))
+        → ((node && apart) && (are_region_content (without_form (inside_node w i)) kids && forms) && (are_region_content (without_form i) rest && have_plain_regions i.in_form rest))
+        ≡ ((node && cond m true (are_region_content (without_form (inside_node w (without_form i))) kids) && are_region_content (without_form i) rest)
+        && (apart && cond m (are_region_content (in_region content.Flow) kids) true && forms && have_plain_regions i.in_form rest))
     go true e =
-        ap (λ j. (node && apart) && (are_region j kids && forms) && (are_region (without_form i) rest && have_regions i.in_form rest)) (region_below i w e)
-        ∙ sorted_region node apart (are_region (in_region content.Flow) kids) forms (are_region (without_form i) rest) (have_regions i.in_form rest)
+        ap (λ j. (node && apart) && (are_region_content j kids && forms) && (are_region_content (without_form i) rest && have_plain_regions i.in_form rest)) (region_below i w e)
+        ∙ sorted_region node apart (are_region_content (in_region content.Flow) kids) forms (are_region_content (without_form i) rest) (have_plain_regions i.in_form rest)
     go false e =
-        ap (λ j. (node && apart) && (are_region j kids && forms) && (are_region (without_form i) rest && have_regions i.in_form rest)) (below_again i w)
-        ∙ sorted node apart (are_region (without_form (inside_node w (without_form i))) kids) forms (are_region (without_form i) rest) (have_regions i.in_form rest)
+        ap (λ j. (node && apart) && (are_region_content j kids && forms) && (are_region_content (without_form i) rest && have_plain_regions i.in_form rest)) (below_again i w)
+        ∙ sorted node apart (are_region_content (without_form (inside_node w (without_form i))) kids) forms (are_region_content (without_form i) rest) (have_plain_regions i.in_form rest)
 
 -- THE WALK THAT FINDS REGIONS
 
@@ -168,7 +155,7 @@ module _ (spelling : ℕ → List ℕ) (tags : (id : ℕ) → tag_of id ≡ tag_
   lost (tree b w kids rest) = ap (λ s. walked enters leaves Whole rest (leaves b s)) (lost kids) ∙ lost rest
 
   abbrev region : Forest ℕ → Bool
-  region kids = are_region (in_region content.Flow) (spelled spelling kids)
+  region kids = are_region_content (in_region content.Flow) (spelled spelling kids)
 
   marked_as : (w : What ℕ) → inserts_marker (tag_or_other (name_in w)) ≡ begins_region (spelled_what spelling w)
   marked_as (element name attrs) = ap inserts_marker (tags name)
@@ -178,7 +165,7 @@ module _ (spelling : ℕ → List ℕ) (tags : (id : ℕ) → tag_of id ≡ tag_
   formed_as (element name attrs) = ap is_form (tags name)
   formed_as _ = refl
 
-  finds : (made root p : ℕ) (g : Forest ℕ) → Seen made f root p g → (u : Bool) → walked enters leaves Whole g (Some u) ≡ cond (have_regions u (spelled spelling g)) (Some u) None
+  finds : (made root p : ℕ) (g : Forest ℕ) → Seen made f root p g → (u : Bool) → walked enters leaves Whole g (Some u) ≡ cond (have_plain_regions u (spelled spelling g)) (Some u) None
   finds made root p none s u = refl
   finds made root p (tree b w kids rest) s u =
       ap (λ o. walked enters leaves Whole rest (leaves b (walked enters leaves Whole kids o))) first
@@ -215,14 +202,14 @@ module _ (spelling : ℕ → List ℕ) (tags : (id : ℕ) → tag_of id ≡ tag_
       after true r back law = ap (λ v. walked enters leaves Whole rest (Some (within && not v))) forms ∙ ap (λ v. walked enters leaves Whole rest (Some v)) back ∙ law
       after false r back law = lost rest
 
-      go : (x y : Bool) → (x ≡ true → (within && not (makes_form (spelled_what spelling w))) ≡ u) → ((v : Bool) → walked enters leaves Whole kids (Some v) ≡ cond (have_regions v (spelled spelling kids)) (Some v) None)
-          → walked enters leaves Whole rest (Some u) ≡ cond (have_regions u (spelled spelling rest)) (Some u) None
+      go : (x y : Bool) → (x ≡ true → (within && not (makes_form (spelled_what spelling w))) ≡ u) → ((v : Bool) → walked enters leaves Whole kids (Some v) ≡ cond (have_plain_regions v (spelled spelling kids)) (Some v) None)
+          → walked enters leaves Whole rest (Some u) ≡ cond (have_plain_regions u (spelled spelling rest)) (Some u) None
           → walked enters leaves Whole rest (leaves b (walked enters leaves Whole kids (cond (x && y) (Some within) None)))
-          ≡ cond (x && y && have_regions within (spelled spelling kids) && have_regions u (spelled spelling rest)) (Some u) None
+          ≡ cond (x && y && have_plain_regions within (spelled spelling kids) && have_plain_regions u (spelled spelling rest)) (Some u) None
       go false y back inner law = ap (λ o. walked enters leaves Whole rest (leaves b o)) (lost kids) ∙ lost rest
       go true false back inner law = ap (λ o. walked enters leaves Whole rest (leaves b o)) (lost kids) ∙ lost rest
       go true true back inner law =
-          ap (λ o. walked enters leaves Whole rest (leaves b o)) (inner within) ∙ after (have_regions within (spelled spelling kids)) (have_regions u (spelled spelling rest)) (back refl) law
+          ap (λ o. walked enters leaves Whole rest (leaves b o)) (inner within) ∙ after (have_plain_regions within (spelled spelling kids)) (have_plain_regions u (spelled spelling rest)) (back refl) law
 
 -- where a list stands at the top
 top_is : (c : Content) (form : Bool) → in_context_of c form ≡ option_map (λ own. record { content = own; texts = texts_at_top own; in_a = false; in_button = false; in_form = form }) (top_content c)
@@ -243,7 +230,7 @@ top_other c top h = ap is_other h ∙ go c
 
 -- a list is plain if its top region is content, and so are the others, and no form stands in a form
 pub plain_is : (context : List ℕ) (t : Tag) (top : Content) (f : Forest (List ℕ)) → in_context_of (row t).1 (is_form t) ≡ in_context context → Some top ≡ top_content (row t).1
-    → (are_region (in_region top) f && have_regions (is_form t) f) ≡ is_plain context f
+    → (are_region_content (in_region top) f && have_plain_regions (is_form t) f) ≡ is_plain context f
 plain_is context t top f named topmost =
     sym (by_regions (record { content = top; texts = texts_at_top top; in_a = false; in_button = false; in_form = is_form t }) f)
     ∙ ap (λ o. are_content_if (option_map (λ own. record { content = own; texts = texts_at_top own; in_a = false; in_button = false; in_form = is_form t }) o) f) topmost
@@ -256,7 +243,7 @@ pub record IsFinding (names : Texts) (made : ℕ) (f : Forest ℕ) (root : ℕ) 
   pub same : is_left (run (enters (text_of names) tags f) (leaves (text_of names) tags f) left (Some in_form)) ≡ is_plain context (spelled (text_of names) (children_of root f))
 
 pub begun : (names : Texts) (made : ℕ) (f : Forest ℕ) (root : ℕ) (top : Content) (context : List ℕ) (t : Tag) (in_form : Bool) (left items : List Visit) → AreNames names → AreCounted made f → root < made → AreOf names (children_of root f)
-    → in_context_of (row t).1 (is_form t) ≡ in_context context → Some top ≡ top_content (row t).1 → true ≡ are_region (in_region top) (spelled (text_of names) (children_of root f)) → in_form ≡ is_form t
+    → in_context_of (row t).1 (is_form t) ≡ in_context context → Some top ≡ top_content (row t).1 → true ≡ are_region_content (in_region top) (spelled (text_of names) (children_of root f)) → in_form ≡ is_form t
     → left ≡ items → items ≡ visits Whole (children_of root f) → IsFinding names made f root context in_form left
 begun names made f root top context t in_form left items table counted h of named topmost region begins same visited = record {
   roots = subst (AllByRecursion (λ v. IsRoot names made f (node_of v))) (sym is) (root-visits names made f root Whole counted h of);
@@ -265,8 +252,8 @@ begun names made f root top context t in_form left items table counted h of name
       (λ i. is_left (run (enters (text_of names) tags f) (leaves (text_of names) tags f) (is i) (Some (begins i))))
       ∙ ap is_left (run-visits (enters (text_of names) tags f) (leaves (text_of names) tags f) Whole (children_of root f) (Some (is_form t)))
       ∙ ap is_left (finds (text_of names) tags f made root root (children_of root f) (seen made f counted root h) (is_form t))
-      ∙ tells (have_regions (is_form t) (spelled (text_of names) (children_of root f))) (is_form t)
-      ∙ ap (λ u. u && have_regions (is_form t) (spelled (text_of names) (children_of root f))) region
+      ∙ tells (have_plain_regions (is_form t) (spelled (text_of names) (children_of root f))) (is_form t)
+      ∙ ap (λ u. u && have_plain_regions (is_form t) (spelled (text_of names) (children_of root f))) region
       ∙ plain_is context t top (spelled (text_of names) (children_of root f)) named topmost;
 }
   where
@@ -311,5 +298,5 @@ found names made f root context in_form left is s = (subst (IsFinding names made
 
 -- a top region that is not content
 pub not_plain : (context : List ℕ) (t : Tag) (top : Content) (f : Forest (List ℕ)) → in_context_of (row t).1 (is_form t) ≡ in_context context → Some top ≡ top_content (row t).1
-    → false ≡ are_region (in_region top) f → false ≡ is_plain context f
-not_plain context t top f named topmost region = ap (λ u. u && have_regions (is_form t) f) region ∙ plain_is context t top f named topmost
+    → false ≡ are_region_content (in_region top) f → false ≡ is_plain context f
+not_plain context t top f named topmost region = ap (λ u. u && have_plain_regions (is_form t) f) region ∙ plain_is context t top f named topmost

@@ -14,7 +14,7 @@ use Rattle.hnodes.specs.Spelled.{spelled, spelled_what}
 use Rattle.hnodes.specs.Spots.{first_or, name_in, what_of}
 use Rattle.hwrite.specs.ContentTable.{row, takes_role, texts_in}
 use Rattle.hwrite.specs.Plain.{Inside, begins_with_text, begins_with_line_feed as begins_line, inside_node, inside_element, inserts_marker, is_nested, is_plain_node}
-use Rattle.hwrite.specs.Regions.{are_region, begins_region, in_region, without_form}
+use Rattle.hwrite.specs.Regions.{are_region_content, begins_region, in_region, without_form}
 use Rattle.hwrite.specs.Testing.{alone, is_phrasing, content_among, texts_at_top, tag_or_other, tag_at, marked, standing_at_top, standing_in, standing_of, inside_is, is_text, begins_with_line_feed, is_text_at, begins_at, is_plain_element, is_plain_what, is_plain_at, after_visit}
 use Rattle.hwrite.specs.Walk.{node_of, goes_in, visits}
 use Rattle.hwrite.specs.declared.around.Around.{Around}
@@ -153,7 +153,7 @@ module _ (spelling : ℕ → List ℕ) (tags : (id : ℕ) → tag_of id ≡ tag_
 
   -- a walk over the trees of a region finds whether they are content, and what is around them is as before
   tests_trees : (made p : ℕ) (g : Forest ℕ) → Seen made f root p g → (a : Around) → fits (content_in p a.in_phrasing) a.in_phrasing ≡ true
-      → walked enters leaves Region g (Some a) ≡ cond (are_region (place p a) (spelled spelling g)) (Some a) None
+      → walked enters leaves Region g (Some a) ≡ cond (are_region_content (place p a) (spelled spelling g)) (Some a) None
   tests_trees made p none s a fit = refl
   tests_trees made p (tree b w kids rest) s a fit =
       ap (λ u. walked enters leaves Region rest (leaves b (cond u (walked enters leaves Region kids (enters b (Some a))) (enters b (Some a))))) (goes w)
@@ -179,19 +179,19 @@ module _ (spelling : ℕ → List ℕ) (tags : (id : ℕ) → tag_of id ≡ tag_
       after false v back law = lost rest
 
       Inner : Type 0
-      Inner = (a' : Around) → fits (content_in b a'.in_phrasing) a'.in_phrasing ≡ true → walked enters leaves Region kids (Some a') ≡ cond (are_region (place b a') (spelled spelling kids)) (Some a') None
+      Inner = (a' : Around) → fits (content_in b a'.in_phrasing) a'.in_phrasing ≡ true → walked enters leaves Region kids (Some a') ≡ cond (are_region_content (place b a') (spelled spelling kids)) (Some a') None
 
-      go : Inner → walked enters leaves Region rest (Some a) ≡ cond (are_region (place p a) (spelled spelling rest)) (Some a) None
+      go : Inner → walked enters leaves Region rest (Some a) ≡ cond (are_region_content (place p a) (spelled spelling rest)) (Some a) None
           → (u : Bool) → is_plain_node (place p a) (spelled_what spelling w) (spelled spelling kids) (spelled spelling rest) ≡ u → (m : Bool) → begins w ≡ m
           → walked enters leaves Region rest (leaves b (cond (not m) (walked enters leaves Region kids (cond u (Some within) None)) (cond u (Some within) None)))
-          ≡ cond (u && (cond m true (are_region (without_form (inside_node (spelled_what spelling w) (place p a))) (spelled spelling kids))) && are_region (place p a) (spelled spelling rest)) (Some a) None
+          ≡ cond (u && (cond m true (are_region_content (without_form (inside_node (spelled_what spelling w) (place p a))) (spelled spelling kids))) && are_region_content (place p a) (spelled spelling rest)) (Some a) None
       go inner law false e m e' = ap (λ o. walked enters leaves Region rest (leaves b o)) (unread m) ∙ lost rest
-      go inner law true e true e' = after true (are_region (place p a) (spelled spelling rest)) (entered made p b w kids rest a s.0 fit e).back law
+      go inner law true e true e' = after true (are_region_content (place p a) (spelled spelling rest)) (entered made p b w kids rest a s.0 fit e).back law
       go inner law true e false e' =
           let d = entered made p b w kids rest a s.0 fit e in
           let at : Stands p b a (without_form (inside_node (spelled_what spelling w) (place p a))) = d.below e' in
-          ap (λ o. walked enters leaves Region rest (leaves b o)) (inner within at.1 ∙ ap (λ i. cond (are_region i (spelled spelling kids)) (Some within) None) at.0)
-          ∙ after (are_region (without_form (inside_node (spelled_what spelling w) (place p a))) (spelled spelling kids)) (are_region (place p a) (spelled spelling rest)) d.back law
+          ap (λ o. walked enters leaves Region rest (leaves b o)) (inner within at.1 ∙ ap (λ i. cond (are_region_content i (spelled spelling kids)) (Some within) None) at.0)
+          ∙ after (are_region_content (without_form (inside_node (spelled_what spelling w) (place p a))) (spelled spelling kids)) (are_region_content (place p a) (spelled spelling rest)) d.back law
 
 not_phrasing : (c : Content) → is_phrasing c ≡ false → fits c false ≡ true
 not_phrasing content.Phrasing h = absurd cc
@@ -210,7 +210,7 @@ tells false a = refl
 pub record IsTesting (names : Texts) (made : ℕ) (f : Forest ℕ) (root : ℕ) (top : Content) (around : Around) (left : List Visit) : Type 0 where
   pub lent : AllByRecursion (λ v. IsLent names made f (node_of v)) left
   pub tags : (id : ℕ) → tag_of id ≡ tag_named (text_of names id)
-  pub same : is_left (run (enters (text_of names) tags f root top) (leaves (text_of names) tags f root top) left (Some around)) ≡ are_region (in_region top) (spelled (text_of names) (children_of root f))
+  pub same : is_left (run (enters (text_of names) tags f root top) (leaves (text_of names) tags f root top) left (Some around)) ≡ are_region_content (in_region top) (spelled (text_of names) (children_of root f))
 
 pub begun : (names : Texts) (made : ℕ) (f : Forest ℕ) (root : ℕ) (top : Content) (around : Around) (left items : List Visit) → AreNames names → AreCounted made f → root < made → AreOf names (children_of root f)
     → is_phrasing top ≡ false → around ≡ alone → left ≡ items → items ≡ visits Region (children_of root f) → IsTesting names made f root top around left
@@ -221,8 +221,8 @@ begun names made f root top around left items table counted h of other begins sa
       (λ i. is_left (run (enters (text_of names) tags f root top) (leaves (text_of names) tags f root top) (is i) (Some (begins i))))
       ∙ ap is_left (run-visits (enters (text_of names) tags f root top) (leaves (text_of names) tags f root top) Region (children_of root f) (Some alone))
       ∙ ap is_left (tests_trees (text_of names) tags f root top made root (children_of root f) (seen made f counted root h) alone fit)
-      ∙ ap (λ u. is_left (cond (are_region (place_in (cond u top own) (cond u (texts_at_top top) (texts_in own)) alone) (spelled (text_of names) (children_of root f))) (Some alone) None)) self
-      ∙ tells (are_region (in_region top) (spelled (text_of names) (children_of root f))) alone;
+      ∙ ap (λ u. is_left (cond (are_region_content (place_in (cond u top own) (cond u (texts_at_top top) (texts_in own)) alone) (spelled (text_of names) (children_of root f))) (Some alone) None)) self
+      ∙ tells (are_region_content (in_region top) (spelled (text_of names) (children_of root f))) alone;
 }
   where
     is : left ≡ visits Region (children_of root f)
@@ -246,7 +246,7 @@ next_is names made f root top around v old left is s = (subst (IsTesting names m
 
 -- one visit more
 steps : (names : Texts) (made : ℕ) (f : Forest ℕ) (root : ℕ) (top : Content) (around : Around) (v : Visit) (left : List Visit) → (s : IsTesting names made f root top around (v ∷ left))
-    → is_left (run (enters (text_of names) s.tags f root top) (leaves (text_of names) s.tags f root top) left (after_visit (text_of names) f root top v around)) ≡ are_region (in_region top) (spelled (text_of names) (children_of root f))
+    → is_left (run (enters (text_of names) s.tags f root top) (leaves (text_of names) s.tags f root top) left (after_visit (text_of names) f root top v around)) ≡ are_region_content (in_region top) (spelled (text_of names) (children_of root f))
 steps names made f root top around (Enter n) left s = s.same
 steps names made f root top around (Leave n) left s = s.same
 
@@ -267,7 +267,7 @@ none_left (Enter n ∷ vs) enter leave e l = ap (λ r. is_left (run enter leave 
 none_left (Leave n ∷ vs) enter leave e l = ap (λ r. is_left (run enter leave vs r)) (l n) ∙ none_left vs enter leave e l
 
 pub fails : (names : Texts) (made : ℕ) (f : Forest ℕ) (root : ℕ) (top : Content) (around : Around) (v : Visit) (old left : List Visit) → old ≡ v ∷ left → IsTesting names made f root top around old
-    → None ≡ after_visit (text_of names) f root top v around → false ≡ are_region (in_region top) (spelled (text_of names) (children_of root f))
+    → None ≡ after_visit (text_of names) f root top v around → false ≡ are_region_content (in_region top) (spelled (text_of names) (children_of root f))
 fails names made f root top around v old left is s o =
     let t : IsTesting names made f root top around (v ∷ left) = subst (IsTesting names made f root top around) is s in
     sym (none_left left (enters (text_of names) t.tags f root top) (leaves (text_of names) t.tags f root top) (λ n. refl) (λ n. refl))
@@ -275,5 +275,5 @@ fails names made f root top around v old left is s o =
 
 -- the end
 pub found : (names : Texts) (made : ℕ) (f : Forest ℕ) (root : ℕ) (top : Content) (around : Around) (left : List Visit) → left ≡ [] → IsTesting names made f root top around left
-    → true ≡ are_region (in_region top) (spelled (text_of names) (children_of root f))
+    → true ≡ are_region_content (in_region top) (spelled (text_of names) (children_of root f))
 found names made f root top around left is s = (subst (IsTesting names made f root top around) is s).same

@@ -29,23 +29,24 @@ abbrev pub in_region : Content → Inside
 in_region own = record { content = own; texts = texts_at_top own; in_a = false; in_button = false; in_form = false }
 
 -- the trees of a region are content of what they stand in, wherever forms are
-abbrev pub are_region : Inside → Forest (List ℕ) → Bool
-are_region inside none = true
-are_region inside (tree n w kids rest) =
-    is_plain_node inside w kids rest && (if begins_region w then true else are_region (without_form (inside_node w inside)) kids) && are_region inside rest
+abbrev pub are_region_content : Inside → Forest (List ℕ) → Bool
+are_region_content inside none = true
+are_region_content inside (tree n w kids rest) =
+    is_plain_node inside w kids rest && (if begins_region w then true else are_region_content (without_form (inside_node w inside)) kids)
+    && are_region_content inside rest
 
 -- the regions inside the trees of a list are content, each that of flow, and no form stands in a form
-abbrev pub have_regions : (in_form : Bool) → Forest (List ℕ) → Bool
-have_regions in_form none = true
-have_regions in_form (tree n w kids rest) =
-    not (in_form && makes_form w) && (if begins_region w then are_region (in_region content.Flow) kids else true) && have_regions (in_form || makes_form w) kids
-    && have_regions in_form rest
+abbrev pub have_plain_regions : (in_form : Bool) → Forest (List ℕ) → Bool
+have_plain_regions in_form none = true
+have_plain_regions in_form (tree n w kids rest) =
+    not (in_form && makes_form w) && (if begins_region w then are_region_content (in_region content.Flow) kids else true)
+    && have_plain_regions (in_form || makes_form w) kids && have_plain_regions in_form rest
 
 module _ (spelling : ℕ → List ℕ) where
   -- whether a form is around what comes after a visit, if none stands in a form, and what stands in a region that is entered is its content
   abbrev pub form_after : Forest ℕ → Visit → (in_form : Bool) → Option Bool
   form_after f (Enter n) in_form =
       if in_form && is_form (tag_at n f) then None
-      else if inserts_marker (tag_at n f) && not (are_region (in_region content.Flow) (spelled spelling (children_of n f))) then None
+      else if inserts_marker (tag_at n f) && not (are_region_content (in_region content.Flow) (spelled spelling (children_of n f))) then None
       else Some (in_form || is_form (tag_at n f))
   form_after f (Leave n) in_form = Some (in_form && not (is_form (tag_at n f)))

@@ -18,6 +18,7 @@ pub(crate) struct Around {
 }
 
 impl Around {
+    /// Nothing is around it.
     pub(crate) fn alone() -> Around
         ensures { result ≡ alone }
     {

@@ -9,7 +9,7 @@ ghost use Rattle.hnodes.specs.Rows.{attribute_of};
 ghost use Rattle.hnodes.specs.Spelled.{spelled};
 ghost use Rattle.hnodes.specs.Spots.{first_child_of, next_of, parent_of, what_of};
 ghost use Rattle.hwrite.specs.Plain.{is_form, is_plain, drops_line_feed};
-ghost use Rattle.hwrite.specs.Regions.{are_region, form_after, in_region};
+ghost use Rattle.hwrite.specs.Regions.{are_region_content, form_after, in_region};
 ghost use Rattle.hwrite.specs.Testing.{tag_at, standing_of, inside_is, is_phrasing, is_text_at, begins_at, is_plain_element, is_plain_at, after_visit};
 ghost use Rattle.hwrite.specs.Walk.{node_of};
 
@@ -142,12 +142,12 @@ fn after_visit(
 
 /// Whether what stands in a node is content of it, wherever forms are, down to the elements that insert a marker: what stands in
 /// those is a region by itself.
-fn is_region(tree: &Tree, names: &Names, root: NodeId, top: Content) -> bool
+fn is_plain_region(tree: &Tree, names: &Names, root: NodeId, top: Content) -> bool
     requires made { root < tree.now.made }
     requires table { AreNames names.now }
     requires names { AreOf names.now (children_of root tree.now.trees) }
     requires not_phrasing { is_phrasing top ≡ false }
-    ensures { result ≡ are_region (in_region top) (spelled (text_of names.now) (children_of root tree.now.trees)) }
+    ensures { result ≡ are_region_content (in_region top) (spelled (text_of names.now) (children_of root tree.now.trees)) }
 {
     let mut around = Around::alone();
     for visit in Walk::new(tree, root, Reach::Region) {
@@ -180,7 +180,7 @@ fn form_after(tree: &Tree, names: &Names, in_form: bool, visit: Visit) -> Option
             if in_form && is_form(tag) {
                 return None;
             }
-            if inserts_marker(tag) && !is_region(tree, names, node, Content::Flow) {
+            if inserts_marker(tag) && !is_plain_region(tree, names, node, Content::Flow) {
                 return None;
             }
             Some(in_form || is_form(tag))
@@ -201,7 +201,7 @@ pub fn is_plain(tree: &Tree, names: &Names, root: NodeId, context: &str) -> bool
     let Some(top) = row(tag).1.at_top() else {
         return false;
     };
-    if !is_region(tree, names, root, top) {
+    if !is_plain_region(tree, names, root, top) {
         return false;
     }
     let mut in_form = is_form(tag);

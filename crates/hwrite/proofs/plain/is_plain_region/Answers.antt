@@ -1,5 +1,5 @@
 use Rattle.hwrite.proofs.Tested.{begun, fails, found, goes_on, next_is}
-use Rattle.hwrite.proofs.plain.is_region.Goals as goal
+use Rattle.hwrite.proofs.plain.is_plain_region.Goals as goal
 
 pub loop-visit-init : goal.loop-visit-init
 loop-visit-init c =
