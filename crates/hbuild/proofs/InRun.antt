@@ -18,10 +18,10 @@ use Rattle.hadopt.specs.Site as site
 use Rattle.hadopt.specs.Inserts as inserts
 use Rattle.hmodes.specs.Perform.{flow_of, with_site}
 use Rattle.hmodes.specs.Reached.{Reached, after}
-use Rattle.hmodes.specs.State.{State, character}
+use Rattle.hmodes.specs.State.{State, Token, character}
 use Rattle.hmodes.specs.Step.{Rule, Chain, ends, refuses, Step, goes, begun}
 use Rattle.hmodes.specs.Tokens.{token_of, place_of}
-use Rattle.hbuild.specs.Building.{Building, TakesToken, TakesOn, StaysRefused, refused_by}
+use Rattle.hbuild.specs.Building.{Building, Takes, TakesToken, TakesOn, StaysRefused, refused_by}
 use Rattle.hbuild.specs.Runs.{puts_in}
 use Rattle.hbuild.proofs.OnePut.{here, rule_puts, puts-nodes, place-here}
 
@@ -98,6 +98,15 @@ module _ (b : Building) (free : b.refused ≡ None) (off : b.state.site.foster �
   later : (v : Nodes ℕ) → Before v (after_put (site_with v) None)
   later v = record { begins = refl; lf = refl; told = refl; root = refl; refused = refl }
 
+  whole : Before b.state.site.nodes b
+  whole = record { begins = refl; lf = keeps_lf; told = refl; root = refl; refused = free }
+
+  -- one character alone
+  pub char_put : (p : Placed) → (p.ch == 0) ≡ false → (answer : Result (Unit {0}) Refusal) (x : SiteOf ℕ) → Gives answer x (inserts.put p.at p.ch to b.state.site)
+      → TakesToken b (code.Char p.ch p.at) answer (after_put x (refused_by answer))
+  char_put p some (Ok u) x e = took p b.state.site.nodes b whole some x e
+  char_put p some (Err r) x e = wrong p b.state.site.nodes b whole some x r e
+
   -- whether a character is refused: a text is to be made, and there are as many nodes as may be
   abbrev is_full : Nodes ℕ → Bool
   is_full v = is_none (text_before to v.trees) && nat_le v.limit v.made
@@ -143,9 +152,6 @@ module _ (b : Building) (free : b.refused ≡ None) (off : b.state.site.foster �
       wrong_rest [] some v e = absurd (goes-not (site_with v) r (sym e))
       wrong_rest (p ∷ ps) some v e = wrong_first p ps v (after_put (site_with v) None) (later v) some.0 (wrong_rest ps some.1) e
 
-    whole : Before b.state.site.nodes b
-    whole = record { begins = refl; lf = keeps_lf; told = refl; root = refl; refused = free }
-
     -- the whole run
     pub run_put : (p : Placed) (ps : List Placed) → AreSome (p ∷ ps) → (answer : Result (Unit {0}) Refusal) → Gives answer x (inserts.put_each (p ∷ ps) to b.state.site)
         → Hands TakesToken b (run_tokens (p ∷ ps)) answer (after_put x (refused_by answer))
@@ -153,10 +159,14 @@ module _ (b : Building) (free : b.refused ≡ None) (off : b.state.site.foster �
     run_put p ps some (Err r) (inl m) = (Err r, after_put x (Some r), wrong p b.state.site.nodes b whole some.0 x r (inl m), (refl, refl))
     run_put p ps some (Err r) (inr e) = wrong_first r p ps b.state.site.nodes b whole some.0 (wrong_rest r ps some.1) e
 
+-- what comes of a token where nothing was refused before
+pub taken : (at : ℕ) (t : Token ℕ) (old new : Building) (answer : Result (Unit {0}) Refusal) → old.refused ≡ None → Takes at t old answer new → TakesOn at t old answer new
+taken at t old new answer none given = subst (λ (q : Option Refusal). MatchOption q (TakesOn at t old answer new) (λ why. StaysRefused why old answer new)) none given
+
 -- the state after tokens can be reached
 pub reached-run : (ts : List Given) (old new : Building) → Reached numbers old.state → old.refused ≡ None → Hands TakesToken old ts (Ok tt) new → Reached numbers new.state
 reached-run [] old new r none h = subst (λ (b : Building). Reached numbers b.state) h.1 r
 reached-run (t ∷ ts) old new r none (Err e, mid, given, rest) = let never = rest.0 in absurd cc
 reached-run (t ∷ ts) old new r none (Ok u, mid, given, rest) =
-    let taken = subst (λ (q : Option Refusal). MatchOption q (TakesOn (place_of t) (token_of t) old (Ok u) mid) (λ why. StaysRefused why old (Ok u) mid)) none given in
-    reached-run ts mid new (after r taken.step) taken.refused rest
+    let on = taken (place_of t) (token_of t) old mid (Ok u) none given in
+    reached-run ts mid new (after r on.step) on.refused rest

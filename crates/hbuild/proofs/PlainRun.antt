@@ -1,5 +1,5 @@
--- The characters of a run.
-use Rattle.std.proofs.Common.{◌≡◌, ℕ, ◌<◌, Bool, true, false, List, [], ◌∷◌, ◌+◌, length, Option, Some, None, Result, Ok, Err, refl, ap, ◌∙◌, arith, subst}
+-- Characters that are put as they are, a run or one alone.
+use Rattle.std.proofs.Common.{◌≡◌, ℕ, ◌<◌, Bool, true, false, List, [], ◌∷◌, ◌+◌, length, Option, Some, None, Result, Ok, Err, refl, sym, ap, ◌∙◌, arith, subst}
 use Rattle.std.specs.List.{list_all, All}
 use Rattle.std.specs.Prelude.{◌&&◌, ◌==◌, not, is_some}
 use Rattle.std.specs.Result.{result_err}
@@ -10,7 +10,6 @@ use Rattle.std.proofs.lemmas.List.Elements.{All-cons}
 use Rattle.std.proofs.lemmas.Str.{chars-IsAscii}
 use Rattle.std.proofs.lemmas.Str.Ascii.{IsAscii-from_all}
 use Rattle.names.specs.Placed.{placed}
-use Rattle.names.specs.declared.error.ParseError.{ParseError}
 use Rattle.htext.specs.Run.{is_plain_byte}
 use Rattle.std.specs.Char.{len_utf8}
 use Rattle.names.specs.Sink.{Hands}
@@ -18,19 +17,20 @@ use Rattle.names.specs.declared.refusal.Refusal.{Refusal}
 use Rattle.hnodes.specs.declared.node.Place.{Place}
 use Rattle.htoken.specs.Run.{run_tokens}
 use Rattle.htoken.specs.declared.token.Token.{Token as Given}
+use Rattle.htoken.specs.declared.token.Token.TheVariants.{Char}
 use Rattle.hadopt.specs.Gives.{Gives}
-use Rattle.hadopt.specs.Inserts.{put_each}
+use Rattle.hadopt.specs.Inserts.{put, put_each}
 use Rattle.hadopt.specs.Naming.{numbers}
 use Rattle.hadopt.specs.Places.{place}
-use Rattle.hadopt.specs.Site.{SiteOf}
+use Rattle.hadopt.specs.Site.{Outcome, SiteOf}
 use Rattle.hmodes.specs.Perform.{with_site}
-use Rattle.hmodes.specs.Reached.{Reached}
-use Rattle.hmodes.specs.State.{State}
+use Rattle.hmodes.specs.Reached.{Reached, after}
+use Rattle.hmodes.specs.State.{State, Token}
 use Rattle.hmodes.specs.Step.{begun}
-use Rattle.hbuild.specs.Building.{Building, TakesToken, refused_by}
+use Rattle.hbuild.specs.Building.{Building, Takes, TakesToken, refused_by}
 use Rattle.hbuild.specs.Runs.{puts_in, puts_each}
 use Rattle.hbuild.proofs.OnePut.{place-here}
-use Rattle.hbuild.proofs.InRun.{AreSome, run_put, reached-run}
+use Rattle.hbuild.proofs.InRun.{AreSome, char_put, run_put, taken, reached-run}
 
 plain_small : (x : ℕ) → is_plain_byte x ≡ true → x < 128
 plain_small x h = grind (arith, nat_tests)
@@ -64,15 +64,27 @@ pub none-of : (o : Option Refusal) → is_some o ≡ false → o ≡ None
 none-of None h = refl
 none-of (Some r) h = absurd cc
 
+-- the building after characters were put, once a token has begun in it
+abbrev pub after_put : Building → SiteOf ℕ → Result (Unit {0}) Refusal → Building
+after_put b x answer = record { state = with_site x (begun b.state); root = b.root; told = b.told; refused = refused_by answer }
+
 -- a run that is put as a whole is taken character by character
 pub run_taken : (b : Building) → b.refused ≡ None → puts_each b.state ≡ true → (at : ℕ) (run : List ℕ) → false ≡ (length run == 0) → list_all is_plain_byte run ≡ true
     → (answer : Result (Unit {0}) Refusal) (x : SiteOf ℕ) → Gives answer x (put_each (placed at run) (place numbers b.state.site) b.state.site)
-    → Hands TakesToken b (run_tokens (placed at run)) answer (record { state = with_site x (begun b.state); root = b.root; told = b.told; refused = refused_by answer })
+    → Hands TakesToken b (run_tokens (placed at run)) answer (after_put b x answer)
 run_taken b free puts at [] some plain answer x g = absurd cc
 run_taken b free puts at (c ∷ cs) some plain answer x g =
     let facts = off-of b.state.site.foster b.state.control.drop_lf (puts_in b.state.control.mode b.state.site) puts in
     run_put b free facts.0 facts.1 facts.2 x (record { ch = c; at = at }) (placed (at + len_utf8 c) cs) (some_plain at (c ∷ cs) plain) answer
     (subst (λ (to : Place). Gives answer x (put_each (placed at (c ∷ cs)) to b.state.site)) (place-here b.state.site facts.0) g)
+
+-- a character that is put as it is is taken
+pub char_taken : (b : Building) → b.refused ≡ None → puts_each b.state ≡ true → (at c : ℕ) → (c == 0) ≡ false
+    → (answer : Result (Unit {0}) Refusal) (x : SiteOf ℕ) → Gives answer x (put at c (place numbers b.state.site) b.state.site)
+    → TakesToken b (Char c at) answer (after_put b x answer)
+char_taken b free puts at c some answer x g =
+    let facts = off-of b.state.site.foster b.state.control.drop_lf (puts_in b.state.control.mode b.state.site) puts in
+    char_put b free facts.0 facts.1 facts.2 (record { ch = c; at = at }) some answer x (subst (λ (to : Place). Gives answer x (put at c to b.state.site)) (place-here b.state.site facts.0) g)
 
 -- what an answer says of later calls
 pub err_is : (answer : Result (Unit {0}) Refusal) → result_err answer ≡ refused_by answer
@@ -83,15 +95,35 @@ ok-of : (answer : Result (Unit {0}) Refusal) → result_err answer ≡ None → 
 ok-of (Ok u) h = refl
 ok-of (Err e) h = absurd cc
 
-pub same_building : (b : Building) (s : State ℕ) (root : ℕ) (told : List ParseError) (refused : Option Refusal) → b.state ≡ s → b.root ≡ root → b.told ≡ told → b.refused ≡ refused
-    → b ≡ record { state = s; root = root; told = told; refused = refused }
-same_building b s root told refused e1 e2 e3 e4 =
-    ap (λ (x : State ℕ). record b { state = x }) e1
-    ∙ ap (λ (x : ℕ). record b { state = s; root = x }) e2
-    ∙ ap (λ (x : List ParseError). record b { state = s; root = root; told = x }) e3
-    ∙ ap (λ (x : Option Refusal). record { state = s; root = root; told = told; refused = x }) e4
+-- what a call leaves that begins a token, puts characters, and keeps what was refused
+pub left_is : (b old : Building) (s t : State ℕ) (x : SiteOf ℕ) (refused : Option Refusal) (answer : Result (Unit {0}) Refusal) → old ≡ b → s ≡ begun old.state → t ≡ with_site x s
+    → refused ≡ result_err answer → ◌≡◌ {A = Building} (record { state = t; root = old.root; told = old.told; refused = refused }) (after_put b x answer)
+left_is b old s t x refused answer is begins rest errs = λ i. record {
+  state = (rest ∙ ap (with_site x) (begins ∙ ap (λ (o : Building). begun o.state) is)) i;
+  root = (is i).root;
+  told = (is i).told;
+  refused = (errs ∙ err_is answer) i;
+}
+
+-- what the tests before it say
+pub free-of : (b old : Building) (r : Bool) → old ≡ b → r ≡ is_some old.refused → r ≡ false → b.refused ≡ None
+free-of b old r is says off = none-of b.refused (sym (ap (λ (o : Building). is_some o.refused) is) ∙ sym says ∙ off)
+
+pub puts-of : (b old : Building) (r : Bool) → old ≡ b → r ≡ puts_each old.state → r ≡ true → puts_each b.state ≡ true
+puts-of b old r is says on = sym (ap (λ (o : Building). puts_each o.state) is) ∙ sym says ∙ on
+
+-- the site that characters are put in is that of the building
+pub gives-of : (b old : Building) (s : State ℕ) (x : SiteOf ℕ) (answer : Result (Unit {0}) Refusal) (f : SiteOf ℕ → Outcome (SiteOf ℕ)) → old ≡ b → s ≡ begun old.state → Gives answer x (f s.site)
+    → Gives answer x (f b.state.site)
+gives-of b old s x answer f is begins g =
+    subst (λ (y : SiteOf ℕ). Gives answer x (f y)) (ap (λ (t : State ℕ). t.site) (begins ∙ ap (λ (o : Building). begun o.state) is)) g
 
 pub reached_by_run : (ts : List Given) (old new : Building) (answer : Result (Unit {0}) Refusal) → (old.refused ≡ None → Reached numbers old.state) → old.refused ≡ None → result_err answer ≡ None → Hands TakesToken old ts answer new
     → Reached numbers new.state
 reached_by_run ts old new answer reached free none h =
     reached-run ts old new (reached free) free (subst (λ (a : Result (Unit {0}) Refusal). Hands TakesToken old ts a new) (ok-of answer none) h)
+
+pub reached_by_token : (at : ℕ) (t : Token ℕ) (old new : Building) (answer : Result (Unit {0}) Refusal) → (old.refused ≡ None → Reached numbers old.state) → old.refused ≡ None → result_err answer ≡ None → Takes at t old answer new
+    → Reached numbers new.state
+reached_by_token at t old new answer reached free none h =
+    after (reached free) (taken at t old new (Ok tt) free (subst (λ (a : Result (Unit {0}) Refusal). Takes at t old a new) (ok-of answer none) h)).step

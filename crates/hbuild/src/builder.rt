@@ -15,7 +15,7 @@ ghost use Rattle.names.specs.Sink.{Hands};
 
 use crate::beginning::{document_rules, fragment_rules};
 use crate::limits::Limits;
-use crate::runs::{put_run, puts_each};
+use crate::runs::{put_one, put_run, puts_each};
 use crate::steps::step;
 use hmarkup::{ErrorSink, Quirks};
 use hmodes::Rules;
@@ -184,8 +184,14 @@ impl<'q> TokenSink for Builder<'q> {
     }
 
     fn take_text(&mut self, ch: char, at: u64) -> Result<(), Refusal> {
-        let mut token = Token::Char { ch, at };
-        self.take(&mut token, at)
+        if ch == '\0' || self.refused.is_some() || !puts_each(&self.rules) {
+            let mut token = Token::Char { ch, at };
+            return self.take(&mut token, at);
+        }
+        self.rules.begin();
+        let answer = put_one(&mut self.rules, ch, at);
+        self.refused = answer.err();
+        answer
     }
 
     fn take_run(&mut self, run: &str, at: u64) -> Result<(), Refusal> {

@@ -1,11 +1,11 @@
-//! Runs of characters, each of which is put where the first one is.
+//! Characters that are put as they are, one alone or a run.
 
 ghost use Rattle.std.specs.Prelude.{◌≡◌, true};
 ghost use Rattle.std.specs.List.{list_all};
 ghost use Rattle.names.specs.Placed.{placed};
 ghost use Rattle.htext.specs.Run.{is_plain_byte};
 ghost use Rattle.hadopt.specs.Gives.{Gives};
-ghost use Rattle.hadopt.specs.Inserts.{put_each};
+ghost use Rattle.hadopt.specs.Inserts.{put, put_each};
 ghost use Rattle.hadopt.specs.Naming.{numbers};
 ghost use Rattle.hadopt.specs.Places.{place};
 ghost use Rattle.hmodes.specs.Perform.{with_site};
@@ -15,7 +15,8 @@ ghost use Rattle.hbuild.specs.Runs.{puts_each};
 use hmodes::{Mode, Rules};
 use names::Refusal;
 
-/// Whether each character of a run is put at the appropriate place as it is: nothing is dropped, reconstructed or foster parented.
+/// Whether a character other than NUL is put at the appropriate place as it is, and so is each of a run: nothing is dropped,
+/// reconstructed or foster parented.
 pub(crate) fn puts_each(rules: &Rules<'_>) -> bool
     ensures { result ≡ puts_each (state_of rules.now) }
 {
@@ -38,4 +39,13 @@ pub(crate) fn put_run(rules: &mut Rules<'_>, run: &str, at: u64) -> Result<(), R
 {
     let place = rules.site.place();
     rules.site.put_text(run, place, at)
+}
+
+/// Puts a character at the appropriate place.
+pub(crate) fn put_one(rules: &mut Rules<'_>, ch: char, at: u64) -> Result<(), Refusal>
+    ensures gives { Gives result rules.new.site (put at ch (place numbers rules.old.site) rules.old.site) }
+    ensures rest { state_of rules.new ≡ with_site rules.new.site (state_of rules.old) }
+{
+    let place = rules.site.place();
+    rules.site.put(ch, place, at)
 }
