@@ -19,7 +19,7 @@ use Rattle.htoken.specs.Token.{Span, piece_span}
 use Rattle.htag.specs.Tag.{parts_text}
 use Rattle.htoken.specs.Tag.{IsTag}
 use Rattle.htoken.specs.Data.{IsDataSpan, character_span, less_span, comment_span, doctype_span, character, reference, less_than_last, less_than_solidus_last, less_than, nothing, tag, comment, bogus_end_tag, bogus_question, bogus_cdata, bogus_declaration, doctype}
-use Rattle.hcut.proofs.OneReference.{one_of as one_reference}
+use Rattle.charref.proofs.OneReference.{one_of as one_reference}
 use Rattle.hcut.proofs.Words.{heads, tails, same_mark, begins_more}
 use Rattle.hcut.proofs.OneValue.{at_amp}
 use Rattle.hcut.proofs.OneTag.{Side, IsTagOf, IsOfSide, of_side, side_of, one_of_side, tag_whole}

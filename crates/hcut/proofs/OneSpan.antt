@@ -13,7 +13,7 @@ use Rattle.htag.specs.Value.{plain_piece}
 use Rattle.htoken.specs.Raw.{is_end_tag_of, is_raw_end, may_end}
 use Rattle.htoken.specs.Data.{tag}
 use Rattle.htoken.specs.Spans.{IsRawSpan, IsSpanOf, IsSpan, has_references, raw_character, raw_reference, raw_end}
-use Rattle.hcut.proofs.OneReference.{one_of}
+use Rattle.charref.proofs.OneReference.{one_of}
 use Rattle.hcut.proofs.Words.{heads, tails, begins_more}
 use Rattle.hcut.proofs.OneValue.{is_amp, at_amp, no_reference}
 use Rattle.hcut.proofs.OneData.{one_data_span, one_tag, some_data}

@@ -7,7 +7,7 @@ use Rattle.names.specs.declared.placed.Placed.{Placed}
 use Rattle.names.specs.Placed.{characters, lowered, begins}
 use Rattle.charref.specs.Reference.{Entities, Piece, IsReference, named, kept, unknown, decimal, hexadecimal, no_digits, alone}
 use Rattle.htag.specs.Value.{IsPiece, plain, reference, plain_piece, pieces_text, AreValue}
-use Rattle.hcut.proofs.OneReference.{one_of}
+use Rattle.charref.proofs.OneReference.{one_of}
 use Rattle.hcut.proofs.Words.{heads, tails, begins_more}
 
 lower_near : (c k : ℕ) (a b : Bool) → nat_lt c 65 ≡ a → cond a c (cond b (c + 32) c) ≡ k → nat_lt k 97 ≡ true → c ≡ k

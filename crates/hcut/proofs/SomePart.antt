@@ -7,7 +7,7 @@ use Rattle.hmarkup.proofs.Marks.{and_both, or_none}
 use Rattle.charref.specs.Reference.{Entities, Piece, IsTable}
 use Rattle.htag.specs.Value.{IsPiece, plain, reference, plain_piece, AreValue, pieces_text}
 use Rattle.htag.specs.Tag.{Part, IsPart, AreParts, parts_text, IsAttributeName, ends_name, ends_attribute_name, ends_unquoted, is_sign, space, solidus, bare, no_value, unquoted, quoted, unclosed}
-use Rattle.hcut.proofs.SomeReference.{some_of}
+use Rattle.charref.proofs.SomeReference.{some_of}
 use Rattle.hcut.proofs.Words.{begins_more}
 use Rattle.hcut.proofs.OneValue.{is_amp, at_amp}
 

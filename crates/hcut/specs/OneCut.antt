@@ -5,7 +5,7 @@ use Rattle.names.specs.declared.error.ParseError.{ParseError}
 use Rattle.names.specs.declared.placed.Placed.{Placed}
 use Rattle.names.specs.declared.raw.RawKind.{RawKind}
 use Rattle.names.specs.declared.raw.RefusedName.{RefusedName}
-use Rattle.charref.specs.Reference.{Entities, Piece, IsReference}
+use Rattle.charref.specs.Reference.{Entities}
 use Rattle.htoken.specs.Token.{Tok, Span}
 use Rattle.htoken.specs.Standing.{Standing, at_start}
 use Rattle.htag.specs.Tag.{Part, IsPart}
@@ -14,13 +14,7 @@ use Rattle.htoken.specs.Data.{IsDataSpan}
 use Rattle.htoken.specs.Spans.{IsSpan}
 use Rattle.htoken.specs.Tokens.{spans_text, Cut, Tokens, IsRefused}
 
--- One reference at most stands at the front of a text.
-abbrev pub IsOneReference : Entities → Bool → Type 0
-IsOneReference table in_value = (rest rest' : List Placed) (piece piece' : Piece) → IsReference table in_value rest piece
-    → IsReference table in_value rest' piece'
-    → piece.text ++ rest ≡ piece'.text ++ rest' → (piece ≡ piece') × (rest ≡ rest')
-
--- .. and one part of a tag, one tag, and one span of each kind of text
+-- One part of a tag at most stands at the front of a text, and one tag, and one span of each kind of text.
 abbrev pub OnePart : Type 0
 OnePart = (table : Entities) (end : ℕ) (rest rest' : List Placed) (part part' : Part) → IsPart table end rest part → IsPart table end rest' part'
     → part.text ++ rest ≡ part'.text ++ rest' → (part ≡ part') × (rest ≡ rest')

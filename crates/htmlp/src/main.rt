@@ -1,4 +1,4 @@
-//! The program `htmlp`. Its stored run is a refusal, whose status only a run shows.
+//! The program `htmlp`. Without words it ends with the status of a fault; `runs/` has what it does with others.
 #![tactic(auto)]
 
 use hmain::start;
