@@ -5,6 +5,8 @@ use Rattle.std.proofs.lemmas.List.FromFn.{get_or-range_with_len}
 use Rattle.std.proofs.lemmas.Bool.{cases_lt}
 use Rattle.std.specs.Prelude.{slice_get}
 use Rattle.std.specs.List.{range_with_len}
+use denote.Enum.Declared as enum
+use Rattle.names.specs.contracts.tag.Tag as contract
 use Rattle.names.specs.declared.tag.Tag.{Tag}
 use Rattle.names.specs.declared.tag.Tag.TheVariants.{Other}
 use Rattle.names.specs.Tags.{tag_text, tags, known, tag_of, number_of}
@@ -21,6 +23,19 @@ number_of-tag_of n known_name =
       | inl less ↦ sym (get_or-map number_of tags n Other 0 less) ∙ ap (λ (x : List ℕ). get_or x n 0) number_of-tags ∙ get_or-range_with_len 0 127 n 0 less ∙ zero-add n
       | inr past ↦ absurd (known_name (get_or_past tags n Other past))
     ]
+
+-- a tag stands at its place among the variants
+pub tag_of-place : (t : Tag) → tag_of (enum.tag_of contract.the_type t) ≡ t
+tag_of-place Other = refl
+tag_of-place _ = refl
+
+-- .. which is its number
+pub place-is : (t : Tag) → (t ≡ Other → ⊥) → enum.tag_of contract.the_type t ≡ number_of t
+place-is t h =
+    sym (number_of-tag_of (enum.tag_of contract.the_type t) (λ e. h (sym (tag_of-place t) ∙ e))) ∙ ap number_of (tag_of-place t)
+
+pub tag_of-number_of : (t : Tag) → (t ≡ Other → ⊥) → tag_of (number_of t) ≡ t
+tag_of-number_of t h = ap tag_of (sym (place-is t h)) ∙ tag_of-place t
 
 -- a known text stands at its number
 known_text : (t : Tag) → (t ≡ Other → ⊥) → slice_get known (number_of t) ≡ Some (tag_text t)

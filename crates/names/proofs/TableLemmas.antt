@@ -1,5 +1,5 @@
 -- Laws of a table's texts.
-use Rattle.std.proofs.Common.{◌≡◌, ℕ, ◌<◌, ◌≤◌, ◌^◌, true, false, List, [], ◌∷◌, ◌++◌, length, map, get_or, Option, Some, None, sym, refl, ap, ◌∙◌, arith, rules}
+use Rattle.std.proofs.Common.{◌≡◌, ℕ, zero, suc, ◌<◌, ◌≤◌, ◌^◌, true, false, List, [], ◌∷◌, ◌++◌, length, map, get_or, Option, Some, None, sym, refl, ap, ◌∙◌, arith, rules}
 use Rattle.std.proofs.lemmas.List.{map-append, take-append-le, length-take, length-append}
 use Rattle.std.proofs.lemmas.Map.Keys.{apart_from_distinct}
 use Rattle.std.proofs.lemmas.Slice.Eq.{bytes_eq-Decides}
@@ -87,6 +87,12 @@ number_from_position (k ∷ ks) i text h =
     let within : i < length (map string_bytes (k ∷ ks)) = simp length-map at.0 in
     let e : text_of (map string_bytes (k ∷ ks)) i ≡ text = text_of-position (k ∷ ks) i text h in
     slice_get-get_or (map string_bytes (k ∷ ks)) i [] within ∙ ap Some e
+
+-- the text of the key at a place
+pub text_of-key : {A : Type 0} (keys : List (String A)) (i : ℕ) (key : String A) → slice_get keys i ≡ Some key → slice_get (map string_bytes keys) i ≡ Some (string_bytes key)
+text_of-key [] i key h = cc
+text_of-key (k ∷ ks) zero key h = cc
+text_of-key (k ∷ ks) (suc i) key h = text_of-key ks i key h
 
 -- the number of a text that was put in last
 pub number_last : {A : Type 0} (old new : List (String A)) (key : String A) (text : List ℕ) → string_bytes key ≡ text → new ≡ old ++ key ∷ [] → slice_get (map string_bytes new) (length old) ≡ Some text

@@ -40,9 +40,13 @@ holds_more keys new texts text key h fresh is distinct e =
       distinct = distinct;
     }
 
-pub filled_more : {A : Type 0} (keys new : List (String A)) (tags : List Tag) (i : ℕ) (t : Tag) (key : String A) → IsFilled keys tags i → i < length tags
-    → string_bytes key ≡ tag_text (get_or tags i t) → IsDistinct string_eq new → new ≡ insert_key string_eq keys key → IsFilled new tags (i + 1)
-filled_more keys new tags i t key h less is distinct e =
+-- a text put in last
+abbrev pub IsPut : {A : Type 0} → List (String A) → List (String A) → List ℕ → Type 0
+IsPut keys new text = (there : List (List ℕ)) → HoldsTexts keys there → list_any (bytes_eq text) there ≡ false → HoldsTexts new (there ++ text ∷ [])
+
+pub filled_more : {A : Type 0} (keys new : List (String A)) (tags : List Tag) (i : ℕ) (t : Tag) (put : List ℕ) → IsFilled keys tags i → i < length tags
+    → put ≡ tag_text (get_or tags i t) → IsPut keys new put → IsFilled new tags (i + 1)
+filled_more keys new tags i t put h less is puts =
     let text : List ℕ = tag_text (get_or tags i t) in
     let there : List (List ℕ) = map tag_text (take i tags) in
     let now_there : map tag_text (take (i + 1) tags) ≡ there ++ text ∷ [] =
@@ -51,7 +55,7 @@ filled_more keys new tags i t key h less is distinct e =
     sym (ap (λ (d : List Tag). are_new there (map tag_text d)) (drop_more tags i t less)) ∙ h.others_are_new in
     let parts = new_parts (list_any (bytes_eq text) there) (are_new (there ++ text ∷ []) (map tag_text (drop (i + 1) tags))) split in
     record {
-      holds = subst (HoldsTexts new) (sym now_there) (holds_more keys new there text key h.holds parts.0 is distinct e);
+      holds = subst (HoldsTexts new) (sym now_there) (subst (IsPut keys new) is puts there h.holds parts.0);
       others_are_new = ap (λ (x : List (List ℕ)). are_new x (map tag_text (drop (i + 1) tags))) now_there ∙ parts.1;
     }
 

@@ -80,111 +80,80 @@ pub struct ParseError {
     pub at: u64,
 }
 
+/// The texts of the codes, each at the rank of its code.
+static TEXTS: [&str; 64] = [
+    "control-character-in-input-stream",
+    "noncharacter-in-input-stream",
+    "abrupt-closing-of-empty-comment",
+    "abrupt-doctype-public-identifier",
+    "abrupt-doctype-system-identifier",
+    "absence-of-digits-in-numeric-character-reference",
+    "cdata-in-html-content",
+    "character-reference-outside-unicode-range",
+    "control-character-reference",
+    "duplicate-attribute",
+    "end-tag-with-attributes",
+    "end-tag-with-trailing-solidus",
+    "eof-before-tag-name",
+    "eof-in-comment",
+    "eof-in-doctype",
+    "eof-in-script-html-comment-like-text",
+    "eof-in-tag",
+    "incorrectly-closed-comment",
+    "incorrectly-opened-comment",
+    "invalid-character-sequence-after-doctype-name",
+    "invalid-first-character-of-tag-name",
+    "missing-attribute-value",
+    "missing-doctype-name",
+    "missing-doctype-public-identifier",
+    "missing-doctype-system-identifier",
+    "missing-end-tag-name",
+    "missing-quote-before-doctype-public-identifier",
+    "missing-quote-before-doctype-system-identifier",
+    "missing-semicolon-after-character-reference",
+    "missing-whitespace-after-doctype-public-keyword",
+    "missing-whitespace-after-doctype-system-keyword",
+    "missing-whitespace-before-doctype-name",
+    "missing-whitespace-between-attributes",
+    "missing-whitespace-between-doctype-public-and-system-identifiers",
+    "nested-comment",
+    "noncharacter-character-reference",
+    "null-character-reference",
+    "surrogate-character-reference",
+    "unexpected-character-after-doctype-system-identifier",
+    "unexpected-character-in-attribute-name",
+    "unexpected-character-in-unquoted-attribute-value",
+    "unexpected-equals-sign-before-attribute-name",
+    "unexpected-null-character",
+    "unexpected-question-mark-instead-of-tag-name",
+    "unexpected-solidus-in-tag",
+    "unknown-named-character-reference",
+    "non-void-html-element-start-tag-with-trailing-solidus",
+    "tree-after-after-body",
+    "tree-after-body",
+    "tree-after-head",
+    "tree-before-head",
+    "tree-before-html",
+    "tree-in-body",
+    "tree-in-caption",
+    "tree-in-cell",
+    "tree-in-column-group",
+    "tree-in-head",
+    "tree-in-head-noscript",
+    "tree-in-row",
+    "tree-in-table",
+    "tree-in-table-body",
+    "tree-in-table-text",
+    "tree-initial",
+    "tree-text",
+];
+
 impl ErrorCode {
     /// The code as the HTML Standard spells it, and as it is printed. A code of the tree rules is `tree-` and the mode.
     pub fn text(self) -> &'static str
         ensures { result.now ≡ code_text self }
     {
-        match self {
-            ErrorCode::ControlCharacterInInputStream => "control-character-in-input-stream",
-            ErrorCode::NoncharacterInInputStream => "noncharacter-in-input-stream",
-            ErrorCode::AbruptClosingOfEmptyComment => "abrupt-closing-of-empty-comment",
-            ErrorCode::AbruptDoctypePublicIdentifier => "abrupt-doctype-public-identifier",
-            ErrorCode::AbruptDoctypeSystemIdentifier => "abrupt-doctype-system-identifier",
-            ErrorCode::AbsenceOfDigitsInNumericCharacterReference => {
-                "absence-of-digits-in-numeric-character-reference"
-            }
-            ErrorCode::CdataInHtmlContent => "cdata-in-html-content",
-            ErrorCode::CharacterReferenceOutsideUnicodeRange => {
-                "character-reference-outside-unicode-range"
-            }
-            ErrorCode::ControlCharacterReference => "control-character-reference",
-            ErrorCode::DuplicateAttribute => "duplicate-attribute",
-            ErrorCode::EndTagWithAttributes => "end-tag-with-attributes",
-            ErrorCode::EndTagWithTrailingSolidus => "end-tag-with-trailing-solidus",
-            ErrorCode::EofBeforeTagName => "eof-before-tag-name",
-            ErrorCode::EofInComment => "eof-in-comment",
-            ErrorCode::EofInDoctype => "eof-in-doctype",
-            ErrorCode::EofInScriptHtmlCommentLikeText => "eof-in-script-html-comment-like-text",
-            ErrorCode::EofInTag => "eof-in-tag",
-            ErrorCode::IncorrectlyClosedComment => "incorrectly-closed-comment",
-            ErrorCode::IncorrectlyOpenedComment => "incorrectly-opened-comment",
-            ErrorCode::InvalidCharacterSequenceAfterDoctypeName => {
-                "invalid-character-sequence-after-doctype-name"
-            }
-            ErrorCode::InvalidFirstCharacterOfTagName => "invalid-first-character-of-tag-name",
-            ErrorCode::MissingAttributeValue => "missing-attribute-value",
-            ErrorCode::MissingDoctypeName => "missing-doctype-name",
-            ErrorCode::MissingDoctypePublicIdentifier => "missing-doctype-public-identifier",
-            ErrorCode::MissingDoctypeSystemIdentifier => "missing-doctype-system-identifier",
-            ErrorCode::MissingEndTagName => "missing-end-tag-name",
-            ErrorCode::MissingQuoteBeforeDoctypePublicIdentifier => {
-                "missing-quote-before-doctype-public-identifier"
-            }
-            ErrorCode::MissingQuoteBeforeDoctypeSystemIdentifier => {
-                "missing-quote-before-doctype-system-identifier"
-            }
-            ErrorCode::MissingSemicolonAfterCharacterReference => {
-                "missing-semicolon-after-character-reference"
-            }
-            ErrorCode::MissingWhitespaceAfterDoctypePublicKeyword => {
-                "missing-whitespace-after-doctype-public-keyword"
-            }
-            ErrorCode::MissingWhitespaceAfterDoctypeSystemKeyword => {
-                "missing-whitespace-after-doctype-system-keyword"
-            }
-            ErrorCode::MissingWhitespaceBeforeDoctypeName => {
-                "missing-whitespace-before-doctype-name"
-            }
-            ErrorCode::MissingWhitespaceBetweenAttributes => {
-                "missing-whitespace-between-attributes"
-            }
-            ErrorCode::MissingWhitespaceBetweenDoctypePublicAndSystemIdentifiers => {
-                "missing-whitespace-between-doctype-public-and-system-identifiers"
-            }
-            ErrorCode::NestedComment => "nested-comment",
-            ErrorCode::NoncharacterCharacterReference => "noncharacter-character-reference",
-            ErrorCode::NullCharacterReference => "null-character-reference",
-            ErrorCode::SurrogateCharacterReference => "surrogate-character-reference",
-            ErrorCode::UnexpectedCharacterAfterDoctypeSystemIdentifier => {
-                "unexpected-character-after-doctype-system-identifier"
-            }
-            ErrorCode::UnexpectedCharacterInAttributeName => {
-                "unexpected-character-in-attribute-name"
-            }
-            ErrorCode::UnexpectedCharacterInUnquotedAttributeValue => {
-                "unexpected-character-in-unquoted-attribute-value"
-            }
-            ErrorCode::UnexpectedEqualsSignBeforeAttributeName => {
-                "unexpected-equals-sign-before-attribute-name"
-            }
-            ErrorCode::UnexpectedNullCharacter => "unexpected-null-character",
-            ErrorCode::UnexpectedQuestionMarkInsteadOfTagName => {
-                "unexpected-question-mark-instead-of-tag-name"
-            }
-            ErrorCode::UnexpectedSolidusInTag => "unexpected-solidus-in-tag",
-            ErrorCode::UnknownNamedCharacterReference => "unknown-named-character-reference",
-            ErrorCode::NonVoidHtmlElementStartTagWithTrailingSolidus => {
-                "non-void-html-element-start-tag-with-trailing-solidus"
-            }
-            ErrorCode::TreeAfterAfterBody => "tree-after-after-body",
-            ErrorCode::TreeAfterBody => "tree-after-body",
-            ErrorCode::TreeAfterHead => "tree-after-head",
-            ErrorCode::TreeBeforeHead => "tree-before-head",
-            ErrorCode::TreeBeforeHtml => "tree-before-html",
-            ErrorCode::TreeInBody => "tree-in-body",
-            ErrorCode::TreeInCaption => "tree-in-caption",
-            ErrorCode::TreeInCell => "tree-in-cell",
-            ErrorCode::TreeInColumnGroup => "tree-in-column-group",
-            ErrorCode::TreeInHead => "tree-in-head",
-            ErrorCode::TreeInHeadNoscript => "tree-in-head-noscript",
-            ErrorCode::TreeInRow => "tree-in-row",
-            ErrorCode::TreeInTable => "tree-in-table",
-            ErrorCode::TreeInTableBody => "tree-in-table-body",
-            ErrorCode::TreeInTableText => "tree-in-table-text",
-            ErrorCode::TreeInitial => "tree-initial",
-            ErrorCode::TreeText => "tree-text",
-        }
+        TEXTS[self as usize]
     }
 
     /// The order of the errors at one byte: those of the input stream, of the tokenizer and of the tree rules, each group

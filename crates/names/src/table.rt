@@ -1,6 +1,7 @@
 //! Names as numbers.
 
-ghost use Rattle.std.specs.Prelude.{◌≡◌, ◌≢◌, ℕ, ◌<◌, List, [], IfOk, OnErr, length, map, slice_get, Some, true};
+ghost use Rattle.std.specs.Prelude.{◌≡◌, ◌≢◌, ℕ, ◌<◌, List, [], ◌∷◌, ◌++◌, IfOk, OnErr, bytes_eq, length, map, slice_get, Some, true, false};
+ghost use Rattle.std.specs.List.{list_any};
 ghost use Rattle.names.specs.Names.{Texts, IsOf, Grows, interned, AreNames};
 ghost use Rattle.names.specs.Table.{are_new, HoldsTexts};
 ghost use Rattle.names.specs.Tags.{known, tags, type_name, tag_of, number_of, tag_named, tag_text};
@@ -73,6 +74,15 @@ impl Tag {
 /// The name of the attribute that says whether an input is hidden.
 const TYPE: &str = "type";
 
+/// Puts a copy of a text last in a set, where the text is not there yet.
+fn put_last(texts: &mut IndexSet<String>, alloc: Global, text: &str) -> Result<(), AllocError>
+    ensures { IfOk result (λ _. (there : List (List ℕ)) → HoldsTexts texts.old.keys there → list_any (bytes_eq text.now) there ≡ false
+        → HoldsTexts texts.new.keys (there ++ text.now ∷ [])) }
+{
+    texts.insert(String::from_str(alloc, text)?)?;
+    Ok(())
+}
+
 /// The texts of tags in their order, no two of which are equal.
 fn tag_texts(alloc: Global, tags: &[Tag]) -> Result<IndexSet<String>, AllocError>
     requires { are_new [] (map tag_text tags.now) ≡ true }
@@ -80,7 +90,7 @@ fn tag_texts(alloc: Global, tags: &[Tag]) -> Result<IndexSet<String>, AllocError
 {
     let mut texts = IndexSet::new(alloc);
     for tag in tags {
-        texts.insert(String::from_str(alloc, tag.text())?)?;
+        put_last(&mut texts, alloc, tag.text())?;
     }
     Ok(texts)
 }
@@ -111,7 +121,7 @@ impl Names {
         ensures names { IfOk result AreNames }
     {
         let mut texts = tag_texts(alloc, &TAGS)?;
-        texts.insert(String::from_str(alloc, TYPE)?)?;
+        put_last(&mut texts, alloc, TYPE)?;
         Ok(Names { texts })
     }
 

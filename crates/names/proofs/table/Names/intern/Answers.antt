@@ -6,6 +6,7 @@ use Rattle.std.specs.Prelude.{List, String, Some, slice_get}
 use Rattle.std.proofs.Common.{Global, subst, arith, length}
 use Rattle.names.specs.Names.{AreNames}
 use Rattle.names.specs.Table.{IsTable}
+use Rattle.names.proofs.Handing.{grows_not, grows_same}
 use Rattle.names.proofs.KnownTags.{tag_of-named}
 use Rattle.names.proofs.table.Names.intern.Goals as goal
 
@@ -22,6 +23,21 @@ pub returns-in-Some-clause-added : goal.returns-in-Some-clause-added
 returns-in-Some-clause-added c =
     let count : length c.args.self.now ≡ length c.self.inside.texts.keys = ap length (sym c.self.view_is) ∙ length-map c.self.inside.texts.keys string_bytes in
     interned-there c.args.self.now c.in-Some.index c.args.text.now (let within = c.in-Some.ensures.within in omega (arith, count, within))
+
+pub returns-in-Some-clause-grows : goal.returns-in-Some-clause-grows
+returns-in-Some-clause-grows c = grows_not _
+
+pub returns-in_default-clause-grows : goal.returns-in_default-clause-grows
+returns-in_default-clause-grows c = grows_not _
+
+pub returns-in_err-from_str-in-None-clause-grows : goal.returns-in_err-from_str-in-None-clause-grows
+returns-in_err-from_str-in-None-clause-grows c = grows_same _ _ c.self.view_is
+
+pub invariant_of-self-in_err-insert-in-None : goal.invariant_of-self-in_err-insert-in-None
+invariant_of-self-in_err-insert-in-None c = subst (λ (keys : List (String Global)). IsTable keys) (sym c.in_err-insert-in-None.ensures.err) c.self.invariant
+
+pub returns-in_err-insert-in-None-clause-grows : goal.returns-in_err-insert-in-None-clause-grows
+returns-in_err-insert-in-None-clause-grows c = grows_same _ _ (ap (map string_bytes) c.in_err-insert-in-None.ensures.err ∙ c.self.view_is)
 
 pub returns-in_err-from_str-in-None-clause-names : goal.returns-in_err-from_str-in-None-clause-names
 returns-in_err-from_str-in-None-clause-names c = are_names _ c.self.invariant
