@@ -5,7 +5,7 @@ ghost use Rattle.std.specs.Prelude.{◌≡◌, IfOk};
 use std::alloc::{AllocError, Global};
 
 /// A key with its `&`, and the characters that it stands for.
-#[derive(Debug, Drop)]
+#[derive(Drop)]
 pub(crate) struct Entity {
     pub(crate) key: Vec<u8>,
     pub(crate) characters: Vec<char>,

@@ -4,7 +4,7 @@ use crate::reference::Reference;
 use crate::state::State;
 
 /// The walk continues in a state, or has found the end of a reference.
-#[derive(Clone, Copy, Debug)]
+#[derive(Clone, Copy)]
 pub(crate) enum Next<'t> {
     Goes(State),
     Ended(Reference<'t>),

@@ -8,7 +8,7 @@ ghost use Rattle.charref.specs.Number.{is_digit_of, radix};
 use names::{ErrorCode, is_noncharacter};
 
 /// The base in which a number is written.
-#[derive(Clone, Copy, Debug)]
+#[derive(Clone, Copy)]
 pub(crate) enum Base {
     Decimal,
     Hexadecimal,

@@ -1,18 +1,18 @@
 //! Reading a table from JSON text.
 
-ghost use Rattle.std.specs.Prelude.{◌≡◌, ◌⊎◌, List, Ok, Err, Some, IfOk, IfErr, option_map, string_bytes, encode_utf8_all};
+ghost use Rattle.std.specs.Prelude.{◌≡◌, ◌⊎◌, List, [], ◌∷◌, ◌++◌, Ok, Err, Some, IfOk, IfErr, option_map, option_and_then, bytes_eq, codes, string_bytes, encode_utf8_all};
+ghost use Rattle.serde_json.specs.Find.{get, as_str, as_array};
 ghost use Rattle.names.specs.declared.refusal.TableFault.{TableFault};
 ghost use Rattle.serde_json.specs.View.{view, items_view, members_view};
 ghost use Rattle.serde_json.specs.Errors.{IsMemory};
 ghost use Rattle.charref.specs.Reference.{is_key, is_key_name, Entities};
-ghost use Rattle.charref.specs.Reading.{codepoint, codepoints, fields, entry_of, entities_of, table_of, table_of_members, IsRefusedWith};
+ghost use Rattle.charref.specs.Reading.{codepoint, codepoints, fields, entry_of, entry_of_characters, entities_of, table_of, table_of_members, IsRefusedWith};
 ghost use Rattle.charref.specs.Table.{entry, entries};
 ghost use Rattle.std.specs.List.Sorted.{IsStrictlySortedBy};
 ghost use Rattle.std.specs.Map.{keys_of};
 ghost use Rattle.std.specs.String.{string_cmp};
 
 use crate::entity::Entity;
-use crate::starts::starts_of;
 use crate::table::Table;
 use names::{Refusal, TableFault};
 use serde_json::{Error, Map, Value};
@@ -53,20 +53,39 @@ fn codepoint(value: &Value) -> Option<char>
     }
 }
 
+/// The character of a list of one number.
+fn one_codepoint(alloc: Global, value: &Value) -> Result<Option<Vec<char>>, AllocError>
+    ensures { IfOk result (λ found. option_map (λ v. v.items) found ≡ option_map (λ c. c ∷ []) (codepoint (view value.now))) }
+{
+    match codepoint(value) {
+        Some(character) => Ok(Some(Vec::from_slice(alloc, &[character])?)),
+        None => Ok(None),
+    }
+}
+
+/// The characters of a list of two numbers.
+fn two_codepoints(
+    alloc: Global,
+    first: &Value,
+    second: &Value,
+) -> Result<Option<Vec<char>>, AllocError>
+    ensures { IfOk result (λ found. option_map (λ v. v.items) found
+        ≡ option_and_then (λ c. option_map (λ b. c ∷ b ∷ []) (codepoint (view second.now))) (codepoint (view first.now))) }
+{
+    match (codepoint(first), codepoint(second)) {
+        (Some(first), Some(second)) => Ok(Some(Vec::from_slice(alloc, &[first, second])?)),
+        _ => Ok(None),
+    }
+}
+
 /// The characters of a list of one or two numbers.
 fn codepoints(alloc: Global, list: &[Value]) -> Result<Option<Vec<char>>, AllocError>
     ensures { IfOk result (λ found. option_map (λ v. v.items) found ≡ codepoints (items_view list.now)) }
 {
     match list {
         [] => Ok(None),
-        [only] => match codepoint(only) {
-            Some(character) => Ok(Some(Vec::from_slice(alloc, &[character])?)),
-            None => Ok(None),
-        },
-        [first, second] => match (codepoint(first), codepoint(second)) {
-            (Some(first), Some(second)) => Ok(Some(Vec::from_slice(alloc, &[first, second])?)),
-            _ => Ok(None),
-        },
+        [only] => one_codepoint(alloc, only),
+        [first, second] => two_codepoints(alloc, first, second),
         [_, _, _, ..] => Ok(None),
     }
 }
@@ -82,13 +101,32 @@ fn text_of(alloc: Global, characters: &[char]) -> Result<String, AllocError>
     Ok(text)
 }
 
+/// Whether a text is that of some characters.
+fn is_text_of(alloc: Global, text: &str, characters: &[char]) -> Result<bool, AllocError>
+    ensures { IfOk result (λ same. same ≡ bytes_eq text.now (encode_utf8_all characters.now)) }
+{
+    Ok(text == text_of(alloc, characters)?.as_str())
+}
+
+/// The list of an entry, if it has one.
+fn list_of(value: &Value) -> Option<&Vec<Value>>
+    ensures { option_map (λ list. items_view list.now.items) result ≡ option_and_then as_array (get (codes "codepoints") (view value.now)) }
+{
+    value.get("codepoints")?.as_array()
+}
+
+/// The text of an entry, if it has one.
+fn written(value: &Value) -> Option<&str>
+    ensures { option_map (λ text. text.now) result ≡ option_and_then as_str (get (codes "characters") (view value.now)) }
+{
+    value.get("characters")?.as_str()
+}
+
 /// The list and the text of an entry, if it is an object that has both.
 fn fields(value: &Value) -> Option<(&Vec<Value>, &str)>
     ensures { option_map (λ pair. (items_view pair.0.now.items, pair.1.now)) result ≡ fields (view value.now) }
 {
-    let list = value.get("codepoints")?.as_array()?;
-    let text = value.get("characters")?.as_str()?;
-    Some((list, text))
+    Some((list_of(value)?, written(value)?))
 }
 
 fn fault(cause: TableFault) -> Refusal
@@ -109,6 +147,21 @@ fn json_fault(error: Error) -> Refusal
     }
 }
 
+/// The entry of a key, and of its list and its text.
+fn entity_with(alloc: Global, key: &str, list: &[Value], text: &str) -> Result<Entity, Refusal>
+    ensures ok { IfOk result (λ entity. entry_of_characters key.now text.now (codepoints (items_view list.now)) ≡ Ok (entry entity)) }
+    ensures err { IfErr result (λ e. IsRefusedWith (entry_of_characters key.now text.now (codepoints (items_view list.now))) e) }
+{
+    let Some(characters) = codepoints(alloc, list)? else {
+        return Err(fault(TableFault::Codepoints));
+    };
+    if !is_text_of(alloc, text, &characters)? {
+        return Err(fault(TableFault::Characters));
+    }
+    let key = Vec::from_slice(alloc, key.as_bytes())?;
+    Ok(Entity { key, characters })
+}
+
 /// The entry of a key and its value.
 fn entity_of(alloc: Global, key: &str, value: &Value) -> Result<Entity, Refusal>
     ensures ok { IfOk result (λ entity. entry_of key.now (view value.now) ≡ Ok (entry entity)) }
@@ -120,16 +173,21 @@ fn entity_of(alloc: Global, key: &str, value: &Value) -> Result<Entity, Refusal>
     let Some((list, text)) = fields(value) else {
         return Err(fault(TableFault::Shape));
     };
-    let Some(characters) = codepoints(alloc, list)? else {
-        return Err(fault(TableFault::Codepoints));
-    };
-    if text_of(alloc, &characters)?.as_str() != text {
-        return Err(fault(TableFault::Characters));
-    }
-    Ok(Entity {
-        key: Vec::from_slice(alloc, key.as_bytes())?,
-        characters,
-    })
+    entity_with(alloc, key, list, text)
+}
+
+/// Appends the entry of a key and its value.
+fn add_entity(
+    entities: &mut Vec<Entity>,
+    alloc: Global,
+    key: &str,
+    value: &Value,
+) -> Result<(), Refusal>
+    ensures ok { IfOk result (λ _. (e : Entity) × (entry_of key.now (view value.now) ≡ Ok (entry e)) × (entities.new.items ≡ entities.old.items ++ e ∷ [])) }
+    ensures err { IfErr result (λ e. IsRefusedWith (entry_of key.now (view value.now)) e) }
+{
+    let entity = entity_of(alloc, key, value)?;
+    Ok(entities.push(entity)?)
 }
 
 /// The entries of an object's members, in the order of their keys.
@@ -140,7 +198,7 @@ fn entities_of(alloc: Global, members: &Map<String, Value>) -> Result<Vec<Entity
 {
     let mut entities = Vec::with_capacity(alloc, members.len())?;
     for (key, value) in members.iter() {
-        entities.push(entity_of(alloc, key.as_str(), value)?)?;
+        add_entity(&mut entities, alloc, key.as_str(), value)?;
     }
     Ok(entities)
 }
@@ -158,8 +216,15 @@ impl Table {
         let Some(members) = value.as_object() else {
             return Err(fault(TableFault::Shape));
         };
+        Table::of_members(alloc, members)
+    }
+
+    /// The table of an object's members.
+    fn of_members(alloc: Global, members: &Map<String, Value>) -> Result<Table, Refusal>
+        ensures ok { IfOk result (λ table. entities_of (members_view members.now.entries) ≡ Ok table) }
+        ensures err { IfErr result (λ e. IsRefusedWith (entities_of (members_view members.now.entries)) e) }
+    {
         let entities = entities_of(alloc, members)?;
-        let starts = starts_of(alloc, &entities)?;
-        Ok(Table { entities, starts })
+        Ok(Table::with(alloc, entities)?)
     }
 }

@@ -7,7 +7,7 @@ use names::ErrorCode;
 use std::slice;
 
 /// The characters that a reference stands for: borrowed from the table, or a single one.
-#[derive(Clone, Copy, Debug)]
+#[derive(Clone, Copy)]
 pub enum Characters<'t> {
     Named(&'t [char]),
     One(char),
@@ -18,7 +18,7 @@ pub enum Characters<'t> {
 /// Its parse errors are placed at the `&`: missing-semicolon-after-character-reference if `missing_semicolon` is set, and
 /// then `fault`. If `in_run` is set, no key matches, all characters taken are alphanumerics to be read again, and their run may
 /// go on: the error is unknown-named-character-reference if a `;` follows that run.
-#[derive(Clone, Copy, Debug)]
+#[derive(Clone, Copy)]
 pub struct Reference<'t> {
     pub characters: Characters<'t>,
     /// How many characters at the end of those taken are not part of it and must be read again. The `&` is part of it.

@@ -8,7 +8,7 @@ use crate::entity::Entity;
 
 /// The state of a look-up that has read `depth` bytes. The keys of the entities from `low` up to `high` begin with these
 /// bytes, and the entity at `best` has the longest key that the bytes begin with.
-#[derive(Clone, Copy, Debug)]
+#[derive(Clone, Copy)]
 pub(crate) struct Search {
     pub(crate) depth: usize,
     pub(crate) low: usize,

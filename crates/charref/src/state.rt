@@ -4,7 +4,7 @@ use crate::number::Base;
 use crate::search::Search;
 
 /// What the characters after the `&` are so far: the beginning of a name, `#`, `#x`, or a number.
-#[derive(Clone, Copy, Debug)]
+#[derive(Clone, Copy)]
 pub(crate) enum State {
     Name(Search),
     NumberSign,

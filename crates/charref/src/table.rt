@@ -1,6 +1,6 @@
 //! The table of named character references.
 
-ghost use Rattle.std.specs.Prelude.{◌≡◌, ◌↔◌, [], ◌∷◌, length, Some, None, IfOk, IfErr, IsTrue, Contains, MatchOption};
+ghost use Rattle.std.specs.Prelude.{◌≡◌, ◌↔◌, [], ◌∷◌, ◌++◌, length, Some, None, IfOk, IfErr, OnOk, IsTrue, Contains, MatchOption};
 ghost use Rattle.charref.specs.Reference.{Entry, Entities, IsTable, HasCore, core, longest};
 ghost use Rattle.charref.specs.Table.{entries, IsSortedTable, IsIndex};
 
@@ -8,13 +8,13 @@ use crate::entity::Entity;
 use crate::search::search_for;
 use crate::starts::starts_of;
 use names::Refusal;
-use std::alloc::Global;
+use std::alloc::{AllocError, Global};
 use std::marker::Model;
 
 /// A table of named character references, sorted by the bytes of the keys, so that the keys with a common beginning are a
 /// range. A look-up narrows this range byte by byte until no key goes on with what was read: all keys begin with the `&`, an
 /// index has the ranges of the bytes after it, and each further byte takes two binary searches. It allocates nothing.
-#[derive(Debug, Drop)]
+#[derive(Drop)]
 pub struct Table {
     pub(crate) entities: Vec<Entity>,
     /// By the code of a byte after the `&`, the first entity whose key has at least this code there.
@@ -30,10 +30,37 @@ impl Model for Table {
 }
 
 /// A key that a text begins with: its length in bytes, including the `&`, and the characters that it stands for.
-#[derive(Clone, Copy, Debug)]
+#[derive(Clone, Copy)]
 pub struct Match<'t> {
     pub length: usize,
     pub characters: &'t [char],
+}
+
+/// Adds the entry of a key that stands for one character.
+fn add(
+    entities: &mut Vec<Entity>,
+    alloc: Global,
+    key: &[u8],
+    character: char,
+) -> Result<(), AllocError>
+    ensures { OnOk result (entries entities.new.items ≡ entries entities.old.items ++ record { key = key.now; stands_for = character ∷ [] } ∷ []) }
+{
+    let entity = Entity::new(alloc, key, &[character])?;
+    entities.push(entity)?;
+    Ok(())
+}
+
+/// The entries of [`Table::core`].
+fn core_entities(alloc: Global) -> Result<Vec<Entity>, AllocError>
+    ensures { IfOk result (λ entities. entries entities.items ≡ core) }
+{
+    let mut entities = Vec::with_capacity(alloc, 5)?;
+    add(&mut entities, alloc, b"&amp;", '&')?;
+    add(&mut entities, alloc, b"&gt;", '>')?;
+    add(&mut entities, alloc, b"&lt;", '<')?;
+    add(&mut entities, alloc, b"&nbsp;", '\u{A0}')?;
+    add(&mut entities, alloc, b"&quot;", '"')?;
+    Ok(entities)
 }
 
 impl Table {
@@ -42,12 +69,14 @@ impl Table {
         ensures ok { IfOk result (λ table. table ≡ core) }
         ensures err { IfErr result (λ e. e ≡ Refusal.Memory) }
     {
-        let mut entities = Vec::with_capacity(alloc, 5)?;
-        entities.push(Entity::new(alloc, b"&amp;", &['&'])?)?;
-        entities.push(Entity::new(alloc, b"&gt;", &['>'])?)?;
-        entities.push(Entity::new(alloc, b"&lt;", &['<'])?)?;
-        entities.push(Entity::new(alloc, b"&nbsp;", &['\u{A0}'])?)?;
-        entities.push(Entity::new(alloc, b"&quot;", &['"'])?)?;
+        Ok(Table::with(alloc, core_entities(alloc)?)?)
+    }
+
+    /// The table of these entries.
+    pub(crate) fn with(alloc: Global, entities: Vec<Entity>) -> Result<Table, AllocError>
+        requires sorted { IsSortedTable (entries entities.items) }
+        ensures { IfOk result (λ table. table ≡ entries entities.items) }
+    {
         let starts = starts_of(alloc, &entities)?;
         Ok(Table { entities, starts })
     }

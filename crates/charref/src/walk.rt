@@ -9,7 +9,7 @@ use crate::table::Table;
 /// Reads a character reference, one character at a time (HTML Standard, 13.2.5.72 to 13.2.5.80): a name of the table, a
 /// number, or an `&` that is text. It allocates nothing: the name so far is a range of the table, and a number above the
 /// greatest code point is stored as one more than that.
-#[derive(Clone, Copy, Debug)]
+#[derive(Clone, Copy)]
 pub struct Walk<'t> {
     pub(crate) table: &'t Table,
     pub(crate) in_value: bool,

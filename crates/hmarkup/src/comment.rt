@@ -23,7 +23,7 @@ use std::alloc::{AllocError, Global};
 use std::marker::Model;
 
 /// The two kinds of comment.
-#[derive(Clone, Copy, Debug, PartialEq, Eq)]
+#[derive(Clone, Copy)]
 pub enum CommentKind {
     /// A comment that begins with `<!--`.
     Comment,
@@ -33,7 +33,7 @@ pub enum CommentKind {
 
 /// Reads a comment after its opening mark, one character at a time. Errors go to the sink as they are found, in the order of
 /// the text. After an `Ok(true)` only `into_data` may be called; after an `Err` the walk is of no further use.
-#[derive(Drop, Debug)]
+#[derive(Drop)]
 pub struct CommentWalk {
     kind: CommentKind,
     ending: Ending,

@@ -20,7 +20,7 @@ use std::alloc::{AllocError, Global};
 use std::marker::Model;
 
 /// The contents of a doctype. A name or an identifier that is present may be empty.
-#[derive(Drop, Debug)]
+#[derive(Drop)]
 pub struct Doctype {
     pub name: Option<String>,
     pub public_id: Option<String>,
@@ -40,7 +40,7 @@ impl Model for Doctype {
 
 /// Reads a doctype after its `<!DOCTYPE`, one character at a time. Errors go to the sink as they are found, in the order of
 /// the text. After an `Ok(true)` only `into_doctype` may be called; after an `Err` the walk is of no further use.
-#[derive(Drop, Debug)]
+#[derive(Drop)]
 pub struct DoctypeWalk {
     phase: Phase,
     found: Doctype,

@@ -7,7 +7,7 @@ ghost use Rattle.hmarkup.specs.Doctype.{keyword, no_space_after_keyword, no_iden
 use names::ErrorCode;
 
 /// The two identifiers of a doctype.
-#[derive(Clone, Copy, Debug, PartialEq, Eq)]
+#[derive(Clone, Copy)]
 pub enum Identifier {
     Public,
     System,
@@ -66,7 +66,7 @@ impl Identifier {
 }
 
 /// The letters read so far of a keyword: at least one, and not all.
-#[derive(Clone, Copy, Debug, PartialEq, Eq)]
+#[derive(Clone, Copy)]
 pub struct Letters {
     /// The identifier that the keyword announces.
     pub which: Identifier,

@@ -9,7 +9,7 @@ use crate::keyword::{Identifier, Letters};
 use names::{ErrorCode, ParseError};
 
 /// Where in a doctype the walk is. A `bool` says whether white space was read there.
-#[derive(Clone, Copy, Debug, PartialEq, Eq)]
+#[derive(Clone, Copy)]
 pub enum Phase {
     BeforeName(bool),
     Name,
@@ -25,7 +25,7 @@ pub enum Phase {
 }
 
 /// Which part of the doctype a character belongs to.
-#[derive(Clone, Copy, Debug, PartialEq, Eq)]
+#[derive(Clone, Copy)]
 pub enum Keeps {
     Nothing,
     /// It is part of the name.
@@ -37,7 +37,7 @@ pub enum Keeps {
 }
 
 /// What a character does.
-#[derive(Clone, Copy, Debug, PartialEq, Eq)]
+#[derive(Clone, Copy)]
 pub struct Step {
     /// Its error, other than the one for NUL.
     pub fault: Option<ParseError>,

@@ -1,17 +1,17 @@
 //! The quirks list (HTML Standard, 13.2.6.4.1): the doctype identifiers that put a document into quirks mode.
 
-ghost use Rattle.std.specs.Prelude.{◌≡◌, ◌∷◌, ◌<◌, ℕ, List, [], length, option_map, MatchOption};
+ghost use Rattle.std.specs.Prelude.{◌≡◌, ◌∷◌, ◌<◌, ◌+◌, ℕ, List, [], length, option_map, IfOk, MatchOption};
 ghost use Rattle.std.specs.Int.{is_in_range};
 ghost use Rattle.std.specs.List.{list_all};
 ghost use Rattle.std.specs.Str.{IsUtf8};
 ghost use Rattle.hmarkup.specs.Quirks.{quirk_word, IsWordless, QuirkLine, IsQuirkLine, IsNoQuirkLine, lines, HasParts, Lacks, same_as, begins_as, line_matches, list_matches, ReadsQuirks};
 
 use names::Refusal;
-use std::alloc::Global;
+use std::alloc::{AllocError, Global};
 use std::marker::Model;
 
 /// What a line of the list is matched against.
-#[derive(Clone, Copy, Debug, PartialEq, Eq)]
+#[derive(Clone, Copy)]
 pub enum QuirkKind {
     /// The public identifier equals the line's text.
     PublicIs,
@@ -39,7 +39,7 @@ impl QuirkKind {
 }
 
 /// A line of the list.
-#[derive(Drop, Debug)]
+#[derive(Drop)]
 struct Line {
     kind: QuirkKind,
     text: String,
@@ -56,7 +56,7 @@ impl Model for Line {
 
 /// The quirks list. Each line of its text is `public-is`, `public-begins`, `system-is` or `public-begins-without-system`, one
 /// space, and a text of one or more bytes from 20 to 7E (hexadecimal). The last LF may be missing.
-#[derive(Drop, Debug)]
+#[derive(Drop)]
 pub struct Quirks {
     lines: Vec<Line>,
 }
@@ -113,6 +113,19 @@ fn read_line(line: &str) -> Option<(QuirkKind, &str)>
 }
 
 impl Line {
+    /// The line with this text, without its LF, if it has one of the four forms.
+    fn read(alloc: Global, line: &str) -> Result<Option<Line>, AllocError>
+        ensures { IfOk result (λ found. MatchOption found (IsNoQuirkLine line.now) (λ quirk. IsQuirkLine line.now quirk)) }
+    {
+        match read_line(line) {
+            Some((kind, text)) => {
+                let text = String::from_str(alloc, text)?;
+                Ok(Some(Line { kind, text }))
+            }
+            None => Ok(None),
+        }
+    }
+
     /// Whether the line matches these identifiers.
     fn matches(&self, public: Option<&str>, system: Option<&str>) -> bool
         ensures { result ≡ line_matches self.now (option_map (λ x. x.now) public.entry) (option_map (λ x. x.now) system.entry) }
@@ -150,6 +163,15 @@ fn begins(id: Option<&str>, text: &str) -> bool
     }
 }
 
+/// The refusal of the line after these.
+fn bad_line(lines: &[Line]) -> Refusal
+    ensures { result ≡ Refusal.BadQuirks (length lines.now + 1) }
+{
+    Refusal::BadQuirks {
+        line: lines.len() as u64 + 1,
+    }
+}
+
 impl Quirks {
     /// Parses a list. An error is `Memory`, or `BadQuirks` with the number, from 1, of the first line that has none of these forms.
     pub fn read(alloc: Global, text: &str) -> Result<Quirks, Refusal>
@@ -159,16 +181,9 @@ impl Quirks {
         let mut rest = text;
         while !rest.is_empty() {
             let (line, after) = first_line(rest);
-            match read_line(line) {
-                Some((kind, text)) => lines.push(Line {
-                    kind,
-                    text: String::from_str(alloc, text)?,
-                })?,
-                None => {
-                    return Err(Refusal::BadQuirks {
-                        line: lines.len() as u64 + 1,
-                    });
-                }
+            match Line::read(alloc, line)? {
+                Some(line) => lines.push(line)?,
+                None => return Err(bad_line(&lines)),
             }
             rest = after;
         }

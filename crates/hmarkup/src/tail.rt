@@ -5,7 +5,7 @@ ghost use Rattle.hmarkup.specs.Steps.{next_opening, next_ending, decided_text, e
 ghost use Rattle.hmarkup.specs.CommentWalk.{is_whole};
 
 /// The part of a closing mark that the text ends with: nothing, `-`, `--` or `--!`.
-#[derive(Clone, Copy, Debug, PartialEq, Eq)]
+#[derive(Clone, Copy, PartialEq, Eq)]
 pub enum Ending {
     Plain,
     Dash,
@@ -14,7 +14,7 @@ pub enum Ending {
 }
 
 /// The part of an inner `<!--` that the text ends with: nothing, `<`, `<!`, `<!-` or all of it.
-#[derive(Clone, Copy, Debug, PartialEq, Eq)]
+#[derive(Clone, Copy)]
 pub enum Opening {
     Outside,
     Less,

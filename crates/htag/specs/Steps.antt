@@ -12,6 +12,8 @@ use Rattle.htag.specs.declared.phase.Phase.TheVariants as phase
 use Rattle.htag.specs.declared.walk.TagWalk.{TagWalk}
 use Rattle.htag.specs.Seen.{HasSeen}
 use Rattle.htag.specs.Tag.{Attribute, Part, repeated, name_errors_here}
+use Rattle.htag.specs.declared.value.ValueWalk.{ValueWalk}
+use Rattle.htag.specs.ValueWalk.{EndsValue}
 use Rattle.htag.specs.TagWalk.{NoValue, names_after, HasAttributes}
 
 -- A tag of this kind has begun; its name stands in the walk already.
@@ -33,6 +35,13 @@ pub record EndsAttribute (before after : Texts) (old : TagWalk) (errors : List P
   pub name_is : new.name ≡ old.name
   pub ends : (parts : List Part) (part : Part) → part.attribute ≡ Some (attribute_of old) → HasAttributes before old parts
       → HasAttributes after new (parts ++ part ∷ []) × (later ≡ errors ++ repeated (names_after [] parts) part.attribute)
+
+-- The value of an attribute has been read to its end, and the attribute with it: this value, and these errors in between.
+pub record EndsAttributeValue (before after : Texts) (old : TagWalk) (errors : List ParseError) (new : TagWalk) (later : List ParseError) : Type 0 where
+  pub value : ValueWalk
+  pub mid : List ParseError
+  pub ends_value : EndsValue old.value errors value mid
+  pub ends_attribute : EndsAttribute before after (record old { value = value }) mid new later
 
 -- what stays while an attribute is read
 pub record KeepsTag (old new : TagWalk) : Type 0 where

@@ -2,7 +2,7 @@
 
 ghost use Rattle.std.specs.Prelude.{◌≡◌, OnOk, MatchResult};
 ghost use Rattle.names.specs.Names.{Grows};
-ghost use Rattle.htag.specs.Steps.{EndsAttribute, BeginsAttribute, AddsToName};
+ghost use Rattle.htag.specs.Steps.{EndsAttribute, EndsAttributeValue, BeginsAttribute, AddsToName};
 ghost use Rattle.htag.specs.TagWalk.{StepsInTag};
 ghost use Rattle.names.specs.declared.refusal.Refusal.TheVariants.{Memory};
 
@@ -185,8 +185,7 @@ impl<'t> TagWalk<'t> {
         ensures kind { OnOk result (self.new.kind ≡ self.old.kind) }
     {
         if ch == '>' || ch.is_ascii_whitespace() {
-            self.value.end(errors)?;
-            self.end_attribute(names, errors)?;
+            self.end_value(names, errors)?;
             return self.before_attribute(table, names, ch, at, errors);
         }
         self.value.take(table, false, ch, at, errors)?;
@@ -216,6 +215,19 @@ impl<'t> TagWalk<'t> {
         )?;
         self.end_attribute(names, errors)?;
         self.before_attribute(table, names, ch, at, errors)
+    }
+
+    /// A value without quotes, or one that the input cuts off, has been read, and its attribute with it.
+    pub(crate) fn end_value(
+        &mut self,
+        names: &mut Names,
+        errors: &mut Vec<ParseError>,
+    ) -> Result<(), Refusal>
+        ensures ended { MatchResult result (λ _. EndsAttributeValue names.old names.new self.old errors.old.items self.new errors.new.items) (λ e. e ≡ Memory) }
+        ensures grows { Grows names.old names.new }
+    {
+        self.value.end(errors)?;
+        self.end_attribute(names, errors)
     }
 
     /// An attribute has been read: keeps the first one of its name.

@@ -1,7 +1,7 @@
 //! The states of a tag (HTML Standard, 13.2.5).
 
 /// Where in a tag a walk is.
-#[derive(Clone, Copy, Debug)]
+#[derive(Clone, Copy)]
 pub(crate) enum Phase {
     /// 13.2.5.8
     Name,

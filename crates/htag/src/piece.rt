@@ -87,8 +87,7 @@ impl<'t> ValueWalk<'t> {
         ensures { OnOk result (TakesInValue table.now quoted self.old (record { ch = ch; at = at }) errors.old.items self.new errors.new.items) }
     {
         if ch != '&' {
-            self.push(quoted, ch, at, errors)?;
-            return Ok(());
+            return self.push(quoted, ch, at, errors);
         }
         self.reading = Reading::Reference(Walk::new(table, true));
         self.place = at;
@@ -158,8 +157,7 @@ impl<'t> ValueWalk<'t> {
             return Ok(());
         }
         self.give_back(found.left - 1)?;
-        self.take_next(table, quoted, ch, at, errors)?;
-        Ok(())
+        self.take_next(table, quoted, ch, at, errors)
     }
 
     /// After an `&` that no key begins (13.2.5.74).
@@ -185,8 +183,7 @@ impl<'t> ValueWalk<'t> {
             errors,
         )?;
         self.reading = Reading::Nothing;
-        self.take_next(table, quoted, ch, at, errors)?;
-        Ok(())
+        self.take_next(table, quoted, ch, at, errors)
     }
 
     /// The value ends after an `&` and what this walk was handed.
@@ -202,8 +199,7 @@ impl<'t> ValueWalk<'t> {
         let found = walk.end();
         self.tell(found, errors)?;
         self.reading = Reading::Nothing;
-        self.give_back(found.left)?;
-        Ok(())
+        self.give_back(found.left)
     }
 
     /// Adds the characters of a reference, and keeps its errors.

@@ -3,7 +3,7 @@
 use charref::Walk;
 
 /// What of a value is read but not in its text yet.
-#[derive(Clone, Copy, Debug)]
+#[derive(Clone, Copy)]
 pub(crate) enum Reading<'t> {
     Nothing,
     /// An `&` and what this walk was handed.

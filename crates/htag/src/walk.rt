@@ -123,32 +123,12 @@ impl<'t> TagWalk<'t> {
             Phase::Name => Ok(()),
             Phase::BeforeAttribute => Ok(()),
             Phase::Solidus => Ok(()),
-            Phase::AttributeName => {
-                self.end_attribute(names, errors)?;
-                Ok(())
-            }
-            Phase::AfterAttributeName => {
-                self.end_attribute(names, errors)?;
-                Ok(())
-            }
-            Phase::BeforeValue => {
-                self.end_attribute(names, errors)?;
-                Ok(())
-            }
-            Phase::Quoted(_) => {
-                self.value.end(errors)?;
-                self.end_attribute(names, errors)?;
-                Ok(())
-            }
-            Phase::Unquoted => {
-                self.value.end(errors)?;
-                self.end_attribute(names, errors)?;
-                Ok(())
-            }
-            Phase::AfterQuoted => {
-                self.end_attribute(names, errors)?;
-                Ok(())
-            }
+            Phase::AttributeName => self.end_attribute(names, errors),
+            Phase::AfterAttributeName => self.end_attribute(names, errors),
+            Phase::BeforeValue => self.end_attribute(names, errors),
+            Phase::Quoted(_) => self.end_value(names, errors),
+            Phase::Unquoted => self.end_value(names, errors),
+            Phase::AfterQuoted => self.end_attribute(names, errors),
         }
     }
 

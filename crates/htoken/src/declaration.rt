@@ -9,7 +9,7 @@ ghost use Rattle.htoken.specs.Declaration.{IsOpened, OpensAs, front_of};
 use names::Placed;
 
 /// What the characters after `<!` are a front of.
-#[derive(Clone, Copy, Debug, PartialEq, Eq)]
+#[derive(Clone, Copy)]
 pub(crate) enum Opened {
     /// Of anything: there are none.
     Nothing,
@@ -22,7 +22,7 @@ pub(crate) enum Opened {
 }
 
 /// What they are with one more character.
-#[derive(Clone, Copy, Debug, PartialEq, Eq)]
+#[derive(Clone, Copy)]
 pub(crate) enum Opens {
     /// A front of this.
     Front(Opened),
@@ -37,7 +37,7 @@ pub(crate) enum Opens {
 }
 
 /// What a word's front is with one more character.
-#[derive(Clone, Copy, Debug, PartialEq, Eq)]
+#[derive(Clone, Copy)]
 pub(crate) enum Spelled {
     Front,
     Whole,

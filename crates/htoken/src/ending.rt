@@ -166,8 +166,7 @@ impl<'t> Tokenizer<'t> {
         ensures handed { (names : Texts) → HandsEvents (gives_item S.gives S.gives_token) names sink.old (run_events (less self.old ∷ [])) result sink.new }
     {
         let less = self.at;
-        self.follow('<');
-        give('<', less, sink)
+        self.give_raw('<', less, sink)
     }
 
     /// Hands over the end, and before it the error of a script that it cuts off in comment-like text.

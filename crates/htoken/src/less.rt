@@ -1,10 +1,11 @@
 //! After `<` and `</` in data (HTML Standard, 13.2.5.6 and 13.2.5.7).
 
-ghost use Rattle.std.specs.Prelude.{◌≡◌, ◌∷◌, ℕ, List, []};
+ghost use Rattle.std.specs.Prelude.{◌≡◌, ◌∷◌, ℕ, List, [], true};
 ghost use Rattle.names.specs.declared.placed.Placed.{Placed as Character};
 ghost use Rattle.names.specs.declared.raw.RawKind.{RawKind as Kind};
 ghost use Rattle.names.specs.Names.{Texts};
 ghost use Rattle.charref.specs.Reference.{Entities};
+ghost use Rattle.htoken.specs.Data.{is_no_markup};
 ghost use Rattle.htoken.specs.Token.{Event, gives_item};
 ghost use Rattle.htoken.specs.Tokenizing.{Reads, Takes};
 
@@ -40,22 +41,31 @@ impl<'t> Tokenizer<'t> {
                 Ok(())
             }
             '?' => {
-                self.begin_bogus(ErrorCode::UnexpectedQuestionMarkInsteadOfTagName, at)?;
-                self.in_comment(ch, at, sink)
+                let code = ErrorCode::UnexpectedQuestionMarkInsteadOfTagName;
+                self.begin_bogus_at(code, ch, at, sink)
             }
             _ if ch.is_ascii_alphabetic() => Ok(self.begin_tag(TagKind::Start, ch)?),
-            _ => {
-                self.state = State::Text;
-                give_faulty(
-                    ErrorCode::InvalidFirstCharacterOfTagName,
-                    at,
-                    '<',
-                    self.at,
-                    sink,
-                )?;
-                self.in_text(ch, at, sink)
-            }
+            _ => self.less_is_text(ch, at, sink),
         }
+    }
+
+    /// .. before a character with which it begins no markup: it is text.
+    fn less_is_text<S: TokenSink>(&mut self, ch: char, at: u64, sink: &mut S) -> Result<(), Refusal>
+        requires state { self.old.state ≡ State.Less }
+        requires other { is_no_markup (record { ch = ch; at = at } ∷ []) ≡ true }
+        ensures { (table : Entities) (start : Kind) (names : Texts) (text : List Character) (taken : List Event)
+            → Reads table start self.old names text (record { ch = ch; at = at } ∷ []) taken
+            → Takes (gives_item S.gives S.gives_token) table start text (record { ch = ch; at = at } ∷ []) taken names sink.old result sink.new self.new }
+    {
+        self.state = State::Text;
+        give_faulty(
+            ErrorCode::InvalidFirstCharacterOfTagName,
+            at,
+            '<',
+            self.at,
+            sink,
+        )?;
+        self.in_text(ch, at, sink)
     }
 
     /// After `</` (13.2.5.7).
@@ -80,8 +90,8 @@ impl<'t> Tokenizer<'t> {
             }
             _ if ch.is_ascii_alphabetic() => Ok(self.begin_tag(TagKind::End, ch)?),
             _ => {
-                self.begin_bogus(ErrorCode::InvalidFirstCharacterOfTagName, at)?;
-                self.in_comment(ch, at, sink)
+                let code = ErrorCode::InvalidFirstCharacterOfTagName;
+                self.begin_bogus_at(code, ch, at, sink)
             }
         }
     }

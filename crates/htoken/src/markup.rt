@@ -6,8 +6,10 @@ ghost use Rattle.names.specs.declared.raw.RawKind.{RawKind as Kind};
 ghost use Rattle.names.specs.Names.{Texts};
 ghost use Rattle.names.specs.Placed.{error, place};
 ghost use Rattle.charref.specs.Reference.{Entities};
+ghost use Rattle.htoken.specs.declared.tokenizer.Tokenizer.{Tokenizer as Reader};
 ghost use Rattle.htoken.specs.Token.{Event, Comment, TokenMeans, gives_item};
 ghost use Rattle.htoken.specs.Tokenizing.{Reads, Takes, doctype_token};
+ghost use Rattle.htoken.specs.SmallSteps.{BeginsComment, BeginsDoctype};
 ghost use Rattle.htoken.specs.Steps.{BeginsBogus, GivesSpan};
 
 use crate::declaration::{Opened, Opens, is_plain as is_plain_text};
@@ -42,24 +44,35 @@ impl<'t> Tokenizer<'t> {
                 Ok(())
             }
             Opens::Comment => {
-                self.comment = CommentWalk::comment(self.alloc);
-                self.state = State::Comment;
+                self.begin_comment();
                 Ok(())
             }
             Opens::Doctype => {
-                self.doctype = DoctypeWalk::new(self.alloc);
-                self.state = State::Doctype;
+                self.begin_doctype();
                 Ok(())
             }
             Opens::Cdata => {
                 self.held.push(Placed { ch, at })?;
                 self.begin_held(ErrorCode::CdataInHtmlContent, at)
             }
-            Opens::Bogus => {
-                self.begin_held(ErrorCode::IncorrectlyOpenedComment, at)?;
-                self.in_comment(ch, at, sink)
-            }
+            Opens::Bogus => self.begin_held_at(ErrorCode::IncorrectlyOpenedComment, ch, at, sink),
         }
+    }
+
+    /// Begins a comment after its mark.
+    fn begin_comment(&mut self)
+        ensures { BeginsComment self.old self.new }
+    {
+        self.comment = CommentWalk::comment(self.alloc);
+        self.state = State::Comment;
+    }
+
+    /// Begins a doctype after its mark.
+    fn begin_doctype(&mut self)
+        ensures { BeginsDoctype self.old self.new }
+    {
+        self.doctype = DoctypeWalk::new(self.alloc);
+        self.state = State::Doctype;
     }
 
     /// Begins what is read as a comment with the characters that are held after `<!`. The error stands at the first of them, or here.
@@ -77,6 +90,24 @@ impl<'t> Tokenizer<'t> {
         Ok(())
     }
 
+    /// .. and takes this character, which comes after them.
+    fn begin_held_at<S: TokenSink>(
+        &mut self,
+        code: ErrorCode,
+        ch: char,
+        at: u64,
+        sink: &mut S,
+    ) -> Result<(), Refusal>
+        ensures { (table : Entities) (start : Kind) (names : Texts) (text : List Character) (taken : List Event)
+            → Reads table start self.old names text (record { ch = ch; at = at } ∷ []) taken
+            → ((new : Reader) → BeginsBogus self.old self.old.held.items (error code (place at self.old.held.items)) new
+            → Reads table start new names text (record { ch = ch; at = at } ∷ []) taken)
+            → Takes (gives_item S.gives S.gives_token) table start text (record { ch = ch; at = at } ∷ []) taken names sink.old result sink.new self.new }
+    {
+        self.begin_held(code, at)?;
+        self.in_comment(ch, at, sink)
+    }
+
     /// Begins what is read as a comment up to the first `>`, with an error.
     pub(crate) fn begin_bogus(&mut self, code: ErrorCode, at: u64) -> Result<(), AllocError>
         ensures { OnOk result (BeginsBogus self.old [] (error code at) self.new) }
@@ -85,6 +116,23 @@ impl<'t> Tokenizer<'t> {
         self.comment = CommentWalk::bogus(self.alloc);
         self.state = State::Comment;
         Ok(())
+    }
+
+    /// .. at this character, which is the first of it.
+    pub(crate) fn begin_bogus_at<S: TokenSink>(
+        &mut self,
+        code: ErrorCode,
+        ch: char,
+        at: u64,
+        sink: &mut S,
+    ) -> Result<(), Refusal>
+        ensures { (table : Entities) (start : Kind) (names : Texts) (text : List Character) (taken : List Event)
+            → Reads table start self.old names text (record { ch = ch; at = at } ∷ []) taken
+            → ((new : Reader) → BeginsBogus self.old [] (error code at) new → Reads table start new names text (record { ch = ch; at = at } ∷ []) taken)
+            → Takes (gives_item S.gives S.gives_token) table start text (record { ch = ch; at = at } ∷ []) taken names sink.old result sink.new self.new }
+    {
+        self.begin_bogus(code, at)?;
+        self.in_comment(ch, at, sink)
     }
 
     /// How many characters are held after a mark.

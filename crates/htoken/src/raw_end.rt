@@ -41,8 +41,7 @@ impl<'t> Tokenizer<'t> {
         }
         let less = self.at;
         self.state = State::Text;
-        self.follow('<');
-        give('<', less, sink)?;
+        self.give_raw('<', less, sink)?;
         self.in_text(ch, at, sink)
     }
 

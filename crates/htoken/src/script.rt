@@ -6,12 +6,12 @@ ghost use Rattle.names.specs.declared.placed.Placed.{Placed as Character};
 ghost use Rattle.names.specs.Placed.{placed};
 ghost use Rattle.hmarkup.specs.CommentWalk.{backwards};
 ghost use Rattle.htag.specs.Tag.{ends_name};
-ghost use Rattle.htoken.specs.Script.{HasFront, FollowsAll, level_number, mark_after, word_after, level_after, is_dashes, is_less_bang_dash, is_read};
+ghost use Rattle.htoken.specs.Script.{HasFront, FollowsAll, level_number, mark_after, word_after, next_word, level_after, is_dashes, is_less_bang_dash, is_read};
 
 use names::Placed;
 
 /// How deep script data is in comment-like text.
-#[derive(Clone, Copy, Debug, PartialEq, Eq)]
+#[derive(Clone, Copy)]
 pub(crate) enum Level {
     /// Not at all.
     Plain,
@@ -22,7 +22,7 @@ pub(crate) enum Level {
 }
 
 /// The beginning of `<!--` or `-->` that ends the text.
-#[derive(Clone, Copy, Debug, PartialEq, Eq)]
+#[derive(Clone, Copy)]
 pub(crate) enum Mark {
     /// Nothing.
     Nothing,
@@ -39,7 +39,7 @@ pub(crate) enum Mark {
 }
 
 /// The beginning of a tag of a given name that ends the text.
-#[derive(Clone, Copy, Debug, PartialEq, Eq)]
+#[derive(Clone, Copy)]
 pub(crate) enum Word {
     /// Nothing.
     Nothing,
@@ -48,7 +48,7 @@ pub(crate) enum Word {
 }
 
 /// Follows script data, a character at a time.
-#[derive(Clone, Copy, Debug, PartialEq, Eq)]
+#[derive(Clone, Copy)]
 pub(crate) struct Script {
     pub level: Level,
     pub mark: Mark,
@@ -141,16 +141,23 @@ impl Word {
         }
         match self {
             Word::Nothing => Word::Nothing,
-            Word::Read(n) => match name.get(n) {
-                Some(byte) => {
-                    if agrees(ch, *byte) {
-                        Word::Read(n + 1)
-                    } else {
-                        Word::Nothing
-                    }
+            Word::Read(n) => Word::after_letters(name, n, ch),
+        }
+    }
+
+    /// .. that is no `<`, after `<` and so many characters of the name.
+    fn after_letters(name: &[u8], n: usize, ch: char) -> Word
+        ensures { result ≡ next_word name.now (Word.Read n) ch }
+    {
+        match name.get(n) {
+            Some(byte) => {
+                if agrees(ch, *byte) {
+                    Word::Read(n + 1)
+                } else {
+                    Word::Nothing
                 }
-                None => Word::Nothing,
-            },
+            }
+            None => Word::Nothing,
         }
     }
 

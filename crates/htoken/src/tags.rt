@@ -7,6 +7,7 @@ ghost use Rattle.names.specs.Names.{Texts, Grows};
 ghost use Rattle.charref.specs.Reference.{Entities};
 ghost use Rattle.htoken.specs.Token.{Event, End, TokenMeans, gives_item};
 ghost use Rattle.htoken.specs.Tokenizing.{Reads, Takes};
+ghost use Rattle.htoken.specs.SmallSteps.{KeepsIf};
 ghost use Rattle.htoken.specs.Steps.{KeepsFaults, BeginsTag, GivesSpan, EndsStartTag, EndsTag};
 
 use crate::script::Script;
@@ -71,18 +72,20 @@ impl<'t> Tokenizer<'t> {
     fn keep_faults(&mut self) -> Result<(), AllocError>
         ensures { OnOk result (KeepsFaults self.old self.new) }
     {
-        let at = self.at;
-        if self.tag.has_attributes() {
-            self.raised.errors.push(ParseError {
-                code: ErrorCode::EndTagWithAttributes,
-                at,
-            })?;
-        }
-        if self.tag.is_closing() {
-            self.raised.errors.push(ParseError {
-                code: ErrorCode::EndTagWithTrailingSolidus,
-                at,
-            })?;
+        let any = self.tag.has_attributes();
+        let closing = self.tag.is_closing();
+        self.keep_if(any, ErrorCode::EndTagWithAttributes)?;
+        self.keep_if(closing, ErrorCode::EndTagWithTrailingSolidus)?;
+        Ok(())
+    }
+
+    /// Keeps an error of the tag, if there is one.
+    fn keep_if(&mut self, says: bool, code: ErrorCode) -> Result<(), AllocError>
+        ensures { OnOk result (KeepsIf says code self.old self.new) }
+    {
+        if says {
+            let at = self.at;
+            self.raised.errors.push(ParseError { code, at })?;
         }
         Ok(())
     }

@@ -6,7 +6,8 @@ ghost use Rattle.names.specs.declared.raw.RawKind.{RawKind as Kind};
 ghost use Rattle.names.specs.Names.{Texts};
 ghost use Rattle.charref.specs.Reference.{Entities};
 ghost use Rattle.htoken.specs.Script.{HasFront, level_number};
-ghost use Rattle.htoken.specs.Token.{Event, gives_item};
+ghost use Rattle.htoken.specs.Handing.{HandsEvents};
+ghost use Rattle.htoken.specs.Token.{Char, Event, Gives, gives_item};
 ghost use Rattle.htoken.specs.Raw.{is_raw, is_script, ends_by};
 ghost use Rattle.htoken.specs.Spans.{has_references};
 ghost use Rattle.htoken.specs.Tokenizing.{Reads, Takes};
@@ -76,26 +77,37 @@ impl<'t> Tokenizer<'t> {
                     self.at = at;
                     return Ok(());
                 }
-                self.follow(ch);
-                give(ch, at, sink)
+                self.give_raw(ch, at, sink)
             }
             '&' => {
                 if self.has_references() {
                     self.begin_reference(at);
                     return Ok(());
                 }
-                self.follow(ch);
-                give(ch, at, sink)
+                self.give_raw(ch, at, sink)
             }
             '\0' => {
                 self.follow(ch);
                 give_faulty(ErrorCode::UnexpectedNullCharacter, at, '\u{FFFD}', at, sink)
             }
-            _ => {
-                self.follow(ch);
-                give(ch, at, sink)
-            }
+            _ => self.give_raw(ch, at, sink),
         }
+    }
+
+    /// Hands over a character of raw text, and follows the level of script data.
+    pub(crate) fn give_raw<S: TokenSink>(
+        &mut self,
+        ch: char,
+        at: u64,
+        sink: &mut S,
+    ) -> Result<(), Refusal>
+        ensures then { self.new ≡ record self.old { script = self.new.script } }
+        ensures follows { (place : ℕ) (front : List Character) → is_script self.old.kind ≡ true → HasFront self.old.script front
+            → HasFront self.new.script (record { ch = ch; at = place } ∷ front) }
+        ensures handed { (names : Texts) → HandsEvents (gives_item S.gives S.gives_token) names sink.old (Gives (Char ch at) ∷ []) result sink.new }
+    {
+        self.follow(ch);
+        give(ch, at, sink)
     }
 
     /// Follows the level of script data.

@@ -1,4 +1,4 @@
-use Rattle.std.proofs.Common.{◌≡◌, [], ◌∷◌, ◌++◌, Ok, string_bytes, sym, ap, ◌∙◌, subst}
+use Rattle.std.proofs.Common.{◌≡◌, [], ◌∷◌, ◌++◌, string_bytes, sym, ap, ◌∙◌, subst}
 use Rattle.std.proofs.lemmas.List.{map-append}
 use Rattle.std.proofs.lemmas.Result.{err_from_is_err_and}
 use Rattle.charref.specs.Reading.{entry_of, IsRefusedWith}
@@ -12,21 +12,21 @@ loop-key-preserved c =
     let l = c.loop-key in
     let pair : Pair = (c.in-Some.key.now, c.in-Some.value.now) in
     let was : HasReadMembers c.args.members.now.entries (pair ∷ c.next.new.self) (entries l.entities.items) = subst (λ rest. HasReadMembers c.args.members.now.entries rest (entries l.entities.items)) c.in-Some.ensures.steps l.invariant in
-    let more : entries c.push.new.self.items ≡ entries l.entities.items ++ entry c.in_ok-entity_of.field-0 ∷ [] = ap entries c.in_ok-push.ensures.items ∙ map-append entry l.entities.items (c.in_ok-entity_of.field-0 ∷ []) in
-    let read : entry_of c.as_str.result.now (view c.in-Some.value.now) ≡ Ok (entry c.in_ok-entity_of.field-0) = c.in_ok-entity_of.ensures.ok in
+    let added = c.in_ok-add_entity.ensures.ok in
+    let more : entries c.add_entity.new.entities.items ≡ entries l.entities.items ++ entry added.0 ∷ [] = ap entries added.2 ∙ map-append entry l.entities.items (added.0 ∷ []) in
     subst (λ es. HasReadMembers c.args.members.now.entries c.next.new.self es) (sym more)
-    (read_member c.args.members.now.entries c.next.new.self pair (entries l.entities.items) (entry c.in_ok-entity_of.field-0) was (ap (λ k. entry_of k (view c.in-Some.value.now)) (sym c.as_str.ensures.value) ∙ read))
+    (read_member c.args.members.now.entries c.next.new.self pair (entries l.entities.items) (entry added.0) was (ap (λ k. entry_of k (view c.in-Some.value.now)) (sym c.as_str.ensures.value) ∙ added.1))
 
 pub returns-clause-ok : goal.returns-clause-ok
 returns-clause-ok c =
     let l = c.loop-key in
     read_all c.args.members.now.entries (entries l.entities.items) (subst (λ rest. HasReadMembers c.args.members.now.entries rest (entries l.entities.items)) c.in-None.ensures.steps.0 l.invariant)
 
-pub returns-in_err-entity_of-clause-err : goal.returns-in_err-entity_of-clause-err
-returns-in_err-entity_of-clause-err c =
+pub returns-in_err-add_entity-clause-err : goal.returns-in_err-add_entity-clause-err
+returns-in_err-add_entity-clause-err c =
     let l = c.loop-key in
     let pair : Pair = (c.in-Some.key.now, c.in-Some.value.now) in
     let was : HasReadMembers c.args.members.now.entries (pair ∷ c.next.new.self) (entries l.entities.items) = subst (λ rest. HasReadMembers c.args.members.now.entries rest (entries l.entities.items)) c.in-Some.ensures.steps l.invariant in
-    let refused : IsRefusedWith (entry_of (string_bytes c.in-Some.key.now) (view c.in-Some.value.now)) c.in_err-entity_of.field-0.0 = subst (λ k. IsRefusedWith (entry_of k (view c.in-Some.value.now)) c.in_err-entity_of.field-0.0) c.as_str.ensures.value c.in_err-entity_of.ensures.err in
-    let p = err_from_is_err_and c.from_residual-in_err-entity_of.result c.from_residual-in_err-entity_of.ensures.1 in
-    rw (p.1, p.2) (read_refused c.args.members.now.entries c.next.new.self pair (entries l.entities.items) c.in_err-entity_of.field-0.0 was refused)
+    let refused : IsRefusedWith (entry_of (string_bytes c.in-Some.key.now) (view c.in-Some.value.now)) c.in_err-add_entity.field-0.0 = subst (λ k. IsRefusedWith (entry_of k (view c.in-Some.value.now)) c.in_err-add_entity.field-0.0) c.as_str.ensures.value c.in_err-add_entity.ensures.err in
+    let p = err_from_is_err_and c.from_residual-in_err-add_entity.result c.from_residual-in_err-add_entity.ensures.1 in
+    rw (p.1, p.2) (read_refused c.args.members.now.entries c.next.new.self pair (entries l.entities.items) c.in_err-add_entity.field-0.0 was refused)

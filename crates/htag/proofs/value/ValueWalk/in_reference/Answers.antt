@@ -1,4 +1,5 @@
 use Rattle.std.proofs.Common.{◌++◌, ◌≤◌, [], List, ℕ, refl, sym, ap, ◌∙◌, append-nil, append_assoc, arith, subst, Vec, Global}
+use Rattle.std.proofs.lemmas.Result.{on_ok_weaker}
 use Rattle.std.specs.Prelude.{encode_utf8_all}
 use Rattle.std.specs.Char.{encode_utf8}
 use Rattle.std.specs.String.{string_bytes}
@@ -40,13 +41,13 @@ returns-then-found-eq0 c =
 pub returns : goal.returns
 returns c =
     let t = c.in_ok-tell.ensures in
-    let n = c.in_ok-take_next.ensures in
     let some : 1 ≤ c.in-Some.found.left = omega arith in
-    record {
+    on_ok_weaker c.take_next.result
+    (λ n. record {
       more = _;
       later_is = n.later_is ∙ ap (λ (x : List ParseError). x ++ n.more) t.later_is ∙ append_assoc c.args.errors.now.items _ n.more;
       takes = λ text own h.
           subst (IsInValue _ _ _ _ []) (append_assoc own _ n.more)
           (n.takes text _ (reference_read _ _ _ _ _ text own h c.args.walk c.requires c.in-Some.found (λ taken has after. c.in-Some.ensures.taken _ _ taken _ has refl after) c.if-found.false some c.in_ok-give_back.ensures.reading_is
           (told_then_given _ _ _ _ _ _ _ t c.in_ok-give_back.ensures.bytes)));
-    }
+    }) c.take_next.ensures

@@ -1,5 +1,6 @@
 use Rattle.std.proofs.Common.{◌≡◌, ◌++◌, [], List, true, false, refl, sym, ap, ◌∙◌, append-nil, append_assoc, arith, subst}
 use Rattle.std.proofs.lemmas.Bool.Decides.{nat_tests}
+use Rattle.std.proofs.lemmas.Result.{on_ok_weaker}
 use Rattle.names.specs.declared.error.ParseError.{ParseError}
 use Rattle.names.specs.Placed.{is_alphanumeric}
 use Rattle.htag.specs.ValueWalk.{IsInValue}
@@ -14,9 +15,9 @@ returns-then-is_ascii_alphanumeric c =
 pub returns : goal.returns
 returns c =
     let other : is_alphanumeric c.args.ch ≡ false = grind (arith, nat_tests) in
-    let t = c.in_ok-take_next.ensures in
-    record {
+    on_ok_weaker c.take_next.result
+    (λ t. record {
       more = _;
       later_is = t.later_is ∙ ap (λ (x : List ParseError). x ++ t.more) c.in_ok-keep_if.ensures ∙ append_assoc c.args.errors.now.items _ t.more;
       takes = λ text own h. subst (IsInValue _ _ _ _ []) (append_assoc own _ t.more) (t.takes text _ (run_ends _ _ _ _ _ text own h c.requires refl refl other));
-    }
+    }) c.take_next.ensures

@@ -1,13 +1,14 @@
 use Rattle.std.proofs.Common.{◌≡◌, [], false, eqb, refl, sym, append-nil, arith}
 use Rattle.std.proofs.lemmas.Bool.Decides.{nat_tests}
+use Rattle.std.proofs.lemmas.Result.{on_ok_weaker}
 use Rattle.htag.proofs.InValue.{plain_step, amp_step}
 use Rattle.htag.proofs.value.ValueWalk.take_next.Goals as goal
 
 pub returns-then-ch-ne38 : goal.returns-then-ch-ne38
 returns-then-ch-ne38 c =
-    let a = c.in_ok-push.ensures in
     let plain : eqb c.args.ch 38 ≡ false = grind (arith, nat_tests) in
-    record { more = _; later_is = a.later_is; takes = λ text own h. plain_step _ _ _ _ _ text own h c.requires a.reading_is a.bytes plain }
+    on_ok_weaker c.push.result
+    (λ a. record { more = _; later_is = a.later_is; takes = λ text own h. plain_step _ _ _ _ _ text own h c.requires a.reading_is a.bytes plain }) c.push.ensures
 
 pub returns : goal.returns
 returns c = record {

@@ -7,7 +7,7 @@ use Rattle.htag.proofs.walk.TagWalk.in_unquoted.Goals as goal
 pub returns-then-ch-eq62-clause-takes : goal.returns-then-ch-eq62-clause-takes
 returns-then-ch-eq62-clause-takes c = λ body h.
     let stop : ends_unquoted c.args.ch ≡ true = grind (arith, nat_tests) in
-    c.before_attribute.ensures.takes body (unquoted_ends _ _ _ body _ _ h _ _ _ _ _ (record { kind_is = refl; name_is = refl; attrs_are = refl; seen_is = refl; any_is = refl }) refl refl c.in_ok-end.ensures c.requires stop c.in_ok-end_attribute.ensures.ended)
+    c.before_attribute.ensures.takes body (unquoted_ends _ _ _ body _ _ h _ _ _ _ _ (record { kind_is = refl; name_is = refl; attrs_are = refl; seen_is = refl; any_is = refl }) refl refl c.in_ok-end_value.ensures.ended.ends_value c.requires stop c.in_ok-end_value.ensures.ended.ends_attribute)
 
 pub returns-clause-takes : goal.returns-clause-takes
 returns-clause-takes c = λ body h.

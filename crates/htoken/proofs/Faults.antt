@@ -1,0 +1,17 @@
+-- The errors of an end tag, kept one after the other.
+use Rattle.std.proofs.Common.{◌≡◌, ℕ, Bool, List, ◌++◌, ap, ◌∙◌, append_assoc}
+use Rattle.names.specs.declared.error.ErrorCode.TheVariants.{EndTagWithAttributes, EndTagWithTrailingSolidus}
+use Rattle.names.specs.declared.error.ParseError.{ParseError}
+use Rattle.names.specs.Placed.{error_if}
+use Rattle.htoken.specs.declared.tokenizer.Tokenizer.{Tokenizer}
+use Rattle.htoken.specs.SmallSteps.{KeepsIf}
+use Rattle.htoken.specs.Steps.{KeepsFaults}
+
+pub faults_kept : (old mid new : Tokenizer) (any closing : Bool) → any ≡ old.tag.any → closing ≡ old.tag.closing → KeepsIf any EndTagWithAttributes old mid → KeepsIf closing EndTagWithTrailingSolidus mid new → KeepsFaults old new
+faults_kept old mid new any closing any_is closing_is first second = record {
+  then = second.then ∙ ap (λ (x : Tokenizer). record x { raised = new.raised }) first.then;
+  raised_is = second.raised_is ∙ ap (λ (x : Tokenizer). mid.raised.errors.items ++ error_if closing EndTagWithTrailingSolidus x.at) first.then
+      ∙ ap (λ (x : Bool). mid.raised.errors.items ++ error_if x EndTagWithTrailingSolidus old.at) closing_is
+      ∙ ap (λ (x : List ParseError). x ++ error_if old.tag.closing EndTagWithTrailingSolidus old.at) (first.raised_is ∙ ap (λ (x : Bool). old.raised.errors.items ++ error_if x EndTagWithAttributes old.at) any_is)
+      ∙ append_assoc old.raised.errors.items (error_if old.tag.any EndTagWithAttributes old.at) (error_if old.tag.closing EndTagWithTrailingSolidus old.at);
+}
