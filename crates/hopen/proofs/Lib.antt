@@ -10,3 +10,4 @@ pub mod Exchanged
 pub mod ExchangedItems
 pub mod ExchangedTables
 pub mod ExchangedStack
+pub mod WrittenBack

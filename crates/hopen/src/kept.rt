@@ -17,7 +17,7 @@ use names::NameId;
 use std::alloc::{AllocError, Global};
 
 /// An open node, and the places that were known when it was opened. Places count from 1, the topmost; 0 is none.
-#[derive(Clone, Copy, Debug)]
+#[derive(Clone, Copy)]
 pub(crate) struct Item {
     pub(crate) opened: Open,
     /// The nearest node of the same name above it.
@@ -31,7 +31,7 @@ pub(crate) struct Item {
 const _: () = prove!(std::mem::size_of::<Item>() == 60);
 
 /// For each name, and each node, by its number: the nearest place where it is open, 0 if it is not.
-#[derive(Debug, Drop)]
+#[derive(Drop)]
 pub(crate) struct LastPlaces {
     pub(crate) names: Vec<u32>,
     pub(crate) nodes: Vec<u32>,

@@ -24,7 +24,7 @@ pub(crate) enum NameSet {
 }
 
 /// For each set of names, the place of the nearest open node that has one of them, from 1, the topmost; 0 if there is none.
-#[derive(Clone, Copy, Debug)]
+#[derive(Clone, Copy)]
 pub(crate) struct SetPlaces {
     scope: u32,
     list_item_scope: u32,

@@ -39,7 +39,7 @@ pub struct Open {
 /// each node below, `exchange` a step for the few that keep a changed place. An open node takes 60 bytes; each of the two tables of
 /// places takes 4 bytes for each number up to the greatest one. `push`, `replace`, `insert_below` and `exchange` alone allocate, and on
 /// an error they change nothing.
-#[derive(Debug, Drop)]
+#[derive(Drop)]
 pub struct OpenStack {
     items: Vec<Item>,
     last: LastPlaces,

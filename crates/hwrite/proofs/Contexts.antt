@@ -1,5 +1,5 @@
 -- The names of contexts.
-use Rattle.std.proofs.Common.{◌≡◌, ℕ, Bool, true, false, cond, List, [], ◌∷◌, Some, None, refl, sym, ◌∙◌, ap, filter}
+use Rattle.std.proofs.Common.{◌≡◌, ℕ, ◌+◌, ◌<◌, length, drop, get_or, drop-cons, add-one, Bool, true, false, cond, List, [], ◌∷◌, Some, None, refl, sym, ◌∙◌, ap, filter}
 use Rattle.std.proofs.lemmas.Slice.Eq.{bytes_eq-Decides}
 use Rattle.std.specs.Prelude.{bytes_eq, Option}
 use Rattle.names.specs.declared.tag.Tag.{Tag}
@@ -34,9 +34,13 @@ abbrev is_other : Tag → Bool
 is_other tag.Other = true
 is_other _ = false
 
+-- what is false is not true
+never : {A : Type 0} → false ≡ true → A
+never h = absurd cc
+
 other : (t : Tag) → is_other t ≡ true → t ≡ tag.Other
 other tag.Other h = refl
-other _ h = absurd cc
+other _ h = never h
 
 -- a text that is known by a name is that name's
 named_back : (ts : List Tag) (x : List ℕ) (t : Tag) → tag_among ts x ≡ t → is_other t ≡ false → x ≡ tag_text t
@@ -62,3 +66,14 @@ context-named name = go (is_other (tag_named name)) refl
             let no : is_other (tag_among contexts name) ≡ true = ap is_other (sym same) ∙ e in
             cc
             )
+
+-- the names from an index on, by the first of them
+from_index : (ts : List Tag) (i : ℕ) (x : List ℕ) → i < length ts
+    → tag_among (drop i ts) x ≡ cond (bytes_eq (tag_text (get_or ts i tag.A)) x) (get_or ts i tag.A) (tag_among (drop (i + 1) ts) x)
+from_index ts i x h = ap (λ l. tag_among l x) (drop-cons ts i tag.A h ∙ (λ k. get_or ts i tag.A ∷ drop (sym (add-one i) k) ts))
+
+-- whether the name at an index has this text
+pub is_at_index : (ts : List Tag) (i : ℕ) (x text : List ℕ) (u : Bool) → i < length ts → text ≡ tag_text (get_or ts i tag.A) → u ≡ bytes_eq text x
+    → tag_among (drop i ts) x ≡ tag_among ts x → cond u (get_or ts i tag.A) (tag_among (drop (i + 1) ts) x) ≡ tag_among ts x
+is_at_index ts i x text u h same is before =
+    ap (λ v. cond v (get_or ts i tag.A) (tag_among (drop (i + 1) ts) x)) (is ∙ ap (λ t. bytes_eq t x) same) ∙ sym (from_index ts i x h) ∙ before

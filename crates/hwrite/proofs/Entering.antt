@@ -50,6 +50,10 @@ agrees true _ c = is_flow c
 agrees false role.Phrasing c = is_inline c
 agrees false _ c = has_own c
 
+-- what is false is not true
+never : {A : Type 0} → false ≡ true → A
+never h = absurd cc
+
 rows_agree : (t : Tag) → agrees (inserts_marker t) (row t).0 (row t).1 ≡ true
 rows_agree tag.A = refl
 rows_agree _ = refl
@@ -70,7 +74,7 @@ in_phrasing content.Text h = record { own = refl; fit = refl; back = refl }
 in_phrasing content.RawText h = record { own = refl; fit = refl; back = refl }
 in_phrasing content.ScriptText h = record { own = refl; fit = refl; back = refl }
 in_phrasing content.Empty h = record { own = refl; fit = refl; back = refl }
-in_phrasing _ h = absurd cc
+in_phrasing _ h = never h
 
 in_other : (C c : Content) → has_own c ≡ true → IsInner C c false
 in_other C content.Around h = absurd cc
@@ -90,7 +94,7 @@ inner content.TableParts role.TablePart c u a h f = subst (IsInner content.Table
 inner content.Columns role.Column c u a h f = subst (IsInner content.Columns c) (is_false u f) (in_other content.Columns c a)
 inner content.TableRows role.TableRow c u a h f = subst (IsInner content.TableRows c) (is_false u f) (in_other content.TableRows c a)
 inner content.Cells role.Cell c u a h f = subst (IsInner content.Cells c) (is_false u f) (in_other content.Cells c a)
-inner _ _ c u a h f = absurd cc
+inner _ _ c u a h f = never h
 
 -- a list in this content with these texts, wherever forms are
 abbrev pub place_in : Content → Texts → Around → Inside
@@ -117,11 +121,11 @@ reset false x h = refl
 
 no_a : (i : Inside) (t : Tag) → is_nested i t ≡ false → is_a t ≡ true → i.in_a ≡ false
 no_a i tag.A h e = h
-no_a i _ h e = absurd cc
+no_a i _ h e = never e
 
 no_button : (i : Inside) (t : Tag) → is_nested i t ≡ false → is_button t ≡ true → i.in_button ≡ false
 no_button i tag.Button h e = h
-no_button i _ h e = absurd cc
+no_button i _ h e = never e
 
 -- what is around an element that is plain is around what comes after it too
 pub left_again : (t : Tag) (c : Content) (allowed : Texts) (a : Around) → takes_role c (row t).0 ≡ true → is_nested (place_in c allowed a) t ≡ false → fits c a.in_phrasing ≡ true
@@ -134,7 +138,7 @@ left_again t c allowed a takes nested fit = λ i. record {
   where
     flow : (k : Content) → is_flow k ≡ true → cond (is_phrasing k) false (cond (is_phrasing k) true a.in_phrasing) ≡ a.in_phrasing
     flow content.Flow h = refl
-    flow _ h = absurd cc
+    flow _ h = never h
 
     phrasing : (m : Bool) → agrees m (row t).0 (row t).1 ≡ true → cond (is_phrasing (row t).1) false (cond (is_phrasing (row t).1) true a.in_phrasing) ≡ a.in_phrasing
     phrasing true h = flow (row t).1 h
@@ -156,7 +160,7 @@ enters_region tag.Td inside h = refl
 enters_region tag.Th inside h = refl
 enters_region tag.Object inside h = refl
 enters_region tag.Marquee inside h = refl
-enters_region _ inside h = absurd cc
+enters_region _ inside h = never h
 
 -- a node that is no element
 pub enter_other : (a : Around) → IsEntered tag.Other (place_in content.Empty texts.None a) a

@@ -1,5 +1,5 @@
 -- A text as it is written, in runs of characters that are written as they are.
-use Rattle.std.proofs.Common.{◌≡◌, ℕ, ◌+◌, ◌-◌, ◌≤◌, List, [], ◌∷◌, ◌++◌, Option, length, take, drop, refl, sym, ◌∙◌, ap, arith, length-append}
+use Rattle.std.proofs.Common.{◌≡◌, ℕ, ◌+◌, ◌-◌, ◌≤◌, List, [], ◌∷◌, ◌++◌, Option, length, take, drop, refl, sym, ◌∙◌, ap, subst, arith, length-append}
 use Rattle.std.proofs.Math.Seq.{drop-append_seam, take-append_seam}
 use Rattle.std.proofs.lemmas.List.{append_assoc, take_rest}
 use Rattle.std.proofs.lemmas.Str.{chars-nil, chars_past_char, IsUtf8-past_char}
@@ -23,9 +23,13 @@ pub record IsEscaping (setting : Setting) (source : List ℕ) (done at : ℕ) (r
   pub utf8 : IsUtf8 rest
   pub left : HasLeft old now (escaped One setting source) (run ++ escaped One setting rest)
 
-pub begins : (setting : Setting) (source : List ℕ) (old : Option (List ℕ)) → IsUtf8 source → IsEscaping setting source 0 0 source old old
+begins : (setting : Setting) (source : List ℕ) (old : Option (List ℕ)) → IsUtf8 source → IsEscaping setting source 0 0 source old old
 begins setting source old utf8 =
     record { before = []; run = []; parts = refl; done_is = refl; at_is = refl; utf8 = utf8; left = none_put old (escaped One setting source) }
+
+pub begins_at : (setting : Setting) (source : List ℕ) (at : ℕ) (rest : List ℕ) (old : Option (List ℕ)) → at ≡ 0 → rest ≡ source → IsUtf8 source → IsEscaping setting source 0 at rest old old
+begins_at setting source at rest old none all utf8 =
+    subst (λ a. IsEscaping setting source 0 a rest old old) (sym none) (subst (λ r. IsEscaping setting source 0 0 r old old) (sym all) (begins setting source old utf8))
 
 module _ (setting : Setting) (source : List ℕ) (done at : ℕ) (rest : List ℕ) (old now : Option (List ℕ)) (s : IsEscaping setting source done at rest old now) where
   pub run_left : drop done source ≡ s.run ++ rest
@@ -36,11 +40,6 @@ module _ (setting : Setting) (source : List ℕ) (done at : ℕ) (rest : List �
     where
       count : end - done ≡ length s.run
       count = omega (arith, s.done_is, s.at_is, here)
-
-  pub whole_length : at + length rest ≡ length source
-  whole_length =
-      let a : length source ≡ length s.before + (length s.run + length rest) = ap length s.parts ∙ length-append s.before (s.run ++ rest) ∙ ap (λ n. length s.before + n) (length-append s.run rest) in
-      omega (arith, a, s.at_is)
 
   pub in_order : done ≤ at
   in_order = omega (arith, s.done_is, s.at_is)

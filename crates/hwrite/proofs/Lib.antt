@@ -5,6 +5,7 @@ pub mod Seen
 pub mod Runs
 pub mod Ordered
 pub mod Printed
+pub mod LineTexts
 pub mod KnownNames
 pub mod Wrote
 pub mod Escapes

@@ -1,10 +1,13 @@
 -- Writes one after another.
-use Rattle.std.proofs.Common.{◌≡◌, ℕ, List, [], ◌∷◌, ◌++◌, Option, Result, Ok, Err, refl, sym, ap, subst, ◌∙◌, append_assoc, append-nil, length, drop, get_or, drop-cons, add-one, ◌+◌, ◌<◌}
+use Rattle.std.proofs.Common.{◌≡◌, ℕ, List, [], ◌∷◌, ◌++◌, Option, Some, Result, Ok, Err, refl, sym, ap, subst, ◌∙◌, append_assoc, append-nil, length, drop, get_or, drop-cons, add-one, ◌+◌, ◌<◌}
 use Rattle.std.specs.Borrow.{Bor}
 use Rattle.std.specs.List.{flat_map}
 use Rattle.std.specs.Prelude.{◌≢◌, IsErr}
 use Rattle.std.specs.Io.KnownBytes.{Appends}
 use Rattle.std.proofs.KnownBytes.{Appends-nil, Appends-trans}
+use Rattle.hnodes.specs.Forest.{What}
+use Rattle.hwrite.specs.Lent.{what_is}
+use Rattle.hwrite.specs.declared.node.Node.{Node}
 use Rattle.hwrite.specs.Output.{AppendsBeginning, Puts}
 
 -- The known bytes grew by a beginning of these bytes, and the others are left.
@@ -54,3 +57,8 @@ passed_on old new bytes (Err y) is h = h
 -- the next of some parts
 pub next_part : (parts : List (Bor (List ℕ))) (i : ℕ) (d : Bor (List ℕ)) → i < length parts → all_parts (drop i parts) ≡ (get_or parts i d).now ++ all_parts (drop (i + 1) parts)
 next_part parts i d h = ap all_parts (drop-cons parts i d h ∙ (λ k. get_or parts i d ∷ drop (sym (add-one i) k) parts))
+
+-- what was put for what a node is was put for the node
+pub put_for : {E : Type 0} (old new : Option (List ℕ)) (bytes : Option (What ℕ) → List ℕ) (r : Result (Unit {0}) E) (at n : Node) (o : Option (What ℕ)) → at ≡ n → Some (what_is at) ≡ o → Puts old new (bytes (Some (what_is n))) r
+    → Puts old new (bytes o) r
+put_for old new bytes r at n o is of put = subst (λ w. Puts old new (bytes w) r) (sym (ap (λ m. Some (what_is m)) is) ∙ of) put

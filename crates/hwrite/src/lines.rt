@@ -1,6 +1,6 @@
 //! Trees and errors as they are printed.
 
-ghost use Rattle.std.specs.Prelude.{◌≡◌, ◌++◌, ◌<◌, ◌^◌, codes, map, OnOk, IfOk, IfErr};
+ghost use Rattle.std.specs.Prelude.{◌≡◌, ◌++◌, ◌<◌, ◌^◌, codes, flat_map, map, OnOk, IfOk, IfErr};
 ghost use Rattle.std.specs.List.{repeat};
 ghost use Rattle.std.specs.String.{string_bytes};
 ghost use Rattle.names.specs.Names.{text_of};
@@ -8,6 +8,7 @@ ghost use Rattle.hnodes.specs.Forest.{children_of, element};
 ghost use Rattle.hnodes.specs.Rows.{attribute_of};
 ghost use Rattle.hnodes.specs.Spots.{what_of};
 ghost use Rattle.hnodes.specs.Spelled.{spelled, spelled_what};
+ghost use Rattle.hwrite.specs.Lent.{pair_of};
 ghost use Rattle.hwrite.specs.Lines.{indented, attribute_line, identifiers, node_lines, error_line, error_lines, tree_text};
 ghost use Rattle.hnodes.specs.Named.{NodeIsOf, AreOf, IsLent};
 ghost use Rattle.hwrite.specs.Printing.{IsOpen, depth_after, lines_of, visit_lines};
@@ -19,6 +20,16 @@ use crate::walk::{Reach, Visit, Walk};
 use hnodes::{Doctype, NodeId, Tree};
 use names::{Attr, NameId, Names, ParseError, Refusal};
 use std::alloc::{AllocError, Global};
+
+/// Adds these parts, one after another.
+fn push_parts(text: &mut String, parts: &[&str]) -> Result<(), AllocError>
+    ensures { OnOk result (string_bytes text.new ≡ string_bytes text.old ++ flat_map (λ p. p.now) parts.now) }
+{
+    for part in parts {
+        text.push_str(part)?;
+    }
+    Ok(())
+}
 
 /// Begins a line at a depth.
 fn begin_line(text: &mut String, depth: usize) -> Result<(), AllocError>
@@ -42,10 +53,7 @@ fn push_line(
     ensures { OnOk result (string_bytes text.new ≡ string_bytes text.old ++ indented depth (before.now ++ words.now ++ after.now)) }
 {
     begin_line(text, depth)?;
-    text.push_str(before)?;
-    text.push_str(words)?;
-    text.push_str(after)?;
-    text.push('\n')
+    push_parts(text, &[before, words, after, "\n"])
 }
 
 /// Writes the line of an attribute.
@@ -58,10 +66,21 @@ fn push_attribute(
     ensures { OnOk result (string_bytes text.new ≡ string_bytes text.old ++ attribute_line depth (name.now, value.now)) }
 {
     begin_line(text, depth)?;
-    text.push_str(name)?;
-    text.push_str("=\"")?;
-    text.push_str(value)?;
-    text.push_str("\"\n")
+    push_parts(text, &[name, "=\"", value, "\"\n"])
+}
+
+/// Writes the lines of attributes.
+fn push_attributes(
+    text: &mut String,
+    depth: usize,
+    pairs: &[(&str, &str)],
+) -> Result<(), AllocError>
+    ensures { OnOk result (string_bytes text.new ≡ string_bytes text.old ++ flat_map (attribute_line depth) (map pair_of pairs.now)) }
+{
+    for pair in pairs {
+        push_attribute(text, depth, pair.0, pair.1)?;
+    }
+    Ok(())
 }
 
 /// Writes the lines of an element and its attributes.
@@ -80,10 +99,7 @@ fn push_element(
 {
     push_line(text, depth, "<", name_text(names, name), ">")?;
     let pairs = in_order(alloc, names, attrs)?;
-    for pair in &pairs {
-        push_attribute(text, depth + 1, pair.0, pair.1)?;
-    }
-    Ok(())
+    push_attributes(text, depth + 1, &pairs)
 }
 
 /// Writes the identifiers of a doctype, where one of them is not empty.
@@ -93,11 +109,7 @@ fn push_identifiers(text: &mut String, public_id: &str, system_id: &str) -> Resu
     if public_id.is_empty() && system_id.is_empty() {
         return Ok(());
     }
-    text.push_str(" \"")?;
-    text.push_str(public_id)?;
-    text.push_str("\" \"")?;
-    text.push_str(system_id)?;
-    text.push('"')
+    push_parts(text, &[" \"", public_id, "\" \"", system_id, "\""])
 }
 
 /// Writes the line of a doctype.
@@ -112,10 +124,18 @@ fn push_doctype(
         ++ indented depth (codes "<!DOCTYPE " ++ name.now ++ identifiers public_id.now system_id.now ++ codes ">")) }
 {
     begin_line(text, depth)?;
-    text.push_str("<!DOCTYPE ")?;
-    text.push_str(name)?;
+    push_parts(text, &["<!DOCTYPE ", name])?;
     push_identifiers(text, public_id, system_id)?;
     text.push_str(">\n")
+}
+
+/// Writes the line of a doctype with its identifiers.
+fn push_texts(text: &mut String, depth: usize, texts: &Doctype) -> Result<(), AllocError>
+    ensures { OnOk result (string_bytes text.new ≡ string_bytes text.old
+        ++ indented depth (codes "<!DOCTYPE " ++ string_bytes texts.now.name
+        ++ identifiers (string_bytes texts.now.public_id) (string_bytes texts.now.system_id) ++ codes ">")) }
+{
+    push_doctype(text, depth, &texts.name, &texts.public_id, &texts.system_id)
 }
 
 /// Writes the lines of a node.
@@ -133,13 +153,7 @@ fn push_node(
 {
     match Node::of(tree, node) {
         Node::Document => Ok(()),
-        Node::Doctype(texts) => push_doctype(
-            text,
-            depth,
-            &texts.name,
-            &texts.public_id,
-            &texts.system_id,
-        ),
+        Node::Doctype(texts) => push_texts(text, depth, texts),
         Node::Element(name, attrs) => push_element(alloc, text, names, depth, name, attrs),
         Node::Comment(data) => push_line(text, depth, "<!-- ", data, " -->"),
         Node::Text(data) => push_line(text, depth, "\"", data, "\""),

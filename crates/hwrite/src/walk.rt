@@ -13,14 +13,14 @@ use hnodes::{NodeId, Tree};
 use std::marker::Model;
 
 /// A step of a walk: a node is entered, and left after those inside it.
-#[derive(Clone, Copy, Debug, PartialEq, Eq)]
+#[derive(Clone, Copy)]
 pub(crate) enum Visit {
     Enter(NodeId),
     Leave(NodeId),
 }
 
 /// Which nodes a walk goes into.
-#[derive(Clone, Copy, Debug, PartialEq, Eq)]
+#[derive(Clone, Copy)]
 pub(crate) enum Reach {
     /// All.
     Whole,

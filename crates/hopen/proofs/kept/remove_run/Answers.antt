@@ -1,6 +1,8 @@
-use Rattle.std.proofs.Common.{rules, length, drop}
-use Rattle.hopen.specs.Kept.{AreIn}
+use Rattle.std.proofs.Common.{◌≡◌, ◌∙◌, sym, ap, subst, map, rules, length, drop}
+use Rattle.std.specs.List.{remove_range}
+use Rattle.hopen.specs.Kept.{AreIn, Stands, opened_by}
 use Rattle.hopen.proofs.Standing.{numbers-left}
+use Rattle.hopen.proofs.WrittenBack.{written_back}
 use Rattle.hopen.proofs.kept.remove_run.Goals as goal
 
 pub rewind-requires-clause-numbers : goal.rewind-requires-clause-numbers
@@ -10,3 +12,12 @@ rewind-requires-clause-numbers c =
     let all : AreIn names nodes (drop c.args.from c.args.items.now.items) = rw (← c.deref.ensures.value) c.unwind.ensures.numbers in
     let left = numbers-left c.args.items.now.items c.args.from c.args.to names nodes c.requires.order c.requires.within all in
     search (rules, left)
+
+pub returns-clause-items : goal.returns-clause-items
+returns-clause-items c =
+    let left : c.deref_mut.result.now ≡ remove_range c.args.items.now.items c.args.from c.args.to = search rules in
+    ap (map opened_by) (written_back c.rewind.new.items _ _ _ c.rewind.ensures.same c.deref_mut.ensures.value c.deref_mut.ensures.len) ∙ c.rewind.ensures.same ∙ ap (map opened_by) left
+
+pub returns-clause-stands : goal.returns-clause-stands
+returns-clause-stands c =
+    subst (Stands c.rewind.new.last) (sym (written_back c.rewind.new.items _ _ _ c.rewind.ensures.same c.deref_mut.ensures.value c.deref_mut.ensures.len)) c.rewind.ensures.stands

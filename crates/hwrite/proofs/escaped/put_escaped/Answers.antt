@@ -1,6 +1,7 @@
-use Rattle.std.proofs.Common.{◌∙◌, sym, ◌+◌}
+use Rattle.std.proofs.Common.{◌∙◌, sym, ap, ◌+◌}
+use Rattle.std.specs.declared.str.CharIndices.{CharIndices}
 use Rattle.hwrite.proofs.Output.{last_put, passed_on}
-use Rattle.hwrite.proofs.Escapes.{run_is, kept, replaced, reference_failed, run_failed, last_is}
+use Rattle.hwrite.proofs.Escapes.{begins_at, run_is, kept, replaced, reference_failed, run_failed, last_is}
 use Rattle.hwrite.proofs.escaped.put_escaped.Goals as goal
 
 pub returns-in_err-put : goal.returns-in_err-put
@@ -28,3 +29,8 @@ pub returns : goal.returns
 returns g c =
     let s = c.loop-at.invariant in
     last_put _ _ _ _ _ _ _ s.left (last_is _ _ _ _ _ _ _ s c.in-None.ensures.steps.0 _ c.as_bytes-bytes.ensures.value) c.put-2.ensures
+
+pub loop-at-init : goal.loop-at-init
+loop-at-init g c =
+    let gives = c.into_iter-at-iterator.ensures.into_iter_gives in
+    begins_at _ _ _ _ _ (ap (λ (i : CharIndices). i.at) gives ∙ c.char_indices-at-items.ensures.offset) (ap (λ (i : CharIndices). i.rest.now) gives ∙ c.char_indices-at-items.ensures.rest) c.utf8.source

@@ -1,4 +1,4 @@
-use Rattle.std.proofs.Common.{◌≡◌, ℕ, suc, ◌+◌, ◌-◌, ◌<◌, Some, None, length, map, reverse, refl, sym, ◌∙◌, ap, subst, arith, true≢false}
+use Rattle.std.proofs.Common.{◌≡◌, ℕ, suc, ◌+◌, ◌-◌, ◌<◌, List, Some, None, length, map, reverse, refl, sym, ◌∙◌, ap, subst, arith, true≢false}
 use Rattle.std.proofs.lemmas.List.{with_items_is, length-map}
 use Rattle.std.specs.List.{position, remove_range}
 use Rattle.std.specs.Option.{is_some}
@@ -13,6 +13,7 @@ use Rattle.hopen.specs.declared.kept.Item.{Item}
 use Rattle.hopen.proofs.Opened.{seen, found, none_found}
 use Rattle.hopen.proofs.Nearest.{remove_nearest, is_some-position}
 use Rattle.hopen.proofs.Standing.{length-stack_of}
+use Rattle.hopen.proofs.WrittenBack.{stands_same}
 use Rattle.hopen.proofs.ExchangedStack.{exchanged-nearest, length-put-le, found-below, length-left}
 use Rattle.hopen.proofs.stack.OpenStack.exchange.Goals as goal
 
@@ -63,3 +64,18 @@ returns-else-is_window-clause-ok c =
     seen c.self.inside c.args.self.now (λ s. put_before (is_node c.args.above) (open_of c.args.new) (without (is_node c.args.leaving) s)) c.exchange_any.new.items.items c.self.view_is
     (c.exchange_any.ensures.items
     ∙ ap (put_before (is_node c.args.above) (open_of c.args.new)) (ap (λ n. reverse (map opened_by (remove_range items from n))) (next from) ∙ remove_nearest opened_by (is_node c.args.leaving) items from f.up f.place f.sum))
+
+pub exchange-requires-clause-stands : goal.exchange-requires-clause-stands
+exchange-requires-clause-stands c =
+    stands_same c.self.inside.last _ c.self.inside.items.items _ c.in_ok-make_room.ensures.same_names c.in_ok-make_room.ensures.same_nodes c.deref_mut.ensures.value c.self.invariant.stands
+
+pub exchange_any-requires-clause-stands : goal.exchange_any-requires-clause-stands
+exchange_any-requires-clause-stands c =
+    stands_same c.self.inside.last _ c.self.inside.items.items _ c.in_ok-make_room.ensures.same_names c.in_ok-make_room.ensures.same_nodes refl c.self.invariant.stands
+
+pub exchange-requires-clause-name_in : goal.exchange-requires-clause-name_in
+exchange-requires-clause-name_in c = c.in_ok-make_room.ensures.name_in
+
+pub exchange-requires-clause-window : goal.exchange-requires-clause-window
+exchange-requires-clause-window c =
+    subst (λ (xs : List Item). IsWindow c.in-Some.from c.unwrap_or-to.result (open_of c.args.new) (map opened_by xs)) (c.deref.ensures.value ∙ sym c.deref_mut.ensures.value) (c.is_window.ensures c.if-is_window.true)

@@ -1,5 +1,6 @@
-use Rattle.std.proofs.Common.{◌+◌, List, ◌∙◌, ap, map, reverse}
+use Rattle.std.proofs.Common.{◌<◌, ◌≤◌, ◌+◌, List, length, ◌∙◌, sym, ap, map, reverse, subst}
 use Rattle.hopen.proofs.Opened.{seen, found, none_found, kept}
+use Rattle.hopen.proofs.WrittenBack.{stands_same}
 use Rattle.hopen.proofs.Nearest.{insert_nearest, no_words}
 use Rattle.hopen.specs.Nearest.{put_before}
 use Rattle.hopen.specs.Stack.{is_node}
@@ -22,3 +23,19 @@ returns-in_ok-reserve-clause-ok c =
 pub returns-in_default-clause-ok : goal.returns-in_default-clause-ok
 returns-in_default-clause-ok c =
     kept c.args.self.now (put_before (is_node c.args.node) (open_of c.args.opened)) ((no_words (is_node c.args.node) c.args.self.now.stack (none_found c.index.result _ _ c.in_default.not-Some c.index.ensures.found)).put_is (open_of c.args.opened))
+
+pub insert-requires-clause-stands : goal.insert-requires-clause-stands
+insert-requires-clause-stands c =
+    stands_same c.self.inside.last _ c.self.inside.items.items _ c.in_ok-make_room.ensures.same_names c.in_ok-make_room.ensures.same_nodes c.in_ok-reserve.ensures.items c.self.invariant.stands
+
+pub insert-requires-clause-name_in : goal.insert-requires-clause-name_in
+insert-requires-clause-name_in c = subst (λ (x : Open). x.name < length c.make_room.new.self.names.items) (sym c.new.ensures) c.in_ok-make_room.ensures.name_in
+
+pub insert-requires-clause-node_in : goal.insert-requires-clause-node_in
+insert-requires-clause-node_in c = subst (λ (x : Open). x.node < length c.make_room.new.self.nodes.items) (sym c.new.ensures) c.in_ok-make_room.ensures.node_in
+
+pub invariant_of-self-in_err-reserve : goal.invariant_of-self-in_err-reserve
+invariant_of-self-in_err-reserve c = record {
+  within = subst (λ (xs : List Item). length xs ≤ c.self.inside.limit) (sym c.in_err-reserve.ensures.items) c.self.invariant.within;
+  stands = stands_same c.self.inside.last _ c.self.inside.items.items _ c.in_ok-make_room.ensures.same_names c.in_ok-make_room.ensures.same_nodes c.in_err-reserve.ensures.items c.self.invariant.stands;
+}
