@@ -1,5 +1,6 @@
 -- What is used of names, where they are texts.
 use Rattle.std.proofs.Common.{◌≡◌, ℕ, Bool, true, false, cond, List, [], ◌∷◌, refl, sym, ◌∙◌, ap}
+use Rattle.std.proofs.lemmas.Bool.{false≢true}
 use Rattle.std.proofs.lemmas.Slice.Eq.{bytes_eq-Decides}
 use Rattle.std.specs.Prelude.{bytes_eq}
 use Rattle.names.specs.declared.tag.Tag.{Tag}
@@ -11,7 +12,7 @@ use Rattle.hmodes.specs.declared.family.Family.TheVariants as family
 use Rattle.hmodes.specs.Families.{family_of}
 use Rattle.hlaws.specs.Building.{is_list, is_dl}
 use Rattle.hwrite.specs.Plain.{is_a, is_button}
-use Rattle.hlaws.proofs.Profiles.{is_p}
+use Rattle.hlaws.proofs.Classes.{is_p}
 use Rattle.hlaws.proofs.Whole.{NameLaws}
 
 -- a text that is known by a name is that name's
@@ -41,11 +42,11 @@ is_named t proper x e = (bytes_eq-Decides x (tag_text t)).1 (named_back tags x t
 
 only_p : (u : Tag) → is_p u ≡ true → u ≡ tag.P
 only_p tag.P h = refl
-only_p _ h = absurd cc
+only_p _ h = absurd (false≢true h)
 
 only_button : (u : Tag) → is_button u ≡ true → u ≡ tag.Button
 only_button tag.Button h = refl
-only_button _ h = absurd cc
+only_button _ h = absurd (false≢true h)
 
 only_table : (u : Tag) → family_of u ≡ family.Table → u ≡ tag.Table
 only_table tag.Table h = refl
