@@ -1,6 +1,6 @@
 -- Plain trees come back, where what is written of them is read as their own tokens.
 use Rattle.std.proofs.Common.{◌≡◌, ℕ, ◌+◌, Bool, true, false, List, [], ◌∷◌, ◌++◌, map, Some, refl, sym, ◌∙◌, ap, subst, arith, ◌⊎◌, inl, inr}
-use Rattle.std.proofs.lemmas.Bool.{ne_eqb}
+use Rattle.std.proofs.lemmas.Bool.{ne_eqb, false≢true}
 use Rattle.hnodes.specs.Forest.{Forest, none, tree, size, children_of}
 use Rattle.hnodes.proofs.Forests.{join-none}
 use Rattle.names.specs.Sets.{raw_kind}
@@ -77,13 +77,13 @@ eof_rule InCell h = refl
 eof_rule InTable h = refl
 eof_rule InTableBody h = refl
 eof_rule InRow h = refl
-eof_rule _ h = absurd cc
+eof_rule _ h = absurd (false≢true h)
 
 flow_ends : (m : Mode) → is_flow_mode m ≡ true → ends_body m ≡ true
 flow_ends InBody h = refl
 flow_ends InCaption h = refl
 flow_ends InCell h = refl
-flow_ends _ h = absurd cc
+flow_ends _ h = absurd (false≢true h)
 
 module _ (told : Told) (escaping : Escaping) (context : List ℕ) (allowed_here : is_context context ≡ true) (l : Forest (List ℕ)) (utf8 : AreTexts l) (fits : Fits told (written escaping (Some context) l) l)
     (read : AreRead told.table (raw_kind (tag_named context)) (written escaping (Some context) l) (tokens_of texts l ++ eof ∷ [])) where
@@ -153,8 +153,8 @@ module _ (told : Told) (escaping : Escaping) (context : List ℕ) (allowed_here 
       go content.TableParts m h = from_inside _ m refl (inr refl) refl (ap ends_body (parts_mode_is mode m)) h
       go content.TableRows m h = from_inside _ m refl (inr refl) refl (ap ends_body (rows_mode_is mode m)) h
       go content.Cells m h = from_inside _ m refl (inr refl) refl (ap ends_body (cells_mode_is mode m)) h
-      go content.Columns m h = absurd cc
-      go content.Empty m h = absurd cc
+      go content.Columns m h = absurd (false≢true h)
+      go content.Empty m h = absurd (false≢true h)
 
 -- the law of the whole from the law of tokens
 pub comes_back : PlainTokens → PlainComesBack

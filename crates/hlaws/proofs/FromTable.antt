@@ -1,6 +1,6 @@
 -- A list that the table calls content is good.
 use Rattle.std.proofs.Common.{◌≡◌, ℕ, zero, suc, ◌<◌, ◌≤◌, Bool, true, false, not, ◌&&◌, ◌||◌, leb, List, [], ◌∷◌, ◌++◌, refl, sym, ◌∙◌, ap, subst, arith, ◌⊎◌, inl, inr}
-use Rattle.std.proofs.lemmas.Bool.{and_parts, and_right as and_no, eqb-true, lt-leb, cases_lt}
+use Rattle.std.proofs.lemmas.Bool.{and_parts, and_right as and_no, false≢true, eqb-true, lt-leb, cases_lt}
 use Rattle.std.proofs.lemmas.Str.{encodes-chars, encode_ascii, encodes-IsAscii, chars_from_encodes}
 use Rattle.std.proofs.lemmas.List.Folds.{list_all-append}
 use Rattle.std.specs.Prelude.{IsUtf8, IsAscii, chars, encode_utf8, encode_utf8_all, codes, ◌==◌}
@@ -29,7 +29,7 @@ no_nul : (cs : List ℕ) → list_all is_clean_byte (encode_utf8_all cs) ≡ tru
 no_nul [] h = tt
 no_nul (c ∷ cs) h =
     let both : (list_all is_clean_byte (encode_utf8 c) && list_all is_clean_byte (encode_utf8_all cs)) ≡ true = sym (list_all-append is_clean_byte (encode_utf8 c) (encode_utf8_all cs)) ∙ h in
-    (go (c == 0) refl (and_parts _ _ both).0, no_nul cs ((and_parts (list_all is_clean_byte (encode_utf8 c)) _ both).1))
+    (go (c == 0) refl (and_parts _ _ both).0, no_nul cs (and_parts (list_all is_clean_byte (encode_utf8 c)) _ both).1)
   where
     go : (b : Bool) → (c == 0) ≡ b → list_all is_clean_byte (encode_utf8 c) ≡ true → (c == 0) ≡ false
     go false e k = e
@@ -128,7 +128,7 @@ not_among t h = let z = (and_parts (not (is_empty t) && is_clean t) false h).1 i
 
 not_empty : (i : Inside) (b : ℕ) (w : forest.What (List ℕ)) (kids rest : Forest (List ℕ)) → is_plain_node (record i { content = content.Empty; texts = allowed.None }) w kids rest ≡ true → ⊥
 not_empty i b (element x attrs) kids rest h = cc
-not_empty i b (text t) kids rest h = not_among t ((and_parts (is_plain_text allowed.None t) (not (begins_with_text rest)) h).0)
+not_empty i b (text t) kids rest h = not_among t (and_parts (is_plain_text allowed.None t) (not (begins_with_text rest)) h).0
 not_empty i b (forest.comment t) kids rest h = cc
 not_empty i b forest.document kids rest h = cc
 not_empty i b (forest.doctype a p s) kids rest h = cc
@@ -150,8 +150,8 @@ record Three (i : Inside) (w : forest.What (List ℕ)) (kids rest : Forest (List
 
 three : (i : Inside) (b : ℕ) (w : forest.What (List ℕ)) (kids rest : Forest (List ℕ)) → are_content i (tree b w kids rest) ≡ true → Three i w kids rest
 three i b w kids rest h = record {
-  node = (and_parts (is_plain_node i w kids rest) (are_content (inside_node w i) kids) ((and_parts (is_plain_node i w kids rest && are_content (inside_node w i) kids) (are_content i rest) h).0)).0;
-  children = (and_parts (is_plain_node i w kids rest) (are_content (inside_node w i) kids) ((and_parts (is_plain_node i w kids rest && are_content (inside_node w i) kids) (are_content i rest) h).0)).1;
+  node = (and_parts (is_plain_node i w kids rest) (are_content (inside_node w i) kids) (and_parts (is_plain_node i w kids rest && are_content (inside_node w i) kids) (are_content i rest) h).0).0;
+  children = (and_parts (is_plain_node i w kids rest) (are_content (inside_node w i) kids) (and_parts (is_plain_node i w kids rest && are_content (inside_node w i) kids) (are_content i rest) h).0).1;
   others = (and_parts (is_plain_node i w kids rest && are_content (inside_node w i) kids) (are_content i rest) h).1;
 }
 
@@ -174,9 +174,9 @@ good i (tree b (text t) none rest) fit u h =
     let h3 = three i b (text t) none rest h in
     let plain : is_plain_text i.texts t ≡ true = (and_parts (is_plain_text i.texts t) (not (begins_with_text rest)) h3.node).0 in
     let some_clean : (not (is_empty t) && is_clean t) ≡ true = (and_parts (not (is_empty t) && is_clean t) (is_among_texts i.texts t) plain).0 in
-    let is = is_text t u.0 (not_true (is_empty t) ((and_parts (not (is_empty t)) (is_clean t) some_clean).0)) ((and_parts (not (is_empty t)) (is_clean t) some_clean).1) in (
-      record { is = is; fits = text_fits i t is u.0 fit ((and_parts (not (is_empty t) && is_clean t) (is_among_texts i.texts t) plain).1) },
-      not_true (begins_with_text rest) ((and_parts (is_plain_text i.texts t) (not (begins_with_text rest)) h3.node).1),
+    let is = is_text t u.0 (not_true (is_empty t) (and_parts (not (is_empty t)) (is_clean t) some_clean).0) (and_parts (not (is_empty t)) (is_clean t) some_clean).1 in (
+      record { is = is; fits = text_fits i t is u.0 fit (and_parts (not (is_empty t) && is_clean t) (is_among_texts i.texts t) plain).1 },
+      not_true (begins_with_text rest) (and_parts (is_plain_text i.texts t) (not (begins_with_text rest)) h3.node).1,
       good i rest fit u.2 h3.others,
     )
 good i (tree b (text t) (tree b' w' kids' rest') rest) fit u h =
@@ -186,5 +186,5 @@ good i (tree b (forest.comment t) none rest) fit u h =
     ((and_parts (takes_comments i.content) (is_plain_comment t) h3.node).0, good i rest fit u.2 h3.others)
 good i (tree b (forest.comment t) (tree b' w' kids' rest') rest) fit u h =
     absurd (not_empty i b' w' kids' rest' (three (inside_node (forest.comment t) i) b' w' kids' rest' (three i b (forest.comment t) (tree b' w' kids' rest') rest h).children).node)
-good i (tree b forest.document kids rest) fit u h = absurd cc
-good i (tree b (forest.doctype a p s) kids rest) fit u h = absurd cc
+good i (tree b forest.document kids rest) fit u h = absurd (false≢true h)
+good i (tree b (forest.doctype a p s) kids rest) fit u h = absurd (false≢true h)

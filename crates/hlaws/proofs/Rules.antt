@@ -5,7 +5,7 @@ use Rattle.std.proofs.lemmas.List.{append-nil, append_assoc}
 use Rattle.std.specs.List.{list_all}
 use Rattle.std.specs.Str.{encode_utf8_all}
 use Rattle.std.specs.Prelude.{nat_le, encode_utf8, ◌==◌}
-use Rattle.hnodes.specs.Forest.{Attribute, What, element, text, Forest, none, tree, times, join, change_what}
+use Rattle.hnodes.specs.Forest.{Attribute, element, text, Forest, none, tree, times, join}
 use Rattle.hnodes.specs.Edits.{graft_last, with_char, text_before}
 use Rattle.hnodes.specs.declared.node.Place.TheVariants.{LastIn}
 use Rattle.hopen.specs.Stack.{OpenNode, in_scope}

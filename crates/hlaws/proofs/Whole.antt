@@ -28,7 +28,7 @@ use Rattle.hmodes.specs.declared.mode.Mode.TheVariants.{InCaption, InCell, Text,
 use Rattle.hmodes.specs.Families.{family_of}
 use Rattle.hmodes.specs.Perform.{perform}
 use Rattle.hmodes.specs.Programs.{void, raw}
-use Rattle.hmodes.specs.Body.{close_block, void_in_text}
+use Rattle.hmodes.specs.Body.{void_in_text}
 use Rattle.hmodes.specs.State.{Token, start, end, comment, character, doctype, eof, PlacedToken, Control, State, Done, kind_of}
 use Rattle.hmodes.specs.Reset.{reset_mode, open_mode}
 use Rattle.hmodes.specs.Step.{Rule, begun, Chain, ends, goes_again, Step, goes, Steps, and}
