@@ -1,5 +1,5 @@
 -- What a tokenizer holds back is a beginning of a span.
-use Rattle.std.proofs.Common.{◌≡◌, ℕ, Bool, true, false, not, ◌||◌, ◌&&◌, eqb, List, [], ◌∷◌, ◌++◌, map, sym, refl, ap, ◌∙◌, subst, append_assoc, append-nil}
+use Rattle.std.proofs.Common.{◌≡◌, ℕ, Bool, true, false, not, ◌||◌, ◌&&◌, eqb, List, [], ◌∷◌, ◌++◌, sym, refl, ap, ◌∙◌, subst, append_assoc, append-nil}
 use Rattle.std.proofs.lemmas.Bool.{eqb-true, false≢true}
 use Rattle.std.specs.Prelude.{codes, if◌then◌else◌}
 use Rattle.std.specs.List.{list_all}
@@ -10,13 +10,13 @@ use Rattle.names.specs.declared.placed.Placed.{Placed}
 use Rattle.names.specs.declared.raw.RawKind.{RawKind}
 use Rattle.names.specs.declared.raw.RawKind.TheVariants as kind
 use Rattle.names.specs.Names.{Texts}
-use Rattle.names.specs.Placed.{characters, lowered, place, begins, stops, before, spells, spells_in_any_case, null_errors, text_bytes, error, name_bytes}
+use Rattle.names.specs.Placed.{characters, lowered, place, stops, before, spells, spells_in_any_case, null_errors, text_bytes, error, name_bytes}
 use Rattle.charref.specs.Reference.{Entities, IsTable}
 use Rattle.charref.proofs.Opening.{open_taken}
 use Rattle.hmarkup.specs.declared.comment.CommentKind.{CommentKind}
 use Rattle.hmarkup.specs.declared.comment.CommentKind.TheVariants as comment
 use Rattle.hmarkup.specs.Comment.{IsBogus, closed_bogus, closes_bogus}
-use Rattle.hmarkup.specs.CommentWalk.{HasReadOf, IsSpan as IsCommentOf, closing_mark}
+use Rattle.hmarkup.specs.CommentWalk.{HasReadOf, IsSpan as IsCommentOf}
 use Rattle.hmarkup.specs.Doctype.{IsDoctype}
 use Rattle.hmarkup.specs.DoctypeWalk.{HasReadDoctype}
 use Rattle.hmarkup.proofs.Closing.{closed_span, closed_doctype}
@@ -31,20 +31,19 @@ use Rattle.htoken.specs.declared.state.State.{State}
 use Rattle.htoken.specs.declared.state.State.TheVariants as state
 use Rattle.htoken.specs.declared.tokenizer.Tokenizer.{Tokenizer}
 use Rattle.htoken.specs.Token.{Tok, Span, Event, Start, End, Comment, piece_span}
-use Rattle.htoken.specs.Standing.{Standing}
 use Rattle.htoken.specs.Beginning.{IsBeginning, nothing, inside, any_end, any_end_tag, has_end}
 use Rattle.htoken.specs.Data.{IsDataSpan, is_declaration, is_cdata, comment_span}
 use Rattle.htoken.specs.Data as d
-use Rattle.htoken.specs.Declaration.{IsOpened, IsFrontOf}
-use Rattle.htoken.specs.HeldFrom.{IsCutAt, from_of}
-use Rattle.htoken.specs.Raw.{may_end, is_raw}
-use Rattle.htoken.specs.Spans.{IsSpan, IsSpanOf, IsRawSpan, has_references, raw_reference}
+use Rattle.htoken.specs.Declaration.{IsOpened}
+use Rattle.htoken.specs.HeldFrom.{from_of}
+use Rattle.htoken.specs.Raw.{may_end}
+use Rattle.htoken.specs.Spans.{IsSpanOf, has_references, raw_reference}
 use Rattle.htoken.specs.Tag.{IsTag, start_tag, end_tag, tag_mark}
-use Rattle.htoken.specs.Tokenizing.{Reads, HasTaken, holds, in_run, IsHeld, IsIn, IsInMarkup, IsInMarkedTag, IsInReference, less, doctype_token, next_place}
+use Rattle.htoken.specs.Tokenizing.{Reads, holds, in_run, IsHeld, IsIn, IsInMarkup, IsInMarkedTag, IsInReference, less, doctype_token, next_place}
 use Rattle.htoken.proofs.Declaring.{nothing_at_end}
 use Rattle.htoken.proofs.Holding.{held_place}
 use Rattle.htoken.proofs.InData.{in_data}
-use Rattle.hcut.specs.Held.{HoldsBeginning, HeldBegins}
+use Rattle.hcut.specs.Held.{HeldBegins}
 use Rattle.hcut.specs.SomeEnd.{CanEnd}
 use Rattle.hcut.proofs.SomeEnd.{greater, tags_can_end}
 

@@ -172,7 +172,7 @@ module _ (rest rest' : List Placed) (span span' : Span) (e : span.text ++ rest �
 
   one_amp : (table : Entities) → IsAReference table rest span → IsAReference table rest' span' → Same rest rest' span span'
   one_amp table h k =
-      let same = one_reference table false rest rest' h.piece k.piece h.is_reference k.is_reference (ap (λ (s : Span). s.text ++ rest) (sym h.span_is) ∙ e ∙ ap (λ (s : Span). s.text ++ rest') k.span_is) in
+      let same = one_reference table false h.piece k.piece rest rest' h.is_reference k.is_reference (ap (λ (s : Span). s.text ++ rest) (sym h.span_is) ∙ e ∙ ap (λ (s : Span). s.text ++ rest') k.span_is) in
       (h.span_is ∙ ap piece_span same.0 ∙ sym k.span_is, same.1)
 
   one_nothing : (end : ℕ) → IsNothing end rest span → IsNothing end rest' span' → Same rest rest' span span'

@@ -55,7 +55,7 @@ module _ (table : Entities) (end : ℕ) (here : Standing) where
     one_raw (raw_reference piece r h is) (raw_character p' n' a' is') =
         absurd (no_reference table false p' rest' rest piece (not_second (has_references here.kind) (eqb p'.ch 38) a' r) h (sym (piece_whole rest' span' (plain_piece p') is') ∙ sym e ∙ piece_whole rest span piece is))
     one_raw (raw_reference piece r h is) (raw_reference piece' r' h' is') =
-        let same = one_of table false rest rest' piece piece' h h' (sym (piece_whole rest span piece is) ∙ e ∙ piece_whole rest' span' piece' is') in
+        let same = one_of table false piece piece' rest rest' h h' (sym (piece_whole rest span piece is) ∙ e ∙ piece_whole rest' span' piece' is') in
         (is ∙ ap piece_span same.0 ∙ sym is', same.1)
     one_raw (raw_reference piece r h is) (raw_end k' t') = absurd (no_end rest' rest span' piece h k' (sym e ∙ piece_whole rest span piece is))
     one_raw (raw_end k t) (raw_character p' n' a' is') = absurd (false≢true (sym n' ∙ ap (is_raw_end here) (sym (piece_whole rest' span' (plain_piece p') is') ∙ sym e) ∙ k))

@@ -56,7 +56,7 @@ module _ (table : Entities) (in_value : Bool) where
       (is ∙ ap plain_piece (heads p p' rest rest' whole) ∙ sym is', tails p p' rest rest' whole)
   one_piece rest rest' piece piece' (plain p n is) (reference h') e = absurd (no_reference p rest rest' piece' n h' (ap (λ (x : Piece). x.text ++ rest) (sym is) ∙ e))
   one_piece rest rest' piece piece' (reference h) (plain p' n' is') e = absurd (no_reference p' rest' rest piece n' h (ap (λ (x : Piece). x.text ++ rest') (sym is') ∙ sym e))
-  one_piece rest rest' piece piece' (reference h) (reference h') e = one_of table in_value rest rest' piece piece' h h' e
+  one_piece rest rest' piece piece' (reference h) (reference h') e = one_of table in_value piece piece' rest rest' h h' e
 
   pub some_piece : (rest more : List Placed) (piece : Piece) → IsPiece table in_value rest piece → [] ≡ piece.text ++ more → ⊥
   some_piece rest more piece (plain p n is) e = let none : [] ≡ p ∷ more = e ∙ ap (λ (x : Piece). x.text ++ more) is in absurd cc

@@ -1,5 +1,5 @@
 -- A fragment whose tokens lead the rules to a state is accepted, with the tree of that state.
-use Rattle.std.proofs.Common.{◌≡◌, ℕ, ◌≤◌, ◌-◌, List, [], ◌∷◌, ◌++◌, length, take, map, None, Ok, refl, sym, ap, ◌∙◌, subst}
+use Rattle.std.proofs.Common.{◌≡◌, ℕ, ◌≤◌, ◌-◌, List, [], ◌++◌, length, take, map, Ok, refl, sym, ap, ◌∙◌, subst}
 use Rattle.std.specs.Prelude.{IsUtf8}
 use Rattle.std.proofs.lemmas.List.{append-nil}
 use Rattle.names.specs.declared.error.ParseError.{ParseError}
@@ -8,7 +8,7 @@ use Rattle.names.specs.Sets.{raw_kind}
 use Rattle.names.specs.Tags.{tag_named}
 use Rattle.htext.specs.declared.Bom.TheVariants.{Keep}
 use Rattle.htext.specs.Items.{input_errors}
-use Rattle.htext.specs.Text.{text, valid_front, refusal_of}
+use Rattle.htext.specs.Text.{text, valid_front}
 use Rattle.htext.proofs.Refusals as refusals
 use Rattle.htext.proofs.Valid.{valid_len-nil, valid_front-append}
 use Rattle.htoken.specs.Token.{Tok}

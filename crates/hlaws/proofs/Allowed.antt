@@ -1,5 +1,6 @@
 -- A context in which lists are plain is one that a parser takes.
-use Rattle.std.proofs.Common.{◌≡◌, ℕ, Bool, true, false, not, ◌&&◌, ◌||◌, List, refl, sym, ◌∙◌, ap}
+use Rattle.std.proofs.Common.{◌≡◌, ℕ, Bool, true, not, ◌&&◌, ◌||◌, List, refl, sym, ◌∙◌, ap}
+use Rattle.std.proofs.lemmas.Bool.{false≢true}
 use Rattle.std.specs.Prelude.{nat_le, bytes_eq, codes, length}
 use Rattle.names.specs.declared.tag.Tag.{Tag}
 use Rattle.names.specs.declared.tag.Tag.TheVariants as tag
@@ -20,17 +21,17 @@ abbrev is_plain_in : Tag → Forest (List ℕ) → Bool
 is_plain_in t l = are_content_if (in_context_of (row t).1 (is_form t)) l
 
 known : (t : Tag) (l : Forest (List ℕ)) → is_plain_in t l ≡ true → is_taken t (tag_text t) ≡ true
-known tag.Other l h = absurd cc
-known tag.Colgroup l h = absurd cc
-known tag.Math l h = absurd cc
-known tag.Svg l h = absurd cc
-known tag.Template l h = absurd cc
-known tag.Select l h = absurd cc
-known tag.Option l h = absurd cc
-known tag.Optgroup l h = absurd cc
-known tag.Frame l h = absurd cc
-known tag.Frameset l h = absurd cc
-known tag.Keygen l h = absurd cc
+known tag.Other l h = absurd (false≢true h)
+known tag.Colgroup l h = absurd (false≢true h)
+known tag.Math l h = absurd (false≢true h)
+known tag.Svg l h = absurd (false≢true h)
+known tag.Template l h = absurd (false≢true h)
+known tag.Select l h = absurd (false≢true h)
+known tag.Option l h = absurd (false≢true h)
+known tag.Optgroup l h = absurd (false≢true h)
+known tag.Frame l h = absurd (false≢true h)
+known tag.Frameset l h = absurd (false≢true h)
+known tag.Keygen l h = absurd (false≢true h)
 known _ l h = refl
 
 pub context_taken : (context : List ℕ) (l : Forest (List ℕ)) → is_plain context l ≡ true → is_context context ≡ true

@@ -1,6 +1,6 @@
 -- Plain trees come back, where what is written of them is read as their own tokens.
 use Rattle.std.proofs.Common.{◌≡◌, ℕ, ◌+◌, Bool, true, false, List, [], ◌∷◌, ◌++◌, map, Some, refl, sym, ◌∙◌, ap, subst, arith, ◌⊎◌, inl, inr}
-use Rattle.std.proofs.lemmas.Bool.{ne_eqb}
+use Rattle.std.proofs.lemmas.Bool.{ne_eqb, false≢true}
 use Rattle.hnodes.specs.Forest.{Forest, none, tree, size, children_of}
 use Rattle.hnodes.proofs.Forests.{join-none}
 use Rattle.names.specs.Sets.{raw_kind}
@@ -33,7 +33,8 @@ use Rattle.hwrite.specs.ContentTable.{row, texts_in}
 use Rattle.hwrite.specs.Plain.{Inside, are_content, are_content_if, in_context_of, is_form}
 use Rattle.hlaws.specs.PlainTokens.{tokens_of}
 use Rattle.hwrite.specs.Written.{written}
-use Rattle.hlaws.proofs.TokenLists.{AreTokens, parted, first, after}
+use Rattle.hlaws.proofs.TokenLists.{AreTokens, parted, first, after, ended}
+use Rattle.hlaws.proofs.Content.{parts_mode_is, rows_mode_is, cells_mode_is}
 use Rattle.hlaws.proofs.Accepted.{accepts}
 use Rattle.hlaws.proofs.Allowed.{context_taken}
 use Rattle.hlaws.proofs.PlainBuilds.{law}
@@ -76,25 +77,13 @@ eof_rule InCell h = refl
 eof_rule InTable h = refl
 eof_rule InTableBody h = refl
 eof_rule InRow h = refl
-eof_rule _ h = absurd cc
+eof_rule _ h = absurd (false≢true h)
 
 flow_ends : (m : Mode) → is_flow_mode m ≡ true → ends_body m ≡ true
 flow_ends InBody h = refl
 flow_ends InCaption h = refl
 flow_ends InCell h = refl
-flow_ends _ h = absurd cc
-
-parts_end : (m : Mode) → fits_mode content.TableParts m ≡ true → ends_body m ≡ true
-parts_end InTable h = refl
-parts_end _ h = absurd cc
-
-rows_end : (m : Mode) → fits_mode content.TableRows m ≡ true → ends_body m ≡ true
-rows_end InTableBody h = refl
-rows_end _ h = absurd cc
-
-cells_end : (m : Mode) → fits_mode content.Cells m ≡ true → ends_body m ≡ true
-cells_end InRow h = refl
-cells_end _ h = absurd cc
+flow_ends _ h = absurd (false≢true h)
 
 module _ (told : Told) (escaping : Escaping) (context : List ℕ) (allowed_here : is_context context ≡ true) (l : Forest (List ℕ)) (utf8 : AreTexts l) (fits : Fits told (written escaping (Some context) l) l)
     (read : AreRead told.table (raw_kind (tag_named context)) (written escaping (Some context) l) (tokens_of texts l ++ eof ∷ [])) where
@@ -148,10 +137,6 @@ module _ (told : Told) (escaping : Escaping) (context : List ℕ) (allowed_here 
       let done = accepts told context (written escaping (Some context) l) read.toks read.errors (begun b.acted) read.utf8 fits.input read.read steps in
       let built = ap (λ f. erased (children_of 1 f)) b.built.trees_are ∙ ap erased (join-none (numbered 2 l)) ∙ erased-numbered 2 l in
       record { allowed = allowed_here; parse = done.parse; parses = done.parses; children = ap (λ f. erased (children_of 1 f)) done.trees ∙ built }
-    where
-      ended : (us : List (PlacedToken (List ℕ))) → AreTokens us [] → us ≡ []
-      ended [] e = refl
-      ended (u ∷ us) e = absurd cc
 
   comes : (k : Content) → (row (tag_named context)).1 ≡ k → are_content_if (in_context_of k (is_form (tag_named context))) l ≡ true → Gives told context (written escaping (Some context) l) l
   comes k e h = go k (ap (λ c. mode_ok c mode) (sym e) ∙ context_ok (tag_named context)) h
@@ -165,11 +150,11 @@ module _ (told : Told) (escaping : Escaping) (context : List ℕ) (allowed_here 
       go content.Text m h = from_inside _ m refl (inl refl) refl (flow_ends mode m) h
       go content.RawText m h = from_inside _ m refl (inl refl) refl (flow_ends mode m) h
       go content.ScriptText m h = from_inside _ m refl (inl refl) refl (flow_ends mode m) h
-      go content.TableParts m h = from_inside _ m refl (inr refl) refl (parts_end mode m) h
-      go content.TableRows m h = from_inside _ m refl (inr refl) refl (rows_end mode m) h
-      go content.Cells m h = from_inside _ m refl (inr refl) refl (cells_end mode m) h
-      go content.Columns m h = absurd cc
-      go content.Empty m h = absurd cc
+      go content.TableParts m h = from_inside _ m refl (inr refl) refl (ap ends_body (parts_mode_is mode m)) h
+      go content.TableRows m h = from_inside _ m refl (inr refl) refl (ap ends_body (rows_mode_is mode m)) h
+      go content.Cells m h = from_inside _ m refl (inr refl) refl (ap ends_body (cells_mode_is mode m)) h
+      go content.Columns m h = absurd (false≢true h)
+      go content.Empty m h = absurd (false≢true h)
 
 -- the law of the whole from the law of tokens
 pub comes_back : PlainTokens → PlainComesBack

@@ -1,6 +1,6 @@
 -- A list that the table calls content is good.
 use Rattle.std.proofs.Common.{◌≡◌, ℕ, zero, suc, ◌<◌, ◌≤◌, Bool, true, false, not, ◌&&◌, ◌||◌, leb, List, [], ◌∷◌, ◌++◌, refl, sym, ◌∙◌, ap, subst, arith, ◌⊎◌, inl, inr}
-use Rattle.std.proofs.lemmas.Bool.{eqb-true, lt-leb, cases_lt}
+use Rattle.std.proofs.lemmas.Bool.{and_parts, and_right as and_no, false≢true, eqb-true, lt-leb, cases_lt}
 use Rattle.std.proofs.lemmas.Str.{encodes-chars, encode_ascii, encodes-IsAscii, chars_from_encodes}
 use Rattle.std.proofs.lemmas.List.Folds.{list_all-append}
 use Rattle.std.specs.Prelude.{IsUtf8, IsAscii, chars, encode_utf8, encode_utf8_all, codes, ◌==◌}
@@ -17,8 +17,8 @@ use Rattle.hwrite.specs.ContentTable.{row, takes_role, takes_comments, texts_in}
 use Rattle.hlaws.specs.Building.{takes_space}
 use Rattle.hlaws.specs.ComesBack.{AreTexts}
 use Rattle.hwrite.specs.Plain.{Inside, inside_element, inside_node, is_nested, are_content, is_plain_node, are_plain_attributes, is_plain_text, is_plain_comment, is_clean, is_empty, is_among_texts, begins_with, begins_with_text, begins_with_line_feed, drops_line_feed}
-use Rattle.hlaws.proofs.TokenLists.{IsText, NoNul}
-use Rattle.hlaws.proofs.Whole.{Good, LfSafe, TextFits, AllOk, and_left, and_right, or_nothing}
+use Rattle.hlaws.proofs.TokenLists.{AllOk, IsText, NoNul, not_true}
+use Rattle.hlaws.proofs.Whole.{Good, LfSafe, TextFits}
 
 -- TEXTS
 
@@ -29,7 +29,7 @@ no_nul : (cs : List ℕ) → list_all is_clean_byte (encode_utf8_all cs) ≡ tru
 no_nul [] h = tt
 no_nul (c ∷ cs) h =
     let both : (list_all is_clean_byte (encode_utf8 c) && list_all is_clean_byte (encode_utf8_all cs)) ≡ true = sym (list_all-append is_clean_byte (encode_utf8 c) (encode_utf8_all cs)) ∙ h in
-    (go (c == 0) refl (and_left _ _ both), no_nul cs (and_right (list_all is_clean_byte (encode_utf8 c)) _ both))
+    (go (c == 0) refl (and_parts _ _ both).0, no_nul cs (and_parts (list_all is_clean_byte (encode_utf8 c)) _ both).1)
   where
     go : (b : Bool) → (c == 0) ≡ b → list_all is_clean_byte (encode_utf8 c) ≡ true → (c == 0) ≡ false
     go false e k = e
@@ -54,7 +54,7 @@ no_space : (b : ℕ) → 128 ≤ b → is_ascii_whitespace b ≡ false
 no_space b h = rw (lt-leb b 10 (omega arith), lt-leb b 13 (omega arith), lt-leb b 32 (omega arith)) (go (leb 9 b) (leb 12 b) (leb 32 b))
   where
     go : (x y z : Bool) → ((x && false || (y && false)) || (z && false)) ≡ false
-    go x y z = rw (or_nothing x, or_nothing y, or_nothing z) refl
+    go x y z = rw (and_no x false refl, and_no y false refl, and_no z false refl) refl
 
 space_small : (b : ℕ) → is_ascii_whitespace b ≡ true → b < 128
 space_small b h = go (cases_lt b 128)
@@ -65,12 +65,12 @@ space_small b h = go (cases_lt b 128)
 
 spaces_ascii : (t : List ℕ) → list_all is_ascii_whitespace t ≡ true → IsAscii t
 spaces_ascii [] h i = omega arith
-spaces_ascii (b ∷ bs) h zero = space_small b (and_left _ _ h)
-spaces_ascii (b ∷ bs) h (suc i) = spaces_ascii bs (and_right (is_ascii_whitespace b) _ h) i
+spaces_ascii (b ∷ bs) h zero = space_small b (and_parts _ _ h).0
+spaces_ascii (b ∷ bs) h (suc i) = spaces_ascii bs (and_parts (is_ascii_whitespace b) _ h).1 i
 
 all_spaces : (cs : List ℕ) → list_all is_ascii_whitespace cs ≡ true → AllOk (λ ch. is_ascii_whitespace ch ≡ true) cs
 all_spaces [] h = tt
-all_spaces (c ∷ cs) h = (and_left _ _ h, all_spaces cs (and_right (is_ascii_whitespace c) _ h))
+all_spaces (c ∷ cs) h = ((and_parts _ _ h).0, all_spaces cs (and_parts (is_ascii_whitespace c) _ h).1)
 
 spaced : (t : List ℕ) (is : IsText t) → IsUtf8 t → list_all is_ascii_whitespace t ≡ true → AllOk (λ ch. is_ascii_whitespace ch ≡ true) (is.one ∷ is.more)
 spaced t is u h =
@@ -123,16 +123,12 @@ text_fits i t is u (inl e) h = go i.content refl
 
 -- LISTS OF TREES
 
-not_true : (a : Bool) → not a ≡ true → a ≡ false
-not_true true h = absurd cc
-not_true false h = refl
-
 not_among : (t : List ℕ) → is_plain_text allowed.None t ≡ true → ⊥
-not_among t h = let z = and_right (not (is_empty t) && is_clean t) false h in cc
+not_among t h = let z = (and_parts (not (is_empty t) && is_clean t) false h).1 in cc
 
 not_empty : (i : Inside) (b : ℕ) (w : forest.What (List ℕ)) (kids rest : Forest (List ℕ)) → is_plain_node (record i { content = content.Empty; texts = allowed.None }) w kids rest ≡ true → ⊥
 not_empty i b (element x attrs) kids rest h = cc
-not_empty i b (text t) kids rest h = not_among t (and_left (is_plain_text allowed.None t) (not (begins_with_text rest)) h)
+not_empty i b (text t) kids rest h = not_among t (and_parts (is_plain_text allowed.None t) (not (begins_with_text rest)) h).0
 not_empty i b (forest.comment t) kids rest h = cc
 not_empty i b forest.document kids rest h = cc
 not_empty i b (forest.doctype a p s) kids rest h = cc
@@ -154,9 +150,9 @@ record Three (i : Inside) (w : forest.What (List ℕ)) (kids rest : Forest (List
 
 three : (i : Inside) (b : ℕ) (w : forest.What (List ℕ)) (kids rest : Forest (List ℕ)) → are_content i (tree b w kids rest) ≡ true → Three i w kids rest
 three i b w kids rest h = record {
-  node = and_left (is_plain_node i w kids rest) (are_content (inside_node w i) kids) (and_left (is_plain_node i w kids rest && are_content (inside_node w i) kids) (are_content i rest) h);
-  children = and_right (is_plain_node i w kids rest) (are_content (inside_node w i) kids) (and_left (is_plain_node i w kids rest && are_content (inside_node w i) kids) (are_content i rest) h);
-  others = and_right (is_plain_node i w kids rest && are_content (inside_node w i) kids) (are_content i rest) h;
+  node = (and_parts (is_plain_node i w kids rest) (are_content (inside_node w i) kids) (and_parts (is_plain_node i w kids rest && are_content (inside_node w i) kids) (are_content i rest) h).0).0;
+  children = (and_parts (is_plain_node i w kids rest) (are_content (inside_node w i) kids) (and_parts (is_plain_node i w kids rest && are_content (inside_node w i) kids) (are_content i rest) h).0).1;
+  others = (and_parts (is_plain_node i w kids rest && are_content (inside_node w i) kids) (are_content i rest) h).1;
 }
 
 pub good : (i : Inside) (l : Forest (List ℕ)) → TextsFit i → AreTexts l → are_content i l ≡ true → Good texts i l
@@ -167,28 +163,28 @@ good i (tree b (element x attrs) kids rest) fit u h =
     let nests : Bool = not (is_nested i (tag_named x)) in
     let named : Bool = are_plain_attributes attrs in
     let feeds : Bool = not (drops_line_feed (tag_named x) && begins_with_line_feed kids) in
-    let two : (takes && nests) ≡ true = and_left (takes && nests) named (and_left (takes && nests && named) feeds h3.node) in (
-      and_left takes nests two,
-      not_true (is_nested i (tag_named x)) (and_right takes nests two),
-      lf_safe (drops_line_feed (tag_named x)) kids (and_right (takes && nests && named) feeds h3.node),
+    let two : (takes && nests) ≡ true = (and_parts (takes && nests) named (and_parts (takes && nests && named) feeds h3.node).0).0 in (
+      (and_parts takes nests two).0,
+      not_true (is_nested i (tag_named x)) (and_parts takes nests two).1,
+      lf_safe (drops_line_feed (tag_named x)) kids (and_parts (takes && nests && named) feeds h3.node).1,
       good (inside_element (tag_named x) i) kids (inl refl) u.2 h3.children,
       good i rest fit u.3 h3.others,
     )
 good i (tree b (text t) none rest) fit u h =
     let h3 = three i b (text t) none rest h in
-    let plain : is_plain_text i.texts t ≡ true = and_left (is_plain_text i.texts t) (not (begins_with_text rest)) h3.node in
-    let some_clean : (not (is_empty t) && is_clean t) ≡ true = and_left (not (is_empty t) && is_clean t) (is_among_texts i.texts t) plain in
-    let is = is_text t u.0 (not_true (is_empty t) (and_left (not (is_empty t)) (is_clean t) some_clean)) (and_right (not (is_empty t)) (is_clean t) some_clean) in (
-      record { is = is; fits = text_fits i t is u.0 fit (and_right (not (is_empty t) && is_clean t) (is_among_texts i.texts t) plain) },
-      not_true (begins_with_text rest) (and_right (is_plain_text i.texts t) (not (begins_with_text rest)) h3.node),
+    let plain : is_plain_text i.texts t ≡ true = (and_parts (is_plain_text i.texts t) (not (begins_with_text rest)) h3.node).0 in
+    let some_clean : (not (is_empty t) && is_clean t) ≡ true = (and_parts (not (is_empty t) && is_clean t) (is_among_texts i.texts t) plain).0 in
+    let is = is_text t u.0 (not_true (is_empty t) (and_parts (not (is_empty t)) (is_clean t) some_clean).0) (and_parts (not (is_empty t)) (is_clean t) some_clean).1 in (
+      record { is = is; fits = text_fits i t is u.0 fit (and_parts (not (is_empty t) && is_clean t) (is_among_texts i.texts t) plain).1 },
+      not_true (begins_with_text rest) (and_parts (is_plain_text i.texts t) (not (begins_with_text rest)) h3.node).1,
       good i rest fit u.2 h3.others,
     )
 good i (tree b (text t) (tree b' w' kids' rest') rest) fit u h =
     absurd (not_empty i b' w' kids' rest' (three (inside_node (text t) i) b' w' kids' rest' (three i b (text t) (tree b' w' kids' rest') rest h).children).node)
 good i (tree b (forest.comment t) none rest) fit u h =
     let h3 = three i b (forest.comment t) none rest h in
-    (and_left (takes_comments i.content) (is_plain_comment t) h3.node, good i rest fit u.2 h3.others)
+    ((and_parts (takes_comments i.content) (is_plain_comment t) h3.node).0, good i rest fit u.2 h3.others)
 good i (tree b (forest.comment t) (tree b' w' kids' rest') rest) fit u h =
     absurd (not_empty i b' w' kids' rest' (three (inside_node (forest.comment t) i) b' w' kids' rest' (three i b (forest.comment t) (tree b' w' kids' rest') rest h).children).node)
-good i (tree b forest.document kids rest) fit u h = absurd cc
-good i (tree b (forest.doctype a p s) kids rest) fit u h = absurd cc
+good i (tree b forest.document kids rest) fit u h = absurd (false≢true h)
+good i (tree b (forest.doctype a p s) kids rest) fit u h = absurd (false≢true h)

@@ -1,5 +1,6 @@
 -- What is used of names, where they are texts.
 use Rattle.std.proofs.Common.{◌≡◌, ℕ, Bool, true, false, cond, List, [], ◌∷◌, refl, sym, ◌∙◌, ap}
+use Rattle.std.proofs.lemmas.Bool.{false≢true}
 use Rattle.std.proofs.lemmas.Slice.Eq.{bytes_eq-Decides}
 use Rattle.std.specs.Prelude.{bytes_eq}
 use Rattle.names.specs.declared.tag.Tag.{Tag}
@@ -7,11 +8,12 @@ use Rattle.names.specs.declared.tag.Tag.TheVariants as tag
 use Rattle.names.specs.Tags.{tag_text, tags, tag_named, tag_among}
 use Rattle.names.proofs.KnownTags.{different}
 use Rattle.hadopt.specs.Naming.{texts}
+use Rattle.hmodes.specs.declared.family.Family.{Family}
 use Rattle.hmodes.specs.declared.family.Family.TheVariants as family
 use Rattle.hmodes.specs.Families.{family_of}
 use Rattle.hlaws.specs.Building.{is_list, is_dl}
 use Rattle.hwrite.specs.Plain.{is_a, is_button}
-use Rattle.hlaws.proofs.Profiles.{is_p}
+use Rattle.hlaws.proofs.Classes.{is_p}
 use Rattle.hlaws.proofs.Whole.{NameLaws}
 
 -- a text that is known by a name is that name's
@@ -39,25 +41,37 @@ knows t test proper is only x = go (bytes_eq x (tag_text t)) refl
 is_named : (t : Tag) → (t ≡ tag.Other → ⊥) → (x : List ℕ) → tag_named x ≡ t → bytes_eq x (tag_text t) ≡ true
 is_named t proper x e = (bytes_eq-Decides x (tag_text t)).1 (named_back tags x t e proper)
 
+abbrev is_table : Family → Bool
+is_table family.Table = true
+is_table _ = false
+
+abbrev is_caption : Family → Bool
+is_caption family.Caption = true
+is_caption _ = false
+
+abbrev is_row : Family → Bool
+is_row family.Row = true
+is_row _ = false
+
 only_p : (u : Tag) → is_p u ≡ true → u ≡ tag.P
 only_p tag.P h = refl
-only_p _ h = absurd cc
+only_p _ h = absurd (false≢true h)
 
 only_button : (u : Tag) → is_button u ≡ true → u ≡ tag.Button
 only_button tag.Button h = refl
-only_button _ h = absurd cc
+only_button _ h = absurd (false≢true h)
 
 only_table : (u : Tag) → family_of u ≡ family.Table → u ≡ tag.Table
 only_table tag.Table h = refl
-only_table _ h = absurd cc
+only_table _ h = absurd (false≢true (ap is_table h))
 
 only_caption : (u : Tag) → family_of u ≡ family.Caption → u ≡ tag.Caption
 only_caption tag.Caption h = refl
-only_caption _ h = absurd cc
+only_caption _ h = absurd (false≢true (ap is_caption h))
 
 only_row : (u : Tag) → family_of u ≡ family.Row → u ≡ tag.Tr
 only_row tag.Tr h = refl
-only_row _ h = absurd cc
+only_row _ h = absurd (false≢true (ap is_row h))
 
 -- a text of another name
 not_named : (t : Tag) (test : Tag → Bool) (x : List ℕ) → test (tag_named (tag_text t)) ≡ false → test (tag_named x) ≡ true → bytes_eq x (tag_text t) ≡ false

@@ -1,6 +1,5 @@
 -- The bytes of a document have exactly one list of tokens and errors, or refusal.
 use Rattle.std.proofs.Common.{◌≡◌, ℕ, List, ◌++◌, length, Option, None, Some, Result, Ok, Err, refl, sym, ap, ◌∙◌, subst}
-use Rattle.std.specs.List.Sorted.{IsPermutation, IsSorted}
 use Rattle.std.proofs.lemmas.List.Sorted.{IsPermutation-append_right}
 use Rattle.names.specs.declared.error.ParseError.{ParseError}
 use Rattle.names.specs.declared.placed.Placed.{Placed}

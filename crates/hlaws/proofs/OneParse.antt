@@ -11,8 +11,7 @@ use Rattle.names.specs.declared.refusal.Refusal.{Refusal}
 use Rattle.names.specs.declared.refusal.Refusal.TheVariants.{OutOfProfile}
 use Rattle.htext.specs.Items.{input_errors}
 use Rattle.htext.specs.Text.{valid_len, refusal_of}
-use Rattle.charref.specs.Reference.{IsTable}
-use Rattle.htoken.specs.Token.{Tok, Eof, Event, Gives}
+use Rattle.htoken.specs.Token.{Tok, Gives}
 use Rattle.htoken.specs.Standing.{start_kind}
 use Rattle.htoken.specs.Tokens.{spans_text, Tokens, IsRefused, AreFront, tokens_in, eof_of}
 use Rattle.hadopt.specs.Naming.{texts}
@@ -30,7 +29,7 @@ use Rattle.hcut.proofs.OneCut.{one_list_of_tokens, no_tokens_of_refused, one_ref
 use Rattle.hcut.proofs.SomeCut.{some_answer}
 use Rattle.hparse.specs.Answer.{error_cmp}
 use Rattle.hparse.specs.Input.{text_in}
-use Rattle.hparse.specs.Parse.{Told, Subject, document, fragment, Parse, Parses, Builds, manner, start_of, begins, refused_token, refused_tag, refused_bytes, accepted}
+use Rattle.hparse.specs.Parse.{Told, Subject, document, fragment, Parse, Parses, manner, start_of, begins, refused_token, refused_tag, refused_bytes, accepted}
 use Rattle.hparse.specs.Taken.{placed}
 use Rattle.hlaws.specs.OneAnswer.{ExactlyOne, OneParse}
 use Rattle.hlaws.proofs.OneInput.{all-valid, one-some, never-both, one-list}

@@ -1,7 +1,6 @@
 -- The tokens of a plain list build it from each quiet state.
 use Rattle.std.proofs.Common.{◌≡◌, ℕ, suc, ◌+◌, ◌≤◌, Bool, true, false, not, List, ◌∷◌, length, refl, sym, ap, subst, arith}
 use Rattle.hnodes.specs.Forest.{Forest, size}
-use Rattle.hformat.specs.Formatting.{Item}
 use Rattle.hadopt.specs.Naming.{texts}
 use Rattle.hadopt.specs.Site.{trees}
 use Rattle.hmodes.specs.State.{State}
@@ -11,13 +10,8 @@ use Rattle.hlaws.specs.ComesBack.{PlainBuilds}
 use Rattle.hwrite.specs.Plain.{begins_with_line_feed}
 use Rattle.hlaws.proofs.FromTable.{good, lf_safe}
 use Rattle.hlaws.proofs.NamesAsTexts.{text_laws}
-use Rattle.hlaws.proofs.Thinned as proof
-use Rattle.hlaws.proofs.Whole.{Quiet, LfSafe, builds, st, Built}
-
-thinned_too : {N : Type 0} {xs ys : List (Item N)} → proof.Thinned xs ys → spec.Thinned xs ys
-thinned_too proof.same = spec.same
-thinned_too (proof.kept t) = spec.kept (thinned_too t)
-thinned_too (proof.lost t) = spec.lost (thinned_too t)
+use Rattle.hlaws.proofs.Rules.{state}
+use Rattle.hlaws.proofs.Whole.{Quiet, LfSafe, builds, Built}
 
 dropping : (v : Bool) (l : Forest (List ℕ)) → (v ≡ true → begins_with_line_feed l ≡ false) → LfSafe v l
 dropping false l h = lf_safe false l refl
@@ -27,7 +21,7 @@ pub law : PlainBuilds
 law inside l s ts q utf8 plain well room h = subst (λ (v : State (List ℕ)). Builds texts l q.current.node ts v) (sym same) at_literal
   where
     literal : State (List ℕ)
-    literal = st texts text_laws s.site.nodes.limit s.site.open_nodes.limit s.site.errors s.context s.quirks_list s.site.nodes.made (trees s.site) (q.current ∷ q.up) s.site.items s.control
+    literal = state s s.site.nodes.made (trees s.site) (q.current ∷ q.up) s.site.items s.control
 
     same : s ≡ literal
     same = λ i. record s { site = record s.site { open_nodes = record s.site.open_nodes { stack = q.stack_is i }; foster = q.foster_off i } }
@@ -50,14 +44,14 @@ law inside l s ts q utf8 plain well room h = subst (λ (v : State (List ℕ)). B
     deep : suc (length q.up) + spec.depth l ≤ s.site.open_nodes.limit
     deep = let e = ap length q.stack_is in let r = room.open_nodes in omega arith
 
-    built : Built texts text_laws s.site.nodes.limit s.site.open_nodes.limit s.site.errors s.context s.quirks_list l s.site.nodes.made (trees s.site) q.current q.up s.site.items s.control literal ts
-    built = builds texts text_laws s.site.nodes.limit s.site.open_nodes.limit s.site.errors s.context s.quirks_list l inside s.site.nodes.made (trees s.site) q.current q.up s.site.items s.control literal ts
+    built : Built texts text_laws s l s.site.nodes.made (trees s.site) q.current q.up s.site.items s.control literal ts
+    built = builds texts text_laws s l inside s.site.nodes.made (trees s.site) q.current q.up s.site.items s.control literal ts
         quiet (good inside l q.texts_fit utf8 plain) (λ at t o e chain. chain) (λ e. refl) well.text (dropping s.control.drop_lf l well.line_feed) room.nodes deep h
 
     at_literal : Builds texts l q.current.node ts literal
     at_literal = record {
       reached = built.reached;
-      acted = st texts text_laws s.site.nodes.limit s.site.open_nodes.limit s.site.errors s.context s.quirks_list (s.site.nodes.made + size l) (spec.under q.current.node (spec.numbered s.site.nodes.made l) (trees s.site)) (q.current ∷ q.up) built.items' built.control';
+      acted = state s (s.site.nodes.made + size l) (spec.under q.current.node (spec.numbered s.site.nodes.made l) (trees s.site)) (q.current ∷ q.up) built.items' built.control';
       steps = built.steps;
       acts = built.acts;
       built = record {
@@ -65,7 +59,7 @@ law inside l s ts q utf8 plain well room h = subst (λ (v : State (List ℕ)). B
         limit = refl;
         trees_are = refl;
         open_same = refl;
-        thinned = thinned_too built.thinned;
+        thinned = built.thinned;
         foster = refl;
         errors = refl;
         mode = built.keeps.mode;

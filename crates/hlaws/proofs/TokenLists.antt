@@ -1,8 +1,8 @@
--- Tokens with their places, and what the law of building asks of a list of trees and of open nodes.
-use Rattle.std.proofs.Common.{◌≡◌, ℕ, suc, ◌<◌, Bool, true, false, List, [], ◌∷◌, ◌++◌, map, refl, ◌∙◌, ap, max}
+-- Tokens with their places, and what the law of building asks of texts.
+use Rattle.std.proofs.Common.{◌≡◌, ℕ, Bool, true, false, not, List, [], ◌∷◌, ◌++◌, map, refl, ◌∙◌, ap}
+use Rattle.std.proofs.lemmas.Bool.{false≢true}
 use Rattle.std.specs.Prelude.{encode_utf8_all, chars, ◌==◌}
-use Rattle.hnodes.specs.Forest.{element, text, Forest, none, tree}
-use Rattle.hopen.specs.Stack.{OpenNode}
+use Rattle.hnodes.specs.Forest.{text, Forest, tree}
 use Rattle.hadopt.specs.Naming.{Naming}
 use Rattle.hadopt.specs.Site.{Goes}
 use Rattle.hmodes.specs.State.{Token, PlacedToken, State}
@@ -28,6 +28,10 @@ pub record First {N : Type 0} (ts : List (PlacedToken N)) (u : Token N) (us : Li
   pub rest : AreTokens others us
 
 module _ {N : Type 0} where
+  pub ended : (us : List (PlacedToken N)) → AreTokens us [] → us ≡ []
+  ended [] e = refl
+  ended (u ∷ us) e = absurd cc
+
   pub first : (ts : List (PlacedToken N)) (u : Token N) (us : List (Token N)) → AreTokens ts (u ∷ us) → First ts u us
   first [] u us h = absurd cc
   first (t ∷ ts) u us h = record { at = t.at; others = ts; is = ap (λ v. record { token = v; at = t.at } ∷ ts) (head h); rest = tail h }
@@ -49,15 +53,13 @@ module _ {N : Type 0} where
   after step.none b = b
   after (and x a) b = and x (after a b)
 
--- each open node was made before
-abbrev pub AllLower : {N : Type 0} → ℕ → List (OpenNode N) → Type 0
-AllLower made [] = Unit {0}
-AllLower made (x ∷ up) = (x.node < made) × AllLower made up
+abbrev pub AllOk : (ℕ → Type 0) → List ℕ → Type 0
+AllOk ok [] = Unit {0}
+AllOk ok (ch ∷ chs) = ok ch × AllOk ok chs
 
 -- a text of characters other than NUL
 abbrev pub NoNul : List ℕ → Type 0
-NoNul [] = Unit {0}
-NoNul (ch ∷ chs) = ((ch == 0) ≡ false) × NoNul chs
+NoNul chs = AllOk (λ ch. (ch == 0) ≡ false) chs
 
 pub record IsText (t : List ℕ) : Type 0 where
   pub one : ℕ
@@ -66,13 +68,10 @@ pub record IsText (t : List ℕ) : Type 0 where
   pub bytes : encode_utf8_all (one ∷ more) ≡ t
   pub no_nul : NoNul (one ∷ more)
 
-module _ {N : Type 0} where
-  abbrev pub begins_text : Forest N → Bool
-  begins_text (tree b (text t) kids rest) = true
-  begins_text _ = false
+abbrev pub begins_text : {N : Type 0} → Forest N → Bool
+begins_text (tree b (text t) kids rest) = true
+begins_text _ = false
 
-  -- how deep elements stand in each other
-  abbrev pub depth : Forest N → ℕ
-  depth none = 0
-  depth (tree b (element x attrs) kids rest) = max (suc (depth kids)) (depth rest)
-  depth (tree b w kids rest) = depth rest
+pub not_true : (a : Bool) → not a ≡ true → a ≡ false
+not_true true h = absurd (false≢true h)
+not_true false h = refl

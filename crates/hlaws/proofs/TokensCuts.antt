@@ -127,10 +127,11 @@ module _ (table : Entities) (is_table : IsTable table) where
 
   -- CHARACTERS
 
-  -- one character of data, and of text in which no more than references is read
-  data_span : (c : ℕ) (ds : List ℕ) (text rest : List Placed) (end : ℕ) (here : Standing) → here.kind ≡ kind.None → Way table setting.Text c ds → characters text ≡ ds
+  -- one character, where a reference is a span, and a character by itself
+  char_cuts : (c : ℕ) (ds : List ℕ) (text rest : List Placed) (end : ℕ) (here : Standing) → ((piece : Piece) → IsReference table false rest piece → IsSpan table end here rest (piece_span piece))
+      → ((p : Placed) → p.ch ≡ c → (c == 38) ≡ false → (c == 60) ≡ false → Cuts table end here (p ∷ []) rest (character c ∷ []) (Same here)) → Way table setting.Text c ds → characters text ≡ ds
       → Cuts table end here text rest (character c ∷ []) (Same here)
-  data_span c ds text rest end here is_data (by_name name d key) e = go text (e ∙ d)
+  char_cuts c ds text rest end here referred itself (by_name name d key) e = go text (e ∙ d)
     where
       go : (text : List Placed) → characters text ≡ 38 ∷ name → Cuts table end here text rest (character c ∷ []) (Same here)
       go [] e = absurd cc
@@ -138,19 +139,22 @@ module _ (table : Entities) (is_table : IsTable table) where
           let is_amp : amp.ch ≡ 38 = cc in
           let is_name : characters nm ≡ name = cc in
           let piece : Piece = named_piece (amp ∷ nm) (entry_of name c) in
-          one table end here rest (piece_span piece) (character c ∷ []) (Same here)
-          (subst (λ (k : RawKind). IsSpanOf k table end here rest (piece_span piece)) (sym is_data) (production.reference piece (a_reference false amp nm rest name c is_amp is_name key) refl))
-          refl refl (record { kind_is = refl; name_is = refl })
-  data_span c ds text rest end here is_data (by_itself d no_amp no_less) e = go text (e ∙ d)
+          one table end here rest (piece_span piece) (character c ∷ []) (Same here) (referred piece (a_reference false amp nm rest name c is_amp is_name key)) refl refl (record { kind_is = refl; name_is = refl })
+  char_cuts c ds text rest end here referred itself (by_itself d no_amp no_less) e = go text (e ∙ d)
     where
       go : (text : List Placed) → characters text ≡ c ∷ [] → Cuts table end here text rest (character c ∷ []) (Same here)
       go [] e = absurd cc
       go (p ∷ q ∷ text) e = absurd cc
-      go (p ∷ []) e =
-          let is : p.ch ≡ c = cc in
-          one table end here rest (character_span p) (character c ∷ []) (Same here)
-          (subst (λ (k : RawKind). IsSpanOf k table end here rest (character_span p)) (sym is_data) (production.character p (ap (λ (x : ℕ). x == 60 || x == 38) is ∙ or_from _ _ no_less no_amp) refl))
-          (ap (λ (x : ℕ). character x ∷ []) is) refl (record { kind_is = refl; name_is = refl })
+      go (p ∷ []) e = let is : p.ch ≡ c = cc in itself p is no_amp no_less
+
+  -- .. of data, and of text in which no more than references is read
+  data_span : (c : ℕ) (ds : List ℕ) (text rest : List Placed) (end : ℕ) (here : Standing) → here.kind ≡ kind.None → Way table setting.Text c ds → characters text ≡ ds
+      → Cuts table end here text rest (character c ∷ []) (Same here)
+  data_span c ds text rest end here is_data =
+      char_cuts c ds text rest end here (λ piece r. subst (λ (k : RawKind). IsSpanOf k table end here rest (piece_span piece)) (sym is_data) (production.reference piece r refl))
+      (λ p is no_amp no_less. one table end here rest (character_span p) (character c ∷ []) (Same here)
+      (subst (λ (k : RawKind). IsSpanOf k table end here rest (character_span p)) (sym is_data) (production.character p (ap (λ (x : ℕ). x == 60 || x == 38) is ∙ or_from _ _ no_less no_amp) refl))
+      (ap (λ (x : ℕ). character x ∷ []) is) refl (record { kind_is = refl; name_is = refl }))
 
   -- an end tag begins with `<`
   pub no_raw_end : (here : Standing) (p : Placed) (rest : List Placed) → (p.ch == 60) ≡ false → is_raw_end here (p ∷ rest) ≡ false
@@ -162,28 +166,12 @@ module _ (table : Entities) (is_table : IsTable table) where
 
   rcdata_span : (c : ℕ) (ds : List ℕ) (text rest : List Placed) (end : ℕ) (here : Standing) → here.kind ≡ kind.Rcdata → (c == 0) ≡ false → Way table setting.Text c ds → characters text ≡ ds
       → Cuts table end here text rest (character c ∷ []) (Same here)
-  rcdata_span c ds text rest end here is_rcdata no_null (by_name name d key) e = go text (e ∙ d)
-    where
-      go : (text : List Placed) → characters text ≡ 38 ∷ name → Cuts table end here text rest (character c ∷ []) (Same here)
-      go [] e = absurd cc
-      go (amp ∷ nm) e =
-          let is_amp : amp.ch ≡ 38 = cc in
-          let is_name : characters nm ≡ name = cc in
-          let piece : Piece = named_piece (amp ∷ nm) (entry_of name c) in
-          one table end here rest (piece_span piece) (character c ∷ []) (Same here)
-          (subst (λ (k : RawKind). IsSpanOf k table end here rest (piece_span piece)) (sym is_rcdata) (raw_reference piece (rw is_rcdata refl) (a_reference false amp nm rest name c is_amp is_name key) refl))
-          refl refl (record { kind_is = refl; name_is = refl })
-  rcdata_span c ds text rest end here is_rcdata no_null (by_itself d no_amp no_less) e = go text (e ∙ d)
-    where
-      go : (text : List Placed) → characters text ≡ c ∷ [] → Cuts table end here text rest (character c ∷ []) (Same here)
-      go [] e = absurd cc
-      go (p ∷ q ∷ text) e = absurd cc
-      go (p ∷ []) e =
-          let is : p.ch ≡ c = cc in
-          one table end here rest (piece_span (plain_piece p)) (character c ∷ []) (Same here)
-          (subst (λ (k : RawKind). IsSpanOf k table end here rest (piece_span (plain_piece p))) (sym is_rcdata)
-          (raw_character p (no_raw_end here p rest (ap (λ (x : ℕ). x == 60) is ∙ no_less)) (and_right _ _ (ap (λ (x : ℕ). x == 38) is ∙ no_amp)) refl))
-          (ap (λ (b : Bool). character (cond b 0xFFFD p.ch) ∷ []) (ap (λ (x : ℕ). x == 0) is ∙ no_null) ∙ ap (λ (x : ℕ). character x ∷ []) is) refl (record { kind_is = refl; name_is = refl })
+  rcdata_span c ds text rest end here is_rcdata no_null =
+      char_cuts c ds text rest end here (λ piece r. subst (λ (k : RawKind). IsSpanOf k table end here rest (piece_span piece)) (sym is_rcdata) (raw_reference piece (rw is_rcdata refl) r refl))
+      (λ p is no_amp no_less. one table end here rest (piece_span (plain_piece p)) (character c ∷ []) (Same here)
+      (subst (λ (k : RawKind). IsSpanOf k table end here rest (piece_span (plain_piece p))) (sym is_rcdata)
+      (raw_character p (no_raw_end here p rest (ap (λ (x : ℕ). x == 60) is ∙ no_less)) (and_right _ _ (ap (λ (x : ℕ). x == 38) is ∙ no_amp)) refl))
+      (ap (λ (b : Bool). character (cond b 0xFFFD p.ch) ∷ []) (ap (λ (x : ℕ). x == 0) is ∙ no_null) ∙ ap (λ (x : ℕ). character x ∷ []) is) refl (record { kind_is = refl; name_is = refl }))
 
   same_then : (here there last : Standing) → Same here there → Same there last → Same here last
   same_then here there last a b = record { kind_is = b.kind_is ∙ a.kind_is; name_is = b.name_is ∙ a.name_is }

@@ -1,6 +1,6 @@
 -- Plain lists are read as their own tokens.
 use Rattle.std.proofs.Common.{◌≡◌, ℕ, inl, Bool, true, false, not, ◌&&◌, ◌||◌, bytes_eq, List, [], ◌∷◌, ◌++◌, map, refl, sym, ◌∙◌, ap, subst, true≢false}
-use Rattle.std.proofs.lemmas.Bool.{and_parts, and_from, or_from, or_parts, false_from_ne_true}
+use Rattle.std.proofs.lemmas.Bool.{and_parts, and_from, or_from, or_parts, false_from_ne_true, false≢true}
 use Rattle.std.proofs.lemmas.Slice.Eq.{bytes_eq-Decides}
 use Rattle.std.proofs.lemmas.Str.{encodes-chars, scalars-chars}
 use Rattle.std.specs.Prelude.{codes, chars, IsUtf8, flat_map}
@@ -30,6 +30,7 @@ use Rattle.hwrite.specs.ContentTable.{row, takes_role}
 use Rattle.hwrite.specs.Plain.{are_plain_attributes, is_plain_name, is_plain_comment, is_clean, is_name_byte, begins_with, has_part}
 use Rattle.hwrite.specs.Written.{attribute_text, start_tag_text, end_tag_text}
 use Rattle.hlaws.specs.ComesBack.{AreUtf8}
+use Rattle.hlaws.proofs.TokenLists.{not_true}
 use Rattle.hlaws.proofs.NamesAsTexts.{named_back}
 use Rattle.hlaws.proofs.TokensText.{Spells, spells-nil, spells-append, spells_ascii, spells_text, clean_text, no_part, no_front}
 use Rattle.hlaws.proofs.TokensCore.{escaped_as}
@@ -80,16 +81,12 @@ somewhere c role.TablePart h = refl
 somewhere c role.Column h = refl
 somewhere c role.TableRow h = refl
 somewhere c role.Cell h = refl
-somewhere content.Around role.Nowhere h = absurd cc
-somewhere _ role.Nowhere h = absurd cc
+somewhere content.Around role.Nowhere h = absurd (false≢true h)
+somewhere _ role.Nowhere h = absurd (false≢true h)
 
 or_second : (a b : Bool) → (a || b) ≡ true → a ≡ false → b ≡ true
 or_second true b h e = absurd cc
 or_second false b h e = h
-
-pub not_true : (b : Bool) → not b ≡ true → b ≡ false
-not_true true h = absurd cc
-not_true false h = refl
 
 -- a name that stands somewhere
 pub record IsKnownName (name : List ℕ) : Type 0 where

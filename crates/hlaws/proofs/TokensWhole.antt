@@ -1,6 +1,6 @@
 -- Plain lists are read as their own tokens, in every context.
 use Rattle.std.proofs.Common.{◌≡◌, ℕ, ◌⊎◌, inl, inr, Bool, true, false, not, cond, ◌&&◌, nat_lt, Option, Some, None, List, [], ◌∷◌, ◌++◌, map, length, refl, sym, ◌∙◌, ap, subst, append-nil, append_assoc}
-use Rattle.std.proofs.lemmas.Bool.{and_parts}
+use Rattle.std.proofs.lemmas.Bool.{and_parts, false≢true}
 use Rattle.std.proofs.lemmas.List.{map-append}
 use Rattle.std.proofs.lemmas.List.Sorted.{IsPermutation-refl}
 use Rattle.std.proofs.lemmas.Str.{chars-nil, scalars-chars, IsUtf8-nil}
@@ -37,12 +37,13 @@ use Rattle.hlaws.specs.PlainTokens.{tokens_of}
 use Rattle.hwrite.specs.Written.{has_no_references, start_tag_text, end_tag_text, element_text, written_among}
 use Rattle.hlaws.specs.ComesBack.{AreTexts, AreRead, PlainTokens}
 use Rattle.hparse.specs.Taken.{taken}
+use Rattle.hlaws.proofs.TokenLists.{not_true}
 use Rattle.hlaws.proofs.TokensText.{Spells, spells-append, spells_text, spells_utf8, clean_text, text_characters, no_part}
 use Rattle.hlaws.proofs.TokensCore.{escaped_as}
 use Rattle.hlaws.proofs.TokensCuts.{split, Cuts, Same, join, cuts_as, text_cuts}
 use Rattle.hlaws.proofs.TokensMarks.{IsElementName, after_start}
 use Rattle.hlaws.proofs.TokensRaw.{is_raw, raw_cuts, raw_end_cuts, pushed_on, pushed, no_end_in, no_end_of_none, level_zero}
-use Rattle.hlaws.proofs.TokensPlain.{fits, fits_context, all_contexts, not_true, IsKnownName, known_name, InData, Reads, led, told, reads-nil, reads-append, StartTag, a_start_tag, end_spelled, end_tag_reads, start_tag_reads, text_reads, comment_reads}
+use Rattle.hlaws.proofs.TokensPlain.{fits, fits_context, all_contexts, IsKnownName, known_name, InData, Reads, led, told, reads-nil, reads-append, StartTag, a_start_tag, end_spelled, end_tag_reads, start_tag_reads, text_reads, comment_reads}
 
 -- ONE TEXT AT MOST
 
@@ -56,13 +57,13 @@ no_role : (c : Content) (r : Role) → holds_text c ≡ true → takes_role c r 
 no_role content.Text r h = refl
 no_role content.RawText r h = refl
 no_role content.ScriptText r h = refl
-no_role _ r h = absurd cc
+no_role _ r h = absurd (false≢true h)
 
 no_comment : (c : Content) → holds_text c ≡ true → takes_comments c ≡ false
 no_comment content.Text h = refl
 no_comment content.RawText h = refl
 no_comment content.ScriptText h = refl
-no_comment _ h = absurd cc
+no_comment _ h = absurd (false≢true h)
 
 -- A list that is one text, or nothing.
 pub record OneText (how : Escaping) (which : Texts) (l : Forest (List ℕ)) : Type 0 where
@@ -88,8 +89,8 @@ only_text inside (forest.element name attrs) kids rest h p =
     absurd (let x = no_role inside.content (row (tag_named name)).0 h in cc)
 only_text inside (forest.text t) kids rest h p = refl
 only_text inside (forest.comment t) kids rest h p = absurd (let x = no_comment inside.content h in let y = (and_parts (takes_comments inside.content) (is_plain_comment t) p).0 in cc)
-only_text inside forest.document kids rest h p = absurd cc
-only_text inside (forest.doctype n s i) kids rest h p = absurd cc
+only_text inside forest.document kids rest h p = absurd (false≢true p)
+only_text inside (forest.doctype n s i) kids rest h p = absurd (false≢true p)
 
 one_text : (how : Escaping) (inside : Inside) (l : Forest (List ℕ)) → holds_text inside.content ≡ true → (inside.texts ≡ allowed.Any) ⊎ ((inside.texts ≡ allowed.Raw) ⊎ (inside.texts ≡ allowed.Script)) → AreTexts l → are_content inside l ≡ true → OneText how inside.texts l
 one_text how inside none h which u p = record {
@@ -137,8 +138,8 @@ one_text how inside (tree n (forest.element name attrs) kids rest) h which u p =
 one_text how inside (tree n (forest.comment t) kids rest) h which u p =
     absurd (let a = and_parts (is_plain_node inside (forest.comment t) kids rest && are_content (inside_node (forest.comment t) inside) kids) (are_content inside rest) p in
     let x = only_text inside (forest.comment t) kids rest h (and_parts (is_plain_node inside (forest.comment t) kids rest) _ a.0).0 in cc)
-one_text how inside (tree n forest.document kids rest) h which u p = absurd cc
-one_text how inside (tree n (forest.doctype a b d) kids rest) h which u p = absurd cc
+one_text how inside (tree n forest.document kids rest) h which u p = absurd (false≢true p)
+one_text how inside (tree n (forest.doctype a b d) kids rest) h which u p = absurd (false≢true p)
 
 -- RAW ELEMENTS
 
@@ -227,7 +228,7 @@ module _ (table : Entities) (is_table : IsTable table) (core : HasCore table) (h
       let both = and_parts (not (has_part (codes "</") o.t)) (not (has_part (codes "<!--") o.t)) among in
       raw_inner name kids attrs within.texts (ap is_raw is_kind) (ap has_references is_kind) is_name s o both.0
       (λ text e. ap (λ (k : RawKind). may_end k (pushed text [])) is_kind ∙ ap (λ (n : ℕ). nat_lt n 2) (level_zero text [] (chars o.t) e refl (no_part (codes "<!--") o.t refl o.utf8 both.1)))
-  an_element name attrs kids inside _ _ _ is_kind is_row fit is_name s u h kids_read = absurd cc
+  an_element name attrs kids inside _ _ _ is_kind is_row fit is_name s u h kids_read = absurd (false≢true fit)
 
   again : (v : Bool) (name : List ℕ) (attrs : List (Attribute (List ℕ))) (kids rest : List (Token (List ℕ)))
       → (start name attrs false ∷ cond v [] (kids ++ end name ∷ [])) ++ rest ≡ start name attrs false ∷ cond v rest (kids ++ end name ∷ rest)
@@ -259,8 +260,8 @@ module _ (table : Entities) (is_table : IsTable table) (core : HasCore table) (h
       let b = and_parts (takes_comments inside.content && is_plain_comment t) _ a.0 in
       let c = and_parts (takes_comments inside.content) (is_plain_comment t) b.0 in
       reads-append table ((codes "<!--" ++ t) ++ codes "-->") (written_among how false rest) (comment t ∷ []) (tokens_of texts rest) (comment_reads table is_table core how t u.0 c.1) (list_reads inside rest u.2 a.1)
-  list_reads inside (tree n forest.document kids rest) u h = absurd cc
-  list_reads inside (tree n (forest.doctype a b d) kids rest) u h = absurd cc
+  list_reads inside (tree n forest.document kids rest) u h = absurd (false≢true h)
+  list_reads inside (tree n (forest.doctype a b d) kids rest) u h = absurd (false≢true h)
 
   -- CONTEXTS
 
@@ -275,7 +276,7 @@ module _ (table : Entities) (is_table : IsTable table) (core : HasCore table) (h
   }
 
   some_inside : (o : Option Inside) (l : Forest (List ℕ)) → are_content_if o l ≡ true → (inside : Inside) × (are_content inside l ≡ true)
-  some_inside None l h = absurd cc
+  some_inside None l h = absurd (false≢true h)
   some_inside (Some inside) l h = (inside, h)
 
   raw_context : (k : RawKind) (l : Forest (List ℕ)) (which : Texts) → is_raw k ≡ true → has_references k ≡ false → OneText how which l → AreRead table k (written_among how true l) (tokens_of texts l ++ eof ∷ [])
@@ -305,9 +306,9 @@ module _ (table : Entities) (is_table : IsTable table) (core : HasCore table) (h
       raw_context kind.Rawtext l allowed.Any refl refl (one_text how (record { content = content.Text; texts = allowed.Any; in_a = false; in_button = false; in_form = form }) l refl (inl refl) u h)
   in_kind kind.Script content.ScriptText form l fit u h =
       raw_context kind.Script l allowed.Any refl refl (one_text how (record { content = content.Text; texts = allowed.Any; in_a = false; in_button = false; in_form = form }) l refl (inl refl) u h)
-  in_kind _ content.Columns form l fit u h = absurd cc
-  in_kind _ content.Empty form l fit u h = absurd cc
-  in_kind _ _ form l fit u h = absurd cc
+  in_kind _ content.Columns form l fit u h = absurd (false≢true h)
+  in_kind _ content.Empty form l fit u h = absurd (false≢true h)
+  in_kind _ _ form l fit u h = absurd (false≢true fit)
 
 -- the law
 pub tokens_law : PlainTokens

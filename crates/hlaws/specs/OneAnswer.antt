@@ -1,11 +1,8 @@
 -- Laws of the answer: the bytes of an input have exactly one.
-use Rattle.std.specs.Prelude.{◌≡◌, ℕ, List, Result}
-use Rattle.names.specs.declared.error.ParseError.{ParseError}
-use Rattle.names.specs.declared.refusal.Refusal.{Refusal}
+use Rattle.std.specs.Prelude.{◌≡◌, ℕ, List}
 use Rattle.charref.specs.Reference.{Entities, IsTable}
-use Rattle.htoken.specs.Token.{Tok}
 use Rattle.hparse.specs.Answer.{Answers}
-use Rattle.hparse.specs.Parse.{Told, Subject, Parse, Parses}
+use Rattle.hparse.specs.Parse.{Told, Subject, Parses}
 
 -- one of these stands, and no other
 pub record ExactlyOne {A : Type 0} (P : A → Type 0) : Type 0 where

@@ -1,0 +1,123 @@
+-- Facts of content, of the modes in which it stands and of the names that it holds.
+use Rattle.std.proofs.Common.{◌≡◌, Bool, true, false, not, refl, ap}
+use Rattle.std.proofs.lemmas.Bool.{false≢true}
+use Rattle.hopen.specs.Scopes.{stops_item}
+use Rattle.names.specs.declared.tag.Tag.{Tag}
+use Rattle.names.specs.declared.tag.Tag.TheVariants as tag
+use Rattle.names.specs.Sets.{is_heading, stops_scope}
+use Rattle.hmodes.specs.declared.mode.Mode.{Mode}
+use Rattle.hmodes.specs.declared.mode.Mode.TheVariants.{InBody, InCaption, InCell, InTable, InTableBody, InRow, InColumnGroup}
+use Rattle.hmodes.specs.declared.kind.Kind.TheVariants.{Comment}
+use Rattle.hmodes.specs.Rules.{rule_of}
+use Rattle.hmodes.specs.Words.{insert_comment}
+use Rattle.hwrite.specs.declared.content.Content.{Content}
+use Rattle.hwrite.specs.declared.content.Content.TheVariants as content
+use Rattle.hwrite.specs.declared.content.Role.{Role}
+use Rattle.hwrite.specs.declared.content.Role.TheVariants as role
+use Rattle.hwrite.specs.ContentTable.{takes_role, texts_in}
+use Rattle.hwrite.specs.Plain.{Inside, is_nested, is_a, is_button, is_form, inserts_marker}
+use Rattle.hlaws.specs.Building.{is_flow_mode, fits_mode, fits_current, is_list, is_dl}
+
+-- the content in which a role stands, but that of phrasing elements, which stand in two
+abbrev pub home : Role → Content
+home role.Flow = content.Flow
+home role.ListItem = content.ListItems
+home role.Definition = content.Definitions
+home role.TablePart = content.TableParts
+home role.Column = content.Columns
+home role.TableRow = content.TableRows
+home role.Cell = content.Cells
+home _ = content.Empty
+
+abbrev pub has_home : Role → Bool
+has_home role.Phrasing = false
+has_home _ = true
+
+pub stands_in : (k : Content) (r : Role) → has_home r ≡ true → takes_role k r ≡ true → k ≡ home r
+stands_in content.Flow role.Flow p h = refl
+stands_in content.ListItems role.ListItem p h = refl
+stands_in content.Definitions role.Definition p h = refl
+stands_in content.TableParts role.TablePart p h = refl
+stands_in content.Columns role.Column p h = refl
+stands_in content.TableRows role.TableRow p h = refl
+stands_in content.Cells role.Cell p h = refl
+stands_in k role.Phrasing p h = absurd (false≢true p)
+stands_in _ _ p h = absurd (false≢true h)
+
+pub no_nowhere : (k : Content) → takes_role k role.Nowhere ≡ true → ⊥
+no_nowhere content.Flow h = false≢true h
+no_nowhere _ h = false≢true h
+
+-- MODES
+
+pub phrasing_mode : (k : Content) (m : Mode) → takes_role k role.Phrasing ≡ true → fits_mode k m ≡ true → is_flow_mode m ≡ true
+phrasing_mode content.Flow m h e = e
+phrasing_mode content.Phrasing m h e = e
+phrasing_mode _ m h e = absurd (false≢true h)
+
+pub parts_mode_is : (m : Mode) → fits_mode content.TableParts m ≡ true → m ≡ InTable
+parts_mode_is InTable h = refl
+parts_mode_is _ h = absurd (false≢true h)
+
+pub rows_mode_is : (m : Mode) → fits_mode content.TableRows m ≡ true → m ≡ InTableBody
+rows_mode_is InTableBody h = refl
+rows_mode_is _ h = absurd (false≢true h)
+
+pub cells_mode_is : (m : Mode) → fits_mode content.Cells m ≡ true → m ≡ InRow
+cells_mode_is InRow h = refl
+cells_mode_is _ h = absurd (false≢true h)
+
+pub columns_mode_is : (m : Mode) → fits_mode content.Columns m ≡ true → m ≡ InColumnGroup
+columns_mode_is InColumnGroup h = refl
+columns_mode_is _ h = absurd (false≢true h)
+
+flow_comment : (m : Mode) → is_flow_mode m ≡ true → rule_of m Comment ≡ insert_comment
+flow_comment InBody h = refl
+flow_comment InCaption h = refl
+flow_comment InCell h = refl
+flow_comment _ h = absurd (false≢true h)
+
+pub comment_rule : (k : Content) (m : Mode) → fits_mode k m ≡ true → rule_of m Comment ≡ insert_comment
+comment_rule content.TableParts m h = ap (λ o. rule_of o Comment) (parts_mode_is m h)
+comment_rule content.TableRows m h = ap (λ o. rule_of o Comment) (rows_mode_is m h)
+comment_rule content.Cells m h = ap (λ o. rule_of o Comment) (cells_mode_is m h)
+comment_rule content.Columns m h = ap (λ o. rule_of o Comment) (columns_mode_is m h)
+comment_rule _ m h = flow_comment m h
+
+-- NAMES
+
+pub around_fits : (k : Content) (t : Tag) → takes_role k role.Phrasing ≡ true → is_heading t ≡ false → fits_current k (texts_in k) t ≡ true
+around_fits content.Flow t h e = ap not e
+around_fits content.Phrasing t h e = refl
+around_fits _ t h e = absurd (false≢true h)
+
+pub nested_a : (i : Inside) (t : Tag) → is_a t ≡ true → is_nested i t ≡ i.in_a
+nested_a i tag.A h = refl
+nested_a i _ h = absurd (false≢true h)
+
+pub nested_button : (i : Inside) (t : Tag) → is_button t ≡ true → is_nested i t ≡ i.in_button
+nested_button i tag.Button h = refl
+nested_button i _ h = absurd (false≢true h)
+
+pub nested_form : (i : Inside) (t : Tag) → is_form t ≡ true → is_nested i t ≡ i.in_form
+nested_form i tag.Form h = refl
+nested_form i _ h = absurd (false≢true h)
+
+pub marker_stops : (t : Tag) → inserts_marker t ≡ true → stops_scope t ≡ true
+marker_stops tag.Caption h = refl
+marker_stops tag.Td h = refl
+marker_stops tag.Th h = refl
+marker_stops tag.Object h = refl
+marker_stops tag.Marquee h = refl
+marker_stops _ h = absurd (false≢true h)
+
+pub list_stops : (t : Tag) → is_list t ≡ true → stops_item t ≡ true
+list_stops tag.Ul h = refl
+list_stops tag.Ol h = refl
+list_stops tag.Menu h = refl
+list_stops tag.Dir h = refl
+list_stops _ h = absurd (false≢true h)
+
+pub dl_stops : (t : Tag) → is_dl t ≡ true → stops_item t ≡ true
+dl_stops tag.Dl h = refl
+dl_stops _ h = absurd (false≢true h)
