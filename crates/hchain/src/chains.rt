@@ -1,6 +1,6 @@
 //! Lists of numbers.
 
-ghost use Rattle.std.specs.Prelude.{◌≡◌, ◌≢◌, ◌==◌, ℕ, ◌%◌, ◌<◌, ◌≤◌, ◌-◌, ◌^◌, ◌++◌, OnOk, OnErr, [], ◌∷◌, drop, filter, length, not, slice_index, take, true};
+ghost use Rattle.std.specs.Prelude.{◌≡◌, ◌≢◌, ◌==◌, ℕ, ◌%◌, ◌<◌, ◌≤◌, ◌+◌, ◌-◌, ◌*◌, ◌^◌, ◌++◌, OnOk, OnErr, [], ◌∷◌, drop, filter, if◌then◌else◌, length, ltb, not, slice_get, slice_index, take, true};
 ghost use Rattle.hchain.specs.Chains.{last_up, none};
 ghost use Rattle.hchain.specs.Linked.{IsChained, Keep, befores_of, is_in, numbers_of};
 
@@ -120,6 +120,8 @@ fn make_room(alloc: Global, last: &mut Vec<u32>, links: &mut [Link]) -> Result<(
     ensures chained { IsChained last.new.items links.new }
     ensures same { numbers_of links.new ≡ numbers_of links.old }
     ensures room { OnOk result (0 < length last.new.items) }
+    ensures width { OnOk result (length last.new.items ≡
+        (if ltb (length links.old) (length last.old.items) then length last.old.items else 2 * length last.old.items + 61)) }
 {
     if links.len() < last.len() {
         return Ok(());
@@ -157,6 +159,21 @@ impl Chains {
             last: Vec::new(alloc),
             alloc,
         }
+    }
+
+    /// How many numbers there are, each `NONE` among them.
+    pub fn len(&self) -> usize
+        ensures { result ≡ length self.now }
+    {
+        self.links.len()
+    }
+
+    /// The number at an index; `None` past the end.
+    pub fn get(&self, index: usize) -> Option<usize>
+        ensures { result ≡ slice_get self.now index }
+    {
+        let link = self.links.get(index)?;
+        Some(link.number as usize)
     }
 
     /// The last place of a number.
@@ -222,154 +239,5 @@ impl Chains {
         let kept = squeeze(&mut self.links[from..]);
         self.links.truncate(from + kept);
         rewind(&mut self.last, &mut self.links, from);
-    }
-}
-
-#[cfg(test)]
-mod tests {
-    use super::{Chains, NONE};
-    use std::alloc::{AllocError, Global};
-    use std::test::Fail;
-
-    /// A list, and the same numbers in a plain one.
-    #[derive(Drop)]
-    struct Both {
-        chains: Chains,
-        plain: Vec<usize>,
-    }
-
-    /// The last place of a number in a plain list, by a search.
-    fn searched(plain: &[usize], number: usize) -> usize {
-        let mut place = 0;
-        for (index, other) in plain.iter().enumerate() {
-            if *other == number && number != NONE {
-                place = index + 1;
-            }
-        }
-        place
-    }
-
-    impl Both {
-        fn new(alloc: Global) -> Self {
-            Both {
-                chains: Chains::new(alloc),
-                plain: Vec::new(alloc),
-            }
-        }
-
-        fn push(&mut self, number: usize) -> Result<(), AllocError> {
-            if number != NONE {
-                self.chains.push(number)?;
-                self.plain.push(number)?;
-            }
-            Ok(())
-        }
-
-        /// Adds so many numbers: every other one leaves 2 where it is divided by 61, and so is in one group of a small table.
-        fn fill(&mut self, count: u32) -> Result<(), AllocError> {
-            for turn in 0..count {
-                let turn = turn as usize;
-                if turn % 2 == 0 {
-                    self.push(turn * 13 % 90 * 61 + 2)?;
-                } else {
-                    self.push(turn % 17 + 3)?;
-                }
-            }
-            Ok(())
-        }
-
-        fn clear(&mut self, index: usize) {
-            if index < self.chains.links.len() && index < self.plain.len() {
-                self.chains.clear(index);
-                self.plain[index] = NONE;
-            }
-        }
-
-        fn truncate(&mut self, len: usize) {
-            if len <= self.chains.links.len() {
-                self.chains.truncate(len);
-                self.plain.truncate(len);
-            }
-        }
-
-        fn compact(&mut self, from: usize, alloc: Global) -> Result<(), AllocError> {
-            if from <= self.chains.links.len() {
-                self.chains.compact(from);
-            }
-            let mut left = Vec::new(alloc);
-            for (index, number) in self.plain.iter().enumerate() {
-                if index < from || *number != NONE {
-                    left.push(*number)?;
-                }
-            }
-            self.plain = left;
-            Ok(())
-        }
-
-        /// Whether the last place of a number is the one that a search finds.
-        fn knows(&self, number: usize) -> bool {
-            number == NONE || self.chains.last(number) == searched(&self.plain, number)
-        }
-
-        /// Whether the number at an index is that of the plain list, and so is the place before it.
-        fn agrees_at(&self, index: usize) -> bool {
-            if index >= self.chains.links.len() || index >= self.plain.len() {
-                return false;
-            }
-            let number = self.chains.links[index].number as usize;
-            let before = if number == NONE {
-                0
-            } else {
-                self.chains.before(index + 1)
-            };
-            number == self.plain[index] && before == searched(&self.plain[..index], number)
-        }
-
-        fn agrees(&self) -> bool {
-            self.chains.links.len() == self.plain.len()
-                && (0..self.plain.len()).all(|index| self.agrees_at(index))
-                && self.plain.iter().all(|number| self.knows(*number))
-                && [0, 2, 3, 63, 64, 5492, usize::MAX]
-                    .iter()
-                    .all(|number| self.knows(*number))
-        }
-    }
-
-    /// The table grows at the first number, at the 62nd and at the 184th.
-    #[test]
-    fn questions_agree_with_a_search(rt: HostRuntime) -> Result<(), Fail> {
-        let mut both = Both::new(rt.alloc());
-        assert!(rt; both.agrees());
-        for count in [1, 60, 1, 122, 66] {
-            both.fill(count)?;
-            assert!(rt; both.agrees());
-        }
-        assert_eq!(rt; both.chains.last.len(), 427);
-        Ok(())
-    }
-
-    #[test]
-    fn edits_agree_with_those_of_a_plain_list(rt: HostRuntime) -> Result<(), Fail> {
-        let alloc = rt.alloc();
-        let mut both = Both::new(alloc);
-        both.fill(210)?;
-        for index in 0..70 {
-            both.clear(index * 3);
-        }
-        assert!(rt; both.agrees());
-        both.compact(150, alloc)?;
-        assert_eq!(rt; both.plain.len(), 190);
-        assert!(rt; both.agrees());
-        both.truncate(120);
-        assert!(rt; both.agrees());
-        both.fill(40)?;
-        both.compact(0, alloc)?;
-        assert_eq!(rt; both.plain.len(), 120);
-        assert!(rt; both.agrees());
-        both.truncate(0);
-        both.compact(0, alloc)?;
-        both.fill(3)?;
-        assert!(rt; both.agrees());
-        Ok(())
     }
 }

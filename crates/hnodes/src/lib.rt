@@ -1,19 +1,11 @@
 //! The tree of a document, and the nodes that are not in it yet, in one vector of linked nodes.
 #![tactic(auto)]
 
-#[cfg(test)]
-mod attribute_tests;
 pub mod attributes;
 mod laws;
 mod links;
 mod node;
-#[cfg(test)]
-mod plain;
-#[cfg(test)]
-mod tests;
 mod tree;
-#[cfg(test)]
-mod walk_tests;
 mod walks;
 
 pub use attributes::{index_attrs, name_number};

@@ -139,6 +139,8 @@ pub(crate) struct Node {
     pub(crate) next: Link,
 }
 
+const _: () = prove!(std::mem::size_of::<Node>() == 56);
+
 impl Node {
     /// A loose node without children.
     pub(crate) fn loose(content: Content) -> Self

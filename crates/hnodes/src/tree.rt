@@ -1,6 +1,6 @@
 //! A tree as one value.
 
-ghost use Rattle.std.specs.Prelude.{◌≡◌, ◌<◌, ◌≤◌, ◌↔◌, ◌⊎◌, ℕ, Some, None, OnOk, OnErr, IfOk, IfErr, IfSome, IsSome, IsFalse, IsTrue, map, string_bytes, length, leb, nat_eq, if◌then◌else◌};
+ghost use Rattle.std.specs.Prelude.{◌≡◌, ◌<◌, ◌≤◌, ◌↔◌, ◌⊎◌, ℕ, Some, None, OnOk, OnErr, IfOk, IfErr, IfSome, IsSome, IsFalse, IsTrue, map, string_bytes, length, leb, ltb, nat_eq, if◌then◌else◌};
 ghost use Rattle.std.specs.Option.{option_map};
 ghost use Rattle.hnodes.specs.Attributes.{add_missing, is_present};
 ghost use Rattle.hnodes.specs.Forest.{document, doctype, element, comment, text, tree, none, change_what, IsOutside};
@@ -84,6 +84,20 @@ impl Tree {
         ensures { IsTrue result ↔ (node < self.now.made) }
     {
         node.number < self.made()
+    }
+
+    /// The node with this number, if it was made.
+    pub fn node(&self, index: usize) -> Option<NodeId>
+        ensures number { result ≡ (if ltb index self.now.made then Some index else None) }
+        ensures within { IfSome result (λ n. n < self.now.made) }
+    {
+        if index < self.made() as usize {
+            Some(NodeId {
+                number: index as u32,
+            })
+        } else {
+            None
+        }
     }
 
     /// How many nodes were made, the document among them.
