@@ -31,7 +31,10 @@ pub fn read_tokens<R: Source>(
         result }
 {
     let mut reading = begin(alloc, options)?;
-    read_to_end(alloc, piece, &mut reading, source)?;
+    if let Err(refusal) = read_to_end(alloc, piece, &mut reading, source) {
+        drop(reading);
+        return Err(refusal);
+    }
     run_of(reading)
 }
 
