@@ -23,9 +23,12 @@ pub fn tokens(alloc: Global, pieces: &[&[u8]], options: &Options) -> Result<Toke
 {
     let mut reading = begin(alloc, options)?;
     for piece in pieces {
-        if let Err(refusal) = reading.feed(piece) {
-            drop(reading);
-            return Err(refusal);
+        match reading.feed(piece) {
+            Ok(()) => {}
+            Err(refusal) => {
+                drop(reading);
+                return Err(refusal);
+            }
         }
     }
     finish(reading)

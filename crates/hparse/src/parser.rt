@@ -107,11 +107,13 @@ impl<'t> Parser<'t> {
         }
         let answer = reading.end();
         reading.feeding.settle(alloc);
-        if let Err(refusal) = answer {
-            drop(reading);
-            return Err(refusal);
+        match answer {
+            Ok(()) => built_of(reading),
+            Err(refusal) => {
+                drop(reading);
+                Err(refusal)
+            }
         }
-        built_of(reading)
     }
 }
 
@@ -131,11 +133,13 @@ pub fn parse_reader<R: Source>(
     let Parser { mut reading, .. } = parser;
     let answer = read_to_end(alloc, piece, &mut reading, source);
     reading.feeding.settle(alloc);
-    if let Err(refusal) = answer {
-        drop(reading);
-        return Err(refusal);
+    match answer {
+        Ok(()) => built_of(reading),
+        Err(refusal) => {
+            drop(reading);
+            Err(refusal)
+        }
     }
-    built_of(reading)
 }
 
 /// What a reading has built, with the errors in their order.

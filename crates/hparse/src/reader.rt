@@ -31,11 +31,13 @@ pub fn read_tokens<R: Source>(
         result }
 {
     let mut reading = begin(alloc, options)?;
-    if let Err(refusal) = read_to_end(alloc, piece, &mut reading, source) {
-        drop(reading);
-        return Err(refusal);
+    match read_to_end(alloc, piece, &mut reading, source) {
+        Ok(()) => run_of(reading),
+        Err(refusal) => {
+            drop(reading);
+            Err(refusal)
+        }
     }
-    run_of(reading)
 }
 
 /// Reads an input to its end and ends it, unless a read fails or a piece brings a refusal.

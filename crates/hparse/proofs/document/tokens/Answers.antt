@@ -23,7 +23,7 @@ loop-piece-preserved c =
     let fed = joined (take c.loop-piece.piece-index c.args.pieces.now) in
     let h = c.loop-piece.invariant in
     subst (HasReadTokens table limit c.feed.new.self) (sym (joined_more c.args.pieces.now c.loop-piece.piece-index _ lt))
-    (has_read_tokens table limit fed c.loop-piece.reading c.feed.new.self h _ (c.in_ok-feed.ensures (of_document table limit) h.began fed h.has_read))
+    (has_read_tokens table limit fed c.loop-piece.reading c.feed.new.self h _ (c.in-Ok.ensures (of_document table limit) h.began fed h.has_read))
 
 pub returns : goal.returns
 returns c =
