@@ -1,7 +1,7 @@
 //! The commands of the program, as `clap` reads them.
 
-ghost use Rattle.std.specs.Prelude.{◌≡◌, ◌++◌, [], false, IfOk};
-ghost use Rattle.clap.specs.Words.{app_of, new_app, rule_of};
+ghost use Rattle.std.specs.Prelude.{◌≡◌, ◌++◌, [], false, codes, IfOk};
+ghost use Rattle.clap.specs.Words.{app_of, new_app, rule_of, with_subcommand};
 ghost use Rattle.clap.specs.Simple.{on_top};
 ghost use Rattle.clap.specs.declared.builder.command.Command.TheViews.{out-Command as fields_of};
 ghost use Rattle.hmain.specs.Line.{bare_program, command_app, context_rules, each_rules, option_rule, program, with_rules};
@@ -25,16 +25,35 @@ pub fn command_line<'a>(alloc: Global) -> Result<Command<'a>, AllocError>
     ensures { IfOk result (λ command. app_of command ≡ program) }
 {
     use Reads::{Document, Either, Fragment};
-    Command::new(alloc, "htmlp")
+    let line = Command::new(alloc, "htmlp")
         .about("Reads HTML as the HTML Standard says")
         .subcommand_required(true)
-        .disable_help_subcommand(true)
-        .subcommand(command(alloc, "tokens", "A line for each token", Document)?)?
-        .subcommand(command(alloc, "tree", "The tree, a line for each node", Document)?)?
-        .subcommand(command(alloc, "errors", "A line for each parse error", Either)?)?
-        .subcommand(command(alloc, "write", "The tree as HTML", Either)?)?
-        .subcommand(command(alloc, "fragment", "The tree of a fragment", Fragment)?)?
-        .subcommand(command(alloc, "plain", "Whether a fragment is plain", Fragment)?)
+        .disable_help_subcommand(true);
+    let line = with_command(alloc, line, "tokens", "A line for each token", Document)?;
+    let line = with_command(alloc, line, "tree", "The tree, a line for each node", Document)?;
+    let line = with_command(alloc, line, "errors", "A line for each parse error", Either)?;
+    let line = with_command(alloc, line, "write", "The tree as HTML", Either)?;
+    let line = with_command(alloc, line, "fragment", "The tree of a fragment", Fragment)?;
+    with_command(alloc, line, "plain", "Whether a fragment is plain", Fragment)
+}
+
+/// The command line with one more command.
+fn with_command<'a>(
+    alloc: Global,
+    line: Command<'a>,
+    name: &'a str,
+    about: &'a str,
+    reads: Reads,
+) -> Result<Command<'a>, AllocError>
+    ensures { IfOk result (λ new. app_of new ≡ with_subcommand (app_of line.entry) (command_app (name.entry.now, reads)).top) }
+{
+    match command(alloc, name, about, reads) {
+        Ok(command) => line.subcommand(command),
+        Err(error) => {
+            drop(line);
+            Err(error)
+        }
+    }
 }
 
 /// A command, with its file and its options.
@@ -63,12 +82,19 @@ fn with_context<'a>(
     ensures shape { IfOk result (λ new. app_of new ≡ with_rules (context_rules reads) (app_of command.entry)) }
     ensures local { (fields_of command.entry).has_globals ≡ false → IfOk result (λ new. (fields_of new).has_globals ≡ false) }
 {
-    let context = option(alloc, "in", "NAME", "The element in which the input stands");
     match reads {
         Reads::Document => Ok(command),
-        Reads::Either => command.arg(context),
-        Reads::Fragment => command.arg(context.required(true)),
+        Reads::Either => command.arg(context(alloc)),
+        Reads::Fragment => command.arg(context(alloc).required(true)),
     }
+}
+
+/// The option that names a fragment's context.
+fn context<'a>(alloc: Global) -> Arg<'a>
+    ensures rule { rule_of result ≡ option_rule (codes "in") }
+    ensures local { result.global ≡ false }
+{
+    option(alloc, "in", "NAME", "The element in which the input stands")
 }
 
 /// The command with the options of each command.

@@ -1,12 +1,14 @@
 -- What a parser has been fed, and what its calls do.
 use Rattle.std.specs.Prelude.{◌≡◌, ◌<◌, ◌≤◌, ℕ, List, [], ◌++◌, slice_get, Some, None, Result, Ok, Err}
 use Rattle.std.specs.List.Sorted.{IsPermutation, IsSorted}
+use Rattle.names.specs.declared.error.ParseError.{ParseError}
 use Rattle.names.specs.declared.refusal.Refusal.{Refusal}
 use Rattle.names.specs.declared.refusal.Refusal.TheVariants.{Memory}
 use Rattle.names.specs.Names.{Texts, AreNames}
 use Rattle.names.specs.Spelling.{spelling}
 use Rattle.htext.specs.declared.decoder.TheConstants.{MAX_INPUT}
 use Rattle.htoken.specs.Token.{Item, gives_item}
+use Rattle.hnodes.specs.Edits.{Nodes}
 use Rattle.hnodes.specs.Forest.{children_of}
 use Rattle.hnodes.specs.Spelled.{spelled}
 use Rattle.hadopt.specs.Naming.{numbers}
@@ -53,14 +55,18 @@ pub data FeedsParser (told : Told) (subject : Subject) (bytes : List ℕ) (answe
       → FeedsParser told subject bytes answer new
   feed_read : answer ≡ Ok tt → HasParsed told subject new bytes → FeedsParser told subject bytes answer new
 
--- what was built, with the errors in order
-pub record IsBuilt (names : Texts) (built : Building) (parsed : Parsed) : Type 0 where
+-- What was parsed has this tree and root, and these errors in their order.
+pub record IsMadeOf (names : Texts) (tree : Nodes ℕ) (root : ℕ) (errors : List ParseError) (parsed : Parsed) : Type 0 where
   pub names_are : parsed.names ≡ names
-  pub tree_is : parsed.tree ≡ built.state.site.nodes
-  pub root_is : parsed.root ≡ built.root
+  pub tree_is : parsed.tree ≡ tree
+  pub root_is : parsed.root ≡ root
   pub made : parsed.root < parsed.tree.made
-  pub errors_are : IsPermutation (built.state.site.errors ++ built.told) parsed.errors.items
+  pub errors_are : IsPermutation errors parsed.errors.items
   pub sorted : IsSorted error_cmp parsed.errors.items
+
+-- what a builder has built
+abbrev pub IsBuilt : Texts → Building → Parsed → Type 0
+IsBuilt names built = IsMadeOf names built.state.site.nodes built.root (built.state.site.errors ++ built.told)
 
 -- What was parsed is this: the same tree, in which the names inside the root are numbers of its table, the same root and the same
 -- errors. The texts of the table are distinct, the known ones first.

@@ -8,7 +8,6 @@ ghost use Rattle.hparse.specs.Collecting.{IsRunOf};
 ghost use Rattle.hparse.specs.Shown.{HasReadTokens, Shows};
 
 use crate::collect::Collected;
-use crate::feeding::Feeding;
 use crate::options::Options;
 use crate::reading::Reading;
 use crate::token_run::TokenRun;
@@ -24,7 +23,13 @@ pub fn tokens(alloc: Global, pieces: &[&[u8]], options: &Options) -> Result<Toke
 {
     let mut reading = begin(alloc, options)?;
     for piece in pieces {
-        reading.feed(piece)?;
+        match reading.feed(piece) {
+            Ok(()) => {}
+            Err(refusal) => {
+                drop(reading);
+                return Err(refusal);
+            }
+        }
     }
     finish(reading)
 }
@@ -46,15 +51,19 @@ pub(crate) fn begin<'t>(
 fn finish(mut reading: Reading<Collected>) -> Result<TokenRun, Refusal>
     ensures { (table : Entities) (limit : ℕ) (bytes : List ℕ) → HasReadTokens table limit reading.entry bytes → Shows table limit bytes result }
 {
-    reading.end()?;
-    run_of(reading)
+    match reading.end() {
+        Ok(()) => run_of(reading),
+        Err(refusal) => {
+            drop(reading);
+            Err(refusal)
+        }
+    }
 }
 
 /// What a reading has collected.
 pub(crate) fn run_of(reading: Reading<Collected>) -> Result<TokenRun, Refusal>
     ensures { MatchResult result (IsRunOf reading.entry.feeding.names reading.entry.feeding.sink) (λ refusal. refusal ≡ Memory) }
 {
-    let Reading { feeding, .. } = reading;
-    let Feeding { names, sink, .. } = feeding;
-    sink.into_run(names)
+    let (names, collected) = reading.into_parts();
+    collected.into_run(names)
 }

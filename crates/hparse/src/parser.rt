@@ -5,11 +5,10 @@ ghost use Rattle.names.specs.declared.refusal.Refusal.{Refusal as Refused};
 ghost use Rattle.names.specs.declared.refusal.Refusal.TheVariants.{BadContext, Memory};
 ghost use Rattle.hparse.specs.Parse.{Subject, Told, document, fragment, is_context};
 ghost use Rattle.hparse.specs.Reader.{ReadsInput};
-ghost use Rattle.hparse.specs.Parsing.{AnswersParse, FeedsParser, HasParsed, IsBuilt, ShowsParse, told_by};
+ghost use Rattle.hparse.specs.Parsing.{AnswersParse, FeedsParser, HasParsed, IsBuilt, IsMadeOf, ShowsParse, told_by};
 
 use crate::context::is_context;
 use crate::errors::sort_errors;
-use crate::feeding::Feeding;
 use crate::options::Options;
 use crate::parsed::Parsed;
 use crate::reader::read_to_end;
@@ -103,12 +102,18 @@ impl<'t> Parser<'t> {
             refused,
         } = self;
         if let Some(refusal) = refused {
+            drop(reading);
             return Err(refusal);
         }
         let answer = reading.end();
         reading.feeding.settle(alloc);
-        answer?;
-        built_of(reading)
+        match answer {
+            Ok(()) => built_of(reading),
+            Err(refusal) => {
+                drop(reading);
+                Err(refusal)
+            }
+        }
     }
 }
 
@@ -128,31 +133,50 @@ pub fn parse_reader<R: Source>(
     let Parser { mut reading, .. } = parser;
     let answer = read_to_end(alloc, piece, &mut reading, source);
     reading.feeding.settle(alloc);
-    answer?;
-    built_of(reading)
+    match answer {
+        Ok(()) => built_of(reading),
+        Err(refusal) => {
+            drop(reading);
+            Err(refusal)
+        }
+    }
 }
 
 /// What a reading has built, with the errors in their order.
 fn built_of(reading: Reading<Builder>) -> Result<Parsed, Refusal>
     ensures { MatchResult result (IsBuilt reading.entry.feeding.names reading.entry.feeding.sink) (λ refusal. refusal ≡ Memory) }
 {
-    let Reading { feeding, .. } = reading;
-    let Feeding { names, sink, .. } = feeding;
+    let (names, builder) = reading.into_parts();
+    match builder.finish() {
+        Ok(built) => in_order(names, built),
+        Err(error) => {
+            drop(names);
+            Err(error.into())
+        }
+    }
+}
+
+/// What was built, with the errors in their order.
+fn in_order(names: Names, built: Built) -> Result<Parsed, Refusal>
+    ensures { MatchResult result (IsMadeOf names built.tree built.root built.errors.items) (λ refusal. refusal ≡ Memory) }
+{
     let Built {
         tree,
         root,
         mut errors,
-    } = sink.finish()?;
-    sort_errors(&mut errors)?;
-
-    // The root was made before anything else, so no input leads here.
-    if !tree.has(root) {
-        return Err(Refusal::Memory);
-    }
-    Ok(Parsed {
+    } = built;
+    let sorted = sort_errors(&mut errors);
+    let parsed = Parsed {
         tree,
         root,
         names,
         errors,
-    })
+    };
+
+    // The root was made before anything else, so no input leads to a tree without it.
+    if sorted.is_err() || !parsed.tree.has(root) {
+        drop(parsed);
+        return Err(Refusal::Memory);
+    }
+    Ok(parsed)
 }

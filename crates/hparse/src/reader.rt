@@ -31,8 +31,13 @@ pub fn read_tokens<R: Source>(
         result }
 {
     let mut reading = begin(alloc, options)?;
-    read_to_end(alloc, piece, &mut reading, source)?;
-    run_of(reading)
+    match read_to_end(alloc, piece, &mut reading, source) {
+        Ok(()) => run_of(reading),
+        Err(refusal) => {
+            drop(reading);
+            Err(refusal)
+        }
+    }
 }
 
 /// Reads an input to its end and ends it, unless a read fails or a piece brings a refusal.

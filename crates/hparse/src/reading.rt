@@ -69,4 +69,21 @@ impl<'t, S: TokenSink> Reading<'t, S> {
             Err(refusal) => Err(self.feeding.refuse(refusal)),
         }
     }
+
+    /// The names and the sink.
+    pub fn into_parts(self) -> (Names, S)
+        ensures names { result.0 ≡ self.entry.feeding.names }
+        ensures sink { result.1 ≡ self.entry.feeding.sink }
+    {
+        let Reading { decoder, feeding } = self;
+        drop(decoder);
+        let Feeding {
+            names,
+            tokenizer,
+            sink,
+            ..
+        } = feeding;
+        drop(tokenizer);
+        (names, sink)
+    }
 }

@@ -1,9 +1,10 @@
-use Rattle.std.proofs.Common.{ap, codes, true, refl, ◌≡◌, ◌∙◌}
+use Rattle.std.proofs.Common.{ap, codes, true, ◌≡◌, ◌∙◌}
 use Rattle.std.proofs.lemmas.Result.{IfOk-weaker}
-use Rattle.clap.specs.Words.{App, Shape, app_of, new_app}
+use Rattle.clap.specs.Words.{App, Shape, Text, app_of, new_app, with_subcommand}
 use Rattle.clap.specs.Simple.{app_of_fields, on_top}
-use Rattle.hmain.specs.Line.{bare_program}
-use Rattle.hmain.proofs.Adding.{one_command_more}
+use Rattle.hmain.specs.declared.commands.Reads.{Reads}
+use Rattle.hmain.specs.declared.commands.Reads.TheVariants.{Document, Either, Fragment}
+use Rattle.hmain.specs.Line.{bare_program, command_app}
 use Rattle.hmain.proofs.commands.command_line.Goals as goal
 
 -- two settings
@@ -13,14 +14,17 @@ needing = on_top (λ (s : Shape). record s { subcommand_required = true })
 abbrev helpless : App → App
 helpless = on_top (λ (s : Shape). record s { disable_help_subcommand = true })
 
+after : (name : Text) (reads : Reads) {x y : App} → x ≡ y → with_subcommand x (command_app (name, reads)).top ≡ with_subcommand y (command_app (name, reads)).top
+after name reads e = ap (λ (app : App). with_subcommand app (command_app (name, reads)).top) e
+
 pub returns : goal.returns
 returns c =
     let named : app_of c.about.result ≡ new_app (codes "htmlp") = ap app_of_fields c.about.ensures ∙ c.new.ensures.app in
     let required : app_of c.subcommand_required.result ≡ needing (new_app (codes "htmlp")) = ap app_of_fields c.subcommand_required.ensures ∙ ap needing named in
-    let bare : app_of c.disable_help_subcommand.result ≡ bare_program = ap app_of_fields c.disable_help_subcommand.ensures ∙ ap helpless required in
-    let first = one_command_more _ _ _ _ _ c.in_ok-subcommand.ensures c.in_ok-command.ensures.local bare c.in_ok-command.ensures.shape in
-    let second = one_command_more _ _ _ _ _ c.in_ok-subcommand-2.ensures c.in_ok-command-2.ensures.local first c.in_ok-command-2.ensures.shape in
-    let third = one_command_more _ _ _ _ _ c.in_ok-subcommand-3.ensures c.in_ok-command-3.ensures.local second c.in_ok-command-3.ensures.shape in
-    let fourth = one_command_more _ _ _ _ _ c.in_ok-subcommand-4.ensures c.in_ok-command-4.ensures.local third c.in_ok-command-4.ensures.shape in
-    let fifth = one_command_more _ _ _ _ _ c.in_ok-subcommand-5.ensures c.in_ok-command-5.ensures.local fourth c.in_ok-command-5.ensures.shape in
-    IfOk-weaker c.subcommand-6.result _ _ (λ r adds. one_command_more _ _ _ _ _ adds c.in_ok-command-6.ensures.local fifth c.in_ok-command-6.ensures.shape) c.subcommand-6.ensures
+    let bare : app_of c.disable_help_subcommand-line.result ≡ bare_program = ap app_of_fields c.disable_help_subcommand-line.ensures ∙ ap helpless required in
+    let first = c.in_ok-line.ensures ∙ after (codes "tokens") Document bare in
+    let second = c.in_ok-line-2.ensures ∙ after (codes "tree") Document first in
+    let third = c.in_ok-line-3.ensures ∙ after (codes "errors") Either second in
+    let fourth = c.in_ok-line-4.ensures ∙ after (codes "write") Either third in
+    let fifth = c.in_ok-line-5.ensures ∙ after (codes "fragment") Fragment fourth in
+    IfOk-weaker c.with_command-6.result _ _ (λ r is. is ∙ after (codes "plain") Fragment fifth) c.with_command-6.ensures

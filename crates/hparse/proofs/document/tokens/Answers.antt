@@ -1,21 +1,19 @@
 use Rattle.std.proofs.Common.{◌≡◌, ◌<◌, ◌+◌, ℕ, List, Bor, length, take, drop, sym, subst, arith}
 use Rattle.std.proofs.lemmas.List.{take_all}
-use Rattle.std.proofs.lemmas.Result.{err_from_is_err_and}
 use Rattle.hparse.specs.Shown.{Shows, HasReadTokens}
 use Rattle.hparse.proofs.Joined.{joined, joined_more, joined_all}
 use Rattle.hparse.proofs.RunOf.{of_document, shows_piece, has_read_tokens}
 use Rattle.hparse.proofs.document.tokens.Goals as goal
 
-pub returns-in_err-feed : goal.returns-in_err-feed
-returns-in_err-feed c =
-    let e = err_from_is_err_and c.from_residual-in_err-feed.result c.from_residual-in_err-feed.ensures.1 in
+pub returns-in-Err : goal.returns-in-Err
+returns-in-Err c =
     let lt : c.loop-piece.piece-index < length c.args.pieces.now = omega arith in
     let table = c.args.options.now.table.now in
     let limit = c.args.options.now.input_limit in
     let fed = joined (take c.loop-piece.piece-index c.args.pieces.now) in
     let h = c.loop-piece.invariant in
-    rw (e.1, e.2) (shows_piece table limit fed c.loop-piece.reading c.feed.new.self h _ (joined (drop (c.loop-piece.piece-index + 1) c.args.pieces.now)) (joined c.args.pieces.now) c.in_err-feed.field-0.0
-    (c.in_err-feed.ensures (of_document table limit) h.began fed h.has_read) (joined_all c.args.pieces.now c.loop-piece.piece-index _ lt))
+    shows_piece table limit fed c.loop-piece.reading c.feed.new.self h _ (joined (drop (c.loop-piece.piece-index + 1) c.args.pieces.now)) (joined c.args.pieces.now) c.in-Err.refusal
+    (c.in-Err.ensures (of_document table limit) h.began fed h.has_read) (joined_all c.args.pieces.now c.loop-piece.piece-index _ lt)
 
 pub loop-piece-preserved : goal.loop-piece-preserved
 loop-piece-preserved c =
@@ -25,7 +23,7 @@ loop-piece-preserved c =
     let fed = joined (take c.loop-piece.piece-index c.args.pieces.now) in
     let h = c.loop-piece.invariant in
     subst (HasReadTokens table limit c.feed.new.self) (sym (joined_more c.args.pieces.now c.loop-piece.piece-index _ lt))
-    (has_read_tokens table limit fed c.loop-piece.reading c.feed.new.self h _ (c.in_ok-feed.ensures (of_document table limit) h.began fed h.has_read))
+    (has_read_tokens table limit fed c.loop-piece.reading c.feed.new.self h _ (c.in-Ok.ensures (of_document table limit) h.began fed h.has_read))
 
 pub returns : goal.returns
 returns c =

@@ -1,6 +1,5 @@
 use Rattle.std.proofs.Common.{◌≡◌, ap, subst}
 use Rattle.std.specs.Prelude.{MatchResult}
-use Rattle.std.proofs.lemmas.Result.{err_from_is_err_and}
 use Rattle.names.specs.declared.refusal.Refusal.TheVariants.{Memory}
 use Rattle.hparse.specs.Input.{Comes}
 use Rattle.hparse.specs.Parse.{manner}
@@ -14,18 +13,17 @@ read_to_end-answer-requires-clause-read g c =
     let r = c.requires.parser in
     (manner r.0 r.1, r.3.began, r.2, r.3.fits, r.3.has_read)
 
-pub returns-in_err-answer : goal.returns-in_err-answer
-returns-in_err-answer g c = λ told subject fed h.
+pub returns-in-Err : goal.returns-in-Err
+returns-in-Err g c = λ told subject fed h.
     let feeding = c.read_to_end-answer.new.reading.feeding in
-    let e = err_from_is_err_and c.from_residual.result c.from_residual.ensures.1 in
-    rw (e.1, e.2) (not_read g.R.Source.left g.R.Source.failed (λ bytes. Comes builds (manner told subject) h.began bytes feeding.names feeding.sink) (AnswersParse told subject) told.input c.args.piece fed c.args.source.now c.read_to_end-answer.new.source
-    c.in_err-answer.field-0.0 (λ bytes r. refused_answers told subject fed c.args.parser h c.read_to_end-answer.new.reading c.settle.new.self.names c.settle.ensures.grows c.settle.ensures.are c.in_err-answer.field-0.0 bytes r)
-    (c.in_err-answer.ensures (manner told subject) h.began fed h.has_read))
+    not_read g.R.Source.left g.R.Source.failed (λ bytes. Comes builds (manner told subject) h.began bytes feeding.names feeding.sink) (AnswersParse told subject) told.input c.args.piece fed c.args.source.now c.read_to_end-answer.new.source
+    c.in-Err.refusal (λ bytes r. refused_answers told subject fed c.args.parser h c.read_to_end-answer.new.reading c.settle.new.self.names c.settle.ensures.grows c.settle.ensures.are c.in-Err.refusal bytes r)
+    (c.in-Err.ensures (manner told subject) h.began fed h.has_read)
 
-pub returns : goal.returns
-returns g c = λ told subject fed h.
+pub returns-in-Ok : goal.returns-in-Ok
+returns-in-Ok g c = λ told subject fed h.
     let feeding = c.read_to_end-answer.new.reading.feeding in
     let built = subst (λ sink. MatchResult c.built_of.result (IsBuilt c.settle.new.self.names sink) (λ refusal. refusal ≡ Memory)) (ap (λ f. f.sink) c.settle.ensures.rest) c.built_of.ensures in
     made g.R.Source.left g.R.Source.failed (λ bytes. Comes builds (manner told subject) h.began bytes feeding.names feeding.sink) (AnswersParse told subject) told.input c.args.piece fed c.args.source.now c.read_to_end-answer.new.source
     tt c.built_of.result (λ bytes t. built_answers told subject fed c.args.parser h c.read_to_end-answer.new.reading c.settle.new.self.names c.settle.ensures.grows c.settle.ensures.are c.built_of.result built bytes t)
-    (c.in_ok-answer.ensures (manner told subject) h.began fed h.has_read)
+    (c.in-Ok.ensures (manner told subject) h.began fed h.has_read)

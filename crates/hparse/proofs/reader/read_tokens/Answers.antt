@@ -1,5 +1,4 @@
 use Rattle.std.proofs.Common.{[]}
-use Rattle.std.proofs.lemmas.Result.{err_from_is_err_and}
 use Rattle.hparse.specs.Input.{Comes}
 use Rattle.hparse.specs.Shown.{AnswersRun}
 use Rattle.hparse.proofs.Gathered.{collects}
@@ -7,24 +6,23 @@ use Rattle.hparse.proofs.RunOf.{of_document, answers_refused, run_answers}
 use Rattle.hparse.proofs.Turns.{not_read, made}
 use Rattle.hparse.proofs.reader.read_tokens.Goals as goal
 
-pub returns-in_err-read_to_end : goal.returns-in_err-read_to_end
-returns-in_err-read_to_end g c =
+pub returns-in-Err : goal.returns-in-Err
+returns-in-Err g c =
     let table = c.args.options.now.table.now in
     let limit = c.args.options.now.input_limit in
     let h = c.in_ok-reading.ensures in
     let feeding = c.read_to_end.new.reading.feeding in
-    let e = err_from_is_err_and c.from_residual-in_err-read_to_end.result c.from_residual-in_err-read_to_end.ensures.1 in
-    rw (e.1, e.2) (not_read g.R.Source.left g.R.Source.failed (λ bytes. Comes collects (of_document table limit) h.began bytes feeding.names feeding.sink) (AnswersRun table limit) limit c.args.piece [] c.args.source.now c.read_to_end.new.source
-    c.in_err-read_to_end.field-0.0 (λ bytes r. answers_refused table limit h.began bytes feeding.names feeding.sink c.in_err-read_to_end.field-0.0 r) (c.in_err-read_to_end.ensures (of_document table limit) h.began [] h.has_read))
+    not_read g.R.Source.left g.R.Source.failed (λ bytes. Comes collects (of_document table limit) h.began bytes feeding.names feeding.sink) (AnswersRun table limit) limit c.args.piece [] c.args.source.now c.read_to_end.new.source
+    c.in-Err.refusal (λ bytes r. answers_refused table limit h.began bytes feeding.names feeding.sink c.in-Err.refusal r) (c.in-Err.ensures (of_document table limit) h.began [] h.has_read)
 
-pub returns : goal.returns
-returns g c =
+pub returns-in-Ok : goal.returns-in-Ok
+returns-in-Ok g c =
     let table = c.args.options.now.table.now in
     let limit = c.args.options.now.input_limit in
     let h = c.in_ok-reading.ensures in
     let feeding = c.read_to_end.new.reading.feeding in
     made g.R.Source.left g.R.Source.failed (λ bytes. Comes collects (of_document table limit) h.began bytes feeding.names feeding.sink) (AnswersRun table limit) limit c.args.piece [] c.args.source.now c.read_to_end.new.source
-    tt c.run_of.result (λ bytes t. run_answers table limit h.began feeding.names feeding.sink h.no_tokens h.no_errors c.run_of.result c.run_of.ensures bytes t) (c.in_ok-read_to_end.ensures (of_document table limit) h.began [] h.has_read)
+    tt c.run_of.result (λ bytes t. run_answers table limit h.began feeding.names feeding.sink h.no_tokens h.no_errors c.run_of.result c.run_of.ensures bytes t) (c.in-Ok.ensures (of_document table limit) h.began [] h.has_read)
 
 pub read_to_end-requires-clause-read : goal.read_to_end-requires-clause-read
 read_to_end-requires-clause-read g c =
