@@ -17,7 +17,7 @@ use Rattle.hmodes.specs.Questions.{answer_of}
 use Rattle.hmodes.specs.Perform.{perform, with_foster, with_control, each_of, flow_of}
 use Rattle.hmodes.specs.Rules.{rule_of}
 use Rattle.hmodes.specs.Step.{Rule}
-use Rattle.hmodes.proofs.Once.{both}
+use Rattle.hmodes.proofs.Every.{never, both, other, in-each}
 use Rattle.hmodes.proofs.Facts.{is_texty, leaves, leaves-true, reset-found}
 
 -- how high a mode is: for most tokens, and for those that go the other way through some modes
@@ -145,160 +145,8 @@ goes_down l w b _ = true
 abbrev falls : Mode → Kind → Bool
 falls m k = goes_down (Some (k, cap k m)) (At m) (is_texty m) (rule_of m k)
 
-falls-initial : (k : Kind) → falls Initial k ≡ true
-falls-initial Nul = refl
-falls-initial (Start family.Html) = refl
-falls-initial (Start _) = refl
-falls-initial (End family.Html) = refl
-falls-initial (End _) = refl
-falls-initial _ = refl
-
-falls-before_html : (k : Kind) → falls BeforeHtml k ≡ true
-falls-before_html Nul = refl
-falls-before_html (Start family.Html) = refl
-falls-before_html (Start _) = refl
-falls-before_html (End family.Html) = refl
-falls-before_html (End _) = refl
-falls-before_html _ = refl
-
-falls-before_head : (k : Kind) → falls BeforeHead k ≡ true
-falls-before_head Nul = refl
-falls-before_head (Start family.Html) = refl
-falls-before_head (Start _) = refl
-falls-before_head (End family.Html) = refl
-falls-before_head (End _) = refl
-falls-before_head _ = refl
-
-falls-in_head : (k : Kind) → falls InHead k ≡ true
-falls-in_head Nul = refl
-falls-in_head (Start family.Html) = refl
-falls-in_head (Start _) = refl
-falls-in_head (End family.Html) = refl
-falls-in_head (End _) = refl
-falls-in_head _ = refl
-
-falls-in_head_noscript : (k : Kind) → falls InHeadNoscript k ≡ true
-falls-in_head_noscript Nul = refl
-falls-in_head_noscript (Start family.Html) = refl
-falls-in_head_noscript (Start _) = refl
-falls-in_head_noscript (End family.Html) = refl
-falls-in_head_noscript (End _) = refl
-falls-in_head_noscript _ = refl
-
-falls-after_head : (k : Kind) → falls AfterHead k ≡ true
-falls-after_head Nul = refl
-falls-after_head (Start family.Html) = refl
-falls-after_head (Start _) = refl
-falls-after_head (End family.Html) = refl
-falls-after_head (End _) = refl
-falls-after_head _ = refl
-
-falls-in_body : (k : Kind) → falls InBody k ≡ true
-falls-in_body Nul = refl
-falls-in_body (Start family.Html) = refl
-falls-in_body (Start _) = refl
-falls-in_body (End family.Html) = refl
-falls-in_body (End _) = refl
-falls-in_body _ = refl
-
-falls-text : (k : Kind) → falls Text k ≡ true
-falls-text Nul = refl
-falls-text (Start family.Html) = refl
-falls-text (Start _) = refl
-falls-text (End family.Html) = refl
-falls-text (End _) = refl
-falls-text _ = refl
-
-falls-in_table : (k : Kind) → falls InTable k ≡ true
-falls-in_table Nul = refl
-falls-in_table (Start family.Html) = refl
-falls-in_table (Start _) = refl
-falls-in_table (End family.Html) = refl
-falls-in_table (End _) = refl
-falls-in_table _ = refl
-
-falls-in_table_text : (k : Kind) → falls InTableText k ≡ true
-falls-in_table_text Nul = refl
-falls-in_table_text (Start family.Html) = refl
-falls-in_table_text (Start _) = refl
-falls-in_table_text (End family.Html) = refl
-falls-in_table_text (End _) = refl
-falls-in_table_text _ = refl
-
-falls-in_caption : (k : Kind) → falls InCaption k ≡ true
-falls-in_caption Nul = refl
-falls-in_caption (Start family.Html) = refl
-falls-in_caption (Start _) = refl
-falls-in_caption (End family.Html) = refl
-falls-in_caption (End _) = refl
-falls-in_caption _ = refl
-
-falls-in_column_group : (k : Kind) → falls InColumnGroup k ≡ true
-falls-in_column_group Nul = refl
-falls-in_column_group (Start family.Html) = refl
-falls-in_column_group (Start _) = refl
-falls-in_column_group (End family.Html) = refl
-falls-in_column_group (End _) = refl
-falls-in_column_group _ = refl
-
-falls-in_table_body : (k : Kind) → falls InTableBody k ≡ true
-falls-in_table_body Nul = refl
-falls-in_table_body (Start family.Html) = refl
-falls-in_table_body (Start _) = refl
-falls-in_table_body (End family.Html) = refl
-falls-in_table_body (End _) = refl
-falls-in_table_body _ = refl
-
-falls-in_row : (k : Kind) → falls InRow k ≡ true
-falls-in_row Nul = refl
-falls-in_row (Start family.Html) = refl
-falls-in_row (Start _) = refl
-falls-in_row (End family.Html) = refl
-falls-in_row (End _) = refl
-falls-in_row _ = refl
-
-falls-in_cell : (k : Kind) → falls InCell k ≡ true
-falls-in_cell Nul = refl
-falls-in_cell (Start family.Html) = refl
-falls-in_cell (Start _) = refl
-falls-in_cell (End family.Html) = refl
-falls-in_cell (End _) = refl
-falls-in_cell _ = refl
-
-falls-after_body : (k : Kind) → falls AfterBody k ≡ true
-falls-after_body Nul = refl
-falls-after_body (Start family.Html) = refl
-falls-after_body (Start _) = refl
-falls-after_body (End family.Html) = refl
-falls-after_body (End _) = refl
-falls-after_body _ = refl
-
-falls-after_after_body : (k : Kind) → falls AfterAfterBody k ≡ true
-falls-after_after_body Nul = refl
-falls-after_after_body (Start family.Html) = refl
-falls-after_after_body (Start _) = refl
-falls-after_after_body (End family.Html) = refl
-falls-after_after_body (End _) = refl
-falls-after_after_body _ = refl
-
 falls-rule : (m : Mode) (k : Kind) → falls m k ≡ true
-falls-rule Initial k = falls-initial k
-falls-rule BeforeHtml k = falls-before_html k
-falls-rule BeforeHead k = falls-before_head k
-falls-rule InHead k = falls-in_head k
-falls-rule InHeadNoscript k = falls-in_head_noscript k
-falls-rule AfterHead k = falls-after_head k
-falls-rule InBody k = falls-in_body k
-falls-rule Text k = falls-text k
-falls-rule InTable k = falls-in_table k
-falls-rule InTableText k = falls-in_table_text k
-falls-rule InCaption k = falls-in_caption k
-falls-rule InColumnGroup k = falls-in_column_group k
-falls-rule InTableBody k = falls-in_table_body k
-falls-rule InRow k = falls-in_row k
-falls-rule InCell k = falls-in_cell k
-falls-rule AfterBody k = falls-after_body k
-falls-rule AfterAfterBody k = falls-after_after_body k
+falls-rule = in-each falls refl
 
 -- what is known is so
 abbrev pub IsKnown : Known → Mode → Type 0
@@ -347,17 +195,7 @@ wider : (b : Bool) (p : Do) → b ≡ true → leaves b p ≡ true
 wider b p e = rw e (leaves-true p)
 
 pub level-plain : (k : Kind) (m : Mode) → is_texty m ≡ false → leb (level k m) 30 ≡ true
-level-plain k Text e = cc
-level-plain k InTableText e = cc
-level-plain (Start family.Table) _ e = refl
-level-plain (Start family.Image) _ e = refl
-level-plain (Start family.Cell) _ e = refl
-level-plain (Start family.Row) _ e = refl
-level-plain (Start family.Col) _ e = refl
-level-plain (Start _) _ e = refl
-level-plain (End family.Html) _ e = refl
-level-plain (End _) _ e = refl
-level-plain _ _ e = refl
+level-plain k m = other (is_texty m) (leb (level k m) 30) (in-each (λ m k. is_texty m || leb (level k m) 30) refl m k)
 
 module _ {N : Type 0} (n : Naming N) (tells : n.tag (n.known tag.Img) ≡ tag.Img) where
   abbrev pub Lower : Option (Kind × ℕ) → Token N → State N → Type 0
@@ -405,7 +243,7 @@ module _ {N : Type 0} (n : Naming N) (tells : n.tag (n.known tag.Img) ≡ tag.Im
   lower-is : (k : Kind) (r : ℕ) (w : Known) (m : Mode) → lower k r w ≡ true → IsKnown w m → level k m < r
   lower-is k r (At x) m e h = rw h (ltb-true (level k x) r e)
   lower-is k r Plain m e h = omega (arith, leb-true (level k m) 30 (level-plain k m h), ltb-true 30 r e)
-  lower-is k r Any m e h = cc
+  lower-is k r Any m e h = never e
 
   renamed-kind : (t : Token N) (k : Kind) → kind_of n t ≡ k → is_start k ≡ true → kind_of n (renamed (n.known tag.Img) t) ≡ Start family.Area
   renamed-kind (start x attrs closing) k e i = rw tells refl
@@ -449,11 +287,11 @@ module _ {N : Type 0} (n : Naming N) (tells : n.tag (n.known tag.Img) ≡ tag.Im
       (λ c u m. flow-weaker None Any (mode_after Any p) b (leaves b p) (perform n c.at (character c.ch) p u) (λ k j. tt) (wider b p) (perform-down None Any b p calm c.at (character c.ch) tt u m))
       s.control.pending (with_control (record s.control { pending = [] }) s) (record { mode = tt; saved = h.saved; sound = h.sound })
   perform-down (Some l) w b again calm at t o s h = (h.sound, rw o (lower-is l.0 l.1 w s.control.mode calm h.mode))
-  perform-down None w b again calm at t o s h = cc
+  perform-down None w b again calm at t o s h = never calm
   perform-down (Some l) w b (again_as tag.Img) calm at t o s h =
       let parts = both (is_start l.0) (lower (Start family.Area) l.1 w) calm in
       (h.sound, rw (renamed-kind t l.0 o parts.0) (lower-is (Start family.Area) l.1 w s.control.mode parts.1 h.mode))
-  perform-down l w b (again_as x) calm at t o s h = cc
+  perform-down l w b (again_as x) calm at t o s h = never calm
   perform-down l w b (to m) calm at t o s h = go (is_texty m) b calm h.saved refl
     where
       go : (v x : Bool) → (not v || x) ≡ true → (x ≡ true → is_texty s.control.saved ≡ false) → is_texty m ≡ v → Holds (At m) x (record s.control { mode = m })

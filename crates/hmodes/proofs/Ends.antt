@@ -1,7 +1,7 @@
 -- The rules that a token goes by come to an end: a number that falls with each.
-use Rattle.std.proofs.Common.{◌≡◌, ℕ, zero, suc, ◌+◌, ◌<◌, ◌≤◌, Bool, true, false, cond, if◌then◌else◌, List, [], ◌∷◌, Option, Some, length, drop, refl, ap, subst, arith}
-use Rattle.std.proofs.lemmas.Bool.{leb-true}
-use Rattle.std.specs.Prelude.{not, ◌&&◌, ◌||◌}
+use Rattle.std.proofs.Common.{◌≡◌, ℕ, zero, suc, ◌+◌, ◌<◌, ◌≤◌, Bool, true, false, cond, if◌then◌else◌, List, [], ◌∷◌, Option, Some, leb, length, drop, refl, sym, ◌∙◌, ap, subst, arith}
+use Rattle.std.proofs.lemmas.Bool.{eqb-true, leb-true}
+use Rattle.std.specs.Prelude.{not, ◌&&◌, ◌||◌, ◌==◌}
 use Rattle.hopen.specs.Nearest.{after}
 use Rattle.hopen.specs.Scopes.{stops}
 use Rattle.hopen.specs.Stack.{OpenNode, in_scope}
@@ -19,9 +19,10 @@ use Rattle.hmodes.specs.State.{Token, State, Flow, Done, Again, Refused, kind_of
 use Rattle.hmodes.specs.Perform.{perform, with_site}
 use Rattle.hmodes.specs.Rules.{rule_of, code_of}
 use Rattle.hmodes.specs.Step.{Rule, Chain, Step, ends, refuses, goes_again, drops, goes, is_dropped, begun, finished}
-use Rattle.hmodes.specs.Table.{in_table_text}
+use Rattle.hmodes.specs.Table.{in_table, in_table_text}
 use Rattle.hmodes.proofs.Facts.{is_texty}
 use Rattle.hmodes.proofs.Once.{may_again, Ends, ends-calm}
+use Rattle.hmodes.proofs.Every.{never, other, each-mode, in-each}
 use Rattle.hmodes.proofs.Down.{is_tabular, is_char, level, cap, level-plain, Sound, FlowHolds, rule-down, Any}
 
 abbrev extra : Mode → ℕ
@@ -33,31 +34,30 @@ abbrev weight : Kind → Mode → ℕ → ℕ
 weight k m count = 1 + (if is_tabular k m then 30 + (count + count) + extra m else level k m)
 
 tabular-level : (k : Kind) (m : Mode) → is_tabular k m ≡ true → level k m ≡ 30
-tabular-level (Start family.Table) InTable e = refl
-tabular-level (Start family.Table) InColumnGroup e = refl
-tabular-level (Start family.Table) InTableBody e = refl
-tabular-level (Start family.Table) InRow e = refl
-tabular-level _ _ e = cc
+tabular-level k m e = eqb-true (level k m) 30 (other (not (is_tabular k m)) (level k m == 30) (in-each (λ m k. not (is_tabular k m) || (level k m == 30)) refl m k) (ap not e))
+
+-- the start tag of a table, in the modes that it closes
+data Tabular : Kind → Mode → Type 0 where
+  table : Tabular (Start family.Table) InTable
+  body : Tabular (Start family.Table) InTableBody
+  row : Tabular (Start family.Table) InRow
+  column : Tabular (Start family.Table) InColumnGroup
+
+is-tabular : (k : Kind) (m : Mode) → is_tabular k m ≡ true → Tabular k m
+is-tabular (Start family.Table) InTable e = table
+is-tabular (Start family.Table) InTableBody e = body
+is-tabular (Start family.Table) InRow e = row
+is-tabular (Start family.Table) InColumnGroup e = column
+is-tabular _ _ e = never e
+
+tabular-weight : (c : ℕ) → 1 + (30 + (c + c) + 0) ≡ 31 + (c + c)
+tabular-weight c = omega arith
 
 extra-most : (m : Mode) → extra m ≤ 1
-extra-most InColumnGroup = omega arith
-extra-most _ = omega arith
-
-level-most : (k : Kind) (m : Mode) → level k m ≤ 40
-level-most k Text = omega arith
-level-most k InTableText = go (is_char k)
-  where
-    go : (v : Bool) → cond v 0 40 ≤ 40
-    go true = omega arith
-    go false = omega arith
-level-most k m = omega (arith, leb-true (level k m) 30 (level-plain k m refl))
+extra-most m = leb-true (extra m) 1 (each-mode (λ m. leb (extra m) 1) refl m)
 
 cap-most : (k : Kind) (m : Mode) → cap k m ≤ 40
-cap-most k m = go (is_tabular k m)
-  where
-    go : (v : Bool) → cond v 40 (level k m) ≤ 40
-    go true = omega arith
-    go false = level-most k m
+cap-most k m = leb-true (cap k m) 40 (in-each (λ m k. leb (cap k m) 40) refl m k)
 
 weight-most : (k : Kind) (m : Mode) (count : ℕ) → is_texty m ≡ false → weight k m count ≤ 32 + (count + count)
 weight-most k m count e = go (is_tabular k m)
@@ -71,7 +71,7 @@ waits : (k : Kind) → is_char k ≡ true → may_again (in_table_text k) ≡ fa
 waits Nul e = refl
 waits Ws e = refl
 waits Char e = refl
-waits _ e = cc
+waits _ e = never e
 
 drop-shorter : {X : Type 0} (xs : List X) → length (drop 1 xs) ≤ length xs
 drop-shorter [] = omega arith
@@ -79,13 +79,13 @@ drop-shorter (x ∷ xs) = omega arith
 
 -- what is in a scope is popped
 pops : {N : Type 0} (is_stop sought : OpenNode N → Bool) (xs : List (OpenNode N)) → in_scope is_stop sought xs ≡ true → length (after sought xs) < length xs
-pops is_stop sought [] e = cc
+pops is_stop sought [] e = never e
 pops is_stop sought (x ∷ xs) e = go (sought x) (not (is_stop x)) e (pops is_stop sought xs)
   where
     go : (v u : Bool) → (v || (u && in_scope is_stop sought xs)) ≡ true → (in_scope is_stop sought xs ≡ true → length (after sought xs) < length xs) → length (cond v xs (after sought xs)) < length (x ∷ xs)
     go true u e more = omega arith
     go false true e more = omega (arith, more e)
-    go false false e more = cc
+    go false false e more = never e
 
 module _ {N : Type 0} (n : Naming N) where
   abbrev weight_of : Token N → State N → ℕ
@@ -116,7 +116,7 @@ module _ {N : Type 0} (n : Naming N) where
           by-kind : (v : Bool) → is_char (kind_of n t) ≡ v → cond v 0 40 < 40 → after_text (perform n at t (in_table_text (kind_of n t)) s) ≡ 0
           by-kind true c l = none-after (perform n at t (in_table_text (kind_of n t)) s) (ends-calm n (in_table_text (kind_of n t)) (waits (kind_of n t) c) at t s)
           by-kind false c l = omega (arith, l)
-      go _ is e low = cc
+      go _ is e low = never e
 
   -- the start tag of a table that closes the open one
   closes : (at : ℕ) (t t' : Token N) (s s' : State N) → is_texty s'.control.mode ≡ false → (q : Bool) → in_scope (stops n.tag scope.Table) (is n tag.Table) (stack s.site) ≡ q
@@ -147,17 +147,24 @@ module _ {N : Type 0} (n : Naming N) where
       rest f = 0
 
   tabular-falls : (at : ℕ) (t t' : Token N) (s s' : State N) → is_texty s'.control.mode ≡ false → is_tabular (kind_of n t) s.control.mode ≡ true → Rule n at t s ≡ Again t' s' → weight_of t' s' < weight_of t s
-  tabular-falls at t t' s s' plain e rule = go (kind_of n t) s.control.mode refl refl e rule
+  tabular-falls at t t' s s' plain e rule = go (kind_of n t) s.control.mode refl refl (is-tabular (kind_of n t) s.control.mode e) rule
     where
       scoped : in_scope (stops n.tag scope.Table) (is n tag.Table) (stack s.site) ≡ in_scope (stops n.tag scope.Table) (is n tag.Table) (stack s.site)
       scoped = refl
 
-      go : (k : Kind) (m : Mode) → kind_of n t ≡ k → s.control.mode ≡ m → is_tabular k m ≡ true → perform n at t (rule_of m k) s ≡ Again t' s' → weight_of t' s' < weight_of t s
-      go (Start family.Table) InTable k m i rule = rw (k, m) (omega (arith, closes at t t' s s' plain _ scoped rule))
-      go (Start family.Table) InTableBody k m i rule = rw (k, m) (omega (arith, closes at t t' s s' plain _ scoped rule))
-      go (Start family.Table) InRow k m i rule = rw (k, m) (omega (arith, closes at t t' s s' plain _ scoped rule))
-      go (Start family.Table) InColumnGroup k m i rule = goes-up at t t' s s' k m rule
-      go _ _ k m i rule = cc
+      closing : (k : Kind) (m : Mode) → kind_of n t ≡ k → s.control.mode ≡ m
+          → weight k m (length (stack s.site)) ≡ 31 + (length (stack s.site) + length (stack s.site)) → perform n at t (in_table (Start family.Table)) s ≡ Again t' s'
+          → weight_of t' s' < weight_of t s
+      closing k m e is weighs rule =
+          let same : weight_of t s ≡ 31 + (length (stack s.site) + length (stack s.site)) =
+          ap (λ (x : Kind). weight x s.control.mode (length (stack s.site))) e ∙ ap (λ (x : Mode). weight k x (length (stack s.site))) is ∙ weighs in
+          subst (λ (x : ℕ). weight_of t' s' < x) (sym same) (closes at t t' s s' plain _ scoped rule)
+
+      go : (k : Kind) (m : Mode) → kind_of n t ≡ k → s.control.mode ≡ m → Tabular k m → perform n at t (rule_of m k) s ≡ Again t' s' → weight_of t' s' < weight_of t s
+      go k m e is table rule = closing k m e is (tabular-weight (length (stack s.site))) rule
+      go k m e is body rule = closing k m e is (tabular-weight (length (stack s.site))) rule
+      go k m e is row rule = closing k m e is (tabular-weight (length (stack s.site))) rule
+      go k m e is column rule = goes-up at t t' s s' e is rule
 
   plain-falls : (at : ℕ) (t t' : Token N) (s s' : State N) → is_texty s.control.mode ≡ false → is_texty s'.control.mode ≡ false → level (kind_of n t') s'.control.mode < cap (kind_of n t) s.control.mode
       → Rule n at t s ≡ Again t' s' → weight_of t' s' < weight_of t s

@@ -9,17 +9,14 @@ use Rattle.hadopt.specs.Naming.{Naming}
 use Rattle.hadopt.specs.Site.{Outcome, Goes, SiteOf, stack, trees}
 use Rattle.hadopt.specs.Site as site
 use Rattle.hmodes.specs.declared.mode.Mode.{Mode}
-use Rattle.hmodes.specs.declared.mode.Mode.TheVariants.{InHead, InHeadNoscript, AfterHead, InBody, Text, InTableText}
-use Rattle.hmodes.specs.declared.family.Family.TheVariants as family
-use Rattle.hmodes.specs.Words.{Kind, Nul, Start, End, Do, ◌▸◌, when, unless, choose, fostered, each_pending, again, again_as, to, save_mode, to_saved, reset, insert, insert_named, insert_root, insert_root_named, insert_comment, comment_in_document, comment_in_first, insert_doctype, put, push_head, reconstruct, adopt, adopt_listed}
+use Rattle.hmodes.specs.declared.mode.Mode.TheVariants.{BeforeHead, InHead, InHeadNoscript, AfterHead, InBody, Text, InTableText}
+use Rattle.hmodes.specs.Words.{Kind, Do, ◌▸◌, when, unless, choose, fostered, each_pending, again, again_as, to, save_mode, to_saved, reset, insert, insert_named, insert_root, insert_root_named, insert_comment, comment_in_document, comment_in_first, insert_doctype, put, push_head, reconstruct, adopt, adopt_listed}
 use Rattle.hmodes.specs.State.{Token, character, Control, State, Flow, Done, Again, Refused, flow_then, flow_map}
 use Rattle.hmodes.specs.Reset.{open_mode, context_mode, root_mode, reset_mode}
 use Rattle.hmodes.specs.Questions.{answer_of}
 use Rattle.hmodes.specs.Perform.{perform, with_foster, with_control, each_of, flow_of}
-use Rattle.hmodes.specs.Head.{initial, before_html}
-use Rattle.hmodes.specs.Body.{in_body, text, after_body, after_after_body}
-use Rattle.hmodes.specs.Table.{in_table, in_table_text, in_caption, in_column_group, in_table_body, in_row, in_cell}
-use Rattle.hmodes.proofs.Once.{both}
+use Rattle.hmodes.specs.Rules.{rule_of}
+use Rattle.hmodes.proofs.Every.{never, both, in-each}
 
 -- the modes that know something of the head, and those that go back to the saved one
 abbrev pub is_early : Mode → Bool
@@ -50,109 +47,13 @@ lates b (to m) = not (is_early m) && (not (is_texty m) || b)
 lates b to_saved = b
 lates b _ = true
 
-pub lates-initial : (k : Kind) → lates false (initial k) ≡ true
-lates-initial Nul = refl
-lates-initial (Start family.Html) = refl
-lates-initial (Start _) = refl
-lates-initial (End family.Html) = refl
-lates-initial (End _) = refl
-lates-initial _ = refl
+-- the modes that an early one leads to, or is: their rules are looked at one by one
+abbrev pub is_led : Mode → Bool
+is_led BeforeHead = true
+is_led m = is_early m
 
-pub lates-before_html : (k : Kind) → lates false (before_html k) ≡ true
-lates-before_html Nul = refl
-lates-before_html (Start family.Html) = refl
-lates-before_html (Start _) = refl
-lates-before_html (End family.Html) = refl
-lates-before_html (End _) = refl
-lates-before_html _ = refl
-
-pub lates-in_body : (k : Kind) → lates false (in_body k) ≡ true
-lates-in_body Nul = refl
-lates-in_body (Start family.Html) = refl
-lates-in_body (Start _) = refl
-lates-in_body (End family.Html) = refl
-lates-in_body (End _) = refl
-lates-in_body _ = refl
-
-pub lates-text : (k : Kind) → lates true (text k) ≡ true
-lates-text Nul = refl
-lates-text (Start family.Html) = refl
-lates-text (Start _) = refl
-lates-text (End family.Html) = refl
-lates-text (End _) = refl
-lates-text _ = refl
-
-pub lates-in_table : (k : Kind) → lates false (in_table k) ≡ true
-lates-in_table Nul = refl
-lates-in_table (Start family.Html) = refl
-lates-in_table (Start _) = refl
-lates-in_table (End family.Html) = refl
-lates-in_table (End _) = refl
-lates-in_table _ = refl
-
-pub lates-in_table_text : (k : Kind) → lates true (in_table_text k) ≡ true
-lates-in_table_text Nul = refl
-lates-in_table_text (Start family.Html) = refl
-lates-in_table_text (Start _) = refl
-lates-in_table_text (End family.Html) = refl
-lates-in_table_text (End _) = refl
-lates-in_table_text _ = refl
-
-pub lates-in_caption : (k : Kind) → lates false (in_caption k) ≡ true
-lates-in_caption Nul = refl
-lates-in_caption (Start family.Html) = refl
-lates-in_caption (Start _) = refl
-lates-in_caption (End family.Html) = refl
-lates-in_caption (End _) = refl
-lates-in_caption _ = refl
-
-pub lates-in_column_group : (k : Kind) → lates false (in_column_group k) ≡ true
-lates-in_column_group Nul = refl
-lates-in_column_group (Start family.Html) = refl
-lates-in_column_group (Start _) = refl
-lates-in_column_group (End family.Html) = refl
-lates-in_column_group (End _) = refl
-lates-in_column_group _ = refl
-
-pub lates-in_table_body : (k : Kind) → lates false (in_table_body k) ≡ true
-lates-in_table_body Nul = refl
-lates-in_table_body (Start family.Html) = refl
-lates-in_table_body (Start _) = refl
-lates-in_table_body (End family.Html) = refl
-lates-in_table_body (End _) = refl
-lates-in_table_body _ = refl
-
-pub lates-in_row : (k : Kind) → lates false (in_row k) ≡ true
-lates-in_row Nul = refl
-lates-in_row (Start family.Html) = refl
-lates-in_row (Start _) = refl
-lates-in_row (End family.Html) = refl
-lates-in_row (End _) = refl
-lates-in_row _ = refl
-
-pub lates-in_cell : (k : Kind) → lates false (in_cell k) ≡ true
-lates-in_cell Nul = refl
-lates-in_cell (Start family.Html) = refl
-lates-in_cell (Start _) = refl
-lates-in_cell (End family.Html) = refl
-lates-in_cell (End _) = refl
-lates-in_cell _ = refl
-
-pub lates-after_body : (k : Kind) → lates false (after_body k) ≡ true
-lates-after_body Nul = refl
-lates-after_body (Start family.Html) = refl
-lates-after_body (Start _) = refl
-lates-after_body (End family.Html) = refl
-lates-after_body (End _) = refl
-lates-after_body _ = refl
-
-pub lates-after_after_body : (k : Kind) → lates false (after_after_body k) ≡ true
-lates-after_after_body Nul = refl
-lates-after_after_body (Start family.Html) = refl
-lates-after_after_body (Start _) = refl
-lates-after_after_body (End family.Html) = refl
-lates-after_after_body (End _) = refl
-lates-after_after_body _ = refl
+pub lates-rule : (m : Mode) (k : Kind) → (is_led m || lates (is_texty m) (rule_of m k)) ≡ true
+lates-rule = in-each (λ m k. is_led m || lates (is_texty m) (rule_of m k)) refl
 
 pub leaves-true : (p : Do) → leaves true p ≡ true
 leaves-true (p ▸ q) = rw (leaves-true p) (leaves-true q)

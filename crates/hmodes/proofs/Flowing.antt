@@ -28,10 +28,6 @@ pub refused-then : (e : Refusal) (x : Flow ℕ) (f : State ℕ → Flow ℕ) →
 refused-then e x f (inl m) = inl m
 refused-then e x f (inr h) = inr (ap (λ y. flow_then y f) h)
 
--- .. and what is done goes on
-pub done-then : (s : State ℕ) (x : Flow ℕ) (f : State ℕ → Flow ℕ) → x ≡ Done s → flow_then x f ≡ f s
-done-then s x f h = ap (λ y. flow_then y f) h
-
 -- a program goes on where its first part is done, and is refused where that is
 pub goes-on : (at : ℕ) (t : Token ℕ) (p q : Do) (s s' : State ℕ) → perform numbers at t p s ≡ Done s' → perform numbers at t (p ▸ q) s ≡ perform numbers at t q s'
 goes-on at t p q s s' h = ap (λ y. flow_then y (perform numbers at t q)) h

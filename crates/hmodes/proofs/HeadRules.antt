@@ -23,14 +23,14 @@ use Rattle.hadopt.proofs.Turning.{erred}
 use Rattle.hadopt.proofs.Inserting.{inserted-well, place-fits}
 use Rattle.hmodes.specs.declared.mode.Mode.TheVariants.{BeforeHead, InHead, InHeadNoscript, AfterHead, InBody, Text}
 use Rattle.hmodes.specs.declared.family.Family.TheVariants as family
-use Rattle.hmodes.specs.Words.{Kind, Nul, Ws, Char, Comment, Doctype, Start, End, Eof, Do, ◌▸◌, nothing, again, error, to, save_mode, head_pointer, insert, insert_named, insert_comment, put, push_head, remove_head, add_missing_to_first}
+use Rattle.hmodes.specs.Words.{Kind, Nul, Ws, Char, Comment, Doctype, Start, End, Eof, Do, ◌▸◌, nothing, again, error, to, save_mode, to_saved, head_pointer, insert, insert_named, insert_comment, put, pop, push_head, remove_head, add_missing_to_first}
 use Rattle.hmodes.specs.State.{Token, State, Flow, Done, Again, Refused, flow_then, token_name, token_attrs, token_text, token_char}
 use Rattle.hmodes.specs.Programs.{void, raw, html_again}
 use Rattle.hmodes.specs.Rules.{code_of}
-use Rattle.hmodes.specs.Head.{before_head, in_head, in_head_noscript, after_head, late}
+use Rattle.hmodes.specs.Head.{before_head, head_unwritten, in_head, head_ends, in_head_noscript, noscript_ends, after_head, body_unwritten, late}
 use Rattle.hmodes.specs.Body.{text}
 use Rattle.hmodes.specs.Perform.{perform, with_site, flow_of, current_node, head_pushed, removed}
-use Rattle.hmodes.proofs.Once.{both}
+use Rattle.hmodes.proofs.Every.{never, both}
 use Rattle.hmodes.proofs.Stands.{tame, perform-well}
 use Rattle.hmodes.proofs.Heads.{Steady, steady-same, steady-then, added-steady, Deeper, inserted-steady, put-steady, missing-steady}
 use Rattle.hmodes.proofs.HeadFacts.{IsAt, OutOf, Knows, Facts, HeadFacts, FlowFacts, knows-steady, out-steady, FlowQuiet, quiet-flow, on-quiet, quiet-then}
@@ -52,7 +52,84 @@ quiet-tame put e = refl
 quiet-tame (error m) e = refl
 quiet-tame insert_comment e = refl
 quiet-tame add_missing_to_first e = refl
-quiet-tame _ e = cc
+quiet-tame _ e = never e
+
+-- what holds of the programs of a mode's rules holds of each rule
+module _ (P : Do → Type 0) (quietly : (p : Do) → quiet p ≡ true → P p) where
+  in-head-cases : P void → P raw → P (insert ▸ to InHeadNoscript) → P (pop ▸ to AfterHead) → P head_ends → (k : Kind) → P (in_head k)
+  in-head-cases v r noscript close end Ws = quietly put refl
+  in-head-cases v r noscript close end Comment = quietly insert_comment refl
+  in-head-cases v r noscript close end Doctype = quietly (error InHead) refl
+  in-head-cases v r noscript close end (Start family.Html) = quietly html_again refl
+  in-head-cases v r noscript close end (Start family.Base) = v
+  in-head-cases v r noscript close end (Start family.Link) = v
+  in-head-cases v r noscript close end (Start family.Title) = r
+  in-head-cases v r noscript close end (Start family.Noframes) = r
+  in-head-cases v r noscript close end (Start family.Style) = r
+  in-head-cases v r noscript close end (Start family.Script) = r
+  in-head-cases v r noscript close end (Start family.Noscript) = noscript
+  in-head-cases v r noscript close end (Start family.Head) = quietly (error InHead) refl
+  in-head-cases v r noscript close end (End family.Head) = close
+  in-head-cases v r noscript close end (End family.Body) = end
+  in-head-cases v r noscript close end (End family.Html) = end
+  in-head-cases v r noscript close end (End family.Br) = end
+  in-head-cases v r noscript close end (End _) = quietly (error InHead) refl
+  in-head-cases v r noscript close end _ = end
+
+  noscript-cases : P void → P raw → P (pop ▸ to InHead) → P noscript_ends → (k : Kind) → P (in_head_noscript k)
+  noscript-cases v r close end Doctype = quietly (error InHeadNoscript) refl
+  noscript-cases v r close end (Start family.Html) = quietly html_again refl
+  noscript-cases v r close end (End family.Noscript) = close
+  noscript-cases v r close end Ws = quietly put refl
+  noscript-cases v r close end Comment = quietly insert_comment refl
+  noscript-cases v r close end (Start family.Link) = v
+  noscript-cases v r close end (Start family.Noframes) = r
+  noscript-cases v r close end (Start family.Style) = r
+  noscript-cases v r close end (End family.Br) = end
+  noscript-cases v r close end (Start family.Head) = quietly (error InHeadNoscript) refl
+  noscript-cases v r close end (Start family.Noscript) = quietly (error InHeadNoscript) refl
+  noscript-cases v r close end (End _) = quietly (error InHeadNoscript) refl
+  noscript-cases v r close end _ = end
+
+  text-cases : P (error Text ▸ pop ▸ to_saved ▸ again) → P (pop ▸ to_saved) → (k : Kind) → P (text k)
+  text-cases unended end Nul = quietly put refl
+  text-cases unended end Ws = quietly put refl
+  text-cases unended end Char = quietly put refl
+  text-cases unended end Eof = unended
+  text-cases unended end (End _) = end
+  text-cases unended end _ = quietly (error Text) refl
+
+  after-head-cases : P (insert ▸ to InBody) → P (late void) → P (late raw) → P body_unwritten → (k : Kind) → P (after_head k)
+  after-head-cases body v r unwritten Ws = quietly put refl
+  after-head-cases body v r unwritten Comment = quietly insert_comment refl
+  after-head-cases body v r unwritten Doctype = quietly (error AfterHead) refl
+  after-head-cases body v r unwritten (Start family.Html) = quietly html_again refl
+  after-head-cases body v r unwritten (Start family.Body) = body
+  after-head-cases body v r unwritten (Start family.Base) = v
+  after-head-cases body v r unwritten (Start family.Link) = v
+  after-head-cases body v r unwritten (Start family.Noframes) = r
+  after-head-cases body v r unwritten (Start family.Script) = r
+  after-head-cases body v r unwritten (Start family.Style) = r
+  after-head-cases body v r unwritten (Start family.Title) = r
+  after-head-cases body v r unwritten (Start family.Head) = quietly (error AfterHead) refl
+  after-head-cases body v r unwritten (End family.Body) = unwritten
+  after-head-cases body v r unwritten (End family.Html) = unwritten
+  after-head-cases body v r unwritten (End family.Br) = unwritten
+  after-head-cases body v r unwritten (End _) = quietly (error AfterHead) refl
+  after-head-cases body v r unwritten _ = unwritten
+
+  before-head-cases : P (insert ▸ head_pointer ▸ to InHead) → P head_unwritten → (k : Kind) → P (before_head k)
+  before-head-cases head unwritten Ws = quietly nothing refl
+  before-head-cases head unwritten Comment = quietly insert_comment refl
+  before-head-cases head unwritten Doctype = quietly (error BeforeHead) refl
+  before-head-cases head unwritten (Start family.Html) = quietly html_again refl
+  before-head-cases head unwritten (Start family.Head) = head
+  before-head-cases head unwritten (End family.Head) = unwritten
+  before-head-cases head unwritten (End family.Body) = unwritten
+  before-head-cases head unwritten (End family.Html) = unwritten
+  before-head-cases head unwritten (End family.Br) = unwritten
+  before-head-cases head unwritten (End _) = quietly (error BeforeHead) refl
+  before-head-cases head unwritten _ = unwritten
 
 module _ {N : Type 0} (n : Naming N) (tells : TellsTables n) (at : ℕ) (t : Token N) where
   perform-quiet : (p : Do) → quiet p ≡ true → (s : State N) → Well n s.site → FlowQuiet n s (perform n at t p s)
@@ -66,7 +143,7 @@ module _ {N : Type 0} (n : Naming N) (tells : TellsTables n) (at : ℕ) (t : Tok
   perform-quiet add_missing_to_first e s w =
       let k = missing-steady n (node_of (from_top 0 s.site)) (token_attrs t) s.site in
       record { mode = refl; saved = refl; head = refl; open_now = refl; steady = k }
-  perform-quiet _ e s w = cc
+  perform-quiet _ e s w = never e
 
   after-insert : (P : Flow N → Type 0) (name : N) (attrs : List (Attribute N)) (s : State N) → Well n s.site → (g : State N → Flow N) → ((r : Refusal) → P (Refused r))
       → ((x : SiteOf N) → Well n x → Deeper n s.site x → P (g (with_site x s))) → P (flow_then (flow_of s (inserted at name attrs (place n s.site) s.site)) g)
@@ -117,48 +194,17 @@ module _ {N : Type 0} (n : Naming N) (tells : TellsTables n) (at : ℕ) (t : Tok
 
   -- by the rules of the head
   pub in-head-rule : (k : Kind) (s : State N) → s.control.mode ≡ InHead → Well n s.site → IsAt s.control.head (stack s.site) → HeadFacts s → FlowFacts (perform n at t (in_head k) s)
-  in-head-rule Ws s is w o f = by-quiet put refl s w f
-  in-head-rule Comment s is w o f = by-quiet insert_comment refl s w f
-  in-head-rule Doctype s is w o f = by-quiet (error InHead) refl s w f
-  in-head-rule (Start family.Html) s is w o f = by-quiet html_again refl s w f
-  in-head-rule (Start family.Base) s is w o f = quiet-flow n s (perform n at t void s) w (void-quiet s w) f
-  in-head-rule (Start family.Link) s is w o f = quiet-flow n s (perform n at t void s) w (void-quiet s w) f
-  in-head-rule (Start family.Title) s is w o f = raw-facts s w (rw is o)
-  in-head-rule (Start family.Noframes) s is w o f = raw-facts s w (rw is o)
-  in-head-rule (Start family.Style) s is w o f = raw-facts s w (rw is o)
-  in-head-rule (Start family.Script) s is w o f = raw-facts s w (rw is o)
-  in-head-rule (Start family.Noscript) s is w o f = noscript-facts s w o
-  in-head-rule (Start family.Head) s is w o f = by-quiet (error InHead) refl s w f
-  in-head-rule (End family.Head) s is w o f = pop-out s.control.head s.site w o
-  in-head-rule (End family.Body) s is w o f = pop-out s.control.head s.site w o
-  in-head-rule (End family.Html) s is w o f = pop-out s.control.head s.site w o
-  in-head-rule (End family.Br) s is w o f = pop-out s.control.head s.site w o
-  in-head-rule (End _) s is w o f = by-quiet (error InHead) refl s w f
-  in-head-rule _ s is w o f = pop-out s.control.head s.site w o
+  in-head-rule k s is w o f =
+      in-head-cases (λ p. FlowFacts (perform n at t p s)) (λ p e. by-quiet p e s w f) (quiet-flow n s (perform n at t void s) w (void-quiet s w) f) (raw-facts s w (rw is o))
+      (noscript-facts s w o) (pop-out s.control.head s.site w o) (pop-out s.control.head s.site w o) k
 
   pub noscript-rule : (k : Kind) (s : State N) → s.control.mode ≡ InHeadNoscript → Well n s.site → IsAt s.control.head (drop 1 (stack s.site)) → HeadFacts s → FlowFacts (perform n at t (in_head_noscript k) s)
-  noscript-rule Doctype s is w o f = by-quiet (error InHeadNoscript) refl s w f
-  noscript-rule (Start family.Html) s is w o f = by-quiet html_again refl s w f
-  noscript-rule (End family.Noscript) s is w o f = o
-  noscript-rule Ws s is w o f = by-quiet put refl s w f
-  noscript-rule Comment s is w o f = by-quiet insert_comment refl s w f
-  noscript-rule (Start family.Link) s is w o f = quiet-flow n s (perform n at t void s) w (void-quiet s w) f
-  noscript-rule (Start family.Noframes) s is w o f = raw-facts s w (rw is o)
-  noscript-rule (Start family.Style) s is w o f = raw-facts s w (rw is o)
-  noscript-rule (End family.Br) s is w o f = o
-  noscript-rule (Start family.Head) s is w o f = by-quiet (error InHeadNoscript) refl s w f
-  noscript-rule (Start family.Noscript) s is w o f = by-quiet (error InHeadNoscript) refl s w f
-  noscript-rule (End _) s is w o f = by-quiet (error InHeadNoscript) refl s w f
-  noscript-rule _ s is w o f = o
+  noscript-rule k s is w o f =
+      noscript-cases (λ p. FlowFacts (perform n at t p s)) (λ p e. by-quiet p e s w f) (quiet-flow n s (perform n at t void s) w (void-quiet s w) f) (raw-facts s w (rw is o)) o o k
 
   -- text whose saved mode is one of the head's
   pub text-rule : (k : Kind) (s : State N) → s.control.mode ≡ Text → Well n s.site → Facts s.control.saved s.control.saved s.control.head (drop 1 (stack s.site)) (trees s.site) → HeadFacts s → FlowFacts (perform n at t (text k) s)
-  text-rule Nul s is w o f = by-quiet put refl s w f
-  text-rule Ws s is w o f = by-quiet put refl s w f
-  text-rule Char s is w o f = by-quiet put refl s w f
-  text-rule Eof s is w o f = o
-  text-rule (End _) s is w o f = o
-  text-rule _ s is w o f = by-quiet (error Text) refl s w f
+  text-rule k s is w o f = text-cases (λ p. FlowFacts (perform n at t p s)) (λ p e. by-quiet p e s w f) o o k
 
   -- the head, where it is set, on top of the open nodes
   abbrev with_head : Option ℕ → List (OpenNode N) → List (OpenNode N)
@@ -219,33 +265,8 @@ module _ {N : Type 0} (n : Naming N) (tells : TellsTables n) (at : ℕ) (t : Tok
             omega (arith, (deep-there x.nodes.made (trees x) a.counted h 0 there).0)
 
     pub after-head-rule : (k : Kind) → HeadFacts s → FlowFacts (perform n at t (after_head k) s)
-    after-head-rule Ws f = by-quiet put refl s w f
-    after-head-rule Comment f = by-quiet insert_comment refl s w f
-    after-head-rule Doctype f = by-quiet (error AfterHead) refl s w f
-    after-head-rule (Start family.Html) f = by-quiet html_again refl s w f
-    after-head-rule (Start family.Body) f = body-facts s w
-    after-head-rule (Start family.Base) f = late-void
-    after-head-rule (Start family.Link) f = late-void
-    after-head-rule (Start family.Noframes) f = late-raw
-    after-head-rule (Start family.Script) f = late-raw
-    after-head-rule (Start family.Style) f = late-raw
-    after-head-rule (Start family.Title) f = late-raw
-    after-head-rule (End family.Body) f = unwritten-facts s w
-    after-head-rule (End family.Html) f = unwritten-facts s w
-    after-head-rule (End family.Br) f = unwritten-facts s w
-    after-head-rule (Start family.Head) f = by-quiet (error AfterHead) refl s w f
-    after-head-rule (End _) f = by-quiet (error AfterHead) refl s w f
-    after-head-rule _ f = unwritten-facts s w
+    after-head-rule k f =
+        after-head-cases (λ p. FlowFacts (perform n at t p s)) (λ p e. by-quiet p e s w f) (body-facts s w) late-void late-raw (unwritten-facts s w) k
 
   pub before-head-rule : (k : Kind) (s : State N) → Well n s.site → HeadFacts s → FlowFacts (perform n at t (before_head k) s)
-  before-head-rule Ws s w f = by-quiet nothing refl s w f
-  before-head-rule Comment s w f = by-quiet insert_comment refl s w f
-  before-head-rule Doctype s w f = by-quiet (error BeforeHead) refl s w f
-  before-head-rule (Start family.Html) s w f = by-quiet html_again refl s w f
-  before-head-rule (Start family.Head) s w f = head-facts s w
-  before-head-rule (End family.Head) s w f = head-unwritten-facts s w
-  before-head-rule (End family.Body) s w f = head-unwritten-facts s w
-  before-head-rule (End family.Html) s w f = head-unwritten-facts s w
-  before-head-rule (End family.Br) s w f = head-unwritten-facts s w
-  before-head-rule (End _) s w f = by-quiet (error BeforeHead) refl s w f
-  before-head-rule _ s w f = head-unwritten-facts s w
+  before-head-rule k s w f = before-head-cases (λ p. FlowFacts (perform n at t p s)) (λ p e. by-quiet p e s w f) (head-facts s w) (head-unwritten-facts s w) k

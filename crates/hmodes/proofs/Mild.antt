@@ -26,7 +26,7 @@ use Rattle.hmodes.specs.Doctypes.{doctype_node}
 use Rattle.hmodes.specs.Questions.{answer_of}
 use Rattle.hmodes.specs.Perform.{perform, with_foster, with_control, each_of, flow_of, head_pushed, current_node}
 use Rattle.hmodes.specs.RawFollows.{IsLimit}
-use Rattle.hmodes.proofs.Once.{both}
+use Rattle.hmodes.proofs.Every.{never, both}
 
 abbrev pub is_mild : Do → Bool
 is_mild (p ▸ q) = is_mild p && is_mild q
@@ -148,11 +148,11 @@ module _ {N : Type 0} (n : Naming N) where
   perform-mild (fostered p) mild at t s = mild-foster s (perform n at t p (with_foster true s)) (perform-mild p mild at t (with_foster true s))
   perform-mild (each_pending p) mild at t s =
       mild-each (λ c. perform n c.at (character c.ch) p) (λ c v. perform-mild p mild c.at (character c.ch) v) s.control.pending (with_control (record s.control { pending = [] }) s)
-  perform-mild again mild at t s = cc
-  perform-mild (again_as x) mild at t s = cc
-  perform-mild save_mode mild at t s = cc
-  perform-mild adopt mild at t s = cc
-  perform-mild adopt_listed mild at t s = cc
+  perform-mild again mild at t s = never mild
+  perform-mild (again_as x) mild at t s = never mild
+  perform-mild save_mode mild at t s = never mild
+  perform-mild adopt mild at t s = never mild
+  perform-mild adopt_listed mild at t s = never mild
   perform-mild insert mild at t s = mild-flow s _ (limited-inserted at (token_name n t) (token_attrs t) (place n s.site) s.site)
   perform-mild (insert_named x) mild at t s = mild-flow s _ (limited-inserted at (n.known x) [] (place n s.site) s.site)
   perform-mild insert_root mild at t s = mild-flow s _ (limited-inserted at (token_name n t) (token_attrs t) (LastIn 0) s.site)

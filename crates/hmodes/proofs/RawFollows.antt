@@ -35,7 +35,7 @@ use Rattle.hadopt.specs.Inserts.{inserted, pushed}
 use Rattle.hmodes.specs.Table.{in_table_text, other_in_table}
 use Rattle.hmodes.proofs.Facts.{is_texty}
 use Rattle.hmodes.proofs.Between.{Tells, Orderly, orderly-head, orderly-begins, again-orderly, reached-orderly}
-use Rattle.hmodes.proofs.Once.{both}
+use Rattle.hmodes.proofs.Every.{never, both}
 
 -- the programs that insert an element and go to text, at once or after others, or have the token go by rules outside of text
 
@@ -81,7 +81,7 @@ raw-family tag.Iframe e = refl
 raw-family tag.Noembed e = refl
 raw-family tag.Noframes e = refl
 raw-family tag.Script e = refl
-raw-family _ e = cc
+raw-family _ e = never e
 
 abbrev for_all : (Family → Bool) → Bool
 for_all f = f Title && (f Noframes && (f Style && (f Script && (f Textarea && (f Xmp && f Iframe)))))
@@ -104,7 +104,7 @@ for-one f x all is =
     pick Textarea e title noframes style script textarea xmp iframe = textarea
     pick Xmp e title noframes style script textarea xmp iframe = xmp
     pick Iframe e title noframes style script textarea xmp iframe = iframe
-    pick _ e title noframes style script textarea xmp iframe = cc
+    pick _ e title noframes style script textarea xmp iframe = never e
 
 -- the rules of a mode, but those of what belongs in the head, after it, and those of text
 abbrev is_ruled : Mode → Bool
@@ -126,15 +126,15 @@ ruled-leads InRow e = refl
 ruled-leads InCell e = refl
 ruled-leads AfterBody e = refl
 ruled-leads AfterAfterBody e = refl
-ruled-leads _ e = cc
+ruled-leads _ e = never e
 
 raw-is : (p : Do) → is_raw p ≡ true → p ≡ raw
 raw-is (insert ▸ (save_mode ▸ to Text)) e = refl
-raw-is _ e = cc
+raw-is _ e = never e
 
 drop-is : (q : Do) → keeps_text q ≡ true → q ≡ drop_lf
 drop-is drop_lf e = refl
-drop-is _ e = cc
+drop-is _ e = never e
 
 pub record GoesOutside (p q : Do) : Type 0 where
   pub mode : Mode
@@ -144,7 +144,7 @@ pub record GoesOutside (p q : Do) : Type 0 where
 
 goes-is : (p q : Do) → goes_outside p q ≡ true → GoesOutside p q
 goes-is (to m) again e = record { mode = m; first = refl; then = refl; outside = e }
-goes-is _ _ e = cc
+goes-is _ _ e = never e
 
 either : (x y : Bool) → (x || y) ≡ true → (x ≡ true) ⊎ (y ≡ true)
 either true y e = inl refl
@@ -226,7 +226,7 @@ module _ {N : Type 0} (n : Naming N) (at : ℕ) (name : N) (attrs : List (Attrib
   perform-leads : (p : Do) → leads p ≡ true → (s : State N) → Leads (perform n at tag_token p s)
   perform-leads (p ▸ q) e s = then-leads p q s e (λ h v. perform-leads q h v)
   perform-leads (fostered p) e s = foster-off (perform n at tag_token p (with_foster true s)) (perform-leads p e (with_foster true s))
-  perform-leads _ e s = cc
+  perform-leads _ e s = never e
 
   -- what an insertion leaves on the stack
   inserted-top : (p : Place) (x : SiteOf N) → OnGoes (λ y. stack y ≡ record { node = x.nodes.made; name = name } ∷ stack x) (inserted at name attrs p x)
@@ -290,7 +290,7 @@ module _ {N : Type 0} (n : Naming N) (at : ℕ) (name : N) (attrs : List (Attrib
   after-head-leads Textarea e = λ s below. perform-leads (after_head (Start Textarea)) refl s
   after-head-leads Xmp e = λ s below. perform-leads (after_head (Start Xmp)) refl s
   after-head-leads Iframe e = λ s below. perform-leads (after_head (Start Iframe)) refl s
-  after-head-leads _ e = cc
+  after-head-leads _ e = never e
 
   table-text-leads : (f : Family) (s : State N) → s.control.saved ≢ Text → Leads (perform n at tag_token (in_table_text (Start f)) s)
   table-text-leads f s out =
@@ -305,11 +305,14 @@ module _ {N : Type 0} (n : Naming N) (at : ℕ) (name : N) (attrs : List (Attrib
       family_is : is_raw_family (family_of (n.tag name)) ≡ true
       family_is = raw-family (n.tag name) ended
 
+      ruled : (m : Mode) → is_ruled m ≡ true → Leads (perform n at tag_token (rule_of m (Start (family_of (n.tag name)))) s)
+      ruled m e = perform-leads (rule_of m (Start (family_of (n.tag name)))) (for-one (λ f. leads (rule_of m (Start f))) (family_of (n.tag name)) (ruled-leads m e) family_is) s
+
       go : (m : Mode) → s.control.mode ≡ m → Leads (perform n at tag_token (rule_of m (Start (family_of (n.tag name)))) s)
       go Text is = absurd (out.mode is)
       go InTableText is = table-text-leads (family_of (n.tag name)) s (out.saved is)
       go AfterHead is = after-head-leads (family_of (n.tag name)) family_is s (below is)
-      go m is = perform-leads (rule_of m (Start (family_of (n.tag name)))) (for-one (λ f. leads (rule_of m (Start f))) (family_of (n.tag name)) (ruled-leads m refl) family_is) s
+      go m is = ruled m refl
 
 module _ {N : Type 0} (n : Naming N) (tells : Tells n) (at : ℕ) (name : N) (attrs : List (Attribute N)) (closing : Bool) (ended : is_ended (raw_kind (n.tag name)) ≡ true) where
   finished-text : (s : State N) → IsInText n at name attrs s → IsInText n at name attrs (finished at (start name attrs closing) s)

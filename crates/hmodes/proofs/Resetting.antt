@@ -10,7 +10,7 @@ use Rattle.names.specs.declared.tag.Tag.{Tag}
 use Rattle.names.specs.declared.tag.Tag.TheVariants as tag
 use Rattle.names.specs.Tags.{tag_of}
 use Rattle.names.proofs.Handing.{slice_get-append}
-use Rattle.std.proofs.lemmas.Bool.{ltb-false}
+use Rattle.std.proofs.lemmas.Bool.{true≢false, false≢true, ltb-false}
 use Rattle.std.proofs.lemmas.List.{reverse-append}
 use Rattle.hadopt.specs.Naming.{numbers}
 use Rattle.hadopt.proofs.Searching.{last-behind}
@@ -28,16 +28,16 @@ abbrev pub tells : OpenNode ℕ → Bool
 tells = is_of tag_of group.TellsMode
 
 tells-none : (t : Tag) → tells_mode t ≡ false → open_mode t ≡ None
-tells-none tag.Body h = absurd cc
-tells-none tag.Caption h = absurd cc
-tells-none tag.Colgroup h = absurd cc
-tells-none tag.Table h = absurd cc
-tells-none tag.Tbody h = absurd cc
-tells-none tag.Td h = absurd cc
-tells-none tag.Tfoot h = absurd cc
-tells-none tag.Th h = absurd cc
-tells-none tag.Thead h = absurd cc
-tells-none tag.Tr h = absurd cc
+tells-none tag.Body h = absurd (true≢false h)
+tells-none tag.Caption h = absurd (true≢false h)
+tells-none tag.Colgroup h = absurd (true≢false h)
+tells-none tag.Table h = absurd (true≢false h)
+tells-none tag.Tbody h = absurd (true≢false h)
+tells-none tag.Td h = absurd (true≢false h)
+tells-none tag.Tfoot h = absurd (true≢false h)
+tells-none tag.Th h = absurd (true≢false h)
+tells-none tag.Thead h = absurd (true≢false h)
+tells-none tag.Tr h = absurd (true≢false h)
 tells-none _ h = refl
 
 tells-some : (t : Tag) → tells_mode t ≡ true → (a b : Mode) → unwrap_or (open_mode t) a ≡ unwrap_or (open_mode t) b
@@ -51,7 +51,7 @@ tells-some tag.Tfoot h a b = refl
 tells-some tag.Th h a b = refl
 tells-some tag.Thead h a b = refl
 tells-some tag.Tr h a b = refl
-tells-some _ h a b = absurd cc
+tells-some _ h a b = absurd (false≢true h)
 
 -- the nearest open node that tells the mode is not the first one
 pub reset-told : (context : Option ℕ) (s : List (OpenNode ℕ)) → position_or_len tells s + 1 < length s → reset_mode numbers context s ≡ unwrap_or (decided s (position_or_len tells s)) InBody

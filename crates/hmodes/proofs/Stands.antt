@@ -30,20 +30,18 @@ use Rattle.hadopt.proofs.Settling.{Well}
 use Rattle.hadopt.proofs.Turning.{among-past, among-drop, fewer, listed-as, erred, closed-well, other-well, adopted-well}
 use Rattle.hadopt.proofs.Inserting.{missing-well, first-fits, here-fits, root-fits, place-fits, added-well, inserted-well, put-well, reconstructed-well}
 use Rattle.hmodes.specs.declared.mode.Mode.{Mode}
-use Rattle.hmodes.specs.declared.mode.Mode.TheVariants.{Initial, BeforeHtml, BeforeHead, InHead, InHeadNoscript, AfterHead, InBody, Text, InTable, InTableText, InCaption, InColumnGroup, InTableBody, InRow, InCell, AfterBody, AfterAfterBody}
+use Rattle.hmodes.specs.declared.mode.Mode.TheVariants.{AfterHead}
 use Rattle.hmodes.specs.declared.family.Family.TheVariants as family
 use Rattle.hmodes.specs.Families.{family_of}
-use Rattle.hmodes.specs.Words.{Kind, Nul, Ws, Char, Start, End, Do, ◌▸◌, when, unless, choose, fostered, each_pending, error, insert, insert_named, insert_root, insert_root_named, insert_comment, comment_in_document, comment_in_first, insert_doctype, put, add_missing_to_first, add_missing_to_second, pop, pop_to, pop_to_name, pop_to_group, implied, implied_except, implied_except_name, clear_to_table, clear_to_body, clear_to_row, push_head, remove_head, remove_form, reconstruct, push_to_list, marker, clear_to_marker, close_p, adopt, adopt_listed, other_end}
+use Rattle.hmodes.specs.Words.{Kind, Nul, Ws, Char, Start, Do, ◌▸◌, when, unless, choose, fostered, each_pending, error, insert, insert_named, insert_root, insert_root_named, insert_comment, comment_in_document, comment_in_first, insert_doctype, put, add_missing_to_first, add_missing_to_second, pop, pop_to, pop_to_name, pop_to_group, implied, implied_except, implied_except_name, clear_to_table, clear_to_body, clear_to_row, push_head, remove_head, remove_form, reconstruct, push_to_list, marker, clear_to_marker, close_p, adopt, adopt_listed, other_end}
 use Rattle.hmodes.specs.State.{Token, character, start, end, doctype, comment, eof, State, Flow, Done, Again, Refused, kind_of, flow_then, flow_map, token_name, token_attrs, token_text, token_char}
 use Rattle.hmodes.specs.Questions.{answer_of}
 use Rattle.hmodes.specs.Doctypes.{doctype_node}
 use Rattle.hmodes.specs.Perform.{perform, with_foster, with_control, with_site, each_of, flow_of, removed, forgotten, current_node, adopted_listed, head_pushed}
 use Rattle.hmodes.specs.Rules.{rule_of, code_of}
 use Rattle.hmodes.specs.Step.{Rule}
-use Rattle.hmodes.specs.Head.{initial, before_html, before_head, in_head, in_head_noscript, after_head, late}
-use Rattle.hmodes.specs.Body.{in_body, text, after_body, after_after_body}
-use Rattle.hmodes.specs.Table.{in_table, in_table_text, in_caption, in_column_group, in_table_body, in_row, in_cell}
-use Rattle.hmodes.proofs.Once.{both}
+use Rattle.hmodes.specs.Head.{in_head, after_head, late}
+use Rattle.hmodes.proofs.Every.{never, both, in-each}
 
 -- a program opens the head again nowhere, and lists the current node only where it may
 abbrev pub tame : (may_list : Bool) → Do → Bool
@@ -63,166 +61,6 @@ may_list (Start family.A) = true
 may_list (Start family.Formatting) = true
 may_list (Start family.Nobr) = true
 may_list _ = false
-
-tame-initial : (k : Kind) → tame (may_list k) (initial k) ≡ true
-tame-initial Nul = refl
-tame-initial (Start family.A) = refl
-tame-initial (Start family.Formatting) = refl
-tame-initial (Start family.Nobr) = refl
-tame-initial (Start _) = refl
-tame-initial (End family.Html) = refl
-tame-initial (End _) = refl
-tame-initial _ = refl
-
-tame-before_html : (k : Kind) → tame (may_list k) (before_html k) ≡ true
-tame-before_html Nul = refl
-tame-before_html (Start family.A) = refl
-tame-before_html (Start family.Formatting) = refl
-tame-before_html (Start family.Nobr) = refl
-tame-before_html (Start _) = refl
-tame-before_html (End family.Html) = refl
-tame-before_html (End _) = refl
-tame-before_html _ = refl
-
-tame-before_head : (k : Kind) → tame (may_list k) (before_head k) ≡ true
-tame-before_head Nul = refl
-tame-before_head (Start family.A) = refl
-tame-before_head (Start family.Formatting) = refl
-tame-before_head (Start family.Nobr) = refl
-tame-before_head (Start _) = refl
-tame-before_head (End family.Html) = refl
-tame-before_head (End _) = refl
-tame-before_head _ = refl
-
-tame-in_head : (k : Kind) → tame (may_list k) (in_head k) ≡ true
-tame-in_head Nul = refl
-tame-in_head (Start family.A) = refl
-tame-in_head (Start family.Formatting) = refl
-tame-in_head (Start family.Nobr) = refl
-tame-in_head (Start _) = refl
-tame-in_head (End family.Html) = refl
-tame-in_head (End _) = refl
-tame-in_head _ = refl
-
-tame-in_head_noscript : (k : Kind) → tame (may_list k) (in_head_noscript k) ≡ true
-tame-in_head_noscript Nul = refl
-tame-in_head_noscript (Start family.A) = refl
-tame-in_head_noscript (Start family.Formatting) = refl
-tame-in_head_noscript (Start family.Nobr) = refl
-tame-in_head_noscript (Start _) = refl
-tame-in_head_noscript (End family.Html) = refl
-tame-in_head_noscript (End _) = refl
-tame-in_head_noscript _ = refl
-
-tame-in_body : (k : Kind) → tame (may_list k) (in_body k) ≡ true
-tame-in_body Nul = refl
-tame-in_body (Start family.A) = refl
-tame-in_body (Start family.Formatting) = refl
-tame-in_body (Start family.Nobr) = refl
-tame-in_body (Start _) = refl
-tame-in_body (End family.Html) = refl
-tame-in_body (End _) = refl
-tame-in_body _ = refl
-
-tame-text : (k : Kind) → tame (may_list k) (text k) ≡ true
-tame-text Nul = refl
-tame-text (Start family.A) = refl
-tame-text (Start family.Formatting) = refl
-tame-text (Start family.Nobr) = refl
-tame-text (Start _) = refl
-tame-text (End family.Html) = refl
-tame-text (End _) = refl
-tame-text _ = refl
-
-tame-in_table : (k : Kind) → tame (may_list k) (in_table k) ≡ true
-tame-in_table Nul = refl
-tame-in_table (Start family.A) = refl
-tame-in_table (Start family.Formatting) = refl
-tame-in_table (Start family.Nobr) = refl
-tame-in_table (Start _) = refl
-tame-in_table (End family.Html) = refl
-tame-in_table (End _) = refl
-tame-in_table _ = refl
-
-tame-in_table_text : (k : Kind) → tame (may_list k) (in_table_text k) ≡ true
-tame-in_table_text Nul = refl
-tame-in_table_text (Start family.A) = refl
-tame-in_table_text (Start family.Formatting) = refl
-tame-in_table_text (Start family.Nobr) = refl
-tame-in_table_text (Start _) = refl
-tame-in_table_text (End family.Html) = refl
-tame-in_table_text (End _) = refl
-tame-in_table_text _ = refl
-
-tame-in_caption : (k : Kind) → tame (may_list k) (in_caption k) ≡ true
-tame-in_caption Nul = refl
-tame-in_caption (Start family.A) = refl
-tame-in_caption (Start family.Formatting) = refl
-tame-in_caption (Start family.Nobr) = refl
-tame-in_caption (Start _) = refl
-tame-in_caption (End family.Html) = refl
-tame-in_caption (End _) = refl
-tame-in_caption _ = refl
-
-tame-in_column_group : (k : Kind) → tame (may_list k) (in_column_group k) ≡ true
-tame-in_column_group Nul = refl
-tame-in_column_group (Start family.A) = refl
-tame-in_column_group (Start family.Formatting) = refl
-tame-in_column_group (Start family.Nobr) = refl
-tame-in_column_group (Start _) = refl
-tame-in_column_group (End family.Html) = refl
-tame-in_column_group (End _) = refl
-tame-in_column_group _ = refl
-
-tame-in_table_body : (k : Kind) → tame (may_list k) (in_table_body k) ≡ true
-tame-in_table_body Nul = refl
-tame-in_table_body (Start family.A) = refl
-tame-in_table_body (Start family.Formatting) = refl
-tame-in_table_body (Start family.Nobr) = refl
-tame-in_table_body (Start _) = refl
-tame-in_table_body (End family.Html) = refl
-tame-in_table_body (End _) = refl
-tame-in_table_body _ = refl
-
-tame-in_row : (k : Kind) → tame (may_list k) (in_row k) ≡ true
-tame-in_row Nul = refl
-tame-in_row (Start family.A) = refl
-tame-in_row (Start family.Formatting) = refl
-tame-in_row (Start family.Nobr) = refl
-tame-in_row (Start _) = refl
-tame-in_row (End family.Html) = refl
-tame-in_row (End _) = refl
-tame-in_row _ = refl
-
-tame-in_cell : (k : Kind) → tame (may_list k) (in_cell k) ≡ true
-tame-in_cell Nul = refl
-tame-in_cell (Start family.A) = refl
-tame-in_cell (Start family.Formatting) = refl
-tame-in_cell (Start family.Nobr) = refl
-tame-in_cell (Start _) = refl
-tame-in_cell (End family.Html) = refl
-tame-in_cell (End _) = refl
-tame-in_cell _ = refl
-
-tame-after_body : (k : Kind) → tame (may_list k) (after_body k) ≡ true
-tame-after_body Nul = refl
-tame-after_body (Start family.A) = refl
-tame-after_body (Start family.Formatting) = refl
-tame-after_body (Start family.Nobr) = refl
-tame-after_body (Start _) = refl
-tame-after_body (End family.Html) = refl
-tame-after_body (End _) = refl
-tame-after_body _ = refl
-
-tame-after_after_body : (k : Kind) → tame (may_list k) (after_after_body k) ≡ true
-tame-after_after_body Nul = refl
-tame-after_after_body (Start family.A) = refl
-tame-after_after_body (Start family.Formatting) = refl
-tame-after_after_body (Start family.Nobr) = refl
-tame-after_after_body (Start _) = refl
-tame-after_after_body (End family.Html) = refl
-tame-after_after_body (End _) = refl
-tame-after_after_body _ = refl
 
 module _ {N : Type 0} (n : Naming N) where
   abbrev pub FlowWell : Flow N → Type 0
@@ -334,7 +172,7 @@ module _ {N : Type 0} (n : Naming N) where
     perform-well v clear_to_table calm at t name s h = fewer n s.site _ (among-past _ (stack s.site)) h
     perform-well v clear_to_body calm at t name s h = fewer n s.site _ (among-past _ (stack s.site)) h
     perform-well v clear_to_row calm at t name s h = fewer n s.site _ (among-past _ (stack s.site)) h
-    perform-well v push_head calm at t name s h = cc
+    perform-well v push_head calm at t name s h = never calm
     perform-well v remove_head calm at t name s h = removed-well s.control.head s.site h
     perform-well v remove_form calm at t name s h = removed-well s.control.form s.site h
     perform-well v reconstruct calm at t name s h = on-site s _ (reconstructed-well n at s.site h)
@@ -357,37 +195,13 @@ is_late (Start family.Style) = true
 is_late (Start family.Title) = true
 is_late _ = false
 
-tame-after_head : (k : Kind) → (is_late k || tame (may_list k) (after_head k)) ≡ true
-tame-after_head Nul = refl
-tame-after_head (Start family.A) = refl
-tame-after_head (Start _) = refl
-tame-after_head (End family.Html) = refl
-tame-after_head (End _) = refl
-tame-after_head _ = refl
-
 -- whether a rule opens the head again
 abbrev opens_head : Mode → Kind → Bool
 opens_head AfterHead k = is_late k
 opens_head _ k = false
 
 tame-rule : (m : Mode) (k : Kind) → (opens_head m k || tame (may_list k) (rule_of m k)) ≡ true
-tame-rule AfterHead k = tame-after_head k
-tame-rule Initial k = tame-initial k
-tame-rule BeforeHtml k = tame-before_html k
-tame-rule BeforeHead k = tame-before_head k
-tame-rule InHead k = tame-in_head k
-tame-rule InHeadNoscript k = tame-in_head_noscript k
-tame-rule InBody k = tame-in_body k
-tame-rule Text k = tame-text k
-tame-rule InTable k = tame-in_table k
-tame-rule InTableText k = tame-in_table_text k
-tame-rule InCaption k = tame-in_caption k
-tame-rule InColumnGroup k = tame-in_column_group k
-tame-rule InTableBody k = tame-in_table_body k
-tame-rule InRow k = tame-in_row k
-tame-rule InCell k = tame-in_cell k
-tame-rule AfterBody k = tame-after_body k
-tame-rule AfterAfterBody k = tame-after_after_body k
+tame-rule = in-each (λ m k. opens_head m k || tame (may_list k) (rule_of m k)) refl
 
 -- none of them is for a table
 list-plain : (x : Tag) → may_list (Start (family_of x)) ≡ true → x ≡ tag.Table → ⊥
@@ -441,7 +255,7 @@ module _ {N : Type 0} (n : Naming N) (tells : TellsTables n) where
   late-rule (Start family.Script) e = late-well (in_head (Start family.Script)) refl
   late-rule (Start family.Style) e = late-well (in_head (Start family.Style)) refl
   late-rule (Start family.Title) e = late-well (in_head (Start family.Title)) refl
-  late-rule _ e = cc
+  late-rule _ e = never e
 
   -- every rule keeps it
   pub rule-well : (at : ℕ) (t : Token N) (s : State N) → (s.control.mode ≡ AfterHead → HeadOut s) → Well n s.site → FlowWell n (Rule n at t s)
@@ -450,4 +264,4 @@ module _ {N : Type 0} (n : Naming N) (tells : TellsTables n) where
       go : (m : Mode) → s.control.mode ≡ m → (v : Bool) → opens_head m (kind_of n t) ≡ v → (v || tame (may_list (kind_of n t)) (rule_of m (kind_of n t))) ≡ true → FlowWell n (perform n at t (rule_of m (kind_of n t)) s)
       go m is false e calm = perform-well n tells (may_list (kind_of n t)) (rule_of m (kind_of n t)) calm at t (plain-token t) s h
       go AfterHead is true e calm = late-rule (kind_of n t) e at t s (out is) h
-      go _ is true e calm = cc
+      go _ is true e calm = never e

@@ -29,7 +29,6 @@ impl<'q> Rules<'q> {
         ensures { FlowGives result (token_of token.new) (state_of self.new) (perform numbers at (token_of token.old) (before_html kind) (state_of self.old)) }
     {
         match kind {
-            Kind::Doctype => self.ignore(Mode::BeforeHtml, at),
             Kind::Comment => self.comment_in_document(token, at),
             Kind::Ws => Ok(Flow::Done),
             Kind::Start(Family::Html) => {
@@ -40,7 +39,7 @@ impl<'q> Rules<'q> {
             Kind::End(Family::Head | Family::Body | Family::Html | Family::Br) => {
                 self.html_unwritten(at)
             }
-            Kind::End(_) => self.ignore(Mode::BeforeHtml, at),
+            Kind::Doctype | Kind::End(_) => self.ignore(Mode::BeforeHtml, at),
             _ => self.html_unwritten(at),
         }
     }
@@ -66,13 +65,12 @@ impl<'q> Rules<'q> {
         match kind {
             Kind::Ws => Ok(Flow::Done),
             Kind::Comment => self.insert_comment(token, at),
-            Kind::Doctype => self.ignore(Mode::BeforeHead, at),
             Kind::Start(Family::Html) => self.html_again(token, at),
             Kind::Start(Family::Head) => self.head(token, at),
             Kind::End(Family::Head | Family::Body | Family::Html | Family::Br) => {
                 self.head_unwritten(at)
             }
-            Kind::End(_) => self.ignore(Mode::BeforeHead, at),
+            Kind::Doctype | Kind::End(_) => self.ignore(Mode::BeforeHead, at),
             _ => self.head_unwritten(at),
         }
     }

@@ -16,7 +16,7 @@ ghost use Rattle.hmodes.specs.Words.{◌▸◌, when, unless, choose, error, ins
 ghost use Rattle.hmodes.specs.declared.mode.Mode.TheVariants.{InBody};
 
 use crate::mode::Mode;
-use crate::rules::{Flow, Rules};
+use crate::rules::{Flow, Rules, done};
 use crate::token::token_name;
 use hadopt::Passing;
 use hopen::{Group, Scope};
@@ -29,8 +29,7 @@ impl<'q> Rules<'q> {
         ensures { FlowGives result (token_of token.new) (state_of self.new) (perform numbers at (token_of token.old) (block) (state_of self.old)) }
     {
         self.close_p_in_scope(at)?;
-        self.insert(token, at)?;
-        Ok(Flow::Done)
+        done(self.insert(token, at))
     }
 
     /// A heading that is the current node is closed.
@@ -52,8 +51,7 @@ impl<'q> Rules<'q> {
     {
         self.close_p_in_scope(at)?;
         self.close_heading(at)?;
-        self.insert(token, at)?;
-        Ok(Flow::Done)
+        done(self.insert(token, at))
     }
 
     /// The start tags pre and listing.
@@ -167,8 +165,7 @@ impl<'q> Rules<'q> {
             return self.ignore(Mode::InBody, at);
         }
         self.site.pop_past(Passing::Implied(None));
-        self.pop_to(Mode::InBody, name, at)?;
-        Ok(Flow::Done)
+        done(self.pop_to(Mode::InBody, name, at))
     }
 
     /// The end tags li, dd and dt.
@@ -179,8 +176,7 @@ impl<'q> Rules<'q> {
         if !self.site.in_scope(scope, name) {
             return self.ignore(Mode::InBody, at);
         }
-        self.close_item(name, at)?;
-        Ok(Flow::Done)
+        done(self.close_item(name, at))
     }
 
     /// The form pointer's element is closed.
@@ -232,8 +228,7 @@ impl<'q> Rules<'q> {
             (perform numbers at t (unless (has_in scope.Button tag.P) (error InBody ▸ insert_named tag.P) ▸ close_p) (state_of self.old)) }
     {
         self.need_p(at)?;
-        self.site.close_p(at)?;
-        Ok(Flow::Done)
+        done(self.site.close_p(at))
     }
 
     /// The nearest heading is closed, which should have this name.
@@ -259,7 +254,6 @@ impl<'q> Rules<'q> {
         if !self.site.group_in_scope(Scope::Default, Group::Heading) {
             return self.ignore(Mode::InBody, at);
         }
-        self.close_heading_named(token_name(token), at)?;
-        Ok(Flow::Done)
+        done(self.close_heading_named(token_name(token), at))
     }
 }

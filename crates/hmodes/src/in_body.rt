@@ -17,7 +17,7 @@ ghost use Rattle.hmodes.specs.declared.mode.Mode.TheVariants.{InBody, AfterBody}
 use crate::family::Family;
 use crate::kind::Kind;
 use crate::mode::Mode;
-use crate::rules::{Flow, Rules};
+use crate::rules::{Flow, Rules, done};
 use crate::token::{token_char, token_name};
 use hopen::Scope;
 use htoken::Token;
@@ -35,10 +35,9 @@ impl<'q> Rules<'q> {
         ensures { FlowGives result (token_of token.new) (state_of self.new) (perform numbers at (token_of token.old) (in_body kind) (state_of self.old)) }
     {
         match kind {
-            Kind::Nul => self.ignore(Mode::InBody, at),
+            Kind::Nul | Kind::Doctype => self.ignore(Mode::InBody, at),
             Kind::Ws | Kind::Char => self.character_in_body(token, at),
             Kind::Comment => self.insert_comment(token, at),
-            Kind::Doctype => self.ignore(Mode::InBody, at),
             Kind::Start(family) => self.start_in_body(family, token, at),
             Kind::End(family) => self.end_in_body(family, token, at),
             Kind::Eof => self.end_in_open(at),
@@ -118,8 +117,7 @@ impl<'q> Rules<'q> {
     pub(crate) fn character_in_body(&mut self, token: &Token, at: u64) -> Result<Flow, Refusal>
         ensures { FlowGives result (token_of token.now) (state_of self.new) (perform numbers at (token_of token.now) (character_in_body) (state_of self.old)) }
     {
-        self.put_in_body(token_char(token), at)?;
-        Ok(Flow::Done)
+        done(self.put_in_body(token_char(token), at))
     }
 
     /// The character, after the formatting elements.
@@ -144,8 +142,7 @@ impl<'q> Rules<'q> {
     pub(crate) fn end_in_open(&mut self, at: u64) -> Result<Flow, Refusal>
         ensures { (t : TokenOf ℕ) → FlowGives result t (state_of self.new) (perform numbers at t (body_ends) (state_of self.old)) }
     {
-        self.check_open(at)?;
-        Ok(Flow::Done)
+        done(self.check_open(at))
     }
 
     /// The start tag body where it is not the first.
@@ -192,15 +189,13 @@ impl<'q> Rules<'q> {
             (perform numbers at (token_of token.old) (reconstruct ▸ insert) (state_of self.old)) }
     {
         self.site.reconstruct(at)?;
-        self.insert(token, at)?;
-        Ok(Flow::Done)
+        done(self.insert(token, at))
     }
 
     /// Any other end tag.
     pub(crate) fn other_end(&mut self, token: &Token, at: u64) -> Result<Flow, Refusal>
         ensures { FlowGives result (token_of token.now) (state_of self.new) (perform numbers at (token_of token.now) (other_end) (state_of self.old)) }
     {
-        self.site.other_end(token_name(token), at)?;
-        Ok(Flow::Done)
+        done(self.site.other_end(token_name(token), at))
     }
 }

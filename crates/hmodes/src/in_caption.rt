@@ -41,8 +41,8 @@ impl<'q> Rules<'q> {
                 | Family::Section
                 | Family::Cell
                 | Family::Row,
-            ) => self.caption_ends(at),
-            Kind::End(Family::Table) => self.caption_ends(at),
+            )
+            | Kind::End(Family::Table) => self.caption_ends(at),
             Kind::End(
                 Family::Body
                 | Family::Col
@@ -99,11 +99,12 @@ impl<'q> Rules<'q> {
         match kind {
             Kind::Ws => self.put(token, at),
             Kind::Comment => self.insert_comment(token, at),
-            Kind::Doctype => self.ignore(Mode::InColumnGroup, at),
             Kind::Start(Family::Html) => self.html_again(token, at),
             Kind::Start(Family::Col) => self.param(token, at),
             Kind::End(Family::Colgroup) => self.pop_and_go(Mode::InTable),
-            Kind::End(Family::Col | Family::Template) => self.ignore(Mode::InColumnGroup, at),
+            Kind::Doctype | Kind::End(Family::Col | Family::Template) => {
+                self.ignore(Mode::InColumnGroup, at)
+            }
             Kind::Eof => self.end_in_open(at),
             _ => self.column_group_ends(),
         }

@@ -15,7 +15,7 @@ ghost use Rattle.hmodes.specs.declared.mode.Mode.TheVariants.{InHead, InHeadNosc
 use crate::family::Family;
 use crate::kind::Kind;
 use crate::mode::Mode;
-use crate::rules::{Flow, Rules};
+use crate::rules::{Flow, Rules, done};
 use hopen::Open;
 use htoken::Token;
 use names::{Refusal, Tag};
@@ -33,21 +33,17 @@ impl<'q> Rules<'q> {
         match kind {
             Kind::Ws => self.put(token, at),
             Kind::Comment => self.insert_comment(token, at),
-            Kind::Doctype => self.ignore(Mode::InHead, at),
             Kind::Start(Family::Html) => self.html_again(token, at),
-            Kind::Start(Family::Base | Family::Link) => {
-                self.void(token, at)?;
-                Ok(Flow::Done)
-            }
+            Kind::Start(Family::Base | Family::Link) => done(self.void(token, at)),
             Kind::Start(Family::Title | Family::Noframes | Family::Style | Family::Script) => {
-                self.raw(token, at)?;
-                Ok(Flow::Done)
+                done(self.raw(token, at))
             }
             Kind::Start(Family::Noscript) => self.insert_and_go(Mode::InHeadNoscript, token, at),
             Kind::End(Family::Head) => self.pop_and_go(Mode::AfterHead),
             Kind::End(Family::Body | Family::Html | Family::Br) => self.head_ends(),
-            Kind::Start(Family::Head) => self.ignore(Mode::InHead, at),
-            Kind::End(_) => self.ignore(Mode::InHead, at),
+            Kind::Doctype | Kind::Start(Family::Head) | Kind::End(_) => {
+                self.ignore(Mode::InHead, at)
+            }
             _ => self.head_ends(),
         }
     }
@@ -95,22 +91,15 @@ impl<'q> Rules<'q> {
             (perform numbers at (token_of token.old) (in_head_noscript kind) (state_of self.old)) }
     {
         match kind {
-            Kind::Doctype => self.ignore(Mode::InHeadNoscript, at),
             Kind::Start(Family::Html) => self.html_again(token, at),
             Kind::End(Family::Noscript) => self.pop_and_go(Mode::InHead),
             Kind::Ws => self.put(token, at),
             Kind::Comment => self.insert_comment(token, at),
-            Kind::Start(Family::Link) => {
-                self.void(token, at)?;
-                Ok(Flow::Done)
-            }
-            Kind::Start(Family::Noframes | Family::Style) => {
-                self.raw(token, at)?;
-                Ok(Flow::Done)
-            }
+            Kind::Start(Family::Link) => done(self.void(token, at)),
+            Kind::Start(Family::Noframes | Family::Style) => done(self.raw(token, at)),
             Kind::End(Family::Br) => self.noscript_ends(at),
-            Kind::Start(Family::Head | Family::Noscript) => self.ignore(Mode::InHeadNoscript, at),
-            Kind::End(_) => self.ignore(Mode::InHeadNoscript, at),
+            Kind::Doctype | Kind::Start(Family::Head | Family::Noscript) | Kind::End(_) =>
+                self.ignore(Mode::InHeadNoscript, at),
             _ => self.noscript_ends(at),
         }
     }
@@ -138,7 +127,6 @@ impl<'q> Rules<'q> {
         match kind {
             Kind::Ws => self.put(token, at),
             Kind::Comment => self.insert_comment(token, at),
-            Kind::Doctype => self.ignore(Mode::AfterHead, at),
             Kind::Start(Family::Html) => self.html_again(token, at),
             Kind::Start(Family::Body) => self.insert_and_go(Mode::InBody, token, at),
             Kind::Start(Family::Base | Family::Link) => self.late_void(token, at),
@@ -146,8 +134,9 @@ impl<'q> Rules<'q> {
                 self.late_raw(token, at)
             }
             Kind::End(Family::Body | Family::Html | Family::Br) => self.body_unwritten(at),
-            Kind::Start(Family::Head) => self.ignore(Mode::AfterHead, at),
-            Kind::End(_) => self.ignore(Mode::AfterHead, at),
+            Kind::Doctype | Kind::Start(Family::Head) | Kind::End(_) => {
+                self.ignore(Mode::AfterHead, at)
+            }
             _ => self.body_unwritten(at),
         }
     }

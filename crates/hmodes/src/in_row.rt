@@ -17,7 +17,7 @@ ghost use Rattle.hmodes.specs.declared.mode.Mode.TheVariants.{InRow, InCell};
 use crate::family::Family;
 use crate::kind::Kind;
 use crate::mode::Mode;
-use crate::rules::{Flow, Rules};
+use crate::rules::{Flow, Rules, done};
 use crate::token::token_name;
 use hadopt::Passing;
 use hopen::Scope;
@@ -35,8 +35,8 @@ impl<'q> Rules<'q> {
             Kind::End(Family::Row) => self.end_row(at),
             Kind::Start(
                 Family::Caption | Family::Col | Family::Colgroup | Family::Section | Family::Row,
-            ) => self.row_ends(at),
-            Kind::End(Family::Table) => self.row_ends(at),
+            )
+            | Kind::End(Family::Table) => self.row_ends(at),
             Kind::End(Family::Section) => self.end_section_in_row(token, at),
             Kind::End(
                 Family::Body
@@ -58,8 +58,7 @@ impl<'q> Rules<'q> {
         self.site.pop_past(Passing::Row);
         self.insert(token, at)?;
         self.control.mode = Mode::InCell;
-        self.site.marker()?;
-        Ok(Flow::Done)
+        done(self.site.marker())
     }
 
     /// The end tag tr.

@@ -18,7 +18,7 @@ ghost use Rattle.hmodes.specs.declared.mode.Mode.TheVariants.{InTable, InTableTe
 use crate::family::Family;
 use crate::kind::Kind;
 use crate::mode::Mode;
-use crate::rules::{Flow, Rules};
+use crate::rules::{Flow, Rules, done};
 use crate::token::is_hidden;
 use hadopt::Passing;
 use hopen::Scope;
@@ -213,8 +213,7 @@ impl<'q> Rules<'q> {
             return self.other_in_table(Kind::Start(Family::Input), token, at);
         }
         self.error(Mode::InTable, at)?;
-        self.void(token, at)?;
-        Ok(Flow::Done)
+        done(self.void(token, at))
     }
 
     /// The start tag form in a table.

@@ -9,7 +9,7 @@ use crate::family::Family;
 use htoken::Token;
 
 /// The kind of a token, by which a rule is chosen.
-#[derive(Clone, Copy, Debug, PartialEq, Eq)]
+#[derive(Clone, Copy)]
 pub enum Kind {
     /// The character NUL.
     Nul,

@@ -17,7 +17,7 @@ ghost use Rattle.hmodes.specs.Words.{◌▸◌, when, unless, choose, error, aga
 ghost use Rattle.hmodes.specs.declared.mode.Mode.TheVariants.{InBody, InTable};
 
 use crate::mode::Mode;
-use crate::rules::{Flow, Rules};
+use crate::rules::{Flow, Rules, done};
 use crate::token::{rename, take_attrs, token_name};
 use hadopt::Passing;
 use hnodes::NodeId;
@@ -42,8 +42,7 @@ impl<'q> Rules<'q> {
         ensures { FlowGives result (token_of token.new) (state_of self.new) (perform numbers at (token_of token.old) (formatting) (state_of self.old)) }
     {
         self.site.reconstruct(at)?;
-        self.insert_formatting(token, at)?;
-        Ok(Flow::Done)
+        done(self.insert_formatting(token, at))
     }
 
     /// The adoption agency runs.
@@ -137,8 +136,7 @@ impl<'q> Rules<'q> {
         requires { Kept numbers self.old.site }
         ensures { FlowGives result (token_of token.now) (state_of self.new) (perform numbers at (token_of token.now) (adopt) (state_of self.old)) }
     {
-        self.run_adoption(token_name(token), at)?;
-        Ok(Flow::Done)
+        done(self.run_adoption(token_name(token), at))
     }
 
     /// The start tags applet, marquee and object.
@@ -148,8 +146,7 @@ impl<'q> Rules<'q> {
     {
         self.site.reconstruct(at)?;
         self.insert(token, at)?;
-        self.site.marker()?;
-        Ok(Flow::Done)
+        done(self.site.marker())
     }
 
     /// The end tags applet, marquee and object.
@@ -215,16 +212,14 @@ impl<'q> Rules<'q> {
         ensures { FlowGives result (token_of token.new) (state_of self.new) (perform numbers at (token_of token.old) (void_in_text) (state_of self.old)) }
     {
         self.site.reconstruct(at)?;
-        self.void(token, at)?;
-        Ok(Flow::Done)
+        done(self.void(token, at))
     }
 
     /// The start tags param, source and track.
     pub(crate) fn param(&mut self, token: &mut Token, at: u64) -> Result<Flow, Refusal>
         ensures { FlowGives result (token_of token.new) (state_of self.new) (perform numbers at (token_of token.old) (void) (state_of self.old)) }
     {
-        self.void(token, at)?;
-        Ok(Flow::Done)
+        done(self.void(token, at))
     }
 
     /// The start tag hr.
@@ -233,8 +228,7 @@ impl<'q> Rules<'q> {
             (perform numbers at (token_of token.old) (close_p_in_scope ▸ void) (state_of self.old)) }
     {
         self.close_p_in_scope(at)?;
-        self.void(token, at)?;
-        Ok(Flow::Done)
+        done(self.void(token, at))
     }
 
     /// The start tag image, which goes again as img.
@@ -263,16 +257,14 @@ impl<'q> Rules<'q> {
     {
         self.close_p_in_scope(at)?;
         self.site.reconstruct(at)?;
-        self.raw(token, at)?;
-        Ok(Flow::Done)
+        done(self.raw(token, at))
     }
 
     /// The start tags iframe and noembed.
     pub(crate) fn iframe(&mut self, token: &mut Token, at: u64) -> Result<Flow, Refusal>
         ensures { FlowGives result (token_of token.new) (state_of self.new) (perform numbers at (token_of token.old) (raw) (state_of self.old)) }
     {
-        self.raw(token, at)?;
-        Ok(Flow::Done)
+        done(self.raw(token, at))
     }
 
     /// Implied end tags in a ruby, which should be the current node then.
@@ -297,8 +289,7 @@ impl<'q> Rules<'q> {
             (state_of self.old)) }
     {
         self.in_ruby(at)?;
-        self.insert(token, at)?;
-        Ok(Flow::Done)
+        done(self.insert(token, at))
     }
 
     /// Implied end tags but rtc in a ruby; it or an rtc should be the current node then.
@@ -326,7 +317,6 @@ impl<'q> Rules<'q> {
             (state_of self.old)) }
     {
         self.in_ruby_text(at)?;
-        self.insert(token, at)?;
-        Ok(Flow::Done)
+        done(self.insert(token, at))
     }
 }

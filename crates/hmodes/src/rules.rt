@@ -1,7 +1,9 @@
 //! What the rules of all modes work with.
 
-ghost use Rattle.std.specs.Prelude.{◌≡◌};
+ghost use Rattle.std.specs.Prelude.{◌≡◌, ℕ};
+ghost use Rattle.hmodes.specs.Flows.{FlowGives, StateGives};
 ghost use Rattle.hmodes.specs.Rules.{code_of};
+ghost use Rattle.hmodes.specs.State.{Token as TokenOf, State as StateOf, Flow as FlowOf};
 
 use crate::control::Control;
 use crate::mode::Mode;
@@ -12,7 +14,7 @@ use names::{ErrorCode, NameId, Refusal, Tag};
 use std::alloc::Global;
 
 /// What comes of a rule: it ends, or the token goes again.
-#[derive(Clone, Copy, Debug, PartialEq, Eq)]
+#[derive(Clone, Copy)]
 pub enum Flow {
     Done,
     Again,
@@ -28,6 +30,14 @@ pub struct Rules<'q> {
     /// The quirks list; a fragment has none.
     pub quirks_list: Option<&'q Quirks>,
     pub alloc: Global,
+}
+
+/// A rule ends with its last step.
+pub(crate) fn done(last: Result<(), Refusal>) -> Result<Flow, Refusal>
+    ensures { (t : TokenOf ℕ) (s : StateOf ℕ) (f : FlowOf ℕ) → StateGives last s f → FlowGives result t s f }
+{
+    last?;
+    Ok(Flow::Done)
 }
 
 impl Mode {

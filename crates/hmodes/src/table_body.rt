@@ -39,10 +39,8 @@ impl<'q> Rules<'q> {
             Kind::Start(Family::Row) => self.row(token, at),
             Kind::Start(Family::Cell) => self.row_unwritten_in_body(at),
             Kind::End(Family::Section) => self.end_section(token, at),
-            Kind::Start(Family::Caption | Family::Col | Family::Colgroup | Family::Section) => {
-                self.section_ends(at)
-            }
-            Kind::End(Family::Table) => self.section_ends(at),
+            Kind::Start(Family::Caption | Family::Col | Family::Colgroup | Family::Section)
+            | Kind::End(Family::Table) => self.section_ends(at),
             Kind::End(
                 Family::Body
                 | Family::Caption

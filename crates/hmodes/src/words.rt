@@ -16,7 +16,7 @@ ghost use Rattle.hmodes.specs.declared.mode.Mode.TheVariants.{InBody};
 ghost use Rattle.hmodes.specs.Words.{error, insert, insert_root, insert_comment, comment_in_document, comment_in_first, put, unless, current_is_name, pop_to_name, implied_except_name, ◌▸◌};
 
 use crate::mode::Mode;
-use crate::rules::{Flow, Rules};
+use crate::rules::{Flow, Rules, done};
 use crate::token::{take_attrs, take_text, token_char, token_name};
 use hadopt::Passing;
 use hopen::Scope;
@@ -36,8 +36,7 @@ impl<'q> Rules<'q> {
     pub(crate) fn ignore(&mut self, mode: Mode, at: u64) -> Result<Flow, Refusal>
         ensures { (t : TokenOf ℕ) → FlowGives result t (state_of self.new) (perform numbers at t (error mode) (state_of self.old)) }
     {
-        self.error(mode, at)?;
-        Ok(Flow::Done)
+        done(self.error(mode, at))
     }
 
     /// An element for a start tag at the appropriate place.
@@ -124,8 +123,7 @@ impl<'q> Rules<'q> {
     pub(crate) fn put(&mut self, token: &Token, at: u64) -> Result<Flow, Refusal>
         ensures { FlowGives result (token_of token.now) (state_of self.new) (perform numbers at (token_of token.now) put (state_of self.old)) }
     {
-        self.put_char(token_char(token), at)?;
-        Ok(Flow::Done)
+        done(self.put_char(token_char(token), at))
     }
 
     /// A character at the appropriate place.
@@ -154,8 +152,7 @@ impl<'q> Rules<'q> {
         ensures { FlowGives result (token_of token.new) (state_of self.new) (perform numbers at (token_of token.old) html_again (state_of self.old)) }
     {
         self.error(Mode::InBody, at)?;
-        self.add_missing(0, token)?;
-        Ok(Flow::Done)
+        done(self.add_missing(0, token))
     }
 
     /// A start tag whose element has no content.
