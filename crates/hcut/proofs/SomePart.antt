@@ -129,7 +129,7 @@ stops_less : (test : ℕ → Bool) (sign tail : List Placed) → is_sign sign �
 stops_less test [] tail s h = absurd (false≢true s)
 stops_less test (p ∷ ps) tail s h = h
 
-none_of : (a b c : Bool) → a ≡ false → b ≡ false → c ≡ false → not (a || b || c) ≡ true
+pub none_of : (a b c : Bool) → a ≡ false → b ≡ false → c ≡ false → not (a || b || c) ≡ true
 none_of true b c h k l = absurd (false≢true (sym h))
 none_of false true c h k l = absurd (false≢true (sym k))
 none_of false false true h k l = absurd (false≢true (sym l))

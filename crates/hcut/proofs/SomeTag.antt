@@ -12,19 +12,13 @@ use Rattle.htag.specs.Tag.{Part, parts_text, IsTagFront, ends_name}
 use Rattle.htoken.specs.Tag.{IsTag, start_tag, end_tag, unfinished}
 use Rattle.hcut.specs.SomeCut.{HasTag}
 use Rattle.hcut.proofs.OneTag.{Side, Opens, Ends, mark_of, tag_span, cut_span, tag_text, IsEnding, closed, cut_off, tag_whole}
-use Rattle.hcut.proofs.SomePart.{split, some_parts, is_stop}
+use Rattle.hcut.proofs.SomePart.{split, some_parts, is_stop, none_of}
 
 pub letter_far : (c : ℕ) → is_letter c ≡ true → 65 ≤ c
 letter_far c h = grind (arith, nat_tests)
 
 far_no_solidus : (c : ℕ) → 65 ≤ c → eqb c 47 ≡ false
 far_no_solidus c h = grind (arith, nat_tests)
-
-none_of : (a b c : Bool) → a ≡ false → b ≡ false → c ≡ false → not (a || b || c) ≡ true
-none_of true b c h k l = absurd (false≢true (sym h))
-none_of false true c h k l = absurd (false≢true (sym k))
-none_of false false true h k l = absurd (false≢true (sym l))
-none_of false false false h k l = refl
 
 letter_goes_on : (c : ℕ) → is_letter c ≡ true → not (ends_name c) ≡ true
 letter_goes_on c h = let far = letter_far c h in none_of (is_space c) (eqb c 47) (is_greater c) (far_not_space c far) (far_no_solidus c far) (far_not_greater c far)

@@ -266,7 +266,7 @@ module _ {N : Type 0} (n : Naming N) (laws : Laws n) (z : State N) where
         pub end_p : family_of (n.tag x) ≡ family.P → is_p (n.tag x) ≡ true → has_implied_end (n.tag x) ≡ true → Closes items c
         end_p fam p implied =
             let known : n.same x (n.known tag.P) ≡ true = laws.knows_p x ∙ p in
-            ends m family.P fam (by_end family.P) items c (refl, refl, refl) (rw (known, implied, known, known, known) refl)
+            ends m family.P fam (by_end family.P) items c (refl, refl, refl) (simp (known, implied) refl)
 
         module _ (stays : has_implied_end (n.tag x) ≡ false) where
           pub end_span : family_of (n.tag x) ≡ family.Other → Closes items c

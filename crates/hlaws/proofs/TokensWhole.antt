@@ -65,6 +65,33 @@ no_comment content.RawText h = refl
 no_comment content.ScriptText h = refl
 no_comment _ h = absurd (false≢true h)
 
+-- the content of the elements whose text is read in a kind
+abbrev raw_content : RawKind → Content
+raw_content kind.Rcdata = content.Text
+raw_content kind.Rawtext = content.RawText
+raw_content kind.Script = content.ScriptText
+raw_content _ = content.Empty
+
+raw_fits : (k : RawKind) (c : Content) (v : Bool) → is_raw k ≡ true → fits k c v ≡ true → (c ≡ raw_content k) × (v ≡ false)
+raw_fits kind.None c v r h = absurd (false≢true r)
+raw_fits kind.Rcdata content.Text false r h = (refl, refl)
+raw_fits kind.Rawtext content.RawText false r h = (refl, refl)
+raw_fits kind.Script content.ScriptText false r h = (refl, refl)
+raw_fits _ _ _ r h = absurd (false≢true h)
+
+-- .. and the contexts hold one text
+abbrev text_inside : Bool → Inside
+text_inside form = record { content = content.Text; texts = allowed.Any; in_a = false; in_button = false; in_form = form }
+
+text_context : (k : RawKind) (c : Content) (form : Bool) (l : Forest (List ℕ)) → is_raw k ≡ true → fits_context k c ≡ true → are_content_if (in_context_of c form) l ≡ true → are_content (text_inside form) l ≡ true
+text_context kind.None c form l r h a = absurd (false≢true r)
+text_context kind.Rcdata content.Text form l r h a = a
+text_context kind.Rawtext content.RawText form l r h a = a
+text_context kind.Script content.ScriptText form l r h a = a
+text_context _ content.Columns form l r h a = absurd (false≢true a)
+text_context _ content.Empty form l r h a = absurd (false≢true a)
+text_context _ _ form l r h a = absurd (false≢true h)
+
 -- A list that is one text, or nothing.
 pub record OneText (how : Escaping) (which : Texts) (l : Forest (List ℕ)) : Type 0 where
   pub t : List ℕ
@@ -203,32 +230,40 @@ module _ (table : Entities) (is_table : IsTable table) (core : HasCore table) (h
 
   -- A LIST
 
-  an_element : (name : List ℕ) (attrs : List (Attribute (List ℕ))) (kids : Forest (List ℕ)) (inside : Inside) (k : RawKind) (c : Content) (v : Bool) → raw_kind (tag_named name) ≡ k → (row (tag_named name)).1 ≡ c → fits k c v ≡ true
-      → IsElementName name → StartTag table is_table core how name attrs → AreTexts kids → are_content (inside_element (tag_named name) inside) kids ≡ true → Reads table (written_among how false kids) (tokens_of texts kids)
-      → Reads table (start_tag_text how name attrs ++ (cond v [] (written_among how (has_no_references k) kids ++ end_tag_text name))) (start name attrs false ∷ cond v [] (tokens_of texts kids ++ end name ∷ []))
-  an_element name attrs kids inside kind.None c true is_kind is_row fit is_name s u h kids_read =
+  -- an element, by how its text is read and whether it is void
+  abbrev Element : List ℕ → List (Attribute (List ℕ)) → Forest (List ℕ) → RawKind → Bool → Type 0
+  Element name attrs kids k v = Reads table (start_tag_text how name attrs ++ (cond v [] (written_among how (has_no_references k) kids ++ end_tag_text name))) (start name attrs false ∷ cond v [] (tokens_of texts kids ++ end name ∷ []))
+
+  an_element : (name : List ℕ) (attrs : List (Attribute (List ℕ))) (kids : Forest (List ℕ)) (inside : Inside) (k : RawKind) (v : Bool) → raw_kind (tag_named name) ≡ k → fits k (row (tag_named name)).1 v ≡ true
+      → IsElementName name → StartTag table is_table core how name attrs → AreTexts kids → are_content (inside_element (tag_named name) inside) kids ≡ true → Reads table (written_among how false kids) (tokens_of texts kids) → Element name attrs kids k v
+  an_element name attrs kids inside kind.None true is_kind fit is_name s u h kids_read =
       reads-append table (start_tag_text how name attrs) [] (start name attrs false ∷ []) [] (start_tag_reads table is_table core how name attrs s is_kind) (reads-nil table)
-  an_element name attrs kids inside kind.None c false is_kind is_row fit is_name s u h kids_read =
+  an_element name attrs kids inside kind.None false is_kind fit is_name s u h kids_read =
       reads-append table (start_tag_text how name attrs) (written_among how false kids ++ end_tag_text name) (start name attrs false ∷ []) (tokens_of texts kids ++ end name ∷ []) (start_tag_reads table is_table core how name attrs s is_kind)
       (reads-append table (written_among how false kids) (end_tag_text name) (tokens_of texts kids) (end name ∷ []) kids_read (end_tag_reads table is_table core how name is_name))
-  an_element name attrs kids inside kind.Rcdata content.Text false is_kind is_row fit is_name s u h kids_read =
+  an_element name attrs kids inside kind.Rcdata v is_kind fit is_name s u h kids_read =
+      let e = raw_fits kind.Rcdata (row (tag_named name)).1 v refl fit in
       let within : Inside = inside_element (tag_named name) inside in
-      rcdata_inner name kids attrs within.texts is_kind is_name s (one_text how within kids (rw is_row refl) (inl (rw is_row refl)) u h)
-  an_element name attrs kids inside kind.Rawtext content.RawText false is_kind is_row fit is_name s u h kids_read =
+      subst (λ (w : Bool). Element name attrs kids kind.Rcdata w) (sym e.1) (rcdata_inner name kids attrs within.texts is_kind is_name s (one_text how within kids (rw e.0 refl) (inl (rw e.0 refl)) u h))
+  an_element name attrs kids inside kind.Rawtext v is_kind fit is_name s u h kids_read =
+      let e = raw_fits kind.Rawtext (row (tag_named name)).1 v refl fit in
       let within : Inside = inside_element (tag_named name) inside in
-      let texts_are : within.texts ≡ allowed.Raw = rw is_row refl in
-      let o = one_text how within kids (rw is_row refl) (inr (inl texts_are)) u h in
+      let texts_are : within.texts ≡ allowed.Raw = rw e.0 refl in
+      let o = one_text how within kids (rw e.0 refl) (inr (inl texts_are)) u h in
       let among : is_among_texts allowed.Raw o.t ≡ true = ap (λ (x : Texts). is_among_texts x o.t) (sym texts_are) ∙ o.among in
-      raw_inner name kids attrs within.texts (ap is_raw is_kind) (ap has_references is_kind) is_name s o among (λ text e. ap (λ (k : RawKind). may_end k (pushed text [])) is_kind)
-  an_element name attrs kids inside kind.Script content.ScriptText false is_kind is_row fit is_name s u h kids_read =
+      subst (λ (w : Bool). Element name attrs kids kind.Rawtext w) (sym e.1)
+      (raw_inner name kids attrs within.texts (ap is_raw is_kind) (ap has_references is_kind) is_name s o among (λ text e. ap (λ (k : RawKind). may_end k (pushed text [])) is_kind))
+  an_element name attrs kids inside kind.Script v is_kind fit is_name s u h kids_read =
+      let e = raw_fits kind.Script (row (tag_named name)).1 v refl fit in
       let within : Inside = inside_element (tag_named name) inside in
-      let texts_are : within.texts ≡ allowed.Script = rw is_row refl in
-      let o = one_text how within kids (rw is_row refl) (inr (inr texts_are)) u h in
+      let texts_are : within.texts ≡ allowed.Script = rw e.0 refl in
+      let o = one_text how within kids (rw e.0 refl) (inr (inr texts_are)) u h in
       let among : is_among_texts allowed.Script o.t ≡ true = ap (λ (x : Texts). is_among_texts x o.t) (sym texts_are) ∙ o.among in
       let both = and_parts (not (has_part (codes "</") o.t)) (not (has_part (codes "<!--") o.t)) among in
-      raw_inner name kids attrs within.texts (ap is_raw is_kind) (ap has_references is_kind) is_name s o both.0
-      (λ text e. ap (λ (k : RawKind). may_end k (pushed text [])) is_kind ∙ ap (λ (n : ℕ). nat_lt n 2) (level_zero text [] (chars o.t) e refl (no_part (codes "<!--") o.t refl o.utf8 both.1)))
-  an_element name attrs kids inside _ _ _ is_kind is_row fit is_name s u h kids_read = absurd (false≢true fit)
+      subst (λ (w : Bool). Element name attrs kids kind.Script w) (sym e.1)
+      (raw_inner name kids attrs within.texts (ap is_raw is_kind) (ap has_references is_kind) is_name s o both.0
+      (λ text e. ap (λ (k : RawKind). may_end k (pushed text [])) is_kind ∙ ap (λ (n : ℕ). nat_lt n 2) (level_zero text [] (chars o.t) e refl (no_part (codes "<!--") o.t refl o.utf8 both.1))))
+  an_element name attrs kids inside kind.Plaintext v is_kind fit is_name s u h kids_read = absurd (false≢true fit)
 
   again : (v : Bool) (name : List ℕ) (attrs : List (Attribute (List ℕ))) (kids rest : List (Token (List ℕ)))
       → (start name attrs false ∷ cond v [] (kids ++ end name ∷ [])) ++ rest ≡ start name attrs false ∷ cond v rest (kids ++ end name ∷ rest)
@@ -244,7 +279,7 @@ module _ (table : Entities) (is_table : IsTable table) (core : HasCore table) (h
       let d = and_parts (takes_role inside.content (row (tag_named name)).0 && not (is_nested inside (tag_named name))) (are_plain_attributes attrs) c.0 in
       let known : IsKnownName name = known_name name inside.content (and_parts (takes_role inside.content (row (tag_named name)).0) _ d.0).0 in
       let s = a_start_tag table is_table core how name attrs known.is_name u.1 d.1 in
-      let element = an_element name attrs kids inside (raw_kind (tag_named name)) (row (tag_named name)).1 (is_void (tag_named name)) refl refl known.fit known.is_name s u.2 b.1 (list_reads (inside_element (tag_named name) inside) kids u.2 b.1) in
+      let element = an_element name attrs kids inside (raw_kind (tag_named name)) (is_void (tag_named name)) refl known.fit known.is_name s u.2 b.1 (list_reads (inside_element (tag_named name) inside) kids u.2 b.1) in
       told table _ _ _ (again (is_void (tag_named name)) name attrs (tokens_of texts kids) (tokens_of texts rest))
       (reads-append table (element_text how name attrs (written_among how (has_no_references (raw_kind (tag_named name))) kids)) (written_among how false rest)
       (start name attrs false ∷ cond (is_void (tag_named name)) [] (tokens_of texts kids ++ end name ∷ [])) (tokens_of texts rest) element (list_reads inside rest u.3 a.1))
@@ -287,6 +322,10 @@ module _ (table : Entities) (is_table : IsTable table) (core : HasCore table) (h
       (subst (λ (x : List (Token (List ℕ))). Cuts table (length bytes) (at_start k) (input.text Keep bytes) [] x (λ there. there ≡ pushed_on (at_start k) (input.text Keep bytes))) (sym o.tokens_are)
       (raw_cuts table (length bytes) (chars o.t) (input.text Keep bytes) [] (at_start k) is no_refs (text_characters bytes (chars o.t) s) (clean_text o.t o.utf8 o.clean) (no_end_of_none (input.text Keep bytes) [])))
 
+  -- a context whose text is read raw holds one text
+  context_text : (k : RawKind) (c : Content) (form : Bool) (l : Forest (List ℕ)) → is_raw k ≡ true → fits_context k c ≡ true → AreTexts l → are_content_if (in_context_of c form) l ≡ true → OneText how allowed.Any l
+  context_text k c form l raw fit u h = one_text how (text_inside form) l refl (inl refl) u (text_context k c form l raw fit h)
+
   pub in_kind : (k : RawKind) (c : Content) (form : Bool) (l : Forest (List ℕ)) → fits_context k c ≡ true → AreTexts l → are_content_if (in_context_of c form) l ≡ true
       → AreRead table k (written_among how (has_no_references k) l) (tokens_of texts l ++ eof ∷ [])
   in_kind kind.None c form l fit u h =
@@ -294,21 +333,17 @@ module _ (table : Entities) (is_table : IsTable table) (core : HasCore table) (h
       let r = list_reads i.0 l u i.1 in
       let bytes : List ℕ = written_among how false l in
       whole_read kind.None bytes r.codes_are (tokens_of texts l) InData r.spells (r.cuts (length bytes) (at_start kind.None) (input.text Keep bytes) [] refl (text_characters bytes r.codes_are r.spells))
-  in_kind kind.Rcdata content.Text form l fit u h =
-      let o = one_text how (record { content = content.Text; texts = allowed.Any; in_a = false; in_button = false; in_form = form }) l refl (inl refl) u h in
+  in_kind kind.Rcdata c form l fit u h =
+      let o = context_text kind.Rcdata c form l refl fit u h in
       let w = escaped_as table core how setting.Text (chars o.t) (scalars-chars o.t o.utf8) (clean_text o.t o.utf8 o.clean) in
       let bytes : List ℕ = written_among how false l in
       let s : Spells bytes w.codes_are = subst (λ (x : List ℕ). Spells x w.codes_are) (sym o.text_is) w.spells in
       whole_read kind.Rcdata bytes w.codes_are (tokens_of texts l) (Same (at_start kind.Rcdata)) s
       (subst (λ (x : List (Token (List ℕ))). Cuts table (length bytes) (at_start kind.Rcdata) (input.text Keep bytes) [] x (Same (at_start kind.Rcdata))) (sym o.tokens_are)
       (text_cuts table is_table (chars o.t) w.codes_are (input.text Keep bytes) [] (length bytes) (at_start kind.Rcdata) (inr refl) w.are (text_characters bytes w.codes_are s)))
-  in_kind kind.Rawtext content.RawText form l fit u h =
-      raw_context kind.Rawtext l allowed.Any refl refl (one_text how (record { content = content.Text; texts = allowed.Any; in_a = false; in_button = false; in_form = form }) l refl (inl refl) u h)
-  in_kind kind.Script content.ScriptText form l fit u h =
-      raw_context kind.Script l allowed.Any refl refl (one_text how (record { content = content.Text; texts = allowed.Any; in_a = false; in_button = false; in_form = form }) l refl (inl refl) u h)
-  in_kind _ content.Columns form l fit u h = absurd (false≢true h)
-  in_kind _ content.Empty form l fit u h = absurd (false≢true h)
-  in_kind _ _ form l fit u h = absurd (false≢true fit)
+  in_kind kind.Rawtext c form l fit u h = raw_context kind.Rawtext l allowed.Any refl refl (context_text kind.Rawtext c form l refl fit u h)
+  in_kind kind.Script c form l fit u h = raw_context kind.Script l allowed.Any refl refl (context_text kind.Script c form l refl fit u h)
+  in_kind kind.Plaintext c form l fit u h = raw_context kind.Plaintext l allowed.Any refl refl (context_text kind.Plaintext c form l refl fit u h)
 
 -- the law
 pub tokens_law : PlainTokens

@@ -669,13 +669,6 @@ module _ {N : Type 0} (n : Naming N) (laws : NameLaws n) (z : State N) where
       rule = λ at k u. ends_so at k u items2 (begun_control c2) (ap is_flow_mode m ∙ flows);
     }
 
-    simple : is_flow_mode c.mode ≡ true → open_mode (n.tag x) ≡ None → inserts_marker (n.tag x) ≡ false → fits_mode j.content c.mode ≡ true → fits_current j.content j.texts (n.tag x) ≡ true → (closes_p j.content ≡ true → in_scope (stops n.tag scope.Button) (is n tag.P) (node made x ∷ d ∷ up) ≡ false)
-        → Opens items (begun_control c) → Ends → (ts : List (PlacedToken N)) → Spells ts → Node ts
-    simple flows unmoded unmarked fits cur pp opening ends_so ts h =
-        by_law items (begun_control c)
-        (pushed items (begun_control c) (ap (λ o. unwrap_or o (reset_mode n z.context (d ∷ up))) unmoded ∙ q.mode_is) fits cur (open-pushed (node made x) (d ∷ up) items q.listed) pp (anchors_same unmarked) forms_same)
-        (lf_none kids) opening (λ items2 c2 t k. plain_closing flows ends_so items2 c2 t k.mode k.head k.form k.quirks) ts h
-
     -- ELEMENTS A CLASS AT A TIME
 
     room_here : made < z.site.nodes.limit
