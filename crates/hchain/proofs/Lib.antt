@@ -6,3 +6,4 @@ pub mod Tails
 pub mod Relinked
 pub mod Edited
 pub mod Swapped
+pub mod Lent

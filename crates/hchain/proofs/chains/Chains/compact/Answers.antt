@@ -1,12 +1,29 @@
 use Rattle.std.proofs.Common.{◌≡◌, ◌+◌, ◌-◌, ◌≤◌, ◌==◌, not, List, length, take, drop, ◌++◌, ap, sym, ◌∙◌, arith}
 use Rattle.std.proofs.lemmas.List.{with_items_is, take_rest, map-append, take-map, drop-map, length-append, length-take-le, length-drop, length-map}
 use Rattle.std.specs.List.{filter}
+use Rattle.std.specs.Vec.{with_items}
 use borrow.Rule.Slice.PartMut.{post_of}
 use Rattle.hchain.specs.Chains.{none}
 use Rattle.hchain.specs.Linked.{number_of, numbers_of}
 use Rattle.hchain.specs.declared.chains.Link.{Link}
+use Rattle.hchain.proofs.Lent.{lent}
 use Rattle.hchain.proofs.Tails.{take-anew, map-filter}
 use Rattle.hchain.proofs.chains.Chains.compact.Goals as goal
+
+pub unwind-requires : goal.unwind-requires
+unwind-requires c =
+    let links = c.deref.ensures.value in
+    let are = lent _ c.deref_mut.result.now _ c.deref.result.now c.deref_mut.ensures.value links c.self.invariant in
+    record { chained = are.chained; within = omega (arith, c.requires, ap length links, ap length c.self.view_is, length-map c.self.inside.links.items number_of) }
+
+pub invariant_of-self : goal.invariant_of-self
+invariant_of-self c =
+    let last = with_items_is (with_items c.self.inside.last c.unwind.new.last) c.rewind.new.last (omega arith) in
+    let links = with_items_is c.truncate.new.self c.rewind.new.links (omega arith) in
+    lent c.rewind.new.last _ c.rewind.new.links _ last links (record {
+      chained = c.rewind.ensures.chained;
+      fits = omega (arith, c.self.invariant.fits);
+    })
 
 pub returns : goal.returns
 returns c =

@@ -1,10 +1,25 @@
-use Rattle.std.proofs.Common.{◌≡◌, ℕ, ◌<◌, ◌%◌, List, [], ◌∷◌, ◌++◌, suc, length, get_or, set, ap, sym, ◌∙◌, subst, arith, rules}
-use Rattle.std.proofs.lemmas.List.{with_items_is, length_push, get_or_default}
-use Rattle.hchain.specs.Linked.{IsChained, AreChains}
+use Rattle.std.proofs.Common.{◌≡◌, ℕ, ◌<◌, ◌%◌, List, [], ◌∷◌, ◌++◌, suc, length, get_or, set, refl, ap, sym, ◌∙◌, subst, arith, rules}
+use Rattle.std.proofs.lemmas.List.{with_items_is, length_push, get_or_default, map-append}
+use Rattle.hchain.specs.Linked.{number_of, numbers_of, IsChained, AreChains}
 use Rattle.hchain.specs.declared.chains.Link.{Link}
 use Rattle.hchain.proofs.Chained.{chained-push, chained-same}
+use Rattle.hchain.proofs.Lent.{lent}
 use Rattle.hchain.proofs.Walked.{last-le}
 use Rattle.hchain.proofs.chains.Chains.push.Goals as goal
+
+pub make_room-requires : goal.make_room-requires
+make_room-requires c =
+    let are = lent c.self.inside.last.items _ _ c.deref_mut.result.now refl c.deref_mut.ensures.value c.self.invariant in
+    record { chained = are.chained; places = are.fits }
+
+-- where there is no memory for a larger table
+pub invariant_of-self : goal.invariant_of-self
+invariant_of-self c =
+    let same = with_items_is c.self.inside.links c.make_room.new.links (omega arith) in
+    lent c.make_room.new.last.items _ c.make_room.new.links _ refl same (record {
+      chained = c.in_err-make_room.ensures.chained;
+      fits = omega (arith, c.self.invariant.fits);
+    })
 
 pub hint_at-requires : goal.hint_at-requires
 hint_at-requires c =
@@ -42,3 +57,16 @@ invariant_of-self-2 c =
       chained = subst (λ (m : ℕ). IsChained (set last (c.args.number % m) place) c.hint_at.new.links) (sym len) same;
       fits = omega (arith, ap length passed, length_push links x);
     })
+
+pub returns : goal.returns
+returns c =
+    let links : List Link = c.make_room.new.links in
+    let x : Link = record { number = c.args.number; before = c.index-before.result.now; hint = 0 } in
+    let pushed : c.push.new.self.items ≡ links ++ x ∷ [] = c.in_ok-push.ensures.items ∙ ap (λ ys. ys ++ x ∷ []) (with_items_is c.self.inside.links links (omega arith)) in
+    let whole = with_items_is c.push.new.self c.hint_at.new.links (omega arith) in
+    let old = c.in_ok-make_room.ensures.same ∙ ap numbers_of c.deref_mut.ensures.value ∙ c.self.view_is in
+    record {
+      ok = ap numbers_of whole ∙ c.hint_at.ensures.numbers ∙ ap numbers_of (c.deref_mut-2.ensures.value ∙ pushed) ∙ map-append number_of links (x ∷ [])
+          ∙ ap (λ ns. ns ++ c.args.number ∷ []) old;
+      err = tt;
+    }

@@ -1,0 +1,13 @@
+-- The fields of a list of numbers as an edit of them is given them, and as it leaves them.
+use Rattle.std.proofs.Common.{◌≡◌, ℕ, ◌<◌, List, length, sym, subst, ap, arith}
+use Rattle.std.proofs.lemmas.List.{length-map}
+use Rattle.hchain.specs.Linked.{number_of, numbers_of, AreChains}
+use Rattle.hchain.specs.declared.chains.Link.{Link}
+
+pub lent : (last last' : List ℕ) (links links' : List Link) → last' ≡ last → links' ≡ links → AreChains last links → AreChains last' links'
+lent last last' links links' e f are =
+    subst (λ (xs : List ℕ). AreChains xs links') (sym e) (subst (λ (ys : List Link). AreChains last ys) (sym f) are)
+
+-- an index in the list is one of the links
+pub lent-within : (links : List Link) (now : List ℕ) (k : ℕ) → numbers_of links ≡ now → k < length now → k < length links
+lent-within links now k e h = omega (arith, ap length e, length-map links number_of)
