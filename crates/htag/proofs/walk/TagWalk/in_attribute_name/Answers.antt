@@ -4,6 +4,7 @@ use Rattle.names.specs.Placed.{is_space, is_equals}
 use Rattle.htag.specs.Tag.{ends_attribute_name}
 use Rattle.htag.proofs.Phases.{bare_ends, name_goes_on}
 use Rattle.htag.proofs.Values.{space_after_name, equals_after_name}
+use Rattle.names.proofs.Handing.{grows_on}
 use Rattle.htag.proofs.walk.TagWalk.in_attribute_name.Goals as goal
 
 pub returns-then-is_ascii_whitespace-clause-takes : goal.returns-then-is_ascii_whitespace-clause-takes
@@ -27,3 +28,6 @@ pub returns-clause-takes : goal.returns-clause-takes
 returns-clause-takes c = λ body h.
     let stays : ends_attribute_name c.args.ch ≡ false = grind (arith, nat_tests) in
     name_goes_on _ _ _ body _ _ h c.requires _ _ c.in_ok-add_to_name.ensures stays
+
+pub returns-then-ch-eq47-clause-grows : goal.returns-then-ch-eq47-clause-grows
+returns-then-ch-eq47-clause-grows c = grows_on _ _ _ c.end_attribute.ensures.grows c.before_attribute.ensures.grows

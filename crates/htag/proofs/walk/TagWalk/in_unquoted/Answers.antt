@@ -2,6 +2,7 @@ use Rattle.std.proofs.Common.{◌≡◌, true, not, refl, arith}
 use Rattle.std.proofs.lemmas.Bool.Decides.{nat_tests}
 use Rattle.htag.specs.Tag.{ends_unquoted}
 use Rattle.htag.proofs.Values.{unquoted_goes_on, unquoted_ends}
+use Rattle.names.proofs.Handing.{grows_on}
 use Rattle.htag.proofs.walk.TagWalk.in_unquoted.Goals as goal
 
 pub returns-then-ch-eq62-clause-takes : goal.returns-then-ch-eq62-clause-takes
@@ -13,3 +14,6 @@ pub returns-clause-takes : goal.returns-clause-takes
 returns-clause-takes c = λ body h.
     let stays : not (ends_unquoted c.args.ch) ≡ true = grind (arith, nat_tests) in
     unquoted_goes_on _ _ _ body _ _ h _ _ (record { kind_is = refl; name_is = refl; attrs_are = refl; seen_is = refl; any_is = refl }) refl refl c.in_ok-take.ensures c.requires refl stays
+
+pub returns-then-ch-eq62-clause-grows : goal.returns-then-ch-eq62-clause-grows
+returns-then-ch-eq62-clause-grows c = grows_on _ _ _ c.end_value.ensures.grows c.before_attribute.ensures.grows

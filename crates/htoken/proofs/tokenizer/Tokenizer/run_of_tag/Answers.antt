@@ -2,7 +2,7 @@ use Rattle.std.proofs.Common.{◌+◌, ◌++◌, ℕ, List, [], refl, sym, ap, �
 use Rattle.std.specs.List.{list_all}
 use Rattle.std.proofs.lemmas.Result.{err_from_is_err_and}
 use Rattle.names.specs.Placed.{placed}
-use Rattle.names.proofs.Handing.{grows_not}
+use Rattle.names.proofs.Handing.{grows_not, grows_on}
 use Rattle.htext.specs.Run.{is_plain_byte}
 use Rattle.htext.proofs.Runs.{plain_drop}
 use Rattle.htag.specs.TagWalk.{IsInTag}
@@ -80,3 +80,12 @@ returns-clause-takes g c = λ table start before text taken grows h.
     (λ fed events has. subst (λ (x : List ℕ). Takes gives table start fed (placed (c.args.at + count) (take 1 x)) events c.take_first-2.new.names c.args.sink.now (Ok tt) c.take_first-2.new.sink c.take_first-2.new.self) c.range_from.ensures.value
     (subst (λ (n : ℕ). Takes gives table start fed (placed (c.args.at + count) (take n c.range_from.result.now)) events c.take_first-2.new.names c.args.sink.now (Ok tt) c.take_first-2.new.sink c.take_first-2.new.self) c.in_ok-take_first.ensures.one
     (c.in_ok-take_first.ensures.takes table start c.take_run.new.names fed events (grows_not _) has)))
+
+pub returns-then-count-eq0-clause-grows : goal.returns-then-count-eq0-clause-grows
+returns-then-count-eq0-clause-grows g c = grows_on _ _ _ c.take_run.ensures.grows c.take_first.ensures.grows
+
+pub returns-in_err-take_first-clause-grows : goal.returns-in_err-take_first-clause-grows
+returns-in_err-take_first-clause-grows g c = grows_on _ _ _ c.take_run.ensures.grows c.take_first-2.ensures.grows
+
+pub returns-clause-grows : goal.returns-clause-grows
+returns-clause-grows g c = grows_on _ _ _ c.take_run.ensures.grows c.take_first-2.ensures.grows
