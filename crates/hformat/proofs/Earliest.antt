@@ -3,7 +3,7 @@ use Rattle.std.proofs.Common.{◌≡◌, ℕ, suc, ◌+◌, ◌<◌, ◌≤◌, 
 use Rattle.std.specs.List.{list_any, remove}
 use Rattle.std.specs.Option.{option_map, option_map_or}
 use Rattle.std.proofs.lemmas.Bool.{le-leb, lt-leb}
-use Rattle.hformat.specs.Formatting.{EntryOf, Item, marker, entry, after_marker, without_earliest, most_equal, is_equal, with_room, pushed}
+use Rattle.hformat.specs.Formatting.{EntryOf, Item, marker, entry, after_marker, without_earliest, most_equal, is_equal, with_room}
 
 module _ {N : Type 0} (sought : EntryOf N → Bool) where
   -- the farthest entry that is sought, where so many items come after the first of them; if none is, what was found before
@@ -71,10 +71,3 @@ module _ {N : Type 0} (same : N → N → Bool) (new : EntryOf N) (items : List 
 
   pub room-there : equal < most_equal → items ≡ with_room same new items
   room-there few = rw (lt-leb most_equal (length (filter (is_equal same new) (after_marker items))) (omega arith)) refl
-
--- a new entry comes last, and then what gives way is removed
-pub pushed-is : {N : Type 0} (same : N → N → Bool) (new : EntryOf N) (items : List (Item N)) (first : Option ℕ)
-    → option_map_or (remove items) first items ≡ with_room same new items
-    → option_map_or (λ k. remove (entry new ∷ items) (suc k)) first (entry new ∷ items) ≡ pushed same new items
-pushed-is same new items None room = ap (λ xs. entry new ∷ xs) room
-pushed-is same new items (Some k) room = ap (λ xs. entry new ∷ xs) room

@@ -91,18 +91,6 @@ pub nth-hole : (n : ℕ) (x : Item ℕ) (xs : List (Item ℕ)) → is_hole x ≡
 nth-hole zero x xs is = rw is refl
 nth-hole (suc n) x xs is = rw is refl
 
-pub nth-more : (n m : ℕ) (x : Item ℕ) (xs : List (Item ℕ)) → is_hole x ≡ false → n ≡ suc m → nth_live n (x ∷ xs) ≡ option_map suc (nth_live m xs)
-nth-more zero m x xs is next = absurd (omega arith)
-nth-more (suc n) m x xs is next = rw is (ap (λ k. option_map suc (nth_live k xs)) (let same : n ≡ m = omega arith in same))
-
-pub nth-here : (n : ℕ) (x : Item ℕ) (xs : List (Item ℕ)) → is_hole x ≡ false → n ≡ 0 → nth_live n (x ∷ xs) ≡ Some 0
-nth-here zero x xs is none = rw is refl
-nth-here (suc n) x xs is none = absurd (omega arith)
-
--- so many from the end on, as indexes of a vector
-pub from-end : (end c n : ℕ) (o : Option ℕ) (i : ℕ) → o ≡ Some i → end - 1 - (c + i) ≡ n → option_map (λ up. end - 1 - up) (option_map (λ k. c + k) o) ≡ Some n
-from-end end c n o i is at = ap (λ p. option_map (λ up. end - 1 - up) (option_map (λ k. c + k) p)) is ∙ ap (λ m. Some m) at
-
 -- a hole at the end leaves
 pub live-dropped : (items : List Stored) (k j : ℕ) (x : Stored) → k ≡ suc j → j < length items → x ≡ get_or items j x → is_hole (item_of x) ≡ true → live (items_of (take k items)) ≡ live (items_of (take j items))
 live-dropped items k j x next within is gone = ap live (taken items k j x next within is) ∙ ap (λ v. cond (not v) (item_of x ∷ live (items_of (take j items))) (live (items_of (take j items)))) gone

@@ -1,17 +1,17 @@
 -- The numbers of the items of a list.
-use Rattle.std.proofs.Common.{◌≡◌, ℕ, zero, suc, ◌-◌, ◌<◌, ◌≤◌, nat_eq, eqb, Bool, true, false, cond, not, ◌||◌, List, [], ◌∷◌, Some, None, is_some, length, map, reverse, take, drop, filter, refl, sym, ◌∙◌, ap, arith, if◌then◌else◌}
-use Rattle.std.specs.List.{list_any, position, slice_get, remove}
+use Rattle.std.proofs.Common.{◌≡◌, ℕ, zero, suc, ◌-◌, ◌<◌, ◌≤◌, nat_eq, eqb, Bool, true, false, cond, not, ◌||◌, List, [], ◌∷◌, None, length, map, reverse, take, drop, filter, refl, sym, ◌∙◌, ap, arith, if◌then◌else◌}
+use Rattle.std.specs.List.{list_any, slice_get}
 use Rattle.std.specs.Option.{option_and_then}
 use Rattle.std.proofs.lemmas.List.{reverse-reverse, length-map}
 use Rattle.std.proofs.lemmas.Simd.{map-map}
 use Rattle.std.proofs.Math.Dec.{eqb-suc-zero, eqb-zero-suc}
 use Rattle.std.proofs.lemmas.Bool.{eqb-true, eqb-false, eq-eqb}
 use Rattle.hopen.specs.Nearest.{without}
-use Rattle.hformat.specs.Formatting.{EntryOf, Item, marker, entry, as_entry, cleared, find_entry, is_entry, without_entry}
+use Rattle.hformat.specs.Formatting.{EntryOf, Item, marker, entry, as_entry, cleared, find_entry}
 use Rattle.hformat.specs.Items.{item_of, items_of, nowhere}
 use Rattle.hformat.specs.Listed.{by_name, number_by, unless_hole}
 use Rattle.hformat.specs.declared.entry.Item.{Item as Stored}
-use Rattle.hopen.proofs.Nearest.{reverse-map, words, is_some-position, drop_nearest}
+use Rattle.hopen.proofs.Nearest.{reverse-map, drop_nearest}
 use Rattle.hformat.proofs.Chained.{last_of}
 use Rattle.hformat.proofs.ItemLists.{length-items_of}
 use Rattle.hopen.proofs.Places.{last_place-le}
@@ -26,10 +26,6 @@ module _ (of : EntryOf ℕ → ℕ) where
 
   pub numbers-seen : (items : List Stored) → map number items ≡ reverse (map (number_by of) (items_of items))
   numbers-seen items = sym (reverse-reverse (map number items)) ∙ ap reverse (numbers-back items)
-
-  -- the numbers are those of items that are seen with the same numbers
-  numbers-same : (old new : List Stored) → map (number_by of) (items_of new) ≡ map (number_by of) (items_of old) → map number new ≡ map number old
-  numbers-same old new same = numbers-seen new ∙ ap reverse same ∙ sym (numbers-seen old)
 
   -- the place of the last item of a number
   abbrev pub place : ℕ → List (Item ℕ) → ℕ
@@ -141,9 +137,3 @@ filter-all sought (x ∷ xs) e = go (sought x) e (filter-all sought xs)
     go : (v : Bool) → (v || list_any sought xs) ≡ false → (list_any sought xs ≡ false → filter (λ y. not (sought y)) xs ≡ xs) → cond (not v) (x ∷ filter (λ y. not (sought y)) xs) (filter (λ y. not (sought y)) xs) ≡ x ∷ xs
     go true e i = cc
     go false e i = ap (λ ys. x ∷ ys) (i e)
-
-pub without-cut : (node back : ℕ) (items : List (Item ℕ)) → position (is_entry node) items ≡ Some back → without_entry node (remove items back) ≡ without_entry node items
-without-cut node back items found = ap (without_entry node) (sym ((words (is_entry node) items back found).without_is)) ∙ filter-without (is_entry node) items
-
-pub without-none : (node : ℕ) (items : List (Item ℕ)) → position (is_entry node) items ≡ None → without_entry node items ≡ items
-without-none node items none = filter-all (is_entry node) items (sym (is_some-position (is_entry node) items) ∙ ap is_some none)

@@ -1,5 +1,5 @@
 -- Lists with holes: what is asked of the formatting elements and what is done with them are the same without the holes.
-use Rattle.std.proofs.Common.{◌≡◌, ℕ, zero, suc, ◌+◌, ◌-◌, ◌<◌, ◌≤◌, nat_eq, eqb, Bool, true, false, cond, not, ◌||◌, List, [], ◌∷◌, Option, Some, None, inl, inr, if◌then◌else◌, length, take, drop, filter, refl, ◌∙◌, ap, arith}
+use Rattle.std.proofs.Common.{◌≡◌, ℕ, zero, suc, ◌+◌, ◌<◌, ◌≤◌, nat_eq, eqb, Bool, true, false, cond, not, ◌||◌, List, [], ◌∷◌, Option, Some, None, inl, inr, if◌then◌else◌, length, filter, refl, ap, arith}
 use Rattle.std.specs.List.{find, list_any, slice_get}
 use Rattle.std.specs.Option.{option_map}
 use Rattle.std.proofs.lemmas.Bool.{eqb-true, ne_eqb, cases_Bool}
@@ -174,25 +174,3 @@ nth-solid (suc k) (suc n) (x ∷ xs) s below within = rw s.0 (ap (option_map suc
 walked : (up : ℕ) (o : Option ℕ) → option_map suc (option_map (λ k. up + k) o) ≡ option_map (λ k. suc up + k) o
 walked up None = refl
 walked up (Some k) = let more : suc (up + k) ≡ suc up + k = omega arith in ap (λ m. Some m) more
-
-pub nth-split : (up n m : ℕ) (xs : List (Item ℕ)) → n ≡ length (live (take up xs)) + m
-    → nth_live n xs ≡ option_map (λ k. up + k) (nth_live m (drop up xs))
-nth-split zero n m xs e = let same : n ≡ m = omega arith in rw same (none_past (nth_live m xs))
-  where
-    none_past : (o : Option ℕ) → o ≡ option_map (λ k. 0 + k) o
-    none_past None = refl
-    none_past (Some k) = let same : k ≡ 0 + k = omega arith in ap (λ j. Some j) same
-nth-split (suc up) n m [] e = refl
-nth-split (suc up) n m (x ∷ xs) e = go n (is_hole x) refl e (λ j. nth-split up j m xs)
-  where
-    go : (n : ℕ) (v : Bool) → is_hole x ≡ v → n ≡ length (cond (not v) (x ∷ live (take up xs)) (live (take up xs))) + m
-        → ((j : ℕ) → j ≡ length (live (take up xs)) + m → nth_live j xs ≡ option_map (λ k. up + k) (nth_live m (drop up xs)))
-        → nth_live n (x ∷ xs) ≡ option_map (λ k. suc up + k) (nth_live m (drop up xs))
-    go zero true h e i = rw h (ap (option_map suc) (i zero e) ∙ walked up (nth_live m (drop up xs)))
-    go (suc n) true h e i = rw h (ap (option_map suc) (i (suc n) e) ∙ walked up (nth_live m (drop up xs)))
-    go zero false h e i = absurd (omega arith)
-    go (suc n) false h e i = rw h (ap (option_map suc) (i n (omega arith)) ∙ walked up (nth_live m (drop up xs)))
-
-pub nth-drop : (up n : ℕ) (xs : List (Item ℕ)) → length (live (take up xs)) ≤ n
-    → nth_live n xs ≡ option_map (λ k. up + k) (nth_live (n - length (live (take up xs))) (drop up xs))
-nth-drop up n xs le = nth-split up n (n - length (live (take up xs))) xs (omega arith)

@@ -1,11 +1,11 @@
 -- Edits of lists with holes: what is left without the holes, and that each item is still a marker, an entry or the hole.
-use Rattle.std.proofs.Common.{◌≡◌, ℕ, zero, suc, ◌<◌, nat_eq, nat_le, Bool, true, false, cond, not, ◌&&◌, List, [], ◌∷◌, ◌++◌, Option, Some, None, inl, inr, length, take, drop, filter, refl, subst, ◌∙◌, ap}
-use Rattle.std.specs.List.{find, list_any, slice_get, insert, remove}
+use Rattle.std.proofs.Common.{◌≡◌, ℕ, zero, suc, ◌<◌, nat_eq, nat_le, Bool, true, false, cond, not, ◌&&◌, List, [], ◌∷◌, Option, Some, None, inl, inr, length, filter, refl, ◌∙◌, ap}
+use Rattle.std.specs.List.{find, list_any, remove}
 use Rattle.std.specs.Option.{option_map_or}
 use Rattle.std.proofs.lemmas.Bool.{cases_Bool}
 use Rattle.hopen.specs.Nearest.{without, changed, put_before, changed_at}
-use Rattle.hformat.specs.Formatting.{EntryOf, Item, marker, entry, after_marker, cleared, is_entry, without_entry, for_node, with_node, booked, has_bookmark, without_earliest, most_equal, is_equal, with_room}
-use Rattle.hformat.specs.Items.{nowhere, hole, is_hole, live, IsSlot, AreSlots}
+use Rattle.hformat.specs.Formatting.{EntryOf, Item, marker, entry, after_marker, cleared, is_entry, for_node, with_node, booked, has_bookmark, without_earliest, most_equal, is_equal, with_room}
+use Rattle.hformat.specs.Items.{nowhere, hole, is_hole, live, AreSlots}
 use Rattle.hformat.specs.declared.bookmark.Bookmark.{Bookmark}
 use Rattle.hformat.specs.declared.bookmark.Bookmark.TheVariants.{InPlace, After}
 use Rattle.hformat.proofs.Live.{apart, is_hole-for_node, Spares, spares-node, find_is-live, any-live, any_after-live, filter_after-live}
@@ -50,21 +50,6 @@ hide-live zero [] = refl
 hide-live (suc k) [] = refl
 hide-live zero (x ∷ xs) = refl
 hide-live (suc k) (x ∷ xs) = live-cons x (changed_at k (λ _. hole) xs) (remove xs k) (hide-live k xs)
-
--- a test that keeps items
-pub filter-live : (kept : Item ℕ → Bool) (xs : List (Item ℕ)) → filter kept (live xs) ≡ live (filter kept xs)
-filter-live kept [] = refl
-filter-live kept (x ∷ xs) = go (is_hole x) (kept x) refl refl (filter-live kept xs)
-  where
-    go : (v w : Bool) → is_hole x ≡ v → kept x ≡ w → filter kept (live xs) ≡ live (filter kept xs)
-        → filter kept (cond (not v) (x ∷ live xs) (live xs)) ≡ live (cond w (x ∷ filter kept xs) (filter kept xs))
-    go true true h k i = rw h i
-    go true false h k i = i
-    go false true h k i = rw (h, k) (ap (λ l. x ∷ l) i)
-    go false false h k i = rw k i
-
-pub without-live : (node : ℕ) (xs : List (Item ℕ)) → without_entry node (live xs) ≡ live (without_entry node xs)
-without-live node xs = filter-live (λ i. not (is_entry node i)) xs
 
 -- edits at the nearest that is sought, where no hole is
 module _ (sought : Item ℕ → Bool) where
@@ -123,57 +108,9 @@ module _ (old : ℕ) (xs : List (Item ℕ)) (slots : AreSlots xs) (low : old < n
   without1-live = without_spared (is_entry old) xs (spares-node old xs slots low)
 
 -- the items stay markers, entries or the hole
-pub slots-drop : (k : ℕ) (xs : List (Item ℕ)) → AreSlots xs → AreSlots (drop k xs)
-slots-drop zero xs s = s
-slots-drop (suc k) [] s = tt
-slots-drop (suc k) (x ∷ xs) s = slots-drop k xs s.1
-
-pub slots-take : (k : ℕ) (xs : List (Item ℕ)) → AreSlots xs → AreSlots (take k xs)
-slots-take zero xs s = tt
-slots-take (suc k) [] s = tt
-slots-take (suc k) (x ∷ xs) s = (s.0, slots-take k xs s.1)
-
-pub slots-append : (xs ys : List (Item ℕ)) → AreSlots xs → AreSlots ys → AreSlots (xs ++ ys)
-slots-append [] ys s t = t
-slots-append (x ∷ xs) ys s t = (s.0, slots-append xs ys s.1 t)
-
-pub slots-remove : (k : ℕ) (xs : List (Item ℕ)) → AreSlots xs → AreSlots (remove xs k)
-slots-remove k xs s = slots-append (take k xs) (drop (suc k) xs) (slots-take k xs s) (slots-drop (suc k) xs s)
-
-pub slots-insert : (k : ℕ) (x : Item ℕ) (xs : List (Item ℕ)) → AreSlots xs → IsSlot x → AreSlots (insert xs k x)
-slots-insert k x xs s t = slots-append (take k xs) (x ∷ drop k xs) (slots-take k xs s) (t, slots-drop k xs s)
-
 slots-either : (v : Bool) (xs ys : List (Item ℕ)) → AreSlots xs → AreSlots ys → AreSlots (cond v xs ys)
 slots-either true xs ys s t = s
 slots-either false xs ys s t = t
-
-pub slots-filter : (kept : Item ℕ → Bool) (xs : List (Item ℕ)) → AreSlots xs → AreSlots (filter kept xs)
-slots-filter kept [] s = tt
-slots-filter kept (x ∷ xs) s =
-    let rest : AreSlots (filter kept xs) = slots-filter kept xs s.1 in
-    slots-either (kept x) (x ∷ filter kept xs) (filter kept xs) (s.0, rest) rest
-
-pub slots-changed : (k : ℕ) (f : Item ℕ → Item ℕ) → ((i : Item ℕ) → IsSlot i → IsSlot (f i)) → (xs : List (Item ℕ)) → AreSlots xs
-    → AreSlots (changed_at k f xs)
-slots-changed k f same [] s = tt
-slots-changed zero f same (x ∷ xs) s = (same x s.0, s.1)
-slots-changed (suc k) f same (x ∷ xs) s = (s.0, slots-changed k f same xs s.1)
-
-pub slots-at : (k : ℕ) (x : Item ℕ) (xs : List (Item ℕ)) → AreSlots xs → slice_get xs k ≡ Some x → IsSlot x
-slots-at k x [] s at = cc
-slots-at zero x (y ∷ xs) s at = let same : y ≡ x = cc in subst IsSlot same s.0
-slots-at (suc k) x (y ∷ xs) s at = slots-at k x xs s.1 at
-
-pub slots-for_node : (node : ℕ) (i : Item ℕ) → node < nowhere → is_hole i ≡ false → IsSlot i → IsSlot (for_node node i)
-slots-for_node node marker low real s = tt
-slots-for_node node (entry e) low real (inl same) = let hidden : is_hole (entry e) ≡ true = ap is_hole same in cc
-slots-for_node node (entry e) low real (inr s) = inr (low, s.1)
-
-pub slots-renewed : (k node : ℕ) (x : Item ℕ) (xs : List (Item ℕ)) → AreSlots xs → slice_get xs k ≡ Some x → is_hole x ≡ false → node < nowhere
-    → AreSlots (changed_at k (for_node node) xs)
-slots-renewed k node x [] s at real low = tt
-slots-renewed zero node x (y ∷ xs) s at real low = let same : y ≡ x = cc in (slots-for_node node y low (ap is_hole same ∙ real) s.0, s.1)
-slots-renewed (suc k) node x (y ∷ xs) s at real low = (s.0, slots-renewed k node x xs s.1 at real low)
 
 pub slots-without : (sought : Item ℕ → Bool) (xs : List (Item ℕ)) → AreSlots xs → AreSlots (without sought xs)
 slots-without sought [] s = tt

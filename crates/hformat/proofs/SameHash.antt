@@ -1,5 +1,5 @@
 -- Equal entries have the same hash, and the same number by it.
-use Rattle.std.proofs.Common.{◌≡◌, ◌≢◌, ℕ, suc, ◌<◌, Bool, true, false, cond, ltb, eqb, nat_eq, nat_cmp, Less, IsSorted, IsPermutation, bytes_eq, ◌&&◌, ◌||◌, ◌%◌, List, [], ◌∷◌, map, refl, sym, ◌∙◌, ap, arith}
+use Rattle.std.proofs.Common.{◌≡◌, ◌≢◌, ℕ, suc, ◌<◌, Bool, true, false, cond, ltb, eqb, nat_eq, nat_cmp, Less, IsSorted, IsPermutation, bytes_eq, ◌&&◌, ◌||◌, List, [], ◌∷◌, map, refl, sym, ◌∙◌, ap, arith}
 use Rattle.std.specs.List.{list_any, dedup, dedup_from, AllByRecursion}
 use Rattle.std.specs.List.Sorted.{IsStrictlySortedBy}
 use Rattle.std.specs.Cmp.{both_ways, nat_cmp_is, unsigned_ties}

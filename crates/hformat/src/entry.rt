@@ -36,7 +36,7 @@ impl Entry {
 }
 
 /// A marker or an entry, or the hole that an entry left.
-#[derive(Debug, Drop)]
+#[derive(Drop)]
 pub(crate) enum Item {
     Hole,
     Marker,

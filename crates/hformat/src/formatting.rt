@@ -24,7 +24,7 @@ use std::marker::Model;
 ///
 /// Each call takes the same time at any length, amortized, where few entries have the same hash; but `len` counts, and `get` and `renew`
 /// pass the holes that removed entries left, unless `reach` closed them.
-#[derive(Debug, Drop)]
+#[derive(Drop)]
 pub struct Formatting {
     slots: Slots,
     alloc: Global,

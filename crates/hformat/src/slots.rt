@@ -1,6 +1,6 @@
 //! The items of the list of active formatting elements, with the holes that entries leave: nothing moves where one is removed.
 
-ghost use Rattle.std.specs.Prelude.{◌≡◌, ℕ, suc, ◌+◌, ◌-◌, ◌<◌, ◌≤◌, ◌++◌, ◌∷◌, [], IfOk, IfSome, OnOk, OnErr, IsTrue, is_some, true, false, insert, length, map, nat_eq, not, remove, slice_index_or, slice_set, filter, take, drop};
+ghost use Rattle.std.specs.Prelude.{◌≡◌, ◌≢◌, ℕ, suc, ◌+◌, ◌-◌, ◌<◌, ◌≤◌, ◌++◌, ◌∷◌, [], IfOk, IfSome, OnOk, OnErr, IsTrue, is_some, true, false, insert, length, map, nat_eq, not, remove, slice_index_or, slice_set, filter, take, drop};
 ghost use Rattle.std.specs.List.{list_any};
 ghost use Rattle.std.specs.Option.{option_map_or};
 ghost use Rattle.hnodes.specs.Rows.{attribute_of};
@@ -40,7 +40,7 @@ pub(crate) struct Numbers {
 }
 
 /// Items, and where each of their numbers stands last.
-#[derive(Debug, Drop)]
+#[derive(Drop)]
 pub(crate) struct Slots {
     pub(crate) items: Vec<Item>,
     pub(crate) names: Chains,
@@ -48,6 +48,29 @@ pub(crate) struct Slots {
     pub(crate) nodes: Chains,
     /// From this index on there is no hole.
     pub(crate) solid: usize,
+}
+
+/// Adds the numbers of the hash and of the node of an item that comes after so many. On an error nothing changes.
+fn push_numbers(
+    hashes: &mut Chains,
+    nodes: &mut Chains,
+    numbers: Numbers,
+    len: usize,
+) -> Result<(), AllocError>
+    requires hash { numbers.hash ≢ none }
+    requires node { numbers.node ≢ none }
+    requires len { length hashes.old ≡ len }
+    ensures hashes { OnOk result (hashes.new ≡ hashes.old ++ numbers.hash ∷ []) }
+    ensures nodes { OnOk result (nodes.new ≡ nodes.old ++ numbers.node ∷ []) }
+    ensures same_hashes { OnErr result (hashes.new ≡ hashes.old) }
+    ensures same_nodes { OnErr result (nodes.new ≡ nodes.old) }
+{
+    hashes.push(numbers.hash)?;
+    if let Err(error) = nodes.push(numbers.node) {
+        hashes.truncate(len);
+        return Err(error);
+    }
+    Ok(())
 }
 
 impl Slots {
@@ -107,13 +130,9 @@ impl Slots {
     {
         self.items.reserve(1)?;
         self.names.push(numbers.name)?;
-        if let Err(error) = self.hashes.push(numbers.hash) {
-            self.names.truncate(self.items.len());
-            return Err(error);
-        }
-        if let Err(error) = self.nodes.push(numbers.node) {
-            self.names.truncate(self.items.len());
-            self.hashes.truncate(self.items.len());
+        let len = self.items.len();
+        if let Err(error) = push_numbers(&mut self.hashes, &mut self.nodes, numbers, len) {
+            self.names.truncate(len);
             return Err(error);
         }
         if self.items.push(item).is_err() {
