@@ -1,7 +1,7 @@
 -- A character that is put as it is.
 use Rattle.std.proofs.Common.{◌≡◌, ℕ, Bool, true, false, List, [], ◌∷◌, length, refl, ◌∙◌, ap}
 use Rattle.std.specs.Prelude.{◌==◌, if◌then◌else◌}
-use Rattle.std.proofs.lemmas.Bool.{eqb-true}
+use Rattle.std.proofs.lemmas.Bool.{false≢true, eqb-true}
 use Rattle.names.specs.Placed.{is_space}
 use Rattle.hnodes.specs.Edits.{Nodes}
 use Rattle.hnodes.specs.declared.node.Place.{Place}
@@ -47,19 +47,7 @@ module _ (at c : ℕ) (s : State ℕ) where
   is_put mode.InCaption false h = in_body at c s h
   is_put mode.InCell true h = in_body at c s h
   is_put mode.InCell false h = in_body at c s h
-  is_put mode.Initial space h = absurd cc
-  is_put mode.BeforeHtml space h = absurd cc
-  is_put mode.BeforeHead space h = absurd cc
-  is_put mode.InHead space h = absurd cc
-  is_put mode.InHeadNoscript space h = absurd cc
-  is_put mode.AfterHead space h = absurd cc
-  is_put mode.InTable space h = absurd cc
-  is_put mode.InTableText space h = absurd cc
-  is_put mode.InColumnGroup space h = absurd cc
-  is_put mode.InTableBody space h = absurd cc
-  is_put mode.InRow space h = absurd cc
-  is_put mode.AfterBody space h = absurd cc
-  is_put mode.AfterAfterBody space h = absurd cc
+  is_put _ space h = absurd (false≢true h)
 
   pub rule_puts : (c == 0) ≡ false → puts_in s.control.mode s.site ≡ true → Rule numbers at (character c) s ≡ flow_of s (inserts.put at c (place numbers s.site) s.site)
   rule_puts some h =
@@ -80,19 +68,7 @@ puts-nodes mode.Text x v h = refl
 puts-nodes mode.InBody x v h = reconstructed-nodes x v ∙ h
 puts-nodes mode.InCaption x v h = reconstructed-nodes x v ∙ h
 puts-nodes mode.InCell x v h = reconstructed-nodes x v ∙ h
-puts-nodes mode.Initial x v h = absurd cc
-puts-nodes mode.BeforeHtml x v h = absurd cc
-puts-nodes mode.BeforeHead x v h = absurd cc
-puts-nodes mode.InHead x v h = absurd cc
-puts-nodes mode.InHeadNoscript x v h = absurd cc
-puts-nodes mode.AfterHead x v h = absurd cc
-puts-nodes mode.InTable x v h = absurd cc
-puts-nodes mode.InTableText x v h = absurd cc
-puts-nodes mode.InColumnGroup x v h = absurd cc
-puts-nodes mode.InTableBody x v h = absurd cc
-puts-nodes mode.InRow x v h = absurd cc
-puts-nodes mode.AfterBody x v h = absurd cc
-puts-nodes mode.AfterAfterBody x v h = absurd cc
+puts-nodes _ x v h = absurd (false≢true h)
 
 pub place-here : (x : SiteOf ℕ) → x.foster ≡ false → place numbers x ≡ here x
 place-here x off = rw off refl

@@ -16,7 +16,7 @@ use Rattle.hmodes.specs.Reset.{open_mode, context_mode, root_mode, reset_mode}
 use Rattle.hmodes.specs.Questions.{answer_of}
 use Rattle.hmodes.specs.Perform.{perform, with_foster, with_control, each_of, flow_of}
 use Rattle.hmodes.specs.Rules.{rule_of}
-use Rattle.hmodes.proofs.Every.{never, both, in-each}
+use Rattle.hmodes.proofs.Every.{both, in-each}
 
 -- the modes that know something of the head, and those that go back to the saved one
 abbrev pub is_early : Mode → Bool
