@@ -1,9 +1,10 @@
 -- A part of a tag stands at the front of each text where a tag does not end.
 use Rattle.std.proofs.Common.{arith, ◌≡◌, ℕ, zero, suc, ◌≤◌, Bool, true, false, not, ◌&&◌, ◌||◌, ◌==◌, eqb, if◌then◌else◌, List, [], ◌∷◌, ◌++◌, length, drop, sym, refl, ap, ◌∙◌, subst, append_assoc, append-nil, length-append}
-use Rattle.std.proofs.lemmas.Bool.{false≢true, eqb-true}
+use Rattle.std.proofs.lemmas.Bool.{or_parts, false≢true, eqb-true}
 use Rattle.names.specs.declared.placed.Placed.{Placed}
 use Rattle.names.specs.Placed.{begins, stops, all, RunsTo, past, is_space, is_equals, is_greater, is_quote}
 use Rattle.hmarkup.proofs.Marks.{and_both, or_none}
+use Rattle.hmarkup.proofs.Endings.{not_either}
 use Rattle.charref.specs.Reference.{Entities, Piece, IsTable}
 use Rattle.htag.specs.Value.{IsPiece, plain, reference, plain_piece, AreValue, pieces_text}
 use Rattle.htag.specs.Tag.{Part, IsPart, AreParts, parts_text, IsAttributeName, ends_name, ends_attribute_name, ends_unquoted, is_sign, space, solidus, bare, no_value, unquoted, quoted, unclosed}
@@ -129,14 +130,11 @@ stops_less : (test : ℕ → Bool) (sign tail : List Placed) → is_sign sign �
 stops_less test [] tail s h = absurd (false≢true s)
 stops_less test (p ∷ ps) tail s h = h
 
-pub none_of : (a b c : Bool) → a ≡ false → b ≡ false → c ≡ false → not (a || b || c) ≡ true
+none_of : (a b c : Bool) → a ≡ false → b ≡ false → c ≡ false → not (a || b || c) ≡ true
 none_of true b c h k l = absurd (false≢true (sym h))
 none_of false true c h k l = absurd (false≢true (sym k))
 none_of false false true h k l = absurd (false≢true (sym l))
 none_of false false false h k l = refl
-
-neither_of : (a b : Bool) → a ≡ false → b ≡ false → not (a || b) ≡ true
-neither_of a b h k = ap not (or_none a b h k)
 
 module _ (table : Entities) (is_table : IsTable table) (end : ℕ) (name sign : List Placed) (n : IsAttributeName name sign) (s : is_sign sign ≡ true) where
   long_name : (others : List Placed) → 1 ≤ length (name ++ others)
@@ -185,8 +183,8 @@ module _ (table : Entities) (is_table : IsTable table) (end : ℕ) (name sign : 
         rest = k.after;
         text_is = ap (λ (x : List Placed). name ++ (sign ++ (q ∷ x))) k.text_is ∙ ap (λ (x : List Placed). name ++ (sign ++ (x ++ k.after))) v.text_is
             ∙ ap (λ (x : List Placed). name ++ x) (sym (append_assoc sign text k.after)) ∙ sym (append_assoc name (sign ++ text) k.after);
-        is_part = unquoted name sign v.pieces n s (subst (λ (x : List Placed). begins (λ c. not (ends_unquoted c || is_quote c)) x ≡ true) v.text_is (neither_of (ends_unquoted q.ch) (is_quote q.ch) (or_none (is_space q.ch) (is_greater q.ch) a b) c))
-            (record { passes_none = subst (λ (x : List Placed). all (λ c. not (ends_unquoted c)) x ≡ true) v.text_is (and_both (not (ends_unquoted q.ch)) (all (λ c. not (ends_unquoted c)) k.run) (neither_of (is_space q.ch) (is_greater q.ch) a b) k.runs.passes_none); stops_after = k.runs.stops_after })
+        is_part = unquoted name sign v.pieces n s (subst (λ (x : List Placed). begins (λ c. not (ends_unquoted c || is_quote c)) x ≡ true) v.text_is (not_either (ends_unquoted q.ch) (is_quote q.ch) (or_none (is_space q.ch) (is_greater q.ch) a b) c))
+            (record { passes_none = subst (λ (x : List Placed). all (λ c. not (ends_unquoted c)) x ≡ true) v.text_is (and_both (not (ends_unquoted q.ch)) (all (λ c. not (ends_unquoted c)) k.run) (not_either (is_space q.ch) (is_greater q.ch) a b) k.runs.passes_none); stops_after = k.runs.stops_after })
             v.are refl;
         long = long_name (sign ++ text);
       }
@@ -205,10 +203,6 @@ abbrev pub is_stop : List Placed → Bool
 is_stop [] = true
 is_stop (p ∷ ps) = is_greater p.ch || (eqb p.ch 47 && begins is_greater ps)
 
-left_of : (a b : Bool) → (a || b) ≡ false → (a ≡ false) × (b ≡ false)
-left_of true b h = absurd (false≢true (sym h))
-left_of false b h = (refl, h)
-
 second_of : (a b : Bool) → (a && b) ≡ false → a ≡ true → b ≡ false
 second_of true b h k = h
 second_of false b h k = absurd (false≢true k)
@@ -225,12 +219,12 @@ module _ (table : Entities) (is_table : IsTable table) (end : ℕ) where
 
   part_by : (p : Placed) (ps : List Placed) (white slash : Bool) → is_space p.ch ≡ white → eqb p.ch 47 ≡ slash → is_stop (p ∷ ps) ≡ false → HasPart table end (p ∷ ps)
   part_by p ps true slash e f h = record { part = _; rest = ps; text_is = refl; is_part = space p e refl; long = omega arith }
-  part_by p ps false true e f h = record { part = _; rest = ps; text_is = refl; is_part = solidus p (eqb-true p.ch 47 f) (second_of (eqb p.ch 47) (begins is_greater ps) (left_of (is_greater p.ch) (eqb p.ch 47 && begins is_greater ps) h).1 f) refl; long = omega arith }
+  part_by p ps false true e f h = record { part = _; rest = ps; text_is = refl; is_part = solidus p (eqb-true p.ch 47 f) (second_of (eqb p.ch 47) (begins is_greater ps) (or_parts (is_greater p.ch) (eqb p.ch 47 && begins is_greater ps) h).1 f) refl; long = omega arith }
   part_by p ps false false e f h =
       let k = split ends_attribute_name ps in
       subst (λ (x : List Placed). HasPart table end (p ∷ x)) (sym k.text_is)
       (attribute_by (p ∷ k.run) k.after
-      (record { first = none_of (is_space p.ch) (eqb p.ch 47) (is_greater p.ch) e f (left_of (is_greater p.ch) (eqb p.ch 47 && begins is_greater ps) h).0; runs = k.runs }) (begins is_equals (past is_space k.after)) refl)
+      (record { first = none_of (is_space p.ch) (eqb p.ch 47) (is_greater p.ch) e f (or_parts (is_greater p.ch) (eqb p.ch 47 && begins is_greater ps) h).0; runs = k.runs }) (begins is_equals (past is_space k.after)) refl)
 
 -- all parts
 pub record HasParts (table : Entities) (end : ℕ) (text : List Placed) : Type 0 where

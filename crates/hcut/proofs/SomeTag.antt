@@ -1,27 +1,17 @@
 -- A tag stands at each `<` or `</` before a letter.
 use Rattle.std.proofs.Common.{arith, ◌≡◌, inl, inr, ℕ, ◌≤◌, Bool, true, false, not, ◌&&◌, ◌||◌, eqb, List, [], ◌∷◌, ◌++◌, length, sym, refl, ap, ◌∙◌, subst, codes, length-append}
 use Rattle.std.proofs.lemmas.Bool.{false≢true, eqb-true}
-use Rattle.std.proofs.lemmas.Bool.Decides.{nat_tests}
 use Rattle.names.specs.declared.placed.Placed.{Placed}
-use Rattle.names.specs.Placed.{characters, begins, stops, all, is_letter, is_space, is_greater}
+use Rattle.names.specs.Placed.{characters, begins, stops, all, is_letter, is_greater}
 use Rattle.hmarkup.proofs.Marks.{and_parts, and_both}
-use Rattle.hmarkup.proofs.Characters.{far_not_space, far_not_greater}
 use Rattle.charref.specs.Reference.{Entities, IsTable}
 use Rattle.htoken.specs.Token.{Span}
 use Rattle.htag.specs.Tag.{Part, parts_text, IsTagFront, ends_name}
 use Rattle.htoken.specs.Tag.{IsTag, start_tag, end_tag, unfinished}
+use Rattle.htoken.proofs.RawEnds.{letter_stays}
 use Rattle.hcut.specs.SomeCut.{HasTag}
 use Rattle.hcut.proofs.OneTag.{Side, Opens, Ends, mark_of, tag_span, cut_span, tag_text, IsEnding, closed, cut_off, tag_whole}
-use Rattle.hcut.proofs.SomePart.{split, some_parts, is_stop, none_of}
-
-pub letter_far : (c : ℕ) → is_letter c ≡ true → 65 ≤ c
-letter_far c h = grind (arith, nat_tests)
-
-far_no_solidus : (c : ℕ) → 65 ≤ c → eqb c 47 ≡ false
-far_no_solidus c h = grind (arith, nat_tests)
-
-letter_goes_on : (c : ℕ) → is_letter c ≡ true → not (ends_name c) ≡ true
-letter_goes_on c h = let far = letter_far c h in none_of (is_space c) (eqb c 47) (is_greater c) (far_not_space c far) (far_no_solidus c far) (far_not_greater c far)
+use Rattle.hcut.proofs.SomePart.{split, some_parts, is_stop}
 
 pub front_long : (xs ys : List Placed) → 1 ≤ length xs → 1 ≤ length (xs ++ ys)
 front_long xs ys l = omega (arith, length-append xs ys, l)
@@ -79,6 +69,6 @@ some_tag table is_table end side opening p ps o l =
     (record {
       opens = o;
       first = l;
-      runs = record { passes_none = and_both (not (ends_name p.ch)) (all (λ c. not (ends_name c)) k.run) (letter_goes_on p.ch l) k.runs.passes_none; stops_after = subst (λ (x : List Placed). stops ends_name x ≡ true) v.text_is k.runs.stops_after };
+      runs = record { passes_none = and_both (not (ends_name p.ch)) (all (λ c. not (ends_name c)) k.run) (letter_stays p.ch l) k.runs.passes_none; stops_after = subst (λ (x : List Placed). stops ends_name x ≡ true) v.text_is k.runs.stops_after };
       in_parts = v.are;
     }))
