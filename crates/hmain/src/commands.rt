@@ -30,11 +30,23 @@ pub fn command_line<'a>(alloc: Global) -> Result<Command<'a>, AllocError>
         .subcommand_required(true)
         .disable_help_subcommand(true);
     let line = with_command(alloc, line, "tokens", "A line for each token", Document)?;
-    let line = with_command(alloc, line, "tree", "The tree, a line for each node", Document)?;
+    let line = with_command(
+        alloc,
+        line,
+        "tree",
+        "The tree, a line for each node",
+        Document,
+    )?;
     let line = with_command(alloc, line, "errors", "A line for each parse error", Either)?;
     let line = with_command(alloc, line, "write", "The tree as HTML", Either)?;
     let line = with_command(alloc, line, "fragment", "The tree of a fragment", Fragment)?;
-    with_command(alloc, line, "plain", "Whether a fragment is plain", Fragment)
+    with_command(
+        alloc,
+        line,
+        "plain",
+        "Whether a fragment is plain",
+        Fragment,
+    )
 }
 
 /// The command line with one more command.
