@@ -14,7 +14,7 @@ pub use run::plain_run;
 pub use sink::CharSink;
 
 /// What becomes of a byte order mark (EF BB BF) at the front of an input.
-#[derive(Clone, Copy, Debug, PartialEq, Eq)]
+#[derive(Clone, Copy)]
 pub enum Bom {
     /// It isn't part of the text, as in a document.
     Drop,
