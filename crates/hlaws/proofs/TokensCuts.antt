@@ -22,6 +22,7 @@ use Rattle.hmodes.specs.State.{Token, character}
 use Rattle.hparse.specs.Taken.{taken}
 use Rattle.hwrite.specs.declared.escaping.Setting.TheVariants as setting
 use Rattle.hlaws.proofs.TokensCore.{IsCoreName, Way, by_name, by_itself, AreWritten, entry_of, longest-core, begins_alphanumeric}
+use Rattle.hlaws.proofs.TokensText.{head_of, tail_of}
 
 -- SPLITTING
 
@@ -36,8 +37,8 @@ pub split : (text : List Placed) (cs ds : List ℕ) → characters text ≡ cs +
 split text [] ds e = record { front = []; back = text; is = refl; fronts = refl; backs = e }
 split [] (c ∷ cs) ds e = absurd cc
 split (p ∷ text) (c ∷ cs) ds e =
-    let same : p.ch ≡ c = cc in
-    let others : characters text ≡ cs ++ ds = cc in
+    let same : p.ch ≡ c = head_of p text c (cs ++ ds) e in
+    let others : characters text ≡ cs ++ ds = tail_of p text c (cs ++ ds) e in
     let s = split text cs ds others in
     record { front = p ∷ s.front; back = s.back; is = ap (λ (x : List Placed). p ∷ x) s.is; fronts = λ i. same i ∷ s.fronts i; backs = s.backs }
 
@@ -115,7 +116,7 @@ module _ (table : Entities) (is_table : IsTable table) where
       begun [] [] e h = absurd cc
       begun [] (b ∷ bytes) e h = absurd cc
       begun (p ∷ name) [] e h = absurd cc
-      begun (p ∷ name) (b ∷ bytes) e h = let same : p.ch ≡ b = cc in ap is_alphanumeric same ∙ h
+      begun (p ∷ name) (b ∷ bytes) e h = ap is_alphanumeric (head_of p name b bytes e) ∙ h
 
       whole : (name rest : List Placed) (bytes : List ℕ) → characters name ≡ bytes → characters (amp ∷ name ++ rest) ≡ (38 ∷ bytes) ++ characters rest
       whole name rest bytes e = let x : characters (name ++ rest) ≡ bytes ++ characters rest = map-append (λ (p : Placed). p.ch) name rest ∙ ap (λ (y : List ℕ). y ++ characters rest) e in λ i. is_amp i ∷ x i
@@ -136,8 +137,8 @@ module _ (table : Entities) (is_table : IsTable table) where
       go : (text : List Placed) → characters text ≡ 38 ∷ name → Cuts table end here text rest (character c ∷ []) (Same here)
       go [] e = absurd cc
       go (amp ∷ nm) e =
-          let is_amp : amp.ch ≡ 38 = cc in
-          let is_name : characters nm ≡ name = cc in
+          let is_amp : amp.ch ≡ 38 = head_of amp nm 38 name e in
+          let is_name : characters nm ≡ name = tail_of amp nm 38 name e in
           let piece : Piece = named_piece (amp ∷ nm) (entry_of name c) in
           one table end here rest (piece_span piece) (character c ∷ []) (Same here) (referred piece (a_reference false amp nm rest name c is_amp is_name key)) refl refl (record { kind_is = refl; name_is = refl })
   char_cuts c ds text rest end here referred itself (by_itself d no_amp no_less) e = go text (e ∙ d)
@@ -145,7 +146,7 @@ module _ (table : Entities) (is_table : IsTable table) where
       go : (text : List Placed) → characters text ≡ c ∷ [] → Cuts table end here text rest (character c ∷ []) (Same here)
       go [] e = absurd cc
       go (p ∷ q ∷ text) e = absurd cc
-      go (p ∷ []) e = let is : p.ch ≡ c = cc in itself p is no_amp no_less
+      go (p ∷ []) e = itself p (head_of p [] c [] e) no_amp no_less
 
   -- .. of data, and of text in which no more than references is read
   data_span : (c : ℕ) (ds : List ℕ) (text rest : List Placed) (end : ℕ) (here : Standing) → here.kind ≡ kind.None → Way table setting.Text c ds → characters text ≡ ds

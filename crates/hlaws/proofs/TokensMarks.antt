@@ -27,7 +27,7 @@ use Rattle.htoken.specs.Tokens.{has_refused}
 use Rattle.hmodes.specs.State.{start, end, comment}
 use Rattle.hparse.specs.Taken.{taken}
 use Rattle.hwrite.specs.Plain.{begins_with, has_part}
-use Rattle.hlaws.proofs.TokensText.{is_clean_char, clean_not_null}
+use Rattle.hlaws.proofs.TokensText.{is_clean_char, clean_not_null, head_of, tail_of}
 use Rattle.hlaws.proofs.TokensCuts.{split, Cuts, one, cuts_as}
 use Rattle.hlaws.proofs.TokensTags.{is_good, good_no_end, all-characters, all_over, name_bytes_are, begins_letter, AreAttributes, AreNew, attribute_parts, attribute_codes}
 
@@ -48,7 +48,7 @@ letter_first : (text : List Placed) (name : List ℕ) → characters text ≡ na
 letter_first [] [] e h = absurd cc
 letter_first [] (c ∷ cs) e h = absurd cc
 letter_first (p ∷ ps) [] e h = absurd cc
-letter_first (p ∷ ps) (c ∷ cs) e h = let same : p.ch ≡ c = cc in ap is_letter same ∙ h
+letter_first (p ∷ ps) (c ∷ cs) e h = ap is_letter (head_of p ps c cs e) ∙ h
 
 runs_name : (text : List Placed) (name : List ℕ) → characters text ≡ name → list_all is_good name ≡ true → all (λ c. not (ends_name c)) text ≡ true
 runs_name text name e h = all-characters (λ c. not (ends_name c)) text ∙ ap (list_all (λ c. not (ends_name c))) e ∙ all_over is_good (λ c. not (ends_name c)) good_no_end name h
@@ -56,7 +56,7 @@ runs_name text name e h = all-characters (λ c. not (ends_name c)) text ∙ ap (
 -- what follows a name: `>`, or the space before an attribute
 stops_there : (close rest : List Placed) → characters close ≡ codes ">" → stops ends_name (close ++ rest) ≡ true
 stops_there [] rest e = absurd cc
-stops_there (p ∷ ps) rest e = let is : p.ch ≡ 62 = cc in ap ends_name is
+stops_there (p ∷ ps) rest e = ap ends_name (head_of p ps 62 [] e)
 
 stops_after_name : (table : Entities) (attrs : List (Attribute (List ℕ))) (ds : List ℕ) (text close rest : List Placed) → AreAttributes table attrs ds → characters text ≡ ds → characters close ≡ codes ">"
     → stops ends_name (text ++ (close ++ rest)) ≡ true
@@ -153,8 +153,8 @@ avoids_close : (inner close : List Placed) (cs : List ℕ) → characters inner 
 avoids_close [] close cs e k h g = tt
 avoids_close (p ∷ ps) close [] e k h g = absurd cc
 avoids_close (p ∷ ps) close (c ∷ cs) e k h g =
-    let same : p.ch ≡ c = cc in
-    let others : characters ps ≡ cs = cc in
+    let same : p.ch ≡ c = head_of p ps c cs e in
+    let others : characters ps ≡ cs = tail_of p ps c cs e in
     let whole : characters (p ∷ ps ++ close) ≡ c ∷ cs ++ codes "-->" = let x : characters (ps ++ close) ≡ cs ++ codes "-->" = map-append (λ (p : Placed). p.ch) ps close ∙ (λ i. others i ++ k i) in λ i. same i ∷ x i in (
       or_from _ _ (spells_is (codes "-->") (p ∷ ps ++ close) ∙ ap (begins_with (codes "-->")) whole ∙ no_close c cs h) (spells_is (codes "--!>") (p ∷ ps ++ close) ∙ ap (begins_with (codes "--!>")) whole ∙ no_bang_close c cs g),
       avoids_close ps close cs others k (or_parts _ _ h).1 (or_parts _ _ g).1,
@@ -174,8 +174,8 @@ bytes_of_text : (text : List Placed) (cs : List ℕ) → characters text ≡ cs 
 bytes_of_text [] cs e h = e
 bytes_of_text (p ∷ ps) [] e h = absurd cc
 bytes_of_text (p ∷ ps) (c ∷ cs) e h =
-    let same : p.ch ≡ c = cc in
-    let others : characters ps ≡ cs = cc in
+    let same : p.ch ≡ c = head_of p ps c cs e in
+    let others : characters ps ≡ cs = tail_of p ps c cs e in
     let both = and_parts (is_clean_char c) (list_all is_clean_char cs) h in
     let x : without_null p.ch ≡ c = ap without_null same ∙ ap (λ (b : Bool). cond b 0xFFFD c) (clean_not_null c both.0) in
     let y = bytes_of_text ps cs others both.1 in

@@ -18,7 +18,7 @@ use Rattle.htag.specs.Tag.{ends_name, ends_attribute_name}
 use Rattle.htag.specs.Value.{plain_piece}
 use Rattle.hmodes.specs.State.{end, character}
 use Rattle.hwrite.specs.Plain.{begins_with, has_part}
-use Rattle.hlaws.proofs.TokensText.{is_clean_char, clean_not_null, is_written_ascii}
+use Rattle.hlaws.proofs.TokensText.{is_clean_char, clean_not_null, is_written_ascii, head_of, tail_of}
 use Rattle.hlaws.proofs.TokensCuts.{split, Cuts, one, join, cuts_as, cuts_none}
 use Rattle.hlaws.proofs.TokensTags.{is_good}
 use Rattle.hlaws.proofs.TokensMarks.{IsElementName, an_end_tag, spells_is}
@@ -66,8 +66,8 @@ module _ (table : Entities) (end_at : ℕ) where
   raw_cuts (c ∷ cs) [] rest here raw none e clean stays = absurd cc
   raw_cuts [] (p ∷ ps) rest here raw none e clean stays = absurd cc
   raw_cuts (c ∷ cs) (p ∷ ps) rest here raw none e clean stays =
-      let same : p.ch ≡ c = cc in
-      let others : characters ps ≡ cs = cc in
+      let same : p.ch ≡ c = head_of p ps c cs e in
+      let others : characters ps ≡ cs = tail_of p ps c cs e in
       let both = and_parts (is_clean_char c) (list_all is_clean_char cs) clean in
       let first = raw_char p c (ps ++ rest) here raw none same both.0 stays.0 in
       let then = raw_cuts cs ps rest (pushed_on here (p ∷ [])) raw none others both.1 stays.1 in
@@ -85,8 +85,8 @@ pub no_end_in : (name : Option (List ℕ)) (text rest : List Placed) (cs more : 
 no_end_in name [] rest cs more e k h = tt
 no_end_in name (p ∷ ps) rest [] more e k h = absurd cc
 no_end_in name (p ∷ ps) rest (c ∷ cs) more e k h =
-    let same : p.ch ≡ c = cc in
-    let others : characters ps ≡ cs = cc in
+    let same : p.ch ≡ c = head_of p ps c cs e in
+    let others : characters ps ≡ cs = tail_of p ps c cs e in
     let whole : characters (p ∷ ps ++ rest) ≡ c ∷ cs ++ 60 ∷ more = let x : characters (ps ++ rest) ≡ cs ++ 60 ∷ more = map-append (λ (p : Placed). p.ch) ps rest ∙ (λ i. others i ++ k i) in λ i. same i ∷ x i in
     (of_name name (spells_is (codes "</") (p ∷ ps ++ rest) ∙ ap (begins_with (codes "</")) whole ∙ no_open_end c cs more h), no_end_in name ps rest cs more others k (or_parts _ _ h).1)
   where
@@ -133,8 +133,8 @@ pub level_zero : (text front : List Placed) (cs : List ℕ) → characters text 
 level_zero [] front cs e z h = z
 level_zero (p ∷ ps) front [] e z h = absurd cc
 level_zero (p ∷ ps) front (c ∷ cs) e z h =
-    let same : p.ch ≡ c = cc in
-    let others : characters ps ≡ cs = cc in
+    let same : p.ch ≡ c = head_of p ps c cs e in
+    let others : characters ps ≡ cs = tail_of p ps c cs e in
     let moved : has_part (codes "<!--") (put_back (p ∷ front) cs) ≡ false = ap (λ (x : ℕ). has_part (codes "<!--") (put_back front (x ∷ cs))) same ∙ h in
     level_zero ps (p ∷ front) cs others (level_stays p front z (no_opening (p ∷ front) cs moved)) moved
 
@@ -151,8 +151,8 @@ spells_name : (name : List ℕ) (text rest : List Placed) → characters text �
 spells_name [] text rest e h = refl
 spells_name (c ∷ cs) [] rest e h = absurd cc
 spells_name (c ∷ cs) (p ∷ ps) rest e h =
-    let same : p.ch ≡ c = cc in
-    let others : characters ps ≡ cs = cc in
+    let same : p.ch ≡ c = head_of p ps c cs e in
+    let others : characters ps ≡ cs = tail_of p ps c cs e in
     let both = and_parts (is_good c) (list_all is_good cs) h in
     and_from _ _ (ap (λ (x : ℕ). to_ascii_lowercase x == c) same ∙ good_lower c both.0) (spells_name cs ps rest others both.1)
 
@@ -160,7 +160,7 @@ past_name : (name : List ℕ) (text rest : List Placed) → characters text ≡ 
 past_name [] [] rest e = refl
 past_name [] (p ∷ ps) rest e = absurd cc
 past_name (c ∷ cs) [] rest e = absurd cc
-past_name (c ∷ cs) (p ∷ ps) rest e = past_name cs ps rest (let x : characters ps ≡ cs = cc in x)
+past_name (c ∷ cs) (p ∷ ps) rest e = past_name cs ps rest (tail_of p ps c cs e)
 
 two_more : (n : ℕ) → 2 + n ≡ suc (suc n)
 two_more n = omega arith
@@ -172,9 +172,9 @@ stands_here name (o ∷ []) middle close rest h e m k = absurd cc
 stands_here name (o ∷ q ∷ r ∷ opening) middle close rest h e m k = absurd cc
 stands_here name (o ∷ q ∷ []) middle [] rest h e m k = absurd cc
 stands_here name (o ∷ q ∷ []) middle (g ∷ close) rest h e m k =
-    let is_less : o.ch ≡ 60 = cc in
-    let is_solidus : q.ch ≡ 47 = cc in
-    let is_greater : g.ch ≡ 62 = cc in
+    let is_less : o.ch ≡ 60 = head_of o (q ∷ []) 60 (codes "/") e in
+    let is_solidus : q.ch ≡ 47 = head_of q [] 47 [] (tail_of o (q ∷ []) 60 (codes "/") e) in
+    let is_greater : g.ch ≡ 62 = head_of g close 62 [] k in
     let opens : spells (codes "</") (o ∷ q ∷ (middle ++ (g ∷ close ++ rest))) ≡ true = rw (is_less, is_solidus) refl in
     let ends : begins ends_name (drop (2 + length name) (o ∷ q ∷ (middle ++ (g ∷ close ++ rest)))) ≡ true = ap (λ (n : ℕ). begins ends_name (drop n (o ∷ q ∷ (middle ++ (g ∷ close ++ rest))))) (two_more (length name)) ∙ ap (begins ends_name) (past_name name middle (g ∷ close ++ rest) m) ∙ ap ends_name is_greater in
     and_from _ _ (and_from _ _ opens (spells_name name middle (g ∷ close ++ rest) m h)) ends

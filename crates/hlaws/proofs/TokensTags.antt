@@ -16,7 +16,7 @@ use Rattle.names.specs.declared.error.ErrorCode.TheVariants.{MissingWhitespaceBe
 use Rattle.htag.specs.Tag.{Part, attribute_part, value_errors, is_sign, space, quoted, AreParts, parts_text, ends_name, ends_attribute_name, is_known, kept, attributes_after}
 use Rattle.hwrite.specs.declared.escaping.Setting.TheVariants as setting
 use Rattle.hwrite.specs.Plain.{is_name_byte}
-use Rattle.hlaws.proofs.TokensText.{is_written_ascii}
+use Rattle.hlaws.proofs.TokensText.{is_written_ascii, head_of, tail_of}
 use Rattle.hlaws.proofs.TokensCore.{Way, by_name, by_itself, AreWritten, entry_of}
 use Rattle.hlaws.proofs.TokensCuts.{split, no_characters, a_reference}
 
@@ -79,8 +79,8 @@ name_bytes_are [] [] e h = refl
 name_bytes_are [] (c ∷ cs) e h = absurd cc
 name_bytes_are (p ∷ ps) [] e h = absurd cc
 name_bytes_are (p ∷ ps) (c ∷ cs) e h =
-    let same : p.ch ≡ c = cc in
-    let others : characters ps ≡ cs = cc in
+    let same : p.ch ≡ c = head_of p ps c cs e in
+    let others : characters ps ≡ cs = tail_of p ps c cs e in
     let both = and_parts (is_good c) (list_all is_good cs) h in
     let parts = and_parts (not (ends_attribute_name c) && to_ascii_lowercase (without_null c) == c) (is_written_ascii c) both.0 in
     let lower : to_ascii_lowercase (without_null c) ≡ c = eqb-true _ _ (and_parts (not (ends_attribute_name c)) (to_ascii_lowercase (without_null c) == c) parts.0).1 in
@@ -101,13 +101,13 @@ first_is : (text : List Placed) (name : List ℕ) → characters text ≡ name �
 first_is [] [] e some h = absurd cc
 first_is [] (c ∷ cs) e some h = absurd cc
 first_is (p ∷ ps) [] e some h = absurd cc
-first_is (p ∷ ps) (c ∷ cs) e some h = let same : p.ch ≡ c = cc in ap (λ (x : ℕ). not (ends_name x)) same ∙ good_no_end c (and_parts _ _ h).0
+first_is (p ∷ ps) (c ∷ cs) e some h = ap (λ (x : ℕ). not (ends_name x)) (head_of p ps c cs e) ∙ good_no_end c (and_parts _ _ h).0
 
 runs_on : (text : List Placed) (name : List ℕ) → characters text ≡ name → list_all is_good name ≡ true → all (λ c. not (ends_attribute_name c)) (drop 1 text) ≡ true
 runs_on [] name e h = refl
 runs_on (p ∷ ps) [] e h = absurd cc
 runs_on (p ∷ ps) (c ∷ cs) e h =
-    let others : characters ps ≡ cs = cc in
+    let others : characters ps ≡ cs = tail_of p ps c cs e in
     all-characters (λ c. not (ends_attribute_name c)) ps ∙ ap (list_all (λ c. not (ends_attribute_name c))) others ∙ all_over is_good (λ c. not (ends_attribute_name c)) good_ends_none cs (and_parts _ _ h).1
 
 sign_is : (s : Placed) → s.ch ≡ 61 → is_sign (s ∷ []) ≡ true
@@ -172,8 +172,8 @@ module _ (table : Entities) (is_table : IsTable table) where
       first : Way table setting.Value c ds → (front back : List Placed) → characters front ≡ ds → text ≡ front ++ back → Valued table back cs → Valued table text (c ∷ cs)
       first (by_name name d key) [] back e t then = absurd cc
       first (by_name name d key) (amp ∷ nm) back e t then =
-          let is_amp : amp.ch ≡ 38 = cc in
-          let is_name : characters nm ≡ name = cc in
+          let is_amp : amp.ch ≡ 38 = head_of amp nm 38 name (e ∙ d) in
+          let is_name : characters nm ≡ name = tail_of amp nm 38 name (e ∙ d) in
           record {
             pieces = named_piece (amp ∷ nm) (entry_of name c) ∷ then.pieces;
             text_is = ap (λ (x : List Placed). (amp ∷ nm) ++ x) then.text_is ∙ sym t;
@@ -183,7 +183,7 @@ module _ (table : Entities) (is_table : IsTable table) where
       first (by_itself d no_amp no_quote) [] back e t then = absurd cc
       first (by_itself d no_amp no_quote) (p ∷ q ∷ front) back e t then = absurd cc
       first (by_itself d no_amp no_quote) (p ∷ []) back e t then =
-          let same : p.ch ≡ c = cc in
+          let same : p.ch ≡ c = head_of p [] c [] (e ∙ d) in
           record {
             pieces = plain_piece p ∷ then.pieces;
             text_is = ap (λ (x : List Placed). p ∷ x) then.text_is ∙ sym t;
