@@ -1,6 +1,6 @@
 //! Nodes and their numbers.
 
-ghost use Rattle.std.specs.Prelude.{◌≡◌, ◌<◌, Some, None, OnOk, OnErr, IfErr, length};
+ghost use Rattle.std.specs.Prelude.{◌≡◌, ◌<◌, Some, None, OnOk, OnErr, IfOk, IfErr, length, map};
 ghost use Rattle.hnodes.specs.Edits.{with_char, with_text, with_attribute};
 ghost use Rattle.hnodes.specs.Links.{alone, with_what};
 ghost use Rattle.hnodes.specs.Rows.{attribute_of, content_is, row_of, IsChanged, IsUnchanged};
@@ -55,7 +55,7 @@ pub enum Place {
 }
 
 /// A doctype's name and identifiers; one that is missing is empty.
-#[derive(Debug, Drop)]
+#[derive(Drop)]
 pub struct Doctype {
     pub name: String,
     pub public_id: String,
@@ -208,6 +208,16 @@ pub(crate) fn widen(nodes: &mut Vec<Node>, at: NodeId, alloc: Global) -> Result<
     Ok(())
 }
 
+/// Takes attributes into an index. On an error they stay where they are.
+fn take_indexed(attrs: &mut Vec<Attr>, alloc: Global) -> Result<Box<Indexed>, AllocError>
+    ensures ok { IfOk result (λ indexed. indexed.value ≡ map attribute_of attrs.old.items) }
+    ensures err { OnErr result (attrs.new.items ≡ attrs.old.items) }
+{
+    let mut indexed = Box::new(alloc, Indexed::new(alloc))?;
+    indexed.take(attrs, alloc)?;
+    Ok(indexed)
+}
+
 /// Makes an index of the attributes of an element with more than a few.
 fn widen_content(content: &mut Content, alloc: Global) -> Result<(), AllocError>
     ensures { content_is content.new ≡ content_is content.old }
@@ -219,8 +229,7 @@ fn widen_content(content: &mut Content, alloc: Global) -> Result<(), AllocError>
         return Ok(());
     }
     let name = *name;
-    let mut indexed = Box::new(alloc, Indexed::new(alloc))?;
-    indexed.take(attrs, alloc)?;
+    let indexed = take_indexed(attrs, alloc)?;
     *content = Content::Wide(name, indexed);
     Ok(())
 }

@@ -22,7 +22,6 @@ use crate::node::{
 };
 use names::{Attr, NameId, Refusal, Tag};
 use std::alloc::{AllocError, Global};
-use std::fmt;
 use std::marker::Model;
 
 /// The tree of a document, and the loose nodes: those that were made and are not in it yet. Each node takes 56 bytes, beside what
@@ -539,15 +538,5 @@ impl Tree {
             Content::Doctype(texts) => Some(texts),
             _ => None,
         }
-    }
-}
-
-/// The counts alone: a tree may have millions of nodes.
-impl fmt::Debug for Tree {
-    fn fmt<W: fmt::Write>(&self, f: &mut fmt::Formatter<W>) -> fmt::Result {
-        f.debug_struct("Tree")
-            .field("made", &self.nodes.len())
-            .field("limit", &self.limit)
-            .finish_non_exhaustive()
     }
 }
