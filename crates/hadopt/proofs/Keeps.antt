@@ -1,5 +1,5 @@
 -- What a turn of the adoption agency keeps, and what its parts ask.
-use Rattle.std.proofs.Common.{◌≡◌, ◌≢◌, ℕ, ◌<◌, Bool, true, false, List, [], ◌∷◌, Some, find, nat_eq, cond, ◌||◌, refl, subst, zero, suc, ◌-◌, ◌≤◌, arith, Ok, Err, drop, ◌⊎◌, inl, inr, sym, ◌∙◌, ap}
+use Rattle.std.proofs.Common.{◌≡◌, ◌≢◌, ℕ, ◌<◌, Bool, true, false, List, [], ◌∷◌, Some, find, nat_eq, cond, ◌||◌, refl, subst, arith, Ok, Err, drop, ◌⊎◌, inl, inr, sym, ◌∙◌, ap}
 use Rattle.std.specs.Prelude.{Result, IfOk, IfSome}
 use Rattle.names.specs.declared.refusal.Refusal.{Refusal}
 use Rattle.std.specs.List.{list_any}
@@ -25,7 +25,7 @@ use Rattle.hformat.specs.Formatting.{EntryOf, Item, marker, entry, is_entry, aft
 use Rattle.names.specs.Tags.{tag_of}
 use Rattle.names.specs.declared.error.ErrorCode.{ErrorCode}
 use Rattle.hadopt.specs.Naming.{numbers}
-use Rattle.hadopt.specs.Site.{Outcome, Goes, Refused, SiteOf, stack, trees, with_stack, error_unless}
+use Rattle.hadopt.specs.Site.{Goes, SiteOf, stack, trees, with_stack, error_unless}
 use Rattle.hadopt.specs.Adopts.{Climb, climbed, Next, Ended, turned, turns, is_unlisted, adopted, most_turns}
 use Rattle.hadopt.specs.Gives.{Gives}
 use Rattle.hadopt.specs.declared.adopting.Turn as code
@@ -195,26 +195,6 @@ unless-turns-by v code at s t f block is k o scope e b =
 pub turn-keeps : (at name : ℕ) (s new : SiteOf ℕ) (r : Result code.Turn Refusal) → Kept numbers s → TurnGives r new (turned numbers at name s) → IfOk r (λ t. Kept numbers new)
 turn-keeps at name s new (Ok t) k is = turned-keeps at name s new t k is
 turn-keeps at name s new (Err e) k is = tt
-
--- turns, so many
-pub turns-next : (at left name : ℕ) (s d : SiteOf ℕ) → 0 < left → turned numbers at name s ≡ Goes (Next d) → turns numbers at left name s ≡ turns numbers at (left - 1) name d
-turns-next at zero name s d some e = absurd (omega arith)
-turns-next at (suc k) name s d some e = let less : suc k - 1 ≡ k = omega arith in rw (e, less) refl
-
-pub turns-ended : (at left name : ℕ) (s d : SiteOf ℕ) → 0 < left → turned numbers at name s ≡ Goes (Ended d) → turns numbers at left name s ≡ Goes d
-turns-ended at zero name s d some e = absurd (omega arith)
-turns-ended at (suc k) name s d some e = rw (e) refl
-
-pub turns-refused : (at left name : ℕ) (s : SiteOf ℕ) (r : Refusal) → 0 < left → turned numbers at name s ≡ Refused r → turns numbers at left name s ≡ Refused r
-turns-refused at zero name s r some e = absurd (omega arith)
-turns-refused at (suc k) name s r some e = rw (e) refl
-
-pub turns-none : (at left name : ℕ) (s : SiteOf ℕ) → left ≤ 0 → turns numbers at left name s ≡ Goes s
-turns-none at zero name s none = refl
-turns-none at (suc k) name s none = absurd (omega arith)
-
-pub adopted-turns : (at name : ℕ) (s : SiteOf ℕ) (o : Outcome (SiteOf ℕ)) → is_unlisted numbers at name s ≡ false → turns numbers at most_turns name s ≡ o → adopted numbers at name s ≡ o
-adopted-turns at name s o e is = rw (e) is
 
 pub adopted-pops : (at name : ℕ) (s : SiteOf ℕ) → is_unlisted numbers at name s ≡ true → adopted numbers at name s ≡ Goes (with_stack (drop 1 (stack s)) s)
 adopted-pops at name s e = rw (e) refl

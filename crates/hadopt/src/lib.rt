@@ -3,32 +3,16 @@
 #![tactic(auto)]
 
 pub mod adopting;
-#[cfg(test)]
-mod call_tests;
 pub mod closing;
-#[cfg(test)]
-mod edit;
-#[cfg(test)]
-mod edit_tests;
 mod edits;
 pub mod insertion;
 pub mod laws;
 pub mod listing;
-#[cfg(test)]
-mod page;
 pub mod places;
-#[cfg(test)]
-mod plain;
-#[cfg(test)]
-mod plain_agency;
-#[cfg(test)]
-mod plain_rules;
 pub mod popping;
 pub mod questions;
 pub mod reconstructing;
 pub mod site;
-#[cfg(test)]
-mod tests;
 
 pub use laws::{adoption_makes_few_elements, numbers_agree_with_texts, operations_know_no_names};
 pub use popping::Passing;

@@ -114,6 +114,13 @@ impl Site {
         &self.tree
     }
 
+    /// The list of active formatting elements.
+    pub fn formatting(&self) -> &Formatting
+        ensures { result.now ≡ self.now.items }
+    {
+        &self.list
+    }
+
     /// The parse errors so far.
     pub fn errors(&self) -> &[ParseError]
         ensures { result.now ≡ self.now.errors }

@@ -6,7 +6,7 @@ use names::{NameId, Refusal, Tag};
 use std::alloc::Global;
 
 /// The token that an element was made for. Its attributes are a number.
-#[derive(Clone, Copy, Debug, PartialEq, Eq)]
+#[derive(Clone, Copy, PartialEq, Eq)]
 pub(crate) struct Token {
     pub(crate) name: NameId,
     pub(crate) attrs: u32,
@@ -36,7 +36,7 @@ pub(crate) struct Node {
 }
 
 /// Inside a node: right before a child, or after the last one.
-#[derive(Clone, Copy, Debug, PartialEq, Eq)]
+#[derive(Clone, Copy, PartialEq, Eq)]
 pub(crate) struct Spot {
     pub(crate) parent: usize,
     pub(crate) before: Option<usize>,
@@ -52,12 +52,55 @@ impl Spot {
 }
 
 /// A member of the list of active formatting elements.
-#[derive(Clone, Copy, Debug, PartialEq, Eq)]
+#[derive(Clone, Copy, PartialEq, Eq)]
 pub(crate) enum Item {
     Marker,
     Element(usize),
     /// Where the adoption agency puts its new element.
     Bookmark,
+}
+
+/// The attributes of an element, and of others those whose names it lacks.
+fn with_missing(attrs: u32, more: u32) -> u32 {
+    if attrs & 3 == 0 {
+        attrs | more
+    } else {
+        attrs | more & 4
+    }
+}
+
+/// Whether what is put into an element may have to be fostered.
+fn is_fostering(tag: Tag) -> bool {
+    matches!(
+        tag,
+        Tag::Table | Tag::Tbody | Tag::Tfoot | Tag::Thead | Tag::Tr
+    )
+}
+
+/// The first index of a number.
+pub(crate) fn position(list: &[usize], number: usize) -> Option<usize> {
+    list.iter().position(|other| *other == number)
+}
+
+/// Removes a number from a list.
+pub(crate) fn remove(list: &mut Vec<usize>, number: usize) {
+    list.retain(|other| *other != number);
+}
+
+/// Inserts a number at an index, if a list is as long as that.
+pub(crate) fn insert_at(list: &mut Vec<usize>, index: usize, number: usize) -> Result<(), Refusal> {
+    if index <= list.len() {
+        list.insert(index, number)?;
+    }
+    Ok(())
+}
+
+/// Right after an index, or before everything.
+pub(crate) fn after(index: Option<usize>) -> usize {
+    match index {
+        Some(index) => index.saturating_add(1),
+        None => 0,
+    }
 }
 
 #[derive(Drop)]
@@ -130,7 +173,10 @@ impl Plain {
     }
 
     pub(crate) fn is_named(&self, node: usize, name: NameId) -> bool {
-        self.token(node).map(|token| token.name) == Some(name)
+        match self.token(node) {
+            Some(token) => token.name == name,
+            None => false,
+        }
     }
 
     /// The children of a node.
@@ -144,16 +190,16 @@ impl Plain {
     /// How many children of its parent stand before a spot.
     fn index(&self, spot: Spot) -> usize {
         let children = self.children(spot.parent);
-        children
-            .iter()
-            .position(|child| Some(*child) == spot.before)
-            .unwrap_or(children.len())
+        match spot.before {
+            Some(node) => position(children, node).unwrap_or(children.len()),
+            None => children.len(),
+        }
     }
 
     fn cut(&mut self, node: usize) {
         if let Some(parent) = self.parent(node) {
             if let Some(row) = self.nodes.get_mut(parent) {
-                row.children.retain(|child| *child != node);
+                remove(&mut row.children, node);
             }
         }
     }
@@ -163,9 +209,7 @@ impl Plain {
         self.cut(node);
         let index = self.index(spot);
         if let Some(row) = self.nodes.get_mut(spot.parent) {
-            if index <= row.children.len() {
-                row.children.insert(index, node)?;
-            }
+            insert_at(&mut row.children, index, node)?;
         }
         if let Some(row) = self.nodes.get_mut(node) {
             row.parent = Some(spot.parent);
@@ -191,22 +235,44 @@ impl Plain {
         Ok(node)
     }
 
-    /// "Insert a character" (13.2.6.1).
-    pub(crate) fn put(&mut self, c: char, spot: Spot, at: u64) -> Result<(), Refusal> {
-        let index = self.index(spot);
-        let before = index
-            .checked_sub(1)
-            .and_then(|last| self.children(spot.parent).get(last).copied());
-        if let Some(node) = before.and_then(|node| self.nodes.get_mut(node)) {
-            if let What::Text(text) = &mut node.what {
+    /// The node right before a spot.
+    fn before(&self, spot: Spot) -> Option<usize> {
+        let last = self.index(spot).checked_sub(1)?;
+        self.children(spot.parent).get(last).copied()
+    }
+
+    /// Appends a character to a node, if it is a text.
+    fn lengthen(&mut self, node: usize, c: char) -> Result<bool, Refusal> {
+        match self.nodes.get_mut(node) {
+            Some(
+                Node {
+                    what: What::Text(text),
+                    ..
+                },
+            ) => {
                 text.push(c)?;
-                return Ok(());
+                Ok(true)
             }
+            _ => Ok(false),
         }
+    }
+
+    /// A new text of one character.
+    fn add_text(&mut self, c: char, spot: Spot, at: u64) -> Result<(), Refusal> {
         let mut text = String::new(self.alloc);
         text.push(c)?;
         self.add(What::Text(text), spot, at)?;
         Ok(())
+    }
+
+    /// "Insert a character" (13.2.6.1).
+    pub(crate) fn put(&mut self, c: char, spot: Spot, at: u64) -> Result<(), Refusal> {
+        if let Some(node) = self.before(spot) {
+            if self.lengthen(node, c)? {
+                return Ok(());
+            }
+        }
+        self.add_text(c, spot, at)
     }
 
     /// Gives an element those attributes whose names it lacks: 1 and 2 have one name, 4 has another.
@@ -218,10 +284,7 @@ impl Plain {
             },
         ) = self.nodes.get_mut(node)
         {
-            if *attrs & 3 == 0 {
-                *attrs |= more & 3;
-            }
-            *attrs |= more & 4;
+            *attrs = with_missing(*attrs, more);
         }
     }
 
@@ -234,22 +297,8 @@ impl Plain {
         self.open.get(index).copied().unwrap_or(0)
     }
 
-    /// "The appropriate place for inserting a node" (13.2.6.1).
-    pub(crate) fn appropriate(&self, target: usize) -> Spot {
-        let fosters = matches!(
-            self.tag(target),
-            Tag::Table | Tag::Tbody | Tag::Tfoot | Tag::Thead | Tag::Tr
-        );
-        if !self.foster || !fosters {
-            return Spot::end(target);
-        }
-        let tables = self
-            .open
-            .iter()
-            .rposition(|node| self.tag(*node) == Tag::Table);
-        let Some(index) = tables else {
-            return Spot::end(self.open_at(0));
-        };
+    /// Right before a table that stands in a node, or else at the end of the open node above it.
+    fn beside(&self, index: usize) -> Spot {
         let table = self.open_at(index);
         match self.parent(table) {
             Some(parent) => Spot {
@@ -260,12 +309,45 @@ impl Plain {
         }
     }
 
+    /// The place of a node that is fostered.
+    fn foster_spot(&self) -> Spot {
+        let table = self
+            .open
+            .iter()
+            .rposition(|node| self.tag(*node) == Tag::Table);
+        match table {
+            Some(index) => self.beside(index),
+            None => Spot::end(self.open_at(0)),
+        }
+    }
+
+    /// "The appropriate place for inserting a node" (13.2.6.1).
+    pub(crate) fn appropriate(&self, target: usize) -> Spot {
+        if self.foster && is_fostering(self.tag(target)) {
+            self.foster_spot()
+        } else {
+            Spot::end(target)
+        }
+    }
+
     pub(crate) fn push(&mut self, node: usize, at: u64) -> Result<(), Refusal> {
         if self.open.len() >= self.most_open as usize {
             return Err(Refusal::TooDeep { at });
         }
         self.open.push(node)?;
         Ok(())
+    }
+
+    pub(crate) fn pop(&mut self) {
+        self.open.pop();
+    }
+
+    /// The current node is popped and pushed again.
+    pub(crate) fn reopen(&mut self, at: u64) -> Result<(), Refusal> {
+        match self.open.pop() {
+            Some(node) => self.push(node, at),
+            None => Ok(()),
+        }
     }
 
     /// "Insert an HTML element" (13.2.6.1).

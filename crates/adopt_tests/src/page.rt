@@ -4,17 +4,21 @@ ghost use Rattle.std.specs.Prelude.{◌<◌, IfOk};
 ghost use Rattle.hadopt.specs.Kept.{Kept};
 ghost use Rattle.hadopt.specs.Naming.{numbers};
 
-use crate::site::Site;
+use crate::edit_site::{insert_element, insert_formatting, put_text};
+use crate::plain::Token;
+use hadopt::Site;
 use hnodes::{NodeId, Tree};
-use names::{NameId, Names, Refusal, Tag};
+use names::{NameId, Names, Refusal};
 use std::alloc::{AllocError, Global};
+use std::process::Abort;
+use std::test::Fail;
 
 pub(crate) const AT: u64 = 5;
 
 /// The number of a name.
-fn named(name: &str, alloc: Global) -> Result<NameId, Refusal> {
+fn named(name: &str, alloc: Global) -> Result<NameId, AllocError> {
     let mut names = Names::new(alloc)?;
-    Ok(names.intern(alloc, name)?)
+    names.intern(alloc, name)
 }
 
 /// A start tag: a formatting element goes into the list, too.
@@ -22,15 +26,12 @@ fn start(site: &mut Site, name: NameId, alloc: Global) -> Result<(), Refusal>
     requires { Kept numbers site.old }
     ensures { IfOk result (λ _. Kept numbers site.new) }
 {
-    if !name.tag().is_formatting() || name == Tag::Table.number() {
-        let place = site.place();
-        site.insert_element(name, Vec::new(alloc), place, AT)?;
-        return Ok(());
+    let token = Token { name, attrs: 0 };
+    if !name.tag().is_formatting() {
+        return insert_element(site, token, AT, alloc);
     }
     site.reconstruct(AT)?;
-    let place = site.place();
-    site.insert_formatting(name, Vec::new(alloc), place, AT)?;
-    Ok(())
+    insert_formatting(site, token, AT, alloc)
 }
 
 /// An end tag.
@@ -53,8 +54,7 @@ fn text(site: &mut Site, characters: &str) -> Result<(), Refusal>
         return Ok(());
     }
     site.reconstruct(AT)?;
-    let place = site.place();
-    site.put_text(characters, place, AT)
+    put_text(site, characters, AT)
 }
 
 /// What stands between `<` and `>`.
@@ -88,6 +88,15 @@ pub(crate) fn run(site: &mut Site, page: &str, alloc: Global) -> Result<(), Refu
     Ok(())
 }
 
+/// Takes html, body and div, and then a page.
+fn run_in_div(site: &mut Site, page: &str, alloc: Global) -> Result<(), Refusal>
+    requires { Kept numbers site.old }
+    ensures { IfOk result (λ _. Kept numbers site.new) }
+{
+    run(site, "<html><body><div>", alloc)?;
+    run(site, page, alloc)
+}
+
 /// A page in html, body and div. At most so many nodes may be made, and so many be open.
 pub(crate) fn opened(
     page: &str,
@@ -99,9 +108,15 @@ pub(crate) fn opened(
     ensures { IfOk result (λ s. Kept numbers s) }
 {
     let mut site = Site::new(alloc, most_nodes, most_open)?;
-    run(&mut site, "<html><body><div>", alloc)?;
-    run(&mut site, page, alloc)?;
+    run_in_div(&mut site, page, alloc)?;
     Ok(site)
+}
+
+/// A tag.
+fn show_tag(name: NameId, after: bool, shown: &mut String) -> Result<(), AllocError> {
+    shown.push_str(if after { "</" } else { "<" })?;
+    shown.push_str(name.tag().text())?;
+    shown.push('>')
 }
 
 /// A node before its children, or after them.
@@ -109,13 +124,27 @@ fn show(tree: &Tree, node: NodeId, after: bool, shown: &mut String) -> Result<()
     requires { node < tree.now.made }
 {
     if let Some(name) = tree.name(node) {
-        shown.push_str(if after { "</" } else { "<" })?;
-        shown.push_str(name.tag().text())?;
-        return shown.push('>');
+        return show_tag(name, after, shown);
     }
     match tree.text(node) {
         Some(characters) if !after => shown.push_str(characters),
         _ => Ok(()),
+    }
+}
+
+/// What comes after a node: another one, before its children or after them.
+fn next(tree: &Tree, node: NodeId, after: bool) -> Option<(NodeId, bool)>
+    requires { node < tree.now.made }
+{
+    let next = if after {
+        tree.next(node)
+    } else {
+        tree.first_child(node)
+    };
+    match next {
+        Some(other) => Some((other, false)),
+        None if !after => Some((node, true)),
+        None => Some((tree.parent(node)?, true)),
     }
 }
 
@@ -129,22 +158,21 @@ pub(crate) fn shown(tree: &Tree, alloc: Global) -> Result<String, AllocError> {
             break;
         }
         show(tree, node, after, &mut shown)?;
-        let next = if after {
-            tree.next(node)
-        } else {
-            tree.first_child(node)
+        let Some(following) = next(tree, node, after) else {
+            break;
         };
-        match next {
-            Some(other) => {
-                node = other;
-                after = false;
-            }
-            None if !after => after = true,
-            None => match tree.parent(node) {
-                Some(parent) => node = parent,
-                None => break,
-            },
-        }
+        (node, after) = following;
     }
     Ok(shown)
+}
+
+fn expect_text(found: &str, text: &str, rt: &impl Abort) {
+    assert_eq!(rt; found, text);
+}
+
+/// Asks for these nodes.
+pub(crate) fn expect(site: &Site, text: &str, alloc: Global, rt: &impl Abort) -> Result<(), Fail> {
+    let found = shown(site.tree(), alloc)?;
+    expect_text(&found, text, rt);
+    Ok(())
 }

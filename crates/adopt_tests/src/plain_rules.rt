@@ -1,7 +1,7 @@
 //! The algorithms of the HTML Standard on the plain site, step by step (13.2.4.2, 13.2.4.3, 13.2.6.3 and 13.2.6.4.7).
 
-use crate::plain::{Item, Plain, What};
-use crate::popping::Passing;
+use crate::plain::{Item, Plain, Token, What, after, remove};
+use hadopt::Passing;
 use hopen::{Group, Scope};
 use names::{NameId, Refusal, Tag};
 
@@ -22,27 +22,74 @@ pub(crate) enum Stop {
     Item,
 }
 
+/// What stops the search in each scope but that of a table.
+fn stops_all(tag: Tag) -> bool {
+    matches!(
+        tag,
+        Tag::Applet
+            | Tag::Caption
+            | Tag::Html
+            | Tag::Table
+            | Tag::Td
+            | Tag::Th
+            | Tag::Marquee
+            | Tag::Object
+    )
+}
+
+fn stops_in(scope: Scope, tag: Tag) -> bool {
+    match scope {
+        Scope::Default => stops_all(tag),
+        Scope::ListItem => matches!(tag, Tag::Ol | Tag::Ul) || stops_all(tag),
+        Scope::Button => tag == Tag::Button || stops_all(tag),
+        Scope::Table => matches!(tag, Tag::Html | Tag::Table),
+    }
+}
+
 impl Stop {
     fn is(&self, tag: Tag) -> bool {
-        let stops_all = matches!(
-            tag,
-            Tag::Applet
-                | Tag::Caption
-                | Tag::Html
-                | Tag::Table
-                | Tag::Td
-                | Tag::Th
-                | Tag::Marquee
-                | Tag::Object
-        );
         match self {
-            Stop::Scope(Scope::Default) => stops_all,
-            Stop::Scope(Scope::ListItem) => stops_all || matches!(tag, Tag::Ol | Tag::Ul),
-            Stop::Scope(Scope::Button) => stops_all || tag == Tag::Button,
-            Stop::Scope(Scope::Table) => matches!(tag, Tag::Html | Tag::Table),
+            Stop::Scope(scope) => stops_in(*scope, tag),
             Stop::Special => tag.is_special(),
             Stop::Item => tag.is_special() && !matches!(tag, Tag::Address | Tag::Div | Tag::P),
         }
+    }
+}
+
+/// The elements that tell the insertion mode (13.2.4.1), of those that the profile has.
+fn tells_mode(tag: Tag) -> bool {
+    matches!(
+        tag,
+        Tag::Body
+            | Tag::Caption
+            | Tag::Colgroup
+            | Tag::Table
+            | Tag::Tbody
+            | Tag::Td
+            | Tag::Tfoot
+            | Tag::Th
+            | Tag::Thead
+            | Tag::Tr
+    )
+}
+
+fn is_heading(tag: Tag) -> bool {
+    matches!(
+        tag,
+        Tag::H1 | Tag::H2 | Tag::H3 | Tag::H4 | Tag::H5 | Tag::H6
+    )
+}
+
+fn is_section(tag: Tag) -> bool {
+    matches!(tag, Tag::Tbody | Tag::Tfoot | Tag::Thead)
+}
+
+fn is_of(group: Group, tag: Tag) -> bool {
+    match group {
+        Group::Heading => is_heading(tag),
+        Group::TableSection => is_section(tag),
+        Group::Cell => matches!(tag, Tag::Td | Tag::Th),
+        Group::TellsMode => tells_mode(tag),
     }
 }
 
@@ -59,25 +106,7 @@ impl Plain {
         match sought {
             Sought::Node(other) => node == *other,
             Sought::Name(name) => self.is_named(node, *name),
-            Sought::Group(group) => match (group, self.tag(node)) {
-                (Group::Heading, Tag::H1 | Tag::H2 | Tag::H3 | Tag::H4 | Tag::H5 | Tag::H6) => true,
-                (Group::TableSection, Tag::Tbody | Tag::Tfoot | Tag::Thead) => true,
-                (Group::Cell, Tag::Td | Tag::Th) => true,
-                (
-                    Group::TellsMode,
-                    Tag::Body
-                    | Tag::Caption
-                    | Tag::Colgroup
-                    | Tag::Table
-                    | Tag::Tbody
-                    | Tag::Td
-                    | Tag::Tfoot
-                    | Tag::Th
-                    | Tag::Thead
-                    | Tag::Tr,
-                ) => true,
-                _ => false,
-            },
+            Sought::Group(group) => is_of(*group, self.tag(node)),
         }
     }
 
@@ -99,7 +128,7 @@ impl Plain {
     }
 
     pub(crate) fn leave(&mut self, node: usize) {
-        self.open.retain(|open| *open != node);
+        remove(&mut self.open, node);
     }
 
     fn passes(&self, node: usize, passing: &Passing) -> bool {
@@ -108,7 +137,7 @@ impl Plain {
             Passing::Implied(None) => is_implied(tag),
             Passing::Implied(Some(name)) => is_implied(tag) && !self.is_named(node, *name),
             Passing::Table => !matches!(tag, Tag::Table | Tag::Html),
-            Passing::Body => !matches!(tag, Tag::Tbody | Tag::Tfoot | Tag::Thead | Tag::Html),
+            Passing::Body => tag != Tag::Html && !is_section(tag),
             Passing::Row => !matches!(tag, Tag::Tr | Tag::Html),
         }
     }
@@ -117,7 +146,7 @@ impl Plain {
     pub(crate) fn pop_past(&mut self, passing: Passing) {
         for _ in 0..self.open.len() {
             if self.passes(self.current(), &passing) {
-                self.open.pop();
+                self.pop();
             }
         }
     }
@@ -153,8 +182,7 @@ impl Plain {
 
     /// Where the elements after the last marker begin.
     fn after_marker(&self) -> usize {
-        let marker = self.list.iter().rposition(|item| *item == Item::Marker);
-        marker.map_or(0, |index| index.saturating_add(1))
+        after(self.list.iter().rposition(|item| *item == Item::Marker))
     }
 
     /// The element at an index of the list.
@@ -169,22 +197,48 @@ impl Plain {
         self.list.contains(&Item::Element(node))
     }
 
+    /// The first place of an item.
+    pub(crate) fn place_of(&self, item: Item) -> Option<usize> {
+        self.list.iter().position(|other| *other == item)
+    }
+
+    pub(crate) fn remove_item(&mut self, item: Item) {
+        self.list.retain(|other| *other != item);
+    }
+
     pub(crate) fn unlist(&mut self, node: usize) {
-        self.list.retain(|item| *item != Item::Element(node));
+        self.remove_item(Item::Element(node));
+    }
+
+    pub(crate) fn put_marker(&mut self) -> Result<(), Refusal> {
+        self.list.push(Item::Marker)?;
+        Ok(())
+    }
+
+    /// The token of the element at an index of the list.
+    fn listed_token(&self, index: usize) -> Option<Token> {
+        self.token(self.listed(index)?)
+    }
+
+    /// The first of three elements after the last marker that were made for equal tokens.
+    fn third_equal(&self, token: Option<Token>) -> Option<usize> {
+        let mut equal = 0u32;
+        let mut first = None;
+        for index in (self.after_marker()..self.list.len()).rev() {
+            if self.listed_token(index) == token {
+                equal = equal.saturating_add(1);
+                first = Some(index);
+            }
+        }
+        if equal >= 3 { first } else { None }
     }
 
     /// "Push onto the list of active formatting elements" (13.2.4.3).
     pub(crate) fn list_element(&mut self, node: usize) -> Result<(), Refusal> {
-        let mut equal = 0u32;
-        let mut first = 0;
-        for index in (self.after_marker()..self.list.len()).rev() {
-            if self.listed(index).and_then(|other| self.token(other)) == self.token(node) {
-                equal = equal.saturating_add(1);
-                first = index;
+        if let Some(first) = self.third_equal(self.token(node)) {
+            if first < self.list.len() {
+                self.list.remove(first);
             }
-        }
-        if equal >= 3 && first < self.list.len() {
-            self.list.remove(first);
         }
         self.list.push(Item::Element(node))?;
         Ok(())
@@ -198,13 +252,18 @@ impl Plain {
         }
     }
 
+    fn is_listed_as(&self, index: usize, name: NameId) -> bool {
+        match self.listed_token(index) {
+            Some(token) => token.name == name,
+            None => false,
+        }
+    }
+
     /// The last element of a name after the last marker.
     pub(crate) fn find(&self, name: NameId) -> Option<usize> {
         for index in (self.after_marker()..self.list.len()).rev() {
-            if let Some(node) = self.listed(index) {
-                if self.is_named(node, name) {
-                    return Some(node);
-                }
+            if self.is_listed_as(index, name) {
+                return self.listed(index);
             }
         }
         None
@@ -218,26 +277,39 @@ impl Plain {
         }
     }
 
+    /// Whether the item at an index is an element that is not open.
+    fn is_closed(&self, index: usize) -> bool {
+        match self.listed(index) {
+            Some(node) => !self.open.contains(&node),
+            None => false,
+        }
+    }
+
     /// "Rewind": the first element of the list's end that has no marker and no open element.
     fn rewound(&self) -> usize {
         let mut first = self.list.len();
         for index in (0..self.list.len()).rev() {
-            match self.listed(index) {
-                Some(node) if !self.open.contains(&node) => first = index,
-                _ => return first,
+            if !self.is_closed(index) {
+                break;
             }
+            first = index;
         }
         first
+    }
+
+    /// Makes the item at an index an element.
+    fn list_at(&mut self, index: usize, node: usize) {
+        if let Some(item) = self.list.get_mut(index) {
+            *item = Item::Element(node);
+        }
     }
 
     /// "Reconstruct the active formatting elements" (13.2.4.3).
     pub(crate) fn reconstruct(&mut self, at: u64) -> Result<(), Refusal> {
         for index in self.rewound()..self.list.len() {
-            if let Some(token) = self.listed(index).and_then(|node| self.token(node)) {
+            if let Some(token) = self.listed_token(index) {
                 let new = self.insert_element(token, at)?;
-                if let Some(item) = self.list.get_mut(index) {
-                    *item = Item::Element(new);
-                }
+                self.list_at(index, new);
             }
         }
         Ok(())
