@@ -97,10 +97,11 @@ impl<'t> Feed for Reading<'t> {
 
 impl<'t> Reading<'t> {
     fn new(alloc: Global, table: &'t Table) -> Result<Reading<'t>, Refusal> {
+        let names = Names::new(alloc)?;
         Ok(Reading {
             decoder: Decoder::new(alloc, Bom::Drop, MAX_INPUT),
             counting: Counting {
-                names: Names::new(alloc)?,
+                names,
                 tokenizer: Tokenizer::new(alloc, table, Start::Document),
                 counter: Counter {
                     tokens: 0,
@@ -108,6 +109,12 @@ impl<'t> Reading<'t> {
                 },
             },
         })
+    }
+
+    /// Reads a file to its end.
+    fn read(&mut self, alloc: Global, file: &mut File) -> Result<(), Refusal> {
+        feed_file(alloc, file, self)?;
+        self.finish()
     }
 
     /// Ends the document.
@@ -127,8 +134,8 @@ impl<'t> Reading<'t> {
 pub fn count_tokens(alloc: Global, file: &mut File) -> Result<Counts, Refusal> {
     let table = Table::core(alloc)?;
     let mut reading = Reading::new(alloc, &table)?;
-    feed_file(alloc, file, &mut reading)?;
-    reading.finish()?;
-    let Counter { tokens, errors } = reading.counting.counter;
-    Ok(Counts::Tokens { tokens, errors })
+    let answer = reading.read(alloc, file);
+    let tokens = reading.counting.counter.tokens;
+    let errors = reading.counting.counter.errors;
+    answer.and(Ok(Counts::Tokens { tokens, errors }))
 }

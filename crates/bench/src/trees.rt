@@ -4,7 +4,7 @@ use crate::counting::Counts;
 use crate::pieces::{Feed, feed_file};
 use charref::Table;
 use hmarkup::Quirks;
-use hparse::{Options, Parser};
+use hparse::{Options, Parsed, Parser};
 use names::Refusal;
 use std::alloc::Global;
 use std::fs::File;
@@ -15,16 +15,21 @@ impl<'t> Feed for Parser<'t> {
     }
 }
 
+/// What is counted of a tree.
+fn counts_of(answer: Result<Parsed, Refusal>) -> Result<Counts, Refusal> {
+    let parsed = answer?;
+    Ok(Counts::Nodes {
+        nodes: u64::from(parsed.tree.made()),
+        errors: parsed.errors.len() as u64,
+    })
+}
+
 /// Parses a document, and counts its nodes.
 pub fn count_nodes(alloc: Global, file: &mut File) -> Result<Counts, Refusal> {
     let table = Table::core(alloc)?;
     let quirks = Quirks::read(alloc, "")?;
     let options = Options::new(&table, &quirks);
     let mut parser = Parser::document(alloc, &options)?;
-    feed_file(alloc, file, &mut parser)?;
-    let parsed = parser.finish()?;
-    Ok(Counts::Nodes {
-        nodes: u64::from(parsed.tree.made()),
-        errors: parsed.errors.len() as u64,
-    })
+    let fed = feed_file(alloc, file, &mut parser);
+    counts_of(fed.and(parser.finish()))
 }

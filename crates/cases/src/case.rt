@@ -5,7 +5,8 @@ use serde_json::Value;
 use std::alloc::Global;
 
 /// The words of a command line, an input, the text that is printed, and the refusal's line, which is empty where the input is
-/// accepted.
+/// accepted; the table of references, the quirks list and the input limit, if they are not the program's own; and whether the refusal
+/// comes with the last byte.
 #[derive(Drop)]
 pub struct Case {
     pub id: String,
@@ -13,6 +14,10 @@ pub struct Case {
     pub input: Vec<u8>,
     pub text: String,
     pub refusal: String,
+    pub entities: Option<String>,
+    pub quirks: Option<String>,
+    pub limit: Option<u64>,
+    pub at_once: bool,
 }
 
 impl Case {
@@ -22,9 +27,13 @@ impl Case {
         Ok(Case {
             id: member(alloc, &object, "id")?,
             words: words(alloc, &object)?,
-            input: hex::decode(alloc, &member(alloc, &object, "input")?)?,
+            input: input(alloc, &object)?,
             text: member(alloc, &object, "stdout")?,
-            refusal: member(alloc, &object, "stderr")?,
+            refusal: member_if_any(alloc, &object, "stderr")?.unwrap_or(String::new(alloc)),
+            entities: member_if_any(alloc, &object, "entities")?,
+            quirks: member_if_any(alloc, &object, "quirks")?,
+            limit: object.get("limit").and_then(Value::as_u64),
+            at_once: object.get("at_once").and_then(Value::as_bool) == Some(true),
         })
     }
 
@@ -49,7 +58,19 @@ impl Case {
             input: String::from_str(alloc, input)?.into_bytes(),
             text: String::from_str(alloc, text)?,
             refusal: String::new(alloc),
+            entities: None,
+            quirks: None,
+            limit: None,
+            at_once: false,
         })
+    }
+}
+
+/// The input: a text, or bytes in hex.
+fn input(alloc: Global, object: &Value) -> Result<Vec<u8>> {
+    match member_if_any(alloc, object, "text")? {
+        Some(text) => Ok(text.into_bytes()),
+        None => Ok(hex::decode(alloc, &member(alloc, object, "input")?)?),
     }
 }
 
@@ -68,6 +89,14 @@ fn words(alloc: Global, object: &Value) -> Result<Vec<String>> {
         words.push(String::from_str(alloc, text)?)?;
     }
     Ok(words)
+}
+
+/// A member that is a text, if there is one.
+fn member_if_any(alloc: Global, object: &Value, name: &str) -> Result<Option<String>> {
+    match object.get(name).and_then(Value::as_str) {
+        Some(text) => Ok(Some(String::from_str(alloc, text)?)),
+        None => Ok(None),
+    }
 }
 
 /// A member that is a text.

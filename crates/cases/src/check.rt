@@ -6,6 +6,7 @@ use crate::case::Case;
 use anyhow::{Result, bail};
 use charref::Table;
 use hbuild::Limits;
+use hmain::Line;
 use hmain::line::line;
 use hmarkup::Quirks;
 use hparse::Options;
@@ -13,43 +14,99 @@ use hrun::{Command, Counted, run};
 use htext::MAX_INPUT;
 use names::Refusal;
 use std::alloc::Global;
+use std::io;
 use std::io::Read;
 
 /// The sizes of the pieces that the input is read in.
 const PIECES: [usize; 5] = [1, 2, 3, 7, 65_536];
 
-/// Whether the input comes to the case's text or refusal, read in pieces of each size, and from a reader that gives it in two parts,
-/// cut at each byte.
+/// Whether the input comes to the case's text or refusal, read in pieces of each size, from a reader that gives it in two parts, cut
+/// at each byte, and, if the case says so, with its last byte.
 pub fn check(alloc: Global, case: &Case) -> Result<bool> {
     let words = texts(alloc, &case.words)?;
     let Ok(said) = line(alloc, &words) else {
         bail!("{}: the words are no command line", case.id);
     };
-    let table = core_table(alloc)?;
-    let quirks = no_quirks(alloc)?;
-    let Ok(limits) = Limits::new(said.nodes, said.open) else {
-        bail!("{}: limits out of their range", case.id);
+    let (table, quirks, limits) = match told(alloc, case, &said) {
+        Ok(told) => told,
+        Err(refusal) => return is_of(alloc, case, Some(refusal), b""),
     };
     let options = Options {
+        table: &table,
+        quirks: &quirks,
+        input_limit: case.limit.unwrap_or(MAX_INPUT).min(MAX_INPUT),
         limits,
-        ..Options::new(&table, &quirks)
     };
+    let command = said.command;
+    Ok(
+        comes_in_pieces(alloc, case, command, &options)?
+            && comes_in_two(alloc, case, command, &options)?
+            && (!case.at_once || comes_at_once(alloc, case, command, &options)?),
+    )
+}
+
+/// Whether the input comes to it in pieces of each size.
+fn comes_in_pieces(alloc: Global, case: &Case, command: Command, options: &Options) -> Result<bool>
+    requires limit { options.now.input_limit ≤ MAX_INPUT }
+{
     for piece in PIECES {
-        let command = Command {
-            piece,
-            ..said.command
-        };
-        if !comes(alloc, case, command, &options, case.input.as_slice())? {
-            return Ok(false);
-        }
-    }
-    for cut in 0..=case.input.len() {
-        let (front, back) = case.input.split_at(cut);
-        if !comes(alloc, case, said.command, &options, front.chain(back))? {
+        let command = Command { piece, ..command };
+        if !comes(alloc, case, command, options, case.input.as_slice())? {
             return Ok(false);
         }
     }
     Ok(true)
+}
+
+/// Whether the input comes to it cut in two at each byte.
+fn comes_in_two(alloc: Global, case: &Case, command: Command, options: &Options) -> Result<bool>
+    requires piece { 0 < command.piece }
+    requires limit { options.now.input_limit ≤ MAX_INPUT }
+{
+    for cut in 0..=case.input.len() {
+        let (front, back) = case.input.split_at(cut);
+        if !comes(alloc, case, command, options, front.chain(back))? {
+            return Ok(false);
+        }
+    }
+    Ok(true)
+}
+
+/// Gives a byte a call, and fails after the last.
+#[derive(Drop)]
+struct Failing<'a> {
+    rest: &'a [u8],
+}
+
+impl<'a> Read for Failing<'a> {
+    fn read(&mut self, buffer: &mut [u8]) -> io::Result<usize> {
+        match (self.rest.split_first(), buffer.first_mut()) {
+            (Some((byte, rest)), Some(place)) => {
+                *place = *byte;
+                self.rest = rest;
+                Ok(1)
+            }
+            _ => Err(io::ErrorKind::Interrupted.into()),
+        }
+    }
+}
+
+/// Whether the refusal comes with the last byte: a reader that would fail after it is not asked, and one that fails before it is.
+fn comes_at_once(alloc: Global, case: &Case, command: Command, options: &Options) -> Result<bool>
+    requires limit { options.now.input_limit ≤ MAX_INPUT }
+{
+    let command = Command {
+        piece: 1,
+        ..command
+    };
+    let Some((_, front)) = case.input.split_last() else {
+        bail!("{}: no last byte", case.id);
+    };
+    let mut early = Counted::new(Failing { rest: front });
+    let mut target = Counted::new(Vec::new(alloc));
+    let before = run(alloc, command, options, &mut early, &mut target).err();
+    let rest = case.input.as_slice();
+    Ok(before == Some(Refusal::Read) && comes(alloc, case, command, options, Failing { rest })?)
 }
 
 fn texts<'a>(alloc: Global, words: &'a [String]) -> Result<Vec<&'a str>> {
@@ -60,20 +117,17 @@ fn texts<'a>(alloc: Global, words: &'a [String]) -> Result<Vec<&'a str>> {
     Ok(texts)
 }
 
-/// The core table of references.
-fn core_table(alloc: Global) -> Result<Table> {
-    match Table::core(alloc) {
-        Ok(table) => Ok(table),
-        Err(refusal) => bail!("no table: {refusal}"),
-    }
-}
-
-/// The empty quirks list.
-fn no_quirks(alloc: Global) -> Result<Quirks> {
-    match Quirks::read(alloc, "") {
-        Ok(quirks) => Ok(quirks),
-        Err(refusal) => bail!("no quirks list: {refusal}"),
-    }
+/// The case's table of references, quirks list and limits.
+fn told(alloc: Global, case: &Case, said: &Line) -> Result<(Table, Quirks, Limits), Refusal> {
+    let table = match &case.entities {
+        Some(text) => Table::read(alloc, text)?,
+        None => Table::core(alloc)?,
+    };
+    let quirks = match &case.quirks {
+        Some(text) => Quirks::read(alloc, text)?,
+        None => Quirks::read(alloc, "")?,
+    };
+    Ok((table, quirks, Limits::new(said.nodes, said.open)?))
 }
 
 /// Whether a run over a reader writes what the case says.

@@ -84,7 +84,10 @@ fn add_line(
                 bail!("no attribute");
             };
         }
-        Line::Text(text) => add_text(alloc, tree, text, parent)?,
+        Line::Text(text) => {
+            add_text(alloc, tree, text, parent)?;
+            open.push(last_child(tree, parent)?)?;
+        }
         Line::Comment(data) => {
             let comment = make_comment(alloc, tree, data)?;
             append(tree, comment, parent)?;
@@ -137,6 +140,14 @@ fn add_text(alloc: Global, tree: &mut Tree, text: &str, parent: NodeId) -> Resul
     };
     append(tree, between, tree.document())?;
     Ok(())
+}
+
+/// The node that was added last.
+fn last_child(tree: &Tree, parent: NodeId) -> Result<NodeId> {
+    if !tree.has(parent) {
+        bail!("no parent");
+    }
+    Ok(tree.last_child(parent).context("no child")?)
 }
 
 /// Moves a node to the end of another's children.

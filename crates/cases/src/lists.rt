@@ -7,7 +7,7 @@ use crate::check::check;
 use crate::grow::{Grown, grow};
 use crate::records::{Record, Section};
 use anyhow::{Context, Result, bail};
-use hwrite::{is_plain, serialize_to_vec, tree_text};
+use hwrite::{is_plain, serialize, serialize_to_vec, tree_text};
 use std::alloc::Global;
 use std::mem;
 
@@ -50,12 +50,20 @@ impl List {
     /// Whether the list is written so, and is plain exactly if it comes back.
     fn is_written_so(&self, alloc: Global) -> Result<bool> {
         let grown = grow(alloc, &self.context, &self.tree)?;
+        self.is_of(alloc, &grown)
+    }
+
+    /// The same of the list as a tree.
+    fn is_of(&self, alloc: Global, grown: &Grown) -> Result<bool>
+        requires { IsGrown grown.now }
+    {
         let is_plain = is_plain(&grown.tree, &grown.names, grown.root, &self.context);
-        let (tree, written) = texts(alloc, &grown)?;
+        let (tree, written) = texts(alloc, grown)?;
         Ok(
             tree.as_slice() == self.tree.as_bytes()
                 && written.as_slice() == self.written.as_bytes()
-                && is_plain == (self.comes_back_as() == self.tree.as_str()),
+                && is_plain == (self.comes_back_as() == self.tree.as_str())
+                && is_begun_so(alloc, grown, &written)?,
         )
     }
 
@@ -89,6 +97,23 @@ fn texts(alloc: Global, grown: &Grown) -> Result<(Vec<u8>, Vec<u8>)>
         bail!("a tree is not written");
     };
     Ok((tree, written))
+}
+
+/// Whether a writer that has room for less than the tree's HTML takes as much of it, for each room, and fails.
+fn is_begun_so(alloc: Global, grown: &Grown, written: &[u8]) -> Result<bool>
+    requires { IsGrown grown.now }
+{
+    for room in 0..=written.len() {
+        let (front, _) = written.split_at(room);
+        let mut taken = Vec::from_slice(alloc, front)?;
+        taken.fill(0);
+        let mut out = taken.as_mut_slice();
+        let answer = serialize(&grown.tree, &grown.names, grown.root, &mut out);
+        if answer.is_ok() != (room == written.len()) || taken.as_slice() != front {
+            return Ok(false);
+        }
+    }
+    Ok(true)
 }
 
 /// A text with CR and NUL where it has names for them.

@@ -67,53 +67,58 @@ impl Write for Full {
     }
 }
 
+/// Whether a read gives this many bytes, or fails, and so many have failed then.
+fn reads<R: Read + Drop>(source: &mut Counted<R>, count: Option<usize>, failures: u64) -> bool {
+    let mut buffer = [0; 2];
+    source.read(&mut buffer) == count && Source::failures(source) == failures
+}
+
 #[test]
 fn a_read_fails(rt: HostRuntime) {
     let mut source = Counted::new(Faulty::at(1));
-    let mut buffer = [0; 3];
-    assert_eq!(rt; source.read(&mut buffer), Some(1));
-    assert_eq!(rt; Source::failures(&source), 0);
-    assert_eq!(rt; source.read(&mut buffer), None);
-    assert_eq!(rt; Source::failures(&source), 1);
-    assert_eq!(rt; source.read(&mut buffer), Some(1));
-    assert_eq!(rt; Source::failures(&source), 1);
-    assert_eq!(rt; source.into_inner().calls, 3);
+    let all = reads(&mut source, Some(1), 0)
+        && reads(&mut source, None, 1)
+        && reads(&mut source, Some(1), 1);
+    assert!(rt; all && source.into_inner().calls == 3);
 }
 
 #[test]
 fn a_read_ends(rt: HostRuntime) {
     let mut source = Counted::new(&b"abc"[..]);
-    let mut buffer = [0; 2];
-    assert_eq!(rt; source.read(&mut buffer), Some(2));
-    assert_eq!(rt; &buffer, b"ab");
-    assert_eq!(rt; source.read(&mut buffer), Some(1));
-    assert_eq!(rt; source.read(&mut buffer), Some(0));
-    assert_eq!(rt; source.failures(), 0);
+    let all = reads(&mut source, Some(2), 0)
+        && reads(&mut source, Some(1), 0)
+        && reads(&mut source, Some(0), 0);
+    assert!(rt; all);
+}
+
+/// Whether one of three writes fails, or else the call that flushes.
+fn write_fails(failing: u64) -> bool {
+    let mut target = Counted::new(Faulty::at(failing));
+    let is_right = match write_all(&mut target, b"abc") {
+        Ok(()) => failing == 3 && !target.flush(),
+        Err(refusal) => failing < 3 && refusal == Refusal::Write,
+    };
+    is_right && Target::failures(&target) == 1 && target.into_inner().calls == failing + 1
 }
 
 #[test]
 fn a_write_fails(rt: HostRuntime) {
-    for failing in 0..4 {
-        let mut target = Counted::new(Faulty::at(failing));
-        let is_written = write_all(&mut target, b"abc");
-        if failing < 3 {
-            assert_eq!(rt; is_written, Err(Refusal::Write));
-        } else {
-            assert_eq!(rt; is_written, Ok(()));
-            assert!(rt; !target.flush());
-        }
-        assert_eq!(rt; Target::failures(&target), 1);
-        assert_eq!(rt; target.into_inner().calls, failing + 1);
+    for failing in 0..4u64 {
+        assert!(rt; write_fails(failing));
     }
+}
+
+/// Whether a write of bytes fails where none is taken, and one of no bytes does not.
+fn none_are_taken() -> bool {
+    let mut target = Counted::new(Full);
+    target.write(b"") == Some(0)
+        && target.failures() == 0
+        && target.write(b"a").is_none()
+        && target.failures() == 1
+        && target.flush()
 }
 
 #[test]
 fn a_write_of_none_fails(rt: HostRuntime) {
-    let mut target = Counted::new(Full);
-    assert_eq!(rt; target.write(b""), Some(0));
-    assert_eq!(rt; target.failures(), 0);
-    assert_eq!(rt; target.write(b"a"), None);
-    assert_eq!(rt; target.failures(), 1);
-    assert!(rt; target.flush());
-    assert_eq!(rt; target.failures(), 1);
+    assert!(rt; none_are_taken());
 }

@@ -1,10 +1,8 @@
-//! The tests of the builder, the parser, the engine and the program, by their public calls: hbuild, hparse, hrun and hmain.
+//! Tests of the builder, the parser, the engine and the program by what only their own calls can show: readers and writers that fail,
+//! refusals that stay, texts of faults. What comes of an input stands in the stored cases of `cases`, what comes of a command line in
+//! the stored runs of `htmlp`.
 #![tactic(auto)]
 
-#[cfg(test)]
-mod building;
-#[cfg(test)]
-mod command_line;
 #[cfg(test)]
 mod counted;
 #[cfg(test)]
@@ -12,12 +10,4 @@ mod ending;
 #[cfg(test)]
 mod engine;
 #[cfg(test)]
-mod lines;
-#[cfg(test)]
-mod page;
-#[cfg(test)]
-mod parsing;
-#[cfg(test)]
-mod program;
-#[cfg(test)]
-mod worked_rows;
+mod refusals;

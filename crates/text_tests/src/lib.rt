@@ -1,25 +1,20 @@
-//! The tests of the crates that read text and markup, by their public calls: names, htext, charref, hmarkup, htag and htoken.
+//! Tests of the text layers by what only their own calls can show: numbers of names, sinks that refuse, walks that are begun in the
+//! middle, what is held. What comes of an input stands in the stored cases of `cases`.
 #![tactic(auto)]
 
 #[cfg(test)]
-mod comments;
-#[cfg(test)]
-mod decoding;
-#[cfg(test)]
-mod doctype_cases;
-#[cfg(test)]
-mod doctypes;
-#[cfg(test)]
-mod kept_errors;
+mod given;
 #[cfg(test)]
 mod known_names;
 #[cfg(test)]
-mod quirks_lists;
-#[cfg(test)]
-mod references;
+mod plain_runs;
 #[cfg(test)]
 mod refusals;
 #[cfg(test)]
-mod tags;
+mod sinks;
+#[cfg(test)]
+mod tables;
 #[cfg(test)]
 mod tokens;
+#[cfg(test)]
+mod walks;

@@ -1,0 +1,72 @@
+//! The sink of the tests.
+
+use hmarkup::ErrorSink;
+use htext::CharSink;
+use htoken::{Token, TokenSink};
+use names::{ParseError, Refusal};
+use std::alloc::Global;
+
+/// What it took: the characters as they are, a letter for each other token, and `!` for an error. It refuses what is more than `left`.
+#[derive(Drop)]
+pub struct Given {
+    pub text: String,
+    left: u32,
+}
+
+impl Given {
+    pub fn new(alloc: Global, left: u32) -> Given {
+        Given {
+            text: String::new(alloc),
+            left,
+        }
+    }
+
+    fn add(&mut self, ch: char) -> Result<(), Refusal> {
+        if self.left == 0 {
+            return Err(Refusal::Write);
+        }
+        self.left -= 1;
+        self.text.push(ch)?;
+        Ok(())
+    }
+}
+
+impl CharSink for Given {
+    ghost gives = { λ _ _ _ _. Unit {0} };
+
+    fn take_char(&mut self, ch: char, _at: u64) -> Result<(), Refusal> {
+        self.add(ch)
+    }
+
+    fn take_error(&mut self, _error: ParseError) -> Result<(), Refusal> {
+        self.add('!')
+    }
+}
+
+impl ErrorSink for Given {
+    ghost gives = { λ _ _ _ _. Unit {0} };
+
+    fn take_error(&mut self, _error: ParseError) -> Result<(), Refusal> {
+        self.add('!')
+    }
+}
+
+impl TokenSink for Given {
+    ghost gives_token = { λ _ _ _ _. Unit {0} };
+
+    fn take_token(&mut self, token: Token) -> Result<(), Refusal> {
+        let letter = match &token {
+            Token::Doctype { .. } => 'D',
+            Token::Start { .. } => 'S',
+            Token::End { .. } => 'E',
+            Token::Comment { .. } => 'C',
+            Token::Char { ch, .. } => *ch,
+            Token::Eof { .. } => '.',
+        };
+        self.add(letter)
+    }
+
+    fn take_text(&mut self, ch: char, _at: u64) -> Result<(), Refusal> {
+        self.add(ch)
+    }
+}

@@ -1,0 +1,145 @@
+//! Walks that are begun in the middle, and runs that they take.
+
+use crate::given::Given;
+use charref::Table;
+use hmarkup::CommentWalk;
+use htag::{TagKind, TagWalk};
+use names::{Names, ParseError, Placed, Refusal};
+use std::alloc::Global;
+use std::test::Fail;
+
+/// Takes characters up to the end of a comment. Whether it ends.
+fn rest(walk: &mut CommentWalk, text: &str, at: u64, sink: &mut Given) -> Result<bool, Refusal> {
+    for (index, ch) in text.char_indices() {
+        if walk.take_char(ch, at.wrapping_add(index as u64), sink)? {
+            return Ok(true);
+        }
+    }
+    Ok(false)
+}
+
+/// Whether a comment that has ended has this data, and one error was raised.
+fn is_comment(walk: CommentWalk, ended: Result<bool, Refusal>, sink: &Given, data: &str) -> bool {
+    ended == Ok(true) && sink.text.as_str() == "!" && walk.into_data().as_str() == data
+}
+
+/// Takes a run and characters after those that were read before the walk.
+fn take_after(walk: &mut CommentWalk, sink: &mut Given) -> Result<bool, Refusal> {
+    walk.take_run("xé", 4, sink)?;
+    rest(walk, "\0->", 7, sink)
+}
+
+#[test]
+fn a_comment_goes_on_after_read_characters(rt: HostRuntime) -> Result<(), Fail> {
+    let held = [Placed { ch: 'd', at: 2 }, Placed { ch: 'O', at: 3 }];
+    let mut walk = CommentWalk::bogus_after(rt.alloc(), &held)?;
+    let mut sink = Given::new(rt.alloc(), 9);
+    let ended = take_after(&mut walk, &mut sink);
+    assert!(rt; is_comment(walk, ended, &sink, "dOxé\u{FFFD}-"));
+    Ok(())
+}
+
+/// Takes runs and characters in turn.
+fn take_runs(walk: &mut CommentWalk, sink: &mut Given) -> Result<bool, Refusal> {
+    walk.take_run("", 4, sink)?;
+    walk.take_char('-', 4, sink)?;
+    walk.take_run("a é", 5, sink)?;
+    rest(walk, "<!---->", 9, sink)
+}
+
+#[test]
+fn a_comment_takes_runs(rt: HostRuntime) {
+    let mut walk = CommentWalk::comment(rt.alloc());
+    let mut sink = Given::new(rt.alloc(), 9);
+    let ended = take_runs(&mut walk, &mut sink);
+    assert!(rt; is_comment(walk, ended, &sink, "-a é<!--"));
+}
+
+/// What a walk through a tag writes to.
+#[derive(Drop)]
+struct Kit {
+    names: Names,
+    errors: Vec<ParseError>,
+}
+
+impl Kit {
+    fn new(alloc: Global) -> Result<Kit, Refusal> {
+        Ok(Kit {
+            names: Names::new(alloc)?,
+            errors: Vec::new(alloc),
+        })
+    }
+
+    /// Whether the tag ends with one of these characters.
+    fn take<'t>(
+        &mut self,
+        walk: &mut TagWalk<'t>,
+        table: &'t Table,
+        text: &str,
+    ) -> Result<bool, Refusal> {
+        for ch in text.chars() {
+            if walk.take_char(table, &mut self.names, ch, 2, &mut self.errors)? {
+                return Ok(true);
+            }
+        }
+        Ok(false)
+    }
+
+    /// What is left of a run after the characters that are read.
+    fn take_run<'t>(
+        &mut self,
+        walk: &mut TagWalk<'t>,
+        table: &'t Table,
+    ) -> Result<Option<&'static str>, Refusal> {
+        let run = "D-1 href=a.b:c_9#x-/Y  B = a/b a='x >y' a>z";
+        let count = walk.take_run(table, &mut self.names, run, 2, &mut self.errors)?;
+        Ok(run.get(count..))
+    }
+}
+
+/// Whether a walk tells of this name, and of attributes.
+fn is_tag(walk: &TagWalk<'_>, name: &str, has_attributes: bool) -> bool {
+    walk.name() == name && walk.has_attributes() == has_attributes
+}
+
+/// Whether a start tag's name stays that of the end tag after it.
+fn keeps_name<'t>(
+    kit: &mut Kit,
+    walk: &mut TagWalk<'t>,
+    table: &'t Table,
+) -> Result<bool, Refusal> {
+    walk.begin(TagKind::Start, 'P')?;
+    let is_read = kit.take(walk, table, " x>")? && is_tag(walk, "p", true);
+    walk.begin_end();
+    let is_end = matches!(walk.kind(), TagKind::End) && kit.take(walk, table, ">")?;
+    Ok(is_read && is_end && is_tag(walk, "p", false))
+}
+
+#[test]
+fn a_raw_end_tag_keeps_the_name(rt: HostRuntime) -> Result<(), Fail> {
+    let table = Table::core(rt.alloc())?;
+    let mut kit = Kit::new(rt.alloc())?;
+    let mut walk = TagWalk::new(rt.alloc());
+    assert!(rt; is_tag(&walk, "", false));
+    let answer = keeps_name(&mut kit, &mut walk, &table);
+    assert!(rt; answer == Ok(true));
+    Ok(())
+}
+
+/// Whether a run is read up to the end of its tag.
+fn takes_run<'t>(kit: &mut Kit, walk: &mut TagWalk<'t>, table: &'t Table) -> Result<bool, Refusal> {
+    walk.begin(TagKind::Start, 'T')?;
+    let left = kit.take_run(walk, table)?;
+    let is_read = left == Some(">z") && kit.take(walk, table, ">")?;
+    Ok(is_read && is_tag(walk, "td-1", true) && walk.take_attributes().len() == 3)
+}
+
+#[test]
+fn a_run_is_taken_as_far_as_its_tag_goes(rt: HostRuntime) -> Result<(), Fail> {
+    let table = Table::core(rt.alloc())?;
+    let mut kit = Kit::new(rt.alloc())?;
+    let mut walk = TagWalk::new(rt.alloc());
+    let answer = takes_run(&mut kit, &mut walk, &table);
+    assert!(rt; answer == Ok(true) && kit.errors.len() == 1);
+    Ok(())
+}
