@@ -15,19 +15,33 @@ mod shown;
 use crate::line::Reader;
 use crate::run::Run;
 use crate::shown::say;
-use anyhow::Result;
-use std::alloc::AllocError;
+use std::alloc::{AllocError, Global};
 use std::io;
 
-fn main(rt: HostRuntime) -> Result<()> {
+fn main(rt: HostRuntime) -> io::Result<()> {
     let script = io::read_to_string(rt.alloc(), rt.reader())?;
     let mut answers = String::new(rt.alloc());
-    let mut reader = Reader::new(rt.alloc())?;
-    let mut run = Run::new(rt.alloc())?;
-    let done = play(&script, &mut reader, &mut run, &mut answers);
-    print!(rt; "{answers}")?;
-    done?;
-    Ok(())
+    answer_all(&script, rt.alloc(), &mut answers)?;
+    print!(rt; "{answers}")
+}
+
+/// Answers a script.
+fn answer_all(script: &str, alloc: Global, answers: &mut String) -> Result<(), AllocError> {
+    let mut run = Run::new(alloc)?;
+    answer_on(script, alloc, &mut run, answers)
+}
+
+/// Answers a script that begins on a site.
+fn answer_on(
+    script: &str,
+    alloc: Global,
+    run: &mut Run,
+    answers: &mut String,
+) -> Result<(), AllocError>
+    requires { IsTrue run.old.sound → Kept numbers run.old.site }
+{
+    let mut reader = Reader::new(alloc)?;
+    play(script, &mut reader, run, answers)
 }
 
 /// Whether a line of the script is no call.
