@@ -9,8 +9,8 @@ returns-in_ok-push-in-Element c =
     let made = element_made c.intern.new.self c.in_ok-name-in-Element.name c.in-Element.name.now c.new.result.items c.args.tree.now c.create_element.new.self c.in_ok-name-in-Element.ensures.number c.new.ensures.items c.in-Ok.ensures.ok named in
     (c.in_ok-name-in-Element.ensures.names, c.in_ok-append-in-Element.ensures c.intern.new.self made)
 
-pub returns-in_ok-add_text-in-Text : goal.returns-in_ok-add_text-in-Text
-returns-in_ok-add_text-in-Text c = (c.requires.0, c.in_ok-add_text-in-Text.ensures c.args.names.now c.requires.1)
+pub returns-in_ok-push-in-Text : goal.returns-in_ok-push-in-Text
+returns-in_ok-push-in-Text c = (c.requires.0, c.in_ok-add_text-in-Text.ensures c.args.names.now c.requires.1)
 
 pub returns-in_ok-push-in-Comment : goal.returns-in_ok-push-in-Comment
 returns-in_ok-push-in-Comment c = (c.requires.0, c.in_ok-append-in-Comment.ensures c.args.names.now (c.in_ok-comment-in-Comment.ensures c.args.names.now c.requires.1))
