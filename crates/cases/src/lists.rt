@@ -7,7 +7,7 @@ use crate::check::check;
 use crate::grow::{Grown, grow};
 use crate::records::{Record, Section};
 use anyhow::{Context, Result, bail};
-use hwrite::{is_plain, serialize, serialize_to_vec, tree_text};
+use hwrite::{Escaping, is_plain, serialize, serialize_to_vec, tree_text};
 use std::alloc::Global;
 use std::mem;
 
@@ -26,7 +26,11 @@ struct List {
 /// Whether a record's list is written as it says, is plain exactly if it comes back, and what comes back is what it says.
 pub fn check_list(alloc: Global, record: &Record) -> Result<bool> {
     let list = List::read(alloc, record)?;
-    Ok(list.is_written_so(alloc)? && check(alloc, &list.case(alloc)?)?)
+    Ok(
+        list.is_written_so(alloc)?
+            && check(alloc, &list.case(alloc)?)?
+            && check(alloc, &list.escaped_case(alloc)?)?,
+    )
 }
 
 impl List {
@@ -77,6 +81,15 @@ impl List {
         Ok(case)
     }
 
+    /// The case of the same list with `<` and `>` escaped in values, too.
+    fn escaped_case(&self, alloc: Global) -> Result<Case> {
+        let grown = grow(alloc, &self.context, &self.tree)?;
+        let input = html(alloc, &grown, Escaping::Two)?;
+        let mut case = self.case(alloc)?;
+        case.input = input;
+        Ok(case)
+    }
+
     /// The tree that comes back, or the refusal.
     fn comes_back_as(&self) -> &str {
         match &self.back {
@@ -93,10 +106,17 @@ fn texts(alloc: Global, grown: &Grown) -> Result<(Vec<u8>, Vec<u8>)>
     let Ok(tree) = tree_text(alloc, &grown.tree, &grown.names, grown.root) else {
         bail!("no text of a tree");
     };
-    let Ok(written) = serialize_to_vec(alloc, &grown.tree, &grown.names, grown.root) else {
-        bail!("a tree is not written");
-    };
-    Ok((tree, written))
+    Ok((tree, html(alloc, grown, Escaping::One)?))
+}
+
+/// The tree's HTML.
+fn html(alloc: Global, grown: &Grown, escaping: Escaping) -> Result<Vec<u8>>
+    requires { IsGrown grown.now }
+{
+    match serialize_to_vec(alloc, &grown.tree, &grown.names, grown.root, escaping) {
+        Ok(written) => Ok(written),
+        Err(_) => bail!("a tree is not written"),
+    }
 }
 
 /// Whether a writer that has room for less than the tree's HTML takes as much of it, for each room, and fails.
@@ -108,7 +128,13 @@ fn is_begun_so(alloc: Global, grown: &Grown, written: &[u8]) -> Result<bool>
         let mut taken = Vec::from_slice(alloc, front)?;
         taken.fill(0);
         let mut out = taken.as_mut_slice();
-        let answer = serialize(&grown.tree, &grown.names, grown.root, &mut out);
+        let answer = serialize(
+            &grown.tree,
+            &grown.names,
+            grown.root,
+            Escaping::One,
+            &mut out,
+        );
         if answer.is_ok() != (room == written.len()) || taken.as_slice() != front {
             return Ok(false);
         }

@@ -85,6 +85,7 @@ pub record Ways (table : Entities) (where_is : Setting) (c : ℕ) (bytes : List 
 -- `<` is escaped in texts, in each way of escaping
 less_escaped : (how : Escaping) → escapes_angles how setting.Text ≡ true
 less_escaped escaping.One = refl
+less_escaped escaping.Two = refl
 
 and_true : (a b : Bool) → b ≡ true → (a && b) ≡ false → a ≡ false
 and_true true b e h = absurd cc

@@ -111,7 +111,8 @@ number_fault words options (fault.Number name least most) none h = (none, h)
 number_fault words options why none (inl h) = absurd h.1
 number_fault words options why none (inr (h, inl k)) = absurd k.1
 number_fault words options why none (inr (h, inr (k, inl l))) = absurd l.1
-number_fault words options why none (inr (h, inr (k, inr (l, m)))) = absurd m
+number_fault words options why none (inr (h, inr (k, inr (l, inl m)))) = absurd m.1
+number_fault words options why none (inr (h, inr (k, inr (l, inr (m, n))))) = absurd n
 
 pub says_fault : (r : Result Line Fault) (words : List Text) (task : Option Task) (value : Text → Option Text) → fault_of program words ≡ [] → value ≡ value_of words
     → MatchResult r (Says task value) (NumberFault value numeric_options) → IfErr r (FaultOf words)

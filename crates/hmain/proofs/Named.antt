@@ -21,6 +21,7 @@ abbrev told_with : Line → Entities → List QuirkLine → ℕ → Limits → T
 told_with line table quirks limit limits = record {
   task = line.command.task;
   context = name_of line.command.context;
+  escaping = line.command.escaping;
   piece = line.command.piece;
   settings = record { table = table; quirks = quirks; input = limit; limits = limits };
 }
@@ -70,6 +71,7 @@ module _ {R : Type 0} (has_text : R → List ℕ → List ℕ → Type 0) (lacks
       record {
         task = says.task_is;
         context = says.context_is;
+        escaping = says.escaping_is;
         allowed = allows;
         piece = says.piece_is;
         table = table_found table found;

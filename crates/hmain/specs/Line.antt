@@ -1,11 +1,13 @@
 -- The command line of the program, in the words of `clap`, and what its words say.
-use Rattle.std.specs.Prelude.{◌≡◌, ◌⊎◌, ◌^◌, ◌-◌, ℕ, ⊤, true, List, [], ◌∷◌, ◌++◌, map, Option, None, Some, option_and_then, option_map, codes}
+use Rattle.std.specs.Prelude.{◌≡◌, ◌⊎◌, ◌^◌, ◌-◌, ℕ, ⊤, true, List, [], ◌∷◌, ◌++◌, map, Option, None, Some, option_and_then, option_map, codes, ◌==◌, if◌then◌else◌}
 use Rattle.std.specs.Str.Parse.{digits_value, without_leading_plus}
 use Rattle.clap.specs.Words.{App, IsAmong, IsUnsignedIn, Rule, Shape, Text, fault_of, first_of, kind_of, new_app, new_rule, subcommand_of, with_rule, with_subcommand}
+use Rattle.hwrite.specs.declared.escaping.Escaping.{Escaping}
+use Rattle.hwrite.specs.declared.escaping.Escaping.TheVariants.{One, Two}
 use Rattle.hrun.specs.Command.{task_named}
 use Rattle.hrun.specs.declared.command.Task.{Task}
 use Rattle.hmain.specs.declared.commands.Reads.{Reads}
-use Rattle.hmain.specs.declared.commands.Reads.TheVariants.{Document, Either, Fragment}
+use Rattle.hmain.specs.declared.commands.Reads.TheVariants.{Document, Either, Fragment, Written}
 use Rattle.hmain.specs.declared.fault.Fault.{Fault}
 use Rattle.hmain.specs.declared.fault.Fault.TheVariants as fault
 use Rattle.hmain.specs.declared.said.Line.{Line}
@@ -18,10 +20,11 @@ file_rule = record (new_rule (codes "file")) { value_names = 1 }
 abbrev pub option_rule : Text → Rule
 option_rule name = record (new_rule name) { long = Some name; value_names = 1 }
 
--- the option that names a fragment's context, by what the command reads
+-- the option that names a fragment's context, by what the command reads, and that of escaping
 abbrev pub context_rules : Reads → List Rule
 context_rules Document = []
 context_rules Either = option_rule (codes "in") ∷ []
+context_rules Written = option_rule (codes "in") ∷ option_rule (codes "escape") ∷ []
 context_rules Fragment = record (option_rule (codes "in")) { required = true } ∷ []
 
 -- the options of each command
@@ -50,7 +53,7 @@ with_commands (command ∷ commands) app = with_commands commands (with_subcomma
 -- the commands: their names, and what they read
 abbrev pub commands : List (Text × Reads)
 commands =
-    (codes "tokens", Document) ∷ (codes "tree", Document) ∷ (codes "errors", Either) ∷ (codes "write", Either) ∷ (codes "fragment", Fragment)
+    (codes "tokens", Document) ∷ (codes "tree", Document) ∷ (codes "errors", Either) ∷ (codes "write", Written) ∷ (codes "fragment", Fragment)
     ∷ (codes "plain", Fragment) ∷ []
 
 abbrev pub program : App
@@ -81,9 +84,12 @@ piece_option = record { name = codes "piece"; least = 1; most = 65536 }
 abbrev pub limit_option : Text → Numeric
 limit_option name = record { name = name; least = 0; most = 2 ^ 64 - 1 }
 
--- those of each command, in the order in which they are read
+abbrev pub escape_option : Numeric
+escape_option = record { name = codes "escape"; least = 1; most = 2 }
+
+-- those of the commands, in the order in which they are read
 abbrev pub numeric_options : List Numeric
-numeric_options = piece_option ∷ limit_option (codes "nodes") ∷ limit_option (codes "open") ∷ []
+numeric_options = piece_option ∷ limit_option (codes "nodes") ∷ limit_option (codes "open") ∷ escape_option ∷ []
 
 -- its value, if there is one, is a number in its range
 abbrev pub IsNumber : Numeric → Option Text → Type 0
@@ -94,6 +100,10 @@ IsNumber option (Some text) = IsUnsignedIn option.least option.most text
 abbrev pub number_or : ℕ → Option Text → ℕ
 number_or default None = default
 number_or default (Some text) = number_of text
+
+-- the way of escaping of a number
+abbrev pub escaping_of : ℕ → Escaping
+escaping_of number = if number == 2 then Two else One
 
 -- each of these options is a number in its range, where it has a value
 abbrev pub AreNumbers : (Text → Option Text) → List Numeric → Type 0
@@ -116,6 +126,7 @@ pub record Says (task : Option Task) (value : Text → Option Text) (line : Line
   pub task_is : task ≡ Some line.command.task
   pub context_is : option_map (λ s. s.now) line.command.context ≡ value (codes "in")
   pub numbers : AreNumbers value numeric_options
+  pub escaping_is : line.command.escaping ≡ escaping_of (number_or 1 (value (codes "escape")))
   pub piece_is : line.command.piece ≡ number_or 65536 (value (codes "piece"))
   pub entities_is : option_map (λ s. s.now) line.entities ≡ value (codes "entities")
   pub quirks_is : option_map (λ s. s.now) line.quirks ≡ value (codes "quirks")

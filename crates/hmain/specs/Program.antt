@@ -11,6 +11,7 @@ use Rattle.hmarkup.specs.Quirks.{QuirkLine, ReadsQuirks}
 use Rattle.hbuild.specs.Bounds.{AreLimits}
 use Rattle.hmodes.specs.Beginning.{Limits}
 use Rattle.hrun.specs.declared.command.Task.{Task}
+use Rattle.hwrite.specs.declared.escaping.Escaping.{Escaping}
 use Rattle.hrun.specs.Calls.{EndsWith}
 use Rattle.hrun.specs.declared.command.Command.{Command}
 use Rattle.hparse.specs.declared.options.Options.{Options}
@@ -21,7 +22,7 @@ use Rattle.hrun.specs.Running.{RunsTask}
 use Rattle.hmain.specs.declared.fault.Fault.{Fault}
 use Rattle.hmain.specs.declared.fault.Fault.TheVariants as fault
 use Rattle.hmain.specs.Ending.{ending_text, status_of}
-use Rattle.hmain.specs.Line.{program, task_of, value_of, number_or, numeric_options, AreNumbers, FaultOf}
+use Rattle.hmain.specs.Line.{program, task_of, value_of, escaping_of, number_or, numeric_options, AreNumbers, FaultOf}
 
 -- what a run of the engine is for the program
 abbrev pub outcome_of : Result (Unit {0}) Refusal → Result (Unit {0}) Fault
@@ -32,12 +33,13 @@ outcome_of (Err refusal) = Err (fault.Refused refusal)
 pub record Told : Type 0 where
   pub task : Task
   pub context : Option Text
+  pub escaping : Escaping
   pub piece : ℕ
   pub settings : Settings
 
 abbrev pub told_of : Command → Options → Told
 told_of command options =
-    record { task = command.task; context = option_map (λ s. s.now) command.context; piece = command.piece; settings = told_by options }
+    record { task = command.task; context = option_map (λ s. s.now) command.context; escaping = command.escaping; piece = command.piece; settings = told_by options }
 
 -- the most nodes, and the most open elements
 abbrev pub limits_of : List Text → Limits
@@ -48,7 +50,7 @@ abbrev pub AnswersInput : {S W : Type 0} → (S → Option (List ℕ)) → (S �
     → Type 0
 AnswersInput left reads written writes told source source' target target' outcome =
     (answer : Result (Unit {0}) Refusal)
-    × RunsTask left reads written writes told.task told.context told.settings told.piece source source' target target' answer
+    × RunsTask left reads written writes told.escaping told.task told.context told.settings told.piece source source' target target' answer
     × (outcome ≡ outcome_of answer)
 
 -- what is read of the text of a table of character references
@@ -76,6 +78,7 @@ module _ {R : Type 0} (has_text : R → List ℕ → List ℕ → Type 0) (lacks
     pub task : task_of words ≡ Some told.task
     pub context : told.context ≡ value_of words (codes "in")
     pub allowed : AllowsContext told.context
+    pub escaping : told.escaping ≡ escaping_of (number_or 1 (value_of words (codes "escape")))
     pub piece : told.piece ≡ number_or 65536 (value_of words (codes "piece"))
     pub table : FindsTable surroundings (value_of words (codes "entities")) (Ok told.settings.table)
     pub quirks : FindsQuirks surroundings (value_of words (codes "quirks")) (Ok told.settings.quirks)

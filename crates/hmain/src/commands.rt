@@ -16,6 +16,8 @@ pub enum Reads {
     Document,
     /// A fragment where its context is named, and a document otherwise.
     Either,
+    /// The same, and how HTML is escaped.
+    Written,
     /// A fragment.
     Fragment,
 }
@@ -24,7 +26,7 @@ pub enum Reads {
 pub fn command_line<'a>(alloc: Global) -> Result<Command<'a>, AllocError>
     ensures { IfOk result (λ command. app_of command ≡ program) }
 {
-    use Reads::{Document, Either, Fragment};
+    use Reads::{Document, Either, Fragment, Written};
     let line = Command::new(alloc, "htmlp")
         .about("Reads HTML as the HTML Standard says")
         .subcommand_required(true)
@@ -38,7 +40,7 @@ pub fn command_line<'a>(alloc: Global) -> Result<Command<'a>, AllocError>
         Document,
     )?;
     let line = with_command(alloc, line, "errors", "A line for each parse error", Either)?;
-    let line = with_command(alloc, line, "write", "The tree as HTML", Either)?;
+    let line = with_command(alloc, line, "write", "The tree as HTML", Written)?;
     let line = with_command(alloc, line, "fragment", "The tree of a fragment", Fragment)?;
     with_command(
         alloc,
@@ -85,7 +87,7 @@ fn command<'a>(
     with_choices(alloc, with_context(alloc, bare, reads)?)
 }
 
-/// The command with the option that names a fragment's context, if it reads one.
+/// The command with the option that names a fragment's context, if it reads one, and that of escaping, if it writes.
 fn with_context<'a>(
     alloc: Global,
     command: Command<'a>,
@@ -97,6 +99,7 @@ fn with_context<'a>(
     match reads {
         Reads::Document => Ok(command),
         Reads::Either => command.arg(context(alloc)),
+        Reads::Written => command.arg(context(alloc))?.arg(escape(alloc)),
         Reads::Fragment => command.arg(context(alloc).required(true)),
     }
 }
@@ -107,6 +110,19 @@ fn context<'a>(alloc: Global) -> Arg<'a>
     ensures local { result.global ≡ false }
 {
     option(alloc, "in", "NAME", "The element in which the input stands")
+}
+
+/// The option that names a way of escaping.
+fn escape<'a>(alloc: Global) -> Arg<'a>
+    ensures rule { rule_of result ≡ option_rule (codes "escape") }
+    ensures local { result.global ≡ false }
+{
+    option(
+        alloc,
+        "escape",
+        "N",
+        "Whether < and > stay in attribute values, 1, or are escaped, 2 [default: 1]",
+    )
 }
 
 /// The command with the options of each command.

@@ -4,7 +4,7 @@ ghost use Rattle.std.specs.Prelude.{◌≡◌, ◌<◌, ◌≤◌, [], true, IfO
 ghost use Rattle.clap.specs.Words.{fault_of, first_value, found_of, takes};
 ghost use Rattle.clap.specs.Walk.{texts};
 ghost use Rattle.hrun.specs.Command.{task_named};
-ghost use Rattle.hmain.specs.Line.{number_of, number_or, numeric_options, program, task_of, value_of, AreNumbers, FaultOf, IsNumber, IsNumberFault, NumberFault, Says};
+ghost use Rattle.hmain.specs.Line.{escaping_of, number_of, number_or, numeric_options, program, task_of, value_of, AreNumbers, FaultOf, IsNumber, IsNumberFault, NumberFault, Says};
 ghost use Rattle.hmain.specs.declared.fault.Fault.TheVariants as fault;
 
 use crate::commands::command_line;
@@ -13,6 +13,7 @@ use crate::said::Line;
 use clap::ArgMatches;
 use hbuild::{MAX_DEPTH, MAX_NODES};
 use hrun::{Command, Task};
+use hwrite::Escaping;
 use std::alloc::Global;
 
 /// The most bytes that are fed at a time, and the number where no option gives one.
@@ -45,10 +46,12 @@ fn said<'a>(name: &'a str, found: &ArgMatches<'a>) -> Result<Line<'a>, Fault>
     let piece = number(found, "piece", 1, MOST_PIECE)?.unwrap_or(MOST_PIECE);
     let nodes = number(found, "nodes", 0, u64::MAX)?.unwrap_or(MAX_NODES);
     let open = number(found, "open", 0, u64::MAX)?.unwrap_or(MAX_DEPTH);
+    let escaping = escaping_of(number(found, "escape", 1, 2)?.unwrap_or(1));
     Ok(Line {
         command: Command {
             task,
             context: found.get_str("in"),
+            escaping,
             piece: piece as usize,
         },
         entities: found.get_str("entities"),
@@ -57,6 +60,17 @@ fn said<'a>(name: &'a str, found: &ArgMatches<'a>) -> Result<Line<'a>, Fault>
         open,
         file: found.get_str("file"),
     })
+}
+
+/// The way of escaping of a number.
+fn escaping_of(number: u64) -> Escaping
+    ensures { result ≡ escaping_of number }
+{
+    if number == 2 {
+        Escaping::Two
+    } else {
+        Escaping::One
+    }
 }
 
 /// The number that the value of an option writes, from the least to the most, if it has a value.

@@ -16,7 +16,7 @@ use Rattle.hnodes.specs.Spelled.{spelled}
 use Rattle.hnodes.specs.Spots.{name_of}
 use Rattle.hwrite.specs.Lines.{tree_text, error_lines}
 use Rattle.hwrite.specs.Written.{has_no_references, is_raw_in, written, written_among}
-use Rattle.hwrite.specs.declared.escaping.Escaping.TheVariants.{One}
+use Rattle.hwrite.specs.declared.escaping.Escaping.{Escaping}
 use Rattle.hwrite.proofs.KnownNames.{tags-agree}
 use Rattle.hparse.specs.declared.parsed.Parsed.{Parsed}
 use Rattle.hparse.specs.Parse.{Parse, Parses, Subject, Told, root_of}
@@ -56,11 +56,11 @@ name_is : (subject : Subject) (parsed : Parsed) (parse : Parse) → IsParse subj
 name_is subject parsed parse is =
     sym ((questions (spelling parsed.names)).name parsed.root parsed.tree.trees) ∙ ap₂ (λ (n : ℕ) (f : Forest (List ℕ)). name_of n f) is.root is.trees
 
-pub html_printed : (told : Told) (subject : Subject) (bytes : List ℕ) (parsed : Parsed) (text : List ℕ) → AnswersParse told subject bytes (Ok parsed)
-    → text ≡ written One (option_map (text_of parsed.names) (name_of parsed.root parsed.tree.trees)) (children_spelled parsed) → Prints (Parses told subject) (written_text subject) bytes (Ok text)
-html_printed told subject bytes parsed text (parse, is, parses) html =
+pub html_printed : (how : Escaping) (told : Told) (subject : Subject) (bytes : List ℕ) (parsed : Parsed) (text : List ℕ) → AnswersParse told subject bytes (Ok parsed)
+    → text ≡ written how (option_map (text_of parsed.names) (name_of parsed.root parsed.tree.trees)) (children_spelled parsed) → Prints (Parses told subject) (written_text how subject) bytes (Ok text)
+html_printed how told subject bytes parsed text (parse, is, parses) html =
     let raw = raw-alike parsed.names is.table (name_of parsed.root parsed.tree.trees) ∙ ap is_raw_in (name_is subject parsed parse is) in
-    subst (λ (t : List ℕ). Prints (Parses told subject) (written_text subject) bytes (Ok t)) (sym (html ∙ ap₂ (written_among One) raw (children_are subject parsed parse is)))
+    subst (λ (t : List ℕ). Prints (Parses told subject) (written_text how subject) bytes (Ok t)) (sym (html ∙ ap₂ (written_among how) raw (children_are subject parsed parse is)))
     (printed parse parses)
 
 pub plain_printed : (told : Told) (subject : Subject) (bytes : List ℕ) (parsed : Parsed) (answer : Bool) (text : List ℕ) → AnswersParse told subject bytes (Ok parsed)

@@ -8,7 +8,7 @@ use Rattle.hnodes.specs.Spots.{name_of}
 use Rattle.hwrite.specs.Lines.{tree_text, error_lines}
 use Rattle.hwrite.specs.Plain.{is_plain}
 use Rattle.hwrite.specs.Written.{written}
-use Rattle.hwrite.specs.declared.escaping.Escaping.TheVariants.{One}
+use Rattle.hwrite.specs.declared.escaping.Escaping.{Escaping}
 use Rattle.hparse.specs.Answer.{Answers}
 use Rattle.hparse.specs.Parse.{Parse, Parses, Subject, document, fragment, Told, root_of}
 use Rattle.hrun.specs.declared.command.Task.{Task}
@@ -32,8 +32,8 @@ abbrev pub errors_text : Parse → List ℕ
 errors_text parse = error_lines parse.errors
 
 -- what stands in the root as HTML (13.3); the root's own name says how its texts are written
-abbrev pub written_text : Subject → Parse → List ℕ
-written_text subject parse = written One (name_of (root_of subject) parse.trees) (children_of (root_of subject) parse.trees)
+abbrev pub written_text : Escaping → Subject → Parse → List ℕ
+written_text escaping subject parse = written escaping (name_of (root_of subject) parse.trees) (children_of (root_of subject) parse.trees)
 
 -- whether the nodes of a fragment are plain in its context; those of a document are not
 abbrev pub is_plain_in : Subject → Forest (List ℕ) → Bool
@@ -47,13 +47,13 @@ plain_line false = codes "not plain\n"
 abbrev pub plain_text : Subject → Parse → List ℕ
 plain_text subject parse = plain_line (is_plain_in subject (children_of (root_of subject) parse.trees))
 
--- what a task prints of an input that stands in this element, or is a document; tokens are those of a document
-abbrev pub prints_of : Task → Option (List ℕ) → Told → List ℕ → Result (List ℕ) Refusal → Type 0
-prints_of task.Tokens context told = Prints (Answers told.table told.input) tokens_text
-prints_of task.Tree context told = Prints (Parses told (subject_in context)) (nodes_text (subject_in context))
-prints_of task.Errors context told = Prints (Parses told (subject_in context)) errors_text
-prints_of task.Write context told = Prints (Parses told (subject_in context)) (written_text (subject_in context))
-prints_of task.Plain context told = Prints (Parses told (subject_in context)) (plain_text (subject_in context))
+-- what a task prints of an input that stands in this element, or is a document, where HTML is escaped so; tokens are those of a document
+abbrev pub prints_of : Escaping → Task → Option (List ℕ) → Told → List ℕ → Result (List ℕ) Refusal → Type 0
+prints_of escaping task.Tokens context told = Prints (Answers told.table told.input) tokens_text
+prints_of escaping task.Tree context told = Prints (Parses told (subject_in context)) (nodes_text (subject_in context))
+prints_of escaping task.Errors context told = Prints (Parses told (subject_in context)) errors_text
+prints_of escaping task.Write context told = Prints (Parses told (subject_in context)) (written_text escaping (subject_in context))
+prints_of escaping task.Plain context told = Prints (Parses told (subject_in context)) (plain_text (subject_in context))
 
 -- the element in which a task's input stands
 abbrev pub context_of : Task → Option (List ℕ) → Option (List ℕ)

@@ -11,6 +11,7 @@ use Rattle.hparse.specs.Parse.{Told}
 use Rattle.hparse.specs.declared.parser.Parser.{Parser}
 use Rattle.hparse.specs.Parsing.{HasParsed}
 use Rattle.hrun.specs.declared.command.Task.{Task}
+use Rattle.hwrite.specs.declared.escaping.Escaping.{Escaping}
 use Rattle.hrun.specs.Context.{AllowsContext, subject_in}
 use Rattle.hrun.specs.Prints.{prints_of, context_of}
 
@@ -67,10 +68,10 @@ pub data RunsIn {S W : Type 0} (left : S → Option (List ℕ)) (failed_reads : 
       → RunsIn left failed_reads written failed_writes context prints limit piece source source' target target' answer
 
 -- what a run of a task does
-abbrev pub RunsTask : {S W : Type 0} → (S → Option (List ℕ)) → (S → ℕ) → (W → Option (List ℕ)) → (W → ℕ) → Task → Option (List ℕ) → Told → ℕ → S → S → W → W
+abbrev pub RunsTask : {S W : Type 0} → (S → Option (List ℕ)) → (S → ℕ) → (W → Option (List ℕ)) → (W → ℕ) → Escaping → Task → Option (List ℕ) → Told → ℕ → S → S → W → W
     → Result (Unit {0}) Refusal → Type 0
-RunsTask left failed_reads written failed_writes task context told piece =
-    RunsIn left failed_reads written failed_writes (context_of task context) (prints_of task context told) told.input piece
+RunsTask left failed_reads written failed_writes escaping task context told piece =
+    RunsIn left failed_reads written failed_writes (context_of task context) (prints_of escaping task context told) told.input piece
 
 -- What reading an input does that stands in this element, or is a document.
 pub data ReadsIn {S R : Type 0} (left : S → Option (List ℕ)) (failed : S → ℕ) (context : Option (List ℕ)) (answers : List ℕ → Result R Refusal → Type 0)

@@ -3,6 +3,8 @@
 ghost use Rattle.std.specs.Prelude.{◌≡◌};
 ghost use Rattle.hrun.specs.Command.{task_named};
 
+use hwrite::Escaping;
+
 /// What is made of an input.
 #[derive(Clone, Copy, Debug, PartialEq, Eq)]
 pub enum Task {
@@ -34,11 +36,12 @@ impl Task {
     }
 }
 
-/// A task, the name of the element in which the input stands, and how many bytes of the input are fed at a time: 1 to 65,536.
-/// An input without such an element is a document. That of `Tokens` always is.
+/// A task, the name of the element in which the input stands, how `Write` escapes, and how many bytes of the input are fed at a
+/// time: 1 to 65,536. An input without such an element is a document. That of `Tokens` always is.
 #[derive(Clone, Copy, Debug, PartialEq, Eq)]
 pub struct Command<'a> {
     pub task: Task,
     pub context: Option<&'a str>,
+    pub escaping: Escaping,
     pub piece: usize,
 }

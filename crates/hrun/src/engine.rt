@@ -34,7 +34,7 @@ pub fn run<S: Source, W: Target>(
 ) -> Result<(), Refusal>
     requires limit { options.now.input_limit ≤ MAX_INPUT }
     requires piece { 0 < command.piece }
-    ensures { RunsTask S.left S.failed W.written W.failed command.entry.task (name_of command.entry.context) (told_by options.now) command.entry.piece
+    ensures { RunsTask S.left S.failed W.written W.failed command.entry.escaping command.entry.task (name_of command.entry.context) (told_by options.now) command.entry.piece
         source.old source.new target.old target.new result }
 {
     match command.task {
@@ -113,11 +113,17 @@ fn run_write<S: Source, W: Target>(
     requires limit { options.now.input_limit ≤ MAX_INPUT }
     requires piece { 0 < command.piece }
     ensures { RunsIn S.left S.failed W.written W.failed (name_of command.entry.context)
-        (Prints (Parses (told_by options.now) (subject_in (name_of command.entry.context))) (written_text (subject_in (name_of command.entry.context))))
+        (Prints (Parses (told_by options.now) (subject_in (name_of command.entry.context))) (written_text command.entry.escaping (subject_in (name_of command.entry.context))))
         options.now.input_limit command.entry.piece source.old source.new target.old target.new result }
 {
     let parsed = parse(alloc, command, options, source)?;
-    let text = serialize_to_vec(alloc, &parsed.tree, &parsed.names, parsed.root)?;
+    let text = serialize_to_vec(
+        alloc,
+        &parsed.tree,
+        &parsed.names,
+        parsed.root,
+        command.escaping,
+    )?;
     write_text(target, &text)
 }
 

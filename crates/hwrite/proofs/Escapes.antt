@@ -9,29 +9,29 @@ use Rattle.std.specs.List.{flat_map}
 use Rattle.std.specs.Str.{IsUtf8}
 use Rattle.hwrite.specs.Escaping.{escaped, written_char}
 use Rattle.hwrite.specs.Output.{AppendsBeginning}
-use Rattle.hwrite.specs.declared.escaping.Escaping.TheVariants.{One}
+use Rattle.hwrite.specs.declared.escaping.Escaping.{Escaping}
 use Rattle.hwrite.specs.declared.escaping.Setting.{Setting}
 use Rattle.hwrite.proofs.Output.{HasLeft, none_put, part_put, part_failed}
 
 -- What stands before `done` is written, and so far each character after it is written as it is.
-pub record IsEscaping (setting : Setting) (source : List ℕ) (done at : ℕ) (rest : List ℕ) (old now : Option (List ℕ)) : Type 0 where
+pub record IsEscaping (how : Escaping) (setting : Setting) (source : List ℕ) (done at : ℕ) (rest : List ℕ) (old now : Option (List ℕ)) : Type 0 where
   pub before : List ℕ
   pub run : List ℕ
   pub parts : source ≡ before ++ (run ++ rest)
   pub done_is : done ≡ length before
   pub at_is : at ≡ length before + length run
   pub utf8 : IsUtf8 rest
-  pub left : HasLeft old now (escaped One setting source) (run ++ escaped One setting rest)
+  pub left : HasLeft old now (escaped how setting source) (run ++ escaped how setting rest)
 
-begins : (setting : Setting) (source : List ℕ) (old : Option (List ℕ)) → IsUtf8 source → IsEscaping setting source 0 0 source old old
-begins setting source old utf8 =
-    record { before = []; run = []; parts = refl; done_is = refl; at_is = refl; utf8 = utf8; left = none_put old (escaped One setting source) }
+begins : (how : Escaping) (setting : Setting) (source : List ℕ) (old : Option (List ℕ)) → IsUtf8 source → IsEscaping how setting source 0 0 source old old
+begins how setting source old utf8 =
+    record { before = []; run = []; parts = refl; done_is = refl; at_is = refl; utf8 = utf8; left = none_put old (escaped how setting source) }
 
-pub begins_at : (setting : Setting) (source : List ℕ) (at : ℕ) (rest : List ℕ) (old : Option (List ℕ)) → at ≡ 0 → rest ≡ source → IsUtf8 source → IsEscaping setting source 0 at rest old old
-begins_at setting source at rest old none all utf8 =
-    subst (λ a. IsEscaping setting source 0 a rest old old) (sym none) (subst (λ r. IsEscaping setting source 0 0 r old old) (sym all) (begins setting source old utf8))
+pub begins_at : (how : Escaping) (setting : Setting) (source : List ℕ) (at : ℕ) (rest : List ℕ) (old : Option (List ℕ)) → at ≡ 0 → rest ≡ source → IsUtf8 source → IsEscaping how setting source 0 at rest old old
+begins_at how setting source at rest old none all utf8 =
+    subst (λ a. IsEscaping how setting source 0 a rest old old) (sym none) (subst (λ r. IsEscaping how setting source 0 0 r old old) (sym all) (begins how setting source old utf8))
 
-module _ (setting : Setting) (source : List ℕ) (done at : ℕ) (rest : List ℕ) (old now : Option (List ℕ)) (s : IsEscaping setting source done at rest old now) where
+module _ (how : Escaping) (setting : Setting) (source : List ℕ) (done at : ℕ) (rest : List ℕ) (old now : Option (List ℕ)) (s : IsEscaping how setting source done at rest old now) where
   pub run_left : drop done source ≡ s.run ++ rest
   run_left = (λ i. drop (s.done_is i) (s.parts i)) ∙ drop-append_seam s.before (s.run ++ rest)
 
@@ -45,14 +45,14 @@ module _ (setting : Setting) (source : List ℕ) (done at : ℕ) (rest : List �
   in_order = omega (arith, s.done_is, s.at_is)
 
   module _ (ch : ℕ) (next : List ℕ) (split : rest ≡ encode_utf8 ch ++ next) where
-    escaped_next : escaped One setting rest ≡ written_char One setting ch ++ escaped One setting next
-    escaped_next = ap (flat_map (written_char One setting)) (chars_past_char rest next ch s.utf8 split)
+    escaped_next : escaped how setting rest ≡ written_char how setting ch ++ escaped how setting next
+    escaped_next = ap (flat_map (written_char how setting)) (chars_past_char rest next ch s.utf8 split)
 
     next_utf8 : IsUtf8 next
     next_utf8 = IsUtf8-past_char rest next ch s.utf8 split
 
     -- one character more that is written as it is
-    pub kept : (later : ℕ) → later ≡ at + length (encode_utf8 ch) → written_char One setting ch ≡ encode_utf8 ch → IsEscaping setting source done later next old now
+    pub kept : (later : ℕ) → later ≡ at + length (encode_utf8 ch) → written_char how setting ch ≡ encode_utf8 ch → IsEscaping how setting source done later next old now
     kept later moved plain = record {
       before = s.before;
       run = s.run ++ encode_utf8 ch;
@@ -61,15 +61,15 @@ module _ (setting : Setting) (source : List ℕ) (done at : ℕ) (rest : List �
       at_is = let a : length (s.run ++ encode_utf8 ch) ≡ length s.run + length (encode_utf8 ch) = length-append s.run (encode_utf8 ch) in omega (arith, a, s.at_is, moved);
       utf8 = next_utf8;
       left = let (put, is, appended) = s.left in
-          (put, is ∙ ap (λ l. put ++ l) (ap (λ l. s.run ++ l) (escaped_next ∙ ap (λ l. l ++ escaped One setting next) plain) ∙ sym (append_assoc s.run (encode_utf8 ch) (escaped One setting next))), appended);
+          (put, is ∙ ap (λ l. put ++ l) (ap (λ l. s.run ++ l) (escaped_next ∙ ap (λ l. l ++ escaped how setting next) plain) ∙ sym (append_assoc s.run (encode_utf8 ch) (escaped how setting next))), appended);
     }
 
     -- one that is not, after the run before it
-    module _ (mid : Option (List ℕ)) (part : List ℕ) (is : part ≡ s.run) (first : Appends now mid part) (text : List ℕ) (same : written_char One setting ch ≡ text) where
-      run_put : HasLeft old mid (escaped One setting source) (text ++ escaped One setting next)
-      run_put = part_put old now mid _ _ part _ s.left ((λ i. sym is i ++ escaped_next i) ∙ ap (λ t. part ++ (t ++ escaped One setting next)) same) first
+    module _ (mid : Option (List ℕ)) (part : List ℕ) (is : part ≡ s.run) (first : Appends now mid part) (text : List ℕ) (same : written_char how setting ch ≡ text) where
+      run_put : HasLeft old mid (escaped how setting source) (text ++ escaped how setting next)
+      run_put = part_put old now mid _ _ part _ s.left ((λ i. sym is i ++ escaped_next i) ∙ ap (λ t. part ++ (t ++ escaped how setting next)) same) first
 
-      pub replaced : (new : Option (List ℕ)) (past later : ℕ) → past ≡ at + length (encode_utf8 ch) → later ≡ at + length (encode_utf8 ch) → Appends mid new text → IsEscaping setting source past later next old new
+      pub replaced : (new : Option (List ℕ)) (past later : ℕ) → past ≡ at + length (encode_utf8 ch) → later ≡ at + length (encode_utf8 ch) → Appends mid new text → IsEscaping how setting source past later next old new
       replaced new past later stands moved second = record {
         before = s.before ++ (s.run ++ encode_utf8 ch);
         run = [];
@@ -86,16 +86,16 @@ module _ (setting : Setting) (source : List ℕ) (done at : ℕ) (rest : List �
               length-append s.before (s.run ++ encode_utf8 ch) ∙ ap (λ n. length s.before + n) (length-append s.run (encode_utf8 ch)) in
               omega (arith, a, s.at_is)
 
-      pub reference_failed : (new : Option (List ℕ)) → AppendsBeginning mid new text → AppendsBeginning old new (escaped One setting source)
+      pub reference_failed : (new : Option (List ℕ)) → AppendsBeginning mid new text → AppendsBeginning old new (escaped how setting source)
       reference_failed new second = part_failed old mid new _ _ text _ run_put refl second
 
-  pub run_failed : (new : Option (List ℕ)) (part : List ℕ) → part ≡ s.run → AppendsBeginning now new part → AppendsBeginning old new (escaped One setting source)
-  run_failed new part is first = part_failed old now new _ _ part _ s.left (ap (λ l. l ++ escaped One setting rest) (sym is)) first
+  pub run_failed : (new : Option (List ℕ)) (part : List ℕ) → part ≡ s.run → AppendsBeginning now new part → AppendsBeginning old new (escaped how setting source)
+  run_failed new part is first = part_failed old now new _ _ part _ s.left (ap (λ l. l ++ escaped how setting rest) (sym is)) first
 
   -- the last run
-  pub last_is : length rest ≡ 0 → (lent : List ℕ) → lent ≡ source → s.run ++ escaped One setting rest ≡ take (length lent - done) (drop done lent)
+  pub last_is : length rest ≡ 0 → (lent : List ℕ) → lent ≡ source → s.run ++ escaped how setting rest ≡ take (length lent - done) (drop done lent)
   last_is h lent same = go rest h run_left ∙ ap (drop done) (sym same) ∙ sym (take_rest lent done)
     where
-      go : (r : List ℕ) → length r ≡ 0 → drop done source ≡ s.run ++ r → s.run ++ escaped One setting r ≡ drop done source
-      go [] h is = ap (λ cs. s.run ++ flat_map (written_char One setting) cs) chars-nil ∙ sym is
+      go : (r : List ℕ) → length r ≡ 0 → drop done source ≡ s.run ++ r → s.run ++ escaped how setting r ≡ drop done source
+      go [] h is = ap (λ cs. s.run ++ flat_map (written_char how setting) cs) chars-nil ∙ sym is
       go (b ∷ r) h is = absurd (omega (arith, h))

@@ -14,7 +14,7 @@ use Rattle.hnodes.specs.Named.{AreOf, IsLent}
 use Rattle.hwrite.specs.Walk.{node_of, goes_in, visits}
 use Rattle.hwrite.specs.Written.{has_no_references, is_raw_in, start_tag_text, end_tag_text, node_text, written_among, written}
 use Rattle.hwrite.specs.Writing.{holds_raw, stands_raw, opening, closing, opening_of, closing_of, visit_text}
-use Rattle.hwrite.specs.declared.escaping.Escaping.TheVariants.{One}
+use Rattle.hwrite.specs.declared.escaping.Escaping.{Escaping}
 use Rattle.hwrite.specs.declared.walk.Reach.TheVariants.{Written}
 use Rattle.hwrite.specs.declared.walk.Visit.{Visit}
 use Rattle.hwrite.specs.declared.walk.Visit.TheVariants.{Enter, Leave}
@@ -25,9 +25,9 @@ use Rattle.hwrite.specs.Output.{AppendsBeginning}
 use Rattle.hwrite.proofs.Output.{HasLeft, none_put, part_put, part_failed, all_put}
 use Rattle.hwrite.proofs.Seen.{Seen, IsSeen, seen, lent-visits}
 
-module _ (texts : ℕ → List ℕ) (f : Forest ℕ) where
+module _ (how : Escaping) (texts : ℕ → List ℕ) (f : Forest ℕ) where
   abbrev pub enters : ℕ → List ℕ → List ℕ
-  enters n out = out ++ opening_of texts (stands_raw n f) (what_of n f)
+  enters n out = out ++ opening_of how texts (stands_raw n f) (what_of n f)
 
   abbrev pub leaves : ℕ → List ℕ → List ℕ
   leaves n out = out ++ closing_of texts (what_of n f)
@@ -40,10 +40,10 @@ module _ (texts : ℕ → List ℕ) (f : Forest ℕ) where
 
     -- a node and what is inside it, and then those after it
     node-writes : (p b : ℕ) (w : What ℕ) (kids rest : Forest ℕ) → IsSeen made f root p b w kids rest → (out : List ℕ)
-        → ((out : List ℕ) → walked enters leaves Written kids out ≡ out ++ written_among One (holds_raw (name_of b f)) (spelled texts kids))
-        → leaves b (cond (goes_in Written w) (walked enters leaves Written kids (enters b out)) (enters b out)) ≡ out ++ node_text One (holds_raw (name_of p f)) (spelled_what texts w) (written_among One (is_raw_in (name_in (spelled_what texts w))) (spelled texts kids))
+        → ((out : List ℕ) → walked enters leaves Written kids out ≡ out ++ written_among how (holds_raw (name_of b f)) (spelled texts kids))
+        → leaves b (cond (goes_in Written w) (walked enters leaves Written kids (enters b out)) (enters b out)) ≡ out ++ node_text how (holds_raw (name_of p f)) (spelled_what texts w) (written_among how (is_raw_in (name_in (spelled_what texts w))) (spelled texts kids))
     node-writes p b w kids rest s out inner =
-        (λ i. cond (goes_in Written w) (walked enters leaves Written kids (out ++ opening_of texts (begins i) (s.what i))) (out ++ opening_of texts (begins i) (s.what i)) ++ closing_of texts (s.what i))
+        (λ i. cond (goes_in Written w) (walked enters leaves Written kids (out ++ opening_of how texts (begins i) (s.what i))) (out ++ opening_of how texts (begins i) (s.what i)) ++ closing_of texts (s.what i))
         ∙ go w s.what
       where
         raw : Bool
@@ -53,15 +53,15 @@ module _ (texts : ℕ → List ℕ) (f : Forest ℕ) where
         begins = ap (λ o. holds_raw (option_and_then (λ q. name_of q f) o)) s.parent
 
         go : (v : What ℕ) → what_of b f ≡ Some v
-            → cond (goes_in Written v) (walked enters leaves Written kids (out ++ opening texts raw v)) (out ++ opening texts raw v) ++ closing texts v ≡ out ++ node_text One raw (spelled_what texts v) (written_among One (is_raw_in (name_in (spelled_what texts v))) (spelled texts kids))
+            → cond (goes_in Written v) (walked enters leaves Written kids (out ++ opening how texts raw v)) (out ++ opening how texts raw v) ++ closing texts v ≡ out ++ node_text how raw (spelled_what texts v) (written_among how (is_raw_in (name_in (spelled_what texts v))) (spelled texts kids))
         go document e = append-nil (out ++ [])
-        go (doctype n x y) e = append-nil (out ++ opening texts raw (doctype n x y))
-        go (comment t) e = append-nil (out ++ opening texts raw (comment t))
-        go (text t) e = append-nil (out ++ opening texts raw (text t))
-        go (element name attrs) e = under (is_void (tag_of name)) ∙ ap (λ u. out ++ (start ++ cond u [] (written_among One (is_raw_in (Some (texts name))) (spelled texts kids) ++ end))) (ap is_void (tags name))
+        go (doctype n x y) e = append-nil (out ++ opening how texts raw (doctype n x y))
+        go (comment t) e = append-nil (out ++ opening how texts raw (comment t))
+        go (text t) e = append-nil (out ++ opening how texts raw (text t))
+        go (element name attrs) e = under (is_void (tag_of name)) ∙ ap (λ u. out ++ (start ++ cond u [] (written_among how (is_raw_in (Some (texts name))) (spelled texts kids) ++ end))) (ap is_void (tags name))
           where
             start : List ℕ
-            start = start_tag_text One (texts name) (map (spelled_attribute texts) attrs)
+            start = start_tag_text how (texts name) (map (spelled_attribute texts) attrs)
 
             end : List ℕ
             end = end_tag_text (texts name)
@@ -69,55 +69,55 @@ module _ (texts : ℕ → List ℕ) (f : Forest ℕ) where
             own : holds_raw (name_of b f) ≡ is_raw_in (Some (texts name))
             own = ap (λ o. holds_raw (option_and_then name_in o)) e ∙ raw-same (Some name)
 
-            under : (u : Bool) → cond (not u) (walked enters leaves Written kids (out ++ start)) (out ++ start) ++ cond u [] end ≡ out ++ (start ++ cond u [] (written_among One (is_raw_in (Some (texts name))) (spelled texts kids) ++ end))
+            under : (u : Bool) → cond (not u) (walked enters leaves Written kids (out ++ start)) (out ++ start) ++ cond u [] end ≡ out ++ (start ++ cond u [] (written_among how (is_raw_in (Some (texts name))) (spelled texts kids) ++ end))
             under true = append_assoc out start []
             under false =
-                ap (λ t. t ++ end) (inner (out ++ start) ∙ ap (λ r. (out ++ start) ++ written_among One r (spelled texts kids)) own)
-                ∙ append_assoc (out ++ start) (written_among One (is_raw_in (Some (texts name))) (spelled texts kids)) end
-                ∙ append_assoc out start (written_among One (is_raw_in (Some (texts name))) (spelled texts kids) ++ end)
+                ap (λ t. t ++ end) (inner (out ++ start) ∙ ap (λ r. (out ++ start) ++ written_among how r (spelled texts kids)) own)
+                ∙ append_assoc (out ++ start) (written_among how (is_raw_in (Some (texts name))) (spelled texts kids)) end
+                ∙ append_assoc out start (written_among how (is_raw_in (Some (texts name))) (spelled texts kids) ++ end)
 
-    writes : (p : ℕ) (g : Forest ℕ) → Seen made f root p g → (out : List ℕ) → walked enters leaves Written g out ≡ out ++ written_among One (holds_raw (name_of p f)) (spelled texts g)
+    writes : (p : ℕ) (g : Forest ℕ) → Seen made f root p g → (out : List ℕ) → walked enters leaves Written g out ≡ out ++ written_among how (holds_raw (name_of p f)) (spelled texts g)
     writes p none s out = sym (append-nil out)
     writes p (tree b w kids rest) s out =
         ap (walked enters leaves Written rest) (node-writes p b w kids rest s.0 out (λ o. writes b kids s.1 o))
-        ∙ writes p rest s.2 (out ++ node_text One (holds_raw (name_of p f)) (spelled_what texts w) (written_among One (is_raw_in (name_in (spelled_what texts w))) (spelled texts kids)))
-        ∙ append_assoc out (node_text One (holds_raw (name_of p f)) (spelled_what texts w) (written_among One (is_raw_in (name_in (spelled_what texts w))) (spelled texts kids))) (written_among One (holds_raw (name_of p f)) (spelled texts rest))
+        ∙ writes p rest s.2 (out ++ node_text how (holds_raw (name_of p f)) (spelled_what texts w) (written_among how (is_raw_in (name_in (spelled_what texts w))) (spelled texts kids)))
+        ∙ append_assoc out (node_text how (holds_raw (name_of p f)) (spelled_what texts w) (written_among how (is_raw_in (name_in (spelled_what texts w))) (spelled texts kids))) (written_among how (holds_raw (name_of p f)) (spelled texts rest))
 
 -- the text that is to be written
-abbrev pub wanted : Texts → Forest ℕ → ℕ → List ℕ
-wanted names f node = written One (option_map (text_of names) (name_of node f)) (spelled (text_of names) (children_of node f))
+abbrev pub wanted : Escaping → Texts → Forest ℕ → ℕ → List ℕ
+wanted how names f node = written how (option_map (text_of names) (name_of node f)) (spelled (text_of names) (children_of node f))
 
 -- what these visits write
-abbrev pub visits_text : Texts → Forest ℕ → List Visit → List ℕ
-visits_text names f left = run (enters (text_of names) f) (leaves (text_of names) f) left []
+abbrev pub visits_text : Escaping → Texts → Forest ℕ → List Visit → List ℕ
+visits_text how names f left = run (enters how (text_of names) f) (leaves how (text_of names) f) left []
 
-run-after : (names : Texts) (f : Forest ℕ) (left : List Visit) (out : List ℕ) → run (enters (text_of names) f) (leaves (text_of names) f) left out ≡ out ++ visits_text names f left
-run-after names f [] out = sym (append-nil out)
-run-after names f (Enter n ∷ left) out =
-    let here = opening_of (text_of names) (stands_raw n f) (what_of n f) in
-    run-after names f left (out ++ here) ∙ append_assoc out here (visits_text names f left) ∙ ap (λ l. out ++ l) (sym (run-after names f left here))
-run-after names f (Leave n ∷ left) out =
+run-after : (how : Escaping) (names : Texts) (f : Forest ℕ) (left : List Visit) (out : List ℕ) → run (enters how (text_of names) f) (leaves how (text_of names) f) left out ≡ out ++ visits_text how names f left
+run-after how names f [] out = sym (append-nil out)
+run-after how names f (Enter n ∷ left) out =
+    let here = opening_of how (text_of names) (stands_raw n f) (what_of n f) in
+    run-after how names f left (out ++ here) ∙ append_assoc out here (visits_text how names f left) ∙ ap (λ l. out ++ l) (sym (run-after how names f left here))
+run-after how names f (Leave n ∷ left) out =
     let here = closing_of (text_of names) (what_of n f) in
-    run-after names f left (out ++ here) ∙ append_assoc out here (visits_text names f left) ∙ ap (λ l. out ++ l) (sym (run-after names f left here))
+    run-after how names f left (out ++ here) ∙ append_assoc out here (visits_text how names f left) ∙ ap (λ l. out ++ l) (sym (run-after how names f left here))
 
 -- one visit, and those after it
-pub first-visit : (names : Texts) (f : Forest ℕ) (v : Visit) (old left : List Visit) → old ≡ v ∷ left → visits_text names f old ≡ visit_text (text_of names) f v ++ visits_text names f left
-first-visit names f v old left is = ap (visits_text names f) is ∙ go v
+pub first-visit : (how : Escaping) (names : Texts) (f : Forest ℕ) (v : Visit) (old left : List Visit) → old ≡ v ∷ left → visits_text how names f old ≡ visit_text how (text_of names) f v ++ visits_text how names f left
+first-visit how names f v old left is = ap (visits_text how names f) is ∙ go v
   where
-    go : (v : Visit) → visits_text names f (v ∷ left) ≡ visit_text (text_of names) f v ++ visits_text names f left
-    go (Enter n) = run-after names f left (opening_of (text_of names) (stands_raw n f) (what_of n f))
-    go (Leave n) = run-after names f left (closing_of (text_of names) (what_of n f))
+    go : (v : Visit) → visits_text how names f (v ∷ left) ≡ visit_text how (text_of names) f v ++ visits_text how names f left
+    go (Enter n) = run-after how names f left (opening_of how (text_of names) (stands_raw n f) (what_of n f))
+    go (Leave n) = run-after how names f left (closing_of (text_of names) (what_of n f))
 
 -- The visits that are left, and what they write.
-pub record IsWriting (names : Texts) (made : ℕ) (f : Forest ℕ) (node : ℕ) (old now : Option (List ℕ)) (left : List Visit) : Type 0 where
+pub record IsWriting (how : Escaping) (names : Texts) (made : ℕ) (f : Forest ℕ) (node : ℕ) (old now : Option (List ℕ)) (left : List Visit) : Type 0 where
   pub lent : AllByRecursion (λ v. IsLent names made f (node_of v)) left
-  pub same : HasLeft old now (wanted names f node) (visits_text names f left)
+  pub same : HasLeft old now (wanted how names f node) (visits_text how names f left)
 
-pub begun : (names : Texts) (made : ℕ) (f : Forest ℕ) (node : ℕ) (old : Option (List ℕ)) (left items : List Visit) → AreNames names → AreCounted made f → node < made → AreOf names (children_of node f) → left ≡ items
-    → items ≡ visits Written (children_of node f) → IsWriting names made f node old old left
-begun names made f node old left items table counted h of same visited = record {
+pub begun : (how : Escaping) (names : Texts) (made : ℕ) (f : Forest ℕ) (node : ℕ) (old : Option (List ℕ)) (left items : List Visit) → AreNames names → AreCounted made f → node < made → AreOf names (children_of node f) → left ≡ items
+    → items ≡ visits Written (children_of node f) → IsWriting how names made f node old old left
+begun how names made f node old left items table counted h of same visited = record {
   lent = subst (AllByRecursion (λ v. IsLent names made f (node_of v))) (sym is) (lent-visits names made f node Written counted h of);
-  same = subst (HasLeft old old (wanted names f node)) (sym whole) (none_put old (wanted names f node));
+  same = subst (HasLeft old old (wanted how names f node)) (sym whole) (none_put old (wanted how names f node));
 }
   where
     is : left ≡ visits Written (children_of node f)
@@ -126,27 +126,27 @@ begun names made f node old left items table counted h of same visited = record 
     tags : (id : ℕ) → tag_of id ≡ tag_named (text_of names id)
     tags id = tags-agree names table id
 
-    whole : visits_text names f left ≡ wanted names f node
+    whole : visits_text how names f left ≡ wanted how names f node
     whole =
-        ap (visits_text names f) is ∙ run-visits (enters (text_of names) f) (leaves (text_of names) f) Written (children_of node f) []
-        ∙ writes (text_of names) f tags made node node (children_of node f) (seen made f counted node h) [] ∙ ap (λ r. written_among One r (spelled (text_of names) (children_of node f))) (raw-same (text_of names) f tags made node (name_of node f))
+        ap (visits_text how names f) is ∙ run-visits (enters how (text_of names) f) (leaves how (text_of names) f) Written (children_of node f) []
+        ∙ writes how (text_of names) f tags made node node (children_of node f) (seen made f counted node h) [] ∙ ap (λ r. written_among how r (spelled (text_of names) (children_of node f))) (raw-same how (text_of names) f tags made node (name_of node f))
 
-module _ (names : Texts) (made : ℕ) (f : Forest ℕ) (node : ℕ) (old now : Option (List ℕ)) (v : Visit) (before left : List Visit) (is : before ≡ v ∷ left) (s : IsWriting names made f node old now before) where
+module _ (how : Escaping) (names : Texts) (made : ℕ) (f : Forest ℕ) (node : ℕ) (old now : Option (List ℕ)) (v : Visit) (before left : List Visit) (is : before ≡ v ∷ left) (s : IsWriting how names made f node old now before) where
   -- what the next visit asks for
   pub next_is : IsLent names made f (node_of v)
   next_is = (subst (AllByRecursion (λ v. IsLent names made f (node_of v))) is s.lent).0
 
   -- one visit more
-  pub goes_on : (new : Option (List ℕ)) → Appends now new (visit_text (text_of names) f v) → IsWriting names made f node old new left
+  pub goes_on : (new : Option (List ℕ)) → Appends now new (visit_text how (text_of names) f v) → IsWriting how names made f node old new left
   goes_on new h = record {
     lent = (subst (AllByRecursion (λ v. IsLent names made f (node_of v))) is s.lent).1;
-    same = part_put old now new _ _ _ _ s.same (first-visit names f v before left is) h;
+    same = part_put old now new _ _ _ _ s.same (first-visit how names f v before left is) h;
   }
 
   -- one that failed
-  pub failed : (new : Option (List ℕ)) → AppendsBeginning now new (visit_text (text_of names) f v) → AppendsBeginning old new (wanted names f node)
-  failed new h = part_failed old now new _ _ _ _ s.same (first-visit names f v before left is) h
+  pub failed : (new : Option (List ℕ)) → AppendsBeginning now new (visit_text how (text_of names) f v) → AppendsBeginning old new (wanted how names f node)
+  failed new h = part_failed old now new _ _ _ _ s.same (first-visit how names f v before left is) h
 
 -- the end
-pub wrote : (names : Texts) (made : ℕ) (f : Forest ℕ) (node : ℕ) (old now : Option (List ℕ)) (left : List Visit) → left ≡ [] → IsWriting names made f node old now left → Appends old now (wanted names f node)
-wrote names made f node old now left is s = all_put old now _ _ s.same (ap (visits_text names f) is)
+pub wrote : (how : Escaping) (names : Texts) (made : ℕ) (f : Forest ℕ) (node : ℕ) (old now : Option (List ℕ)) (left : List Visit) → left ≡ [] → IsWriting how names made f node old now left → Appends old now (wanted how names f node)
+wrote how names made f node old now left is s = all_put old now _ _ s.same (ap (visits_text how names f) is)

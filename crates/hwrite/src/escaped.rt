@@ -4,37 +4,41 @@ ghost use Rattle.std.specs.Prelude.{◌≡◌, IfSome, None};
 ghost use Rattle.std.specs.Char.{encode_utf8};
 ghost use Rattle.hwrite.specs.Escaping.{escaped, written_char};
 ghost use Rattle.hwrite.specs.Output.{Puts};
-ghost use Rattle.hwrite.specs.declared.escaping.Escaping.TheVariants.{One};
 
-use crate::escaping::Setting;
+use crate::escaping::{Escaping, Setting};
 use crate::sink::put;
 use std::io;
 use std::io::Write;
 
 /// What is written for a character that is not written as it is.
-fn reference(ch: char, setting: Setting) -> Option<&'static str>
-    ensures some { IfSome result (λ text. written_char One setting ch ≡ text.now) }
-    ensures none { result ≡ None → written_char One setting ch ≡ encode_utf8 ch }
+fn reference(ch: char, escaping: Escaping, setting: Setting) -> Option<&'static str>
+    ensures some { IfSome result (λ text. written_char escaping setting ch ≡ text.now) }
+    ensures none { result ≡ None → written_char escaping setting ch ≡ encode_utf8 ch }
 {
-    match (ch, setting) {
-        ('&', _) => Some("&amp;"),
-        ('\u{A0}', _) => Some("&nbsp;"),
-        ('"', Setting::Value) => Some("&quot;"),
-        ('<', Setting::Text) => Some("&lt;"),
-        ('>', Setting::Text) => Some("&gt;"),
+    match (ch, escaping, setting) {
+        ('&', _, _) => Some("&amp;"),
+        ('\u{A0}', _, _) => Some("&nbsp;"),
+        ('"', _, Setting::Value) => Some("&quot;"),
+        ('<', _, Setting::Text) | ('<', Escaping::Two, _) => Some("&lt;"),
+        ('>', _, Setting::Text) | ('>', Escaping::Two, _) => Some("&gt;"),
         _ => None,
     }
 }
 
 /// Writes a text.
-pub(crate) fn put_escaped<W: Write>(out: &mut W, source: &str, setting: Setting) -> io::Result<()>
-    ensures { Puts (W.contents out.old) (W.contents out.new) (escaped One setting source.now) result }
+pub(crate) fn put_escaped<W: Write>(
+    out: &mut W,
+    source: &str,
+    escaping: Escaping,
+    setting: Setting,
+) -> io::Result<()>
+    ensures { Puts (W.contents out.old) (W.contents out.new) (escaped escaping setting source.now) result }
 {
     let bytes = source.as_bytes();
     // What stands before is written.
     let mut done = 0;
     for (at, ch) in source.char_indices() {
-        if let Some(reference) = reference(ch, setting) {
+        if let Some(reference) = reference(ch, escaping, setting) {
             put(out, &bytes[done..at])?;
             put(out, reference.as_bytes())?;
             done = at + ch.len_utf8();

@@ -13,11 +13,10 @@ ghost use Rattle.hwrite.specs.Output.{Puts};
 ghost use Rattle.hwrite.specs.Walk.{node_of};
 ghost use Rattle.hwrite.specs.Written.{attribute_text, start_tag_text, end_tag_text, written};
 ghost use Rattle.hwrite.specs.Writing.{stands_raw, holds_raw, opening_of, closing_of, visit_text};
-ghost use Rattle.hwrite.specs.declared.escaping.Escaping.TheVariants.{One};
 ghost use Rattle.hwrite.specs.declared.escaping.Setting.TheVariants.{Text};
 
 use crate::escaped::put_escaped;
-use crate::escaping::Setting;
+use crate::escaping::{Escaping, Setting};
 use crate::node::Node;
 use crate::sink::{put, put_parts};
 use crate::sorted::name_text;
@@ -29,28 +28,34 @@ use std::io;
 use std::io::Write;
 
 /// Writes an attribute.
-fn put_attribute<W: Write>(out: &mut W, name: &str, value: &str) -> io::Result<()>
-    ensures { Puts (W.contents out.old) (W.contents out.new) (attribute_text One (name.now, value.now)) result }
+fn put_attribute<W: Write>(
+    out: &mut W,
+    escaping: Escaping,
+    name: &str,
+    value: &str,
+) -> io::Result<()>
+    ensures { Puts (W.contents out.old) (W.contents out.new) (attribute_text escaping (name.now, value.now)) result }
 {
     put_parts(out, &[b" ", name.as_bytes(), b"=\""])?;
-    put_escaped(out, value, Setting::Value)?;
+    put_escaped(out, value, escaping, Setting::Value)?;
     put(out, b"\"")
 }
 
 /// Writes a start tag.
 fn put_start_tag<W: Write>(
     out: &mut W,
+    escaping: Escaping,
     names: &Names,
     name: NameId,
     attrs: &[Attr],
 ) -> io::Result<()>
     requires { NodeIsOf names.now (element name (map attribute_of attrs.now)) }
     ensures { Puts (W.contents out.old) (W.contents out.new)
-        (start_tag_text One (text_of names.now name) (map (spelled_attribute (text_of names.now)) (map attribute_of attrs.now))) result }
+        (start_tag_text escaping (text_of names.now name) (map (spelled_attribute (text_of names.now)) (map attribute_of attrs.now))) result }
 {
     put_parts(out, &[b"<", name_text(names, name).as_bytes()])?;
     for attr in attrs {
-        put_attribute(out, name_text(names, attr.name), &attr.value)?;
+        put_attribute(out, escaping, name_text(names, attr.name), &attr.value)?;
     }
     put(out, b">")
 }
@@ -77,13 +82,13 @@ fn put_doctype<W: Write>(out: &mut W, name: &str) -> io::Result<()>
 }
 
 /// Writes a text, raw or escaped.
-fn put_text<W: Write>(out: &mut W, source: &str, raw: bool) -> io::Result<()>
-    ensures { Puts (W.contents out.old) (W.contents out.new) (if raw then source.now else escaped One Text source.now) result }
+fn put_text<W: Write>(out: &mut W, escaping: Escaping, source: &str, raw: bool) -> io::Result<()>
+    ensures { Puts (W.contents out.old) (W.contents out.new) (if raw then source.now else escaped escaping Text source.now) result }
 {
     if raw {
         return put(out, source.as_bytes());
     }
-    put_escaped(out, source, Setting::Text)
+    put_escaped(out, source, escaping, Setting::Text)
 }
 
 /// Whether texts in an element of this name, or in no element, are written as they are.
@@ -111,17 +116,23 @@ fn stands_raw(tree: &Tree, node: NodeId) -> bool
 }
 
 /// Writes where a node begins.
-fn put_opening<W: Write>(out: &mut W, tree: &Tree, names: &Names, node: NodeId) -> io::Result<()>
+fn put_opening<W: Write>(
+    out: &mut W,
+    escaping: Escaping,
+    tree: &Tree,
+    names: &Names,
+    node: NodeId,
+) -> io::Result<()>
     requires { IsLent names.now tree.now.made tree.now.trees node }
-    ensures { Puts (W.contents out.old) (W.contents out.new) (opening_of (text_of names.now) (stands_raw node tree.now.trees) (what_of node tree.now.trees))
+    ensures { Puts (W.contents out.old) (W.contents out.new) (opening_of escaping (text_of names.now) (stands_raw node tree.now.trees) (what_of node tree.now.trees))
         result }
 {
     match Node::of(tree, node) {
         Node::Document => Ok(()),
         Node::Doctype(texts) => put_doctype(out, &texts.name),
-        Node::Element(name, attrs) => put_start_tag(out, names, name, attrs),
+        Node::Element(name, attrs) => put_start_tag(out, escaping, names, name, attrs),
         Node::Comment(data) => put_comment(out, data),
-        Node::Text(data) => put_text(out, data, stands_raw(tree, node)),
+        Node::Text(data) => put_text(out, escaping, data, stands_raw(tree, node)),
     }
 }
 
@@ -137,12 +148,18 @@ fn put_closing<W: Write>(out: &mut W, tree: &Tree, names: &Names, node: NodeId) 
 }
 
 /// Writes what a visit writes.
-fn put_visit<W: Write>(out: &mut W, tree: &Tree, names: &Names, visit: Visit) -> io::Result<()>
+fn put_visit<W: Write>(
+    out: &mut W,
+    escaping: Escaping,
+    tree: &Tree,
+    names: &Names,
+    visit: Visit,
+) -> io::Result<()>
     requires { IsLent names.now tree.now.made tree.now.trees (node_of visit) }
-    ensures { Puts (W.contents out.old) (W.contents out.new) (visit_text (text_of names.now) tree.now.trees visit) result }
+    ensures { Puts (W.contents out.old) (W.contents out.new) (visit_text escaping (text_of names.now) tree.now.trees visit) result }
 {
     match visit {
-        Visit::Enter(node) => put_opening(out, tree, names, node),
+        Visit::Enter(node) => put_opening(out, escaping, tree, names, node),
         Visit::Leave(node) => put_closing(out, tree, names, node),
     }
 }
@@ -151,15 +168,21 @@ fn put_visit<W: Write>(out: &mut W, tree: &Tree, names: &Names, visit: Visit) ->
 /// nodes and bytes that are written, and several writes for each node, which a `BufWriter` gathers. Where a write fails or takes
 /// nothing, what was taken before is a beginning of the text, and the error is returned. No write follows, so none is tried again,
 /// not even an interrupted one.
-pub fn serialize<W: Write>(tree: &Tree, names: &Names, node: NodeId, out: &mut W) -> io::Result<()>
+pub fn serialize<W: Write>(
+    tree: &Tree,
+    names: &Names,
+    node: NodeId,
+    escaping: Escaping,
+    out: &mut W,
+) -> io::Result<()>
     requires made { node < tree.now.made }
     requires table { AreNames names.now }
     requires names { AreOf names.now (children_of node tree.now.trees) }
     ensures { Puts (W.contents out.old) (W.contents out.new)
-        (written One (option_map (text_of names.now) (name_of node tree.now.trees)) (spelled (text_of names.now) (children_of node tree.now.trees))) result }
+        (written escaping (option_map (text_of names.now) (name_of node tree.now.trees)) (spelled (text_of names.now) (children_of node tree.now.trees))) result }
 {
     for visit in Walk::new(tree, node, Reach::Written) {
-        put_visit(out, tree, names, visit)?;
+        put_visit(out, escaping, tree, names, visit)?;
     }
     Ok(())
 }
@@ -170,15 +193,16 @@ pub fn serialize_to_vec(
     tree: &Tree,
     names: &Names,
     node: NodeId,
+    escaping: Escaping,
 ) -> Result<Vec<u8>, Refusal>
     requires made { node < tree.now.made }
     requires table { AreNames names.now }
     requires names { AreOf names.now (children_of node tree.now.trees) }
     ensures written { IfOk result (λ text. text.items
-        ≡ written One (option_map (text_of names.now) (name_of node tree.now.trees)) (spelled (text_of names.now) (children_of node tree.now.trees))) }
+        ≡ written escaping (option_map (text_of names.now) (name_of node tree.now.trees)) (spelled (text_of names.now) (children_of node tree.now.trees))) }
     ensures memory { IfErr result (λ refusal. refusal ≡ Refusal.Memory) }
 {
     let mut text = Vec::new(alloc);
-    serialize(tree, names, node, &mut text).or(Err(Refusal::Memory))?;
+    serialize(tree, names, node, escaping, &mut text).or(Err(Refusal::Memory))?;
     Ok(text)
 }

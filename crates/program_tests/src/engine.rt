@@ -6,6 +6,7 @@ use charref::Table;
 use hmarkup::Quirks;
 use hparse::Options;
 use hrun::{Command, Counted, Task, run};
+use hwrite::Escaping;
 use names::{Refusal, RefusedName};
 use std::alloc::Global;
 use std::io;
@@ -122,6 +123,7 @@ fn run_tokens(alloc: Global, piece: usize, read: u64, write: u64) -> Result<Outc
     let command = Command {
         task: Task::Tokens,
         context: None,
+        escaping: Escaping::One,
         piece,
     };
     run_over(alloc, command, INPUT, read, write)
@@ -173,6 +175,7 @@ fn is_refused(alloc: Global, task: Task, name: &'static str) -> Result<bool, Ref
     let command = Command {
         task,
         context: Some(name),
+        escaping: Escaping::Two,
         piece: 7,
     };
     let outcome = run_over(alloc, command, INPUT, 1, 1)?;
@@ -200,6 +203,7 @@ fn nothing_is_written_of_a_refused_tree(rt: HostRuntime) -> Result<(), Fail> {
     let command = Command {
         task: Task::Tree,
         context: None,
+        escaping: Escaping::One,
         piece: 1,
     };
     let outcome = run_over(rt.alloc(), command, b"<p>x<svg>", NEVER, NEVER)?;

@@ -3,7 +3,7 @@ use Rattle.std.proofs.lemmas.Result.{IfOk-weaker}
 use Rattle.clap.specs.Words.{App, Shape, Text, app_of, new_app, with_subcommand}
 use Rattle.clap.specs.Simple.{app_of_fields, on_top}
 use Rattle.hmain.specs.declared.commands.Reads.{Reads}
-use Rattle.hmain.specs.declared.commands.Reads.TheVariants.{Document, Either, Fragment}
+use Rattle.hmain.specs.declared.commands.Reads.TheVariants.{Document, Either, Fragment, Written}
 use Rattle.hmain.specs.Line.{bare_program, command_app}
 use Rattle.hmain.proofs.commands.command_line.Goals as goal
 
@@ -25,6 +25,6 @@ returns c =
     let first = c.in_ok-line.ensures ∙ after (codes "tokens") Document bare in
     let second = c.in_ok-line-2.ensures ∙ after (codes "tree") Document first in
     let third = c.in_ok-line-3.ensures ∙ after (codes "errors") Either second in
-    let fourth = c.in_ok-line-4.ensures ∙ after (codes "write") Either third in
+    let fourth = c.in_ok-line-4.ensures ∙ after (codes "write") Written third in
     let fifth = c.in_ok-line-5.ensures ∙ after (codes "fragment") Fragment fourth in
     IfOk-weaker c.with_command-6.result _ _ (λ r is. is ∙ after (codes "plain") Fragment fifth) c.with_command-6.ensures

@@ -2,4 +2,4 @@ use Rattle.hwrite.proofs.Escapes.{IsEscaping}
 use Rattle.hwrite.proofs.escaped.put_escaped.Given as goal
 
 abbrev pub invariant-loop-at : goal.invariant-loop-at
-invariant-loop-at g l = IsEscaping l.setting l.source l.done l.at-iterator.at l.at-iterator.rest.now (g.W.Write.contents l.initial.out) (g.W.Write.contents l.out)
+invariant-loop-at g l = IsEscaping l.escaping l.setting l.source l.done l.at-iterator.at l.at-iterator.rest.now (g.W.Write.contents l.initial.out) (g.W.Write.contents l.out)

@@ -11,7 +11,7 @@ pub put_start_tag-requires : goal.put_start_tag-requires
 put_start_tag-requires g c = c.requires.1 (element c.in-Element.name (map attribute_of c.in-Element.attrs.now)) (sym c.of.ensures ∙ ap (λ n. Some (what_is n)) c.in-Element.is)
 
 pub returns-in-Element : goal.returns-in-Element
-returns-in-Element g c = put_for _ _ (opening_of (text_of c.args.names.now) (stands_raw c.args.node c.args.tree.now.trees)) _ _ _ _ c.in-Element.is c.of.ensures c.put_start_tag.ensures
+returns-in-Element g c = put_for _ _ (opening_of c.args.escaping (text_of c.args.names.now) (stands_raw c.args.node c.args.tree.now.trees)) _ _ _ _ c.in-Element.is c.of.ensures c.put_start_tag.ensures
 
 pub returns-in-Comment : goal.returns-in-Comment
-returns-in-Comment g c = put_for _ _ (opening_of (text_of c.args.names.now) (stands_raw c.args.node c.args.tree.now.trees)) _ _ _ _ c.in-Comment.is c.of.ensures c.put_comment.ensures
+returns-in-Comment g c = put_for _ _ (opening_of c.args.escaping (text_of c.args.names.now) (stands_raw c.args.node c.args.tree.now.trees)) _ _ _ _ c.in-Comment.is c.of.ensures c.put_comment.ensures
