@@ -38,8 +38,13 @@ pub record Told : Type 0 where
   pub settings : Settings
 
 abbrev pub told_of : Command → Options → Told
-told_of command options =
-    record { task = command.task; context = option_map (λ s. s.now) command.context; escaping = command.escaping; piece = command.piece; settings = told_by options }
+told_of command options = record {
+  task = command.task;
+  context = option_map (λ s. s.now) command.context;
+  escaping = command.escaping;
+  piece = command.piece;
+  settings = told_by options;
+}
 
 -- the most nodes, and the most open elements
 abbrev pub limits_of : List Text → Limits

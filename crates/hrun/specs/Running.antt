@@ -68,8 +68,8 @@ pub data RunsIn {S W : Type 0} (left : S → Option (List ℕ)) (failed_reads : 
       → RunsIn left failed_reads written failed_writes context prints limit piece source source' target target' answer
 
 -- what a run of a task does
-abbrev pub RunsTask : {S W : Type 0} → (S → Option (List ℕ)) → (S → ℕ) → (W → Option (List ℕ)) → (W → ℕ) → Escaping → Task → Option (List ℕ) → Told → ℕ → S → S → W → W
-    → Result (Unit {0}) Refusal → Type 0
+abbrev pub RunsTask : {S W : Type 0} → (S → Option (List ℕ)) → (S → ℕ) → (W → Option (List ℕ)) → (W → ℕ) → Escaping → Task → Option (List ℕ)
+    → Told → ℕ → S → S → W → W → Result (Unit {0}) Refusal → Type 0
 RunsTask left failed_reads written failed_writes escaping task context told piece =
     RunsIn left failed_reads written failed_writes (context_of task context) (prints_of escaping task context told) told.input piece
 
