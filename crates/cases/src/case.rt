@@ -5,8 +5,7 @@ use serde_json::Value;
 use std::alloc::Global;
 
 /// The words of a command line, an input, the text that is printed, and the refusal's line, which is empty where the input is
-/// accepted; the table of references, the quirks list and the input limit, if they are not the program's own; and whether the refusal
-/// comes with the last byte.
+/// accepted.
 #[derive(Drop)]
 pub struct Case {
     pub id: String,
@@ -14,10 +13,37 @@ pub struct Case {
     pub input: Vec<u8>,
     pub text: String,
     pub refusal: String,
+    pub told: Told,
+}
+
+/// What a case is told beside its words: the table of references, the quirks list and the input limit, if they are not the
+/// program's own, and whether the refusal comes with the last byte.
+#[derive(Drop)]
+pub struct Told {
     pub entities: Option<String>,
     pub quirks: Option<String>,
     pub limit: Option<u64>,
     pub at_once: bool,
+}
+
+impl Told {
+    fn nothing() -> Told {
+        Told {
+            entities: None,
+            quirks: None,
+            limit: None,
+            at_once: false,
+        }
+    }
+
+    fn read(alloc: Global, object: &Value) -> Result<Told> {
+        Ok(Told {
+            entities: member_if_any(alloc, object, "entities")?,
+            quirks: member_if_any(alloc, object, "quirks")?,
+            limit: object.get("limit").and_then(Value::as_u64),
+            at_once: object.get("at_once").and_then(Value::as_bool) == Some(true),
+        })
+    }
 }
 
 impl Case {
@@ -30,10 +56,7 @@ impl Case {
             input: input(alloc, &object)?,
             text: member(alloc, &object, "stdout")?,
             refusal: member_if_any(alloc, &object, "stderr")?.unwrap_or(String::new(alloc)),
-            entities: member_if_any(alloc, &object, "entities")?,
-            quirks: member_if_any(alloc, &object, "quirks")?,
-            limit: object.get("limit").and_then(Value::as_u64),
-            at_once: object.get("at_once").and_then(Value::as_bool) == Some(true),
+            told: Told::read(alloc, &object)?,
         })
     }
 
@@ -45,25 +68,27 @@ impl Case {
         input: &str,
         text: &str,
     ) -> Result<Case> {
-        let mut words = Vec::new(alloc);
-        words.push(String::from_str(alloc, "htmlp")?)?;
-        words.push(String::from_str(alloc, command)?)?;
-        if let Some(context) = context {
-            words.push(String::from_str(alloc, "--in")?)?;
-            words.push(String::from_str(alloc, context)?)?;
-        }
         Ok(Case {
             id: format!(in alloc; "{command} of {input:?}")?,
-            words,
+            words: words_of(alloc, command, context)?,
             input: String::from_str(alloc, input)?.into_bytes(),
             text: String::from_str(alloc, text)?,
             refusal: String::new(alloc),
-            entities: None,
-            quirks: None,
-            limit: None,
-            at_once: false,
+            told: Told::nothing(),
         })
     }
+}
+
+/// The words of a command, which may have a context.
+fn words_of(alloc: Global, command: &str, context: Option<&str>) -> Result<Vec<String>> {
+    let mut words = Vec::new(alloc);
+    for word in ["htmlp", command] {
+        words.push(String::from_str(alloc, word)?)?;
+    }
+    if let Some(context) = context {
+        words.push(format!(in alloc; "--in={context}")?)?;
+    }
+    Ok(words)
 }
 
 /// The input: a text, or bytes in hex.

@@ -34,14 +34,14 @@ pub fn check(alloc: Global, case: &Case) -> Result<bool> {
     let options = Options {
         table: &table,
         quirks: &quirks,
-        input_limit: case.limit.unwrap_or(MAX_INPUT).min(MAX_INPUT),
+        input_limit: case.told.limit.unwrap_or(MAX_INPUT).min(MAX_INPUT),
         limits,
     };
     let command = said.command;
     Ok(
         comes_in_pieces(alloc, case, command, &options)?
             && comes_in_two(alloc, case, command, &options)?
-            && (!case.at_once || comes_at_once(alloc, case, command, &options)?),
+            && (!case.told.at_once || comes_at_once(alloc, case, command, &options)?),
     )
 }
 
@@ -119,11 +119,11 @@ fn texts<'a>(alloc: Global, words: &'a [String]) -> Result<Vec<&'a str>> {
 
 /// The case's table of references, quirks list and limits.
 fn told(alloc: Global, case: &Case, said: &Line) -> Result<(Table, Quirks, Limits), Refusal> {
-    let table = match &case.entities {
+    let table = match &case.told.entities {
         Some(text) => Table::read(alloc, text)?,
         None => Table::core(alloc)?,
     };
-    let quirks = match &case.quirks {
+    let quirks = match &case.told.quirks {
         Some(text) => Quirks::read(alloc, text)?,
         None => Quirks::read(alloc, "")?,
     };
