@@ -1,8 +1,7 @@
 -- What `clap` says of the program's command line.
-use Rattle.std.proofs.Common.{◌≡◌, ◌⊎◌, ◌&&◌, if◌then◌else◌, Bool, inl, inr, refl, sym, ap, subst, ◌∙◌, List, [], ◌∷◌, true, false, is_some, Result, Ok, Err, IfOk, IfErr, OnOk, MatchResult, Option, None, Some, option_map, option_and_then}
+use Rattle.std.proofs.Common.{◌≡◌, ◌⊎◌, if◌then◌else◌, Bool, inl, inr, refl, sym, ap, subst, ◌∙◌, List, [], ◌∷◌, true, false, is_some, Result, Ok, Err, IfOk, IfErr, OnOk, MatchResult, Option, None, Some, option_map, option_and_then}
 use Rattle.std.specs.Prelude.{IsSome, find}
 use Rattle.std.specs.List.{list_all}
-use Rattle.std.specs.Borrow.{Bor}
 use Rattle.clap.specs.Words.{HasKind, HasMatchesOf, IsAmong, Row, Shape, Text, app_of, built, fault_of, first_of, first_value, found_of, is_simple, is_simple_and_free, kind_of, rows_of, subcommand_name_of, subcommand_of, subcommand_rows_of, takes}
 use Rattle.clap.specs.Simple.{argument_words, entered, label_of, names_of, rows_at}
 use Rattle.clap.specs.Walk.{answers_to, stop_after}

@@ -1,5 +1,5 @@
 -- What the words tell, where they are read.
-use Rattle.std.proofs.Common.{◌≡◌, ◌∙◌, ap₂, refl, sym, subst, codes, Option, Some, option_map, ℕ, List, Ok, Err}
+use Rattle.std.proofs.Common.{◌≡◌, ◌∙◌, ap₂, refl, sym, subst, codes, Option, option_map, ℕ, List, Ok, Err}
 use Rattle.std.specs.Borrow.{Bor}
 use Rattle.clap.specs.Words.{Text}
 use Rattle.charref.specs.Reference.{Entities}

@@ -1,11 +1,13 @@
 -- The command line of the program, in the words of `clap`, and what its words say.
-use Rattle.std.specs.Prelude.{◌≡◌, ◌⊎◌, ◌^◌, ◌-◌, ℕ, ⊤, true, List, [], ◌∷◌, ◌++◌, map, Option, None, Some, option_and_then, option_map, codes, ◌==◌, if◌then◌else◌}
+use Rattle.std.specs.Prelude.{◌≡◌, ◌⊎◌, ◌^◌, ◌-◌, ℕ, ⊤, true, List, [], ◌∷◌, map, Option, None, Some, option_and_then, option_map, codes, ◌==◌, if◌then◌else◌}
 use Rattle.std.specs.Str.Parse.{digits_value, without_leading_plus}
-use Rattle.clap.specs.Words.{App, IsAmong, IsUnsignedIn, Rule, Shape, Text, fault_of, first_of, kind_of, new_app, new_rule, subcommand_of, with_rule, with_subcommand}
+use Rattle.clap.specs.Words.{App, IsAmong, IsUnsignedIn, Rule, Text, fault_of, first_of, kind_of, new_app, new_rule, subcommand_of, with_rule, with_subcommand}
 use Rattle.hwrite.specs.declared.escaping.Escaping.{Escaping}
 use Rattle.hwrite.specs.declared.escaping.Escaping.TheVariants.{One, Two}
 use Rattle.hrun.specs.Command.{task_named}
 use Rattle.hrun.specs.declared.command.Task.{Task}
+use Rattle.hmain.specs.declared.commands.Choice.{Choice}
+use Rattle.hmain.specs.declared.commands.Entry.{Entry}
 use Rattle.hmain.specs.declared.commands.Reads.{Reads}
 use Rattle.hmain.specs.declared.commands.Reads.TheVariants.{Document, Either, Fragment, Written}
 use Rattle.hmain.specs.declared.fault.Fault.{Fault}
@@ -19,6 +21,10 @@ file_rule = record (new_rule (codes "file")) { value_names = 1 }
 -- `--NAME VALUE`
 abbrev pub option_rule : Text → Rule
 option_rule name = record (new_rule name) { long = Some name; value_names = 1 }
+
+-- the rule of an option as the program lists it
+abbrev pub choice_rule : Choice → Rule
+choice_rule choice = record (option_rule choice.name.now) { required = choice.required }
 
 -- the option that names a fragment's context, by what the command reads, and that of escaping
 abbrev pub context_rules : Reads → List Rule
@@ -34,6 +40,10 @@ each_rules = map option_rule (codes "piece" ∷ codes "entities" ∷ codes "quir
 abbrev pub with_rules : List Rule → App → App
 with_rules [] app = app
 with_rules (rule ∷ rules) app = with_rules rules (with_rule app rule)
+
+-- a command as the program lists it: its name, and what it reads
+abbrev pub named_reads : Entry → Text × Reads
+named_reads entry = (entry.name.now, entry.reads)
 
 -- a command of this name, with its file and its options
 abbrev pub command_app : Text × Reads → App

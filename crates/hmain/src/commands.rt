@@ -1,10 +1,9 @@
 //! The commands of the program, as `clap` reads them.
 
-ghost use Rattle.std.specs.Prelude.{◌≡◌, ◌++◌, [], false, codes, IfOk};
-ghost use Rattle.clap.specs.Words.{app_of, new_app, rule_of, with_subcommand};
-ghost use Rattle.clap.specs.Simple.{on_top};
+ghost use Rattle.std.specs.Prelude.{◌≡◌, map, false, codes, IfOk};
+ghost use Rattle.clap.specs.Words.{app_of, new_app, rule_of, with_rule, with_subcommand};
 ghost use Rattle.clap.specs.declared.builder.command.Command.TheViews.{out-Command as fields_of};
-ghost use Rattle.hmain.specs.Line.{bare_program, command_app, context_rules, each_rules, option_rule, program, with_rules};
+ghost use Rattle.hmain.specs.Line.{bare_program, choice_rule, command_app, context_rules, file_rule, named_reads, program, with_commands, with_rules};
 
 use clap::{Arg, Command};
 use std::alloc::{AllocError, Global};
@@ -22,46 +21,157 @@ pub enum Reads {
     Fragment,
 }
 
+/// A command of the program.
+pub struct Entry {
+    pub name: &'static str,
+    pub about: &'static str,
+    pub reads: Reads,
+}
+
+/// An option that has a value.
+pub struct Choice {
+    pub name: &'static str,
+    pub value: &'static str,
+    pub help: &'static str,
+    pub required: bool,
+}
+
+static COMMANDS: [Entry; 6] = [
+    Entry {
+        name: "tokens",
+        about: "A line for each token",
+        reads: Reads::Document,
+    },
+    Entry {
+        name: "tree",
+        about: "The tree, a line for each node",
+        reads: Reads::Document,
+    },
+    Entry {
+        name: "errors",
+        about: "A line for each parse error",
+        reads: Reads::Either,
+    },
+    Entry {
+        name: "write",
+        about: "The tree as HTML",
+        reads: Reads::Written,
+    },
+    Entry {
+        name: "fragment",
+        about: "The tree of a fragment",
+        reads: Reads::Fragment,
+    },
+    Entry {
+        name: "plain",
+        about: "Whether a fragment is plain",
+        reads: Reads::Fragment,
+    },
+];
+
+/// The option that names a fragment's context.
+const CONTEXT: Choice = Choice {
+    name: "in",
+    value: "NAME",
+    help: "The element in which the input stands",
+    required: false,
+};
+
+static EITHER: [Choice; 1] = [CONTEXT];
+
+/// The option that names a way of escaping stands beside it.
+static WRITTEN: [Choice; 2] = [
+    CONTEXT,
+    Choice {
+        name: "escape",
+        value: "N",
+        help: "Whether < and > stay in attribute values, 1, or are escaped, 2 [default: 1]",
+        required: false,
+    },
+];
+
+static FRAGMENT: [Choice; 1] = [Choice {
+    name: "in",
+    value: "NAME",
+    help: "The element in which the input stands",
+    required: true,
+}];
+
+/// The options of each command.
+static EACH: [Choice; 5] = [
+    Choice {
+        name: "piece",
+        value: "N",
+        help: "Bytes fed at a time, 1 to 65536 [default: 65536]",
+        required: false,
+    },
+    Choice {
+        name: "entities",
+        value: "FILE",
+        help: "The table of character references [default: amp, lt, gt, quot, nbsp]",
+        required: false,
+    },
+    Choice {
+        name: "quirks",
+        value: "FILE",
+        help: "The list of quirky doctypes [default: an empty list]",
+        required: false,
+    },
+    Choice {
+        name: "nodes",
+        value: "N",
+        help: "The most nodes, 16 to 16777216 [default: 16777216]",
+        required: false,
+    },
+    Choice {
+        name: "open",
+        value: "N",
+        help: "The most open elements, 16 to 1048576 [default: 1048576]",
+        required: false,
+    },
+];
+
 /// The program's command line, as `clap` reads it.
 pub fn command_line<'a>(alloc: Global) -> Result<Command<'a>, AllocError>
     ensures { IfOk result (λ command. app_of command ≡ program) }
 {
-    use Reads::{Document, Either, Fragment, Written};
-    let line = Command::new(alloc, "htmlp")
+    with_commands(alloc, bare_program(alloc), &COMMANDS)
+}
+
+/// The command line without its commands.
+fn bare_program<'a>(alloc: Global) -> Command<'a>
+    ensures { app_of result ≡ bare_program }
+{
+    Command::new(alloc, "htmlp")
         .about("Reads HTML as the HTML Standard says")
         .subcommand_required(true)
-        .disable_help_subcommand(true);
-    let line = with_command(alloc, line, "tokens", "A line for each token", Document)?;
-    let line = with_command(
-        alloc,
-        line,
-        "tree",
-        "The tree, a line for each node",
-        Document,
-    )?;
-    let line = with_command(alloc, line, "errors", "A line for each parse error", Either)?;
-    let line = with_command(alloc, line, "write", "The tree as HTML", Written)?;
-    let line = with_command(alloc, line, "fragment", "The tree of a fragment", Fragment)?;
-    with_command(
-        alloc,
-        line,
-        "plain",
-        "Whether a fragment is plain",
-        Fragment,
-    )
+        .disable_help_subcommand(true)
+}
+
+/// The command line with these commands too.
+fn with_commands<'a>(
+    alloc: Global,
+    line: Command<'a>,
+    entries: &[Entry],
+) -> Result<Command<'a>, AllocError>
+    ensures { IfOk result (λ new. app_of new ≡ with_commands (map named_reads entries.now) (app_of line.entry)) }
+{
+    let mut line = line;
+    for entry in entries {
+        line = with_command(alloc, line, entry)?;
+    }
+    Ok(line)
 }
 
 /// The command line with one more command.
 fn with_command<'a>(
     alloc: Global,
     line: Command<'a>,
-    name: &'a str,
-    about: &'a str,
-    reads: Reads,
+    entry: &Entry,
 ) -> Result<Command<'a>, AllocError>
-    ensures { IfOk result (λ new. app_of new ≡ with_subcommand (app_of line.entry) (command_app (name.entry.now, reads)).top) }
+    ensures { IfOk result (λ new. app_of new ≡ with_subcommand (app_of line.entry) (command_app (named_reads entry.now)).top) }
 {
-    match command(alloc, name, about, reads) {
+    match command(alloc, entry) {
         Ok(command) => line.subcommand(command),
         Err(error) => {
             drop(line);
@@ -71,105 +181,75 @@ fn with_command<'a>(
 }
 
 /// A command, with its file and its options.
-fn command<'a>(
-    alloc: Global,
-    name: &'a str,
-    about: &'a str,
-    reads: Reads,
-) -> Result<Command<'a>, AllocError>
-    ensures shape { IfOk result (λ command. app_of command ≡ command_app (name.entry.now, reads)) }
+fn command<'a>(alloc: Global, entry: &Entry) -> Result<Command<'a>, AllocError>
+    ensures shape { IfOk result (λ command. app_of command ≡ command_app (named_reads entry.now)) }
     ensures local { IfOk result (λ command. (fields_of command).has_globals ≡ false) }
 {
-    let file = Arg::new(alloc, "file")
-        .value_name("FILE")
-        .help("The input [default: standard input]");
-    let bare = Command::new(alloc, name).about(about).arg(file)?;
-    with_choices(alloc, with_context(alloc, bare, reads)?)
-}
-
-/// The command with the option that names a fragment's context, if it reads one, and that of escaping, if it writes.
-fn with_context<'a>(
-    alloc: Global,
-    command: Command<'a>,
-    reads: Reads,
-) -> Result<Command<'a>, AllocError>
-    ensures shape { IfOk result (λ new. app_of new ≡ with_rules (context_rules reads) (app_of command.entry)) }
-    ensures local { (fields_of command.entry).has_globals ≡ false → IfOk result (λ new. (fields_of new).has_globals ≡ false) }
-{
-    match reads {
-        Reads::Document => Ok(command),
-        Reads::Either => command.arg(context(alloc)),
-        Reads::Written => command.arg(context(alloc))?.arg(escape(alloc)),
-        Reads::Fragment => command.arg(context(alloc).required(true)),
-    }
-}
-
-/// The option that names a fragment's context.
-fn context<'a>(alloc: Global) -> Arg<'a>
-    ensures rule { rule_of result ≡ option_rule (codes "in") }
-    ensures local { result.global ≡ false }
-{
-    option(alloc, "in", "NAME", "The element in which the input stands")
-}
-
-/// The option that names a way of escaping.
-fn escape<'a>(alloc: Global) -> Arg<'a>
-    ensures rule { rule_of result ≡ option_rule (codes "escape") }
-    ensures local { result.global ≡ false }
-{
-    option(
+    let bare = bare_command(alloc, entry)?;
+    with_choices(
         alloc,
-        "escape",
-        "N",
-        "Whether < and > stay in attribute values, 1, or are escaped, 2 [default: 1]",
+        with_choices(alloc, bare, choices(entry.reads))?,
+        &EACH,
     )
 }
 
-/// The command with the options of each command.
-fn with_choices<'a>(alloc: Global, command: Command<'a>) -> Result<Command<'a>, AllocError>
-    ensures shape { IfOk result (λ new. app_of new ≡ with_rules each_rules (app_of command.entry)) }
-    ensures local { (fields_of command.entry).has_globals ≡ false → IfOk result (λ new. (fields_of new).has_globals ≡ false) }
+/// A command with its file, without options.
+fn bare_command<'a>(alloc: Global, entry: &Entry) -> Result<Command<'a>, AllocError>
+    ensures shape { IfOk result (λ command. app_of command ≡ with_rule (new_app entry.now.name.now) file_rule) }
+    ensures local { IfOk result (λ command. (fields_of command).has_globals ≡ false) }
 {
-    command
-        .arg(option(
-            alloc,
-            "piece",
-            "N",
-            "Bytes fed at a time, 1 to 65536 [default: 65536]",
-        ))?
-        .arg(option(
-            alloc,
-            "entities",
-            "FILE",
-            "The table of character references [default: amp, lt, gt, quot, nbsp]",
-        ))?
-        .arg(option(
-            alloc,
-            "quirks",
-            "FILE",
-            "The list of quirky doctypes [default: an empty list]",
-        ))?
-        .arg(option(
-            alloc,
-            "nodes",
-            "N",
-            "The most nodes, 16 to 16777216 [default: 16777216]",
-        ))?
-        .arg(option(
-            alloc,
-            "open",
-            "N",
-            "The most open elements, 16 to 1048576 [default: 1048576]",
-        ))
+    Command::new(alloc, entry.name)
+        .about(entry.about)
+        .arg(file(alloc))
 }
 
-/// An option that has a value.
-fn option<'a>(alloc: Global, name: &'a str, value: &'a str, help: &'a str) -> Arg<'a>
-    ensures rule { rule_of result ≡ option_rule name.entry.now }
+/// The file of a command.
+fn file<'a>(alloc: Global) -> Arg<'a>
+    ensures rule { rule_of result ≡ file_rule }
     ensures local { result.global ≡ false }
 {
-    Arg::new(alloc, name)
-        .long(name)
-        .value_name(value)
-        .help(help)
+    Arg::new(alloc, "file")
+        .value_name("FILE")
+        .help("The input [default: standard input]")
+}
+
+/// The options of a command by what it reads: that which names a fragment's context, and that of escaping.
+fn choices(reads: Reads) -> &'static [Choice]
+    ensures { map choice_rule result.now ≡ context_rules reads }
+{
+    match reads {
+        Reads::Document => &[],
+        Reads::Either => &EITHER,
+        Reads::Written => &WRITTEN,
+        Reads::Fragment => &FRAGMENT,
+    }
+}
+
+/// The command with these options too.
+fn with_choices<'a>(
+    alloc: Global,
+    command: Command<'a>,
+    choices: &[Choice],
+) -> Result<Command<'a>, AllocError>
+    requires { (fields_of command).has_globals ≡ false }
+    ensures shape { IfOk result (λ new. app_of new ≡ with_rules (map choice_rule choices.now) (app_of command.entry)) }
+    ensures local { IfOk result (λ new. (fields_of new).has_globals ≡ false) }
+{
+    let mut command = command;
+    for choice in choices {
+        command = command.arg(option(alloc, choice))?;
+    }
+    Ok(command)
+}
+
+/// An option.
+fn option<'a>(alloc: Global, choice: &Choice) -> Arg<'a>
+    ensures rule { rule_of result ≡ choice_rule choice.now }
+    ensures local { result.global ≡ false }
+{
+    Arg::new(alloc, choice.name)
+        .long(choice.name)
+        .value_name(choice.value)
+        .help(choice.help)
+        .required(choice.required)
 }

@@ -1,12 +1,15 @@
 //! The program: does what the words of its command line say.
 
-ghost use Rattle.std.specs.Prelude.{◌≡◌, ◌<◌, ◌≤◌, map, option_map, IfOk, MatchResult, Ok, Err, string_bytes};
+ghost use Rattle.std.specs.Prelude.{◌≡◌, ◌<◌, ◌≤◌, List, map, option_map, IfOk, MatchResult, Ok, Err, string_bytes};
 ghost use Rattle.clap.specs.Walk.{texts};
+ghost use Rattle.clap.specs.Words.{Text};
+ghost use Rattle.hmain.specs.Line.{task_of, value_of, Says};
 ghost use Rattle.hmain.specs.Program.{AnswersFile, AnswersInput, AnswersWords, Answers, Ends, FindsQuirks, FindsTable, told_of};
 
 use crate::ending::ending;
 use crate::fault::Fault;
 use crate::line::line;
+use crate::said::Line;
 use crate::surroundings::Surroundings;
 use charref::Table;
 use hbuild::Limits;
@@ -57,13 +60,47 @@ fn answer_words<R: Surroundings, S: Source, W: Target>(
 {
     let texts = as_texts(surroundings.alloc(), words)?;
     let line = line(surroundings.alloc(), &texts)?;
+    answer_line(surroundings, line, input, output)
+}
+
+// Does what a line says, which is what any words that it is of say.
+fn answer_line<R: Surroundings, S: Source, W: Target>(
+    surroundings: &R,
+    line: Line,
+    input: &mut S,
+    output: &mut W,
+) -> Result<(), Fault>
+    requires { 0 < line.command.piece }
+    ensures { (words : List Text) → Says (task_of words) (value_of words) line.entry
+        → AnswersWords R.opens R.cannot_open R.File.left R.File.failed R.has_text R.lacks_text S.left S.failed W.written W.failed MAX_INPUT surroundings.now
+        words input.old input.new output.old output.new result }
+{
     let table = table(surroundings, line.entities)?;
     let quirks = quirks(surroundings, line.quirks)?;
+    answer_with(surroundings, line, &table, &quirks, input, output)
+}
+
+// The same, with the lists that it names.
+fn answer_with<R: Surroundings, S: Source, W: Target>(
+    surroundings: &R,
+    line: Line,
+    table: &Table,
+    quirks: &Quirks,
+    input: &mut S,
+    output: &mut W,
+) -> Result<(), Fault>
+    requires { 0 < line.command.piece }
+    ensures { (words : List Text) → Says (task_of words) (value_of words) line.entry
+        → FindsTable R.has_text R.lacks_text surroundings.now (option_map (λ s. s.now) line.entry.entities) (Ok table.now)
+        → FindsQuirks R.has_text R.lacks_text surroundings.now (option_map (λ s. s.now) line.entry.quirks) (Ok quirks.now)
+        → AnswersWords R.opens R.cannot_open R.File.left R.File.failed R.has_text R.lacks_text S.left S.failed W.written W.failed MAX_INPUT surroundings.now
+        words input.old input.new output.old output.new result }
+{
     let limits = Limits::new(line.nodes, line.open)?;
     check_context(line.command.context)?;
     let options = Options {
-        table: &table,
-        quirks: &quirks,
+        table,
+        quirks,
         input_limit: MAX_INPUT,
         limits,
     };

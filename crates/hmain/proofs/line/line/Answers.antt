@@ -1,15 +1,10 @@
 -- The words are read as `clap` says, and the values of the command are those of its matches.
-use Rattle.std.proofs.Common.{ap, sym, subst, option_map, Option, Some, List, Result, Ok, Err, IfOk, IfErr, OnOk, MatchResult, ◌≡◌, ◌∙◌, true}
+use Rattle.std.proofs.Common.{ap, sym, subst, option_map, List, ◌∙◌}
 use Rattle.std.specs.Borrow.{Bor}
 use Rattle.clap.specs.Walk.{texts}
 use Rattle.clap.specs.Words.{Text, fault_of, found_of, HasKind, Row, is_simple_and_free, rows_of, takes}
 use Rattle.clap.specs.declared.parser.matches.ArgMatches.{ArgMatches}
 use Rattle.clap.proofs.TakesLemmas.{passed_up}
-use Rattle.hmain.specs.declared.fault.Fault.{Fault}
-use Rattle.hmain.specs.declared.fault.Fault.TheVariants as fault
-use Rattle.hmain.specs.declared.said.Line.{Line}
-use Rattle.hrun.specs.Command.{task_named}
-use Rattle.hmain.specs.Line.{AreNumbers, FaultOf, NumberFault, Says, numeric_options, program, task_of, value_of}
 use Rattle.hmain.specs.Fault.{fault_of_error}
 use Rattle.hmain.proofs.LineLemmas.{program-free, fault_of_kind, fault_of_error-memory, names_a_task, task_read, value_read, said, anyway, says_fault, no_fault}
 use Rattle.hmain.proofs.line.line.Goals as goal

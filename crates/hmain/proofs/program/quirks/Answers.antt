@@ -1,6 +1,5 @@
-use Rattle.std.proofs.Common.{◌≡◌, Option, Ok, Err, List, ℕ, inr, refl, subst, sym, ap, ◌∙◌, option_map, string_bytes}
+use Rattle.std.proofs.Common.{Option, Ok, Err, List, ℕ, inr, refl, subst, sym, ap, option_map}
 use Rattle.std.specs.Borrow.{Bor}
-use Rattle.hmarkup.specs.Quirks.{ReadsQuirks}
 use Rattle.hmain.specs.declared.fault.Fault.TheVariants as fault
 use Rattle.hmain.specs.Program.{FindsQuirks}
 use Rattle.hmain.proofs.Outcomes.{fails}
