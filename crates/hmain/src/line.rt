@@ -1,10 +1,10 @@
 //! The command line.
 
-ghost use Rattle.std.specs.Prelude.{◌≡◌, ◌<◌, ◌≤◌, [], true, IfOk, IfErr, OnOk, IsSome, MatchResult, option_map};
+ghost use Rattle.std.specs.Prelude.{◌≡◌, ◌<◌, ◌≤◌, [], true, IfOk, IfErr, OnOk, IsSome, MatchResult};
 ghost use Rattle.clap.specs.Words.{fault_of, first_value, found_of, takes};
 ghost use Rattle.clap.specs.Walk.{texts};
 ghost use Rattle.hrun.specs.Command.{task_named};
-ghost use Rattle.hmain.specs.Line.{escaping_of, number_of, number_or, numeric_options, program, task_of, value_of, AreNumbers, FaultOf, IsNumber, IsNumberFault, NumberFault, Says};
+ghost use Rattle.hmain.specs.Line.{escaping_of, number_or, numeric_options, program, task_of, value_of, AreNumbers, FaultOf, IsNumber, IsNumberFault, NumberFault, Says};
 ghost use Rattle.hmain.specs.declared.fault.Fault.TheVariants as fault;
 
 use crate::commands::command_line;
@@ -43,15 +43,15 @@ fn said<'a>(name: &'a str, found: &ArgMatches<'a>) -> Result<Line<'a>, Fault>
     ensures in_range { IfOk result (λ line. (0 < line.command.piece) × (line.command.piece ≤ MOST_PIECE)) }
 {
     let task = Task::named(name).unwrap();
-    let piece = number(found, "piece", 1, MOST_PIECE)?.unwrap_or(MOST_PIECE);
-    let nodes = number(found, "nodes", 0, u64::MAX)?.unwrap_or(MAX_NODES);
-    let open = number(found, "open", 0, u64::MAX)?.unwrap_or(MAX_DEPTH);
-    let escaping = escaping_of(number(found, "escape", 1, 2)?.unwrap_or(1));
+    let piece = number(found, "piece", 1, MOST_PIECE, MOST_PIECE)?;
+    let nodes = number(found, "nodes", 0, u64::MAX, MAX_NODES)?;
+    let open = number(found, "open", 0, u64::MAX, MAX_DEPTH)?;
+    let escape = number(found, "escape", 1, 2, 1)?;
     Ok(Line {
         command: Command {
             task,
             context: found.get_str("in"),
-            escaping,
+            escaping: escaping_of(escape),
             piece: piece as usize,
         },
         entities: found.get_str("entities"),
@@ -73,23 +73,26 @@ fn escaping_of(number: u64) -> Escaping
     }
 }
 
-/// The number that the value of an option writes, from the least to the most, if it has a value.
+/// The number that the value of an option writes, from the least to the most, or the default if it has no value.
 fn number(
     found: &ArgMatches,
     name: &'static str,
     least: u64,
     most: u64,
-) -> Result<Option<u64>, Fault>
-    ensures { MatchResult result
+    default: u64,
+) -> Result<u64, Fault>
+    requires { (least ≤ default) × (default ≤ most) }
+    ensures says { MatchResult result
         (λ number. IsNumber (record { name = name.entry.now; least = least; most = most }) (first_value (found_of found.now) name.entry.now)
-        × (number ≡ option_map number_of (first_value (found_of found.now) name.entry.now)))
+        × (number ≡ number_or default (first_value (found_of found.now) name.entry.now)))
         (λ why. (IsNumber (record { name = name.entry.now; least = least; most = most }) (first_value (found_of found.now) name.entry.now) → ⊥)
         × (why ≡ fault.Number name.entry least most)) }
+    ensures in_range { IfOk result (λ number. (least ≤ number) × (number ≤ most)) }
 {
     match found.get_str(name) {
-        None => Ok(None),
+        None => Ok(default),
         Some(text) => match text.parse::<u64>() {
-            Ok(number) if least <= number && number <= most => Ok(Some(number)),
+            Ok(number) if least <= number && number <= most => Ok(number),
             _ => Err(Fault::Number {
                 option: name,
                 least,

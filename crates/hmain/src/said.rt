@@ -3,7 +3,7 @@
 use hrun::Command;
 
 /// What the words of a command line say.
-#[derive(Clone, Copy, Debug, PartialEq, Eq)]
+#[derive(Clone, Copy, Debug)]
 pub struct Line<'a> {
     pub command: Command<'a>,
     /// The name of the file of the table of character references. None is the core table.
