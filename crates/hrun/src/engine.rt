@@ -60,7 +60,10 @@ fn run_tokens<S: Source, W: Target>(
         source.old source.new target.old target.new result }
 {
     let answer = read_tokens(alloc, piece, options, source)?;
-    let text = token_lines(alloc, &answer)?;
+    let text = token_lines(alloc, &answer);
+    // What was read is let go before its text is written.
+    drop(answer);
+    let text = text?;
     write_text(target, &text)
 }
 
@@ -79,7 +82,10 @@ fn run_tree<S: Source, W: Target>(
         options.now.input_limit command.entry.piece source.old source.new target.old target.new result }
 {
     let parsed = parse(alloc, command, options, source)?;
-    let text = tree_text(alloc, &parsed.tree, &parsed.names, parsed.root)?;
+    let text = tree_text(alloc, &parsed.tree, &parsed.names, parsed.root);
+    // What was parsed is let go before its text is written.
+    drop(parsed);
+    let text = text?;
     write_text(target, &text)
 }
 
@@ -98,7 +104,10 @@ fn run_errors<S: Source, W: Target>(
         options.now.input_limit command.entry.piece source.old source.new target.old target.new result }
 {
     let parsed = parse(alloc, command, options, source)?;
-    let text = error_lines(alloc, &parsed.errors)?;
+    let text = error_lines(alloc, &parsed.errors);
+    // What was parsed is let go before its text is written.
+    drop(parsed);
+    let text = text?;
     write_text(target, &text)
 }
 
@@ -123,7 +132,10 @@ fn run_write<S: Source, W: Target>(
         &parsed.names,
         parsed.root,
         command.escaping,
-    )?;
+    );
+    // What was parsed is let go before its text is written.
+    drop(parsed);
+    let text = text?;
     write_text(target, &text)
 }
 
@@ -143,6 +155,7 @@ fn run_plain<S: Source, W: Target>(
 {
     let parsed = parse(alloc, command, options, source)?;
     let is_plain = is_plain_in(command.context, &parsed);
+    drop(parsed);
     write_text(target, plain_line(is_plain))
 }
 

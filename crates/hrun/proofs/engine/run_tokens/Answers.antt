@@ -12,8 +12,8 @@ returns-in_err-answer g c =
     rw (e.1, e.2) (not_read g.W.Target.written g.W.Target.failed g.S.Source.left g.S.Source.failed _ _ c.args.options.now.input_limit c.args.piece c.args.source.now c.read_tokens.new.source (λ bytes why its. not_printed why its)
     c.args.target.now c.in_err-answer.field-0.0 c.in_err-answer.ensures)
 
-pub token_lines-requires : goal.token_lines-requires
-token_lines-requires g c =
+pub token_lines-text-requires : goal.token_lines-text-requires
+token_lines-text-requires g c =
     let it = an_answer g.W.Target.written g.W.Target.failed g.S.Source.left g.S.Source.failed _ (Prints (Answers c.args.options.now.table.now c.args.options.now.input_limit) tokens_text) c.args.options.now.input_limit c.args.piece c.args.source.now c.read_tokens.new.source c.in_ok-answer.answer c.in_ok-answer.ensures in
     (it.1.0, it.1.1)
 

@@ -1,4 +1,4 @@
-use Rattle.std.proofs.Common.{◌≡◌, ◌∙◌, List, Ok, Err, ℕ}
+use Rattle.std.proofs.Common.{◌∙◌}
 use Rattle.std.proofs.lemmas.Result.{err_from_is_err_and}
 use Rattle.hparse.specs.Parse.{Parses}
 use Rattle.hparse.specs.Parsing.{told_by}
@@ -15,16 +15,16 @@ returns-in_err-parsed g c =
     rw (e.1, e.2) (not_read_in g.W.Target.written g.W.Target.failed g.S.Source.left g.S.Source.failed _ _ c.args.options.now.input_limit c.args.command.piece c.args.source.now c.parse.new.source (name_of c.args.command.context)
     (λ bytes why its. not_printed why its) c.args.target.now c.in_err-parsed.field-0.0 c.in_err-parsed.ensures)
 
-pub serialize_to_vec-requires-clause-made : goal.serialize_to_vec-requires-clause-made
-serialize_to_vec-requires-clause-made g c =
+pub serialize_to_vec-text-requires-clause-made : goal.serialize_to_vec-text-requires-clause-made
+serialize_to_vec-text-requires-clause-made g c =
     (an_answer_in g.W.Target.written g.W.Target.failed g.S.Source.left g.S.Source.failed _ (Prints (Parses (told_by c.args.options.now) (subject_in (name_of c.args.command.context))) (written_text c.args.command.escaping (subject_in (name_of c.args.command.context)))) c.args.options.now.input_limit c.args.command.piece c.args.source.now c.parse.new.source (name_of c.args.command.context) c.in_ok-parsed.parsed c.in_ok-parsed.ensures).1.1.made
 
-pub serialize_to_vec-requires-clause-table : goal.serialize_to_vec-requires-clause-table
-serialize_to_vec-requires-clause-table g c =
+pub serialize_to_vec-text-requires-clause-table : goal.serialize_to_vec-text-requires-clause-table
+serialize_to_vec-text-requires-clause-table g c =
     (an_answer_in g.W.Target.written g.W.Target.failed g.S.Source.left g.S.Source.failed _ (Prints (Parses (told_by c.args.options.now) (subject_in (name_of c.args.command.context))) (written_text c.args.command.escaping (subject_in (name_of c.args.command.context)))) c.args.options.now.input_limit c.args.command.piece c.args.source.now c.parse.new.source (name_of c.args.command.context) c.in_ok-parsed.parsed c.in_ok-parsed.ensures).1.1.table
 
-pub serialize_to_vec-requires-clause-names : goal.serialize_to_vec-requires-clause-names
-serialize_to_vec-requires-clause-names g c =
+pub serialize_to_vec-text-requires-clause-names : goal.serialize_to_vec-text-requires-clause-names
+serialize_to_vec-text-requires-clause-names g c =
     (an_answer_in g.W.Target.written g.W.Target.failed g.S.Source.left g.S.Source.failed _ (Prints (Parses (told_by c.args.options.now) (subject_in (name_of c.args.command.context))) (written_text c.args.command.escaping (subject_in (name_of c.args.command.context)))) c.args.options.now.input_limit c.args.command.piece c.args.source.now c.parse.new.source (name_of c.args.command.context) c.in_ok-parsed.parsed c.in_ok-parsed.ensures).1.1.names_are
 
 pub returns-in_err-text : goal.returns-in_err-text
