@@ -36,6 +36,7 @@ pub struct Choice {
     pub required: bool,
 }
 
+/// The commands, in the order in which help lists them.
 static COMMANDS: [Entry; 6] = [
     Entry {
         name: "tokens",
@@ -77,9 +78,10 @@ const CONTEXT: Choice = Choice {
     required: false,
 };
 
+/// What a command has that reads either.
 static EITHER: [Choice; 1] = [CONTEXT];
 
-/// The option that names a way of escaping stands beside it.
+/// The same, and the option that names a way of escaping.
 static WRITTEN: [Choice; 2] = [
     CONTEXT,
     Choice {
@@ -90,6 +92,7 @@ static WRITTEN: [Choice; 2] = [
     },
 ];
 
+/// The option that names the context of a command that reads a fragment alone.
 static FRAGMENT: [Choice; 1] = [Choice {
     name: "in",
     value: "NAME",

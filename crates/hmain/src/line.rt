@@ -32,7 +32,9 @@ pub fn line<'a>(alloc: Global, words: &'a [&'a str]) -> Result<Line<'a>, Fault>
 {
     let matches = command_line(alloc)?.try_get_matches_from(words)?;
     let (name, found) = matches.subcommand().unwrap();
-    said(name, found)
+    let line = said(name, found);
+    drop(matches);
+    line
 }
 
 /// What the name of a command and its matches say.

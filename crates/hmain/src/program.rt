@@ -77,7 +77,10 @@ fn answer_line<R: Surroundings, S: Source, W: Target>(
 {
     let table = table(surroundings, line.entities)?;
     let quirks = quirks(surroundings, line.quirks)?;
-    answer_with(surroundings, line, &table, &quirks, input, output)
+    let outcome = answer_with(surroundings, line, &table, &quirks, input, output);
+    drop(quirks);
+    drop(table);
+    outcome
 }
 
 // The same, with the lists that it names.

@@ -28,8 +28,8 @@ entry_rows p = rows_of (found_of p.1.now)
 abbrev entry_name : Bor Text × Bor ArgMatches → Text
 entry_name p = p.0.now
 
-pub said-requires : goal.said-requires
-said-requires c =
+pub said-line-requires : goal.said-line-requires
+said-line-requires c =
     names_a_task c.in_ok-command_line.field-0 c.in_ok-matches.matches c.unwrap.result.1.now c.unwrap.result.0.now (texts c.args.words.now) c.in_ok-command_line.ensures
     c.in_ok-matches.ensures.matches (ap (option_map entry_rows) (sym c.unwrap.ensures) ∙ c.subcommand.ensures.rows) (ap (option_map entry_name) (sym c.unwrap.ensures) ∙ c.subcommand.ensures.name)
 
@@ -41,12 +41,12 @@ returns-clause-says c =
     c.in_ok-matches.ensures.matches rows name in
     let value = value_read c.in_ok-command_line.field-0 c.in_ok-matches.matches c.unwrap.result.1.now c.unwrap.result.0.now (texts c.args.words.now) c.in_ok-command_line.ensures
     c.in_ok-matches.ensures.matches rows name in
-    said c.said.result _ _ _ _ task value c.said.ensures.says
+    said c.said-line.result _ _ _ _ task value c.said-line.ensures.says
 
 pub returns-clause-taken : goal.returns-clause-taken
 returns-clause-taken c =
     let is = c.in_ok-command_line.ensures in
-    anyway c.said.result (ap (λ app. fault_of app (texts c.args.words.now)) (sym is) ∙ c.in_ok-matches.ensures.kinds (ap is_simple_and_free is ∙ program-free))
+    anyway c.said-line.result (ap (λ app. fault_of app (texts c.args.words.now)) (sym is) ∙ c.in_ok-matches.ensures.kinds (ap is_simple_and_free is ∙ program-free))
 
 pub returns-clause-fault : goal.returns-clause-fault
 returns-clause-fault c =
@@ -54,7 +54,7 @@ returns-clause-fault c =
     let rows = ap (option_map entry_rows) (sym c.unwrap.ensures) ∙ c.subcommand.ensures.rows in
     let name = ap (option_map entry_name) (sym c.unwrap.ensures) ∙ c.subcommand.ensures.name in
     let value = value_read c.in_ok-command_line.field-0 c.in_ok-matches.matches c.unwrap.result.1.now c.unwrap.result.0.now (texts c.args.words.now) is c.in_ok-matches.ensures.matches rows name in
-    says_fault c.said.result (texts c.args.words.now) _ _ (ap (λ app. fault_of app (texts c.args.words.now)) (sym is) ∙ c.in_ok-matches.ensures.kinds (ap is_simple_and_free is ∙ program-free)) value c.said.ensures.says
+    says_fault c.said-line.result (texts c.args.words.now) _ _ (ap (λ app. fault_of app (texts c.args.words.now)) (sym is) ∙ c.in_ok-matches.ensures.kinds (ap is_simple_and_free is ∙ program-free)) value c.said-line.ensures.says
 
 pub returns-clause-memory : goal.returns-clause-memory
 returns-clause-memory c =
@@ -62,4 +62,4 @@ returns-clause-memory c =
     let name = ap (option_map entry_name) (sym c.unwrap.ensures) ∙ c.subcommand.ensures.name in
     let value = value_read c.in_ok-command_line.field-0 c.in_ok-matches.matches c.unwrap.result.1.now c.unwrap.result.0.now (texts c.args.words.now) c.in_ok-command_line.ensures
     c.in_ok-matches.ensures.matches rows name in
-    no_fault c.said.result (texts c.args.words.now) _ _ value c.said.ensures.says
+    no_fault c.said-line.result (texts c.args.words.now) _ _ value c.said-line.ensures.says

@@ -17,4 +17,4 @@ returns-in_err-quirks g c = λ words says.
     (passed_on c.from_residual-in_err-quirks.result e c.from_residual-in_err-quirks.ensures.1) refl refl
 
 pub returns : goal.returns
-returns g c = λ words says. c.answer_with.ensures words says c.in_ok-table.ensures c.in_ok-quirks.ensures
+returns g c = λ words says. c.answer_with-outcome.ensures words says c.in_ok-table.ensures c.in_ok-quirks.ensures
