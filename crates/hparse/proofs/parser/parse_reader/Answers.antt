@@ -8,22 +8,17 @@ use Rattle.hparse.proofs.Parsings.{built_answers, refused_answers}
 use Rattle.hparse.proofs.Turns.{not_read, made}
 use Rattle.hparse.proofs.parser.parse_reader.Goals as goal
 
-pub read_to_end-answer-requires-clause-read : goal.read_to_end-answer-requires-clause-read
-read_to_end-answer-requires-clause-read g c =
-    let r = c.requires.parser in
-    (manner r.0 r.1, r.3.began, r.2, r.3.fits, r.3.has_read)
-
-pub returns-in-Err : goal.returns-in-Err
-returns-in-Err g c = λ told subject fed h.
+pub returns-in-Err-clause-reads : goal.returns-in-Err-clause-reads
+returns-in-Err-clause-reads g c = λ told subject fed h.
     let feeding = c.read_to_end-answer.new.reading.feeding in
     not_read g.R.Source.left g.R.Source.failed (λ bytes. Comes builds (manner told subject) h.began bytes feeding.names feeding.sink) (AnswersParse told subject) told.input c.args.piece fed c.args.source.now c.read_to_end-answer.new.source
     c.in-Err.refusal (λ bytes r. refused_answers told subject fed c.args.parser h c.read_to_end-answer.new.reading c.settle.new.self.names c.settle.ensures.grows c.settle.ensures.are c.in-Err.refusal bytes r)
-    (c.in-Err.ensures (manner told subject) h.began fed h.has_read)
+    (c.in-Err.ensures (manner told subject) h.began fed h.fits h.has_read)
 
-pub returns-in-Ok : goal.returns-in-Ok
-returns-in-Ok g c = λ told subject fed h.
+pub returns-in-Ok-clause-reads : goal.returns-in-Ok-clause-reads
+returns-in-Ok-clause-reads g c = λ told subject fed h.
     let feeding = c.read_to_end-answer.new.reading.feeding in
     let built = subst (λ sink. MatchResult c.built_of.result (IsBuilt c.settle.new.self.names sink) (λ refusal. refusal ≡ Memory)) (ap (λ f. f.sink) c.settle.ensures.rest) c.built_of.ensures in
     made g.R.Source.left g.R.Source.failed (λ bytes. Comes builds (manner told subject) h.began bytes feeding.names feeding.sink) (AnswersParse told subject) told.input c.args.piece fed c.args.source.now c.read_to_end-answer.new.source
     tt c.built_of.result (λ bytes t. built_answers told subject fed c.args.parser h c.read_to_end-answer.new.reading c.settle.new.self.names c.settle.ensures.grows c.settle.ensures.are c.built_of.result built bytes t)
-    (c.in-Ok.ensures (manner told subject) h.began fed h.has_read)
+    (c.in-Ok.ensures (manner told subject) h.began fed h.fits h.has_read)

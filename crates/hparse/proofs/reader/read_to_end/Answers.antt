@@ -12,7 +12,7 @@ loop-turn-init g c = (
 )
 
 pub returns-in-Some-eq0 : goal.returns-in-Some-eq0
-returns-in-Some-eq0 g c = λ m began before start.
+returns-in-Some-eq0 g c = λ m began before small start.
     let h = c.loop-turn.invariant.0 m began before start in
     let buffer : List ℕ = c.read.new.buffer in
     let some : 0 < length buffer = omega arith in
@@ -21,13 +21,13 @@ returns-in-Some-eq0 g c = λ m began before start.
     c.in-Some-eq0.ensures.bytes.1 c.in-Some-eq0.ensures.count c.args.piece c.end.new.self c.end.result none (c.in-Some-eq0.ensures.bytes.2 c.in-Some-eq0.field-0-test some) (c.end.ensures m began _ h.has_read)
 
 pub returns-in-None : goal.returns-in-None
-returns-in-None g c = λ m began before start.
+returns-in-None g c = λ m began before small start.
     let h = c.loop-turn.invariant.0 m began before start in
     failed_turn g.R.Source.left g.R.Source.failed (gives_item g.S.ErrorSink.gives g.S.TokenSink.gives_token) m began before c.loop-turn._turn c.args.source.now c.loop-turn.source c.loop-turn.reading h c.read.new.self c.args.piece _
     c.in-None.ensures.bytes c.in-None.ensures.count
 
 pub returns-in_err-feed-in-Some : goal.returns-in_err-feed-in-Some
-returns-in_err-feed-in-Some g c = λ m began before start.
+returns-in_err-feed-in-Some g c = λ m began before small start.
     let h = c.loop-turn.invariant.0 m began before start in
     let e = err_from_is_err_and c.from_residual-in_err-feed-in-Some.result c.from_residual-in_err-feed-in-Some.ensures.1 in
     let same = front_of_buffer c.in-Some.count c.loop-turn.buffer.len c.read.new.buffer (drop (length c.read.new.buffer) c.loop-turn.buffer.items) c.deref.result.now c.deref.ensures.value (c.read.auto.buffer ∙ c.deref_mut.ensures.len) in
@@ -49,10 +49,8 @@ loop-turn-preserved g c = (
   c.loop-turn.invariant.1,
 )
 
-pub unreachable-requires : goal.unreachable-requires
-unreachable-requires g c =
-    let r = c.requires.read in
-    let h = c.loop-turn.invariant.0 r.0 r.1 r.2 r.4 in
-    let few = few_turns g.R.Source.left g.R.Source.failed (gives_item g.S.ErrorSink.gives g.S.TokenSink.gives_token) r.0 r.1 r.2 c.loop-turn._turn c.args.source.now c.loop-turn.source c.loop-turn.reading h in
-    let small = r.3 in
-    omega arith
+pub returns : goal.returns
+returns g c = λ m began before small start.
+    let h = c.loop-turn.invariant.0 m began before start in
+    let few = few_turns g.R.Source.left g.R.Source.failed (gives_item g.S.ErrorSink.gives g.S.TokenSink.gives_token) m began before c.loop-turn._turn c.args.source.now c.loop-turn.source c.loop-turn.reading h in
+    absurd (omega arith)

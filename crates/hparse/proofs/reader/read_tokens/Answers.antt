@@ -13,7 +13,7 @@ returns-in-Err g c =
     let h = c.in_ok-reading.ensures in
     let feeding = c.read_to_end.new.reading.feeding in
     not_read g.R.Source.left g.R.Source.failed (λ bytes. Comes collects (of_document table limit) h.began bytes feeding.names feeding.sink) (AnswersRun table limit) limit c.args.piece [] c.args.source.now c.read_to_end.new.source
-    c.in-Err.refusal (λ bytes r. answers_refused table limit h.began bytes feeding.names feeding.sink c.in-Err.refusal r) (c.in-Err.ensures (of_document table limit) h.began [] h.has_read)
+    c.in-Err.refusal (λ bytes r. answers_refused table limit h.began bytes feeding.names feeding.sink c.in-Err.refusal r) (c.in-Err.ensures (of_document table limit) h.began [] c.requires.limit h.has_read)
 
 pub returns-in-Ok : goal.returns-in-Ok
 returns-in-Ok g c =
@@ -22,9 +22,4 @@ returns-in-Ok g c =
     let h = c.in_ok-reading.ensures in
     let feeding = c.read_to_end.new.reading.feeding in
     made g.R.Source.left g.R.Source.failed (λ bytes. Comes collects (of_document table limit) h.began bytes feeding.names feeding.sink) (AnswersRun table limit) limit c.args.piece [] c.args.source.now c.read_to_end.new.source
-    tt c.run_of.result (λ bytes t. run_answers table limit h.began feeding.names feeding.sink h.no_tokens h.no_errors c.run_of.result c.run_of.ensures bytes t) (c.in-Ok.ensures (of_document table limit) h.began [] h.has_read)
-
-pub read_to_end-requires-clause-read : goal.read_to_end-requires-clause-read
-read_to_end-requires-clause-read g c =
-    let h = c.in_ok-reading.ensures in
-    (of_document c.args.options.now.table.now c.args.options.now.input_limit, h.began, [], c.requires.limit, h.has_read)
+    tt c.run_of.result (λ bytes t. run_answers table limit h.began feeding.names feeding.sink h.no_tokens h.no_errors c.run_of.result c.run_of.ensures bytes t) (c.in-Ok.ensures (of_document table limit) h.began [] c.requires.limit h.has_read)
