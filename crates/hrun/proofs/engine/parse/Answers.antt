@@ -13,9 +13,6 @@ returns-in_err-parser g c =
     rw (e.1, e.2) (not_begun g.S.Source.left g.S.Source.failed _ c.args.options.now.input_limit c.args.command.piece c.args.source.now (told_by c.args.options.now) (name_of c.args.command.context)
     c.in_err-parser.field-0.0 c.in_err-parser.ensures)
 
-pub parse_reader-requires-clause-parser : goal.parse_reader-requires-clause-parser
-parse_reader-requires-clause-parser g c = (told_by c.args.options.now, subject_in (name_of c.args.command.context), [], c.in_ok-parser.ensures.1)
-
 pub returns : goal.returns
 returns g c =
-    allowed c.in_ok-parser.ensures.0 (c.parse_reader.ensures (told_by c.args.options.now) (subject_in (name_of c.args.command.context)) [] c.in_ok-parser.ensures.1)
+    allowed c.in_ok-parser.ensures.0 (c.parse_reader.ensures.reads (told_by c.args.options.now) (subject_in (name_of c.args.command.context)) [] c.in_ok-parser.ensures.1)
