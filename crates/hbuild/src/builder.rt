@@ -1,7 +1,8 @@
 //! The builder of a tree.
 
-ghost use Rattle.std.specs.Prelude.{◌≡◌, ◌+◌, ◌≤◌, ◌++◌, [], None, true, length, IfOk, MatchResult};
+ghost use Rattle.std.specs.Prelude.{◌≡◌, ◌+◌, ◌≤◌, ◌++◌, [], Some, None, true, Err, length, IfErr, IfOk, MatchResult};
 ghost use Rattle.std.specs.List.{list_all};
+ghost use Rattle.names.specs.declared.refusal.Refusal.{Refusal as Refused};
 ghost use Rattle.names.specs.declared.refusal.Refusal.TheVariants.{Memory};
 ghost use Rattle.hadopt.specs.Naming.{numbers};
 ghost use Rattle.hmodes.specs.Beginning.{document_begins, fragment_begins};
@@ -22,7 +23,7 @@ use hmodes::Rules;
 use hnodes::{NodeId, Tree};
 use htoken::{Token, TokenSink};
 use names::{NameId, ParseError, Refusal};
-use std::alloc::{AllocError, Global};
+use std::alloc::Global;
 use std::marker::Model;
 
 /// Builds the tree of a document or a fragment from its tokens. After a refusal each further call returns the same refusal and
@@ -95,18 +96,26 @@ impl<'q> Builder<'q> {
         })
     }
 
-    /// The tree, its root, and the parse errors.
-    pub fn finish(self) -> Result<Built, AllocError>
+    /// The tree, its root, and the parse errors. A builder that has refused gives the same refusal and no tree, since its tree may
+    /// stand between two edits of a token. Any other error is `Memory`.
+    pub fn finish(self) -> Result<Built, Refusal>
         ensures tree { IfOk result (λ built. built.tree ≡ self.entry.state.site.nodes) }
         ensures root { IfOk result (λ built. built.root ≡ self.entry.root) }
         ensures errors { IfOk result (λ built. built.errors.items ≡ self.entry.state.site.errors ++ self.entry.told) }
+        ensures again { (refusal : Refused) → self.entry.refused ≡ Some refusal → result ≡ Err refusal }
+        ensures memory { self.entry.refused ≡ None → IfErr result (λ refusal. refusal ≡ Memory) }
     {
         let Builder {
             rules,
             root,
             told,
-            ..
+            refused,
         } = self;
+        if let Some(refusal) = refused {
+            drop(rules);
+            drop(told);
+            return Err(refusal);
+        }
         let Rules { site, .. } = rules;
         let (tree, mut errors) = site.into_parts();
         let mut told = told;

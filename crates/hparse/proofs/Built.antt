@@ -31,17 +31,19 @@ pub record Became (old new : Building) (items : List Item) : Type 0 where
   pub steps : Steps numbers (map placed_number (tokens_handed items)) old.state (Goes new.state)
   pub told : new.told ≡ old.told ++ errors_handed items
   pub root : new.root ≡ old.root
+  pub unrefused : new.refused ≡ None
 
 pub became : (old new : Building) (items : List Item) → old.refused ≡ None → Hands builds old items (Ok tt) new → Became old new items
 became old new [] is h = record {
   steps = subst (λ (b : Building). Steps numbers [] old.state (Goes b.state)) h.1 none;
   told = ap (λ (b : Building). b.told) (sym h.1) ∙ sym (append-nil old.told);
   root = ap (λ (b : Building). b.root) (sym h.1);
+  unrefused = ap (λ (b : Building). b.refused) (sym h.1) ∙ is;
 }
 became old new (ItemToken t ∷ items) is (Ok u, next, given, rest) =
     let took = takes_on t old next (Ok u) is given in
     let later = became next new items took.refused rest in
-    record { steps = and took.step later.steps; told = later.told ∙ ap (λ (x : List ParseError). x ++ errors_handed items) took.told; root = later.root ∙ took.root }
+    record { steps = and took.step later.steps; told = later.told ∙ ap (λ (x : List ParseError). x ++ errors_handed items) took.told; root = later.root ∙ took.root; unrefused = later.unrefused }
 became old new (ItemError e ∷ items) is (Ok u, next, given, rest) =
     let took : next ≡ record old { told = old.told ++ e ∷ [] } = tells e old next (Ok u) is given in
     let later = became next new items (ap (λ (b : Building). b.refused) took ∙ is) rest in
@@ -49,6 +51,7 @@ became old new (ItemError e ∷ items) is (Ok u, next, given, rest) =
       steps = subst (λ (b : Building). Steps numbers (map placed_number (tokens_handed items)) b.state (Goes new.state)) took later.steps;
       told = later.told ∙ ap (λ (b : Building). b.told ++ errors_handed items) took ∙ append_assoc old.told (e ∷ []) (errors_handed items);
       root = later.root ∙ ap (λ (b : Building). b.root) took;
+      unrefused = later.unrefused;
     }
 became old new (x ∷ items) is (Err e, next, given, rest) = let never = rest.0 in absurd cc
 

@@ -12,8 +12,13 @@ use Rattle.hparse.specs.Fed.{FeedsPiece, piece_ran_out, piece_refused, piece_rea
 use Rattle.hparse.specs.Input.{IsRefusedFor, IsTaken}
 use Rattle.hparse.specs.Parse.{Subject, Told, Parses, manner}
 use Rattle.hparse.specs.Parsing.{builds, HasParsed, FeedsParser, feed_ran_out, feed_refused, feed_read, IsBuilt, AnswersParse, ShowsParse, parse_ran_out, parse_answered}
+use Rattle.hparse.proofs.Built.{became}
 use Rattle.hparse.proofs.Pieces.{is_memory}
 use Rattle.hparse.proofs.Trees.{parses_refused, parses_taken}
+
+-- what is built of a builder that has refused nothing
+abbrev pub BuiltBy : Texts → Building → Result Parsed Refusal → Type 0
+BuiltBy names built result = built.refused ≡ None → MatchResult result (IsBuilt names built) (λ refusal. refusal ≡ Memory)
 
 module _ (told : Told) (subject : Subject) (bytes : List ℕ) (old : Parser) (h : HasParsed told subject old bytes) where
   -- a piece that was read
@@ -53,20 +58,24 @@ module _ (told : Told) (subject : Subject) (bytes : List ℕ) (old : Parser) (h 
       | inr p ↦ parse_answered p
     ]
 
+  -- a builder that took all of its input has refused nothing
+  still_unrefused : (all : List ℕ) (names : Texts) (sink : Building) → IsTaken builds (manner told subject) h.began all names sink → sink.refused ≡ None
+  still_unrefused all names sink t = (became h.began.sink sink t.handed.items h.unrefused t.handed.hands).unrefused
+
   -- an input that was taken
   pub ends_built : (reading : Reading Building) (later : Texts) → Grows reading.feeding.names later → AreNames later → (result : Result Parsed Refusal) → EndsInput builds (manner told subject) h.began bytes (Ok tt) reading
-      → MatchResult result (IsBuilt later reading.feeding.sink) (λ refusal. refusal ≡ Memory) → ShowsParse told subject bytes result
+      → BuiltBy later reading.feeding.sink result → ShowsParse told subject bytes result
   ends_built reading later grows are result (input_ran_out is) r = absurd cc
   ends_built reading later grows are (Ok parsed) (input_comes t) r =
-      parse_answered (parses_taken told subject h.began bytes reading.feeding.names reading.feeding.sink h.unrefused h.begins later grows are h.none_told h.root_is parsed t r)
-  ends_built reading later grows are (Err e) (input_comes t) r = parse_ran_out (ap (λ (x : Refusal). Err x) r)
+      parse_answered (parses_taken told subject h.began bytes reading.feeding.names reading.feeding.sink h.unrefused h.begins later grows are h.none_told h.root_is parsed t (r (still_unrefused bytes reading.feeding.names reading.feeding.sink t)))
+  ends_built reading later grows are (Err e) (input_comes t) r = parse_ran_out (ap (λ (x : Refusal). Err x) (r (still_unrefused bytes reading.feeding.names reading.feeding.sink t)))
 
   -- .. wherever it ended
-  pub built_answers : (reading : Reading Building) (later : Texts) → Grows reading.feeding.names later → AreNames later → (result : Result Parsed Refusal) → MatchResult result (IsBuilt later reading.feeding.sink) (λ refusal. refusal ≡ Memory)
+  pub built_answers : (reading : Reading Building) (later : Texts) → Grows reading.feeding.names later → AreNames later → (result : Result Parsed Refusal) → BuiltBy later reading.feeding.sink result
       → (all : List ℕ) → IsTaken builds (manner told subject) h.began all reading.feeding.names reading.feeding.sink → (result ≡ Err Memory) ⊎ AnswersParse told subject all result
   built_answers reading later grows are (Ok parsed) r all t =
-      inr (parses_taken told subject h.began all reading.feeding.names reading.feeding.sink h.unrefused h.begins later grows are h.none_told h.root_is parsed t r)
-  built_answers reading later grows are (Err e) r all t = inl (ap (λ (x : Refusal). Err x) r)
+      inr (parses_taken told subject h.began all reading.feeding.names reading.feeding.sink h.unrefused h.begins later grows are h.none_told h.root_is parsed t (r (still_unrefused all reading.feeding.names reading.feeding.sink t)))
+  built_answers reading later grows are (Err e) r all t = inl (ap (λ (x : Refusal). Err x) (r (still_unrefused all reading.feeding.names reading.feeding.sink t)))
 
   pub refused_answers : (reading : Reading Building) (later : Texts) → Grows reading.feeding.names later → AreNames later → (e : Refusal) (all : List ℕ) → IsRefusedFor builds (manner told subject) h.began all reading.feeding.names reading.feeding.sink e
       → (e ≡ Memory) ⊎ Parses told subject all (Err e)

@@ -1,6 +1,6 @@
 //! A parser that is fed bytes.
 
-ghost use Rattle.std.specs.Prelude.{◌≡◌, ◌<◌, ◌≤◌, ◌⊎◌, ℕ, List, [], ◌++◌, Some, true, false, Err, IfErr, MatchResult};
+ghost use Rattle.std.specs.Prelude.{◌≡◌, ◌<◌, ◌≤◌, ◌⊎◌, ℕ, List, [], ◌++◌, None, Some, true, false, Err, IfErr, MatchResult};
 ghost use Rattle.names.specs.declared.refusal.Refusal.{Refusal as Refused};
 ghost use Rattle.names.specs.declared.refusal.Refusal.TheVariants.{BadContext, Memory};
 ghost use Rattle.hparse.specs.Parse.{Subject, Told, document, fragment, is_context};
@@ -18,7 +18,7 @@ use hbuild::{Builder, Built};
 use htext::MAX_INPUT;
 use htoken::Start;
 use names::{Names, Refusal};
-use std::alloc::{AllocError, Global};
+use std::alloc::Global;
 
 /// Parses a document or a fragment that comes in pieces. After a refusal each further call returns the same refusal.
 #[derive(Drop)]
@@ -152,16 +152,18 @@ pub fn parse_reader<R: Source>(
     }
 }
 
-/// What a reading has built, with the errors in their order.
+/// What a reading has built, with the errors in their order, or what its builder has refused.
 fn built_of(reading: Reading<Builder>) -> Result<Parsed, Refusal>
-    ensures { MatchResult result (IsBuilt reading.entry.feeding.names reading.entry.feeding.sink) (λ refusal. refusal ≡ Memory) }
+    ensures built { reading.entry.feeding.sink.refused ≡ None
+        → MatchResult result (IsBuilt reading.entry.feeding.names reading.entry.feeding.sink) (λ refusal. refusal ≡ Memory) }
+    ensures again { (refusal : Refused) → reading.entry.feeding.sink.refused ≡ Some refusal → result ≡ Err refusal }
 {
     let (names, builder) = reading.into_parts();
     match builder.finish() {
         Ok(built) => in_order(names, built),
-        Err(error) => {
+        Err(refusal) => {
             drop(names);
-            Err(error.into())
+            Err(refusal)
         }
     }
 }
