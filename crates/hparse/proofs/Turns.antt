@@ -61,12 +61,19 @@ module _ {S R : Type 0} (left : R → Option (List ℕ)) (failed : R → ℕ) (g
 
   module _ (turn : ℕ) (old now : R) (reading : Reading S) (h : HasTurned left failed gives m began before turn old now reading) where
     -- there are fewer turns than bytes
-    pub few_turns : turn ≤ m.limit + 3
+    few_turns : turn ≤ m.limit + 3
     few_turns =
         let most : length (before ++ h.fed) ≤ reading.decoder.limit + 3 = long reading.decoder (before ++ h.fed) h.has_read.fed in
         let limit_is : reading.decoder.limit ≡ m.limit = h.has_read.limit_is in
         let each : turn ≤ length h.fed = h.each_turn in
         omega (arith, length-append before h.fed)
+
+    -- .. so none comes after more than that
+    pub no_turn : (most : ℕ) (come : List ℕ → Result (Unit {0}) Refusal → Type 0) (answer : Result (Unit {0}) Refusal) → m.limit + 3 < turn → ReadsInput left failed come m.limit most before old now answer
+    no_turn most come answer many =
+        let few : turn ≤ m.limit + 3 = few_turns in
+        let never : ⊥ = omega arith in
+        absurd never
 
     undecided : IsUndecided m.limit (before ++ h.fed)
     undecided = subst (λ (n : ℕ). IsUndecided n (before ++ h.fed)) h.has_read.limit_is h.has_read.fed.undecided

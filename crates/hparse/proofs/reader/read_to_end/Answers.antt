@@ -1,8 +1,9 @@
-use Rattle.std.proofs.Common.{◌≡◌, ℕ, ◌<◌, ◌≤◌, List, [], length, take, drop, ap, subst, ◌∙◌, sym, arith, rules}
+use Rattle.std.proofs.Common.{◌≡◌, ℕ, ◌+◌, ◌<◌, ◌≤◌, List, [], length, take, drop, ap, subst, ◌∙◌, sym, arith, rules}
 use Rattle.std.proofs.lemmas.Result.{err_from_is_err_and}
 use Rattle.std.specs.Io.KnownBytes.{Consumes}
 use Rattle.htoken.specs.Token.{gives_item}
-use Rattle.hparse.proofs.Turns.{not_turned, few_turns, turned, refused_turn, failed_turn, ended, front_of_buffer, some_of_buffer, few_of_buffer}
+use Rattle.hparse.specs.Input.{Comes}
+use Rattle.hparse.proofs.Turns.{not_turned, no_turn, turned, refused_turn, failed_turn, ended, front_of_buffer, some_of_buffer, few_of_buffer}
 use Rattle.hparse.proofs.reader.read_to_end.Goals as goal
 
 pub loop-turn-init : goal.loop-turn-init
@@ -23,7 +24,8 @@ returns-in-Some-eq0 g c = λ m began before small start.
 pub returns-in-None : goal.returns-in-None
 returns-in-None g c = λ m began before small start.
     let h = c.loop-turn.invariant.0 m began before start in
-    failed_turn g.R.Source.left g.R.Source.failed (gives_item g.S.ErrorSink.gives g.S.TokenSink.gives_token) m began before c.loop-turn._turn c.args.source.now c.loop-turn.source c.loop-turn.reading h c.read.new.self c.args.piece _
+    failed_turn g.R.Source.left g.R.Source.failed (gives_item g.S.ErrorSink.gives g.S.TokenSink.gives_token) m began before c.loop-turn._turn c.args.source.now c.loop-turn.source c.loop-turn.reading h c.read.new.self c.args.piece
+    (λ bytes. Comes (gives_item g.S.ErrorSink.gives g.S.TokenSink.gives_token) m began bytes c.loop-turn.reading.feeding.names c.loop-turn.reading.feeding.sink)
     c.in-None.ensures.bytes c.in-None.ensures.count
 
 pub returns-in_err-feed-in-Some : goal.returns-in_err-feed-in-Some
@@ -52,5 +54,6 @@ loop-turn-preserved g c = (
 pub returns : goal.returns
 returns g c = λ m began before small start.
     let h = c.loop-turn.invariant.0 m began before start in
-    let few = few_turns g.R.Source.left g.R.Source.failed (gives_item g.S.ErrorSink.gives g.S.TokenSink.gives_token) m began before c.loop-turn._turn c.args.source.now c.loop-turn.source c.loop-turn.reading h in
-    absurd (omega arith)
+    let many : m.limit + 3 < c.loop-turn._turn = omega arith in
+    no_turn g.R.Source.left g.R.Source.failed (gives_item g.S.ErrorSink.gives g.S.TokenSink.gives_token) m began before c.loop-turn._turn c.args.source.now c.loop-turn.source c.loop-turn.reading h c.args.piece
+    (λ bytes. Comes (gives_item g.S.ErrorSink.gives g.S.TokenSink.gives_token) m began bytes c.loop-turn.reading.feeding.names c.loop-turn.reading.feeding.sink) _ many
