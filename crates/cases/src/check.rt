@@ -9,8 +9,8 @@ use hbuild::Limits;
 use hmain::Line;
 use hmain::line::line;
 use hmarkup::Quirks;
-use hparse::Options;
-use hrun::{Command, Counted, run};
+use hparse::{Options, Source};
+use hrun::{Command, Counted, Target, run};
 use htext::MAX_INPUT;
 use names::Refusal;
 use std::alloc::Global;
@@ -104,7 +104,7 @@ fn comes_at_once(alloc: Global, case: &Case, command: Command, options: &Options
     };
     let mut early = Counted::new(Failing { rest: front });
     let mut target = Counted::new(Vec::new(alloc));
-    let before = run(alloc, command, options, &mut early, &mut target).err();
+    let before = refusal_of(alloc, command, options, &mut early, &mut target);
     let rest = case.input.as_slice();
     Ok(before == Some(Refusal::Read) && comes(alloc, case, command, options, Failing { rest })?)
 }
@@ -143,8 +143,22 @@ fn comes<R: Read + Drop>(
 {
     let mut source = Counted::new(reader);
     let mut target = Counted::new(Vec::new(alloc));
-    let refusal = run(alloc, command, options, &mut source, &mut target).err();
+    let refusal = refusal_of(alloc, command, options, &mut source, &mut target);
     is_of(alloc, case, refusal, &target.into_inner())
+}
+
+/// What a run is refused for. Nothing is promised of it here, so that what the contract of a run says is not carried on.
+fn refusal_of<S: Source, W: Target>(
+    alloc: Global,
+    command: Command,
+    options: &Options,
+    source: &mut S,
+    target: &mut W,
+) -> Option<Refusal>
+    requires piece { 0 < command.piece }
+    requires limit { options.now.input_limit ≤ MAX_INPUT }
+{
+    run(alloc, command, options, source, target).err()
 }
 
 /// Whether this refusal, or none, and this text are the case's.
