@@ -10,7 +10,7 @@ use crate::edits::{change, is_allowed};
 use crate::line::Line;
 use crate::shown::{say, show_state};
 use hadopt::Site;
-use names::Refusal;
+use names::{Keys, Refusal};
 use std::alloc::{AllocError, Global};
 use std::fmt::Write;
 
@@ -57,7 +57,7 @@ impl Run {
         ensures { IfOk result (λ run. Kept numbers run.site) }
     {
         Ok(Run {
-            site: Site::new(alloc, 1, 1)?,
+            site: Site::new(alloc, Keys::fixed(), 1, 1)?,
             sound: true,
         })
     }
@@ -66,7 +66,7 @@ impl Run {
     fn begin(&mut self, most_nodes: u32, most_open: u32, alloc: Global) -> Result<(), AllocError>
         ensures { OnOk result (Kept numbers self.new.site) }
     {
-        self.site = Site::new(alloc, most_nodes.max(1), most_open)?;
+        self.site = Site::new(alloc, Keys::fixed(), most_nodes.max(1), most_open)?;
         self.sound = true;
         Ok(())
     }

@@ -10,7 +10,7 @@ ghost use Rattle.hadopt.specs.Site.{Goes, with_error, error_unless};
 use hformat::Formatting;
 use hnodes::Tree;
 use hopen::OpenStack;
-use names::{ErrorCode, ParseError, Refusal};
+use names::{ErrorCode, Keys, ParseError, Refusal};
 use std::alloc::{AllocError, Global};
 use std::marker::Model;
 
@@ -45,8 +45,13 @@ impl Model for Site {
 
 impl Site {
     /// The document alone: no open nodes, no entries, no errors. At most `most_nodes` may be made, the document among them, and at
-    /// most `most_open` may be open at a time.
-    pub fn new(alloc: Global, most_nodes: u32, most_open: u32) -> Result<Self, AllocError>
+    /// most `most_open` may be open at a time. The keys are those of the list of active formatting elements.
+    pub fn new(
+        alloc: Global,
+        keys: Keys,
+        most_nodes: u32,
+        most_open: u32,
+    ) -> Result<Self, AllocError>
         requires { 0 < most_nodes }
         ensures site { IfOk result (λ s. s ≡ record {
           nodes = record { limit = most_nodes; made = 1; trees = tree 0 document none none };
@@ -61,7 +66,7 @@ impl Site {
         Ok(Site {
             tree: Tree::new(alloc, most_nodes)?,
             stack: OpenStack::new(alloc, most_open),
-            list: Formatting::new(alloc),
+            list: Formatting::new(alloc, keys),
             foster: false,
             errors: Vec::new(alloc),
             alloc,

@@ -13,7 +13,7 @@ use hmarkup::Quirks;
 use hmodes::reset::context_mode;
 use hmodes::{Control, Mode, Rules};
 use hnodes::NodeId;
-use names::{NameId, Refusal, Tag};
+use names::{Keys, NameId, Refusal, Tag};
 use std::alloc::{AllocError, Global};
 
 /// The state beside the tree in a mode.
@@ -35,13 +35,14 @@ fn control_in(alloc: Global, mode: Mode, form: Option<NodeId>) -> Control
 /// A document begins.
 pub(crate) fn document_rules<'q>(
     alloc: Global,
+    keys: Keys,
     quirks: &'q Quirks,
     limits: Limits,
 ) -> Result<Rules<'q>, AllocError>
     ensures { IfOk result (λ r. state_of r ≡ document_begins quirks.now limits) }
 {
     Ok(Rules {
-        site: Site::new(alloc, limits.nodes(), limits.depth())?,
+        site: Site::new(alloc, keys, limits.nodes(), limits.depth())?,
         control: control_in(alloc, Mode::Initial, None),
         context: None,
         quirks_list: Some(quirks),
@@ -50,10 +51,14 @@ pub(crate) fn document_rules<'q>(
 }
 
 /// The tree in which a fragment begins, and its root element, which is open.
-fn fragment_site(alloc: Global, limits: Limits) -> Result<(Site, NodeId), Refusal>
+fn fragment_site(
+    alloc: Global,
+    keys: Keys,
+    limits: Limits,
+) -> Result<(Site, NodeId), Refusal>
     ensures { MatchResult result (λ r. (r.0 ≡ fragment_site numbers limits) × (r.1 ≡ 1)) (λ e. e ≡ Memory) }
 {
-    let mut site = Site::new(alloc, limits.nodes(), limits.depth())?;
+    let mut site = Site::new(alloc, keys, limits.nodes(), limits.depth())?;
     let place = site.place_in_document();
     let root = site.insert_element(Tag::Html.number(), Vec::new(alloc), place, 0)?;
     Ok((site, root))
@@ -72,12 +77,13 @@ fn form_pointer(site: &Site, context: NameId) -> Option<NodeId>
 /// A fragment begins in a context element of a name, in the mode that a reset gives there; and its root element.
 pub(crate) fn fragment_rules<'q>(
     alloc: Global,
+    keys: Keys,
     context: NameId,
     limits: Limits,
 ) -> Result<(Rules<'q>, NodeId), Refusal>
     ensures { MatchResult result (λ r. (state_of r.0 ≡ fragment_begins numbers context limits) × (r.1 ≡ 1)) (λ e. e ≡ Memory) }
 {
-    let (site, root) = fragment_site(alloc, limits)?;
+    let (site, root) = fragment_site(alloc, keys, limits)?;
     let form = form_pointer(&site, context);
     let rules = Rules {
         site,

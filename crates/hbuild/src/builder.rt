@@ -22,7 +22,7 @@ use hmarkup::{ErrorSink, Quirks};
 use hmodes::Rules;
 use hnodes::{NodeId, Tree};
 use htoken::{Token, TokenSink};
-use names::{NameId, ParseError, Refusal};
+use names::{Keys, NameId, ParseError, Refusal};
 use std::alloc::Global;
 use std::marker::Model;
 
@@ -64,15 +64,16 @@ pub struct Built {
 }
 
 impl<'q> Builder<'q> {
-    /// The builder of a document. An error is `Memory`.
+    /// The builder of a document. An error is `Memory`. No result depends on the keys.
     pub fn document(
         alloc: Global,
+        keys: Keys,
         quirks: &'q Quirks,
         limits: Limits,
     ) -> Result<Builder<'q>, Refusal>
         ensures { MatchResult result (λ b. b ≡ record { state = document_begins quirks.now limits; root = 0; told = []; refused = None }) (λ e. e ≡ Memory) }
     {
-        let rules = document_rules(alloc, quirks, limits)?;
+        let rules = document_rules(alloc, keys, quirks, limits)?;
         let root = rules.site.tree().document();
         Ok(Builder {
             rules,
@@ -83,11 +84,16 @@ impl<'q> Builder<'q> {
     }
 
     /// The builder of a fragment in a context element of this name. An error is `Memory`.
-    pub fn fragment(alloc: Global, context: NameId, limits: Limits) -> Result<Builder<'q>, Refusal>
+    pub fn fragment(
+        alloc: Global,
+        keys: Keys,
+        context: NameId,
+        limits: Limits,
+    ) -> Result<Builder<'q>, Refusal>
         ensures { MatchResult result (λ b. b ≡ record { state = fragment_begins numbers context limits; root = 1; told = []; refused = None })
             (λ e. e ≡ Memory) }
     {
-        let begun = fragment_rules(alloc, context, limits)?;
+        let begun = fragment_rules(alloc, keys, context, limits)?;
         Ok(Builder {
             rules: begun.0,
             root: begun.1,

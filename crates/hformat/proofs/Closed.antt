@@ -70,17 +70,18 @@ solid-closed items from h k above l x =
     (ap stays (get_or-append_right (take from items) kept from k x low above) ∙ All-get_or (λ y. stays y ≡ true) kept (k - from) x within (filter_passes stays (drop from items)))
 
 -- what is kept of the list
-pub listed-closed : (from : ℕ) (old new : Slots) → IsListed old → from ≤ length old.items.items
+pub listed-closed : (from : ℕ) (old new : Slots) → IsListed old → new.keys ≡ old.keys → from ≤ length old.items.items
     → new.names ≡ take from old.names ++ filter (λ n. not (n == none)) (drop from old.names)
     → new.hashes ≡ take from old.hashes ++ filter (λ n. not (n == none)) (drop from old.hashes)
     → new.nodes ≡ take from old.nodes ++ filter (λ n. not (n == none)) (drop from old.nodes)
     → new.solid ≡ from → new.items.items ≡ closed old.items.items from → IsListed new
-listed-closed from old new listed h names hashes nodes solid items =
+listed-closed from old new listed keys h names hashes nodes solid items =
     let xs = old.items.items in
     let kept = filter stays (drop from xs) in
     record {
       names = names ∙ numbers-closed (λ e. e.name) xs from old.names listed.stored listed.names ∙ ap (numbers_by by_name) (sym items);
-      hashes = hashes ∙ numbers-closed entry_hash xs from old.hashes listed.stored listed.hashes ∙ ap (numbers_by by_hash) (sym items);
+      hashes = hashes ∙ numbers-closed (entry_hash old.keys) xs from old.hashes listed.stored listed.hashes
+          ∙ (λ i. numbers_by (by_hash (sym keys i)) (sym items i));
       nodes = nodes ∙ numbers-closed (λ e. e.node) xs from old.nodes listed.stored listed.nodes ∙ ap (numbers_by by_node) (sym items);
       stored = subst (All IsStored) (sym items) (All-append IsStored (take from xs) kept (All-take IsStored from xs listed.stored) (All-filter stays IsStored (drop from xs) (All-drop IsStored from xs listed.stored)));
       within = omega (arith, solid, ap length items, length-append (take from xs) kept, length-take-le from xs h);

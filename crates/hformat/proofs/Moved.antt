@@ -10,6 +10,7 @@ use Rattle.std.proofs.lemmas.List.Elements.{All-get_or, All-head, All-set, All-t
 use Rattle.hchain.specs.Chains.{last_up, none}
 use Rattle.hformat.specs.Formatting.{EntryOf, for_node, is_entry}
 use Rattle.hformat.specs.Items.{IsStored, entry_is, is_gone, item_of, items_of, nowhere, renamed, told}
+use Rattle.std.specs.declared.hash.DefaultHasher.{DefaultHasher}
 use Rattle.hformat.specs.Listed.{IsListed, by_hash, by_name, by_node, number_by, numbers_by}
 use Rattle.hopen.specs.Nearest.{changed_at, put_before}
 use Rattle.hopen.specs.Places.{last_place}
@@ -95,10 +96,10 @@ module _ (node : ℕ) where
   renamed-name stored.Marker = refl
   renamed-name (stored.Entry e) = refl
 
-  renamed-hash : (x : Stored) → number_by by_hash (item_of (renamed node x)) ≡ number_by by_hash (item_of x)
-  renamed-hash stored.Hole = refl
-  renamed-hash stored.Marker = refl
-  renamed-hash (stored.Entry e) = refl
+  renamed-hash : (keys : DefaultHasher) (x : Stored) → number_by (by_hash keys) (item_of (renamed node x)) ≡ number_by (by_hash keys) (item_of x)
+  renamed-hash keys stored.Hole = refl
+  renamed-hash keys stored.Marker = refl
+  renamed-hash keys (stored.Entry e) = refl
 
   renamed-node : (x : Stored) → is_some (told x) ≡ true → IsStored x → number_by by_node (item_of (renamed node x)) ≡ suc (suc node)
   renamed-node stored.Hole some is = cc
@@ -148,10 +149,10 @@ module _ (node : ℕ) where
     renewed-items = set_nearest item_of (for_node node) items i (length items - 1 - i) stored.Hole (renamed node there) (omega arith) (renamed-item there some)
 
 -- what is kept of the list stays so
-pub listed-renewed : (node i : ℕ) (old new : Slots) → IsListed old → i < length old.items.items → is_some (told (get_or old.items.items i stored.Hole)) ≡ true → node < nowhere
+pub listed-renewed : (node i : ℕ) (old new : Slots) → IsListed old → new.keys ≡ old.keys → i < length old.items.items → is_some (told (get_or old.items.items i stored.Hole)) ≡ true → node < nowhere
     → new.names ≡ old.names → new.hashes ≡ old.hashes → new.nodes ≡ set (set old.nodes i none) i (suc (suc node)) → new.solid ≡ old.solid
     → new.items.items ≡ set old.items.items i (renamed node (get_or old.items.items i stored.Hole)) → IsListed new
-listed-renewed node i old new listed h some low names hashes nodes solid items =
+listed-renewed node i old new listed keys h some low names hashes nodes solid items =
     let xs = old.items.items in
     let x = get_or xs i stored.Hole in
     let stored : IsStored x = All-get_or IsStored xs i stored.Hole h listed.stored in
@@ -160,7 +161,8 @@ listed-renewed node i old new listed h some low names hashes nodes solid items =
     ∙ sym (map-set (λ y. number_by by_node (item_of y)) xs i (renamed node x)) in
     record {
       names = names ∙ listed.names ∙ sym (same-by node xs i h some (λ y. number_by by_name (item_of y)) (renamed-name node x)) ∙ ap (numbers_by by_name) (sym items);
-      hashes = hashes ∙ listed.hashes ∙ sym (same-by node xs i h some (λ y. number_by by_hash (item_of y)) (renamed-hash node x)) ∙ ap (numbers_by by_hash) (sym items);
+      hashes = hashes ∙ listed.hashes ∙ sym (same-by node xs i h some (λ y. number_by (by_hash old.keys) (item_of y)) (renamed-hash node old.keys x))
+          ∙ (λ j. numbers_by (by_hash (sym keys j)) (sym items j));
       nodes = nodes ∙ ns ∙ ap (numbers_by by_node) (sym items);
       stored = subst (All IsStored) (sym items) (All-set IsStored xs i (renamed node x) (renamed-stored node x low stored) listed.stored);
       within = omega (arith, solid, ap length items, length-set xs i (renamed node x), listed.within);

@@ -13,6 +13,7 @@ use Rattle.std.proofs.lemmas.List.Sorted.{list_any-IsPermutation}
 use Rattle.std.proofs.lemmas.Map.Lookups.{btree_set_from_contains}
 use Rattle.names.proofs.TableLemmas.{bytes_eq-true}
 use Rattle.hnodes.specs.Forest.{Attribute}
+use Rattle.std.specs.declared.hash.DefaultHasher.{DefaultHasher}
 use Rattle.hformat.specs.Hashes.{entry_hash, distinct, hash_of, put_in, total}
 use Rattle.hformat.specs.Formatting.{EntryOf, are_among, as_entry, is_equal, same_attribute, same_attributes}
 use Rattle.hformat.specs.Items.{item_of, nowhere, told}
@@ -104,62 +105,63 @@ sorted-distinct xs sorted moved s =
     unique (dedup eqb sorted) (distinct xs) (IsStrictlySortedBy-dedup nat_cmp_total unsigned_ties sorted s) (ascends xs)
     (λ p. any-dedup p sorted ∙ sym (list_any-IsPermutation p xs sorted moved) ∙ sym (any-distinct p xs))
 
--- attributes that are the same have the same hash
-same-hash : (a b : Attribute ℕ) → same_attribute nat_eq a b ≡ true → hash_of a ≡ hash_of b
-same-hash a b e = go (nat_eq a.0 b.0) refl e
-  where
-    go : (v : Bool) → nat_eq a.0 b.0 ≡ v → (v && bytes_eq a.1 b.1) ≡ true → hash_of a ≡ hash_of b
-    go true name bytes = λ i. hash_of (eqb-true a.0 b.0 name i, bytes_eq-true a.1 b.1 bytes i)
-    go false name bytes = cc
-
-module _ (p : ℕ → Bool) where
-  any-same : (a : Attribute ℕ) (ys : List (Attribute ℕ)) → list_any (same_attribute nat_eq a) ys ≡ true → p (hash_of a) ≡ true → list_any p (map hash_of ys) ≡ true
-  any-same a [] found h = cc
-  any-same a (y ∷ ys) found h = go (same_attribute nat_eq a y) refl found (λ later. any-same a ys later h)
+module _ (keys : DefaultHasher) where
+  -- attributes that are the same have the same hash
+  same-hash : (a b : Attribute ℕ) → same_attribute nat_eq a b ≡ true → (hash_of keys) a ≡ (hash_of keys) b
+  same-hash a b e = go (nat_eq a.0 b.0) refl e
     where
-      go : (v : Bool) → same_attribute nat_eq a y ≡ v → (v || list_any (same_attribute nat_eq a) ys) ≡ true → (list_any (same_attribute nat_eq a) ys ≡ true → list_any p (map hash_of ys) ≡ true) → (p (hash_of y) || list_any p (map hash_of ys)) ≡ true
-      go true same found later = rw (sym (ap p (same-hash a y same)) ∙ h) refl
-      go false same found later = rest (p (hash_of y))
-        where
-          rest : (v : Bool) → (v || list_any p (map hash_of ys)) ≡ true
-          rest true = refl
-          rest false = later found
+      go : (v : Bool) → nat_eq a.0 b.0 ≡ v → (v && bytes_eq a.1 b.1) ≡ true → (hash_of keys) a ≡ (hash_of keys) b
+      go true name bytes = λ i. (hash_of keys) (eqb-true a.0 b.0 name i, bytes_eq-true a.1 b.1 bytes i)
+      go false name bytes = cc
 
-  any-among : (xs ys : List (Attribute ℕ)) → are_among nat_eq xs ys ≡ true → list_any p (map hash_of xs) ≡ true → list_any p (map hash_of ys) ≡ true
-  any-among [] ys all found = cc
-  any-among (x ∷ xs) ys all found = go (list_any (same_attribute nat_eq x) ys) refl all (p (hash_of x)) refl found (any-among xs ys)
+  module _ (p : ℕ → Bool) where
+    any-same : (a : Attribute ℕ) (ys : List (Attribute ℕ)) → list_any (same_attribute nat_eq a) ys ≡ true → p ((hash_of keys) a) ≡ true → list_any p (map (hash_of keys) ys) ≡ true
+    any-same a [] found h = cc
+    any-same a (y ∷ ys) found h = go (same_attribute nat_eq a y) refl found (λ later. any-same a ys later h)
+      where
+        go : (v : Bool) → same_attribute nat_eq a y ≡ v → (v || list_any (same_attribute nat_eq a) ys) ≡ true → (list_any (same_attribute nat_eq a) ys ≡ true → list_any p (map (hash_of keys) ys) ≡ true) → (p ((hash_of keys) y) || list_any p (map (hash_of keys) ys)) ≡ true
+        go true same found later = rw (sym (ap p (same-hash a y same)) ∙ h) refl
+        go false same found later = rest (p ((hash_of keys) y))
+          where
+            rest : (v : Bool) → (v || list_any p (map (hash_of keys) ys)) ≡ true
+            rest true = refl
+            rest false = later found
+
+    any-among : (xs ys : List (Attribute ℕ)) → are_among nat_eq xs ys ≡ true → list_any p (map (hash_of keys) xs) ≡ true → list_any p (map (hash_of keys) ys) ≡ true
+    any-among [] ys all found = cc
+    any-among (x ∷ xs) ys all found = go (list_any (same_attribute nat_eq x) ys) refl all (p ((hash_of keys) x)) refl found (any-among xs ys)
+      where
+        go : (v : Bool) → list_any (same_attribute nat_eq x) ys ≡ v → (v && are_among nat_eq xs ys) ≡ true → (w : Bool) → p ((hash_of keys) x) ≡ w → (w || list_any p (map (hash_of keys) xs)) ≡ true
+            → (are_among nat_eq xs ys ≡ true → list_any p (map (hash_of keys) xs) ≡ true → list_any p (map (hash_of keys) ys) ≡ true) → list_any p (map (hash_of keys) ys) ≡ true
+        go false here all w h found later = cc
+        go true here all true h found later = any-same x ys here h
+        go true here all false h found later = later all found
+
+  same-hashes : (xs ys : List (Attribute ℕ)) → are_among nat_eq xs ys ≡ true → are_among nat_eq ys xs ≡ true → distinct (map (hash_of keys) xs) ≡ distinct (map (hash_of keys) ys)
+  same-hashes xs ys there back =
+      unique (distinct (map (hash_of keys) xs)) (distinct (map (hash_of keys) ys)) (ascends (map (hash_of keys) xs)) (ascends (map (hash_of keys) ys))
+      (λ p. any-distinct p (map (hash_of keys) xs) ∙ both_ways (list_any p (map (hash_of keys) xs)) (list_any p (map (hash_of keys) ys)) (any-among p xs ys there) (any-among p ys xs back)
+      ∙ sym (any-distinct p (map (hash_of keys) ys)))
+
+  pub same-entry_hash : (new e : EntryOf ℕ) → is_equal nat_eq new e ≡ true → entry_hash keys new ≡ entry_hash keys e
+  same-entry_hash new e equal = go (nat_eq new.name e.name) refl (are_among nat_eq new.attrs e.attrs) refl (are_among nat_eq e.attrs new.attrs) refl equal
     where
-      go : (v : Bool) → list_any (same_attribute nat_eq x) ys ≡ v → (v && are_among nat_eq xs ys) ≡ true → (w : Bool) → p (hash_of x) ≡ w → (w || list_any p (map hash_of xs)) ≡ true
-          → (are_among nat_eq xs ys ≡ true → list_any p (map hash_of xs) ≡ true → list_any p (map hash_of ys) ≡ true) → list_any p (map hash_of ys) ≡ true
-      go false here all w h found later = cc
-      go true here all true h found later = any-same x ys here h
-      go true here all false h found later = later all found
+      go : (u : Bool) → nat_eq new.name e.name ≡ u → (v : Bool) → are_among nat_eq new.attrs e.attrs ≡ v → (w : Bool) → are_among nat_eq e.attrs new.attrs ≡ w → (u && (v && w)) ≡ true
+          → entry_hash keys new ≡ entry_hash keys e
+      go true name true there true back equal = λ i. total keys (eqb-true new.name e.name name i) (same-hashes new.attrs e.attrs there back i)
+      go true name true there false back equal = cc
+      go true name false there w back equal = cc
+      go false name v there w back equal = cc
 
-same-hashes : (xs ys : List (Attribute ℕ)) → are_among nat_eq xs ys ≡ true → are_among nat_eq ys xs ≡ true → distinct (map hash_of xs) ≡ distinct (map hash_of ys)
-same-hashes xs ys there back =
-    unique (distinct (map hash_of xs)) (distinct (map hash_of ys)) (ascends (map hash_of xs)) (ascends (map hash_of ys))
-    (λ p. any-distinct p (map hash_of xs) ∙ both_ways (list_any p (map hash_of xs)) (list_any p (map hash_of ys)) (any-among p xs ys there) (any-among p ys xs back)
-    ∙ sym (any-distinct p (map hash_of ys)))
-
-pub same-entry_hash : (new e : EntryOf ℕ) → is_equal nat_eq new e ≡ true → entry_hash new ≡ entry_hash e
-same-entry_hash new e equal = go (nat_eq new.name e.name) refl (are_among nat_eq new.attrs e.attrs) refl (are_among nat_eq e.attrs new.attrs) refl equal
-  where
-    go : (u : Bool) → nat_eq new.name e.name ≡ u → (v : Bool) → are_among nat_eq new.attrs e.attrs ≡ v → (w : Bool) → are_among nat_eq e.attrs new.attrs ≡ w → (u && (v && w)) ≡ true
-        → entry_hash new ≡ entry_hash e
-    go true name true there true back equal = λ i. total (eqb-true new.name e.name name i) (same-hashes new.attrs e.attrs there back i)
-    go true name true there false back equal = cc
-    go true name false there w back equal = cc
-    go false name v there w back equal = cc
-
--- An entry that is equal to one with a name is no hole, and has the number of the same hash.
-pub same-number : (new e : EntryOf ℕ) → new.name < nowhere → is_equal nat_eq new e ≡ true → suc (by_hash e) ≡ suc (suc (entry_hash new))
-same-number new e named equal = go (nat_eq new.name e.name) refl equal
-  where
-    go : (u : Bool) → nat_eq new.name e.name ≡ u → (u && same_attributes nat_eq new.attrs e.attrs) ≡ true → suc (by_hash e) ≡ suc (suc (entry_hash new))
-    go true name all =
-        let other : e.name ≢ nowhere = omega (arith, eqb-true new.name e.name name) in
-        rw (ne_eqb e.name nowhere other) (ap (λ n. suc (suc n)) (sym (same-entry_hash new e equal)))
-    go false name all = cc
+  -- An entry that is equal to one with a name is no hole, and has the number of the same hash.
+  pub same-number : (new e : EntryOf ℕ) → new.name < nowhere → is_equal nat_eq new e ≡ true → suc (by_hash keys e) ≡ suc (suc (entry_hash keys new))
+  same-number new e named equal = go (nat_eq new.name e.name) refl equal
+    where
+      go : (u : Bool) → nat_eq new.name e.name ≡ u → (u && same_attributes nat_eq new.attrs e.attrs) ≡ true → suc (by_hash keys e) ≡ suc (suc (entry_hash keys new))
+      go true name all =
+          let other : e.name ≢ nowhere = omega (arith, eqb-true new.name e.name name) in
+          rw (ne_eqb e.name nowhere other) (ap (λ n. suc (suc n)) (sym (same-entry_hash new e equal)))
+      go false name all = cc
 
 -- an item that is told to be equal is seen as such an entry
 pub told-equal : (new : EntryOf ℕ) → new.name < nowhere → (x : Stored) → option_map_or (is_equal nat_eq new) (told x) false ≡ option_map_or (is_equal nat_eq new) (as_entry (item_of x)) false

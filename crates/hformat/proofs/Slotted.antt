@@ -1,27 +1,28 @@
 -- The items of a list and their numbers, where the last ones leave, and where one becomes a hole.
-use Rattle.std.proofs.Common.{◌≡◌, ◌≢◌, ℕ, ◌+◌, ◌<◌, ◌≤◌, length, take, set, get_or, min, max, subst, sym, ◌∙◌, ap, arith}
+use Rattle.std.proofs.Common.{◌≡◌, ◌≢◌, ℕ, zero, suc, ◌+◌, ◌<◌, ◌≤◌, false, List, [], ◌∷◌, ◌++◌, length, take, set, get_or, min, max, subst, sym, ◌∙◌, ap, arith}
 use Rattle.std.specs.List.{All}
-use Rattle.std.proofs.lemmas.List.{take-map, map-set, length-set, length-take-le, get_or-take, get_or-set_other}
-use Rattle.std.proofs.lemmas.List.Elements.{All-take, All-set}
+use Rattle.std.proofs.lemmas.List.{length-append, map-append, take-map, map-set, length-set, length-take-le, get_or-take, get_or-set_other}
+use Rattle.std.proofs.lemmas.List.Elements.{All-append, All-take, All-set}
 use Rattle.hformat.specs.Hashes.{entry_hash}
 use Rattle.hchain.specs.Chains.{none}
 use Rattle.hformat.specs.Formatting.{EntryOf}
 use Rattle.hformat.specs.Items.{IsStored, is_gone, item_of}
 use Rattle.hformat.specs.Listed.{IsListed, by_hash, by_name, by_node, number_by, numbers_by, unless_hole}
+use Rattle.hformat.specs.declared.entry.Item.{Item as Stored}
 use Rattle.hformat.specs.declared.entry.Item.TheVariants as stored
 use Rattle.hformat.specs.declared.slots.Slots.{Slots}
 
 module _ (old new : Slots) (listed : IsListed old) (n : ℕ) where
   -- so many items are left
-  pub listed-take : n ≤ length old.items.items → new.items.items ≡ take n old.items.items
+  pub listed-take : new.keys ≡ old.keys → n ≤ length old.items.items → new.items.items ≡ take n old.items.items
       → new.names ≡ take n old.names → new.hashes ≡ take n old.hashes → new.nodes ≡ take n old.nodes → new.solid ≡ min old.solid n → IsListed new
-  listed-take h items names hashes nodes least =
+  listed-take keys h items names hashes nodes least =
       let xs = old.items.items in
       let size : length new.items.items ≡ n = ap length items ∙ length-take-le n xs h in
       let numbers = λ (of : EntryOf ℕ → ℕ). take-map (λ i. number_by of (item_of i)) n xs ∙ ap (numbers_by of) (sym items) in
       record {
         names = names ∙ ap (take n) listed.names ∙ numbers by_name;
-        hashes = hashes ∙ ap (take n) listed.hashes ∙ numbers by_hash;
+        hashes = hashes ∙ ap (take n) listed.hashes ∙ numbers (by_hash old.keys) ∙ ap (λ k. numbers_by (by_hash k) new.items.items) (sym keys);
         nodes = nodes ∙ ap (take n) listed.nodes ∙ numbers by_node;
         stored = subst (All IsStored) (sym items) (All-take IsStored n xs listed.stored);
         within = omega (arith, listed.within);
@@ -31,19 +32,59 @@ module _ (old new : Slots) (listed : IsListed old) (n : ℕ) where
       }
 
   -- a hole is left
-  pub listed-hide : n < length old.items.items → new.items.items ≡ set old.items.items n stored.Hole
+  pub listed-hide : new.keys ≡ old.keys → n < length old.items.items → new.items.items ≡ set old.items.items n stored.Hole
       → new.names ≡ set old.names n none → new.hashes ≡ set old.hashes n none → new.nodes ≡ set old.nodes n none → new.solid ≡ max old.solid (n + 1) → IsListed new
-  listed-hide h items names hashes nodes most =
+  listed-hide keys h items names hashes nodes most =
       let xs = old.items.items in
       let size : length new.items.items ≡ length xs = ap length items ∙ length-set xs n stored.Hole in
       let numbers = λ (number : EntryOf ℕ → ℕ). sym (map-set (λ i. number_by (unless_hole number) (item_of i)) xs n stored.Hole) ∙ ap (numbers_by (unless_hole number)) (sym items) in
       record {
         names = names ∙ ap (λ ns. set ns n none) listed.names ∙ numbers (λ e. e.name);
-        hashes = hashes ∙ ap (λ ns. set ns n none) listed.hashes ∙ numbers entry_hash;
+        hashes = hashes ∙ ap (λ ns. set ns n none) listed.hashes ∙ numbers (entry_hash old.keys) ∙ ap (λ k. numbers_by (by_hash k) new.items.items) (sym keys);
         nodes = nodes ∙ ap (λ ns. set ns n none) listed.nodes ∙ numbers (λ e. e.node);
         stored = subst (All IsStored) (sym items) (All-set IsStored xs n stored.Hole tt listed.stored);
         within = omega (arith, listed.within);
         solid = λ i from to x.
             let other : i ≢ n = omega arith in
             ap (λ ys. is_gone (get_or ys i x)) items ∙ ap is_gone (get_or-set_other xs n i stored.Hole x other) ∙ listed.solid i (omega arith) (omega arith) x;
+      }
+
+-- an item that is no hole comes last
+gone-put : (xs : List Stored) (item x : Stored) (i : ℕ) → (i < length xs → is_gone (get_or xs i x) ≡ false) → is_gone item ≡ false → i < suc (length xs)
+    → is_gone (get_or (xs ++ item ∷ []) i x) ≡ false
+gone-put [] item x zero before there h = there
+gone-put [] item x (suc i) before there h = absurd (omega arith)
+gone-put (y ∷ xs) item x zero before there h = before (omega arith)
+gone-put (y ∷ xs) item x (suc i) before there h = gone-put xs item x i (λ low. before (omega arith)) there (omega arith)
+
+module _ (old new : Slots) (listed : IsListed old) where
+  -- nothing has changed
+  pub listed-same : new.keys ≡ old.keys → new.items.items ≡ old.items.items → new.names ≡ old.names → new.hashes ≡ old.hashes → new.nodes ≡ old.nodes → new.solid ≡ old.solid → IsListed new
+  listed-same keys items names hashes nodes solid =
+      record {
+        names = names ∙ listed.names ∙ ap (numbers_by by_name) (sym items);
+        hashes = hashes ∙ listed.hashes ∙ (λ i. numbers_by (by_hash (sym keys i)) (sym items i));
+        nodes = nodes ∙ listed.nodes ∙ ap (numbers_by by_node) (sym items);
+        stored = subst (All IsStored) (sym items) listed.stored;
+        within = omega (arith, solid, ap length items, listed.within);
+        solid = λ i from to x. ap (λ ys. is_gone (get_or ys i x)) items ∙ listed.solid i (omega (arith, solid)) (omega (arith, ap length items)) x;
+      }
+
+  -- one more
+  pub listed-put : (item : Stored) → IsStored item → is_gone item ≡ false → new.keys ≡ old.keys → new.items.items ≡ old.items.items ++ item ∷ []
+      → new.names ≡ old.names ++ number_by by_name (item_of item) ∷ [] → new.hashes ≡ old.hashes ++ number_by (by_hash old.keys) (item_of item) ∷ []
+      → new.nodes ≡ old.nodes ++ number_by by_node (item_of item) ∷ [] → new.solid ≡ old.solid → IsListed new
+  listed-put item is there keys items names hashes nodes solid =
+      let xs = old.items.items in
+      let numbers = λ (of : EntryOf ℕ → ℕ). sym (map-append (λ i. number_by of (item_of i)) xs (item ∷ [])) ∙ ap (numbers_by of) (sym items) in
+      let one : All IsStored (item ∷ []) = λ k d low. let first : 0 ≡ k = omega arith in subst (λ j. IsStored (get_or (item ∷ []) j d)) first is in
+      let size : length new.items.items ≡ suc (length xs) = ap length items ∙ length-append xs (item ∷ []) ∙ (omega arith) in
+      record {
+        names = names ∙ ap (λ ns. ns ++ number_by by_name (item_of item) ∷ []) listed.names ∙ numbers by_name;
+        hashes = hashes ∙ ap (λ ns. ns ++ number_by (by_hash old.keys) (item_of item) ∷ []) listed.hashes ∙ numbers (by_hash old.keys)
+            ∙ ap (λ k. numbers_by (by_hash k) new.items.items) (sym keys);
+        nodes = nodes ∙ ap (λ ns. ns ++ number_by by_node (item_of item) ∷ []) listed.nodes ∙ numbers by_node;
+        stored = subst (All IsStored) (sym items) (All-append IsStored xs (item ∷ []) listed.stored one);
+        within = omega (arith, solid, size, listed.within);
+        solid = λ i from to x. ap (λ ys. is_gone (get_or ys i x)) items ∙ gone-put xs item x i (λ low. listed.solid i (omega (arith, solid)) low x) there (omega (arith, size));
       }

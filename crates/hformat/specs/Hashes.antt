@@ -1,20 +1,12 @@
 -- Numbers by which equal entries find each other: the same at equal entries, in whatever order their attributes are, and rarely the
--- same at others.
+-- same at others. `keys` is a hasher that was fed a secret.
 use Rattle.std.specs.Prelude.{ℕ, ◌%◌, ◌^◌, ◌==◌, nat_lt, if◌then◌else◌, List, [], ◌∷◌, map}
 use Rattle.std.specs.List.{fold, flat_map}
 use Rattle.std.specs.Hash as fed
-use Rattle.std.specs.Hash.FoldHasher.{initial, write, finish}
-use Rattle.std.specs.declared.hash.FoldHasher.{FoldHasher}
+use Rattle.std.specs.Hash.DefaultHasher.{write, finish}
+use Rattle.std.specs.declared.hash.DefaultHasher.{DefaultHasher}
 use Rattle.hnodes.specs.Forest.{Attribute}
 use Rattle.hformat.specs.Formatting.{EntryOf}
-
--- a hasher that was fed the number of a name
-abbrev pub fed_name : ℕ → FoldHasher
-fed_name name = fold write initial (fed.usize name)
-
--- the hash of an attribute: of its name and its value
-abbrev pub hash_of : Attribute ℕ → ℕ
-hash_of a = finish (write (fed_name a.0) a.1)
 
 -- numbers that ascend, with one more, unless it is among them
 abbrev pub put_in : ℕ → List ℕ → List ℕ
@@ -26,10 +18,19 @@ abbrev pub distinct : List ℕ → List ℕ
 distinct [] = []
 distinct (x ∷ xs) = put_in x (distinct xs)
 
--- the hash of a name and of the hashes of attributes
-abbrev pub total : ℕ → List ℕ → ℕ
-total name hashes = finish (fold write (fed_name name) (flat_map fed.u64 hashes)) % 2 ^ 32
+module _ (keys : DefaultHasher) where
+  -- the hasher that was fed the number of a name
+  abbrev pub fed_name : ℕ → DefaultHasher
+  fed_name name = fold write keys (fed.usize name)
 
--- the hash of an entry: of its name and of its attributes' hashes, each once and in their order
-abbrev pub entry_hash : EntryOf ℕ → ℕ
-entry_hash e = total e.name (distinct (map hash_of e.attrs))
+  -- the hash of an attribute: of its name and its value
+  abbrev pub hash_of : Attribute ℕ → ℕ
+  hash_of a = finish (write (fed_name a.0) a.1)
+
+  -- the hash of a name and of the hashes of attributes
+  abbrev pub total : ℕ → List ℕ → ℕ
+  total name hashes = finish (fold write (fed_name name) (flat_map fed.u64 hashes)) % 2 ^ 32
+
+  -- the hash of an entry: of its name and of its attributes' hashes, each once and in their order
+  abbrev pub entry_hash : EntryOf ℕ → ℕ
+  entry_hash e = total e.name (distinct (map hash_of e.attrs))

@@ -1,6 +1,7 @@
 -- What is kept of the list of active formatting elements besides its items.
 use Rattle.std.specs.Prelude.{◌≡◌, ℕ, zero, suc, ◌<◌, ◌≤◌, ◌==◌, false, List, length, map, slice_index_or, if◌then◌else◌}
 use Rattle.std.specs.List.{All}
+use Rattle.std.specs.declared.hash.DefaultHasher.{DefaultHasher}
 use Rattle.hformat.specs.Hashes.{entry_hash}
 use Rattle.hformat.specs.Formatting.{EntryOf, Item, marker, entry}
 use Rattle.hformat.specs.Items.{IsStored, is_gone, item_of, nowhere}
@@ -19,8 +20,8 @@ unless_hole number e = if e.name == nowhere then zero else suc (number e)
 abbrev pub by_name : EntryOf ℕ → ℕ
 by_name = unless_hole (λ e. e.name)
 
-abbrev pub by_hash : EntryOf ℕ → ℕ
-by_hash = unless_hole entry_hash
+abbrev pub by_hash : DefaultHasher → EntryOf ℕ → ℕ
+by_hash keys = unless_hole (entry_hash keys)
 
 abbrev pub by_node : EntryOf ℕ → ℕ
 by_node = unless_hole (λ e. e.node)
@@ -31,7 +32,7 @@ numbers_by number items = map (λ i. number_by number (item_of i)) items
 -- The numbers that are kept are those of the items, and from an index on there is no hole.
 pub record IsListed (s : Slots) : Type 0 where
   pub names : s.names ≡ numbers_by by_name s.items.items
-  pub hashes : s.hashes ≡ numbers_by by_hash s.items.items
+  pub hashes : s.hashes ≡ numbers_by (by_hash s.keys) s.items.items
   pub nodes : s.nodes ≡ numbers_by by_node s.items.items
   pub stored : All IsStored s.items.items
   pub within : s.solid ≤ length s.items.items

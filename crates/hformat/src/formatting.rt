@@ -16,7 +16,7 @@ use crate::entry::{Entry, Item};
 use crate::hashes::find_hash;
 use crate::slots::{MARKER, Numbers, Slots, node_number};
 use hnodes::{NodeId, name_number};
-use names::{Attr, NameId};
+use names::{Attr, Keys, NameId};
 use std::alloc::{AllocError, Global};
 use std::marker::Model;
 
@@ -108,12 +108,12 @@ fn make_room(slots: &mut Slots) -> Result<(), AllocError>
 }
 
 impl Formatting {
-    /// An empty list.
-    pub fn new(alloc: Global) -> Self
+    /// An empty list. No result depends on the keys.
+    pub fn new(alloc: Global, keys: Keys) -> Self
         ensures { result ≡ [] }
     {
         Formatting {
-            slots: Slots::new(alloc),
+            slots: Slots::new(alloc, keys),
             alloc,
         }
     }
@@ -125,8 +125,8 @@ impl Formatting {
         ensures err { OnErr result (self.new ≡ self.old) }
     {
         let attrs = copy_attrs(self.alloc, attrs)?;
-        let hash = find_hash(self.alloc, name, &attrs)?;
         make_room(&mut self.slots)?;
+        let hash = find_hash(self.alloc, self.slots.keys, name, &attrs)?;
         let earliest = self.slots.giving_way(self.alloc, hash, name, &attrs)?;
         let numbers = Numbers {
             name: name_number(name),

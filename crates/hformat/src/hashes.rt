@@ -4,56 +4,61 @@ ghost use Rattle.std.specs.Prelude.{◌≡◌, suc, IfOk, map};
 ghost use Rattle.hnodes.specs.Rows.{attribute_of};
 ghost use Rattle.hformat.specs.Hashes.{entry_hash, distinct, fed_name, hash_of, total};
 
-use names::{Attr, NameId};
+use names::{Attr, Keys, NameId};
 use std::alloc::{AllocError, Global};
-use std::hash::{FoldHasher, Hash, Hasher};
+use std::hash::{BuildHasher, DefaultHasher, Hash, Hasher};
 
 /// How many hashes there are.
 const HASHES: u64 = 1 << 32;
 
 /// A hasher that was fed a name.
-fn feed_name(name: NameId) -> FoldHasher
-    ensures { result ≡ fed_name name }
+fn feed_name(keys: Keys, name: NameId) -> DefaultHasher
+    ensures { result ≡ fed_name keys name }
 {
-    let mut hasher = FoldHasher::default();
+    let mut hasher = keys.build_hasher();
     hasher.write_usize(name.index());
     hasher
 }
 
-fn hash_attr(attr: &Attr) -> u64
-    ensures { result ≡ hash_of (attribute_of attr.now) }
+fn hash_attr(keys: Keys, attr: &Attr) -> u64
+    ensures { result ≡ hash_of keys (attribute_of attr.now) }
 {
-    let mut hasher = feed_name(attr.name);
+    let mut hasher = feed_name(keys, attr.name);
     hasher.write(attr.value.as_bytes());
     hasher.finish()
 }
 
 /// The hashes of attributes, each once, the least one first.
-fn hash_attrs(alloc: Global, attrs: &[Attr]) -> Result<Vec<u64>, AllocError>
-    ensures { IfOk result (λ hashes. hashes.items ≡ distinct (map hash_of (map attribute_of attrs.now))) }
+fn hash_attrs(alloc: Global, keys: Keys, attrs: &[Attr]) -> Result<Vec<u64>, AllocError>
+    ensures { IfOk result (λ hashes. hashes.items ≡ distinct (map (hash_of keys) (map attribute_of attrs.now))) }
 {
     let mut hashes = Vec::new(alloc);
     for attr in attrs {
-        hashes.push(hash_attr(attr))?;
+        hashes.push(hash_attr(keys, attr))?;
     }
     hashes.sort_unstable();
     hashes.dedup();
     Ok(hashes)
 }
 
-fn total(name: NameId, hashes: &[u64]) -> u64
-    ensures { result ≡ total name hashes.now }
+fn total(keys: Keys, name: NameId, hashes: &[u64]) -> u64
+    ensures { result ≡ total keys name hashes.now }
 {
-    let mut hasher = feed_name(name);
+    let mut hasher = feed_name(keys, name);
     u64::hash_slice(hashes, &mut hasher);
     hasher.finish() % HASHES
 }
 
 /// The number of the hash of an entry with a name and attributes. Equal entries have the same, and few others have it.
-pub(crate) fn find_hash(alloc: Global, name: NameId, attrs: &[Attr]) -> Result<usize, AllocError>
+pub(crate) fn find_hash(
+    alloc: Global,
+    keys: Keys,
+    name: NameId,
+    attrs: &[Attr],
+) -> Result<usize, AllocError>
     // whatever the entry's node
-    ensures { IfOk result (λ n. n ≡ suc (suc (entry_hash (record { node = 0; name = name; attrs = map attribute_of attrs.now })))) }
+    ensures { IfOk result (λ n. n ≡ suc (suc (entry_hash keys (record { node = 0; name = name; attrs = map attribute_of attrs.now })))) }
 {
-    let hashes = hash_attrs(alloc, attrs)?;
-    Ok(total(name, &hashes) as usize + 2)
+    let hashes = hash_attrs(alloc, keys, attrs)?;
+    Ok(total(keys, name, &hashes) as usize + 2)
 }

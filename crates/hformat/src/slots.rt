@@ -15,7 +15,7 @@ ghost use Rattle.hformat.specs.declared.entry.Item.TheVariants as stored;
 use crate::entry::Item;
 use hchain::Chains;
 use hnodes::NodeId;
-use names::{Attr, NameId};
+use names::{Attr, Keys, NameId};
 use std::alloc::{AllocError, Global};
 
 /// How many equal entries there may be after the last marker.
@@ -46,6 +46,8 @@ pub(crate) struct Slots {
     pub(crate) names: Chains,
     pub(crate) hashes: Chains,
     pub(crate) nodes: Chains,
+    /// The keys of the hashes.
+    pub(crate) keys: Keys,
     /// From this index on there is no hole.
     pub(crate) solid: usize,
 }
@@ -74,7 +76,7 @@ fn push_numbers(
 }
 
 impl Slots {
-    pub(crate) fn new(alloc: Global) -> Self
+    pub(crate) fn new(alloc: Global, keys: Keys) -> Self
         ensures items { result.items.items ≡ [] }
         ensures listed { IsListed result }
     {
@@ -83,6 +85,7 @@ impl Slots {
             names: Chains::new(alloc),
             hashes: Chains::new(alloc),
             nodes: Chains::new(alloc),
+            keys,
             solid: 0,
         }
     }
@@ -97,7 +100,7 @@ impl Slots {
         attrs: &[Attr],
     ) -> Result<Option<usize>, AllocError>
         requires listed { IsListed self.now }
-        requires number { number ≡ suc (suc (entry_hash (record { node = 0; name = name; attrs = map attribute_of attrs.now }))) }
+        requires number { number ≡ suc (suc (entry_hash self.now.keys (record { node = 0; name = name; attrs = map attribute_of attrs.now }))) }
         ensures within { IfOk result (λ earliest. IfSome earliest (λ back. back < length self.now.items.items)) }
         ensures room { IfOk result (λ earliest. option_map_or (remove (items_of self.now.items.items)) earliest (items_of self.now.items.items)
             ≡ with_room nat_eq (record { node = 0; name = name; attrs = map attribute_of attrs.now }) (items_of self.now.items.items)) }
@@ -122,7 +125,7 @@ impl Slots {
         requires stored { IsStored item }
         requires there { is_gone item ≡ false }
         requires name { numbers.name ≡ number_by by_name (item_of item) }
-        requires hash { numbers.hash ≡ number_by by_hash (item_of item) }
+        requires hash { numbers.hash ≡ number_by (by_hash self.old.keys) (item_of item) }
         requires node { numbers.node ≡ number_by by_node (item_of item) }
         ensures listed { IsListed self.new }
         ensures ok { OnOk result (self.new.items.items ≡ self.old.items.items ++ item ∷ []) }

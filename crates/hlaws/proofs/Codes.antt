@@ -12,6 +12,7 @@ every = input_codes ++ token_codes ++ tree_codes
 code-at : (c : ErrorCode) → slice_get every (code_rank c) ≡ Some c
 code-at code.ControlCharacterInInputStream = refl
 code-at code.NoncharacterInInputStream = refl
+code-at code.ReplacedBytes = refl
 code-at code.AbruptClosingOfEmptyComment = refl
 code-at code.AbruptDoctypePublicIdentifier = refl
 code-at code.AbruptDoctypeSystemIdentifier = refl

@@ -1,6 +1,6 @@
--- What the program does in its surroundings. `has_words`, `lacks_words`, `opens` and `cannot_open` say what calls of the surroundings
--- returned; of a reader `left` says the bytes that it has left, where it tells, and of a writer `written` those that it has taken;
--- `failed` says how many of their calls have failed.
+-- What the program does in its surroundings. `has_words`, `cannot_begin` (there are no words, or no keys), `opens` and `cannot_open` say
+-- what calls of the surroundings returned; of a reader `left` says the bytes that it has left, where it tells, and of a writer `written`
+-- those that it has taken; `failed` says how many of their calls have failed.
 use Rattle.std.specs.Prelude.{◌≡◌, ◌⊎◌, ℕ, List, [], true, Option, None, Some, Result, Ok, Err, IfSome, MatchResult, option_map, codes}
 use Rattle.clap.specs.Words.{Text, takes}
 use Rattle.names.specs.declared.refusal.Refusal.{Refusal}
@@ -135,14 +135,14 @@ module _ {R F : Type 0} (opens : R → List ℕ → F → Type 0) (cannot_open :
           → AnswersInput left reads written writes told input input' output output' outcome
           → AnswersWords limit surroundings words input input' output output' outcome
 
-module _ {R F S W : Type 0} (has_words : R → List Text → Type 0) (lacks_words : R → Fault → Type 0) (opens : R → List ℕ → F → Type 0)
+module _ {R F S W : Type 0} (has_words : R → List Text → Type 0) (cannot_begin : R → Fault → Type 0) (opens : R → List ℕ → F → Type 0)
     (cannot_open : R → List ℕ → Type 0)
     (has_text : R → List ℕ → List ℕ → Type 0) (lacks_text : R → List ℕ → Fault → Type 0)
     (left_in_file : F → Option (List ℕ)) (failed_in_file : F → ℕ) (left : S → Option (List ℕ)) (reads : S → ℕ) (written : W → Option (List ℕ))
     (writes : W → ℕ) where
   -- What the command line says is done.
   pub data Answers (limit : ℕ) (surroundings : R) (input input' : S) (output output' : W) (outcome : Result (Unit {0}) Fault) : Type 0 where
-    line_missing : (why : Fault) → lacks_words surroundings why → outcome ≡ Err why → input' ≡ input → output' ≡ output
+    line_missing : (why : Fault) → cannot_begin surroundings why → outcome ≡ Err why → input' ≡ input → output' ≡ output
         → Answers limit surroundings input input' output output' outcome
     line_answered : (words : List Text) → has_words surroundings words
         → AnswersWords opens cannot_open left_in_file failed_in_file has_text lacks_text left reads written writes limit surroundings words input input' output
@@ -159,7 +159,7 @@ module _ {R F S W : Type 0} (has_words : R → List Text → Type 0) (lacks_word
     pub status_is : status ≡ status_of outcome
 
 -- The program ran, and this was its status.
-pub record HasRun {R F S W E : Type 0} (has_words : R → List Text → Type 0) (lacks_words : R → Fault → Type 0) (opens : R → List ℕ → F → Type 0)
+pub record HasRun {R F S W E : Type 0} (has_words : R → List Text → Type 0) (cannot_begin : R → Fault → Type 0) (opens : R → List ℕ → F → Type 0)
     (cannot_open : R → List ℕ → Type 0) (has_text : R → List ℕ → List ℕ → Type 0) (lacks_text : R → List ℕ → Fault → Type 0)
     (left_in_file : F → Option (List ℕ)) (failed_in_file : F → ℕ) (left : S → Option (List ℕ)) (reads : S → ℕ)
     (written : W → Option (List ℕ)) (writes : W → ℕ) (errors_written : E → Option (List ℕ)) (errors_failed : E → ℕ) (limit : ℕ) (surroundings : R)
@@ -167,5 +167,5 @@ pub record HasRun {R F S W E : Type 0} (has_words : R → List Text → Type 0) 
   pub input : S × S
   pub output : W × W
   pub errors : E × E
-  pub ends : Ends has_words lacks_words opens cannot_open has_text lacks_text left_in_file failed_in_file left reads written writes errors_written errors_failed
+  pub ends : Ends has_words cannot_begin opens cannot_open has_text lacks_text left_in_file failed_in_file left reads written writes errors_written errors_failed
       limit surroundings input.0 input.1 output.0 output.1 errors.0 errors.1 status

@@ -21,6 +21,9 @@ pub enum Fault {
     /// A word of the command line is not UTF-8.
     #[error("the command line is not UTF-8")]
     NotUtf8,
+    /// The system gives no random bytes, without which the program doesn't run.
+    #[error("no random bytes")]
+    NoRandomBytes,
     /// The words are not those of a command, or ask for help.
     #[error("{0}")]
     Line(clap::Error),

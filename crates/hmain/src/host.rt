@@ -11,10 +11,12 @@ use crate::surroundings::Surroundings;
 use hparse::Source;
 use hrun::{Counted, Target};
 use htext::MAX_INPUT;
+use names::Keys;
 use std::alloc::Global;
 use std::fs::File;
 use std::io::{ErrorKind, Stderr, Stdin, Stdout};
 use std::process::ExitCode;
+use std::random::RandomSource;
 use std::{env, fs};
 
 // No clause knows what the system holds: stored runs show that these calls hand on its words and files.
@@ -25,7 +27,7 @@ impl Surroundings for HostRuntime {
 
     ghost has_words = { λ _ _. ⊤ };
 
-    ghost lacks_words = { λ _ _. ⊤ };
+    ghost cannot_begin = { λ _ _. ⊤ };
 
     ghost opens = { λ _ _ _. ⊤ };
 
@@ -43,6 +45,14 @@ impl Surroundings for HostRuntime {
         match env::args(self) {
             Ok(words) => Ok(words.collect(Alloc::alloc(self))?),
             Err(error) => Err(words_fault(error.kind())),
+        }
+    }
+
+    fn keys(&self) -> Result<Keys, Fault> {
+        let mut secret = [0; 16];
+        match self.fill_bytes(&mut secret) {
+            Ok(()) => Ok(Keys::new(u128::from_le_bytes(secret))),
+            Err(_) => Err(Fault::NoRandomBytes),
         }
     }
 
@@ -87,7 +97,7 @@ fn text_fault(kind: ErrorKind) -> Fault
 
 /// The program over the system's streams.
 pub fn start(rt: &HostRuntime) -> ExitCode
-    ensures { HasRun ⟦<HostRuntime as Surroundings>⟧.has_words ⟦<HostRuntime as Surroundings>⟧.lacks_words
+    ensures { HasRun ⟦<HostRuntime as Surroundings>⟧.has_words ⟦<HostRuntime as Surroundings>⟧.cannot_begin
         ⟦<HostRuntime as Surroundings>⟧.opens ⟦<HostRuntime as Surroundings>⟧.cannot_open
         ⟦<HostRuntime as Surroundings>⟧.has_text ⟦<HostRuntime as Surroundings>⟧.lacks_text
         ⟦<Counted<File> as Source>⟧.left ⟦<Counted<File> as Source>⟧.failed

@@ -17,6 +17,7 @@ use hmarkup::Quirks;
 use hparse::{Options, Source};
 use hrun::{Command, Target, check_context, run};
 use htext::MAX_INPUT;
+use names::Keys;
 use std::alloc::{AllocError, Global};
 
 /// Does what the words of the command line say, writes the line that says why there is no answer, if there is none, and
@@ -27,7 +28,7 @@ pub fn run_program<R: Surroundings, S: Source, W: Target, E: Target>(
     output: &mut W,
     errors: &mut E,
 ) -> u8
-    ensures { Ends R.has_words R.lacks_words R.opens R.cannot_open R.has_text R.lacks_text R.File.left R.File.failed S.left S.failed W.written W.failed
+    ensures { Ends R.has_words R.cannot_begin R.opens R.cannot_open R.has_text R.lacks_text R.File.left R.File.failed S.left S.failed W.written W.failed
         E.written E.failed
         MAX_INPUT surroundings.now input.old input.new output.old output.new errors.old errors.new result }
 {
@@ -41,16 +42,18 @@ fn answer<R: Surroundings, S: Source, W: Target>(
     input: &mut S,
     output: &mut W,
 ) -> Result<(), Fault>
-    ensures { Answers R.has_words R.lacks_words R.opens R.cannot_open R.has_text R.lacks_text R.File.left R.File.failed S.left S.failed W.written W.failed
+    ensures { Answers R.has_words R.cannot_begin R.opens R.cannot_open R.has_text R.lacks_text R.File.left R.File.failed S.left S.failed W.written W.failed
         MAX_INPUT surroundings.now input.old input.new output.old output.new result }
 {
     let words = surroundings.words()?;
-    answer_words(surroundings, &words, input, output)
+    let keys = surroundings.keys()?;
+    answer_words(surroundings, keys, &words, input, output)
 }
 
 // Does what these words say.
 fn answer_words<R: Surroundings, S: Source, W: Target>(
     surroundings: &R,
+    keys: Keys,
     words: &[String],
     input: &mut S,
     output: &mut W,
@@ -60,12 +63,13 @@ fn answer_words<R: Surroundings, S: Source, W: Target>(
 {
     let texts = as_texts(surroundings.alloc(), words)?;
     let line = line(surroundings.alloc(), &texts)?;
-    answer_line(surroundings, line, input, output)
+    answer_line(surroundings, keys, line, input, output)
 }
 
 // Does what a line says, which is what any words that it is of say.
 fn answer_line<R: Surroundings, S: Source, W: Target>(
     surroundings: &R,
+    keys: Keys,
     line: Line,
     input: &mut S,
     output: &mut W,
@@ -77,7 +81,7 @@ fn answer_line<R: Surroundings, S: Source, W: Target>(
 {
     let table = table(surroundings, line.entities)?;
     let quirks = quirks(surroundings, line.quirks)?;
-    let outcome = answer_with(surroundings, line, &table, &quirks, input, output);
+    let outcome = answer_with(surroundings, keys, line, &table, &quirks, input, output);
     drop(quirks);
     drop(table);
     outcome
@@ -86,6 +90,7 @@ fn answer_line<R: Surroundings, S: Source, W: Target>(
 // The same, with the lists that it names.
 fn answer_with<R: Surroundings, S: Source, W: Target>(
     surroundings: &R,
+    keys: Keys,
     line: Line,
     table: &Table,
     quirks: &Quirks,
@@ -106,6 +111,7 @@ fn answer_with<R: Surroundings, S: Source, W: Target>(
         quirks,
         input_limit: MAX_INPUT,
         limits,
+        keys,
     };
     match line.file {
         Some(name) => answer_file(surroundings, line.command, &options, name, output),

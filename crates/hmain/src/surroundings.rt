@@ -1,10 +1,11 @@
 //! What the program runs in.
 
-ghost use Rattle.std.specs.Prelude.{◌≡◌, ℕ, List, None, map, IfSome, MatchResult, string_bytes};
+ghost use Rattle.std.specs.Prelude.{◌≡◌, ℕ, List, None, map, IfSome, MatchResult, string_bytes, ⊤};
 ghost use Rattle.hmain.specs.declared.fault.Fault.{Fault as Faults};
 
 use crate::fault::Fault;
 use hparse::Source;
+use names::Keys;
 use std::alloc::Global;
 
 /// The words of the program's command line, and its files. The streams are passed beside them.
@@ -15,8 +16,8 @@ pub trait Surroundings {
     // The words are these.
     ghost has_words: { Self → List (List ℕ) → Type 0 };
 
-    // There are no words, for this reason.
-    ghost lacks_words: { Self → Faults → Type 0 };
+    // There are no words, or no keys, for this reason.
+    ghost cannot_begin: { Self → Faults → Type 0 };
 
     // A file of this name was opened.
     ghost opens: { Self → List ℕ → Self.File → Type 0 };
@@ -35,7 +36,11 @@ pub trait Surroundings {
 
     /// The words of the command line, the first of which is the program's own name.
     fn words(&self) -> Result<Vec<String>, Fault>
-        ensures { MatchResult result (λ words. has_words self.now (map string_bytes words.items)) (lacks_words self.now) };
+        ensures { MatchResult result (λ words. has_words self.now (map string_bytes words.items)) (cannot_begin self.now) };
+
+    /// Keys that nobody can know: random bytes of the system.
+    fn keys(&self) -> Result<Keys, Fault>
+        ensures { MatchResult result (λ _. ⊤) (cannot_begin self.now) };
 
     /// Opens a file for reading. None where there is no such file, or it cannot be opened.
     fn open(&self, name: &str) -> Option<Self::File>

@@ -42,7 +42,7 @@ pub(crate) fn begin<'t>(
     requires { options.now.input_limit ≤ MAX_INPUT }
     ensures { IfOk result (λ reading. HasReadTokens options.now.table.now options.now.input_limit reading []) }
 {
-    let names = Names::new(alloc)?;
+    let names = Names::with_keys(alloc, options.keys)?;
     let sink = Collected::new(alloc);
     Ok(Reading::new(alloc, options, Start::Document, names, sink))
 }

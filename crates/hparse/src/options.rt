@@ -8,19 +8,21 @@ use charref::Table;
 use hbuild::Limits;
 use hmarkup::Quirks;
 use htext::MAX_INPUT;
+use names::Keys;
 
 /// The table of character references, the quirks list, the most bytes that an input may have, and how large a tree may become.
-/// The quirks list has a say in documents alone.
+/// The quirks list has a say in documents alone. No result depends on the keys: see [`Keys`].
 #[derive(Clone, Copy)]
 pub struct Options<'t> {
     pub table: &'t Table,
     pub quirks: &'t Quirks,
     pub input_limit: u64,
     pub limits: Limits,
+    pub keys: Keys,
 }
 
 impl<'t> Options<'t> {
-    /// The greatest limits.
+    /// The greatest limits, and fixed keys: for input that is not trusted, set `keys` to [`Keys::new`] of random bytes.
     pub fn new(table: &'t Table, quirks: &'t Quirks) -> Options<'t>
         ensures told { told_by result ≡ record {
           table = table.now;
@@ -36,6 +38,7 @@ impl<'t> Options<'t> {
             quirks,
             input_limit: MAX_INPUT,
             limits: Limits::greatest(),
+            keys: Keys::fixed(),
         }
     }
 }

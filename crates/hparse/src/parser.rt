@@ -34,8 +34,8 @@ impl<'t> Parser<'t> {
         requires { options.now.input_limit ≤ MAX_INPUT }
         ensures { MatchResult result (λ parser. HasParsed (told_by options.now) document parser []) (λ refusal. refusal ≡ Memory) }
     {
-        let names = Names::new(alloc)?;
-        let builder = Builder::document(alloc, options.quirks, options.limits)?;
+        let names = Names::with_keys(alloc, options.keys)?;
+        let builder = Builder::document(alloc, options.keys, options.quirks, options.limits)?;
         Ok(Parser {
             alloc,
             reading: Reading::new(alloc, options, Start::Document, names, builder),
@@ -58,9 +58,9 @@ impl<'t> Parser<'t> {
         if !is_context(context) {
             return Err(Refusal::BadContext);
         }
-        let mut names = Names::new(alloc)?;
+        let mut names = Names::with_keys(alloc, options.keys)?;
         let name = names.intern(alloc, context)?;
-        let builder = Builder::fragment(alloc, name, options.limits)?;
+        let builder = Builder::fragment(alloc, options.keys, name, options.limits)?;
         let start = Start::Context(name.tag().raw_kind());
         Ok(Parser {
             alloc,

@@ -5,7 +5,7 @@ use crate::line::{number, word};
 use hformat::Formatting;
 use hnodes::{NodeId, Tree};
 use hopen::{Open, OpenStack};
-use names::{Attr, NameId, Names};
+use names::{Attr, Keys, NameId, Names};
 use std::alloc::{AllocError, Global};
 
 /// More than any script makes.
@@ -30,7 +30,7 @@ impl Bench {
         Ok(Bench {
             alloc,
             stack: OpenStack::new(alloc, 0),
-            list: Formatting::new(alloc),
+            list: Formatting::new(alloc, Keys::fixed()),
             answers: Answers::new(alloc),
             names,
             tree,

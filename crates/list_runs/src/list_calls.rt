@@ -9,6 +9,7 @@ use crate::bench::Bench;
 use crate::line::{number, word};
 use hformat::{Bookmark, Formatting};
 use hnodes::NodeId;
+use names::Keys;
 use std::alloc::AllocError;
 
 /// Calls that put entries into the list, or make a new one.
@@ -41,7 +42,7 @@ fn change_list(bench: &mut Bench, line: &str) -> Result<(), AllocError> {
 }
 
 fn start(bench: &mut Bench) {
-    bench.list = Formatting::new(bench.alloc);
+    bench.list = Formatting::new(bench.alloc, Keys::fixed());
 }
 
 fn push(bench: &mut Bench, line: &str) -> Result<(), AllocError> {

@@ -9,7 +9,7 @@ use Rattle.names.specs.Codes.{code_text, code_rank}
 
 abbrev pub input_codes : List ErrorCode
 input_codes =
-    code.ControlCharacterInInputStream ∷ code.NoncharacterInInputStream ∷ []
+    code.ControlCharacterInInputStream ∷ code.NoncharacterInInputStream ∷ code.ReplacedBytes ∷ []
 
 abbrev pub token_codes : List ErrorCode
 token_codes =
@@ -39,7 +39,7 @@ rises [] = true
 rises (text ∷ []) = true
 rises (text ∷ next ∷ texts) = is_lt (slice_cmp nat_cmp text next) && rises (next ∷ texts)
 
-row_ranks : map code_rank (input_codes ++ token_codes ++ tree_codes) ≡ range_with_len 0 64
+row_ranks : map code_rank (input_codes ++ token_codes ++ tree_codes) ≡ range_with_len 0 65
 row_ranks = refl
 
 row_input : rises (map code_text input_codes) ≡ true

@@ -9,6 +9,7 @@ ghost use Rattle.names.specs.Codes.{code_rank, code_text};
 pub enum ErrorCode {
     ControlCharacterInInputStream,
     NoncharacterInInputStream,
+    ReplacedBytes,
     AbruptClosingOfEmptyComment,
     AbruptDoctypePublicIdentifier,
     AbruptDoctypeSystemIdentifier,
@@ -81,9 +82,10 @@ pub struct ParseError {
 }
 
 /// The texts of the codes, each at the rank of its code.
-static TEXTS: [&str; 64] = [
+static TEXTS: [&str; 65] = [
     "control-character-in-input-stream",
     "noncharacter-in-input-stream",
+    "replaced-bytes",
     "abrupt-closing-of-empty-comment",
     "abrupt-doctype-public-identifier",
     "abrupt-doctype-system-identifier",

@@ -5,6 +5,7 @@
 pub mod attr;
 pub mod error;
 pub mod groups;
+pub mod keys;
 pub mod laws;
 pub mod placed;
 pub mod raw;
@@ -16,6 +17,7 @@ pub mod tag;
 
 pub use attr::Attr;
 pub use error::{ErrorCode, ParseError};
+pub use keys::Keys;
 pub use laws::each_table_spells;
 pub use placed::{Placed, is_noncharacter};
 pub use raw::{RawKind, RefusedName};

@@ -7,6 +7,7 @@ ghost use Rattle.names.specs.Table.{are_new, HoldsTexts};
 ghost use Rattle.names.specs.Tags.{known, tags, type_name, tag_of, number_of, tag_named, tag_text};
 ghost use Rattle.names.specs.declared.tag.Tag.{Tag as KnownTag};
 
+use crate::keys::Keys;
 use crate::tag::{TAGS, Tag};
 use indexmap::IndexSet;
 use std::alloc::{AllocError, Global};
@@ -75,7 +76,7 @@ impl Tag {
 const TYPE: &str = "type";
 
 /// Puts a copy of a text last in a set, where the text is not there yet.
-fn put_last(texts: &mut IndexSet<String>, alloc: Global, text: &str) -> Result<(), AllocError>
+fn put_last(texts: &mut IndexSet<String, Keys>, alloc: Global, text: &str) -> Result<(), AllocError>
     ensures { IfOk result (λ _. (there : List (List ℕ)) → HoldsTexts texts.old.keys there → list_any (bytes_eq text.now) there ≡ false
         → HoldsTexts texts.new.keys (there ++ text.now ∷ [])) }
 {
@@ -84,11 +85,11 @@ fn put_last(texts: &mut IndexSet<String>, alloc: Global, text: &str) -> Result<(
 }
 
 /// The texts of tags in their order, no two of which are equal.
-fn tag_texts(alloc: Global, tags: &[Tag]) -> Result<IndexSet<String>, AllocError>
+fn tag_texts(alloc: Global, keys: Keys, tags: &[Tag]) -> Result<IndexSet<String, Keys>, AllocError>
     requires { are_new [] (map tag_text tags.now) ≡ true }
     ensures { IfOk result (λ texts. HoldsTexts texts.keys (map tag_text tags.now)) }
 {
-    let mut texts = IndexSet::new(alloc);
+    let mut texts = IndexSet::with_hasher(alloc, keys);
     for tag in tags {
         put_last(&mut texts, alloc, tag.text())?;
     }
@@ -96,9 +97,9 @@ fn tag_texts(alloc: Global, tags: &[Tag]) -> Result<IndexSet<String>, AllocError
 }
 
 /// A table of names: texts in the order in which they were added, the known names first.
-#[derive(Debug, Drop)]
+#[derive(Drop)]
 pub struct Names {
-    texts: IndexSet<String>,
+    texts: IndexSet<String, Keys>,
 }
 
 impl Model for Names {
@@ -114,13 +115,22 @@ impl Model for Names {
 }
 
 impl Names {
-    /// A table of the known names. It allocates and hashes each of them (128 texts), so a table that serves many inputs is
-    /// cheaper than one for each.
+    /// A table of the known names with fixed keys, for trusted input: who can choose the names of an input can make them all
+    /// meet in one bucket. See `with_keys`.
     pub fn new(alloc: Global) -> Result<Names, AllocError>
         ensures known { IfOk result (λ names. names ≡ known) }
         ensures names { IfOk result AreNames }
     {
-        let mut texts = tag_texts(alloc, &TAGS)?;
+        Names::with_keys(alloc, Keys::fixed())
+    }
+
+    /// A table of the known names. It allocates and hashes each of them (128 texts), so a table that serves many inputs is
+    /// cheaper than one for each.
+    pub fn with_keys(alloc: Global, keys: Keys) -> Result<Names, AllocError>
+        ensures known { IfOk result (λ names. names ≡ known) }
+        ensures names { IfOk result AreNames }
+    {
+        let mut texts = tag_texts(alloc, keys, &TAGS)?;
         put_last(&mut texts, alloc, TYPE)?;
         Ok(Names { texts })
     }

@@ -1,5 +1,7 @@
-use Rattle.std.proofs.Common.{◌∙◌, ap}
+use Rattle.std.proofs.Common.{◌∙◌, ap, sym, subst, refl}
 use Rattle.hformat.specs.Items.{items_of, live}
+use Rattle.hformat.specs.Listed.{IsListed}
+use Rattle.hformat.proofs.Slotted.{listed-same}
 use Rattle.hformat.proofs.Holes.{live-tail}
 use Rattle.hformat.proofs.formatting.make_room.Goals as goal
 use Rattle.hformat.proofs.formatting.make_room.Goals.{then-slots-gt0, else-slots-gt0}
@@ -11,3 +13,10 @@ returns-clause-same c =
       | then-slots-gt0 w ↦ ap (λ s. live (items_of s.items.items)) w.slots-is ∙ ap (λ xs. live (items_of xs)) w.close.ensures.items ∙ live-tail c.args.slots.now.items.items 0 c.requires.stored
       | else-slots-gt0 w ↦ ap (λ s. live (items_of s.items.items)) w.slots-is
     ]
+
+pub returns-clause-listed : goal.returns-clause-listed
+returns-clause-listed c =
+    listed-same c.if-slots-gt0.slots _ (elim c.if-slots-gt0.branch [
+      | then-slots-gt0 w ↦ subst IsListed (sym w.slots-is) w.close.ensures.listed
+      | else-slots-gt0 w ↦ subst IsListed (sym w.slots-is) c.requires
+    ]) refl c.reserve.ensures.items refl refl refl refl

@@ -4,4 +4,4 @@ use Rattle.hformat.specs.Hashes.{hash_of}
 use Rattle.hformat.proofs.hashes.hash_attrs.Given as goal
 
 abbrev pub invariant-loop-attr : goal.invariant-loop-attr
-invariant-loop-attr l = l.hashes.items ≡ map hash_of (map attribute_of (take l.attr-index l.attrs))
+invariant-loop-attr l = l.hashes.items ≡ map (hash_of l.keys) (map attribute_of (take l.attr-index l.attrs))

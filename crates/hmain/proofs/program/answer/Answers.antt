@@ -13,3 +13,6 @@ returns g c =
     (subst (λ words. AnswersWords g.R.Surroundings.opens g.R.Surroundings.cannot_open g.R.File.Source.left g.R.File.Source.failed g.R.Surroundings.has_text g.R.Surroundings.lacks_text g.S.Source.left g.S.Source.failed
     g.W.Target.written g.W.Target.failed MAX_INPUT c.args.surroundings.now words c.args.input.now c.answer_words.new.input c.args.output.now c.answer_words.new.output c.answer_words.result)
     (ap (map string_bytes) c.deref.ensures.value) c.answer_words.ensures)
+
+pub returns-in_err-keys : goal.returns-in_err-keys
+returns-in_err-keys g c = line_missing c.in_err-keys.field-0.0 c.in_err-keys.ensures (passed_on c.from_residual-in_err-keys.result c.in_err-keys.field-0.0 c.from_residual-in_err-keys.ensures.1) refl refl

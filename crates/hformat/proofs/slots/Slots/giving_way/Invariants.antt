@@ -16,8 +16,8 @@ invariant-loop-place l =
     let up : ℕ = length view - l.place in
     record {
       room : l.place + l.equal ≤ length l.self.items.items;
-      marked : l.marker ≡ place by_hash 0 view;
-      number : 0 < l.place → get_or (map (number_by by_hash) view) up 0 ≡ l.number;
+      marked : l.marker ≡ place (by_hash l.self.keys) 0 view;
+      number : 0 < l.place → get_or (map (number_by (by_hash l.self.keys)) view) up 0 ≡ l.number;
       count : length (filter (is_equal nat_eq new) (drop up entries)) + l.equal ≡ length (filter (is_equal nat_eq new) entries);
       first : farthest (is_equal nat_eq new) up l.earliest (drop up entries) ≡ farthest (is_equal nat_eq new) 0 None entries;
     }

@@ -18,7 +18,7 @@ returns-clause-listed c =
     let now : c.swap-4.new.self.items ≡ exchanged old i stored.Hole = c.swap-4.ensures.items ∙ sym (swap_is old i (i + 1) stored.Hole (omega arith) within) in
     record {
       names = c.swap.ensures ∙ numbers-exchanged by_name old s.names i stored.Hole within listed.names ∙ ap (numbers_by by_name) (sym now);
-      hashes = c.swap-2.ensures ∙ numbers-exchanged by_hash old s.hashes i stored.Hole within listed.hashes ∙ ap (numbers_by by_hash) (sym now);
+      hashes = c.swap-2.ensures ∙ numbers-exchanged (by_hash s.keys) old s.hashes i stored.Hole within listed.hashes ∙ ap (numbers_by (by_hash s.keys)) (sym now);
       nodes = c.swap-3.ensures ∙ numbers-exchanged by_node old s.nodes i stored.Hole within listed.nodes ∙ ap (numbers_by by_node) (sym now);
       stored = subst (All IsStored) (sym now) (All-exchanged IsStored old i stored.Hole within listed.stored);
       within = omega (arith, c.max-self.ensures, ap length now, length-exchanged old i stored.Hole, listed.within);

@@ -3,7 +3,7 @@ use Rattle.names.specs.Tags.{tags, tag_text, known}
 use Rattle.names.specs.Table.{HoldsTexts}
 use Rattle.names.proofs.TableLemmas.{are_names}
 use Rattle.names.proofs.TagTexts.{whole_table}
-use Rattle.names.proofs.table.Names.new.Goals as goal
+use Rattle.names.proofs.table.Names.with_keys.Goals as goal
 
 whole : (c : goal.In_ok-put_last) → HoldsTexts c.put_last.new.texts.keys known
 whole c = c.in_ok-put_last.ensures (map tag_text tags) c.in_ok-texts.ensures refl

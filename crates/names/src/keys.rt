@@ -1,0 +1,45 @@
+//! What keeps a page from choosing which of its names meet in one bucket.
+
+use std::hash::{BuildHasher, DefaultHasher, Hasher};
+use std::marker::Model;
+
+/// The keys of the hashes over an input's names and formatting elements. No result depends on them, only the time: a page that is
+/// made against known keys takes time quadratic in its length.
+#[derive(Clone, Copy)]
+pub struct Keys {
+    begun: DefaultHasher,
+}
+
+impl Model for Keys {
+    ghost use Rattle.std.specs.declared.hash.DefaultHasher.{DefaultHasher as Begun};
+
+    ghost Value = { Begun };
+
+    ghost view = { λ keys. keys.begun };
+
+    ghost inverse = { λ begun. record { begun = begun } };
+}
+
+impl Keys {
+    /// Keys from a secret: 16 random bytes of the system, drawn once a program or once an input.
+    pub fn new(secret: u128) -> Keys {
+        let mut begun = DefaultHasher::new();
+        begun.write_u128(secret);
+        Keys { begun }
+    }
+
+    /// The keys that everybody knows, for inputs that are trusted and for tests.
+    pub fn fixed() -> Keys {
+        Keys::new(0)
+    }
+}
+
+impl BuildHasher for Keys {
+    type Hasher = DefaultHasher;
+
+    ghost build_hasher = { λ keys. keys };
+
+    fn build_hasher(&self) -> DefaultHasher {
+        self.begun
+    }
+}
