@@ -3,7 +3,8 @@
    At each call of a swept kind the process makes a child in which the call fails, waits for it, reports what came of it, and goes on
    with the call as if nothing had been. So one run shows what comes of each call's failure. The environment's REFUSE is letters:
    `m` sweeps the allocations, `l` those from the first read of standard input on, `r` the reads, `w` the writes on standard output;
-   `1` makes reads and writes take one byte a call. The parent and the children have the open files 100, for the reports, and 101
+   `1` makes reads and writes take one byte a call, and `n` gives no random
+   bytes. The parent and the children have the open files 100, for the reports, and 101
    and 102, which a child writes on in place of standard output and standard error. */
 #define _GNU_SOURCE
 #include <errno.h>
@@ -119,6 +120,14 @@ void *aligned_alloc(size_t alignment, size_t size) { return has_memory() ? __lib
 int posix_memalign(void **place, size_t alignment, size_t size)
 {
     return has_memory() && (*place = __libc_memalign(alignment, size)) ? 0 : ENOMEM;
+}
+
+int getentropy(void *bytes, size_t size)
+{
+    if (!strchr(swept, 'n'))
+        return syscall(SYS_getrandom, bytes, size, 0) == (long)size ? 0 : -1;
+    errno = ENOSYS;
+    return -1;
 }
 
 /* A read fails by the device, or is interrupted. */

@@ -4,7 +4,7 @@ use crate::counting::Counts;
 use crate::pieces::{Feed, feed_file};
 use charref::Table;
 use hmarkup::ErrorSink;
-use htext::{Bom, CharSink, Decoder, MAX_INPUT};
+use htext::{BadBytes, Bom, CharSink, Decoder, MAX_INPUT};
 use htoken::{Start, Token, TokenSink, Tokenizer};
 use names::{Names, ParseError, Refusal};
 use std::alloc::Global;
@@ -99,7 +99,7 @@ impl<'t> Reading<'t> {
     fn new(alloc: Global, table: &'t Table) -> Result<Reading<'t>, Refusal> {
         let names = Names::new(alloc)?;
         Ok(Reading {
-            decoder: Decoder::new(alloc, Bom::Drop, MAX_INPUT),
+            decoder: Decoder::new(alloc, Bom::Drop, BadBytes::Refuse, MAX_INPUT),
             counting: Counting {
                 names,
                 tokenizer: Tokenizer::new(alloc, table, Start::Document),

@@ -12,7 +12,7 @@ use hmarkup::Quirks;
 use hparse::{Options, Source};
 use hrun::{Command, Counted, Target, run};
 use htext::MAX_INPUT;
-use names::Refusal;
+use names::{Keys, Refusal};
 use std::alloc::Global;
 use std::io;
 use std::io::Read;
@@ -34,8 +34,10 @@ pub fn check(alloc: Global, case: &Case) -> Result<bool> {
     let options = Options {
         table: &table,
         quirks: &quirks,
+        bad_bytes: said.bad_bytes,
         input_limit: case.told.limit.unwrap_or(MAX_INPUT).min(MAX_INPUT),
         limits,
+        keys: Keys::fixed(),
     };
     let command = said.command;
     Ok(

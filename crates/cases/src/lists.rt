@@ -7,6 +7,7 @@ use crate::check::check;
 use crate::grow::{Grown, grow};
 use crate::records::{Record, Section};
 use anyhow::{Context, Result, bail};
+use hrun::Counted;
 use hwrite::{Escaping, is_plain, serialize, serialize_to_vec, tree_text};
 use std::alloc::Global;
 use std::mem;
@@ -127,7 +128,7 @@ fn is_begun_so(alloc: Global, grown: &Grown, written: &[u8]) -> Result<bool>
         let (front, _) = written.split_at(room);
         let mut taken = Vec::from_slice(alloc, front)?;
         taken.fill(0);
-        let mut out = taken.as_mut_slice();
+        let mut out = Counted::new(taken.as_mut_slice());
         let answer = serialize(
             &grown.tree,
             &grown.names,

@@ -10,6 +10,7 @@ pub mod Telling
 pub mod Numbers
 pub mod Extending
 pub mod Taking
+pub mod Keeping
 pub mod Opening
 pub mod OneReference
 pub mod SomeReference

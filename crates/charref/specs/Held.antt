@@ -1,5 +1,5 @@
 -- What a walk has taken after the `&`, by its state.
-use Rattle.std.specs.Prelude.{◌≡◌, ℕ, Bool, true, false, nat_le, min, List, [], ◌∷◌, ◌++◌}
+use Rattle.std.specs.Prelude.{◌≡◌, ℕ, Bool, true, false, nat_le, min, if◌then◌else◌, List, [], ◌∷◌, ◌++◌}
 use Rattle.names.specs.declared.placed.Placed.{Placed}
 use Rattle.names.specs.Placed.{characters, begins, is_empty, all, is_alphanumeric}
 use Rattle.charref.specs.declared.number.Base.{Base}
@@ -17,6 +17,17 @@ is_within (Name search) count = is_search_within search count
 is_within NumberSign count = true
 is_within HexadecimalSign count = true
 is_within (Number base value) count = nat_le value 0x110000
+
+-- whether digits of a number have been read
+abbrev pub is_number : State → Bool
+is_number (Name search) = false
+is_number NumberSign = false
+is_number HexadecimalSign = false
+is_number (Number base value) = true
+
+-- what of the text taken may be read again: nothing of a number, which is a reference whatever follows (13.2.5.78, 13.2.5.79)
+abbrev pub kept : State → List Placed → List Placed
+kept state text = if is_number state then [] else text
 
 -- the bytes of a key that begins with `&` and this text
 abbrev pub key_bytes : List Placed → List ℕ

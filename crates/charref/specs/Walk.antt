@@ -1,12 +1,12 @@
 -- What a walk has taken, and what it does with the next character.
-use Rattle.std.specs.Prelude.{◌≡◌, ℕ, Bool, true, List, Option, MatchOption}
+use Rattle.std.specs.Prelude.{◌≡◌, ℕ, ◌≤◌, Bool, true, false, List, Option, MatchOption}
 use Rattle.names.specs.declared.placed.Placed.{Placed}
 use Rattle.charref.specs.declared.reference.Reference.{Reference}
 use Rattle.charref.specs.declared.next.Next.{Next}
 use Rattle.charref.specs.declared.next.Next.TheVariants.{Goes, Ended}
 use Rattle.charref.specs.declared.walk.Walk.{Walk}
 use Rattle.charref.specs.Reference.{Entities}
-use Rattle.charref.specs.Held.{IsHeld, is_within}
+use Rattle.charref.specs.Held.{IsHeld, is_number, is_within}
 use Rattle.charref.specs.Pieces.{IsRead}
 
 -- The walk, with this table, in a value or not, has taken this text after the `&`, and its reference is not known yet.
@@ -19,6 +19,14 @@ pub record HasTaken (walk : Walk) (table : Entities) (in_value : Bool) (text : L
 abbrev pub NextIs : Entities → Bool → List Placed → Next → Type 0
 NextIs table in_value text (Goes state) = IsHeld table in_value state text
 NextIs table in_value text (Ended found) = (after : List Placed) → IsRead table in_value text after found
+
+-- A step in a number: it goes on, or it ends, and no more than the last character is read again.
+abbrev pub LeavesLast : Reference → Type 0
+LeavesLast found = (found.in_run ≡ false) × (found.left ≤ 1)
+
+abbrev pub StaysNumber : Next → Type 0
+StaysNumber (Goes state) = is_number state ≡ true
+StaysNumber (Ended found) = LeavesLast found
 
 abbrev pub is_next_within : Next → ℕ → Bool
 is_next_within (Goes state) count = is_within state count

@@ -1,14 +1,14 @@
 //! The steps of a walk.
 
-ghost use Rattle.std.specs.Prelude.{◌≡◌, ◌+◌, [], ◌∷◌, ◌++◌, Bool, true, false, ◌&&◌, ℕ, List, length, IfSome, IsSome, IsNone, ◌<◌, ◌≤◌};
+ghost use Rattle.std.specs.Prelude.{◌≡◌, ◌+◌, [], ◌∷◌, ◌++◌, Bool, true, false, ◌&&◌, ℕ, List, length, IfSome, IsSome, IsNone, MatchOption, ◌<◌, ◌≤◌};
 ghost use Rattle.names.specs.declared.placed.Placed.{Placed};
 ghost use Rattle.names.specs.Placed.{all, is_empty, is_alphanumeric};
 ghost use Rattle.charref.specs.Reference.{Entities, IsTable, longest, ends_in_semicolon};
 ghost use Rattle.charref.specs.Table.{best_entry, entries, is_search_within, is_whole, HasRead, HasNone};
-ghost use Rattle.charref.specs.Held.{key_bytes, IsHeld, IsSign};
+ghost use Rattle.charref.specs.Held.{key_bytes, is_number, IsHeld, IsSign};
 ghost use Rattle.charref.specs.Last.{last_of, is_letter_or_digit, IsSettled};
 ghost use Rattle.charref.specs.Pieces.{IsRead, unknown_of, number_of};
-ghost use Rattle.charref.specs.Walk.{HasTaken, Takes, NextIs, is_next_within};
+ghost use Rattle.charref.specs.Walk.{HasTaken, Takes, NextIs, LeavesLast, StaysNumber, is_next_within};
 
 use crate::entity::Entity;
 use crate::last::{Last, is_kept};
@@ -40,6 +40,7 @@ impl<'t> Walk<'t> {
         ensures ended { IsSome result → self.new ≡ self.old }
         ensures taken { (table : Entities) (in_value : Bool) (text : List Placed) (p : Placed)
             → HasTaken self.old table in_value text → p.ch ≡ ch → Takes table in_value (text ++ p ∷ []) result self.new }
+        ensures number { is_number self.old.state ≡ true → MatchOption result (is_number self.new.state ≡ true) LeavesLast }
     {
         match self.step(ch) {
             Next::Goes(state) => {
@@ -50,10 +51,18 @@ impl<'t> Walk<'t> {
         }
     }
 
+    /// Whether a number is being read: then no character taken so far will be read again.
+    pub fn is_number(&self) -> bool
+        ensures { result ≡ is_number self.now.state }
+    {
+        matches!(self.state, State::Number(_, _))
+    }
+
     fn step(&self, ch: char) -> Next<'t>
         ensures within { is_next_within result (length self.now.table.now) ≡ true }
         ensures next { (table : Entities) (in_value : Bool) (text : List Placed) (p : Placed)
             → HasTaken self.now table in_value text → p.ch ≡ ch → NextIs table in_value (text ++ p ∷ []) result }
+        ensures number { is_number self.now.state ≡ true → StaysNumber result }
     {
         match self.state {
             State::Name(search) => after_name(self.table, self.in_value, search, ch),
@@ -65,8 +74,9 @@ impl<'t> Walk<'t> {
 
     /// What stands at the `&` if the text ends after the characters taken.
     pub fn end(&self) -> Reference<'t>
-        ensures { (table : Entities) (in_value : Bool) (text : List Placed)
+        ensures read { (table : Entities) (in_value : Bool) (text : List Placed)
             → HasTaken self.now table in_value text → IsRead table in_value text [] result }
+        ensures number { is_number self.now.state ≡ true → result.left ≡ 0 }
     {
         match self.state {
             State::Name(search) => name_at_end(self.table, self.in_value, search),
@@ -203,6 +213,7 @@ fn after_digits<'t>(base: Base, value: u32, ch: char) -> Next<'t>
     ensures within { (count : ℕ) → is_next_within result count ≡ true }
     ensures next { (table : Entities) (in_value : Bool) (text : List Placed) (p : Placed)
         → IsHeld table in_value (State.Number base value) text → p.ch ≡ ch → NextIs table in_value (text ++ p ∷ []) result }
+    ensures number { StaysNumber result }
 {
     match base.digit(ch) {
         Some(digit) => Next::Goes(State::Number(base, base.more(value, digit))),

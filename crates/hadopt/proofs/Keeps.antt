@@ -26,7 +26,7 @@ use Rattle.names.specs.Tags.{tag_of}
 use Rattle.names.specs.declared.error.ErrorCode.{ErrorCode}
 use Rattle.hadopt.specs.Naming.{numbers}
 use Rattle.hadopt.specs.Site.{Goes, SiteOf, stack, trees, with_stack, error_unless}
-use Rattle.hadopt.specs.Adopts.{Climb, climbed, Next, Ended, turned, turns, is_unlisted, adopted, most_turns}
+use Rattle.hadopt.specs.Adopts.{Climb, climbed, turned, turns, is_unlisted, adopted, most_turns}
 use Rattle.hadopt.specs.Gives.{Gives}
 use Rattle.hadopt.specs.declared.adopting.Turn as code
 use Rattle.hadopt.specs.declared.adopting.Turn.TheVariants as turn

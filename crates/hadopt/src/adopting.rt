@@ -1,6 +1,6 @@
 //! The adoption agency (HTML Standard, 13.2.6.4.7).
 
-ghost use Rattle.std.specs.Prelude.{◌≡◌, IsTrue, ℕ, ◌<◌, ◌≤◌, ◌+◌, IfOk, length};
+ghost use Rattle.std.specs.Prelude.{◌≡◌, IsTrue, ℕ, ◌<◌, ◌≤◌, ◌+◌, ◌*◌, IfOk, length};
 ghost use Rattle.std.specs.List.{slice_get, list_any};
 ghost use Rattle.std.specs.Option.{option_map};
 ghost use Rattle.hnodes.specs.Forest.{element};
@@ -86,6 +86,7 @@ impl Site {
             (and_then (made at (element (entry_is entry).name (entry_is entry).attrs) self.old)
             (λ t. Goes (replaced block self.old.nodes.made (record { node = node; name = name }) (entry_is entry) (climb_of on_way t)))) }
         ensures last { IfOk result (λ c. (0 < c.last) × (c.last < self.new.nodes.made)) }
+        ensures few { self.new.nodes.made ≤ self.old.nodes.made + 1 }
     {
         let new = self.create(entry.name, entry.attrs, at)?;
         self.graft(on_way.last, Place::LastIn(new));
@@ -121,6 +122,7 @@ impl Site {
         ensures done { (passed : ℕ) → passed < most_kept
             → ClimbGives result self.new (climbed_one numbers at block passed (open_of node) (climb_of on_way self.old)) }
         ensures last { IfOk result (λ c. (0 < c.last) × (c.last < self.new.nodes.made)) }
+        ensures few { self.new.nodes.made ≤ self.old.nodes.made + 1 }
     {
         match self.entry_of(node.node)? {
             Some(entry) => self.take_in(on_way, block, node.node, entry, at),
@@ -145,6 +147,7 @@ impl Site {
             (climbed numbers at block 0 (before (is_node formatting) (above block self.old.open_nodes.stack))
             (record { last = block; bookmark = InPlace; site = self.old })) }
         ensures last { IfOk result (λ h. (0 < h.last) × (h.last < self.new.nodes.made)) }
+        ensures few { self.new.nodes.made ≤ self.old.nodes.made + most_kept }
     {
         let mut on_way = Climbed {
             last: block,
@@ -203,6 +206,7 @@ impl Site {
             (climbed numbers at block 0 (before (is_node formatting) (above block self.old.open_nodes.stack))
             (record { last = block; bookmark = InPlace; site = self.old })) }
         ensures last { IfOk result (λ c. (0 < c.last) × (c.last < self.new.nodes.made)) }
+        ensures few { self.new.nodes.made ≤ self.old.nodes.made + most_kept }
     {
         let half = self.climb_first(formatting, block, at)?;
         let below = self.stack.len() - half.left;
@@ -224,7 +228,8 @@ impl Site {
         at: u64,
     ) -> Result<(), Refusal>
         requires { Settles formatting.node block (option_map open_of ancestor) (climb_of on_way self.old) }
-        ensures { Gives result self.new (ended_climb numbers at (entry_is formatting) block (option_map open_of ancestor) (climb_of on_way self.old)) }
+        ensures done { Gives result self.new (ended_climb numbers at (entry_is formatting) block (option_map open_of ancestor) (climb_of on_way self.old)) }
+        ensures few { self.new.nodes.made ≤ self.old.nodes.made + 1 }
     {
         let place = self.place_in(ancestor);
         self.graft(on_way.last, place);
@@ -247,6 +252,7 @@ impl Site {
     fn turn_by(&mut self, formatting: Entry, block: NodeId, at: u64) -> Result<Turn, Refusal>
         requires turns { TurnsBy formatting.node block self.old }
         ensures done { (name : ℕ) → TurnGives result self.new (adopted_by numbers at (entry_is formatting) self.old (record { node = block; name = name })) }
+        ensures few { self.new.nodes.made ≤ self.old.nodes.made + 4 }
     {
         let ancestor = self.stack.above(formatting.node);
         let Climbed { last, bookmark } = self.climb(formatting.node, block, at)?;
@@ -258,7 +264,8 @@ impl Site {
     fn turn_with(&mut self, formatting: Entry, at: u64) -> Result<Turn, Refusal>
         requires kept { Kept numbers self.old }
         requires entry { IsTrue (list_any (is_entry formatting.node) self.old.items) }
-        ensures { TurnGives result self.new (turned_with numbers at (entry_is formatting) self.old) }
+        ensures done { TurnGives result self.new (turned_with numbers at (entry_is formatting) self.old) }
+        ensures few { self.new.nodes.made ≤ self.old.nodes.made + 4 }
     {
         let node = formatting.node;
         if !self.is_open(node) {
@@ -287,6 +294,7 @@ impl Site {
         requires { Kept numbers self.old }
         ensures done { TurnGives result self.new (turned numbers at name self.old) }
         ensures kept { IfOk result (λ _. Kept numbers self.new) }
+        ensures few { self.new.nodes.made ≤ self.old.nodes.made + 4 }
     {
         match self.find_entry(name)? {
             Some(formatting) => self.turn_with(formatting, at),
@@ -312,6 +320,7 @@ impl Site {
         requires { Kept numbers self.old }
         ensures done { Gives result self.new (turns numbers at most name self.old) }
         ensures kept { IfOk result (λ _. Kept numbers self.new) }
+        ensures few { self.new.nodes.made ≤ self.old.nodes.made + most * 4 }
     {
         let mut left = most;
         while left > 0 {
@@ -323,11 +332,12 @@ impl Site {
         Ok(())
     }
 
-    /// The adoption agency for a name.
+    /// The adoption agency for a name. It makes at most 32 elements, also where it is refused.
     pub fn adopt(&mut self, name: NameId, at: u64) -> Result<(), Refusal>
         requires { Kept numbers self.old }
         ensures done { Gives result self.new (adopted numbers at name self.old) }
         ensures kept { IfOk result (λ _. Kept numbers self.new) }
+        ensures few { self.new.nodes.made ≤ self.old.nodes.made + 32 }
     {
         if self.is_unlisted(name) {
             self.pop();

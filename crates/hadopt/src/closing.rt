@@ -18,6 +18,7 @@ impl Site {
     pub fn close(&mut self, name: NameId, at: u64) -> Result<(), Refusal>
         ensures done { Gives result self.new (Goes (closed numbers at (is_named nat_eq name) self.old)) }
         ensures kept { Kept numbers self.old → IfOk result (λ _. Kept numbers self.new) }
+        ensures nodes { self.new.nodes ≡ self.old.nodes }
     {
         self.pop_past(Passing::Implied(Some(name)));
         let found = self.current_is(name);
@@ -38,6 +39,7 @@ impl Site {
     pub fn other_end(&mut self, name: NameId, at: u64) -> Result<(), Refusal>
         ensures done { Gives result self.new (Goes (other_end numbers at name self.old)) }
         ensures kept { Kept numbers self.old → IfOk result (λ _. Kept numbers self.new) }
+        ensures nodes { self.new.nodes ≡ self.old.nodes }
     {
         if !self.stack.before_special(name) {
             return self.error(ErrorCode::TreeInBody, at);

@@ -34,6 +34,7 @@ impl Site {
         ensures apart { IfOk result (λ n. (k : ℕ) → k < n → IsOutside n k (trees self.new)) }
         ensures places { IfOk result (λ n. (p : Place) → IsPlace p self.old.nodes → IsPlace p self.new.nodes) }
         ensures attrs { IfOk result (λ n. attributes_of n (trees self.new) ≡ Some (map attribute_of attrs.items)) }
+        ensures few { self.new.nodes.made ≤ self.old.nodes.made + 1 }
     {
         // its clause says that nodes are nodes
         self.tree.document();
@@ -66,7 +67,8 @@ impl Site {
     pub(crate) fn replace(&mut self, node: NodeId, by: Open) -> Result<(), AllocError>
         requires begun { 0 < by.node }
         requires by_in { by.node < self.old.nodes.made }
-        ensures { OnOk result (self.new ≡ with_stack (changed (is_node node) (λ _. open_of by) (stack self.old)) self.old) }
+        ensures done { OnOk result (self.new ≡ with_stack (changed (is_node node) (λ _. open_of by) (stack self.old)) self.old) }
+        ensures nodes { self.new.nodes ≡ self.old.nodes }
     {
         self.stack.replace(node, by)
     }
@@ -89,7 +91,8 @@ impl Site {
         requires begun { 0 < new.node }
         requires new_in { new.node < self.old.nodes.made }
         requires leaving { is_open leaving (stack self.old) ≡ true }
-        ensures { Gives result self.new (Goes (with_stack (put_before (is_node above) (open_of new) (without (is_node leaving) (stack self.old))) self.old)) }
+        ensures done { Gives result self.new (Goes (with_stack (put_before (is_node above) (open_of new) (without (is_node leaving) (stack self.old))) self.old)) }
+        ensures nodes { self.new.nodes ≡ self.old.nodes }
     {
         self.stack.exchange(leaving, above, new)?;
         Ok(())

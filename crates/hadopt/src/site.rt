@@ -16,7 +16,7 @@ use std::marker::Model;
 
 /// The nodes, the stack of open elements, the list of active formatting elements, whether foster parenting is on, and the parse
 /// errors so far, in the order in which they were raised. No call recurses over the depth of the document. After a refusal the
-/// nodes are a tree and the open nodes are among them; nothing else is said of the state then.
+/// nodes are a tree and the open nodes are among them; of the state then only a few clauses say more.
 #[derive(Drop)]
 pub struct Site {
     pub(crate) tree: Tree,
@@ -92,6 +92,7 @@ impl Site {
     pub fn error(&mut self, code: ErrorCode, at: u64) -> Result<(), Refusal>
         ensures done { Gives result self.new (Goes (with_error code at self.old)) }
         ensures kept { Kept numbers self.old → IfOk result (λ _. Kept numbers self.new) }
+        ensures nodes { self.new.nodes ≡ self.old.nodes }
     {
         self.errors.push(ParseError { code, at })?;
         Ok(())
@@ -104,7 +105,8 @@ impl Site {
         code: ErrorCode,
         at: u64,
     ) -> Result<(), Refusal>
-        ensures { Gives result self.new (Goes (error_unless passes code at self.old)) }
+        ensures done { Gives result self.new (Goes (error_unless passes code at self.old)) }
+        ensures nodes { self.new.nodes ≡ self.old.nodes }
     {
         if passes {
             return Ok(());

@@ -51,11 +51,7 @@ pub(crate) fn document_rules<'q>(
 }
 
 /// The tree in which a fragment begins, and its root element, which is open.
-fn fragment_site(
-    alloc: Global,
-    keys: Keys,
-    limits: Limits,
-) -> Result<(Site, NodeId), Refusal>
+fn fragment_site(alloc: Global, keys: Keys, limits: Limits) -> Result<(Site, NodeId), Refusal>
     ensures { MatchResult result (λ r. (r.0 ≡ fragment_site numbers limits) × (r.1 ≡ 1)) (λ e. e ≡ Memory) }
 {
     let mut site = Site::new(alloc, keys, limits.nodes(), limits.depth())?;

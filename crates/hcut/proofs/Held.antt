@@ -213,10 +213,10 @@ module _ (table : Entities) (is_table : IsTable table) (start : RawKind) (names 
 
   referring : (k : RawKind) → h.here.kind ≡ k → has_references k ≡ true → IsInReference table h.here t h.held → Begins
   referring kind.None e may i =
-      let o = open_taken t.reference table t.held.items (record { ch = 38; at = t.at }) is_table i.has_taken refl in
+      let o = open_taken t.reference table i.read (record { ch = 38; at = t.at }) is_table i.has_taken refl in
       inside o.more o.rest 0 (piece_span o.piece) o.is_more (o.text_is ∙ ap (λ (x : List Placed). x ++ o.more) (sym i.held_is)) (subst (λ (x : RawKind). IsSpanOf x table 0 h.here o.rest (piece_span o.piece)) (sym e) (d.reference o.piece o.is_reference refl))
   referring kind.Rcdata e may i =
-      let o = open_taken t.reference table t.held.items (record { ch = 38; at = t.at }) is_table i.has_taken refl in
+      let o = open_taken t.reference table i.read (record { ch = 38; at = t.at }) is_table i.has_taken refl in
       inside o.more o.rest 0 (piece_span o.piece) o.is_more (o.text_is ∙ ap (λ (x : List Placed). x ++ o.more) (sym i.held_is))
       (subst (λ (x : RawKind). IsSpanOf x table 0 h.here o.rest (piece_span o.piece)) (sym e) (raw_reference o.piece (ap has_references e) o.is_reference refl))
   referring kind.Rawtext e may i = absurd cc

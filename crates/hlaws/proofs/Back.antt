@@ -102,6 +102,7 @@ module _ (told : Told) (escaping : Escaping) (context : List ℕ) (allowed_here 
     once = refl;
     free = λ k h. rw (ne_eqb 0 k (λ e. omega arith), ne_eqb 1 k (λ e. omega arith)) (omega arith);
     lower = (omega arith, tt);
+    entries_lower = tt;
     listed = tt;
     foster_off = refl;
     mode_is = refl;

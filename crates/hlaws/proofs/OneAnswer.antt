@@ -8,54 +8,54 @@ use Rattle.names.specs.declared.raw.RefusedName.{RefusedName}
 use Rattle.names.specs.declared.refusal.Refusal.{Refusal}
 use Rattle.names.specs.declared.refusal.Refusal.TheVariants.{OutOfProfile}
 use Rattle.htext.specs.Items.{input_errors}
-use Rattle.htext.specs.Text.{valid_len, refusal_of}
+use Rattle.htext.specs.Text.{Policy, decoded, read_len, refusal_of}
 use Rattle.charref.specs.Reference.{Entities}
 use Rattle.htoken.specs.Token.{Tok}
 use Rattle.htoken.specs.Tokens.{Tokens}
 use Rattle.hcut.specs.SomeCut.{HasAnswer, gives, refuses}
 use Rattle.hcut.proofs.OneCut.{one_list_of_tokens, no_tokens_of_refused, one_refusal}
 use Rattle.hcut.proofs.SomeCut.{some_answer}
-use Rattle.hparse.specs.Answer.{Answers, document_text, refused_text, refused_bytes, accepted}
+use Rattle.hparse.specs.Answer.{Answers, read_text, refused_text, refused_bytes, accepted}
 use Rattle.hlaws.specs.OneAnswer.{ExactlyOne, OneAnswer}
-use Rattle.hlaws.proofs.OneInput.{all-valid, one-some, never-both, one-list}
+use Rattle.hlaws.proofs.OneInput.{all-read, one-some, never-both, one-list}
 use Rattle.hlaws.proofs.Sorting.{in_order, order-permutes, order-sorted}
 
-module _ (table : Entities) (limit : ℕ) (bytes : List ℕ) where
+module _ (table : Entities) (how : Policy) (bytes : List ℕ) where
   abbrev text : List Placed
-  text = document_text limit bytes
+  text = read_text how bytes
 
-  at-end : {tokens : List Tok} {errors : List ParseError} → refusal_of limit bytes ≡ None → Tokens table kind.None text (length bytes) tokens errors → Tokens table kind.None text (valid_len limit bytes) tokens errors
-  at-end {tokens} {errors} whole read = subst (λ (n : ℕ). Tokens table kind.None text n tokens errors) (sym (all-valid limit bytes whole)) read
+  at-end : {tokens : List Tok} {errors : List ParseError} → refusal_of how bytes ≡ None → Tokens table kind.None text (length bytes) tokens errors → Tokens table kind.None text (read_len how bytes) tokens errors
+  at-end {tokens} {errors} whole read = subst (λ (n : ℕ). Tokens table kind.None text n tokens errors) (sym (all-read how bytes whole)) read
 
-  one-of-two : (x y : Result (List Tok × List ParseError) Refusal) → Answers table limit bytes x → Answers table limit bytes y → x ≡ y
+  one-of-two : (x y : Result (List Tok × List ParseError) Refusal) → Answers table how bytes x → Answers table how bytes y → x ≡ y
   one-of-two x y (refused_text refusal h) (refused_text refusal' k) =
-      let same = one_refusal table kind.None text (valid_len limit bytes) h.at k.at h.name k.name h.tokens k.tokens h.refused k.refused in
+      let same = one_refusal table kind.None text (read_len how bytes) h.at k.at h.name k.name h.tokens k.tokens h.refused k.refused in
       ap (λ (r : Refusal). Err r) (h.refusal_is ∙ ap (λ (n : RefusedName). OutOfProfile n h.at) same.0 ∙ ap (OutOfProfile k.name) same.1 ∙ sym k.refusal_is)
-  one-of-two x y (refused_text refusal h) (refused_bytes refusal' tokens errors read r) = absurd (no_tokens_of_refused table kind.None text (valid_len limit bytes) h.at h.name tokens h.tokens errors read h.refused)
-  one-of-two x y (refused_text refusal h) (accepted tokens errors sorted read p s whole) = absurd (no_tokens_of_refused table kind.None text (valid_len limit bytes) h.at h.name tokens h.tokens errors (at-end whole read) h.refused)
-  one-of-two x y (refused_bytes refusal tokens errors read r) (refused_text refusal' h) = absurd (no_tokens_of_refused table kind.None text (valid_len limit bytes) h.at h.name tokens h.tokens errors read h.refused)
-  one-of-two x y (refused_bytes refusal tokens errors read r) (refused_bytes refusal' tokens' errors' read' r') = ap (λ (e : Refusal). Err e) (one-some refusal refusal' (refusal_of limit bytes) r r')
-  one-of-two x y (refused_bytes refusal tokens errors read r) (accepted tokens' errors' sorted read' p s whole) = absurd (never-both refusal (refusal_of limit bytes) r whole)
-  one-of-two x y (accepted tokens errors sorted read p s whole) (refused_text refusal h) = absurd (no_tokens_of_refused table kind.None text (valid_len limit bytes) h.at h.name tokens h.tokens errors (at-end whole read) h.refused)
-  one-of-two x y (accepted tokens errors sorted read p s whole) (refused_bytes refusal tokens' errors' read' r) = absurd (never-both refusal (refusal_of limit bytes) r whole)
+  one-of-two x y (refused_text refusal h) (refused_bytes refusal' tokens errors read r) = absurd (no_tokens_of_refused table kind.None text (read_len how bytes) h.at h.name tokens h.tokens errors read h.refused)
+  one-of-two x y (refused_text refusal h) (accepted tokens errors sorted read p s whole) = absurd (no_tokens_of_refused table kind.None text (read_len how bytes) h.at h.name tokens h.tokens errors (at-end whole read) h.refused)
+  one-of-two x y (refused_bytes refusal tokens errors read r) (refused_text refusal' h) = absurd (no_tokens_of_refused table kind.None text (read_len how bytes) h.at h.name tokens h.tokens errors read h.refused)
+  one-of-two x y (refused_bytes refusal tokens errors read r) (refused_bytes refusal' tokens' errors' read' r') = ap (λ (e : Refusal). Err e) (one-some refusal refusal' (refusal_of how bytes) r r')
+  one-of-two x y (refused_bytes refusal tokens errors read r) (accepted tokens' errors' sorted read' p s whole) = absurd (never-both refusal (refusal_of how bytes) r whole)
+  one-of-two x y (accepted tokens errors sorted read p s whole) (refused_text refusal h) = absurd (no_tokens_of_refused table kind.None text (read_len how bytes) h.at h.name tokens h.tokens errors (at-end whole read) h.refused)
+  one-of-two x y (accepted tokens errors sorted read p s whole) (refused_bytes refusal tokens' errors' read' r) = absurd (never-both refusal (refusal_of how bytes) r whole)
   one-of-two x y (accepted tokens errors sorted read p s whole) (accepted tokens' errors' sorted' read' p' s' whole') =
       let same = one_list_of_tokens table kind.None text (length bytes) tokens tokens' errors errors' read read' in
-      let lists = one-list (input_errors text ++ errors) (input_errors text ++ errors') sorted sorted' (IsPermutation-append_right (input_errors text) errors errors' same.1) p p' s s' in
+      let lists = one-list (input_errors (decoded how bytes) ++ errors) (input_errors (decoded how bytes) ++ errors') sorted sorted' (IsPermutation-append_right (input_errors (decoded how bytes)) errors errors' same.1) p p' s s' in
       ap (λ (ts : List Tok). Ok (ts, sorted)) same.0 ∙ ap (λ (es : List ParseError). Ok (tokens', es)) lists
 
 pub one-answer : OneAnswer
-one-answer table limit bytes is_table = of (some_answer table kind.None (document_text limit bytes) (valid_len limit bytes) is_table)
+one-answer table how bytes is_table = of (some_answer table kind.None (read_text how bytes) (read_len how bytes) is_table)
   where
-    only : (x : Result (List Tok × List ParseError) Refusal) → Answers table limit bytes x → ExactlyOne (Answers table limit bytes)
-    only x h = record { one = x; is = h; other = λ y k. one-of-two table limit bytes y x k h }
+    only : (x : Result (List Tok × List ParseError) Refusal) → Answers table how bytes x → ExactlyOne (Answers table how bytes)
+    only x h = record { one = x; is = h; other = λ y k. one-of-two table how bytes y x k h }
 
-    of : HasAnswer table kind.None (document_text limit bytes) (valid_len limit bytes) → ExactlyOne (Answers table limit bytes)
+    of : HasAnswer table kind.None (read_text how bytes) (read_len how bytes) → ExactlyOne (Answers table how bytes)
     of (refuses tokens name at out) = only (Err (OutOfProfile name at)) (refused_text (OutOfProfile name at) (record { tokens = tokens; name = name; at = at; refused = out; refusal_is = refl }))
-    of (gives tokens errors read) = by (refusal_of limit bytes) refl
+    of (gives tokens errors read) = by (refusal_of how bytes) refl
       where
-        by : (r : Option Refusal) → refusal_of limit bytes ≡ r → ExactlyOne (Answers table limit bytes)
+        by : (r : Option Refusal) → refusal_of how bytes ≡ r → ExactlyOne (Answers table how bytes)
         by (Some refusal) e = only (Err refusal) (refused_bytes refusal tokens errors read e)
         by None e =
-            let all = input_errors (document_text limit bytes) ++ errors in
-            let whole = subst (λ (n : ℕ). Tokens table kind.None (document_text limit bytes) n tokens errors) (all-valid limit bytes e) read in
+            let all = input_errors (decoded how bytes) ++ errors in
+            let whole = subst (λ (n : ℕ). Tokens table kind.None (read_text how bytes) n tokens errors) (all-read how bytes e) read in
             only (Ok (tokens, in_order all)) (accepted tokens errors (in_order all) whole (order-permutes all) (order-sorted all) e)

@@ -5,16 +5,16 @@ use Rattle.std.specs.List.Sorted.{IsPermutation, IsSorted}
 use Rattle.std.proofs.lemmas.List.Sorted.{IsPermutation-sym, IsPermutation-trans}
 use Rattle.names.specs.declared.error.ParseError.{ParseError}
 use Rattle.names.specs.declared.refusal.Refusal.{Refusal}
-use Rattle.htext.specs.Text.{valid_len, refusal_of}
+use Rattle.htext.specs.Text.{Policy, read_len, refusal_of}
 use Rattle.hparse.specs.Answer.{error_cmp}
 use Rattle.hlaws.proofs.OneOrder.{sorted-once}
 
--- bytes that are not refused are all valid
-pub all-valid : (limit : ℕ) (bytes : List ℕ) → refusal_of limit bytes ≡ None → valid_len limit bytes ≡ length bytes
-all-valid limit bytes e = go _ (eqb (valid_len limit bytes) (length bytes)) refl e
+-- bytes that are not refused are all read
+pub all-read : (how : Policy) (bytes : List ℕ) → refusal_of how bytes ≡ None → read_len how bytes ≡ length bytes
+all-read how bytes e = go _ (eqb (read_len how bytes) (length bytes)) refl e
   where
-    go : (r : Refusal) (b : Bool) → eqb (valid_len limit bytes) (length bytes) ≡ b → cond b None (Some r) ≡ None → valid_len limit bytes ≡ length bytes
-    go r true is e = eqb-true (valid_len limit bytes) (length bytes) is
+    go : (r : Refusal) (b : Bool) → eqb (read_len how bytes) (length bytes) ≡ b → cond b None (Some r) ≡ None → read_len how bytes ≡ length bytes
+    go r true is e = eqb-true (read_len how bytes) (length bytes) is
     go r false is e = absurd cc
 
 pub one-some : {A : Type 0} (x y : A) (o : Option A) → o ≡ Some x → o ≡ Some y → x ≡ y

@@ -10,7 +10,7 @@ use Rattle.names.specs.declared.raw.RefusedName.{RefusedName}
 use Rattle.names.specs.declared.refusal.Refusal.{Refusal}
 use Rattle.names.specs.declared.refusal.Refusal.TheVariants.{OutOfProfile}
 use Rattle.htext.specs.Items.{input_errors}
-use Rattle.htext.specs.Text.{valid_len, refusal_of}
+use Rattle.htext.specs.Text.{read_len, refusal_of}
 use Rattle.htoken.specs.Token.{Tok, Gives}
 use Rattle.htoken.specs.Standing.{start_kind}
 use Rattle.htoken.specs.Tokens.{spans_text, Tokens, IsRefused, AreFront, tokens_in, eof_of}
@@ -28,11 +28,11 @@ use Rattle.hcut.proofs.Fronts.{one_front, one_front_of_refused}
 use Rattle.hcut.proofs.OneCut.{one_list_of_tokens, no_tokens_of_refused, one_refusal}
 use Rattle.hcut.proofs.SomeCut.{some_answer}
 use Rattle.hparse.specs.Answer.{error_cmp}
-use Rattle.hparse.specs.Input.{text_in}
-use Rattle.hparse.specs.Parse.{Told, Subject, document, fragment, Parse, Parses, manner, start_of, begins, refused_token, refused_tag, refused_bytes, accepted}
+use Rattle.hparse.specs.Input.{reads_in, text_in}
+use Rattle.hparse.specs.Parse.{Told, Subject, document, fragment, Parse, Parses, manner, policy, start_of, begins, refused_token, refused_tag, refused_bytes, accepted}
 use Rattle.hparse.specs.Taken.{placed}
 use Rattle.hlaws.specs.OneAnswer.{ExactlyOne, OneParse}
-use Rattle.hlaws.proofs.OneInput.{all-valid, one-some, never-both, one-list}
+use Rattle.hlaws.proofs.OneInput.{all-read, one-some, never-both, one-list}
 use Rattle.hlaws.proofs.Sorting.{in_order, order-permutes, order-sorted}
 
 -- tokens in order have one result
@@ -78,7 +78,7 @@ module _ (told : Told) (subject : Subject) (bytes : List ℕ) where
   text = text_in (manner told subject) bytes
 
   abbrev end : ℕ
-  end = valid_len told.input bytes
+  end = read_len (policy told subject) bytes
 
   abbrev Leads : List Tok → Outcome (State (List ℕ)) → Type 0
   Leads tokens o = Steps texts (map placed tokens) (begins told subject) o
@@ -98,8 +98,8 @@ module _ (told : Told) (subject : Subject) (bytes : List ℕ) where
   led : (tokens tokens' : List Tok) (o : Outcome (State (List ℕ))) → tokens ≡ tokens' → Leads tokens o → Leads tokens' o
   led tokens tokens' o same h = subst (λ (ts : List Tok). Leads ts o) same h
 
-  at-end : {tokens : List Tok} {errors : List ParseError} → refusal_of told.input bytes ≡ None → Tokens told.table kind text (length bytes) tokens errors → Tokens told.table kind text end tokens errors
-  at-end {tokens} {errors} whole read = subst (λ (n : ℕ). Tokens told.table kind text n tokens errors) (sym (all-valid told.input bytes whole)) read
+  at-end : {tokens : List Tok} {errors : List ParseError} → refusal_of (policy told subject) bytes ≡ None → Tokens told.table kind text (length bytes) tokens errors → Tokens told.table kind text end tokens errors
+  at-end {tokens} {errors} whole read = subst (λ (n : ℕ). Tokens told.table kind text n tokens errors) (sym (all-read (policy told subject) bytes whole)) read
 
   -- the text is refused for a start tag
   module _ (tokens : List Tok) (name : RefusedName) (at : ℕ) (out : IsRefused told.table kind text end tokens name at) where
@@ -146,13 +146,13 @@ module _ (told : Told) (subject : Subject) (bytes : List ℕ) where
   -- the text has tokens
   module _ (tokens : List Tok) (errors : List ParseError) (read : Tokens told.table kind text end tokens errors) where
     abbrev all_errors : List ParseError → State (List ℕ) → List ParseError
-    all_errors es state = input_errors text ++ (es ++ state.site.errors)
+    all_errors es state = input_errors (reads_in (manner told subject) bytes) ++ (es ++ state.site.errors)
 
     data OfTokens (x : Result Parse Refusal) : Type 0 where
       by_rules : (r : Refusal) → Leads tokens (Refused r) → x ≡ Err r → OfTokens x
-      by_bytes : (r : Refusal) (state : State (List ℕ)) → Leads tokens (Goes state) → refusal_of told.input bytes ≡ Some r → x ≡ Err r → OfTokens x
+      by_bytes : (r : Refusal) (state : State (List ℕ)) → Leads tokens (Goes state) → refusal_of (policy told subject) bytes ≡ Some r → x ≡ Err r → OfTokens x
       whole : (state : State (List ℕ)) (es sorted : List ParseError) → Leads tokens (Goes state) → IsPermutation errors es → IsPermutation (all_errors es state) sorted → IsSorted error_cmp sorted
-          → refusal_of told.input bytes ≡ None → x ≡ Ok (record { trees = state.site.nodes.trees; errors = sorted }) → OfTokens x
+          → refusal_of (policy told subject) bytes ≡ None → x ≡ Ok (record { trees = state.site.nodes.trees; errors = sorted }) → OfTokens x
 
     of-tokens : (x : Result Parse Refusal) → Parses told subject bytes x → OfTokens x
     of-tokens x (refused_token r events front steps) =
@@ -171,7 +171,7 @@ module _ (told : Told) (subject : Subject) (bytes : List ℕ) where
     one-tree state state' es es' sorted sorted' same q q' p p' s s' =
         let between : IsPermutation es es' = IsPermutation-trans es errors es' (IsPermutation-sym errors es q) q' in
         let moved : IsPermutation (all_errors es state) (all_errors es' state) =
-        IsPermutation-append_right (input_errors text) (es ++ state.site.errors) (es' ++ state.site.errors) (IsPermutation-append_left state.site.errors es es' between) in
+        IsPermutation-append_right (input_errors (reads_in (manner told subject) bytes)) (es ++ state.site.errors) (es' ++ state.site.errors) (IsPermutation-append_left state.site.errors es es' between) in
         let lists : sorted ≡ sorted' = one-list (all_errors es state) (all_errors es' state) sorted sorted' moved p (subst (λ (u : State (List ℕ)). IsPermutation (all_errors es' u) sorted') (sym same) p') s s' in
         cc
 
@@ -183,10 +183,10 @@ module _ (told : Told) (subject : Subject) (bytes : List ℕ) where
     one-of-tokens x y (by_rules r h e) (by_bytes r' state k b f) = absurd (never-both-ways tokens r state h k)
     one-of-tokens x y (by_rules r h e) (whole state es sorted k q p s b f) = absurd (never-both-ways tokens r state h k)
     one-of-tokens x y (by_bytes r state h b e) (by_rules r' k f) = absurd (never-both-ways tokens r' state k h)
-    one-of-tokens x y (by_bytes r state h b e) (by_bytes r' state' k b' f) = e ∙ ap (λ (q : Refusal). Err q) (one-some r r' (refusal_of told.input bytes) b b') ∙ sym f
-    one-of-tokens x y (by_bytes r state h b e) (whole state' es sorted k q p s b' f) = absurd (never-both r (refusal_of told.input bytes) b b')
+    one-of-tokens x y (by_bytes r state h b e) (by_bytes r' state' k b' f) = e ∙ ap (λ (q : Refusal). Err q) (one-some r r' (refusal_of (policy told subject) bytes) b b') ∙ sym f
+    one-of-tokens x y (by_bytes r state h b e) (whole state' es sorted k q p s b' f) = absurd (never-both r (refusal_of (policy told subject) bytes) b b')
     one-of-tokens x y (whole state es sorted h q p s b e) (by_rules r k f) = absurd (never-both-ways tokens r state k h)
-    one-of-tokens x y (whole state es sorted h q p s b e) (by_bytes r state' k b' f) = absurd (never-both r (refusal_of told.input bytes) b' b)
+    one-of-tokens x y (whole state es sorted h q p s b e) (by_bytes r state' k b' f) = absurd (never-both r (refusal_of (policy told subject) bytes) b' b)
     one-of-tokens x y (whole state es sorted h q p s b e) (whole state' es' sorted' k q' p' s' b' f) =
         let same = one-result tokens (Goes state) (Goes state') h k in
         let states : state ≡ state' = cc in
@@ -207,13 +207,13 @@ module _ (told : Told) (subject : Subject) (bytes : List ℕ) where
           front_is = append-nil (tokens_in (map Gives tokens)) ∙ given tokens ∙ read.tokens_are;
         } in
         only-tokens (Err r) (refused_token r (map Gives tokens) front (led tokens (tokens_in (map Gives tokens)) (Refused r) (sym (given tokens)) steps))
-    exactly-tokens (Goes state, steps) = by (refusal_of told.input bytes) refl
+    exactly-tokens (Goes state, steps) = by (refusal_of (policy told subject) bytes) refl
       where
-        by : (r : Option Refusal) → refusal_of told.input bytes ≡ r → ExactlyOne (Parses told subject bytes)
+        by : (r : Option Refusal) → refusal_of (policy told subject) bytes ≡ r → ExactlyOne (Parses told subject bytes)
         by (Some r) e = only-tokens (Err r) (refused_bytes r errors state (record { tokens = tokens; read = read; steps = steps }) e)
         by None e =
             let all = all_errors errors state in
-            let end_read = subst (λ (n : ℕ). Tokens told.table kind text n tokens errors) (all-valid told.input bytes e) read in
+            let end_read = subst (λ (n : ℕ). Tokens told.table kind text n tokens errors) (all-read (policy told subject) bytes e) read in
             only-tokens (Ok (record { trees = state.site.nodes.trees; errors = in_order all }))
             (accepted errors (in_order all) state (record { tokens = tokens; read = end_read; steps = steps }) (order-permutes all) (order-sorted all) e)
 
@@ -222,4 +222,4 @@ module _ (told : Told) (subject : Subject) (bytes : List ℕ) where
   exactly-one (gives tokens errors read) = exactly-tokens tokens errors read (some-steps (map placed tokens) (begins told subject) (reached-first told subject))
 
 pub one-parse : OneParse
-one-parse told subject bytes is_table = exactly-one told subject bytes (some_answer told.table (start_kind (start_of subject)) (text_in (manner told subject) bytes) (valid_len told.input bytes) is_table)
+one-parse told subject bytes is_table = exactly-one told subject bytes (some_answer told.table (start_kind (start_of subject)) (text_in (manner told subject) bytes) (read_len (policy told subject) bytes) is_table)

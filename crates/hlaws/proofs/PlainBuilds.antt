@@ -34,6 +34,7 @@ law inside l s ts q utf8 plain well room h = subst (λ (v : State (List ℕ)). B
       once = q.once;
       fresh = q.free;
       lower = q.lower;
+      entries_lower = q.entries_lower;
       listed = q.listed;
       no_p = q.no_p;
       no_button = q.no_button;

@@ -15,7 +15,6 @@ use Rattle.charref.specs.Reference.{Entities, IsTable, HasCore}
 use Rattle.hnodes.specs.Forest as forest
 use Rattle.hnodes.specs.Forest.{Attribute, What, Forest, none, tree}
 use Rattle.htext.specs.declared.Bom.TheVariants.{Keep}
-use Rattle.htext.specs.Text as input
 use Rattle.htoken.specs.Token.{Eof}
 use Rattle.htoken.specs.Standing.{Standing, at_start, standing_after}
 use Rattle.htoken.specs.Spans.{has_references}
@@ -35,7 +34,7 @@ use Rattle.hwrite.specs.ContentTable.{row, takes_role, takes_comments}
 use Rattle.hwrite.specs.Plain.{Inside, inside_element, inside_node, in_context_of, is_form, are_content, are_content_if, is_plain_node, is_plain_text, is_plain_comment, are_plain_attributes, is_among_texts, is_clean, is_empty, begins_with_text, begins_with_line_feed, has_part, is_nested, drops_line_feed}
 use Rattle.hlaws.specs.PlainTokens.{tokens_of}
 use Rattle.hwrite.specs.Written.{has_no_references, start_tag_text, end_tag_text, element_text, written_among}
-use Rattle.hlaws.specs.ComesBack.{AreTexts, AreRead, PlainTokens}
+use Rattle.hlaws.specs.ComesBack.{AreTexts, AreRead, PlainTokens, text_of}
 use Rattle.hparse.specs.Taken.{taken}
 use Rattle.hlaws.proofs.TokenLists.{not_true}
 use Rattle.hlaws.proofs.TokensText.{Spells, spells-append, spells_text, spells_utf8, clean_text, text_characters, no_part}
@@ -301,7 +300,7 @@ module _ (table : Entities) (is_table : IsTable table) (core : HasCore table) (h
   -- CONTEXTS
 
   -- a cut of the whole text
-  whole_read : (k : RawKind) (bytes cs : List ℕ) (ts : List (Token (List ℕ))) (There : Standing → Type 0) → Spells bytes cs → Cuts table (length bytes) (at_start k) (input.text Keep bytes) [] ts There → AreRead table k bytes (ts ++ eof ∷ [])
+  whole_read : (k : RawKind) (bytes cs : List ℕ) (ts : List (Token (List ℕ))) (There : Standing → Type 0) → Spells bytes cs → Cuts table (length bytes) (at_start k) (text_of bytes) [] ts There → AreRead table k bytes (ts ++ eof ∷ [])
   whole_read k bytes cs ts There s c = record {
     utf8 = spells_utf8 bytes cs s;
     toks = cut.tokens_of c.spans ++ Eof (length bytes) ∷ [];
@@ -318,9 +317,9 @@ module _ (table : Entities) (is_table : IsTable table) (core : HasCore table) (h
   raw_context k l which is no_refs o =
       let s : Spells (written_among how true l) (chars o.t) = subst (λ (x : List ℕ). Spells x (chars o.t)) (sym o.raw_is) (spells_text o.t o.utf8 o.clean) in
       let bytes : List ℕ = written_among how true l in
-      whole_read k bytes (chars o.t) (tokens_of texts l) (λ there. there ≡ pushed_on (at_start k) (input.text Keep bytes)) s
-      (subst (λ (x : List (Token (List ℕ))). Cuts table (length bytes) (at_start k) (input.text Keep bytes) [] x (λ there. there ≡ pushed_on (at_start k) (input.text Keep bytes))) (sym o.tokens_are)
-      (raw_cuts table (length bytes) (chars o.t) (input.text Keep bytes) [] (at_start k) is no_refs (text_characters bytes (chars o.t) s) (clean_text o.t o.utf8 o.clean) (no_end_of_none (input.text Keep bytes) [])))
+      whole_read k bytes (chars o.t) (tokens_of texts l) (λ there. there ≡ pushed_on (at_start k) (text_of bytes)) s
+      (subst (λ (x : List (Token (List ℕ))). Cuts table (length bytes) (at_start k) (text_of bytes) [] x (λ there. there ≡ pushed_on (at_start k) (text_of bytes))) (sym o.tokens_are)
+      (raw_cuts table (length bytes) (chars o.t) (text_of bytes) [] (at_start k) is no_refs (text_characters bytes (chars o.t) s) (clean_text o.t o.utf8 o.clean) (no_end_of_none (text_of bytes) [])))
 
   -- a context whose text is read raw holds one text
   context_text : (k : RawKind) (c : Content) (form : Bool) (l : Forest (List ℕ)) → is_raw k ≡ true → fits_context k c ≡ true → AreTexts l → are_content_if (in_context_of c form) l ≡ true → OneText how allowed.Any l
@@ -332,15 +331,15 @@ module _ (table : Entities) (is_table : IsTable table) (core : HasCore table) (h
       let i = some_inside (in_context_of c form) l h in
       let r = list_reads i.0 l u i.1 in
       let bytes : List ℕ = written_among how false l in
-      whole_read kind.None bytes r.codes_are (tokens_of texts l) InData r.spells (r.cuts (length bytes) (at_start kind.None) (input.text Keep bytes) [] refl (text_characters bytes r.codes_are r.spells))
+      whole_read kind.None bytes r.codes_are (tokens_of texts l) InData r.spells (r.cuts (length bytes) (at_start kind.None) (text_of bytes) [] refl (text_characters bytes r.codes_are r.spells))
   in_kind kind.Rcdata c form l fit u h =
       let o = context_text kind.Rcdata c form l refl fit u h in
       let w = escaped_as table core how setting.Text (chars o.t) (scalars-chars o.t o.utf8) (clean_text o.t o.utf8 o.clean) in
       let bytes : List ℕ = written_among how false l in
       let s : Spells bytes w.codes_are = subst (λ (x : List ℕ). Spells x w.codes_are) (sym o.text_is) w.spells in
       whole_read kind.Rcdata bytes w.codes_are (tokens_of texts l) (Same (at_start kind.Rcdata)) s
-      (subst (λ (x : List (Token (List ℕ))). Cuts table (length bytes) (at_start kind.Rcdata) (input.text Keep bytes) [] x (Same (at_start kind.Rcdata))) (sym o.tokens_are)
-      (text_cuts table is_table (chars o.t) w.codes_are (input.text Keep bytes) [] (length bytes) (at_start kind.Rcdata) (inr refl) w.are (text_characters bytes w.codes_are s)))
+      (subst (λ (x : List (Token (List ℕ))). Cuts table (length bytes) (at_start kind.Rcdata) (text_of bytes) [] x (Same (at_start kind.Rcdata))) (sym o.tokens_are)
+      (text_cuts table is_table (chars o.t) w.codes_are (text_of bytes) [] (length bytes) (at_start kind.Rcdata) (inr refl) w.are (text_characters bytes w.codes_are s)))
   in_kind kind.Rawtext c form l fit u h = raw_context kind.Rawtext l allowed.Any refl refl (context_text kind.Rawtext c form l refl fit u h)
   in_kind kind.Script c form l fit u h = raw_context kind.Script l allowed.Any refl refl (context_text kind.Script c form l refl fit u h)
   in_kind kind.Plaintext c form l fit u h = raw_context kind.Plaintext l allowed.Any refl refl (context_text kind.Plaintext c form l refl fit u h)

@@ -8,7 +8,7 @@ use Rattle.hnodes.specs.Forest as forest
 use Rattle.hnodes.specs.Forest.{Attribute, What, element, text, Forest, none, tree, size, times, join}
 use Rattle.hnodes.specs.Edits.{if_text, text_before}
 use Rattle.hnodes.specs.declared.node.Place.TheVariants.{LastIn}
-use Rattle.hopen.specs.Stack.{OpenNode, is_open, in_scope}
+use Rattle.hopen.specs.Stack.{OpenNode, in_scope}
 use Rattle.hopen.specs.Scopes.{stops}
 use Rattle.hopen.specs.declared.scope.Scope.TheVariants as scope
 use Rattle.hformat.specs.Formatting.{EntryOf, Item, marker, entry, with_room, without_entry, entry_of, find_entry, cleared}
@@ -39,10 +39,10 @@ use Rattle.hwrite.specs.declared.content.Role.{Role}
 use Rattle.hwrite.specs.declared.content.Role.TheVariants as role
 use Rattle.hwrite.specs.ContentTable.{row, takes_role, takes_comments, texts_in}
 use Rattle.hwrite.specs.Plain.{Inside, inside_element, content_within, is_nested, is_a, is_button, is_form, inserts_marker, drops_line_feed}
-use Rattle.hlaws.specs.Building.{is_flow_mode, fits_mode, fits_current, closes_p, is_list, is_dl, takes_space, is_character, ActsAs, numbered, under, depth, Thinned, same, kept, lost, EntriesOpen, AllLower}
+use Rattle.hlaws.specs.Building.{is_flow_mode, fits_mode, fits_current, closes_p, is_list, is_dl, takes_space, is_character, ActsAs, numbered, under, depth, Thinned, same, kept, lost, EntriesOpen, AllLower, EntriesLower}
 use Rattle.hlaws.specs.PlainTokens.{tokens_of}
 use Rattle.hlaws.proofs.Growing.{graft-new, times-numbered, under-none, under-under, under-new, times-under, text_before-new, text_before-leaf}
-use Rattle.hlaws.proofs.Thinned.{then, thinned-room, open-thinned, open-pushed, no-entry}
+use Rattle.hlaws.proofs.Thinned.{then, thinned-room, open-thinned, open-pushed, lower-thinned, entries-more, no-entry}
 use Rattle.hlaws.proofs.Classes.{Class, VoidClass, Profile, profile, plain_profile, around, class_profile, void_profile, Classed, with_content, without, classed, has_content, has_none, is_p}
 use Rattle.hlaws.proofs.Classes as class
 use Rattle.hlaws.proofs.Content.{home, has_home, stands_in, no_nowhere, phrasing_mode, parts_mode_is, rows_mode_is, cells_mode_is, columns_mode_is, comment_rule, around_fits, nested_a, nested_button, nested_form, marker_stops, list_stops, dl_stops}
@@ -82,10 +82,6 @@ module _ {N : Type 0} where
 lower-more : {N : Type 0} (made made' : ℕ) (up : List (OpenNode N)) → made ≤ made' → AllLower made up → AllLower made' up
 lower-more made made' [] h o = tt
 lower-more made made' (x ∷ up) h o = (let k = o.0 in omega arith, lower-more made made' up h o.1)
-
-lower-open : {N : Type 0} (made : ℕ) (up : List (OpenNode N)) → AllLower made up → is_open made up ≡ false
-lower-open made [] o = refl
-lower-open made (x ∷ up) o = rw (ne_eqb x.node made (λ e. let k = o.0 in omega arith)) (lower-open made up o.1)
 
 -- WHAT THE LAW SPEAKS OF
 
@@ -148,6 +144,7 @@ module _ {N : Type 0} (n : Naming N) where
     pub once : times d.node f ≡ 1
     pub fresh : (m : ℕ) → made ≤ m → times m f ≡ 0
     pub lower : AllLower made (d ∷ up)
+    pub entries_lower : EntriesLower made items
     pub listed : EntriesOpen (d ∷ up) items
     pub no_p : closes_p i.content ≡ true → in_scope (stops n.tag scope.Button) (is n tag.P) (d ∷ up) ≡ false
     pub no_button : i.in_button ≡ false → in_scope (stops n.tag scope.Default) (is n tag.Button) (d ∷ up) ≡ false
@@ -182,6 +179,7 @@ module _ {N : Type 0} (n : Naming N) (laws : NameLaws n) (z : State N) where
         once = times-under d.node d.node (numbered made l) f q.once ∙ omega (arith, q.once, times-numbered d.node made l (inl low));
         fresh = λ m h. times-under m d.node (numbered made l) f q.once ∙ omega (arith, q.fresh m (omega arith), times-numbered m made l (inr h));
         lower = lower-more made (made + size l) (d ∷ up) (omega arith) q.lower;
+        entries_lower = entries-more made (made + size l) items' (omega arith) (lower-thinned made t q.entries_lower);
         listed = open-thinned (d ∷ up) t q.listed;
         no_p = q.no_p;
         no_button = q.no_button;
@@ -620,11 +618,18 @@ module _ {N : Type 0} (n : Naming N) (laws : NameLaws n) (z : State N) where
         go true e k = rw (laws.button x, (or_parts false (is_button (n.tag x)) k).1, marker_stops (n.tag x) e) refl
         go false e k = rw (laws.button x, (or_parts i.in_button (is_button (n.tag x)) k).1, q.no_button (or_parts i.in_button (is_button (n.tag x)) k).0) (and_right (not (stops n.tag scope.Default (node made x))) false refl)
 
+    -- what is asked of the list inside the element
+    abbrev EntriesFit : List (Item N) → Type 0
+    EntriesFit items1 = EntriesOpen (node made x ∷ d ∷ up) items1 × EntriesLower (made + 1) items1
+
+    as_before : EntriesFit items
+    as_before = (open-pushed (node made x) (d ∷ up) items q.listed, entries-more made (made + 1) items (omega arith) q.entries_lower)
+
     pushed : (items1 : List (Item N)) (c1 : Control) → unwrap_or (open_mode (n.tag x)) (reset_mode n z.context (d ∷ up)) ≡ c1.mode → fits_mode j.content c1.mode ≡ true → fits_current j.content j.texts (n.tag x) ≡ true
-        → EntriesOpen (node made x ∷ d ∷ up) items1 → (closes_p j.content ≡ true → in_scope (stops n.tag scope.Button) (is n tag.P) (node made x ∷ d ∷ up) ≡ false)
+        → EntriesFit items1 → (closes_p j.content ≡ true → in_scope (stops n.tag scope.Button) (is n tag.P) (node made x ∷ d ∷ up) ≡ false)
         → (j.in_a ≡ false → (y : N) → is_a (n.tag y) ≡ true → find_entry n.same y items1 ≡ None) → (j.in_form ≡ false → c1.form ≡ None)
         → Quiet n z.context j (made + 1) f1 (node made x) (d ∷ up) items1 c1
-    pushed items1 c1 mode fits cur listed pp anchors forms =
+    pushed items1 c1 mode fits cur fit pp anchors forms =
         let self : eqb made made ≡ true = eq-eqb made made refl in
         record {
           mode_is = mode;
@@ -633,7 +638,8 @@ module _ {N : Type 0} (n : Naming N) (laws : NameLaws n) (z : State N) where
           once = times-under made d.node (tree made (element x attrs) none none) f q.once ∙ rw self (omega (arith, absent1));
           fresh = λ m h. times-under m d.node (tree made (element x attrs) none none) f q.once ∙ rw (ne_eqb made m (λ e. omega arith)) (omega (arith, q.fresh m (omega arith)));
           lower = (omega arith, lower-more made (made + 1) (d ∷ up) (omega arith) q.lower);
-          listed = listed;
+          entries_lower = fit.1;
+          listed = fit.0;
           no_p = pp;
           no_button = no_button_in;
           no_a = anchors;
@@ -716,7 +722,7 @@ module _ {N : Type 0} (n : Naming N) (laws : NameLaws n) (z : State N) where
     own r p k within flows fit cur mode marks pp opening ends_so ts h =
         let o : j.content ≡ k = content_is r p ∙ within in
         by_law items (begun_control c)
-        (pushed items (begun_control c) (same_mode r p mode) (fits_at r p k o c.mode (fit c.mode ∙ flows)) (current_at r p k o cur) (open-pushed (node made x) (d ∷ up) items q.listed) (λ e. pp (ap closes_p (sym o) ∙ e)) (anchors_same (ap (λ u. u.marks) p ∙ marks)) forms_same)
+        (pushed items (begun_control c) (same_mode r p mode) (fits_at r p k o c.mode (fit c.mode ∙ flows)) (current_at r p k o cur) as_before (λ e. pp (ap closes_p (sym o) ∙ e)) (anchors_same (ap (λ u. u.marks) p ∙ marks)) forms_same)
         (lf_none kids) opening (λ items2 c2 t k. plain_closing flows ends_so items2 c2 t k.mode k.head k.form k.quirks) ts h
 
     -- blocks, and lists
@@ -773,7 +779,7 @@ module _ {N : Type 0} (n : Naming N) (laws : NameLaws n) (z : State N) where
         let o : j.content ≡ content.Phrasing = content_is _ p in
         let flows : is_flow_mode c.mode ≡ true = mode_here _ p content.Flow e in
         by_law items (record (begun_control c) { drop_lf = true })
-        (pushed items (record (begun_control c) { drop_lf = true }) (same_mode _ p refl) (fits_at _ p content.Phrasing o c.mode flows) (current_at _ p content.Phrasing o refl) (open-pushed (node made x) (d ∷ up) items q.listed) (not_closed _ p content.Phrasing o refl)
+        (pushed items (record (begun_control c) { drop_lf = true }) (same_mode _ p refl) (fits_at _ p content.Phrasing o c.mode flows) (current_at _ p content.Phrasing o refl) as_before (not_closed _ p content.Phrasing o refl)
         (anchors_same (ap (λ r. r.marks) p)) forms_same)
         (subst (λ (v : Bool). LfSafe v kids) (ap (λ r. r.drops) p) lf)
         (λ at. rules.start_pre n laws.basic z at made f d up items (begun_control c) x attrs absent1 room_here deep_here flows (ap (λ r. r.family) p) (q.no_p (ap closes_p e)))
@@ -789,7 +795,7 @@ module _ {N : Type 0} (n : Naming N) (laws : NameLaws n) (z : State N) where
         let formed : is_form (n.tag x) ≡ true = ap (λ r. r.is_form) p in
         let pointer : c.form ≡ None = q.no_form (sym (nested_form i (n.tag x) formed) ∙ alone) in
         by_law items (record (begun_control c) { form = Some made })
-        (pushed items (record (begun_control c) { form = Some made }) (same_mode _ p refl) (fits_at _ p content.Flow o c.mode flows) (current_at _ p content.Flow o (ap (λ r. not r.is_heading) p)) (open-pushed (node made x) (d ∷ up) items q.listed)
+        (pushed items (record (begun_control c) { form = Some made }) (same_mode _ p refl) (fits_at _ p content.Flow o c.mode flows) (current_at _ p content.Flow o (ap (λ r. not r.is_heading) p)) as_before
         (λ h. p_below (ap (λ r. r.is_p) p) no_p) (anchors_same (ap (λ r. r.marks) p)) (λ h. absurd (let y = (or_parts i.in_form (is_form (n.tag x)) h).1 in cc)))
         (lf_none kids)
         (λ at. rules.start_form n laws.basic z at made f d up items (begun_control c) x attrs absent1 room_here deep_here flows (ap (λ r. r.family) p) no_p pointer)
@@ -811,11 +817,8 @@ module _ {N : Type 0} (n : Naming N) (laws : NameLaws n) (z : State N) where
     roomy : Thinned items (with_room n.same new items)
     roomy = thinned-room n.same new items
 
-    still_open : EntriesOpen (d ∷ up) (with_room n.same new items)
-    still_open = open-thinned (d ∷ up) roomy q.listed
-
     unlisted : (l : List (Item N)) → Thinned (with_room n.same new items) l → (entry_of made l ≡ None) × (without_entry made l ≡ l)
-    unlisted l t = no-entry made (d ∷ up) l (lower-open made (d ∷ up) q.lower) (open-thinned (d ∷ up) t still_open)
+    unlisted l t = no-entry made l (lower-thinned made (then roomy t) q.entries_lower)
 
     module _ (w : Family) (fam : family_of (n.tag x) ≡ w) (adopts : IsFlowRule (End w) (by_end family.A)) (flows : is_flow_mode c.mode ≡ true) where
       formatting_closing : (items2 : List (Item N)) (c2 : Control) → Thinned (entry new ∷ with_room n.same new items) items2 → Keeps (begun_control c) c2 → Closing x made d up items c items2 c2
@@ -865,14 +868,16 @@ module _ {N : Type 0} (n : Naming N) (laws : NameLaws n) (z : State N) where
       plain_around : Opens items (begun_control c) → Ends → (ts : List (PlacedToken N)) → Spells ts → Node ts
       plain_around opening ends_so ts h =
           by_law items (begun_control c)
-          (pushed items (begun_control c) (same_mode _ p refl) fits_around current_around (open-pushed (node made x) (d ∷ up) items q.listed) p_around (anchors_same (ap (λ r. r.marks) p)) forms_same)
+          (pushed items (begun_control c) (same_mode _ p refl) fits_around current_around as_before p_around (anchors_same (ap (λ r. r.marks) p)) forms_same)
           (lf_none kids) opening (λ items2 c2 t k. plain_closing flows_around ends_so items2 c2 t k.mode k.head k.form k.quirks) ts h
 
       listed_around : IsFlowRule (End w) (by_end family.A) → (j.in_a ≡ false → (y : N) → is_a (n.tag y) ≡ true → find_entry n.same y (entry new ∷ with_room n.same new items) ≡ None)
           → Opens (entry new ∷ with_room n.same new items) (begun_control c) → (ts : List (PlacedToken N)) → Spells ts → Node ts
       listed_around adopts anchors opening =
+          let still_open = open-pushed (node made x) (d ∷ up) (with_room n.same new items) (open-thinned (d ∷ up) roomy q.listed) in
+          let around_new : EntriesFit (entry new ∷ with_room n.same new items) = ((rw (eq-eqb made made refl) refl, still_open), (omega arith, lower-thinned (made + 1) roomy as_before.1)) in
           by_law (entry new ∷ with_room n.same new items) (begun_control c)
-          (pushed (entry new ∷ with_room n.same new items) (begun_control c) (same_mode _ p refl) fits_around current_around (rw (eq-eqb made made refl) refl, open-pushed (node made x) (d ∷ up) (with_room n.same new items) still_open) p_around anchors forms_same)
+          (pushed (entry new ∷ with_room n.same new items) (begun_control c) (same_mode _ p refl) fits_around current_around around_new p_around anchors forms_same)
           (lf_none kids) opening (formatting_closing w (ap (λ r. r.family) p) adopts flows_around)
 
     a_span : profile (n.tag x) ≡ class_profile class.Span → (ts : List (PlacedToken N)) → Spells ts → Node ts
@@ -941,7 +946,7 @@ module _ {N : Type 0} (n : Naming N) (laws : NameLaws n) (z : State N) where
     in_parts k m back r p within mode marks fits cur closes same_as opening ending =
         let o : j.content ≡ k = content_is r p ∙ within in
         by_law items (record (begun_control c) { mode = m })
-        (pushed items (record (begun_control c) { mode = m }) (ap (λ u. unwrap_or u (reset_mode n z.context (d ∷ up))) (ap (λ u. u.mode) p ∙ mode)) (fits_at r p k o m fits) (current_at r p k o cur) (open-pushed (node made x) (d ∷ up) items q.listed) (not_closed r p k o closes)
+        (pushed items (record (begun_control c) { mode = m }) (ap (λ u. unwrap_or u (reset_mode n z.context (d ∷ up))) (ap (λ u. u.mode) p ∙ mode)) (fits_at r p k o m fits) (current_at r p k o cur) as_before (not_closed r p k o closes)
         (anchors_same (ap (λ u. u.marks) p ∙ marks)) forms_same)
         (lf_none kids) opening
         (λ items2 c2 t k. record {
@@ -992,7 +997,7 @@ module _ {N : Type 0} (n : Naming N) (laws : NameLaws n) (z : State N) where
     marking m back r p within mode flows no_heading no_p stops_it same_as opening ending =
         let o : j.content ≡ content.Flow = content_is r p ∙ within in
         by_law (marker ∷ items) (record (begun_control c) { mode = m })
-        (pushed (marker ∷ items) (record (begun_control c) { mode = m }) mode (fits_at r p content.Flow o m flows) (current_at r p content.Flow o (ap (λ u. not u.is_heading) p ∙ ap not no_heading)) (open-pushed (node made x) (d ∷ up) items q.listed)
+        (pushed (marker ∷ items) (record (begun_control c) { mode = m }) mode (fits_at r p content.Flow o m flows) (current_at r p content.Flow o (ap (λ u. not u.is_heading) p ∙ ap not no_heading)) (tt, as_before.1)
         (λ h. p_stopped (ap (λ u. u.is_p) p ∙ no_p) (ap (λ u. u.stops_button) p ∙ stops_it)) (λ h y e. refl) forms_same)
         (lf_none kids) opening
         (λ items2 c2 t k. record {

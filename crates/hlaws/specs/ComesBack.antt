@@ -6,6 +6,7 @@ use Rattle.htext.specs.Text as input
 use Rattle.hnodes.specs.Forest as forest
 use Rattle.hnodes.specs.Forest.{Attribute, Forest, none, tree, size, children_of}
 use Rattle.names.specs.declared.error.ParseError.{ParseError}
+use Rattle.names.specs.declared.placed.Placed.{Placed}
 use Rattle.names.specs.declared.raw.RawKind.{RawKind}
 use Rattle.names.specs.Sets.{raw_kind}
 use Rattle.names.specs.Tags.{tag_named}
@@ -34,12 +35,16 @@ AreTexts (tree b (forest.text t) kids rest) = IsUtf8 t × AreTexts kids × AreTe
 AreTexts (tree b (forest.comment t) kids rest) = IsUtf8 t × AreTexts kids × AreTexts rest
 AreTexts (tree b w kids rest) = AreTexts kids × AreTexts rest
 
+-- the characters of the bytes of a fragment
+abbrev pub text_of : List ℕ → List Placed
+text_of bytes = map input.character_of (input.text Keep bytes)
+
 -- The bytes of a fragment, in text of a kind, are read as these tokens.
 pub record AreRead (table : Entities) (kind : RawKind) (bytes : List ℕ) (tokens : List (Token (List ℕ))) : Type 0 where
   pub utf8 : IsUtf8 bytes
   pub toks : List Tok
   pub errors : List ParseError
-  pub read : Tokens table kind (input.text Keep bytes) (length bytes) toks errors
+  pub read : Tokens table kind (text_of bytes) (length bytes) toks errors
   pub are : map taken toks ≡ tokens
 
 -- A plain list as it is written is read as its own tokens.

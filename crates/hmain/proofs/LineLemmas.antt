@@ -1,6 +1,6 @@
 -- What `clap` says of the program's command line.
 use Rattle.std.proofs.Common.{◌≡◌, ◌⊎◌, if◌then◌else◌, Bool, inl, inr, refl, sym, ap, subst, ◌∙◌, List, [], ◌∷◌, true, false, is_some, Result, Ok, Err, IfOk, IfErr, OnOk, MatchResult, Option, None, Some, option_map, option_and_then}
-use Rattle.std.specs.Prelude.{IsSome, find}
+use Rattle.std.specs.Prelude.{IsSome, codes, find}
 use Rattle.std.specs.List.{list_all}
 use Rattle.clap.specs.Words.{HasKind, HasMatchesOf, IsAmong, Row, Shape, Text, app_of, built, fault_of, first_of, first_value, found_of, is_simple, is_simple_and_free, kind_of, rows_of, subcommand_name_of, subcommand_of, subcommand_rows_of, takes}
 use Rattle.clap.specs.Simple.{argument_words, entered, label_of, names_of, rows_at}
@@ -16,7 +16,7 @@ use Rattle.clap.proofs.OnLiterals.{clap_on_literals}
 use Rattle.hrun.specs.Command.{task_named}
 use Rattle.hmain.specs.declared.fault.Fault.TheVariants as fault
 use Rattle.hmain.specs.Fault.{fault_by_kind, fault_of_error}
-use Rattle.hmain.specs.Line.{AreNumbers, FaultOf, NumberFault, Numeric, Says, numeric_options, program, task_of, value_of}
+use Rattle.hmain.specs.Line.{AreGood, AreNumbers, FaultOf, NumberFault, Numeric, OptionFault, Says, bad_bytes_of, numeric_options, program, task_of, value_of}
 use Rattle.hrun.specs.declared.command.Task.{Task}
 use Rattle.hmain.specs.declared.fault.Fault.{Fault}
 use Rattle.hmain.specs.declared.said.Line.{Line}
@@ -96,7 +96,7 @@ module _ (command : Command) (m found : ArgMatches) (name : Text) (words : List 
 -- ---- what the command says
 
 pub said : (r : Result Line Fault) (task given : Option Task) (value read : Text → Option Text) → task ≡ given → value ≡ read
-    → MatchResult r (Says task value) (NumberFault value numeric_options) → IfOk r (Says given read)
+    → MatchResult r (Says task value) (OptionFault value) → IfOk r (Says given read)
 said (Ok line) task given value read same is h = subst (λ t. Says t read line) same (subst (λ v. Says task v line) is h)
 said (Err why) task given value read same is h = tt
 
@@ -106,17 +106,21 @@ anyway (Err why) p = tt
 
 number_fault : (words : List Text) (options : List Numeric) (why : Fault) → fault_of program words ≡ [] → NumberFault (value_of words) numeric_options why → FaultOf words why
 number_fault words options fault.Memory none h = tt
-number_fault words options (fault.Number name least most) none h = (none, h)
+number_fault words options (fault.Number name least most) none h = (none, inl h)
 number_fault words options why none (inl h) = absurd h.1
 number_fault words options why none (inr (h, inl k)) = absurd k.1
 number_fault words options why none (inr (h, inr (k, inl l))) = absurd l.1
 number_fault words options why none (inr (h, inr (k, inr (l, inl m)))) = absurd m.1
 number_fault words options why none (inr (h, inr (k, inr (l, inr (m, n))))) = absurd n
 
+option_fault : (words : List Text) (why : Fault) → fault_of program words ≡ [] → OptionFault (value_of words) why → FaultOf words why
+option_fault words why none (inl h) = number_fault words numeric_options why none h
+option_fault words why none (inr h) = subst (FaultOf words) (sym h.2) (none, inr (h.0, h.1, refl))
+
 pub says_fault : (r : Result Line Fault) (words : List Text) (task : Option Task) (value : Text → Option Text) → fault_of program words ≡ [] → value ≡ value_of words
-    → MatchResult r (Says task value) (NumberFault value numeric_options) → IfErr r (FaultOf words)
+    → MatchResult r (Says task value) (OptionFault value) → IfErr r (FaultOf words)
 says_fault (Ok line) words task value none is h = tt
-says_fault (Err why) words task value none is h = number_fault words numeric_options why none (subst (λ v. NumberFault v numeric_options why) is h)
+says_fault (Err why) words task value none is h = option_fault words why none (subst (λ v. OptionFault v why) is h)
 
 -- where each option is a number there is no such fault
 no_number_fault : (value : Text → Option Text) (options : List Numeric) (why : Fault) → AreNumbers value options → NumberFault value options why → ⊥
@@ -124,8 +128,16 @@ no_number_fault value [] why are h = h
 no_number_fault value (option ∷ options) why (is, are) (inl (none, k)) = none is
 no_number_fault value (option ∷ options) why (is, are) (inr (_, h)) = no_number_fault value options why are h
 
+no_option_fault : (value : Text → Option Text) (why : Fault) → AreGood value → OptionFault value why → ⊥
+no_option_fault value why good (inl h) = no_number_fault value numeric_options why good.0 h
+no_option_fault value why good (inr h) = not_some (bad_bytes_of (value (codes "bad-bytes"))) good.1 h.1
+  where
+    not_some : {A : Type 0} (o : Option A) → IsSome o → o ≡ None → ⊥
+    not_some None some is = absurd cc
+    not_some (Some x) some is = absurd cc
+
 pub no_fault : (r : Result Line Fault) (words : List Text) (task : Option Task) (value : Text → Option Text) → value ≡ value_of words
-    → MatchResult r (Says task value) (NumberFault value numeric_options)
-    → IfErr r (λ f. takes program words ≡ true → AreNumbers (value_of words) numeric_options → f ≡ fault.Memory)
+    → MatchResult r (Says task value) (OptionFault value)
+    → IfErr r (λ f. takes program words ≡ true → AreGood (value_of words) → f ≡ fault.Memory)
 no_fault (Ok line) words task value is h = tt
-no_fault (Err why) words task value is h = λ taken numbers. absurd (no_number_fault (value_of words) numeric_options why numbers (subst (λ v. NumberFault v numeric_options why) is h))
+no_fault (Err why) words task value is h = λ taken good. absurd (no_option_fault (value_of words) why good (subst (λ v. OptionFault v why) is h))

@@ -23,7 +23,7 @@ told_with line table quirks limit limits = record {
   context = name_of line.command.context;
   escaping = line.command.escaping;
   piece = line.command.piece;
-  settings = record { table = table; quirks = quirks; input = limit; limits = limits };
+  settings = record { table = table; quirks = quirks; bad = line.bad_bytes; input = limit; limits = limits };
 }
 
 abbrev limits_from : ℕ → ℕ → Limits
@@ -76,6 +76,7 @@ module _ {R : Type 0} (has_text : R → List ℕ → List ℕ → Type 0) (lacks
         piece = says.piece_is;
         table = table_found table found;
         quirks = quirks_found quirks listed;
+        bad_bytes = says.bad_bytes_is;
         input_limit = refl;
         limits = is ∙ ap₂ limits_from says.nodes_is says.open_is;
         in_range = limits_found are;

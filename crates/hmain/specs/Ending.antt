@@ -30,6 +30,7 @@ abbrev pub fault_line : Fault → Option (List ℕ)
 fault_line fault.Memory = Some (codes "fault: out of memory" ++ 10 ∷ [])
 fault_line fault.CannotRead = Some (codes "fault: cannot read" ++ 10 ∷ [])
 fault_line fault.NotUtf8 = Some (codes "fault: the command line is not UTF-8" ++ 10 ∷ [])
+fault_line fault.BadBytes = Some (codes "fault: --bad-bytes is refuse or replace" ++ 10 ∷ [])
 fault_line fault.NoRandomBytes = Some (codes "fault: no random bytes" ++ 10 ∷ [])
 fault_line (fault.Refused refusal) = Some (refusal_line refusal)
 fault_line _ = None

@@ -1,7 +1,9 @@
 -- The command line of the program, in the words of `clap`, and what its words say.
-use Rattle.std.specs.Prelude.{◌≡◌, ◌⊎◌, ◌^◌, ◌-◌, ℕ, ⊤, true, List, [], ◌∷◌, map, Option, None, Some, option_and_then, option_map, codes, ◌==◌, if◌then◌else◌}
+use Rattle.std.specs.Prelude.{◌≡◌, ◌⊎◌, ◌^◌, ◌-◌, ℕ, ⊤, true, List, [], ◌∷◌, map, Option, None, Some, option_and_then, option_map, bytes_eq, codes, IsSome, ◌==◌, if◌then◌else◌}
 use Rattle.std.specs.Str.Parse.{digits_value, without_leading_plus}
 use Rattle.clap.specs.Words.{App, IsAmong, IsUnsignedIn, Rule, Text, fault_of, first_of, kind_of, new_app, new_rule, subcommand_of, with_rule, with_subcommand}
+use Rattle.htext.specs.declared.BadBytes.{BadBytes}
+use Rattle.htext.specs.declared.BadBytes.TheVariants.{Refuse, Replace}
 use Rattle.hwrite.specs.declared.escaping.Escaping.{Escaping}
 use Rattle.hwrite.specs.declared.escaping.Escaping.TheVariants.{One, Two}
 use Rattle.hrun.specs.Command.{task_named}
@@ -35,7 +37,7 @@ context_rules Fragment = record (option_rule (codes "in")) { required = true } �
 
 -- the options of each command
 abbrev pub each_rules : List Rule
-each_rules = map option_rule (codes "piece" ∷ codes "entities" ∷ codes "quirks" ∷ codes "nodes" ∷ codes "open" ∷ [])
+each_rules = map option_rule (codes "piece" ∷ codes "entities" ∷ codes "quirks" ∷ codes "bad-bytes" ∷ codes "nodes" ∷ codes "open" ∷ [])
 
 abbrev pub with_rules : List Rule → App → App
 with_rules [] app = app
@@ -115,6 +117,11 @@ number_or default (Some text) = number_of text
 abbrev pub escaping_of : ℕ → Escaping
 escaping_of number = if number == 2 then Two else One
 
+-- what becomes of bad bytes, by the value of its option; none where that is neither word
+abbrev pub bad_bytes_of : Option Text → Option BadBytes
+bad_bytes_of None = Some Refuse
+bad_bytes_of (Some word) = if bytes_eq word (codes "refuse") then Some Refuse else (if bytes_eq word (codes "replace") then Some Replace else None)
+
 -- each of these options is a number in its range, where it has a value
 abbrev pub AreNumbers : (Text → Option Text) → List Numeric → Type 0
 AreNumbers value [] = ⊤
@@ -131,6 +138,14 @@ NumberFault value [] why = ⊥
 NumberFault value (option ∷ options) why = ((IsNumber option (value option.name) → ⊥) × IsNumberFault option why)
     ⊎ (IsNumber option (value option.name) × NumberFault value options why)
 
+-- All values are as they should be; or a fault says of the first one that is not.
+abbrev pub AreGood : (Text → Option Text) → Type 0
+AreGood value = AreNumbers value numeric_options × IsSome (bad_bytes_of (value (codes "bad-bytes")))
+
+abbrev pub OptionFault : (Text → Option Text) → Fault → Type 0
+OptionFault value why = NumberFault value numeric_options why
+    ⊎ (AreNumbers value numeric_options × (bad_bytes_of (value (codes "bad-bytes")) ≡ None) × (why ≡ fault.BadBytes))
+
 -- What a line says: the task that a command names, and the values of its options.
 pub record Says (task : Option Task) (value : Text → Option Text) (line : Line) : Type 0 where
   pub task_is : task ≡ Some line.command.task
@@ -140,13 +155,15 @@ pub record Says (task : Option Task) (value : Text → Option Text) (line : Line
   pub piece_is : line.command.piece ≡ number_or 65536 (value (codes "piece"))
   pub entities_is : option_map (λ s. s.now) line.entities ≡ value (codes "entities")
   pub quirks_is : option_map (λ s. s.now) line.quirks ≡ value (codes "quirks")
+  pub bad_bytes_is : bad_bytes_of (value (codes "bad-bytes")) ≡ Some line.bad_bytes
   pub nodes_is : line.nodes ≡ number_or 16777216 (value (codes "nodes"))
   pub open_is : line.open ≡ number_or 1048576 (value (codes "open"))
   pub file_is : option_map (λ s. s.now) line.file ≡ value (codes "file")
 
--- A fault of the words: out of memory, one of the kinds that `clap` defines for them, or an option that is no number in its range.
+-- A fault of the words: out of memory, one of the kinds that `clap` defines for them, or an option whose value is not as it should be.
 abbrev pub FaultOf : List Text → Fault → Type 0
 FaultOf words fault.Memory = ⊤
 FaultOf words (fault.Line error) = IsAmong (kind_of error) (fault_of program words)
-FaultOf words (fault.Number name least most) = (fault_of program words ≡ []) × NumberFault (value_of words) numeric_options (fault.Number name least most)
+FaultOf words (fault.Number name least most) = (fault_of program words ≡ []) × OptionFault (value_of words) (fault.Number name least most)
+FaultOf words fault.BadBytes = (fault_of program words ≡ []) × OptionFault (value_of words) fault.BadBytes
 FaultOf words _ = ⊥

@@ -22,7 +22,7 @@ use Rattle.hrun.specs.Running.{RunsTask}
 use Rattle.hmain.specs.declared.fault.Fault.{Fault}
 use Rattle.hmain.specs.declared.fault.Fault.TheVariants as fault
 use Rattle.hmain.specs.Ending.{ending_text, status_of}
-use Rattle.hmain.specs.Line.{program, task_of, value_of, escaping_of, number_or, numeric_options, AreNumbers, FaultOf}
+use Rattle.hmain.specs.Line.{program, task_of, value_of, escaping_of, number_or, bad_bytes_of, AreGood, FaultOf}
 
 -- what a run of the engine is for the program
 abbrev pub outcome_of : Result (Unit {0}) Refusal → Result (Unit {0}) Fault
@@ -87,6 +87,7 @@ module _ {R : Type 0} (has_text : R → List ℕ → List ℕ → Type 0) (lacks
     pub piece : told.piece ≡ number_or 65536 (value_of words (codes "piece"))
     pub table : FindsTable surroundings (value_of words (codes "entities")) (Ok told.settings.table)
     pub quirks : FindsQuirks surroundings (value_of words (codes "quirks")) (Ok told.settings.quirks)
+    pub bad_bytes : bad_bytes_of (value_of words (codes "bad-bytes")) ≡ Some told.settings.bad
     pub input_limit : told.settings.input ≡ limit
     pub limits : told.settings.limits ≡ limits_of words
     pub in_range : AreLimits (limits_of words).nodes (limits_of words).depth
@@ -121,7 +122,7 @@ module _ {R F : Type 0} (opens : R → List ℕ → F → Type 0) (cannot_open :
         (outcome : Result (Unit {0}) Fault) : Type 0 where
       -- the words are wrong or ask for help; where they are right memory ran out
       words_refused : (why : Fault) → outcome ≡ Err why → FaultOf words why
-          → (takes program words ≡ true → AreNumbers (value_of words) numeric_options → why ≡ fault.Memory) → input' ≡ input → output' ≡ output
+          → (takes program words ≡ true → AreGood (value_of words) → why ≡ fault.Memory) → input' ≡ input → output' ≡ output
           → AnswersWords limit surroundings words input input' output output' outcome
       -- something that they name is not there, or is refused
       words_without : (why : Fault) → FirstFault has_text lacks_text surroundings words why → outcome ≡ Err why → input' ≡ input → output' ≡ output

@@ -101,7 +101,7 @@ static FRAGMENT: [Choice; 1] = [Choice {
 }];
 
 /// The options of each command.
-static EACH: [Choice; 5] = [
+static EACH: [Choice; 6] = [
     Choice {
         name: "piece",
         value: "N",
@@ -118,6 +118,12 @@ static EACH: [Choice; 5] = [
         name: "quirks",
         value: "FILE",
         help: "The list of quirky doctypes [default: an empty list]",
+        required: false,
+    },
+    Choice {
+        name: "bad-bytes",
+        value: "WORD",
+        help: "What becomes of bytes that are not UTF-8: refuse or replace [default: refuse]",
         required: false,
     },
     Choice {

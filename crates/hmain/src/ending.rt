@@ -56,6 +56,7 @@ fn write_fault<W: Target>(target: &mut W, fault: &Fault) -> Result<(), Refusal>
         Fault::Memory => write_part(target, b"fault: out of memory\n"),
         Fault::CannotRead => write_part(target, CANNOT_READ),
         Fault::NotUtf8 => write_part(target, b"fault: the command line is not UTF-8\n"),
+        Fault::BadBytes => write_part(target, b"fault: --bad-bytes is refuse or replace\n"),
         Fault::NoRandomBytes => write_part(target, b"fault: no random bytes\n"),
         Fault::Refused(refusal) => write_refusal(target, *refusal),
         Fault::Line(error) => write!(Text(target), "{error}").or(Err(Refusal::Write)),

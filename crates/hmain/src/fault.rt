@@ -34,6 +34,9 @@ pub enum Fault {
         least: u64,
         most: u64,
     },
+    /// The value of `--bad-bytes` is neither of its words.
+    #[error("--bad-bytes is refuse or replace")]
+    BadBytes,
     /// The input, a list or a limit was refused.
     #[error("{0}")]
     Refused(Refusal),

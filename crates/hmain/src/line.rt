@@ -1,10 +1,10 @@
 //! The command line.
 
-ghost use Rattle.std.specs.Prelude.{◌≡◌, ◌<◌, ◌≤◌, [], true, IfOk, IfErr, OnOk, IsSome, MatchResult};
+ghost use Rattle.std.specs.Prelude.{◌≡◌, ◌<◌, ◌≤◌, [], true, codes, None, Some, IfOk, IfErr, OnOk, IsSome, MatchResult};
 ghost use Rattle.clap.specs.Words.{fault_of, first_value, found_of, takes};
 ghost use Rattle.clap.specs.Walk.{texts};
 ghost use Rattle.hrun.specs.Command.{task_named};
-ghost use Rattle.hmain.specs.Line.{escaping_of, number_or, numeric_options, program, task_of, value_of, AreNumbers, FaultOf, IsNumber, IsNumberFault, NumberFault, Says};
+ghost use Rattle.hmain.specs.Line.{bad_bytes_of, escaping_of, number_or, program, task_of, value_of, AreGood, FaultOf, IsNumber, IsNumberFault, OptionFault, Says};
 ghost use Rattle.hmain.specs.declared.fault.Fault.TheVariants as fault;
 
 use crate::commands::command_line;
@@ -13,6 +13,7 @@ use crate::said::Line;
 use clap::ArgMatches;
 use hbuild::{MAX_DEPTH, MAX_NODES};
 use hrun::{Command, Task};
+use htext::BadBytes;
 use hwrite::Escaping;
 use std::alloc::Global;
 
@@ -27,8 +28,7 @@ pub fn line<'a>(alloc: Global, words: &'a [&'a str]) -> Result<Line<'a>, Fault>
     ensures taken { OnOk result (fault_of program (texts words.entry.now) ≡ []) }
 
     ensures fault { IfErr result (FaultOf (texts words.entry.now)) }
-    ensures memory { IfErr result (λ f. takes program (texts words.entry.now) ≡ true
-        → AreNumbers (value_of (texts words.entry.now)) numeric_options → f ≡ fault.Memory) }
+    ensures memory { IfErr result (λ f. takes program (texts words.entry.now) ≡ true → AreGood (value_of (texts words.entry.now)) → f ≡ fault.Memory) }
 {
     let matches = command_line(alloc)?.try_get_matches_from(words)?;
     let (name, found) = matches.subcommand().unwrap();
@@ -41,7 +41,7 @@ pub fn line<'a>(alloc: Global, words: &'a [&'a str]) -> Result<Line<'a>, Fault>
 fn said<'a>(name: &'a str, found: &ArgMatches<'a>) -> Result<Line<'a>, Fault>
     requires { IsSome (task_named name.now) }
     ensures says { MatchResult result (Says (task_named name.now) (first_value (found_of found.now)))
-        (NumberFault (first_value (found_of found.now)) numeric_options) }
+        (OptionFault (first_value (found_of found.now))) }
     ensures in_range { IfOk result (λ line. (0 < line.command.piece) × (line.command.piece ≤ MOST_PIECE)) }
 {
     let task = Task::named(name).unwrap();
@@ -49,6 +49,7 @@ fn said<'a>(name: &'a str, found: &ArgMatches<'a>) -> Result<Line<'a>, Fault>
     let nodes = number(found, "nodes", 0, u64::MAX, MAX_NODES)?;
     let open = number(found, "open", 0, u64::MAX, MAX_DEPTH)?;
     let escape = number(found, "escape", 1, 2, 1)?;
+    let bad_bytes = bad_bytes(found)?;
     Ok(Line {
         command: Command {
             task,
@@ -58,10 +59,23 @@ fn said<'a>(name: &'a str, found: &ArgMatches<'a>) -> Result<Line<'a>, Fault>
         },
         entities: found.get_str("entities"),
         quirks: found.get_str("quirks"),
+        bad_bytes,
         nodes,
         open,
         file: found.get_str("file"),
     })
+}
+
+/// What becomes of bytes that are not UTF-8, by the value of its option.
+fn bad_bytes(found: &ArgMatches) -> Result<BadBytes, Fault>
+    ensures { MatchResult result (λ bad. bad_bytes_of (first_value (found_of found.now) (codes "bad-bytes")) ≡ Some bad)
+        (λ why. (bad_bytes_of (first_value (found_of found.now) (codes "bad-bytes")) ≡ None) × (why ≡ fault.BadBytes)) }
+{
+    match found.get_str("bad-bytes") {
+        None | Some("refuse") => Ok(BadBytes::Refuse),
+        Some("replace") => Ok(BadBytes::Replace),
+        Some(_) => Err(Fault::BadBytes),
+    }
 }
 
 /// The way of escaping of a number.

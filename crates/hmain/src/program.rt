@@ -109,6 +109,7 @@ fn answer_with<R: Surroundings, S: Source, W: Target>(
     let options = Options {
         table,
         quirks,
+        bad_bytes: line.bad_bytes,
         input_limit: MAX_INPUT,
         limits,
         keys,

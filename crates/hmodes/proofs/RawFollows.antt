@@ -25,7 +25,7 @@ use Rattle.hmodes.specs.Rules.{rule_of, code_of}
 use Rattle.names.specs.declared.error.ErrorCode.TheVariants.{NonVoidHtmlElementStartTagWithTrailingSolidus}
 use Rattle.hmodes.specs.State.{Token, start, Control, State, Flow, Done, Again, Refused, flow_then, flow_map}
 use Rattle.hmodes.specs.Step.{Rule, Chain, ends, refuses, goes_again, drops, goes, begun, finished}
-use Rattle.hmodes.specs.RawFollows.{is_ended, IsLimit, IsInText, ComesToText, RawFollows}
+use Rattle.hmodes.specs.RawFollows.{is_ended, IsLimit, Inserts, at_once, in_first, in_second, in_fostered, RulesInsert, by_rule, by_next, IsInText, ComesToText, RawFollows}
 use Rattle.hmodes.proofs.Mild.{is_mild, Mild, perform-mild}
 use Rattle.hnodes.specs.declared.node.Place.{Place}
 use Rattle.hnodes.specs.Forest.{element}
@@ -165,68 +165,78 @@ module _ {N : Type 0} (n : Naming N) (at : ℕ) (name : N) (attrs : List (Attrib
   abbrev tag_token : Token N
   tag_token = start name attrs closing
 
-  -- what comes of a rule
-  abbrev Leads : Flow N → Type 0
-  Leads (Done s) = IsInText n at name attrs s
-  Leads (Again t s) = (t ≡ tag_token) × IsOutsideText s.control
-  Leads (Refused r) = IsLimit r
+  abbrev Way : Do → State N → State N → Type 0
+  Way p s v = Inserts n at tag_token p s v
 
-  after-mild : (s : State N) (f : Flow N) (g : State N → Flow N) → Mild s f → ((v : State N) → v.control.saved ≡ s.control.saved → Leads (g v)) → Leads (flow_then f g)
-  after-mild s (Done v) g m h = h v m
-  after-mild s (Again t v) g m h = absurd m
-  after-mild s (Refused r) g m h = m
+  abbrev Ways : State N → State N → Type 0
+  Ways s v = RulesInsert n at tag_token s v
 
-  foster-off : (f : Flow N) → Leads f → Leads (flow_map (with_foster false) f)
-  foster-off (Done s) h = record { before = h.before; after = h.after; insertion = h.insertion; trees_are = h.trees_are; current_is = h.current_is; mode_is = h.mode_is }
-  foster-off (Again t s) h = h
-  foster-off (Refused r) h = h
+  -- what comes of a rule, on the way from s0
+  abbrev Leads : State N → Flow N → Type 0
+  Leads s0 (Done s) = IsInText n at name attrs closing s0 s
+  Leads s0 (Again t s) = (t ≡ tag_token) × IsOutsideText s.control
+  Leads s0 (Refused r) = IsLimit r
 
-  raw-leads : (s : State N) → Leads (perform n at tag_token raw s)
-  raw-leads s = go (inserted_here n at name attrs s.site) refl (perform-mild n insert refl at tag_token s)
+  -- .. of a program that stands on that way
+  abbrev LeadsBy : State N → Do → State N → Type 0
+  LeadsBy s0 p s = ((v : State N) → Way p s v → Ways s0 v) → Leads s0 (perform n at tag_token p s)
+
+  after-mild : (s0 s : State N) (f : Flow N) (g : State N → Flow N) → Mild s f → ((v : State N) → f ≡ Done v → v.control.saved ≡ s.control.saved → Leads s0 (g v)) → Leads s0 (flow_then f g)
+  after-mild s0 s (Done v) g m h = h v refl m
+  after-mild s0 s (Again t v) g m h = absurd m
+  after-mild s0 s (Refused r) g m h = m
+
+  foster-off : (s0 : State N) (f : Flow N) → Leads s0 f → Leads s0 (flow_map (with_foster false) f)
+  foster-off s0 (Done s) h = record { before = h.before; way = h.way; after = h.after; insertion = h.insertion; nodes_are = h.nodes_are; current_is = h.current_is; mode_is = h.mode_is }
+  foster-off s0 (Again t s) h = h
+  foster-off s0 (Refused r) h = h
+
+  raw-leads : (s0 s : State N) → LeadsBy s0 raw s
+  raw-leads s0 s on_way = go (inserted_here n at name attrs s.site) refl (perform-mild n insert refl at tag_token s)
     where
-      go : (o : Outcome (SiteOf N)) → inserted_here n at name attrs s.site ≡ o → Mild s (flow_of s o) → Leads (flow_then (flow_of s o) (perform n at tag_token (save_mode ▸ to Text)))
-      go (Goes x) is m = record { before = s.site; after = x; insertion = is; trees_are = refl; current_is = refl; mode_is = refl }
+      go : (o : Outcome (SiteOf N)) → inserted_here n at name attrs s.site ≡ o → Mild s (flow_of s o) → Leads s0 (flow_then (flow_of s o) (perform n at tag_token (save_mode ▸ to Text)))
+      go (Goes x) is m = record { before = s; way = on_way s (in_first at_once); after = x; insertion = is; nodes_are = refl; current_is = refl; mode_is = refl }
       go (site.Refused r) is m = m
 
-  raw-drops : (s : State N) → Leads (perform n at tag_token (raw ▸ drop_lf) s)
-  raw-drops s = go (perform n at tag_token raw s) (raw-leads s)
+  raw-drops : (s0 s : State N) → LeadsBy s0 (raw ▸ drop_lf) s
+  raw-drops s0 s on_way = go (perform n at tag_token raw s) (raw-leads s0 s (λ v w. on_way v (in_first w)))
     where
-      go : (f : Flow N) → Leads f → Leads (flow_then f (perform n at tag_token drop_lf))
-      go (Done v) h = record { before = h.before; after = h.after; insertion = h.insertion; trees_are = h.trees_are; current_is = h.current_is; mode_is = h.mode_is }
+      go : (f : Flow N) → Leads s0 f → Leads s0 (flow_then f (perform n at tag_token drop_lf))
+      go (Done v) h = record { before = h.before; way = h.way; after = h.after; insertion = h.insertion; nodes_are = h.nodes_are; current_is = h.current_is; mode_is = h.mode_is }
       go (Again t v) h = h
       go (Refused r) h = h
 
-  goes-leads : (m : Mode) → is_outside m ≡ true → (s : State N) → Leads (perform n at tag_token (to m ▸ again) s)
-  goes-leads m out s = (refl, record { mode = not-text m out; saved = λ e. absurd (not-table m out e) })
+  goes-leads : (m : Mode) → is_outside m ≡ true → (s0 s : State N) → LeadsBy s0 (to m ▸ again) s
+  goes-leads m out s0 s on_way = (refl, record { mode = not-text m out; saved = λ e. absurd (not-table m out e) })
 
   -- one after another, where what comes after leads
-  then-leads : (p q : Do) (s : State N) → leads (p ▸ q) ≡ true → (leads q ≡ true → (v : State N) → Leads (perform n at tag_token q v)) → Leads (perform n at tag_token (p ▸ q) s)
-  then-leads p q s e more = go (either (is_raw (p ▸ q)) ((is_raw p && keeps_text q) || (goes_outside p q || (is_mild p && leads q))) e)
+  then-leads : (p q : Do) (s0 s : State N) → leads (p ▸ q) ≡ true → (leads q ≡ true → (v : State N) → LeadsBy s0 q v) → LeadsBy s0 (p ▸ q) s
+  then-leads p q s0 s e more = go (either (is_raw (p ▸ q)) ((is_raw p && keeps_text q) || (goes_outside p q || (is_mild p && leads q))) e)
     where
-      third : (goes_outside p q ≡ true) ⊎ ((is_mild p && leads q) ≡ true) → Leads (perform n at tag_token (p ▸ q) s)
+      third : (goes_outside p q ≡ true) ⊎ ((is_mild p && leads q) ≡ true) → LeadsBy s0 (p ▸ q) s
       third (inl h) =
           let g = goes-is p q h in
-          subst (λ (x : Do). Leads (perform n at tag_token (x ▸ q) s)) (sym g.first)
-          (subst (λ (y : Do). Leads (perform n at tag_token (to g.mode ▸ y) s)) (sym g.then) (goes-leads g.mode g.outside s))
-      third (inr h) =
+          subst (λ (x : Do). LeadsBy s0 (x ▸ q) s) (sym g.first)
+          (subst (λ (y : Do). LeadsBy s0 (to g.mode ▸ y) s) (sym g.then) (goes-leads g.mode g.outside s0 s))
+      third (inr h) = λ on_way.
           let parts = both (is_mild p) (leads q) h in
-          after-mild s (perform n at tag_token p s) (perform n at tag_token q) (perform-mild n p parts.0 at tag_token s) (λ v same. more parts.1 v)
+          after-mild s0 s (perform n at tag_token p s) (perform n at tag_token q) (perform-mild n p parts.0 at tag_token s) (λ v is same. more parts.1 v (λ u w. on_way u (in_second is w)))
 
-      second : ((is_raw p && keeps_text q) ≡ true) ⊎ ((goes_outside p q || (is_mild p && leads q)) ≡ true) → Leads (perform n at tag_token (p ▸ q) s)
+      second : ((is_raw p && keeps_text q) ≡ true) ⊎ ((goes_outside p q || (is_mild p && leads q)) ≡ true) → LeadsBy s0 (p ▸ q) s
       second (inl h) =
           let parts = both (is_raw p) (keeps_text q) h in
-          subst (λ (x : Do). Leads (perform n at tag_token (x ▸ q) s)) (sym (raw-is p parts.0))
-          (subst (λ (y : Do). Leads (perform n at tag_token (raw ▸ y) s)) (sym (drop-is q parts.1)) (raw-drops s))
+          subst (λ (x : Do). LeadsBy s0 (x ▸ q) s) (sym (raw-is p parts.0))
+          (subst (λ (y : Do). LeadsBy s0 (raw ▸ y) s) (sym (drop-is q parts.1)) (raw-drops s0 s))
       second (inr h) = third (either (goes_outside p q) (is_mild p && leads q) h)
 
-      go : (is_raw (p ▸ q) ≡ true) ⊎ (((is_raw p && keeps_text q) || (goes_outside p q || (is_mild p && leads q))) ≡ true) → Leads (perform n at tag_token (p ▸ q) s)
-      go (inl h) = subst (λ (x : Do). Leads (perform n at tag_token x s)) (sym (raw-is (p ▸ q) h)) (raw-leads s)
+      go : (is_raw (p ▸ q) ≡ true) ⊎ (((is_raw p && keeps_text q) || (goes_outside p q || (is_mild p && leads q))) ≡ true) → LeadsBy s0 (p ▸ q) s
+      go (inl h) = subst (λ (x : Do). LeadsBy s0 x s) (sym (raw-is (p ▸ q) h)) (raw-leads s0 s)
       go (inr h) = second (either (is_raw p && keeps_text q) (goes_outside p q || (is_mild p && leads q)) h)
 
-  perform-leads : (p : Do) → leads p ≡ true → (s : State N) → Leads (perform n at tag_token p s)
-  perform-leads (p ▸ q) e s = then-leads p q s e (λ h v. perform-leads q h v)
-  perform-leads (fostered p) e s = foster-off (perform n at tag_token p (with_foster true s)) (perform-leads p e (with_foster true s))
-  perform-leads _ e s = never e
+  perform-leads : (p : Do) → leads p ≡ true → (s0 s : State N) → LeadsBy s0 p s
+  perform-leads (p ▸ q) e s0 s = then-leads p q s0 s e (λ h v. perform-leads q h s0 v)
+  perform-leads (fostered p) e s0 s = λ on_way. foster-off s0 (perform n at tag_token p (with_foster true s)) (perform-leads p e s0 (with_foster true s) (λ v w. on_way v (in_fostered w)))
+  perform-leads _ e s0 s = never e
 
   -- what an insertion leaves on the stack
   inserted-top : (p : Place) (x : SiteOf N) → OnGoes (λ y. stack y ≡ record { node = x.nodes.made; name = name } ∷ stack x) (inserted at name attrs p x)
@@ -249,23 +259,24 @@ module _ {N : Type 0} (n : Naming N) (at : ℕ) (name : N) (attrs : List (Attrib
   head-leaves None made up y below top = refl
   head-leaves (Some h) made up y below top = rw (top, ne_eqb made h (λ e. let less = below h refl in omega (arith, less, e))) refl
 
-  late-inserted : (v : State N) → ((h : ℕ) → v.control.head ≡ Some h → h < v.site.nodes.made) → Leads (perform n at tag_token (raw ▸ remove_head) v)
-  late-inserted v below = go (inserted_here n at name attrs v.site) refl (inserted-top (place n v.site) v.site) (perform-mild n insert refl at tag_token v)
+  late-inserted : (s0 v : State N) → ((h : ℕ) → v.control.head ≡ Some h → h < v.site.nodes.made) → LeadsBy s0 (raw ▸ remove_head) v
+  late-inserted s0 v below on_way = go (inserted_here n at name attrs v.site) refl (inserted-top (place n v.site) v.site) (perform-mild n insert refl at tag_token v)
     where
       go : (o : Outcome (SiteOf N)) → inserted_here n at name attrs v.site ≡ o → OnGoes (λ y. stack y ≡ record { node = v.site.nodes.made; name = name } ∷ stack v.site) o → Mild v (flow_of v o)
-          → Leads (flow_then (flow_then (flow_of v o) (perform n at tag_token (save_mode ▸ to Text))) (perform n at tag_token remove_head))
+          → Leads s0 (flow_then (flow_then (flow_of v o) (perform n at tag_token (save_mode ▸ to Text))) (perform n at tag_token remove_head))
       go (Goes y) is top m = record {
-        before = v.site;
+        before = v;
+        way = on_way v (in_first (in_first at_once));
         after = y;
         insertion = is;
-        trees_are = refl;
+        nodes_are = refl;
         current_is = head-leaves v.control.head v.site.nodes.made (stack v.site) y below top;
         mode_is = refl;
       }
       go (site.Refused r) is top m = m
 
-  late-leads : (s : State N) → ((h : ℕ) → s.control.head ≡ Some h → h < s.site.nodes.made) → Leads (perform n at tag_token (late raw) s)
-  late-leads s below = go (head_pushed n at s.control.head erred.site) (pushed-same s.control.head) (perform-mild n push_head refl at tag_token erred)
+  late-leads : (s0 s : State N) → ((h : ℕ) → s.control.head ≡ Some h → h < s.site.nodes.made) → LeadsBy s0 (late raw) s
+  late-leads s0 s below on_way = go (head_pushed n at s.control.head erred.site) refl (pushed-same s.control.head) (perform-mild n push_head refl at tag_token erred)
     where
       erred : State N
       erred = with_site (with_error (code_of AfterHead) at s.site) s
@@ -278,71 +289,76 @@ module _ {N : Type 0} (n : Naming N) (at : ℕ) (name : N) (attrs : List (Attrib
           room true = tt
           room false = refl
 
-      go : (o : Outcome (SiteOf N)) → OnGoes (λ x. x.nodes ≡ s.site.nodes) o → Mild erred (flow_of erred o) → Leads (flow_then (flow_of erred o) (perform n at tag_token (raw ▸ remove_head)))
-      go (Goes x) same m = late-inserted (with_site x erred) (λ h e. rw same (below h e))
-      go (site.Refused r) same m = m
+      go : (o : Outcome (SiteOf N)) → head_pushed n at s.control.head erred.site ≡ o → OnGoes (λ x. x.nodes ≡ s.site.nodes) o → Mild erred (flow_of erred o) → Leads s0 (flow_then (flow_of erred o) (perform n at tag_token (raw ▸ remove_head)))
+      go (Goes x) is same m = late-inserted s0 (with_site x erred) (λ h e. rw same (below h e)) (λ v w. on_way v (in_second refl (in_second (ap (flow_of erred) is) w)))
+      go (site.Refused r) is same m = m
 
-  after-head-leads : (f : Family) → is_raw_family f ≡ true → (s : State N) → ((h : ℕ) → s.control.head ≡ Some h → h < s.site.nodes.made) → Leads (perform n at tag_token (after_head (Start f)) s)
+  after-head-leads : (f : Family) → is_raw_family f ≡ true → (s0 s : State N) → ((h : ℕ) → s.control.head ≡ Some h → h < s.site.nodes.made) → LeadsBy s0 (after_head (Start f)) s
   after-head-leads Title e = late-leads
   after-head-leads Noframes e = late-leads
   after-head-leads Style e = late-leads
   after-head-leads Script e = late-leads
-  after-head-leads Textarea e = λ s below. perform-leads (after_head (Start Textarea)) refl s
-  after-head-leads Xmp e = λ s below. perform-leads (after_head (Start Xmp)) refl s
-  after-head-leads Iframe e = λ s below. perform-leads (after_head (Start Iframe)) refl s
+  after-head-leads Textarea e = λ s0 s below. perform-leads (after_head (Start Textarea)) refl s0 s
+  after-head-leads Xmp e = λ s0 s below. perform-leads (after_head (Start Xmp)) refl s0 s
+  after-head-leads Iframe e = λ s0 s below. perform-leads (after_head (Start Iframe)) refl s0 s
   after-head-leads _ e = never e
 
-  table-text-leads : (f : Family) (s : State N) → s.control.saved ≢ Text → Leads (perform n at tag_token (in_table_text (Start f)) s)
-  table-text-leads f s out =
-      after-mild s (perform n at tag_token (choose pending_is_ws (each_pending put) (each_pending (other_in_table Char))) s) (perform n at tag_token (to_saved ▸ again))
+  table-text-leads : (f : Family) (s0 s : State N) → s.control.saved ≢ Text → LeadsBy s0 (in_table_text (Start f)) s
+  table-text-leads f s0 s out on_way =
+      after-mild s0 s (perform n at tag_token (choose pending_is_ws (each_pending put) (each_pending (other_in_table Char))) s) (perform n at tag_token (to_saved ▸ again))
       (perform-mild n (choose pending_is_ws (each_pending put) (each_pending (other_in_table Char))) refl at tag_token s)
-      (λ v same. (refl, record { mode = λ e. out (sym same ∙ e); saved = λ i e. out (sym same ∙ e) }))
+      (λ v is same. (refl, record { mode = λ e. out (sym same ∙ e); saved = λ i e. out (sym same ∙ e) }))
 
-  rule-leads : (s : State N) → IsOutsideText s.control → (s.control.mode ≡ AfterHead → (h : ℕ) → s.control.head ≡ Some h → h < s.site.nodes.made) → is_ended (raw_kind (n.tag name)) ≡ true
-      → Leads (Rule n at tag_token s)
-  rule-leads s out below ended = go s.control.mode refl
+  rule-leads : (s0 s : State N) → IsOutsideText s.control → (s.control.mode ≡ AfterHead → (h : ℕ) → s.control.head ≡ Some h → h < s.site.nodes.made) → is_ended (raw_kind (n.tag name)) ≡ true
+      → ((v : State N) → Ways s v → Ways s0 v) → Leads s0 (Rule n at tag_token s)
+  rule-leads s0 s out below ended on_way = by_mode s.control.mode refl (λ v w. on_way v (by_rule w))
     where
       family_is : is_raw_family (family_of (n.tag name)) ≡ true
       family_is = raw-family (n.tag name) ended
 
-      ruled : (m : Mode) → is_ruled m ≡ true → Leads (perform n at tag_token (rule_of m (Start (family_of (n.tag name)))) s)
-      ruled m e = perform-leads (rule_of m (Start (family_of (n.tag name)))) (for-one (λ f. leads (rule_of m (Start f))) (family_of (n.tag name)) (ruled-leads m e) family_is) s
+      ruled : (m : Mode) → is_ruled m ≡ true → LeadsBy s0 (rule_of m (Start (family_of (n.tag name)))) s
+      ruled m e = perform-leads (rule_of m (Start (family_of (n.tag name)))) (for-one (λ f. leads (rule_of m (Start f))) (family_of (n.tag name)) (ruled-leads m e) family_is) s0 s
 
-      go : (m : Mode) → s.control.mode ≡ m → Leads (perform n at tag_token (rule_of m (Start (family_of (n.tag name)))) s)
-      go Text is = absurd (out.mode is)
-      go InTableText is = table-text-leads (family_of (n.tag name)) s (out.saved is)
-      go AfterHead is = after-head-leads (family_of (n.tag name)) family_is s (below is)
-      go m is = ruled m refl
+      by_mode : (m : Mode) → s.control.mode ≡ m → LeadsBy s0 (rule_of m (Start (family_of (n.tag name)))) s
+      by_mode Text is = absurd (out.mode is)
+      by_mode InTableText is = table-text-leads (family_of (n.tag name)) s0 s (out.saved is)
+      by_mode AfterHead is = after-head-leads (family_of (n.tag name)) family_is s0 s (below is)
+      by_mode m is = ruled m refl
 
 module _ {N : Type 0} (n : Naming N) (tells : Tells n) (at : ℕ) (name : N) (attrs : List (Attribute N)) (closing : Bool) (ended : is_ended (raw_kind (n.tag name)) ≡ true) where
-  finished-text : (s : State N) → IsInText n at name attrs s → IsInText n at name attrs (finished at (start name attrs closing) s)
-  finished-text s h = go (closing && not s.control.acknowledged)
+  finished-text : (s0 s : State N) → IsInText n at name attrs closing s0 s → IsInText n at name attrs closing s0 (finished at (start name attrs closing) s)
+  finished-text s0 s h = go (closing && not s.control.acknowledged)
     where
-      go : (v : Bool) → IsInText n at name attrs (cond v (with_site (with_error NonVoidHtmlElementStartTagWithTrailingSolidus at s.site) s) s)
-      go true = record { before = h.before; after = h.after; insertion = h.insertion; trees_are = h.trees_are; current_is = h.current_is; mode_is = h.mode_is }
+      go : (v : Bool) → IsInText n at name attrs closing s0 (cond v (with_site (with_error NonVoidHtmlElementStartTagWithTrailingSolidus at s.site) s) s)
+      go true = record { before = h.before; way = h.way; after = h.after; insertion = h.insertion; nodes_are = h.nodes_are; current_is = h.current_is; mode_is = h.mode_is }
       go false = h
 
   -- the head pointer's node was made
   head-below : (s : State N) → Orderly n s → s.control.mode ≡ AfterHead → (h : ℕ) → s.control.head ≡ Some h → h < s.site.nodes.made
   head-below s g is h e = (subst (λ (p : Option ℕ). IfSome p (λ k. (0 < k) × (k < s.site.nodes.made))) e (orderly-head n s g is)).1
 
-  one-rule : (t : Token N) (s : State N) (f : Flow N) → t ≡ start name attrs closing → Orderly n s → IsOutsideText s.control → Rule n at t s ≡ f → Leads n at name attrs closing f
-  one-rule t s f same g out rule = subst (Leads n at name attrs closing) (ap (λ u. Rule n at u s) (sym same) ∙ rule) (rule-leads n at name attrs closing s out (head-below s g) ended)
+  -- the rules from s on stand on the way from s0
+  abbrev OnWay : State N → State N → Type 0
+  OnWay s0 s = (v : State N) → RulesInsert n at (start name attrs closing) s v → RulesInsert n at (start name attrs closing) s0 v
 
-  chain-leads : (t : Token N) (s : State N) (o : Outcome (State N)) → t ≡ start name attrs closing → Orderly n s → IsOutsideText s.control → Chain n at t s o → ComesToText n at name attrs o
-  chain-leads t s o same g out (ends {s' = s'} rule) =
-      subst (λ (u : Token N). IsInText n at name attrs (finished at u s')) (sym same) (finished-text s' (one-rule t s (Done s') same g out rule))
-  chain-leads t s o same g out (refuses {r = r} rule) = one-rule t s (Refused r) same g out rule
-  chain-leads t s o same g out (goes_again {t' = t'} {s' = s'} rule rest) =
-      let next = one-rule t s (Again t' s') same g out rule in
-      chain-leads t' s' o next.0 (again-orderly n tells at t t' s s' g rule) next.1 rest
+  one-rule : (t : Token N) (s0 s : State N) (f : Flow N) → t ≡ start name attrs closing → Orderly n s → IsOutsideText s.control → OnWay s0 s → Rule n at t s ≡ f → Leads n at name attrs closing s0 f
+  one-rule t s0 s f same g out on_way rule = subst (Leads n at name attrs closing s0) (ap (λ u. Rule n at u s) (sym same) ∙ rule) (rule-leads n at name attrs closing s0 s out (head-below s g) ended on_way)
+
+  chain-leads : (t : Token N) (s0 s : State N) (o : Outcome (State N)) → t ≡ start name attrs closing → Orderly n s → IsOutsideText s.control → OnWay s0 s → Chain n at t s o → ComesToText n at name attrs closing s0 o
+  chain-leads t s0 s o same g out on_way (ends {s' = s'} rule) =
+      subst (λ (u : Token N). IsInText n at name attrs closing s0 (finished at u s')) (sym same) (finished-text s0 s' (one-rule t s0 s (Done s') same g out on_way rule))
+  chain-leads t s0 s o same g out on_way (refuses {r = r} rule) = one-rule t s0 s (Refused r) same g out on_way rule
+  chain-leads t s0 s o same g out on_way (goes_again {t' = t'} {s' = s'} rule rest) =
+      let next = one-rule t s0 s (Again t' s') same g out on_way rule in
+      let again_is : Rule n at (start name attrs closing) s ≡ Again (start name attrs closing) s' = ap (λ u. Rule n at u s) (sym same) ∙ rule ∙ ap (λ u. Again u s') next.0 in
+      chain-leads t' s0 s' o next.0 (again-orderly n tells at t t' s s' g rule) next.1 (λ v w. on_way v (by_next again_is w)) rest
 
 module _ {N : Type 0} (n : Naming N) (tells : Tells n) where
   pub raw-follows : RawFollows n
   raw-follows s reached out at name attrs closing o ended (drops is) = cc
   raw-follows s reached out at name attrs closing o ended (goes isnt rest) =
       let g = reached-orderly n tells s reached in
-      chain-leads n tells at name attrs closing ended (start name attrs closing) (begun s) o refl (orderly-begins n s g) (record { mode = out; saved = λ i. outside s g i }) rest
+      chain-leads n tells at name attrs closing ended (start name attrs closing) (begun s) (begun s) o refl (orderly-begins n s g) (record { mode = out; saved = λ i. outside s g i }) (λ v w. w) rest
     where
       outside : (s : State N) → Orderly n s → s.control.mode ≡ InTableText → s.control.saved ≢ Text
       outside s g i e = let late = g.sound (ap is_texty i) in let clash = sym late ∙ ap is_texty e in cc

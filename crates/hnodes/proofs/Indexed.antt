@@ -1,10 +1,13 @@
 -- Where a number stands last in a list of numbers, and whether an attribute of a name is there.
-use Rattle.std.proofs.Common.{◌≡◌, ℕ, zero, suc, ◌==◌, ◌||◌, Bool, true, false, cond, ltb, nat_eq, List, [], ◌∷◌, length, map, get_or, refl, sym, ◌∙◌, ap, arith}
+use Rattle.std.proofs.Common.{◌≡◌, ℕ, zero, suc, ◌-◌, ◌<◌, ◌≤◌, ◌==◌, ◌||◌, Bool, true, false, cond, ltb, nat_eq, List, [], ◌∷◌, length, length-drop, map, get_or, take, drop, refl, sym, ◌∙◌, ap, arith}
 use Rattle.std.proofs.Math.Dec.{eqb-suc-suc}
-use Rattle.std.proofs.lemmas.Bool.{lt-ltb}
+use Rattle.std.proofs.lemmas.Bool.{lt-ltb, le-ltb}
+use Rattle.std.proofs.lemmas.List.{length-map, length-take, map-append, take_all, take-append-drop}
+use Rattle.std.proofs.lemmas.List.Folds.{list_any-append}
 use Rattle.std.specs.List.{list_any}
 use Rattle.names.specs.declared.attr.Attr.{Attr}
 use Rattle.hchain.specs.Chains.{last_up}
+use Rattle.hnodes.specs.Forest.{Attribute}
 use Rattle.hnodes.specs.Numbered.{numbers_of}
 use Rattle.hnodes.specs.Rows.{attribute_of}
 
@@ -46,3 +49,36 @@ searched-is name (a ∷ attrs) = ap (λ b. nat_eq a.name name || b) (searched-is
 pub named-is : (names : List ℕ) (attrs : List Attr) (number name : ℕ) → names ≡ numbers_of attrs → number ≡ suc (suc name)
     → ltb 0 (last_up (λ k. k == number) names (length names)) ≡ list_any (λ a. nat_eq a.0 name) (map attribute_of attrs)
 named-is names attrs number name same is = (λ i. ltb 0 (last_up (λ k. k == is i) (same i) (length (same i)))) ∙ last-any (λ k. k == suc (suc name)) (numbers_of attrs) ∙ any-named name attrs
+
+-- no more are indexed than there are
+pub within : (names : List ℕ) (attrs : List Attr) → names ≡ numbers_of (take (length names) attrs) → length names ≤ length attrs
+within names attrs first = omega (arith, ap length first, length-map (take (length names) attrs) (λ (a : Attr). suc (suc a.name)), length-take (length names) attrs)
+
+-- an attribute of a name is among the first or the rest
+found-is : (names : List ℕ) (attrs : List Attr) (number name : ℕ) → names ≡ numbers_of (take (length names) attrs) → number ≡ suc (suc name)
+    → (ltb 0 (last_up (λ k. k == number) names (length names)) || list_any (λ (a : Attr). nat_eq a.name name) (take (length attrs - length names) (drop (length names) attrs)))
+    ≡ list_any (λ a. nat_eq a.0 name) (map attribute_of attrs)
+found-is names attrs number name first is =
+    (λ i. named-is names front number name first is i
+    || (ap (list_any (λ (a : Attr). nat_eq a.name name)) (take_all (length attrs - length names) rest (omega (arith, length-drop (length names) attrs))) ∙ searched-is name rest) i)
+    ∙ sym (list_any-append (λ (a : Attribute ℕ). nat_eq a.0 name) (map attribute_of front) (map attribute_of rest)) ∙ ap (list_any (λ a. nat_eq a.0 name)) (sym (map-append attribute_of front rest))
+    ∙ ap (λ (l : List Attr). list_any (λ a. nat_eq a.0 name) (map attribute_of l)) (take-append-drop (length names) attrs)
+  where
+    front : List Attr
+    front = take (length names) attrs
+
+    rest : List Attr
+    rest = drop (length names) attrs
+
+pub found_first : (names : List ℕ) (attrs : List Attr) (number name last : ℕ) → names ≡ numbers_of (take (length names) attrs) → number ≡ suc (suc name) → last ≡ last_up (λ k. k == number) names (length names) → 0 < last
+    → ltb 0 last ≡ list_any (λ a. nat_eq a.0 name) (map attribute_of attrs)
+found_first names attrs number name last first is at some =
+    let yes : ltb 0 last ≡ true = lt-ltb 0 last some in
+    yes ∙ (λ i. (sym yes ∙ ap (ltb 0) at) i || list_any (λ (a : Attr). nat_eq a.name name) (take (length attrs - length names) (drop (length names) attrs))) ∙ found-is names attrs number name first is
+
+pub found_rest : (names : List ℕ) (attrs lent : List Attr) (number name last len : ℕ) (u : Bool) → names ≡ numbers_of (take (length names) attrs) → number ≡ suc (suc name) → last ≡ last_up (λ k. k == number) names (length names) → last ≤ 0
+    → lent ≡ attrs → len ≡ length names → u ≡ list_any (λ (a : Attr). nat_eq a.name name) (take (length lent - len) (drop len lent)) → u ≡ list_any (λ a. nat_eq a.0 name) (map attribute_of attrs)
+found_rest names attrs lent number name last len u first is at none same long test =
+    test ∙ (λ i. list_any (λ (a : Attr). nat_eq a.name name) (take (length (same i) - long i) (drop (long i) (same i))))
+    ∙ ap (λ v. v || list_any (λ (a : Attr). nat_eq a.name name) (take (length attrs - length names) (drop (length names) attrs))) (sym (le-ltb 0 last none) ∙ ap (ltb 0) at)
+    ∙ found-is names attrs number name first is

@@ -13,6 +13,7 @@ pub mod Relinks
 pub mod Makes
 pub mod Contents
 pub mod Indexed
+pub mod Differing
 pub mod Opened
 pub mod Whats
 pub mod Spots

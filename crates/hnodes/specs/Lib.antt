@@ -3,6 +3,7 @@ pub mod Spots
 pub mod Passed
 pub mod Edits
 pub mod Attributes
+pub mod Differing
 pub mod Makes
 pub mod Spelled
 pub mod Links

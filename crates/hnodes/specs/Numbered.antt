@@ -1,9 +1,13 @@
 -- Attributes, and the numbers of their names: a name has the number that is greater by two, since 1 stands where nothing is.
-use Rattle.std.specs.Prelude.{◌≡◌, ℕ, suc, List, map}
+use Rattle.std.specs.Prelude.{◌≡◌, ℕ, suc, List, length, map, nat_eq, take}
+use Rattle.hnodes.specs.Differing.{names_differ}
 use Rattle.hnodes.specs.Forest.{Attribute}
 use Rattle.hnodes.specs.Rows.{attribute_of}
 use Rattle.names.specs.declared.attr.Attr.{Attr}
 use Rattle.hnodes.specs.declared.attributes.Indexed.TheInside.{Inside}
+
+abbrev pub names_of : List Attr → List ℕ
+names_of attrs = map (λ a. a.name) attrs
 
 abbrev pub numbers_of : List Attr → List ℕ
 numbers_of attrs = map (λ a. suc (suc a.name)) attrs
@@ -11,6 +15,7 @@ numbers_of attrs = map (λ a. suc (suc a.name)) attrs
 abbrev pub attributes_in : Inside → List (Attribute ℕ)
 attributes_in x = map attribute_of x.attrs.items
 
--- the numbers are those of the attributes, in their order
-abbrev pub AreNumbered : Inside → Type 0
-AreNumbered x = x.names ≡ numbers_of x.attrs.items
+-- the numbers are those of the first attributes
+pub record AreNumbered (x : Inside) : Type 0 where
+  pub first : x.names ≡ numbers_of (take (length x.names) x.attrs.items)
+  pub differ : x.differ ≡ names_differ nat_eq (attributes_in x)

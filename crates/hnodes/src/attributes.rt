@@ -1,8 +1,10 @@
-//! The attributes of an element that gets many.
+//! The attributes of an element that has many.
 
-ghost use Rattle.std.specs.Prelude.{◌≡◌, ◌++◌, ◌∷◌, [], suc, map, nat_eq, OnOk, OnErr, IfOk};
+ghost use Rattle.std.specs.Prelude.{◌≡◌, ◌↔◌, ◌&&◌, ◌++◌, ◌∷◌, [], suc, length, map, nat_eq, not, take, OnOk, OnErr, IfOk, IsTrue};
 ghost use Rattle.std.specs.List.{list_any};
-ghost use Rattle.hnodes.specs.Numbered.{numbers_of};
+ghost use Rattle.std.specs.List.Sorted.{IsNonDecreasing, IsPermutation, IsStrictlyIncreasing};
+ghost use Rattle.hnodes.specs.Differing.{names_differ};
+ghost use Rattle.hnodes.specs.Numbered.{names_of, numbers_of};
 ghost use Rattle.hnodes.specs.Rows.{attribute_of};
 
 use hchain::Chains;
@@ -11,11 +13,13 @@ use std::alloc::{AllocError, Global};
 use std::marker::Model;
 use std::mem;
 
-/// Attributes, and the numbers of their names, by which one is found in about constant time.
+/// Attributes, whether their names differ, and the numbers of the names of the first of them, by which one is found in about
+/// constant time. The names that came since are taken into the index before the next attribute is sought.
 #[derive(Drop)]
 pub(crate) struct Indexed {
     attrs: Vec<Attr>,
     names: Chains,
+    differ: bool,
 }
 
 impl Model for Indexed {
@@ -48,15 +52,64 @@ pub(crate) fn has_name(attrs: &[Attr], name: NameId) -> bool
     attrs.iter().any(|attr| attr.name == name)
 }
 
+/// Adds the numbers of the names of attributes to those of the first of them.
+fn index_more(names: &mut Chains, attrs: &[Attr]) -> Result<(), AllocError>
+    requires { names.old ≡ numbers_of (take (length names.old) attrs.now) }
+    ensures all { OnOk result (names.new ≡ numbers_of attrs.now) }
+    ensures first { names.new ≡ numbers_of (take (length names.new) attrs.now) }
+{
+    for index in names.len()..attrs.len() {
+        names.push(name_number(attrs[index].name))?;
+    }
+    Ok(())
+}
+
 /// The numbers of the names of attributes, in order, by which those of a name are found.
 pub fn index_attrs(attrs: &[Attr], alloc: Global) -> Result<Chains, AllocError>
     ensures { IfOk result (λ names. names ≡ numbers_of attrs.now) }
 {
     let mut names = Chains::new(alloc);
-    for attr in attrs {
-        names.push(name_number(attr.name))?;
-    }
+    index_more(&mut names, attrs)?;
     Ok(names)
+}
+
+/// Whether the names of a few attributes differ. Compares each with all that follow it.
+pub(crate) fn few_differ(attrs: &[Attr]) -> bool
+    ensures { result ≡ names_differ nat_eq (map attribute_of attrs.now) }
+{
+    for (index, attr) in attrs.iter().enumerate() {
+        if has_name(&attrs[index + 1..], attr.name) {
+            return false;
+        }
+    }
+    true
+}
+
+/// The names of attributes in ascending order.
+fn ordered_names(attrs: &[Attr], alloc: Global) -> Result<Vec<usize>, AllocError>
+    ensures permutation { IfOk result (λ names. IsPermutation (names_of attrs.now) names.items) }
+    ensures order { IfOk result (λ names. IsNonDecreasing names.items) }
+{
+    let mut names = Vec::new(alloc);
+    for attr in attrs {
+        names.push(attr.name.index())?;
+    }
+    names.sort_unstable();
+    Ok(names)
+}
+
+/// Whether each number is less than the next.
+fn rise(numbers: &[usize]) -> bool
+    ensures { IsTrue result ↔ IsStrictlyIncreasing numbers.now }
+{
+    numbers.is_sorted_by(|number, next| number < next)
+}
+
+/// Whether the names of attributes differ. Sorts them.
+fn many_differ(attrs: &[Attr], alloc: Global) -> Result<bool, AllocError>
+    ensures { IfOk result (λ differ. differ ≡ names_differ nat_eq (map attribute_of attrs.now)) }
+{
+    Ok(rise(&ordered_names(attrs, alloc)?))
 }
 
 impl Indexed {
@@ -67,6 +120,7 @@ impl Indexed {
         Indexed {
             attrs: Vec::new(alloc),
             names: Chains::new(alloc),
+            differ: true,
         }
     }
 
@@ -75,7 +129,8 @@ impl Indexed {
         ensures ok { OnOk result (self.new ≡ map attribute_of attrs.old.items) }
         ensures err { OnErr result (attrs.new.items ≡ attrs.old.items) }
     {
-        self.names = index_attrs(attrs, alloc)?;
+        self.differ = many_differ(attrs, alloc)?;
+        self.names = Chains::new(alloc);
         self.attrs = mem::replace(attrs, Vec::new(alloc));
         Ok(())
     }
@@ -87,11 +142,32 @@ impl Indexed {
         &self.attrs
     }
 
+    /// Whether their names differ.
+    pub(crate) fn differ(&self) -> bool
+        ensures { result ≡ names_differ nat_eq self.now }
+    {
+        self.differ
+    }
+
+    /// Takes all names into the index.
+    pub(crate) fn index(&mut self) -> Result<(), AllocError>
+        ensures { self.new ≡ self.old }
+    {
+        index_more(&mut self.names, &self.attrs)
+    }
+
     /// Whether one of the attributes is of a name.
     pub(crate) fn has(&self, name: NameId) -> bool
         ensures { result ≡ list_any (λ a. nat_eq a.0 name) self.now }
     {
-        self.names.last(name_number(name)) > 0
+        self.names.last(name_number(name)) > 0 || has_name(&self.attrs[self.names.len()..], name)
+    }
+
+    /// Whether the names differ with one more.
+    fn differ_from(&self, name: NameId) -> bool
+        ensures { result ≡ (names_differ nat_eq self.now && not (list_any (λ a. nat_eq a.0 name) self.now)) }
+    {
+        self.differ && !self.has(name)
     }
 
     /// Adds an attribute at the end. On an error nothing changes.
@@ -99,11 +175,9 @@ impl Indexed {
         ensures ok { OnOk result (self.new ≡ self.old ++ attribute_of attr ∷ []) }
         ensures err { OnErr result (self.new ≡ self.old) }
     {
-        self.attrs.reserve(1)?;
-        self.names.push(name_number(attr.name))?;
-        if self.attrs.push(attr).is_err() {
-            unreachable!()
-        }
+        let differ = self.differ_from(attr.name);
+        self.attrs.push(attr)?;
+        self.differ = differ;
         Ok(())
     }
 }

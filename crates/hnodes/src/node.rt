@@ -2,6 +2,7 @@
 
 ghost use Rattle.std.specs.Prelude.{◌≡◌, ◌<◌, Some, None, OnOk, OnErr, IfOk, IfErr, length, map};
 ghost use Rattle.hnodes.specs.Edits.{with_char, with_text, with_attribute};
+ghost use Rattle.hnodes.specs.Forest.{element};
 ghost use Rattle.hnodes.specs.Links.{alone, with_what};
 ghost use Rattle.hnodes.specs.Rows.{attribute_of, content_is, row_of, IsChanged, IsUnchanged};
 
@@ -62,7 +63,7 @@ pub struct Doctype {
     pub system_id: String,
 }
 
-/// Where an element has more attributes than these, it gets an index before it gets another.
+/// An element that has more attributes than these is wide.
 const FEW: usize = 16;
 
 /// What a node is.
@@ -71,7 +72,7 @@ pub(crate) enum Content {
     Document,
     Doctype(Box<Doctype>),
     Element(NameId, Vec<Attr>),
-    /// An element that had more than `FEW` attributes when it got others.
+    /// An element that had more than `FEW` attributes when it was made, or when it got others.
     Wide(NameId, Box<Indexed>),
     Comment(String),
     Text(String),
@@ -198,17 +199,26 @@ pub(crate) fn push_attr(nodes: &mut Vec<Node>, at: NodeId, attr: Attr) -> Result
     Ok(())
 }
 
-/// Makes an index of the attributes of an element with more than a few.
+/// An element with these attributes.
+pub(crate) fn element(name: NameId, attrs: Vec<Attr>, alloc: Global) -> Result<Content, AllocError>
+    ensures { IfOk result (λ content. content_is content ≡ element name (map attribute_of attrs.items)) }
+{
+    let mut content = Content::Element(name, attrs);
+    widen_content(&mut content, alloc)?;
+    Ok(content)
+}
+
+/// Makes an element with more than a few attributes wide, with an index of all their names.
 pub(crate) fn widen(nodes: &mut Vec<Node>, at: NodeId, alloc: Global) -> Result<(), Refusal>
     requires { at < length nodes.old.items }
     ensures same { IsUnchanged nodes.old.items nodes.new.items }
     ensures memory { IfErr result (λ e. e ≡ Refusal.Memory) }
 {
-    widen_content(&mut nodes[at.number as usize].content, alloc)?;
+    index_content(&mut nodes[at.number as usize].content, alloc)?;
     Ok(())
 }
 
-/// Takes attributes into an index. On an error they stay where they are.
+/// Takes attributes into a box. On an error they stay where they are.
 fn take_indexed(attrs: &mut Vec<Attr>, alloc: Global) -> Result<Box<Indexed>, AllocError>
     ensures ok { IfOk result (λ indexed. indexed.value ≡ map attribute_of attrs.old.items) }
     ensures err { OnErr result (attrs.new.items ≡ attrs.old.items) }
@@ -218,7 +228,7 @@ fn take_indexed(attrs: &mut Vec<Attr>, alloc: Global) -> Result<Box<Indexed>, Al
     Ok(indexed)
 }
 
-/// Makes an index of the attributes of an element with more than a few.
+/// Makes an element with more than a few attributes wide.
 fn widen_content(content: &mut Content, alloc: Global) -> Result<(), AllocError>
     ensures { content_is content.new ≡ content_is content.old }
 {
@@ -231,5 +241,16 @@ fn widen_content(content: &mut Content, alloc: Global) -> Result<(), AllocError>
     let name = *name;
     let indexed = take_indexed(attrs, alloc)?;
     *content = Content::Wide(name, indexed);
+    Ok(())
+}
+
+/// .. with an index of all their names.
+fn index_content(content: &mut Content, alloc: Global) -> Result<(), AllocError>
+    ensures { content_is content.new ≡ content_is content.old }
+{
+    widen_content(content, alloc)?;
+    if let Content::Wide(_, indexed) = content {
+        indexed.index()?;
+    }
     Ok(())
 }

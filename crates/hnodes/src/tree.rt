@@ -1,8 +1,9 @@
 //! A tree as one value.
 
-ghost use Rattle.std.specs.Prelude.{◌≡◌, ◌<◌, ◌≤◌, ◌↔◌, ◌⊎◌, ℕ, Some, None, OnOk, OnErr, IfOk, IfErr, IfSome, IsSome, IsFalse, IsTrue, map, string_bytes, length, leb, ltb, nat_eq, if◌then◌else◌};
-ghost use Rattle.std.specs.Option.{option_map};
+ghost use Rattle.std.specs.Prelude.{◌≡◌, ◌<◌, ◌≤◌, ◌↔◌, ◌⊎◌, ℕ, Some, None, OnOk, OnErr, IfOk, IfErr, IfSome, IsSome, IsFalse, IsTrue, map, string_bytes, length, leb, ltb, nat_eq, true, if◌then◌else◌};
+ghost use Rattle.std.specs.Option.{option_map, option_map_or};
 ghost use Rattle.hnodes.specs.Attributes.{add_missing, is_present};
+ghost use Rattle.hnodes.specs.Differing.{names_differ};
 ghost use Rattle.hnodes.specs.Forest.{document, doctype, element, comment, text, tree, none, change_what, IsOutside};
 ghost use Rattle.hnodes.specs.Spots.{parent_of, first_child_of, last_child_of, next_of, previous_of, kind_of, what_of, name_of, attributes_of, value_of, text_of, doctype_of};
 ghost use Rattle.hnodes.specs.Edits.{make, graft, graft_last, graft_before, move_all, add_attribute, add_char, add_chars, with_char, with_text, text_before, IsPlace, place_node, AreNodes};
@@ -15,10 +16,10 @@ ghost use Rattle.names.specs.declared.refusal.Refusal.TheVariants.{TooManyNodes,
 ghost use Rattle.std.specs.Char.{encode_utf8};
 ghost use Rattle.std.specs.Str.{chars};
 
-use crate::attributes::has_name;
+use crate::attributes::{few_differ, has_name};
 use crate::links::{detach, hook};
 use crate::node::{
-    Content, Doctype, Kind, Link, Node, NodeId, Place, push_attr, push_char, push_text, widen,
+    self, Content, Doctype, Kind, Link, Node, NodeId, Place, push_attr, push_char, push_text, widen,
 };
 use names::{Attr, NameId, Refusal, Tag};
 use std::alloc::{AllocError, Global};
@@ -120,7 +121,8 @@ impl Tree {
         ensures { Makes (element name (map attribute_of attrs.items)) at self.old self.new result }
     {
         self.room(at)?;
-        self.add(Content::Element(name, attrs))
+        let content = node::element(name, attrs, self.alloc)?;
+        self.add(content)
     }
 
     /// Makes a comment, loose.
@@ -331,8 +333,19 @@ impl Tree {
     }
 
     /// Adds an attribute after an element's others; does nothing to another node. The caller sees to it that the element has no
-    /// attribute of this name yet.
+    /// attribute of this name yet. Takes amortized constant time.
     pub fn add_attr(&mut self, at: NodeId, attr: Attr) -> Result<(), Refusal>
+        requires { at < self.old.made }
+        ensures ok { OnOk result (self.new ≡ record self.old { trees = add_attribute at (attribute_of attr) self.old.trees }) }
+        ensures memory { IfErr result (λ e. e ≡ Memory) }
+        ensures err { OnErr result (self.new ≡ self.old) }
+    {
+        self.widen(at)?;
+        self.push_attr(at, attr)
+    }
+
+    /// Adds an attribute after an element's others.
+    fn push_attr(&mut self, at: NodeId, attr: Attr) -> Result<(), Refusal>
         requires { at < self.old.made }
         ensures ok { OnOk result (self.new ≡ record self.old { trees = add_attribute at (attribute_of attr) self.old.trees }) }
         ensures memory { IfErr result (λ e. e ≡ Memory) }
@@ -353,7 +366,7 @@ impl Tree {
         if self.has_attr(at, attr.name) {
             return Ok(());
         }
-        self.add_attr(at, attr)
+        self.push_attr(at, attr)
     }
 
     /// Makes an index of the attributes of an element with more than a few.
@@ -479,6 +492,18 @@ impl Tree {
             Content::Element(_, attrs) => Some(attrs),
             Content::Wide(_, indexed) => Some(indexed.attrs()),
             _ => None,
+        }
+    }
+
+    /// Whether no two attributes of an element have one name; true for another node. Takes constant time.
+    pub fn attrs_differ(&self, at: NodeId) -> bool
+        requires { at < self.now.made }
+        ensures { result ≡ option_map_or (names_differ nat_eq) (attributes_of at self.now.trees) true }
+    {
+        match &self.nodes[at.number as usize].content {
+            Content::Element(_, attrs) => few_differ(attrs),
+            Content::Wide(_, indexed) => indexed.differ(),
+            _ => true,
         }
     }
 

@@ -1,13 +1,14 @@
 -- The tokens that a run shows stand for some.
 use Rattle.std.proofs.Common.{◌≡◌, List, ℕ, Ok, subst}
 use Rattle.charref.specs.Reference.{Entities}
+use Rattle.htext.specs.Text.{Policy}
 use Rattle.htoken.specs.Token.{Tok}
 use Rattle.hparse.specs.declared.token_run.TokenRun.{TokenRun}
 use Rattle.hparse.specs.Shown.{Shows, ran_out, refuses, accepts}
 use Rattle.hparse.specs.TokenRun.{TokensMean}
 
-pub stand_for : (table : Entities) (limit : ℕ) (bytes : List ℕ) (run : TokenRun) → Shows table limit bytes (Ok run) → (tokens : List Tok) × TokensMean run.names run.tokens.items tokens
-stand_for table limit bytes run (ran_out e) = absurd cc
-stand_for table limit bytes run (refuses refusal e answers) = absurd cc
-stand_for table limit bytes run (accepts other tokens e mean answers) =
+pub stand_for : (table : Entities) (how : Policy) (bytes : List ℕ) (run : TokenRun) → Shows table how bytes (Ok run) → (tokens : List Tok) × TokensMean run.names run.tokens.items tokens
+stand_for table how bytes run (ran_out e) = absurd cc
+stand_for table how bytes run (refuses refusal e answers) = absurd cc
+stand_for table how bytes run (accepts other tokens e mean answers) =
     let same : other ≡ run = cc in (tokens, subst (λ (r : TokenRun). TokensMean r.names r.tokens.items tokens) same mean)

@@ -9,30 +9,36 @@ use Rattle.names.specs.declared.refusal.Refusal.{Refusal}
 use Rattle.names.specs.declared.refusal.Refusal.TheVariants.{Memory, NotUtf8, TooLarge, OutOfProfile}
 use Rattle.names.specs.declared.raw.RefusedName.{RefusedName}
 use Rattle.names.specs.Sink.{Hands}
-use Rattle.htext.specs.declared.Bom.{Bom}
-use Rattle.htext.specs.Text.{valid_len, refusal_of, refusal_with}
+use Rattle.htext.specs.declared.BadBytes.{BadBytes}
+use Rattle.htext.specs.declared.BadBytes.TheVariants as bad
+use Rattle.htext.specs.Text.{Policy, Read, read_len, refusal_of, refusal_with}
 use Rattle.htext.specs.Items.{CharItem, items, characters_among, errors_among}
-use Rattle.htext.specs.Decoding.{HasFed, Feeds, ran_out, sink_refused, took_all, HandsNew, IsRefusedFrom, answer_at_end}
+use Rattle.htext.specs.Decoding.{HasFed, Feeds, ran_out, sink_refused, took_all, Ends, end_refused, end_reached, HandsOn, IsRefusedFrom, answer_at_end}
 use Rattle.htoken.specs.Standing.{start_kind}
 use Rattle.htoken.specs.Token.{Tok, Event, Item}
 use Rattle.htoken.specs.Tokens.{Tokens, IsRefused, AreFront, tokens_in}
 use Rattle.hparse.specs.declared.reading.Reading.{Reading}
-use Rattle.hparse.specs.Input.{Manner, Began, bom_of, text_in, Handed, IsRefusedFor, by_sink, by_tag, by_bytes, Comes}
+use Rattle.hparse.specs.Input.{Manner, Began, how_of, settled_in, reads_in, text_in, end_in, Handed, IsRefusedFor, by_sink, by_tag, by_bytes, Comes}
 use Rattle.hparse.specs.Intake.{Intake}
 use Rattle.hparse.specs.Holding.{HoldsItems, TakesItems, items_ran_out, items_stopped, items_refused, items_taken, Proceeds, EndsText, text_ran_out, text_stopped, text_taken, Refuses, refusing_ran_out, refusing}
 use Rattle.hparse.specs.Fed.{HasRead, FeedsPiece, piece_ran_out, piece_refused, piece_read, EndsInput, input_ran_out, input_comes}
 use Rattle.htext.proofs.Texts.{items-append, characters_among-items, errors_among-items}
 
 -- bytes are refused where what is read of them ends
-refusal_place : (b c : Bool) (v at : ℕ) (r : Refusal) → cond b None (Some (cond c (NotUtf8 v) (TooLarge v))) ≡ Some r → (r ≡ NotUtf8 at) ⊎ (r ≡ TooLarge at) → at ≡ v
-refusal_place true c v at r e h = absurd cc
-refusal_place false true v at r e (inl h) = cc
-refusal_place false true v at r e (inr h) = absurd cc
-refusal_place false false v at r e (inl h) = absurd cc
-refusal_place false false v at r e (inr h) = cc
+refusal_place : (b : Bool) (of : BadBytes) (more v at : ℕ) (r : Refusal) → cond b None (Some (refusal_with of more v)) ≡ Some r → (r ≡ NotUtf8 at) ⊎ (r ≡ TooLarge at) → at ≡ v
+refusal_place true of more v at r e h = absurd cc
+refusal_place false bad.Replace more v at r e (inl h) = absurd cc
+refusal_place false bad.Replace more v at r e (inr h) = cc
+refusal_place false bad.Refuse more v at r e h = go (eqb more 0) e h
+  where
+    go : (c : Bool) → Some (cond c (NotUtf8 v) (TooLarge v)) ≡ Some r → (r ≡ NotUtf8 at) ⊎ (r ≡ TooLarge at) → at ≡ v
+    go true is (inl h) = cc
+    go true is (inr h) = absurd cc
+    go false is (inl h) = absurd cc
+    go false is (inr h) = cc
 
-place_of : (limit at : ℕ) (bytes : List ℕ) (r : Refusal) → refusal_of limit bytes ≡ Some r → (r ≡ NotUtf8 at) ⊎ (r ≡ TooLarge at) → at ≡ valid_len limit bytes
-place_of limit at bytes r e h = refusal_place (eqb (valid_len limit bytes) (length bytes)) (eqb (utf8_valid_len bytes - valid_len limit bytes) 0) (valid_len limit bytes) at r e h
+place_of : (how : Policy) (at : ℕ) (bytes : List ℕ) (r : Refusal) → refusal_of how bytes ≡ Some r → (r ≡ NotUtf8 at) ⊎ (r ≡ TooLarge at) → at ≡ read_len how bytes
+place_of how at bytes r e h = refusal_place (eqb (read_len how bytes) (length bytes)) how.bad (utf8_valid_len bytes - read_len how bytes) (read_len how bytes) at r e h
 
 -- what is answered at the input's end, where it is refused there
 none_at_end : (o : Option Refusal) → Ok tt ≡ answer_at_end o → o ≡ None
@@ -95,32 +101,31 @@ module _ {S : Type 0} (gives : S → Item → Result (Unit {0}) Refusal → S �
   held_stop s t before (x ∷ xs) e (Ok u, mid, given, rest) k =
       subst (Stops e t) (append_assoc before (x ∷ []) xs) (held_stop mid t (before ++ x ∷ []) xs e rest (was_taken before x mid (given m began before k)))
 
-  -- the items of what is read of longer bytes
-  longer : (before bytes : List ℕ) (more : List Placed) → text_in m bytes ≡ text_in m before ++ more → items (text_in m before) ++ items more ≡ items (text_in m bytes)
-  longer before bytes more is = sym (items-append (text_in m before) more) ∙ ap items (sym is)
+  -- the items of a longer text
+  longer : (before text more : List Read) → text ≡ before ++ more → items before ++ items more ≡ items text
+  longer before text more is = sym (items-append before more) ∙ ap items (sym is)
 
-  took_new : (before bytes : List ℕ) (s t : Intake S) → HandsNew (Proceeds gives) (bom_of m.start) m.limit before bytes s (Ok tt) t → HoldsItems gives m began s (items (text_in m before)) → HoldsItems gives m began t (items (text_in m bytes))
-  took_new before bytes s t (more, is, given) k = subst (HoldsItems gives m began t) (longer before bytes more is) (held_all s t (items (text_in m before)) (items more) given k)
+  took_new : (before text : List Read) (s t : Intake S) → HandsOn (Proceeds gives) before text s (Ok tt) t → HoldsItems gives m began s (items before) → HoldsItems gives m began t (items text)
+  took_new before text s t (more, is, given) k = subst (HoldsItems gives m began t) (longer before text more is) (held_all s t (items before) (items more) given k)
 
-  refused_new : (before bytes : List ℕ) (s t : Intake S) (e : Refusal) → HandsNew (Proceeds gives) (bom_of m.start) m.limit before bytes s (Err e) t → HoldsItems gives m began s (items (text_in m before))
-      → Stops e t (items (text_in m bytes))
-  refused_new before bytes s t e (more, is, given) k = subst (Stops e t) (longer before bytes more is) (held_stop s t (items (text_in m before)) (items more) e given k)
+  refused_new : (before text : List Read) (s t : Intake S) (e : Refusal) → HandsOn (Proceeds gives) before text s (Err e) t → HoldsItems gives m began s (items before) → Stops e t (items text)
+  refused_new before text s t e (more, is, given) k = subst (Stops e t) (longer before text more is) (held_stop s t (items before) (items more) e given k)
 
   -- so the input is refused
-  stops_input : (bytes : List ℕ) (e : Refusal) (t : Intake S) → Stops e t (items (text_in m bytes)) → (e ≡ Memory) ⊎ ((t.stopped ≡ true) × IsRefusedFor gives m began bytes t.names t.sink e)
+  stops_input : (bytes : List ℕ) (e : Refusal) (t : Intake S) → Stops e t (items (reads_in m bytes)) → (e ≡ Memory) ⊎ ((t.stopped ≡ true) × IsRefusedFor gives m began bytes t.names t.sink e)
   stops_input bytes e t (by_memory why) = inl why
   stops_input bytes e t (in_sink events errors noted handed front) =
-      inr (noted, by_sink e events errors handed (subst (λ (x : List Placed). AreFront m.table (start_kind m.start) x (valid_len m.limit bytes) events) (characters_among-items (text_in m bytes)) (front (valid_len m.limit bytes))))
+      inr (noted, by_sink e events errors handed (subst (λ (x : List Placed). AreFront m.table (start_kind m.start) x (end_in m bytes) events) (characters_among-items (reads_in m bytes)) (front (end_in m bytes))))
   stops_input bytes e t (in_tag name at tokens errors is noted handed refused) =
       inr (
         noted,
         subst (IsRefusedFor gives m began bytes t.names t.sink) (sym is)
-            (by_tag name at tokens errors handed (subst (λ (x : List Placed). IsRefused m.table (start_kind m.start) x (valid_len m.limit bytes) tokens name at) (characters_among-items (text_in m bytes)) (refused (valid_len m.limit bytes)))),
+            (by_tag name at tokens errors handed (subst (λ (x : List Placed). IsRefused m.table (start_kind m.start) x (end_in m bytes) tokens name at) (characters_among-items (reads_in m bytes)) (refused (end_in m bytes)))),
       )
 
   module _ (held : List CharItem) (at : ℕ) (refusal : Refusal) (new : Intake S) (here : (refusal ≡ NotUtf8 at) ⊎ (refusal ≡ TooLarge at)) where
-    text_of : (bytes : List ℕ) → held ≡ items (text_in m bytes) → characters_among held ≡ text_in m bytes
-    text_of bytes is = ap characters_among is ∙ characters_among-items (text_in m bytes)
+    text_of : (bytes : List ℕ) → held ≡ items (reads_in m bytes) → characters_among held ≡ text_in m bytes
+    text_of bytes is = ap characters_among is ∙ characters_among-items (reads_in m bytes)
 
     -- the text before the bytes that are refused is read
     pub refuses_bytes : EndsText gives m began held at (Ok tt) new → Refuses gives m began held refusal refusal new
@@ -128,7 +133,7 @@ module _ {S : Type 0} (gives : S → Item → Result (Unit {0}) Refusal → S �
     refuses_bytes (text_stopped r events errors e handed front) = absurd cc
     refuses_bytes (text_taken tokens errors e t handed) = refusing (λ bytes is r.
         by_bytes refusal tokens errors (errors_among held ++ errors) handed
-        (subst (λ (n : ℕ). Tokens m.table (start_kind m.start) (text_in m bytes) n tokens errors) (place_of m.limit at bytes refusal r here)
+        (subst (λ (n : ℕ). Tokens m.table (start_kind m.start) (text_in m bytes) n tokens errors) (place_of (how_of m) at bytes refusal r here)
         (subst (λ (x : List Placed). Tokens m.table (start_kind m.start) x at tokens errors) (text_of bytes is) t)) r)
 
     -- it is refused
@@ -138,29 +143,25 @@ module _ {S : Type 0} (gives : S → Item → Result (Unit {0}) Refusal → S �
         let same : x ≡ earlier = cc in
         refusing (λ bytes is r.
         by_sink earlier events errors (subst (λ (y : Refusal). Handed gives new.names began (tokens_in events) errors (Err y) new.sink) same handed)
-        (subst (λ (n : ℕ). AreFront m.table (start_kind m.start) (text_in m bytes) n events) (place_of m.limit at bytes refusal r here)
+        (subst (λ (n : ℕ). AreFront m.table (start_kind m.start) (text_in m bytes) n events) (place_of (how_of m) at bytes refusal r here)
         (subst (λ (x : List Placed). AreFront m.table (start_kind m.start) x at events) (text_of bytes is) front)))
     refuses_text earlier (text_taken tokens errors e t handed) = absurd cc
 
   module _ (bytes piece : List ℕ) (old : Reading S) (h : HasRead gives m began old bytes) where
     abbrev pub HasFedPiece : Result (Unit {0}) Refusal → Intake S → Type 0
-    HasFedPiece answer feeding = Feeds (Proceeds gives) old.decoder.bom old.decoder.limit bytes piece old.feeding answer feeding
+    HasFedPiece answer feeding = Feeds (Proceeds gives) old.decoder.how bytes piece old.feeding answer feeding
 
-    as_begun : (answer : Result (Unit {0}) Refusal) (feeding : Intake S) → HasFedPiece answer feeding → Feeds (Proceeds gives) (bom_of m.start) m.limit bytes piece old.feeding answer feeding
-    as_begun answer feeding f =
-        subst (λ (n : ℕ). Feeds (Proceeds gives) (bom_of m.start) n bytes piece old.feeding answer feeding) h.limit_is
-        (subst (λ (b : Bom). Feeds (Proceeds gives) b old.decoder.limit bytes piece old.feeding answer feeding) h.bom_is f)
+    as_begun : (answer : Result (Unit {0}) Refusal) (feeding : Intake S) → HasFedPiece answer feeding → Feeds (Proceeds gives) (how_of m) bytes piece old.feeding answer feeding
+    as_begun answer feeding f = subst (λ (how : Policy). Feeds (Proceeds gives) how bytes piece old.feeding answer feeding) h.how_is f
 
-    took : (feeding : Intake S) → Feeds (Proceeds gives) (bom_of m.start) m.limit bytes piece old.feeding (Ok tt) feeding → HoldsItems gives m began feeding (items (text_in m (bytes ++ piece)))
+    took : (feeding : Intake S) → Feeds (Proceeds gives) (how_of m) bytes piece old.feeding (Ok tt) feeding → HoldsItems gives m began feeding (items (settled_in m (bytes ++ piece)))
     took feeding (ran_out front rest e split handed) = absurd cc
     took feeding (sink_refused e is handed) = absurd cc
-    took feeding (took_all handed answered) = took_new bytes (bytes ++ piece) old.feeding feeding handed h.holds
+    took feeding (took_all handed answered) = took_new (settled_in m bytes) (settled_in m (bytes ++ piece)) old.feeding feeding handed h.holds
 
     -- the piece was read
-    pub reads_piece : (new : Reading S) → HasFedPiece (Ok tt) new.feeding → HasFed new.decoder (bytes ++ piece) → new.decoder.bom ≡ old.decoder.bom → new.decoder.limit ≡ old.decoder.limit
-        → FeedsPiece gives m began (bytes ++ piece) (Ok tt) new
-    reads_piece new f fed bom_is limit_is =
-        piece_read refl (record { limit_is = limit_is ∙ h.limit_is; bom_is = bom_is ∙ h.bom_is; fed = fed; holds = took new.feeding (as_begun (Ok tt) new.feeding f) })
+    pub reads_piece : (new : Reading S) → HasFedPiece (Ok tt) new.feeding → HasFed new.decoder (bytes ++ piece) → new.decoder.how ≡ old.decoder.how → FeedsPiece gives m began (bytes ++ piece) (Ok tt) new
+    reads_piece new f fed how_is = piece_read refl (record { how_is = how_is ∙ h.how_is; fed = fed; holds = took new.feeding (as_begun (Ok tt) new.feeding f) })
 
     -- it was refused, and so is the input; `feeding` is as the refusal left it, and `new` as the end of its text did
     module _ (e answer : Refusal) (feeding : Intake S) (new : Reading S)
@@ -169,7 +170,7 @@ module _ {S : Type 0} (gives : S → Item → Result (Unit {0}) Refusal → S �
       out_of_memory : e ≡ Memory → FeedsPiece gives m began (bytes ++ piece) (Err answer) new
       out_of_memory why = piece_ran_out (ap (λ (x : Refusal). Err x) (memory why))
 
-      refused_after : Refuses gives m began (items (text_in m (bytes ++ piece))) e answer new.feeding → IsRefusedFrom (bom_of m.start) m.limit (bytes ++ piece) e → FeedsPiece gives m began (bytes ++ piece) (Err answer) new
+      refused_after : Refuses gives m began (items (settled_in m (bytes ++ piece))) e answer new.feeding → IsRefusedFrom (how_of m) (bytes ++ piece) e → FeedsPiece gives m began (bytes ++ piece) (Err answer) new
       refused_after (refusing_ran_out why) j = piece_ran_out (ap (λ (x : Refusal). Err x) why)
       refused_after (refusing f) j = piece_refused answer refl (λ more. f ((bytes ++ piece) ++ more) (ap items (sym (j more).1)) (j more).0)
 
@@ -195,52 +196,87 @@ module _ {S : Type 0} (gives : S → Item → Result (Unit {0}) Refusal → S �
         | inr differs ↦ piece_refused answer refl (λ more. let s = never_memory all differs more in as_answered s.0 more s.1)
       ]
 
-      refused_by : Feeds (Proceeds gives) (bom_of m.start) m.limit bytes piece old.feeding (Err e) feeding → FeedsPiece gives m began (bytes ++ piece) (Err answer) new
+      refused_by : Feeds (Proceeds gives) (how_of m) bytes piece old.feeding (Err e) feeding → FeedsPiece gives m began (bytes ++ piece) (Err answer) new
       refused_by (ran_out front rest is split handed) = out_of_memory cc
       refused_by (sink_refused x is handed) =
           let same : x ≡ e = cc in
           refused_in (λ more. stops_input ((bytes ++ piece) ++ more) e feeding
-          (refused_new bytes ((bytes ++ piece) ++ more) old.feeding feeding e (subst (λ (y : Refusal). HandsNew (Proceeds gives) (bom_of m.start) m.limit bytes ((bytes ++ piece) ++ more) old.feeding (Err y) feeding) same (handed more)) h.holds))
-      refused_by (took_all handed j) = refused_after (answered (items (text_in m (bytes ++ piece))) (took_new bytes (bytes ++ piece) old.feeding feeding handed h.holds)) j
+          (refused_new (settled_in m bytes) (reads_in m ((bytes ++ piece) ++ more)) old.feeding feeding e
+          (subst (λ (y : Refusal). HandsOn (Proceeds gives) (settled_in m bytes) (reads_in m ((bytes ++ piece) ++ more)) old.feeding (Err y) feeding) same (handed more)) h.holds))
+      refused_by (took_all handed j) = refused_after (answered (items (settled_in m (bytes ++ piece))) (took_new (settled_in m bytes) (settled_in m (bytes ++ piece)) old.feeding feeding handed h.holds)) j
 
       pub refuses_piece : HasFedPiece (Err e) feeding → FeedsPiece gives m began (bytes ++ piece) (Err answer) new
       refuses_piece f = refused_by (as_begun (Err e) feeding f)
 
   module _ (bytes : List ℕ) (old : Reading S) (h : HasRead gives m began old bytes) where
-    -- a refusal of bytes at the end
-    pub ends_refused : (refusal answer : Refusal) (new : Reading S) → Err refusal ≡ answer_at_end (refusal_of old.decoder.limit bytes) → Refuses gives m began (items (text_in m bytes)) refusal answer new.feeding
-        → EndsInput gives m began bytes (Err answer) new
-    ends_refused refusal answer new e (refusing_ran_out why) = input_ran_out (ap (λ (x : Refusal). Err x) why)
-    ends_refused refusal answer new e (refusing f) =
-        input_comes (f bytes refl (ap (λ (n : ℕ). refusal_of n bytes) (sym h.limit_is) ∙ some_at_end (refusal_of old.decoder.limit bytes) refusal e))
+    abbrev pub HasEnded : Result (Unit {0}) Refusal → Intake S → Type 0
+    HasEnded answer feeding = Ends (Proceeds gives) old.decoder.how bytes old.feeding answer feeding
+
+    as_ended : (answer : Result (Unit {0}) Refusal) (feeding : Intake S) → HasEnded answer feeding → Ends (Proceeds gives) (how_of m) bytes old.feeding answer feeding
+    as_ended answer feeding f = subst (λ (how : Policy). Ends (Proceeds gives) how bytes old.feeding answer feeding) h.how_is f
+
+    -- all that is read is held
+    all_held : (feeding : Intake S) → HandsOn (Proceeds gives) (settled_in m bytes) (reads_in m bytes) old.feeding (Ok tt) feeding → HoldsItems gives m began feeding (items (reads_in m bytes))
+    all_held feeding handed = took_new (settled_in m bytes) (reads_in m bytes) old.feeding feeding handed h.holds
+
+    -- a refusal at the end; `feeding` is as it left it, and `new` as the end of its text did
+    module _ (e answer : Refusal) (feeding : Intake S) (new : Reading S)
+        (answered : (held : List CharItem) → HoldsItems gives m began feeding held → Refuses gives m began held e answer new.feeding)
+        (stopped : feeding.stopped ≡ true → (answer ≡ e) × (new.feeding ≡ feeding)) (memory : e ≡ Memory → answer ≡ Memory) where
+      by_end : Refuses gives m began (items (reads_in m bytes)) e answer new.feeding → refusal_of (how_of m) bytes ≡ Some e → EndsInput gives m began bytes (Err answer) new
+      by_end (refusing_ran_out why) is = input_ran_out (ap (λ (x : Refusal). Err x) why)
+      by_end (refusing f) is = input_comes (f bytes refl is)
+
+      by_stop : (e ≡ Memory) ⊎ ((feeding.stopped ≡ true) × IsRefusedFor gives m began bytes feeding.names feeding.sink e) → EndsInput gives m began bytes (Err answer) new
+      by_stop (inl why) = input_ran_out (ap (λ (x : Refusal). Err x) (memory why))
+      by_stop (inr (noted, r)) =
+          input_comes (subst (λ (f : Intake S). IsRefusedFor gives m began bytes f.names f.sink answer) (sym (stopped noted).1)
+          (subst (IsRefusedFor gives m began bytes feeding.names feeding.sink) (sym (stopped noted).0) r))
+
+      refused_at_end : Ends (Proceeds gives) (how_of m) bytes old.feeding (Err e) feeding → EndsInput gives m began bytes (Err answer) new
+      refused_at_end (end_refused x is handed) =
+          let same : x ≡ e = cc in
+          by_stop (stops_input bytes e feeding (refused_new (settled_in m bytes) (reads_in m bytes) old.feeding feeding e
+          (subst (λ (y : Refusal). HandsOn (Proceeds gives) (settled_in m bytes) (reads_in m bytes) old.feeding (Err y) feeding) same handed) h.holds))
+      refused_at_end (end_reached handed is) =
+          by_end (answered (items (reads_in m bytes)) (all_held feeding handed)) (some_at_end (refusal_of (how_of m) bytes) e is)
+
+      pub ends_refused : HasEnded (Err e) feeding → EndsInput gives m began bytes (Err answer) new
+      ends_refused f = refused_at_end (as_ended (Err e) feeding f)
 
     -- the end of the text
-    module _ (end : ℕ) (end_is : end ≡ old.decoder.read) (new : Reading S) (unrefused : Ok tt ≡ answer_at_end (refusal_of old.decoder.limit bytes)) where
-      end_of : end ≡ valid_len m.limit bytes
-      end_of = end_is ∙ h.fed.front.length_is ∙ ap (λ (n : ℕ). valid_len n bytes) h.limit_is
+    module _ (feeding : Intake S) where
+      taken_at_end : Ends (Proceeds gives) (how_of m) bytes old.feeding (Ok tt) feeding → HoldsItems gives m began feeding (items (reads_in m bytes)) × (refusal_of (how_of m) bytes ≡ None)
+      taken_at_end (end_refused x is handed) = absurd cc
+      taken_at_end (end_reached handed is) = (all_held feeding handed, none_at_end (refusal_of (how_of m) bytes) is)
 
-      not_refused : refusal_of m.limit bytes ≡ None
-      not_refused = ap (λ (n : ℕ). refusal_of n bytes) (sym h.limit_is) ∙ none_at_end (refusal_of old.decoder.limit bytes) unrefused
+      pub holds_all : HasEnded (Ok tt) feeding → HoldsItems gives m began feeding (items (reads_in m bytes))
+      holds_all f = (taken_at_end (as_ended (Ok tt) feeding f)).0
 
-      whole : valid_len m.limit bytes ≡ length bytes
-      whole = whole_from (valid_len m.limit bytes) (length bytes) (refusal_with (utf8_valid_len bytes - valid_len m.limit bytes) (valid_len m.limit bytes)) (eqb (valid_len m.limit bytes) (length bytes)) refl not_refused
+      module _ (new : Reading S) (end : ℕ) (end_is : end ≡ length bytes) (unrefused : refusal_of (how_of m) bytes ≡ None) where
+        end_of : end ≡ end_in m bytes
+        end_of =
+            end_is ∙ sym (whole_from (end_in m bytes) (length bytes) (refusal_with m.bad (utf8_valid_len bytes - end_in m bytes) (end_in m bytes)) (eqb (end_in m bytes) (length bytes)) refl unrefused)
 
-      pub ends_input : (answer : Result (Unit {0}) Refusal) → EndsText gives m began (items (text_in m bytes)) end answer new.feeding → EndsInput gives m began bytes answer new
-      ends_input answer (text_ran_out is) = input_ran_out is
-      ends_input answer (text_stopped e events errors is handed front) =
-          input_comes (subst (Comes gives m began bytes new.feeding.names new.feeding.sink) (sym is)
-          (by_sink e events errors handed
-          (subst (λ (n : ℕ). AreFront m.table (start_kind m.start) (text_in m bytes) n events) end_of
-          (subst (λ (x : List Placed). AreFront m.table (start_kind m.start) x end events) (characters_among-items (text_in m bytes)) front))))
-      ends_input answer (text_taken tokens errors is t handed) =
-          input_comes (subst (Comes gives m began bytes new.feeding.names new.feeding.sink) (sym is) (record {
-            tokens = tokens;
-            errors = errors;
-            read = subst (λ (n : ℕ). Tokens m.table (start_kind m.start) (text_in m bytes) n tokens errors) (end_of ∙ whole)
-                (subst (λ (x : List Placed). Tokens m.table (start_kind m.start) x end tokens errors) (characters_among-items (text_in m bytes)) t);
-            handed = subst (λ (es : List ParseError). Handed gives new.feeding.names began tokens (es ++ errors) (Ok tt) new.feeding.sink) (errors_among-items (text_in m bytes)) handed;
-            whole = not_refused;
-          }))
+        by_text : (answer : Result (Unit {0}) Refusal) → EndsText gives m began (items (reads_in m bytes)) end answer new.feeding → EndsInput gives m began bytes answer new
+        by_text answer (text_ran_out is) = input_ran_out is
+        by_text answer (text_stopped e events errors is handed front) =
+            input_comes (subst (Comes gives m began bytes new.feeding.names new.feeding.sink) (sym is)
+            (by_sink e events errors handed
+            (subst (λ (n : ℕ). AreFront m.table (start_kind m.start) (text_in m bytes) n events) end_of
+            (subst (λ (x : List Placed). AreFront m.table (start_kind m.start) x end events) (characters_among-items (reads_in m bytes)) front))))
+        by_text answer (text_taken tokens errors is t handed) =
+            input_comes (subst (Comes gives m began bytes new.feeding.names new.feeding.sink) (sym is) (record {
+              tokens = tokens;
+              errors = errors;
+              read = subst (λ (n : ℕ). Tokens m.table (start_kind m.start) (text_in m bytes) n tokens errors) end_is
+                  (subst (λ (x : List Placed). Tokens m.table (start_kind m.start) x end tokens errors) (characters_among-items (reads_in m bytes)) t);
+              handed = subst (λ (es : List ParseError). Handed gives new.feeding.names began tokens (es ++ errors) (Ok tt) new.feeding.sink) (errors_among-items (reads_in m bytes)) handed;
+              whole = unrefused;
+            }))
+
+      pub ends_input : (new : Reading S) (end : ℕ) → end ≡ length bytes → HasEnded (Ok tt) feeding → (answer : Result (Unit {0}) Refusal) → EndsText gives m began (items (reads_in m bytes)) end answer new.feeding → EndsInput gives m began bytes answer new
+      ends_input new end end_is f = by_text new end end_is (taken_at_end (as_ended (Ok tt) feeding f)).1
 
   -- bytes that were read
   pub has_read : (bytes : List ℕ) (new : Reading S) → FeedsPiece gives m began bytes (Ok tt) new → HasRead gives m began new bytes

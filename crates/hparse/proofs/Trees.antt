@@ -25,7 +25,7 @@ use Rattle.hmodes.proofs.Names.{steps_spelled}
 use Rattle.hmodes.proofs.Tables.{table-agrees}
 use Rattle.hbuild.specs.Building.{Building}
 use Rattle.hparse.specs.declared.parsed.Parsed.{Parsed}
-use Rattle.hparse.specs.Input.{Began, Handed, text_in, tokens_handed, errors_handed, IsRefusedFor, by_sink, by_tag, by_bytes, IsTaken}
+use Rattle.hparse.specs.Input.{Began, Handed, reads_in, tokens_handed, errors_handed, IsRefusedFor, by_sink, by_tag, by_bytes, IsTaken}
 use Rattle.hnodes.specs.Named.{AreOf}
 use Rattle.hmodes.specs.OfTable.{TokensAreOf}
 use Rattle.hparse.specs.Parse.{Subject, document, fragment, Told, Parses, refused_token, refused_tag, refused_bytes, accepted, begins, manner, root_of}
@@ -91,7 +91,7 @@ module _ (told : Told) (subject : Subject) (began : Began Building) (bytes : Lis
       accepted t.errors parsed.errors.items (spelled_state spell now.state) (record { tokens = t.tokens; read = t.read; steps = gone t.tokens (given ++ t.errors) t.handed }) order r.sorted t.whole,
     ) where
       given : List ParseError
-      given = input_errors (text_in (manner told subject) bytes)
+      given = input_errors (reads_in (manner told subject) bytes)
 
       b : Became began.sink now t.handed.items
       b = became began.sink now t.handed.items unrefused t.handed.hands

@@ -1,5 +1,5 @@
 -- What a reader's input has come to, turn by turn.
-use Rattle.std.proofs.Common.{◌≡◌, ℕ, ◌+◌, ◌-◌, ◌<◌, ◌≤◌, List, [], ◌++◌, length, take, refl, sym, ap, subst, ◌∙◌, append-nil, append_assoc, arith, length-append, length-drop, Option, Result, Ok, Err, inl, inr}
+use Rattle.std.proofs.Common.{false, ◌≡◌, ℕ, ◌+◌, ◌-◌, ◌<◌, ◌≤◌, List, [], ◌++◌, length, take, refl, sym, ap, subst, ◌∙◌, append-nil, append_assoc, arith, length-append, length-drop, Option, Result, Ok, Err, inl, inr}
 use Rattle.std.specs.Prelude.{◌⊎◌}
 use Rattle.std.specs.Io.KnownBytes.{Consumes, IsAtEnd, Keeps}
 use Rattle.std.proofs.Math.Seq.{take-append_seam}
@@ -7,12 +7,12 @@ use Rattle.std.proofs.lemmas.List.{length-take-le}
 use Rattle.std.proofs.KnownBytes.{Consumes-nil, Consumes-trans, Consumes-kept}
 use Rattle.names.specs.declared.refusal.Refusal.{Refusal}
 use Rattle.names.specs.declared.refusal.Refusal.TheVariants.{Memory, Read}
-use Rattle.htext.specs.Text.{valid_len}
+use Rattle.htext.specs.Text.{Policy, settled_len}
 use Rattle.htext.specs.Decoding.{Progress, HasFed}
-use Rattle.htext.proofs.Valid.{valid_len_le}
+use Rattle.htext.proofs.Fronts.{front_le}
 use Rattle.htoken.specs.Token.{Item}
 use Rattle.hparse.specs.declared.reading.Reading.{Reading}
-use Rattle.hparse.specs.Input.{Manner, Began, Comes}
+use Rattle.hparse.specs.Input.{Manner, Began, Comes, how_of}
 use Rattle.hparse.specs.Fed.{HasRead, FeedsPiece, piece_ran_out, piece_refused, piece_read, EndsInput, input_ran_out, input_comes}
 use Rattle.hparse.specs.Calls.{counted}
 use Rattle.hparse.specs.Reader.{IsRefusedFrom, IsUndecided, ReadsInput, reading_ran_out, reading_failed, reading_stopped, read_to_end}
@@ -41,11 +41,11 @@ pub few_of_buffer : (count most : ℕ) (xs : List ℕ) → length xs ≡ most �
 few_of_buffer count most xs is fits = omega (arith, length-take-le count xs fits)
 
 -- an input of which no more than three bytes are held back is at most this long
-long : (decoder : Progress) (fed : List ℕ) → HasFed decoder fed → length fed ≤ decoder.limit + 3
+long : (decoder : Progress) (fed : List ℕ) → HasFed decoder fed → length fed ≤ decoder.how.limit + 3
 long decoder fed h =
     let held : length decoder.undecoded ≡ length fed - decoder.read = ap length h.undecoded ∙ length-drop decoder.read fed in
-    let front : decoder.read ≡ valid_len decoder.limit fed = h.front.length_is in
-    let most : valid_len decoder.limit fed ≤ decoder.limit = (valid_len_le decoder.limit fed).0 in
+    let front : decoder.read ≡ settled_len decoder.how fed = h.front.length_is in
+    let most : settled_len decoder.how fed ≤ decoder.how.limit = (front_le false decoder.how.bad decoder.how.limit fed).0 in
     omega arith
 
 module _ {S R : Type 0} (left : R → Option (List ℕ)) (failed : R → ℕ) (gives : S → Item → Result (Unit {0}) Refusal → S → Type 0) (m : Manner) (began : Began S) (before : List ℕ) where
@@ -63,20 +63,20 @@ module _ {S R : Type 0} (left : R → Option (List ℕ)) (failed : R → ℕ) (g
     -- there are fewer turns than bytes
     few_turns : turn ≤ m.limit + 3
     few_turns =
-        let most : length (before ++ h.fed) ≤ reading.decoder.limit + 3 = long reading.decoder (before ++ h.fed) h.has_read.fed in
-        let limit_is : reading.decoder.limit ≡ m.limit = h.has_read.limit_is in
+        let most : length (before ++ h.fed) ≤ reading.decoder.how.limit + 3 = long reading.decoder (before ++ h.fed) h.has_read.fed in
+        let limit_is : reading.decoder.how.limit ≡ m.limit = ap (λ (how : Policy). how.limit) h.has_read.how_is in
         let each : turn ≤ length h.fed = h.each_turn in
         omega (arith, length-append before h.fed)
 
     -- .. so none comes after more than that
-    pub no_turn : (most : ℕ) (come : List ℕ → Result (Unit {0}) Refusal → Type 0) (answer : Result (Unit {0}) Refusal) → m.limit + 3 < turn → ReadsInput left failed come m.limit most before old now answer
+    pub no_turn : (most : ℕ) (come : List ℕ → Result (Unit {0}) Refusal → Type 0) (answer : Result (Unit {0}) Refusal) → m.limit + 3 < turn → ReadsInput left failed come (how_of m) most before old now answer
     no_turn most come answer many =
         let few : turn ≤ m.limit + 3 = few_turns in
         let never : ⊥ = omega arith in
         absurd never
 
-    undecided : IsUndecided m.limit (before ++ h.fed)
-    undecided = subst (λ (n : ℕ). IsUndecided n (before ++ h.fed)) h.has_read.limit_is h.has_read.fed.undecided
+    undecided : IsUndecided (how_of m) (before ++ h.fed)
+    undecided = subst (λ (how : Policy). IsUndecided how (before ++ h.fed)) h.has_read.how_is h.has_read.fed.undecided
 
     module _ (new : R) (piece : List ℕ) (given : Consumes (left now) (left new) piece) (count : failed new ≡ failed now) where
       given_more : Consumes (left old) (left new) (h.fed ++ piece)
@@ -104,7 +104,7 @@ module _ {S R : Type 0} (left : R → Option (List ℕ)) (failed : R → ℕ) (g
         come bytes = Comes gives m began bytes next.feeding.names next.feeding.sink
 
         -- it was refused
-        pub refused_turn : (e : Refusal) → length piece ≤ most → FeedsPiece gives m began ((before ++ h.fed) ++ piece) (Err e) next → ReadsInput left failed come m.limit most before old new (Err e)
+        pub refused_turn : (e : Refusal) → length piece ≤ most → FeedsPiece gives m began ((before ++ h.fed) ++ piece) (Err e) next → ReadsInput left failed come (how_of m) most before old new (Err e)
         refused_turn e few (piece_ran_out is) = reading_ran_out is unfailed
         refused_turn e few (piece_refused refusal is refused) =
             let same : refusal ≡ e = cc in
@@ -113,18 +113,18 @@ module _ {S R : Type 0} (left : R → Option (List ℕ)) (failed : R → ℕ) (g
         refused_turn e few (piece_read is k) = absurd cc
 
         -- nothing was left
-        pub ended : (answer : Result (Unit {0}) Refusal) → piece ≡ [] → IsAtEnd (left new) → EndsInput gives m began (before ++ h.fed) answer next → ReadsInput left failed come m.limit most before old new answer
+        pub ended : (answer : Result (Unit {0}) Refusal) → piece ≡ [] → IsAtEnd (left new) → EndsInput gives m began (before ++ h.fed) answer next → ReadsInput left failed come (how_of m) most before old new answer
         ended answer none end (input_ran_out is) = reading_ran_out is unfailed
         ended answer none end (input_comes comes) =
             read_to_end h.fed undecided
             (record { given = subst (Consumes (left old) (left new)) (ap (λ (x : List ℕ). h.fed ++ x) none ∙ append-nil h.fed) given_more; unfailed = unfailed }) end comes
 
     -- the read failed
-    pub failed_turn : (new : R) (most : ℕ) (come : List ℕ → Result (Unit {0}) Refusal → Type 0) → Keeps (left now) (left new) → failed new ≡ counted (failed now) → ReadsInput left failed come m.limit most before old new (Err Read)
+    pub failed_turn : (new : R) (most : ℕ) (come : List ℕ → Result (Unit {0}) Refusal → Type 0) → Keeps (left now) (left new) → failed new ≡ counted (failed now) → ReadsInput left failed come (how_of m) most before old new (Err Read)
     failed_turn new most come kept count = reading_failed h.fed refl undecided (Consumes-kept (left old) (left now) (left new) h.fed h.given kept) (count ∙ ap counted h.unfailed)
 
 -- What an input comes to is shown as an answer of another kind.
-module _ {R A B : Type 0} (left : R → Option (List ℕ)) (failed : R → ℕ) (come : List ℕ → Result A Refusal → Type 0) (answers : List ℕ → Result B Refusal → Type 0) (limit piece : ℕ) (before : List ℕ) (old new : R) where
+module _ {R A B : Type 0} (left : R → Option (List ℕ)) (failed : R → ℕ) (come : List ℕ → Result A Refusal → Type 0) (answers : List ℕ → Result B Refusal → Type 0) (how : Policy) (piece : ℕ) (before : List ℕ) (old new : R) where
   -- a refusal
   module _ (e : Refusal) (shows : (bytes : List ℕ) → come bytes (Err e) → (e ≡ Memory) ⊎ answers bytes (Err e)) where
     shown : (e ≡ Memory → ⊥) → (bytes : List ℕ) → come bytes (Err e) → answers bytes (Err e)
@@ -134,13 +134,13 @@ module _ {R A B : Type 0} (left : R → Option (List ℕ)) (failed : R → ℕ) 
     ]
 
     -- whether any call of the reader failed, where memory ran out
-    count_kept : ReadsInput left failed come limit piece before old new (Err e) → e ≡ Memory → failed new ≡ failed old
+    count_kept : ReadsInput left failed come how piece before old new (Err e) → e ≡ Memory → failed new ≡ failed old
     count_kept (reading_ran_out is count) why = count
     count_kept (reading_failed bytes is is_undecided given count) why = absurd cc
     count_kept (reading_stopped refusal front last is is_undecided gave from few) why = gave.unfailed
     count_kept (read_to_end bytes is_undecided gave end c) why = gave.unfailed
 
-    with_no_want : (e ≡ Memory → ⊥) → ReadsInput left failed come limit piece before old new (Err e) → ReadsInput left failed answers limit piece before old new (Err e)
+    with_no_want : (e ≡ Memory → ⊥) → ReadsInput left failed come how piece before old new (Err e) → ReadsInput left failed answers how piece before old new (Err e)
     with_no_want differs (reading_ran_out is count) = absurd (differs cc)
     with_no_want differs (reading_failed bytes is is_undecided given count) = reading_failed bytes (let same : e ≡ Read = cc in ap (λ (x : Refusal). Err x) same) is_undecided given count
     with_no_want differs (reading_stopped refusal front last is is_undecided gave from few) =
@@ -148,14 +148,14 @@ module _ {R A B : Type 0} (left : R → Option (List ℕ)) (failed : R → ℕ) 
         reading_stopped e front last refl is_undecided gave (λ more. shown differs ((before ++ (front ++ last)) ++ more) (subst (λ (x : Refusal). come ((before ++ (front ++ last)) ++ more) (Err x)) same (from more))) few
     with_no_want differs (read_to_end bytes is_undecided gave end c) = read_to_end bytes is_undecided gave end (shown differs (before ++ bytes) c)
 
-    pub not_read : ReadsInput left failed come limit piece before old new (Err e) → ReadsInput left failed answers limit piece before old new (Err e)
+    pub not_read : ReadsInput left failed come how piece before old new (Err e) → ReadsInput left failed answers how piece before old new (Err e)
     not_read r = elim (is_memory e) [
       | inl why ↦ reading_ran_out (ap (λ (x : Refusal). Err x) why) (count_kept r why)
       | inr differs ↦ with_no_want differs r
     ]
 
   -- an input that was read, and what was made of it
-  pub made : (x : A) (answer : Result B Refusal) → ((bytes : List ℕ) → come bytes (Ok x) → (answer ≡ Err Memory) ⊎ answers bytes answer) → ReadsInput left failed come limit piece before old new (Ok x) → ReadsInput left failed answers limit piece before old new answer
+  pub made : (x : A) (answer : Result B Refusal) → ((bytes : List ℕ) → come bytes (Ok x) → (answer ≡ Err Memory) ⊎ answers bytes answer) → ReadsInput left failed come how piece before old new (Ok x) → ReadsInput left failed answers how piece before old new answer
   made x answer shows (reading_ran_out is count) = absurd cc
   made x answer shows (reading_failed bytes is is_undecided given count) = absurd cc
   made x answer shows (reading_stopped refusal front last is is_undecided gave from few) = absurd cc

@@ -1,5 +1,5 @@
 -- The answer of an input: its tokens and errors, or what it is refused for.
-use Rattle.std.specs.Prelude.{◌≡◌, ℕ, List, ◌++◌, length, None, Some, Result, Ok, Err}
+use Rattle.std.specs.Prelude.{◌≡◌, ℕ, List, ◌++◌, length, map, None, Some, Result, Ok, Err}
 use Rattle.std.specs.Ordering.{nat_cmp, ordering_then}
 use Rattle.std.specs.declared.cmp.Ordering.{Ordering}
 use Rattle.std.specs.List.Sorted.{IsPermutation, IsSorted}
@@ -10,16 +10,21 @@ use Rattle.names.specs.declared.refusal.Refusal.{Refusal}
 use Rattle.names.specs.declared.refusal.Refusal.TheVariants.{OutOfProfile}
 use Rattle.names.specs.declared.raw.RefusedName.{RefusedName}
 use Rattle.names.specs.Codes.{code_rank}
+use Rattle.htext.specs.declared.BadBytes.{BadBytes}
 use Rattle.htext.specs.declared.Bom.TheVariants.{Drop}
-use Rattle.htext.specs.Text.{decoded, valid_len, refusal_of}
+use Rattle.htext.specs.Text.{Policy, character_of, decoded, read_len, refusal_of}
 use Rattle.htext.specs.Items.{input_errors}
 use Rattle.charref.specs.Reference.{Entities}
 use Rattle.htoken.specs.Token.{Tok}
 use Rattle.htoken.specs.Tokens.{Tokens, IsRefused}
 
--- the text that is read of the bytes of a document
-abbrev pub document_text : ℕ → List ℕ → List Placed
-document_text limit bytes = decoded Drop limit bytes
+-- how a document is read: it loses a leading byte order mark
+abbrev pub of_document : BadBytes → ℕ → Policy
+of_document bad limit = record { bom = Drop; bad = bad; limit = limit }
+
+-- the text that is read of the bytes
+abbrev pub read_text : Policy → List ℕ → List Placed
+read_text how bytes = map character_of (decoded how bytes)
 
 -- errors stand in the order of their places, and at one place in that of their codes
 abbrev pub error_cmp : ParseError → ParseError → Ordering
@@ -33,16 +38,15 @@ pub record IsTextRefusal (table : Entities) (text : List Placed) (end : ℕ) (re
   pub refused : IsRefused table kind.None text end tokens name at
   pub refusal_is : refusal ≡ OutOfProfile name at
 
--- The answer of the bytes of a document, whose references are those of the table. What is read is their longest valid front within
--- the limit.
-pub data Answers (table : Entities) (limit : ℕ) (bytes : List ℕ) : Result (List Tok × List ParseError) Refusal → Type 0 where
+-- The answer of the bytes of a document, whose references are those of the table.
+pub data Answers (table : Entities) (how : Policy) (bytes : List ℕ) : Result (List Tok × List ParseError) Refusal → Type 0 where
   -- what is read is refused, taken as a whole input
-  refused_text : (refusal : Refusal) → IsTextRefusal table (document_text limit bytes) (valid_len limit bytes) refusal → Answers table limit bytes (Err refusal)
+  refused_text : (refusal : Refusal) → IsTextRefusal table (read_text how bytes) (read_len how bytes) refusal → Answers table how bytes (Err refusal)
   -- what is read is not, but bytes follow it
   refused_bytes : (refusal : Refusal) (tokens : List Tok) (errors : List ParseError)
-      → Tokens table kind.None (document_text limit bytes) (valid_len limit bytes) tokens errors
-      → refusal_of limit bytes ≡ Some refusal → Answers table limit bytes (Err refusal)
+      → Tokens table kind.None (read_text how bytes) (read_len how bytes) tokens errors
+      → refusal_of how bytes ≡ Some refusal → Answers table how bytes (Err refusal)
   -- what is read is all of them: the errors are those of the input stream and of the tokens, as often as they are raised
-  accepted : (tokens : List Tok) (errors sorted : List ParseError) → Tokens table kind.None (document_text limit bytes) (length bytes) tokens errors
-      → IsPermutation (input_errors (document_text limit bytes) ++ errors) sorted → IsSorted error_cmp sorted
-      → refusal_of limit bytes ≡ None → Answers table limit bytes (Ok (tokens, sorted))
+  accepted : (tokens : List Tok) (errors sorted : List ParseError) → Tokens table kind.None (read_text how bytes) (length bytes) tokens errors
+      → IsPermutation (input_errors (decoded how bytes) ++ errors) sorted → IsSorted error_cmp sorted
+      → refusal_of how bytes ≡ None → Answers table how bytes (Ok (tokens, sorted))

@@ -7,15 +7,14 @@ use Rattle.htext.specs.Decoding.{HasFed}
 use Rattle.htoken.specs.Token.{Item}
 use Rattle.hparse.specs.declared.reading.Reading.{Reading}
 use Rattle.hparse.specs.Holding.{HoldsItems}
-use Rattle.hparse.specs.Input.{Manner, Began, bom_of, text_in, IsRefusedFor, Comes}
+use Rattle.hparse.specs.Input.{Manner, Began, how_of, settled_in, IsRefusedFor, Comes}
 
 module _ {S : Type 0} (gives : S → Item → Result (Unit {0}) Refusal → S → Type 0) (m : Manner) (began : Began S) where
-  -- The bytes were fed, in any pieces: their text is held.
+  -- The bytes were fed, in any pieces: the text that is read of them whatever follows is held.
   pub record HasRead (reading : Reading S) (bytes : List ℕ) : Type 0 where
-    pub limit_is : reading.decoder.limit ≡ m.limit
-    pub bom_is : reading.decoder.bom ≡ bom_of m.start
+    pub how_is : reading.decoder.how ≡ how_of m
     pub fed : HasFed reading.decoder bytes
-    pub holds : HoldsItems gives m began reading.feeding (items (text_in m bytes))
+    pub holds : HoldsItems gives m began reading.feeding (items (settled_in m bytes))
 
   -- What feeding the last piece of these bytes does: memory ran out, or they are refused, whatever comes after, or they have been read.
   pub data FeedsPiece (bytes : List ℕ) (answer : Result (Unit {0}) Refusal) (new : Reading S) : Type 0 where

@@ -10,7 +10,7 @@ use Rattle.htoken.specs.Standing.{start_kind}
 use Rattle.htoken.specs.Token.{Tok, Event, Item}
 use Rattle.htoken.specs.Tokens.{Tokens, IsRefused, AreFront, tokens_in, errors_in}
 use Rattle.htoken.specs.Tokenizing.{HasTaken}
-use Rattle.hparse.specs.Input.{Manner, Began, text_in, Handed, IsRefusedFor}
+use Rattle.hparse.specs.Input.{Manner, Began, how_of, reads_in, Handed, IsRefusedFor}
 use Rattle.hparse.specs.Intake.{Intake}
 
 -- The tokenizer was fed the characters among these items; the sink was handed the tokens and errors that it gave, and the errors among the items.
@@ -61,5 +61,5 @@ module _ {S : Type 0} (gives : S → Item → Result (Unit {0}) Refusal → S �
   -- The answer once a decoder has refused bytes of which these items were read: memory ran out, or the bytes are refused for it.
   pub data Refuses (m : Manner) (began : Began S) (held : List CharItem) (refused answer : Refusal) (new : Intake S) : Type 0 where
     refusing_ran_out : answer ≡ refusal.Memory → Refuses m began held refused answer new
-    refusing : ((bytes : List ℕ) → held ≡ items (text_in m bytes) → refusal_of m.limit bytes ≡ Some refused
+    refusing : ((bytes : List ℕ) → held ≡ items (reads_in m bytes) → refusal_of (how_of m) bytes ≡ Some refused
         → IsRefusedFor gives m began bytes new.names new.sink answer) → Refuses m began held refused answer new

@@ -1,5 +1,5 @@
 -- What reading an input comes to, for a sink of the tokens and errors of its text. `gives` says what a step of the sink does.
-use Rattle.std.specs.Prelude.{◌≡◌, ℕ, List, [], ◌∷◌, ◌++◌, length, None, Some, Result, Ok, Err}
+use Rattle.std.specs.Prelude.{◌≡◌, ℕ, List, [], ◌∷◌, ◌++◌, length, map, None, Some, Result, Ok, Err}
 use Rattle.std.specs.List.Sorted.{IsPermutation}
 use Rattle.names.specs.declared.error.ParseError.{ParseError}
 use Rattle.names.specs.declared.placed.Placed.{Placed}
@@ -8,9 +8,10 @@ use Rattle.names.specs.declared.refusal.Refusal.{Refusal}
 use Rattle.names.specs.declared.refusal.Refusal.TheVariants.{OutOfProfile}
 use Rattle.names.specs.Names.{Texts, Grows}
 use Rattle.names.specs.Sink.{Hands}
+use Rattle.htext.specs.declared.BadBytes.{BadBytes}
 use Rattle.htext.specs.declared.Bom.{Bom}
 use Rattle.htext.specs.declared.Bom.TheVariants.{Drop, Keep}
-use Rattle.htext.specs.Text.{decoded, valid_len, refusal_of}
+use Rattle.htext.specs.Text.{Policy, Read, character_of, decoded, settled, read_len, refusal_of}
 use Rattle.htext.specs.Items.{input_errors}
 use Rattle.charref.specs.Reference.{Entities}
 use Rattle.htoken.specs.declared.token.Start.{Start}
@@ -21,10 +22,12 @@ use Rattle.htoken.specs.Token.{Tok, Event, Item, ItemToken, ItemError}
 use Rattle.htoken.specs.Tokens.{Tokens, IsRefused, AreFront, tokens_in}
 use Rattle.hparse.specs.TokenRun.{TokensMean}
 
--- how the text of an input is read: with these references, as a document or in a context, and at most so many bytes
+-- how the text of an input is read: with these references, as a document or in a context, what becomes of bad bytes, and at most so
+-- many bytes
 pub record Manner : Type 0 where
   pub table : Entities
   pub start : Start
+  pub bad : BadBytes
   pub limit : ℕ
 
 -- a document loses a leading byte order mark
@@ -32,9 +35,22 @@ abbrev pub bom_of : Start → Bom
 bom_of start.Document = Drop
 bom_of (start.Context kind) = Keep
 
--- the text that is read of the bytes: that of their longest valid front within the limit
+abbrev pub how_of : Manner → Policy
+how_of m = record { bom = bom_of m.start; bad = m.bad; limit = m.limit }
+
+-- what is read of the bytes, whatever follows them and as a whole input, and the characters of that
+abbrev pub settled_in : Manner → List ℕ → List Read
+settled_in m bytes = settled (how_of m) bytes
+
+abbrev pub reads_in : Manner → List ℕ → List Read
+reads_in m bytes = decoded (how_of m) bytes
+
 abbrev pub text_in : Manner → List ℕ → List Placed
-text_in m bytes = decoded (bom_of m.start) m.limit bytes
+text_in m bytes = map character_of (reads_in m bytes)
+
+-- how many of the bytes are read
+abbrev pub end_in : Manner → List ℕ → ℕ
+end_in m bytes = read_len (how_of m) bytes
 
 -- the tokens and the errors among what a sink was handed
 abbrev pub tokens_handed : List Item → List Token
@@ -68,13 +84,13 @@ module _ {S : Type 0} (gives : S → Item → Result (Unit {0}) Refusal → S �
   pub data IsRefusedFor : Refusal → Type 0 where
     -- the sink refuses what its text gives
     by_sink : (refusal : Refusal) (events : List Event) (errors : List ParseError) → Handed gives names began (tokens_in events) errors (Err refusal) now
-        → AreFront m.table (start_kind m.start) (text_in m bytes) (valid_len m.limit bytes) events → IsRefusedFor refusal
+        → AreFront m.table (start_kind m.start) (text_in m bytes) (end_in m bytes) events → IsRefusedFor refusal
     -- a start tag of its text is out of the profile
     by_tag : (name : RefusedName) (at : ℕ) (tokens : List Tok) (errors : List ParseError) → Handed gives names began tokens errors (Ok tt) now
-        → IsRefused m.table (start_kind m.start) (text_in m bytes) (valid_len m.limit bytes) tokens name at → IsRefusedFor (OutOfProfile name at)
+        → IsRefused m.table (start_kind m.start) (text_in m bytes) (end_in m bytes) tokens name at → IsRefusedFor (OutOfProfile name at)
     -- the sink takes all of its text, but bytes follow that
     by_bytes : (refusal : Refusal) (tokens : List Tok) (errors handed : List ParseError) → Handed gives names began tokens handed (Ok tt) now
-        → Tokens m.table (start_kind m.start) (text_in m bytes) (valid_len m.limit bytes) tokens errors → refusal_of m.limit bytes ≡ Some refusal
+        → Tokens m.table (start_kind m.start) (text_in m bytes) (end_in m bytes) tokens errors → refusal_of (how_of m) bytes ≡ Some refusal
         → IsRefusedFor refusal
 
   -- The sink took all that the input gives.
@@ -82,8 +98,8 @@ module _ {S : Type 0} (gives : S → Item → Result (Unit {0}) Refusal → S �
     pub tokens : List Tok
     pub errors : List ParseError
     pub read : Tokens m.table (start_kind m.start) (text_in m bytes) (length bytes) tokens errors
-    pub handed : Handed gives names began tokens (input_errors (text_in m bytes) ++ errors) (Ok tt) now
-    pub whole : refusal_of m.limit bytes ≡ None
+    pub handed : Handed gives names began tokens (input_errors (reads_in m bytes) ++ errors) (Ok tt) now
+    pub whole : refusal_of (how_of m) bytes ≡ None
 
   -- What it comes to: it is refused, or taken.
   abbrev pub Comes : Result (Unit {0}) Refusal → Type 0

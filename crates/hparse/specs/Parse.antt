@@ -9,7 +9,8 @@ use Rattle.names.specs.declared.refusal.Refusal.TheVariants.{OutOfProfile}
 use Rattle.names.specs.Sets.{is_refused, raw_kind}
 use Rattle.names.specs.Tags.{tag_named}
 use Rattle.htext.specs.Items.{input_errors}
-use Rattle.htext.specs.Text.{valid_len, refusal_of}
+use Rattle.htext.specs.declared.BadBytes.{BadBytes}
+use Rattle.htext.specs.Text.{Policy, read_len, refusal_of}
 use Rattle.charref.specs.Reference.{Entities}
 use Rattle.hmarkup.specs.Quirks.{QuirkLine}
 use Rattle.htoken.specs.declared.token.Start.{Start}
@@ -24,7 +25,7 @@ use Rattle.hmodes.specs.Beginning.{Limits, document_begins, fragment_begins}
 use Rattle.hmodes.specs.State.{State}
 use Rattle.hmodes.specs.Step.{Steps}
 use Rattle.hparse.specs.Answer.{error_cmp}
-use Rattle.hparse.specs.Input.{Manner, text_in}
+use Rattle.hparse.specs.Input.{Manner, how_of, reads_in, text_in}
 use Rattle.hparse.specs.Taken.{placed}
 
 -- what is parsed: a document, or a fragment in the context of an element of this name (13.4)
@@ -32,10 +33,12 @@ pub data Subject : Type 0 where
   document : Subject
   fragment : (context : List ℕ) → Subject
 
--- what a parse is told beside the bytes: the references, the quirks list, the most bytes, and how large the tree may become
+-- what a parse is told beside the bytes: the references, the quirks list, what becomes of bad bytes, the most bytes, and how
+-- large the tree may become
 pub record Told : Type 0 where
   pub table : Entities
   pub quirks : List QuirkLine
+  pub bad : BadBytes
   pub input : ℕ
   pub limits : Limits
 
@@ -44,7 +47,11 @@ start_of document = start.Document
 start_of (fragment context) = start.Context (raw_kind (tag_named context))
 
 abbrev pub manner : Told → Subject → Manner
-manner told subject = record { table = told.table; start = start_of subject; limit = told.input }
+manner told subject = record { table = told.table; start = start_of subject; bad = told.bad; limit = told.input }
+
+-- how its bytes are read
+abbrev pub policy : Told → Subject → Policy
+policy told subject = how_of (manner told subject)
 
 -- the state in which it begins
 abbrev pub begins : Told → Subject → State (List ℕ)
@@ -68,23 +75,23 @@ module _ (told : Told) (subject : Subject) (bytes : List ℕ) where
     pub read : Tokens told.table (start_kind (start_of subject)) (text_in (manner told subject) bytes) end tokens errors
     pub steps : Steps texts (map placed tokens) (begins told subject) (Goes state)
 
-  -- What the bytes come to. What is read is their longest valid front within the limit.
+  -- What the bytes come to.
   pub data Parses : Result Parse Refusal → Type 0 where
     -- the rules refuse one of its tokens
     refused_token : (refusal : Refusal) (events : List Event)
-        → AreFront told.table (start_kind (start_of subject)) (text_in (manner told subject) bytes) (valid_len told.input bytes) events
+        → AreFront told.table (start_kind (start_of subject)) (text_in (manner told subject) bytes) (read_len (policy told subject) bytes) events
         → Steps texts (map placed (tokens_in events)) (begins told subject) (Refused refusal) → Parses (Err refusal)
     -- it has a start tag that is left out of the profile, and the rules take the tokens before that
     refused_tag : (name : RefusedName) (at : ℕ) (tokens : List Tok) (state : State (List ℕ))
-        → IsRefused told.table (start_kind (start_of subject)) (text_in (manner told subject) bytes) (valid_len told.input bytes) tokens name at
+        → IsRefused told.table (start_kind (start_of subject)) (text_in (manner told subject) bytes) (read_len (policy told subject) bytes) tokens name at
         → Steps texts (map placed tokens) (begins told subject) (Goes state) → Parses (Err (OutOfProfile name at))
     -- the rules take all of its tokens, but bytes follow it
-    refused_bytes : (refusal : Refusal) (errors : List ParseError) (state : State (List ℕ)) → Builds (valid_len told.input bytes) errors state
-        → refusal_of told.input bytes ≡ Some refusal → Parses (Err refusal)
+    refused_bytes : (refusal : Refusal) (errors : List ParseError) (state : State (List ℕ)) → Builds (read_len (policy told subject) bytes) errors state
+        → refusal_of (policy told subject) bytes ≡ Some refusal → Parses (Err refusal)
     -- it is all of the bytes: the errors are those of the input stream, of the tokens and of the rules, as often as they are raised
     accepted : (errors sorted : List ParseError) (state : State (List ℕ)) → Builds (length bytes) errors state
-        → IsPermutation (input_errors (text_in (manner told subject) bytes) ++ (errors ++ state.site.errors)) sorted → IsSorted error_cmp sorted
-        → refusal_of told.input bytes ≡ None → Parses (Ok (record { trees = state.site.nodes.trees; errors = sorted }))
+        → IsPermutation (input_errors (reads_in (manner told subject) bytes) ++ (errors ++ state.site.errors)) sorted → IsSorted error_cmp sorted
+        → refusal_of (policy told subject) bytes ≡ None → Parses (Ok (record { trees = state.site.nodes.trees; errors = sorted }))
 
 -- a lower letter, and a byte of a context's name after its first: a lower letter, a digit, `-`, `_` or `:`
 abbrev pub is_lower : ℕ → Bool

@@ -26,7 +26,7 @@ use Rattle.hparse.specs.Parse.{Subject, document, fragment, Told, Parse, Parses,
 
 -- what options tell
 abbrev pub told_by : Options → Told
-told_by options = record { table = options.table.now; quirks = options.quirks.now; input = options.input_limit; limits = options.limits }
+told_by options = record { table = options.table.now; quirks = options.quirks.now; bad = options.bad_bytes; input = options.input_limit; limits = options.limits }
 
 -- a step of the builder
 abbrev pub builds : Building → Item → Result (Unit {0}) Refusal → Building → Type 0

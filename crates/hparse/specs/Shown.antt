@@ -2,6 +2,8 @@
 use Rattle.std.specs.Prelude.{◌≡◌, ℕ, List, [], Result, Ok, Err}
 use Rattle.names.specs.declared.refusal.Refusal.{Refusal}
 use Rattle.names.specs.declared.refusal.Refusal.TheVariants.{Memory}
+use Rattle.htext.specs.declared.BadBytes.{BadBytes}
+use Rattle.htext.specs.Text.{Policy}
 use Rattle.charref.specs.Reference.{Entities}
 use Rattle.htoken.specs.Token.{Tok, gives_item}
 use Rattle.htoken.specs.declared.token.Start.TheVariants.{Document}
@@ -15,21 +17,21 @@ use Rattle.hparse.specs.Input.{Began}
 use Rattle.hparse.specs.TokenRun.{TokensMean}
 
 -- The result is the answer of the bytes, unless memory ran out.
-pub data Shows (table : Entities) (limit : ℕ) (bytes : List ℕ) (result : Result TokenRun Refusal) : Type 0 where
-  ran_out : result ≡ Err Memory → Shows table limit bytes result
-  refuses : (refusal : Refusal) → result ≡ Err refusal → Answers table limit bytes (Err refusal) → Shows table limit bytes result
+pub data Shows (table : Entities) (how : Policy) (bytes : List ℕ) (result : Result TokenRun Refusal) : Type 0 where
+  ran_out : result ≡ Err Memory → Shows table how bytes result
+  refuses : (refusal : Refusal) → result ≡ Err refusal → Answers table how bytes (Err refusal) → Shows table how bytes result
   accepts : (run : TokenRun) (tokens : List Tok) → result ≡ Ok run → TokensMean run.names run.tokens.items tokens
-      → Answers table limit bytes (Ok (tokens, run.errors.items)) → Shows table limit bytes result
+      → Answers table how bytes (Ok (tokens, run.errors.items)) → Shows table how bytes result
 
 -- .. or what a run is where memory did not
-abbrev pub AnswersRun : Entities → ℕ → List ℕ → Result TokenRun Refusal → Type 0
-AnswersRun table limit bytes (Ok run) = (tokens : List Tok) × TokensMean run.names run.tokens.items tokens
-    × Answers table limit bytes (Ok (tokens, run.errors.items))
-AnswersRun table limit bytes (Err refusal) = Answers table limit bytes (Err refusal)
+abbrev pub AnswersRun : Entities → Policy → List ℕ → Result TokenRun Refusal → Type 0
+AnswersRun table how bytes (Ok run) = (tokens : List Tok) × TokensMean run.names run.tokens.items tokens
+    × Answers table how bytes (Ok (tokens, run.errors.items))
+AnswersRun table how bytes (Err refusal) = Answers table how bytes (Err refusal)
 
 -- The bytes of a document have been read, whose tokens and errors are collected.
-pub record HasReadTokens (table : Entities) (limit : ℕ) (reading : Reading Collected) (bytes : List ℕ) : Type 0 where
+pub record HasReadTokens (table : Entities) (bad : BadBytes) (limit : ℕ) (reading : Reading Collected) (bytes : List ℕ) : Type 0 where
   pub began : Began Collected
   pub no_tokens : began.sink.tokens.items ≡ []
   pub no_errors : began.sink.errors.items ≡ []
-  pub has_read : HasRead (gives_item KeepsError KeepsToken) (record { table = table; start = Document; limit = limit }) began reading bytes
+  pub has_read : HasRead (gives_item KeepsError KeepsToken) (record { table = table; start = Document; bad = bad; limit = limit }) began reading bytes

@@ -4,6 +4,8 @@ ghost use Rattle.std.specs.Prelude.{◌≡◌, ◌≤◌, ℕ, List, [], IfOk, M
 ghost use Rattle.std.specs.List.{flat_map};
 ghost use Rattle.charref.specs.Reference.{Entities};
 ghost use Rattle.names.specs.declared.refusal.Refusal.TheVariants.{Memory};
+ghost use Rattle.htext.specs.declared.BadBytes.{BadBytes as Bad};
+ghost use Rattle.hparse.specs.Answer.{of_document};
 ghost use Rattle.hparse.specs.Collecting.{IsRunOf};
 ghost use Rattle.hparse.specs.Shown.{HasReadTokens, Shows};
 
@@ -19,7 +21,7 @@ use std::alloc::{AllocError, Global};
 /// The tokens of the pieces joined, however they are cut.
 pub fn tokens(alloc: Global, pieces: &[&[u8]], options: &Options) -> Result<TokenRun, Refusal>
     requires { options.now.input_limit ≤ MAX_INPUT }
-    ensures { Shows options.now.table.now options.now.input_limit (flat_map (λ piece. piece.now) pieces.now) result }
+    ensures { Shows options.now.table.now (of_document options.now.bad_bytes options.now.input_limit) (flat_map (λ piece. piece.now) pieces.now) result }
 {
     let mut reading = begin(alloc, options)?;
     for piece in pieces {
@@ -40,7 +42,7 @@ pub(crate) fn begin<'t>(
     options: &Options<'t>,
 ) -> Result<Reading<'t, Collected>, AllocError>
     requires { options.now.input_limit ≤ MAX_INPUT }
-    ensures { IfOk result (λ reading. HasReadTokens options.now.table.now options.now.input_limit reading []) }
+    ensures { IfOk result (λ reading. HasReadTokens options.now.table.now options.now.bad_bytes options.now.input_limit reading []) }
 {
     let names = Names::with_keys(alloc, options.keys)?;
     let sink = Collected::new(alloc);
@@ -49,7 +51,8 @@ pub(crate) fn begin<'t>(
 
 /// The tokens of a document that has ended.
 fn finish(mut reading: Reading<Collected>) -> Result<TokenRun, Refusal>
-    ensures { (table : Entities) (limit : ℕ) (bytes : List ℕ) → HasReadTokens table limit reading.entry bytes → Shows table limit bytes result }
+    ensures { (table : Entities) (bad : Bad) (limit : ℕ) (bytes : List ℕ) → HasReadTokens table bad limit reading.entry bytes
+        → Shows table (of_document bad limit) bytes result }
 {
     match reading.end() {
         Ok(()) => run_of(reading),

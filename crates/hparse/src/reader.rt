@@ -3,7 +3,8 @@
 ghost use Rattle.std.specs.Prelude.{◌<◌, ◌≤◌, ℕ, List, []};
 ghost use Rattle.htoken.specs.Token.{gives_item};
 ghost use Rattle.hparse.specs.Fed.{HasRead};
-ghost use Rattle.hparse.specs.Input.{Manner, Began, Comes};
+ghost use Rattle.hparse.specs.Answer.{of_document};
+ghost use Rattle.hparse.specs.Input.{Manner, Began, Comes, how_of};
 ghost use Rattle.hparse.specs.Reader.{ReadsInput};
 ghost use Rattle.hparse.specs.Shown.{AnswersRun};
 
@@ -27,7 +28,8 @@ pub fn read_tokens<R: Source>(
 ) -> Result<TokenRun, Refusal>
     requires limit { options.now.input_limit ≤ MAX_INPUT }
     requires piece { 0 < piece }
-    ensures { ReadsInput R.left R.failed (AnswersRun options.now.table.now options.now.input_limit) options.now.input_limit piece [] source.old source.new
+    ensures { ReadsInput R.left R.failed (AnswersRun options.now.table.now (of_document options.now.bad_bytes options.now.input_limit))
+        (of_document options.now.bad_bytes options.now.input_limit) piece [] source.old source.new
         result }
 {
     let mut reading = begin(alloc, options)?;
@@ -50,7 +52,7 @@ pub(crate) fn read_to_end<S: TokenSink, R: Source>(
     requires { 0 < piece }
     ensures { (m : Manner) (began : Began S) (fed : List ℕ) → m.limit ≤ MAX_INPUT → HasRead (gives_item S.gives S.gives_token) m began reading.old fed
         → ReadsInput R.left R.failed (λ bytes. Comes (gives_item S.gives S.gives_token) m began bytes reading.new.feeding.names reading.new.feeding.sink)
-        m.limit piece fed source.old source.new result }
+        (how_of m) piece fed source.old source.new result }
 {
     let mut buffer = vec![in alloc; 0u8; piece]?;
     for _turn in 0..u64::MAX {

@@ -39,11 +39,11 @@ impl<'t, S: TokenSink> Reading<'t, S> {
         sink: S,
     ) -> Reading<'t, S>
         requires { options.now.input_limit ≤ MAX_INPUT }
-        ensures { HasRead (gives_item S.gives S.gives_token) (record { table = options.now.table.now; start = start; limit = options.now.input_limit })
+        ensures { HasRead (gives_item S.gives S.gives_token) (record { table = options.now.table.now; start = start; bad = options.now.bad_bytes; limit = options.now.input_limit })
             (record { names = names; sink = sink }) result [] }
     {
         Reading {
-            decoder: Decoder::new(alloc, bom(start), options.input_limit),
+            decoder: Decoder::new(alloc, bom(start), options.bad_bytes, options.input_limit),
             feeding: Feeding::new(alloc, options.table, start, names, sink),
         }
     }

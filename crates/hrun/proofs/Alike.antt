@@ -1,6 +1,6 @@
 -- A tree whose names are of a table reads the same by the texts of the table and by a spelling of all numbers.
 use Rattle.std.proofs.Common.{◌≡◌, ℕ, List, [], ◌∷◌, length, map, ap₂, refl, true, arith}
-use Rattle.std.specs.Prelude.{nat_lt, if◌then◌else◌}
+use Rattle.std.specs.Prelude.{nat_lt}
 use Rattle.names.specs.Names.{Texts, IsOf, text_of}
 use Rattle.names.specs.Spelling.{spelling}
 use Rattle.hnodes.specs.Forest.{Attribute, What, document, doctype, element, comment, text, Forest, none, tree}

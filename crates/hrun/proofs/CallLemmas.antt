@@ -6,7 +6,8 @@ use Rattle.std.proofs.KnownBytes.{Appends-nil, Appends-trans}
 use Rattle.names.specs.declared.refusal.Refusal.{Refusal}
 use Rattle.names.specs.declared.refusal.Refusal.TheVariants.{Write}
 use Rattle.hparse.specs.Calls.{counted}
-use Rattle.hrun.specs.Calls.{WritesAll, counted_by_result}
+use Rattle.hrun.specs.Calls.{WritesAll}
+use Rattle.hwrite.specs.Calls.{counted_by_result}
 use Rattle.hwrite.specs.Output.{AppendsBeginning}
 
 -- the clauses of `write_all` as one fact

@@ -10,7 +10,7 @@ use Rattle.hwrite.specs.Plain.{is_plain}
 use Rattle.hwrite.specs.Written.{written}
 use Rattle.hwrite.specs.declared.escaping.Escaping.{Escaping}
 use Rattle.hparse.specs.Answer.{Answers}
-use Rattle.hparse.specs.Parse.{Parse, Parses, Subject, document, fragment, Told, root_of}
+use Rattle.hparse.specs.Parse.{Parse, Parses, Subject, document, fragment, Told, policy, root_of}
 use Rattle.hrun.specs.declared.command.Task.{Task}
 use Rattle.hrun.specs.declared.command.Task.TheVariants as task
 use Rattle.hrun.specs.Context.{subject_in}
@@ -49,7 +49,7 @@ plain_text subject parse = plain_line (is_plain_in subject (children_of (root_of
 
 -- what a task prints of an input that stands in this element, or is a document, where HTML is escaped so; tokens are those of a document
 abbrev pub prints_of : Escaping → Task → Option (List ℕ) → Told → List ℕ → Result (List ℕ) Refusal → Type 0
-prints_of escaping task.Tokens context told = Prints (Answers told.table told.input) tokens_text
+prints_of escaping task.Tokens context told = Prints (Answers told.table (policy told document)) tokens_text
 prints_of escaping task.Tree context told = Prints (Parses told (subject_in context)) (nodes_text (subject_in context))
 prints_of escaping task.Errors context told = Prints (Parses told (subject_in context)) errors_text
 prints_of escaping task.Write context told = Prints (Parses told (subject_in context)) (written_text escaping (subject_in context))

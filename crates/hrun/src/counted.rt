@@ -4,8 +4,8 @@ ghost use Rattle.std.specs.Prelude.{◌≡◌};
 ghost use Rattle.hparse.specs.Calls.{counted};
 ghost use Rattle.hrun.specs.Counted.{failures_of, inner_of};
 
-use crate::target::Target;
 use hparse::Source;
+use hwrite::Target;
 use std::io::{Read, Write};
 
 /// Any reader or writer, with a count of its failed calls. No call is tried again, not even an interrupted one.

@@ -5,8 +5,8 @@ ghost use Rattle.names.specs.Names.{AreNames, text_of};
 ghost use Rattle.hnodes.specs.Forest.{children_of};
 ghost use Rattle.hnodes.specs.Named.{AreOf};
 ghost use Rattle.hnodes.specs.Spelled.{spelled};
-ghost use Rattle.hparse.specs.Answer.{Answers};
-ghost use Rattle.hparse.specs.Parse.{Parses};
+ghost use Rattle.hparse.specs.Answer.{Answers, of_document};
+ghost use Rattle.hparse.specs.Parse.{Parses, policy};
 ghost use Rattle.hparse.specs.Parsing.{told_by, AnswersParse};
 ghost use Rattle.hrun.specs.Command.{name_of};
 ghost use Rattle.hrun.specs.Context.{subject_in};
@@ -15,10 +15,9 @@ ghost use Rattle.hrun.specs.Running.{BeginsIn, ReadsIn, Runs, RunsIn, RunsTask, 
 
 use crate::command::{Command, Task};
 use crate::lines::token_lines;
-use crate::target::{Target, write_all};
 use hparse::{Options, Parsed, Parser, Source, parse_reader, read_tokens};
 use htext::MAX_INPUT;
-use hwrite::{error_lines, is_plain, serialize_to_vec, tree_text};
+use hwrite::{Target, error_lines, is_plain, serialize_to_vec, tree_text, write_all};
 use names::Refusal;
 use std::alloc::Global;
 
@@ -56,7 +55,8 @@ fn run_tokens<S: Source, W: Target>(
 ) -> Result<(), Refusal>
     requires limit { options.now.input_limit ≤ MAX_INPUT }
     requires piece { 0 < piece }
-    ensures { Runs S.left S.failed W.written W.failed (Prints (Answers options.now.table.now options.now.input_limit) tokens_text) options.now.input_limit piece
+    ensures { Runs S.left S.failed W.written W.failed (Prints (Answers options.now.table.now (of_document options.now.bad_bytes options.now.input_limit)) tokens_text)
+        (of_document options.now.bad_bytes options.now.input_limit) piece
         source.old source.new target.old target.new result }
 {
     let answer = read_tokens(alloc, piece, options, source)?;
@@ -79,7 +79,7 @@ fn run_tree<S: Source, W: Target>(
     requires piece { 0 < command.piece }
     ensures { RunsIn S.left S.failed W.written W.failed (name_of command.entry.context)
         (Prints (Parses (told_by options.now) (subject_in (name_of command.entry.context))) (nodes_text (subject_in (name_of command.entry.context))))
-        options.now.input_limit command.entry.piece source.old source.new target.old target.new result }
+        (policy (told_by options.now) (subject_in (name_of command.entry.context))) command.entry.piece source.old source.new target.old target.new result }
 {
     let parsed = parse(alloc, command, options, source)?;
     let text = tree_text(alloc, &parsed.tree, &parsed.names, parsed.root);
@@ -101,7 +101,7 @@ fn run_errors<S: Source, W: Target>(
     requires piece { 0 < command.piece }
     ensures { RunsIn S.left S.failed W.written W.failed (name_of command.entry.context)
         (Prints (Parses (told_by options.now) (subject_in (name_of command.entry.context))) errors_text)
-        options.now.input_limit command.entry.piece source.old source.new target.old target.new result }
+        (policy (told_by options.now) (subject_in (name_of command.entry.context))) command.entry.piece source.old source.new target.old target.new result }
 {
     let parsed = parse(alloc, command, options, source)?;
     let text = error_lines(alloc, &parsed.errors);
@@ -123,7 +123,7 @@ fn run_write<S: Source, W: Target>(
     requires piece { 0 < command.piece }
     ensures { RunsIn S.left S.failed W.written W.failed (name_of command.entry.context)
         (Prints (Parses (told_by options.now) (subject_in (name_of command.entry.context))) (written_text command.entry.escaping (subject_in (name_of command.entry.context))))
-        options.now.input_limit command.entry.piece source.old source.new target.old target.new result }
+        (policy (told_by options.now) (subject_in (name_of command.entry.context))) command.entry.piece source.old source.new target.old target.new result }
 {
     let parsed = parse(alloc, command, options, source)?;
     let text = serialize_to_vec(
@@ -151,7 +151,7 @@ fn run_plain<S: Source, W: Target>(
     requires piece { 0 < command.piece }
     ensures { RunsIn S.left S.failed W.written W.failed (name_of command.entry.context)
         (Prints (Parses (told_by options.now) (subject_in (name_of command.entry.context))) (plain_text (subject_in (name_of command.entry.context))))
-        options.now.input_limit command.entry.piece source.old source.new target.old target.new result }
+        (policy (told_by options.now) (subject_in (name_of command.entry.context))) command.entry.piece source.old source.new target.old target.new result }
 {
     let parsed = parse(alloc, command, options, source)?;
     let is_plain = is_plain_in(command.context, &parsed);
@@ -190,7 +190,7 @@ fn parse<S: Source>(
     requires limit { options.now.input_limit ≤ MAX_INPUT }
     requires piece { 0 < command.piece }
     ensures { ReadsIn S.left S.failed (name_of command.entry.context) (AnswersParse (told_by options.now) (subject_in (name_of command.entry.context)))
-        options.now.input_limit command.entry.piece source.old source.new result }
+        (policy (told_by options.now) (subject_in (name_of command.entry.context))) command.entry.piece source.old source.new result }
 {
     let parser = parser(alloc, command.context, options)?;
     parse_reader(alloc, parser, command.piece, source)

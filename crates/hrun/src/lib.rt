@@ -7,11 +7,10 @@ pub mod counted;
 pub mod engine;
 pub mod lines;
 mod quoted;
-pub mod target;
 
 pub use command::{Command, Task};
 pub use context::check_context;
 pub use counted::Counted;
 pub use engine::{parser, run};
+pub use hwrite::{Target, write_all};
 pub use lines::token_lines;
-pub use target::{Target, write_all};

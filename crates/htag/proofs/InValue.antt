@@ -1,5 +1,5 @@
 -- A value, a character at a time.
-use Rattle.std.proofs.Common.{◌≡◌, ℕ, zero, suc, ◌+◌, ◌-◌, ◌≤◌, Bool, true, false, ◌&&◌, eqb, List, [], ◌∷◌, ◌++◌, length, take, drop, map, sym, refl, ap, ◌∙◌, subst, append-nil, append_assoc, arith, length-append, Option, Some, None, Vec, Global}
+use Rattle.std.proofs.Common.{◌≡◌, ℕ, zero, suc, ◌+◌, ◌-◌, ◌≤◌, Bool, true, false, true≢false, ◌&&◌, eqb, List, [], ◌∷◌, ◌++◌, length, take, drop, map, sym, refl, ap, ◌∙◌, subst, append-nil, append_assoc, arith, length-append, Option, Some, None, Vec, Global}
 use Rattle.std.specs.Prelude.{encode_utf8_all, option_to_list}
 use Rattle.std.specs.Char.{encode_utf8}
 use Rattle.std.specs.String.{string_bytes}
@@ -15,7 +15,10 @@ use Rattle.charref.specs.declared.reference.Reference.{Reference}
 use Rattle.charref.specs.declared.walk.Walk.{Walk}
 use Rattle.charref.specs.Pieces.{IsRead, characters_of, errors_of}
 use Rattle.charref.specs.Reference.{Entities, Piece, IsReference, IsTable, ampersand}
-use Rattle.charref.specs.Walk.{HasTaken}
+use Rattle.charref.specs.declared.state.State.{State as WalkState}
+use Rattle.charref.specs.Held.{is_number, kept}
+use Rattle.charref.specs.Walk.{HasTaken, LeavesLast}
+use Rattle.charref.proofs.Keeping.{kept_all, kept_nothing, is_other, drop-kept, drop-kept-end}
 use Rattle.charref.proofs.Naming.{all-append}
 use Rattle.htag.specs.declared.reading.Reading.{Reading}
 use Rattle.htag.specs.declared.reading.Reading.TheVariants as reading
@@ -53,6 +56,13 @@ quiet_drop (suc n) (p ∷ ps) h = quiet_drop n ps (and_parts (is_quiet p.ch) (al
 are_plain : (table : Entities) (text : List Placed) → all is_quiet text ≡ true → AreValue table (plain_pieces text)
 are_plain table [] h = tt
 are_plain table (p ∷ ps) h = let parts = and_parts (is_quiet p.ch) (all is_quiet ps) h in (IsPiece.plain p (quiet_plain p.ch parts.0) refl, are_plain table ps parts.1)
+
+-- a character more is kept, where no number is read
+pub other_kept : (old next : WalkState) (taken : List Placed) (p : Placed) (held : List ℕ) → (is_number old ≡ true → is_number next ≡ true) → is_number next ≡ false
+    → held ≡ characters (kept old taken) → held ++ p.ch ∷ [] ≡ characters (kept next (taken ++ p ∷ []))
+other_kept old next taken p held leads other e =
+    ap (λ (x : List ℕ). x ++ p.ch ∷ []) (e ∙ ap characters (kept_all old taken (is_other old (λ number. true≢false (sym (leads number) ∙ other)))))
+    ∙ sym (characters-append taken (p ∷ [])) ∙ ap characters (sym (kept_all next (taken ++ p ∷ []) other))
 
 -- A PIECE IS KNOWN, AND CHARACTERS AFTER IT
 
@@ -136,7 +146,7 @@ module _ (table : Entities) (quoted : Bool) (old new : ValueWalk) (p : Placed) (
     }
 
     pub amp_step : (w : Walk) → new.reading ≡ reading.Reference w → p.ch ≡ 38 → IsTable table → HasTaken w table true [] → new.place ≡ p.at → new.held.items ≡ [] → new.text ≡ old.text → IsInValue table quoted new (text ++ p ∷ []) [] (own ++ [])
-    amp_step w next is is_table taken place kept same = record {
+    amp_step w next is is_table taken place empty same = record {
       pieces = h.pieces;
       held = p ∷ [];
       text_is = text_so_far;
@@ -150,7 +160,7 @@ module _ (table : Entities) (quoted : Bool) (old new : ValueWalk) (p : Placed) (
         is_table = is_table;
         has_taken = taken;
         place_is = place;
-        kept = kept;
+        kept_is = empty ∙ ap characters (sym (kept_nothing w.state));
         bytes = ap string_bytes same ∙ (held_in reading.Nothing nothing).1;
       });
     }
@@ -166,9 +176,9 @@ module _ (table : Entities) (quoted : Bool) (old new : ValueWalk) (p : Placed) (
     abbrev held_here : InReference table w old h.pieces h.held
     held_here = held_in (reading.Reference w) before
 
-    pub reference_on : (w' : Walk) → new.reading ≡ reading.Reference w' → ((taken : List Placed) → HasTaken w table true taken → HasTaken w' table true (taken ++ p ∷ [])) → new.held.items ≡ old.held.items ++ p.ch ∷ [] → new.place ≡ old.place → new.text ≡ old.text
+    pub reference_on : (w' : Walk) → new.reading ≡ reading.Reference w' → ((taken : List Placed) → HasTaken w table true taken → HasTaken w' table true (taken ++ p ∷ [])) → ((taken : List Placed) → old.held.items ≡ characters (kept w.state taken) → new.held.items ≡ characters (kept w'.state (taken ++ p ∷ []))) → new.place ≡ old.place → new.text ≡ old.text
         → IsInValue table quoted new (text ++ p ∷ []) [] (own ++ [])
-    reference_on w' next takes kept place same =
+    reference_on w' next takes keeps place same =
         let r = held_here in record {
           pieces = h.pieces;
           held = h.held ++ p ∷ [];
@@ -183,12 +193,12 @@ module _ (table : Entities) (quoted : Bool) (old new : ValueWalk) (p : Placed) (
             is_table = r.is_table;
             has_taken = takes r.taken r.has_taken;
             place_is = place ∙ r.place_is;
-            kept = kept ∙ ap (λ (x : List ℕ). x ++ p.ch ∷ []) r.kept ∙ sym (characters-append r.taken (p ∷ []));
+            kept_is = keeps r.taken r.kept_is;
             bytes = ap string_bytes same ∙ r.bytes;
           });
         }
 
-    module _ (found : Reference) (read : (taken : List Placed) → HasTaken w table true taken → (after : List Placed) → IsRead table true (taken ++ p ∷ []) after found) where
+    module _ (found : Reference) (read : (taken : List Placed) → HasTaken w table true taken → (after : List Placed) → IsRead table true (taken ++ p ∷ []) after found) (number : is_number w.state ≡ true → LeavesLast found) where
       abbrev all_taken : List Placed
       all_taken = held_here.taken ++ p ∷ []
 
@@ -253,8 +263,11 @@ module _ (table : Entities) (quoted : Bool) (old new : ValueWalk) (p : Placed) (
             let back : List Placed = drop k taken in
             let is : (rest : List Placed) → IsReference table true ((back ++ p ∷ []) ++ rest) (piece_of front) = is_piece front (back ++ p ∷ []) (take-append-le k taken (p ∷ []) within) (drop-append-le k taken (p ∷ []) within) in
             let quiet : all is_quiet back ≡ true = quiet_drop k taken quiet_taken in
-            let same : length old.held.items - (found.left - 1) ≡ k = (let e : length old.held.items ≡ length taken = ap length held_here.kept ∙ length-characters taken in omega (arith, e, one_more, some)) in
-            let given : drop (length old.held.items - (found.left - 1)) old.held.items ≡ characters back = ap (λ (n : ℕ). drop n old.held.items) same ∙ ap (drop k) held_here.kept ∙ drop-map k taken in
+            let kept_here : List Placed = kept w.state taken in
+            let same : length old.held.items - (found.left - 1) ≡ length kept_here + 1 - found.left = (let e : length old.held.items ≡ length kept_here = ap length held_here.kept_is ∙ length-characters kept_here in omega (arith, e, some)) in
+            let given : drop (length old.held.items - (found.left - 1)) old.held.items ≡ characters back =
+            ap (λ (n : ℕ). drop n old.held.items) same ∙ ap (drop (length kept_here + 1 - found.left)) held_here.kept_is ∙ drop-map (length kept_here + 1 - found.left) kept_here
+            ∙ ap characters (drop-kept w.state taken found.left (λ n. (number n).1) ∙ ap (λ (n : ℕ). drop (n - found.left) taken) (sym one_more)) in
             let joined : h.held ≡ (held_here.amp ∷ front) ++ back = held_here.held_is ∙ ap (λ (x : List Placed). held_here.amp ∷ x) (sym (take-append-drop k taken)) in
             subst (IsInValue table quoted new text (p ∷ [])) told_here
             (resolve h.pieces (piece_of front) back quiet table quoted new text own (reference_even table true ((back ++ p ∷ []) ++ []) (piece_of front) held_here.is_table (is []))
@@ -289,7 +302,7 @@ module _ (table : Entities) (quoted : Bool) (old new : ValueWalk) (p : Placed) (
               place_is = place ∙ held_here.place_is;
               bytes = bytes ∙ ap (λ (x : List ℕ). ((x ++ encode_utf8_all (characters_of found.characters)) ++ encode_utf8_all old.held.items) ++ encode_utf8 p.ch) held_here.bytes
                   ∙ ap (λ (x : List ℕ). ((value_bytes h.pieces ++ encode_utf8_all x) ++ encode_utf8_all old.held.items) ++ encode_utf8 p.ch) r.gives
-                  ∙ ap (λ (x : List ℕ). ((value_bytes h.pieces ++ encode_utf8_all (38 ∷ [])) ++ encode_utf8_all x) ++ encode_utf8 p.ch) held_here.kept
+                  ∙ ap (λ (x : List ℕ). ((value_bytes h.pieces ++ encode_utf8_all (38 ∷ [])) ++ encode_utf8_all x) ++ encode_utf8 p.ch) (held_here.kept_is ∙ ap characters (kept_all w.state taken (is_other w.state (λ n. true≢false (sym in_run ∙ (number n).0)))))
                   ∙ in_order (value_bytes h.pieces) (characters taken) p.ch ∙ ap (λ (x : List ℕ). value_bytes h.pieces ++ encode_utf8_all (38 ∷ x)) (sym (characters-append taken (p ∷ [])));
             });
           }
@@ -395,7 +408,7 @@ module _ (table : Entities) (quoted : Bool) (old new : ValueWalk) (text : List P
       (subst (Begins table h.pieces) r.held_is begins_end)
       (IsPiece.reference (subst (λ (x : List Placed). IsReference table true x (ampersand r.amp [])) (append-nil r.run) (r.unknown [])))
 
-  module _ (w : Walk) (before : old.reading ≡ reading.Reference w) (found : Reference) (read : (taken : List Placed) → HasTaken w table true taken → IsRead table true taken [] found) where
+  module _ (w : Walk) (before : old.reading ≡ reading.Reference w) (found : Reference) (read : (taken : List Placed) → HasTaken w table true taken → IsRead table true taken [] found) (number : is_number w.state ≡ true → found.left ≡ 0) where
     pub ends_reference : string_bytes new.text ≡ (string_bytes old.text ++ encode_utf8_all (characters_of found.characters)) ++ encode_utf8_all (drop (length old.held.items - found.left) old.held.items)
         → IsWholeValue table quoted new text (own ++ told found old.place)
     ends_reference bytes =
@@ -409,8 +422,10 @@ module _ (table : Entities) (quoted : Bool) (old new : ValueWalk) (text : List P
         subst (λ (x : List ParseError). IsReference table true back (record { text = r.amp ∷ front; gives = characters_of found.characters; errors = x })) errors
         (subst (λ (x : List Placed). IsReference table true x (record { text = r.amp ∷ front; gives = characters_of found.characters; errors = errors_of found r.amp.at [] })) (append-nil back) ((read r.taken r.has_taken).reads r.amp r.is_amp)) in
         let quiet : all is_quiet back ≡ true = quiet_drop k r.taken (quiet_held table true w.state r.taken r.has_taken.held) in
-        let same : length old.held.items - found.left ≡ k = ap (λ (n : ℕ). n - found.left) (ap length r.kept ∙ length-characters r.taken) in
-        let given : drop (length old.held.items - found.left) old.held.items ≡ characters back = ap (λ (n : ℕ). drop n old.held.items) same ∙ ap (drop k) r.kept ∙ drop-map k r.taken in
+        let kept_here : List Placed = kept w.state r.taken in
+        let given : drop (length old.held.items - found.left) old.held.items ≡ characters back =
+        ap (λ (x : List ℕ). drop (length x - found.left) x) r.kept_is ∙ ap (λ (n : ℕ). drop (n - found.left) (characters kept_here)) (length-characters kept_here) ∙ drop-map (length kept_here - found.left) kept_here
+        ∙ ap characters (drop-kept-end w.state r.taken found.left number) in
         let joined : h.held ≡ (r.amp ∷ front) ++ back = r.held_is ∙ ap (λ (x : List Placed). r.amp ∷ x) (sym (take-append-drop k r.taken)) in
         subst (λ (x : ℕ). IsWholeValue table quoted new text (own ++ told found x)) (sym r.place_is)
         (resolve_end h.pieces piece back quiet table quoted new text own (reference_even table true back piece r.is_table is)

@@ -7,6 +7,7 @@ use Rattle.names.specs.declared.placed.Placed.{Placed}
 use Rattle.names.specs.Placed.{characters, begins, all, past, is_alphanumeric, error, error_if}
 use Rattle.charref.specs.declared.reference.Reference.{Reference}
 use Rattle.charref.specs.declared.walk.Walk.{Walk}
+use Rattle.charref.specs.Held.{kept}
 use Rattle.charref.specs.Pieces.{characters_of}
 use Rattle.charref.specs.Reference.{Entities, Piece, IsReference, IsTable, ampersand}
 use Rattle.charref.specs.Walk.{HasTaken}
@@ -28,7 +29,7 @@ plain_pieces text = map plain_piece text
 pub record Begins (table : Entities) (pieces : List Piece) (next : List Placed) : Type 0 where
   pub value : (more : List Piece) (rest : List Placed) → AreValue table more → pieces_text more ≡ next ++ rest → AreValue table (pieces ++ more)
 
--- after an `&` that may be a reference's
+-- after an `&` that may be a reference's: the characters that may be read again are kept
 pub record InReference (table : Entities) (reference : Walk) (walk : ValueWalk) (pieces : List Piece) (held : List Placed) : Type 0 where
   pub amp : Placed
   pub taken : List Placed
@@ -37,7 +38,7 @@ pub record InReference (table : Entities) (reference : Walk) (walk : ValueWalk) 
   pub is_table : IsTable table
   pub has_taken : HasTaken reference table true taken
   pub place_is : walk.place ≡ amp.at
-  pub kept : walk.held.items ≡ characters taken
+  pub kept_is : walk.held.items ≡ characters (kept reference.state taken)
   pub bytes : string_bytes walk.text ≡ value_bytes pieces
 
 -- after an `&` that no key begins: its run of alphanumerics stands in the walk's text

@@ -138,6 +138,11 @@ impl<'t> ValueWalk<'t> {
     {
         let mut walk = walk;
         let found = match walk.take(ch) {
+            None if walk.is_number() => {
+                self.held.clear();
+                self.reading = Reading::Reference(walk);
+                return Ok(());
+            }
             None => {
                 self.held.push(ch)?;
                 self.reading = Reading::Reference(walk);

@@ -10,6 +10,6 @@ pub(crate) struct ValueWalk<'t> {
     pub reading: Reading<'t>,
     /// The place of the `&` that is being read.
     pub place: u64,
-    /// The characters after it.
+    /// The characters after it, but for those of a number.
     pub held: Vec<char>,
 }

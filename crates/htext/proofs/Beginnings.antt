@@ -7,7 +7,8 @@ use Rattle.std.proofs.lemmas.List.{take_at, take-append-drop, take-append-le}
 use Rattle.std.proofs.Math.Utf8.{scalar_cases, low_scalar}
 use Rattle.std.specs.Str.Lossy.{utf8_valid_len, utf8_error_len, second_byte_min, second_byte_max}
 use Rattle.std.specs.Char.{IsScalar, encode_utf8}
-use Rattle.htext.proofs.Valid.{starts_back}
+use Rattle.htext.specs.Text.{valid_len}
+use Rattle.htext.proofs.Valid.{starts, starts_back}
 
 in_range : (low high c : ℕ) → low ≤ c → c ≤ high → is_in_range low high c ≡ true
 in_range low high c a b = rw (le-leb low c a, le-leb c high b) refl
@@ -356,3 +357,31 @@ completed (x ∷ y ∷ z ∷ []) some none open' =
       | inr more ↦ after_three x y z more r.1 s u.0 u.1
     ]
 completed (x ∷ y ∷ z ∷ w ∷ ws) some none open' = absurd (many_are_not x y z w ws open')
+
+-- WHATEVER COMES AFTER
+
+pub some_left : (rest : List ℕ) (k : ℕ) → utf8_error_len rest ≡ Some k → 0 < length rest
+unfolding utf8_error_len
+some_left [] k h = absurd cc
+some_left (x ∷ xs) k h = omega arith
+
+-- no character begins in what stays without one, whatever comes after
+pub none_after : (rest more : List ℕ) (k : ℕ) → utf8_valid_len rest ≡ 0 → utf8_error_len rest ≡ Some k → utf8_valid_len (rest ++ more) ≡ 0
+none_after rest more k none fault = elim (cases_lt 0 (utf8_valid_len (rest ++ more))) [
+  | inl begun ↦
+      let (c, r, s, e) = starts (rest ++ more) begun in
+      let open' : utf8_error_len rest ≡ None = front_of c rest more r s e (some_left rest k fault) none in
+      absurd cc
+  | inr nothing ↦ omega arith
+]
+
+-- what begins with no character does so under a limit too
+pub under_limit : (n : ℕ) (bytes : List ℕ) → utf8_valid_len bytes ≡ 0 → valid_len n bytes ≡ 0
+under_limit n bytes none = elim (cases_lt 0 (valid_len n bytes)) [
+  | inl some ↦
+      let (c, r, s, e) = starts (take n bytes) some in
+      let begun : 0 < utf8_valid_len bytes = starts_back bytes (r ++ drop n bytes) c s
+      (sym (take-append-drop n bytes) ∙ ap (λ (x : List ℕ). x ++ drop n bytes) e ∙ append_assoc (encode_utf8 c) r (drop n bytes)) in
+      absurd (omega (arith, begun))
+  | inr nothing ↦ omega arith
+]

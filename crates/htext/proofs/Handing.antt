@@ -1,5 +1,6 @@
 -- How items are handed to a sink.
-use Rattle.std.proofs.Common.{◌≡◌, ℕ, ◌+◌, Bool, eqb, List, [], ◌∷◌, ◌++◌, sym, refl, ap, ◌∙◌, subst, Result, Ok, Err, MatchResult, append_assoc, append-nil}
+use Rattle.std.proofs.Common.{◌≡◌, ℕ, ◌+◌, Bool, eqb, List, [], ◌∷◌, ◌++◌, sym, refl, ap, ◌∙◌, subst, Result, Ok, Err, MatchResult, append_assoc, append-nil, map, true, false, length, arith}
+use Rattle.std.proofs.lemmas.List.{length-append, nil_from_length}
 use Rattle.std.proofs.lemmas.Str.{chars_past_char, chars-nil}
 use Rattle.std.specs.Prelude.{⊤}
 use Rattle.std.specs.Str.{chars, IsUtf8}
@@ -7,14 +8,13 @@ use Rattle.std.specs.Char.{encode_utf8, len_utf8}
 use Rattle.names.specs.Placed.{placed}
 use Rattle.names.proofs.Handing.{Hands-append}
 use Rattle.names.specs.Sink.{Hands, Continues}
-use Rattle.names.specs.declared.placed.Placed.{Placed}
 use Rattle.names.specs.declared.refusal.Refusal.{Refusal}
 use Rattle.names.specs.declared.refusal.Refusal.TheVariants.{Memory}
 use Rattle.htext.specs.declared.Bom.{Bom}
-use Rattle.htext.specs.Text.{read_as, normalized, refusal_of, decoded}
+use Rattle.htext.specs.Text.{Policy, Read, Whole, read_as, normalized, refusal_of, decoded, settled}
 use Rattle.htext.specs.Items.{CharItem, items}
-use Rattle.htext.specs.Decoding.{HandsNew, Feeds, IsRefusedFrom, ran_out, sink_refused, took_all}
-use Rattle.htext.proofs.Texts.{items-append, decoded_goes_on}
+use Rattle.htext.specs.Decoding.{HandsOn, Feeds, IsRefusedFrom, ran_out, sink_refused, took_all}
+use Rattle.htext.proofs.Texts.{items-append, goes_on}
 
 -- where the sink refused, whatever would have come after
 pub Hands-front : {S X E : Type 0} (gives : S → X → Result (Unit {0}) E → S → Type 0) (old : S) (xs ys : List X) (e : E) (new : S) → Hands gives old xs (Err e) new → Hands gives old (xs ++ ys) (Err e) new
@@ -22,87 +22,104 @@ Hands-front gives old [] ys e new (differs, same) = absurd cc
 Hands-front gives old (x ∷ xs) ys e new (Ok u, next, given, rest) = (Ok u, next, given, Hands-front gives next xs ys e new rest)
 Hands-front gives old (x ∷ xs) ys e new (Err d, next, given, rest) = (Err d, next, given, rest)
 
-module _ {S : Type 0} (gives : S → CharItem → Result (Unit {0}) Refusal → S → Type 0) (bom : Bom) (limit : ℕ) where
-  pub HandsNew-none : (bytes : List ℕ) (sink : S) → HandsNew gives bom limit bytes bytes sink (Ok tt) sink
-  HandsNew-none bytes sink = ([], sym (append-nil (decoded bom limit bytes)), (refl, refl))
+-- no more is read of what is refused whatever follows
+nothing_more : (xs ys zs whole : List Read) → whole ≡ (xs ++ ys) ++ zs → whole ≡ xs → ys ≡ []
+nothing_more xs ys zs whole e same =
+    let two : length ((xs ++ ys) ++ zs) ≡ length (xs ++ ys) + length zs = length-append (xs ++ ys) zs in
+    nil_from_length ys (omega (arith, ap length e, ap length same, two, length-append xs ys))
 
-  -- nothing of a piece was read
-  pub ran_out_before : (fed piece : List ℕ) (sink : S) → Feeds gives bom limit fed piece sink (Err Memory) sink
-  ran_out_before fed piece sink = ran_out [] piece refl refl (subst (λ (x : List ℕ). HandsNew gives bom limit fed x sink (Ok tt) sink) (sym (append-nil fed)) (HandsNew-none fed sink))
+stays_same : (how : Policy) (bytes more : List ℕ) (e : Refusal) → IsRefusedFrom how bytes e → settled how (bytes ++ more) ≡ settled how bytes
+stays_same how bytes more e refused =
+    let on = goes_on false how.bom how.bad how.limit bytes more in
+    let later = goes_on true how.bom how.bad how.limit (bytes ++ more) [] in
+    let whole : decoded how ((bytes ++ more) ++ []) ≡ (settled how bytes ++ on.0) ++ later.0 = later.1 ∙ ap (λ (x : List Read). x ++ later.0) on.1 in
+    let last : decoded how ((bytes ++ more) ++ []) ≡ settled how bytes = ap (decoded how) (append-nil (bytes ++ more)) ∙ (refused more).1 in
+    on.1 ∙ ap (λ (x : List Read). settled how bytes ++ x) (nothing_more (settled how bytes) on.0 later.0 _ whole last) ∙ append-nil (settled how bytes)
 
-  -- all of it was
-  pub ran_out_after : (fed piece : List ℕ) (old new : S) → HandsNew gives bom limit fed (fed ++ piece) old (Ok tt) new → Feeds gives bom limit fed piece old (Err Memory) new
-  ran_out_after fed piece old new took = ran_out piece [] refl (sym (append-nil piece)) took
+module _ {S : Type 0} (gives : S → CharItem → Result (Unit {0}) Refusal → S → Type 0) where
+  pub HandsOn-none : (text : List Read) (sink : S) → HandsOn gives text text sink (Ok tt) sink
+  HandsOn-none text sink = ([], sym (append-nil text), (refl, refl))
 
-  -- one piece after another
-  pub HandsNew-append : (before middle after : List ℕ) (old between : S) (answer : Result (Unit {0}) Refusal) (new : S) → HandsNew gives bom limit before middle old (Ok tt) between → HandsNew gives bom limit middle after between answer new → HandsNew gives bom limit before after old answer new
-  HandsNew-append before middle after old between answer new (xs, to_middle, first) (ys, to_after, second) = (
+  -- one text after another
+  pub HandsOn-append : (before middle after : List Read) (old between : S) (answer : Result (Unit {0}) Refusal) (new : S) → HandsOn gives before middle old (Ok tt) between → HandsOn gives middle after between answer new → HandsOn gives before after old answer new
+  HandsOn-append before middle after old between answer new (xs, to_middle, first) (ys, to_after, second) = (
     xs ++ ys,
-    to_after ∙ ap (λ (x : List Placed). x ++ ys) to_middle ∙ append_assoc (decoded bom limit before) xs ys,
+    to_after ∙ ap (λ (x : List Read). x ++ ys) to_middle ∙ append_assoc before xs ys,
     subst (λ x. Hands gives old x answer new) (sym (items-append xs ys)) (Hands-append gives old between new (items xs) (items ys) answer first second),
   )
 
   -- where the sink refused, whatever comes after
-  pub HandsNew-goes_on : (before bytes : List ℕ) (old : S) (e : Refusal) (new : S) → HandsNew gives bom limit before bytes old (Err e) new → (more : List ℕ) → HandsNew gives bom limit before (bytes ++ more) old (Err e) new
-  HandsNew-goes_on before bytes old e new (xs, is, handed) more =
-      let on = decoded_goes_on bom limit bytes more in (
-        xs ++ on.0,
-        on.1 ∙ ap (λ (x : List Placed). x ++ on.0) is ∙ append_assoc (decoded bom limit before) xs on.0,
-        subst (λ x. Hands gives old x (Err e) new) (sym (items-append xs on.0)) (Hands-front gives old (items xs) (items on.0) e new handed),
-      )
+  pub HandsOn-goes_on : (before text after rest : List Read) (old : S) (e : Refusal) (new : S) → after ≡ text ++ rest → HandsOn gives before text old (Err e) new → HandsOn gives before after old (Err e) new
+  HandsOn-goes_on before text after rest old e new on (xs, is, handed) = (
+    xs ++ rest,
+    on ∙ ap (λ (x : List Read). x ++ rest) is ∙ append_assoc before xs rest,
+    subst (λ x. Hands gives old x (Err e) new) (sym (items-append xs rest)) (Hands-front gives old (items xs) (items rest) e new handed),
+  )
 
-  pub Feeds-append : (fed first second : List ℕ) (old between : S) (answer : Result (Unit {0}) Refusal) (new : S) → HandsNew gives bom limit fed (fed ++ first) old (Ok tt) between → Feeds gives bom limit (fed ++ first) second between answer new → Feeds gives bom limit fed (first ++ second) old answer new
-  Feeds-append fed first second old between answer new handed (ran_out front rest is split took) =
-      ran_out (first ++ front) rest is (ap (λ (x : List ℕ). first ++ x) split ∙ sym (append_assoc first front rest))
-      (subst (λ (x : List ℕ). HandsNew gives bom limit fed x old (Ok tt) new) (append_assoc fed first front) (HandsNew-append fed (fed ++ first) ((fed ++ first) ++ front) old between (Ok tt) new handed took))
-  Feeds-append fed first second old between answer new handed (sink_refused e is refused) =
-      sink_refused e is (λ more. subst (λ (x : List ℕ). HandsNew gives bom limit fed (x ++ more) old (Err e) new) (append_assoc fed first second)
-      (HandsNew-append fed (fed ++ first) (((fed ++ first) ++ second) ++ more) old between (Err e) new handed (refused more)))
-  Feeds-append fed first second old between answer new handed (took_all took answered) =
-      subst (λ (x : List ℕ). HandsNew gives bom limit fed x old (Ok tt) new → MatchResult answer (λ _. ⊤) (IsRefusedFrom bom limit x) → Feeds gives bom limit fed (first ++ second) old answer new) (sym (append_assoc fed first second)) took_all
-      (HandsNew-append fed (fed ++ first) ((fed ++ first) ++ second) old between (Ok tt) new handed took) answered
+  module _ (how : Policy) where
+    -- nothing of a piece was read
+    pub ran_out_before : (fed piece : List ℕ) (sink : S) → Feeds gives how fed piece sink (Err Memory) sink
+    ran_out_before fed piece sink =
+        ran_out [] piece refl refl (subst (λ (x : List ℕ). HandsOn gives (settled how fed) (settled how x) sink (Ok tt) sink) (sym (append-nil fed)) (HandsOn-none (settled how fed) sink))
 
-  -- what is refused stays so
-  pub Feeds-more : (fed piece : List ℕ) (old : S) (e : Refusal) (new : S) → Feeds gives bom limit fed piece old (Err e) new → (rest : List ℕ) → Feeds gives bom limit fed (piece ++ rest) old (Err e) new
-  Feeds-more fed piece old e new (ran_out front others is split took) rest = ran_out front (others ++ rest) is (ap (λ (x : List ℕ). x ++ rest) split ∙ append_assoc front others rest) took
-  Feeds-more fed piece old e new (sink_refused d is refused) rest =
-      sink_refused d is (λ more. subst (λ (x : List ℕ). HandsNew gives bom limit fed x old (Err d) new)
-      (sym (append_assoc (fed ++ piece) rest more) ∙ ap (λ (x : List ℕ). x ++ more) (append_assoc fed piece rest)) (refused (rest ++ more)))
-  Feeds-more fed piece old e new (took_all (xs, is, handed) refused) rest =
-      let whole : (fed ++ piece) ++ rest ≡ fed ++ (piece ++ rest) = append_assoc fed piece rest in
-      took_all (xs, ap (decoded bom limit) (sym whole) ∙ (refused rest).1 ∙ is, handed)
-      (λ more.
-      let again : (fed ++ (piece ++ rest)) ++ more ≡ (fed ++ piece) ++ (rest ++ more) = ap (λ (x : List ℕ). x ++ more) (sym whole) ∙ append_assoc (fed ++ piece) rest more in (
-        ap (refusal_of limit) again ∙ (refused (rest ++ more)).0,
-        ap (decoded bom limit) again ∙ (refused (rest ++ more)).1 ∙ sym (ap (decoded bom limit) (sym whole) ∙ (refused rest).1),
-      ))
+    -- all of it was
+    pub ran_out_after : (fed piece : List ℕ) (old new : S) → HandsOn gives (settled how fed) (settled how (fed ++ piece)) old (Ok tt) new → Feeds gives how fed piece old (Err Memory) new
+    ran_out_after fed piece old new took = ran_out piece [] refl (sym (append-nil piece)) took
 
-  -- what is accepted was handed over
-  pub handed_all : (fed piece : List ℕ) (old new : S) → Feeds gives bom limit fed piece old (Ok tt) new → HandsNew gives bom limit fed (fed ++ piece) old (Ok tt) new
-  handed_all fed piece old new (ran_out front rest is split took) = absurd cc
-  handed_all fed piece old new (sink_refused e is refused) = absurd cc
-  handed_all fed piece old new (took_all took answered) = took
+    -- one piece after another
+    pub Feeds-append : (fed first second : List ℕ) (old between : S) (answer : Result (Unit {0}) Refusal) (new : S) → HandsOn gives (settled how fed) (settled how (fed ++ first)) old (Ok tt) between → Feeds gives how (fed ++ first) second between answer new → Feeds gives how fed (first ++ second) old answer new
+    Feeds-append fed first second old between answer new handed (ran_out front rest is split took) =
+        ran_out (first ++ front) rest is (ap (λ (x : List ℕ). first ++ x) split ∙ sym (append_assoc first front rest))
+        (subst (λ (x : List ℕ). HandsOn gives (settled how fed) (settled how x) old (Ok tt) new) (append_assoc fed first front) (HandsOn-append _ (settled how (fed ++ first)) _ old between (Ok tt) new handed took))
+    Feeds-append fed first second old between answer new handed (sink_refused e is refused) =
+        sink_refused e is (λ more. subst (λ (x : List ℕ). HandsOn gives (settled how fed) (decoded how (x ++ more)) old (Err e) new) (append_assoc fed first second)
+        (HandsOn-append _ (settled how (fed ++ first)) _ old between (Err e) new handed (refused more)))
+    Feeds-append fed first second old between answer new handed (took_all took answered) =
+        subst (λ (x : List ℕ). HandsOn gives (settled how fed) (settled how x) old (Ok tt) new → MatchResult answer (λ _. ⊤) (IsRefusedFrom how x) → Feeds gives how fed (first ++ second) old answer new) (sym (append_assoc fed first second)) took_all
+        (HandsOn-append _ (settled how (fed ++ first)) _ old between (Ok tt) new handed took) answered
+
+    -- what is refused stays so
+    pub Feeds-more : (fed piece : List ℕ) (old : S) (e : Refusal) (new : S) → Feeds gives how fed piece old (Err e) new → (rest : List ℕ) → Feeds gives how fed (piece ++ rest) old (Err e) new
+    Feeds-more fed piece old e new (ran_out front others is split took) rest = ran_out front (others ++ rest) is (ap (λ (x : List ℕ). x ++ rest) split ∙ append_assoc front others rest) took
+    Feeds-more fed piece old e new (sink_refused d is refused) rest =
+        sink_refused d is (λ more. subst (λ (x : List ℕ). HandsOn gives (settled how fed) (decoded how x) old (Err d) new)
+        (sym (append_assoc (fed ++ piece) rest more) ∙ ap (λ (x : List ℕ). x ++ more) (append_assoc fed piece rest)) (refused (rest ++ more)))
+    Feeds-more fed piece old e new (took_all took refused) rest =
+        let whole : (fed ++ piece) ++ rest ≡ fed ++ (piece ++ rest) = append_assoc fed piece rest in
+        let same : settled how (fed ++ (piece ++ rest)) ≡ settled how (fed ++ piece) = ap (settled how) (sym whole) ∙ stays_same how (fed ++ piece) rest e refused in
+        took_all (subst (λ (x : List Read). HandsOn gives (settled how fed) x old (Ok tt) new) (sym same) took)
+        (λ more.
+        let again : (fed ++ (piece ++ rest)) ++ more ≡ (fed ++ piece) ++ (rest ++ more) = ap (λ (x : List ℕ). x ++ more) (sym whole) ∙ append_assoc (fed ++ piece) rest more in (
+          ap (refusal_of how) again ∙ (refused (rest ++ more)).0,
+          ap (decoded how) again ∙ (refused (rest ++ more)).1 ∙ sym same,
+        ))
+
+    -- what is accepted was handed over
+    pub handed_all : (fed piece : List ℕ) (old new : S) → Feeds gives how fed piece old (Ok tt) new → HandsOn gives (settled how fed) (settled how (fed ++ piece)) old (Ok tt) new
+    handed_all fed piece old new (ran_out front rest is split took) = absurd cc
+    handed_all fed piece old new (sink_refused e is refused) = absurd cc
+    handed_all fed piece old new (took_all took answered) = took
 
 -- A loop that hands over the characters of bytes, one by one: `bytes` are left, at the place `at`.
 module _ {S : Type 0} (gives : S → CharItem → Result (Unit {0}) Refusal → S → Type 0) (bom : Bom) (old : S) (all : List CharItem) (now : S) (after_return : Bool) (at : ℕ) (bytes : List ℕ)
-    (continues : Continues gives old all now (items (normalized bom after_return (placed at (chars bytes))))) where
-  hand_on : (c : ℕ) (others : List ℕ) → IsUtf8 bytes → bytes ≡ encode_utf8 c ++ others → Continues gives old all now (items (read_as bom after_return (record { ch = c; at = at })) ++ items (normalized bom (eqb c 13) (placed (at + len_utf8 c) (chars others))))
+    (continues : Continues gives old all now (items (normalized bom after_return (map Whole (placed at (chars bytes)))))) where
+  hand_on : (c : ℕ) (others : List ℕ) → IsUtf8 bytes → bytes ≡ encode_utf8 c ++ others → Continues gives old all now (items (map Whole (read_as bom after_return (record { ch = c; at = at }))) ++ items (normalized bom (eqb c 13) (map Whole (placed (at + len_utf8 c) (chars others)))))
   hand_on c others u is =
       subst (λ (x : List CharItem). Continues gives old all now x)
-      (ap (λ (x : List ℕ). items (normalized bom after_return (placed at x))) (chars_past_char bytes others c u is)
-      ∙ items-append (read_as bom after_return (record { ch = c; at = at })) (normalized bom (eqb c 13) (placed (at + len_utf8 c) (chars others))))
+      (ap (λ (x : List ℕ). items (normalized bom after_return (map Whole (placed at x)))) (chars_past_char bytes others c u is)
+      ∙ items-append (map Whole (read_as bom after_return (record { ch = c; at = at }))) (normalized bom (eqb c 13) (map Whole (placed (at + len_utf8 c) (chars others)))))
       continues
 
   -- the next character was taken
-  pub hand_more : (c : ℕ) (others : List ℕ) (next : S) → IsUtf8 bytes → bytes ≡ encode_utf8 c ++ others → Hands gives now (items (read_as bom after_return (record { ch = c; at = at }))) (Ok tt) next → Continues gives old all next (items (normalized bom (eqb c 13) (placed (at + len_utf8 c) (chars others))))
+  pub hand_more : (c : ℕ) (others : List ℕ) (next : S) → IsUtf8 bytes → bytes ≡ encode_utf8 c ++ others → Hands gives now (items (map Whole (read_as bom after_return (record { ch = c; at = at })))) (Ok tt) next → Continues gives old all next (items (normalized bom (eqb c 13) (map Whole (placed (at + len_utf8 c) (chars others)))))
   hand_more c others next u is handed = λ answer new h. hand_on c others u is answer new (Hands-append gives now next new _ _ answer handed h)
 
   -- it was refused
-  pub hand_refused : (c : ℕ) (others : List ℕ) (next : S) (e : Refusal) → IsUtf8 bytes → bytes ≡ encode_utf8 c ++ others → Hands gives now (items (read_as bom after_return (record { ch = c; at = at }))) (Err e) next → Hands gives old all (Err e) next
+  pub hand_refused : (c : ℕ) (others : List ℕ) (next : S) (e : Refusal) → IsUtf8 bytes → bytes ≡ encode_utf8 c ++ others → Hands gives now (items (map Whole (read_as bom after_return (record { ch = c; at = at })))) (Err e) next → Hands gives old all (Err e) next
   hand_refused c others next e u is handed = hand_on c others u is (Err e) next (Hands-front gives now _ _ e next handed)
 
   -- none is left
   pub hand_all : bytes ≡ [] → Hands gives old all (Ok tt) now
   hand_all is =
       continues (Ok tt) now
-      (subst (λ (x : List ℕ). Hands gives now (items (normalized bom after_return (placed at x))) (Ok tt) now) (sym (ap chars is ∙ chars-nil)) (refl, refl))
+      (subst (λ (x : List ℕ). Hands gives now (items (normalized bom after_return (map Whole (placed at x)))) (Ok tt) now) (sym (ap chars is ∙ chars-nil)) (refl, refl))

@@ -1,9 +1,15 @@
 pub mod Valid
+pub mod Errors
+pub mod Parts
 pub mod Beginnings
+pub mod Fronts
 pub mod Refusals
 pub mod Deciding
+pub mod Stopping
 pub mod Texts
 pub mod Handing
 pub mod Lanes
 pub mod Runs
-pub mod Feeding
+pub mod Advancing
+pub mod Ending
+pub mod Whole

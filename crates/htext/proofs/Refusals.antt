@@ -1,23 +1,29 @@
 -- Which bytes are refused, and how.
-use Rattle.std.proofs.Common.{◌≡◌, ℕ, ◌<◌, ◌≤◌, ◌+◌, ◌-◌, Bool, true, false, cond, eqb, List, ◌++◌, length, take, drop, sym, refl, ap, ◌∙◌, subst, arith, inl, inr, append_assoc, None, Some}
-use Rattle.std.proofs.lemmas.Bool.{cases_lt, eqb-true}
+use Rattle.std.proofs.Common.{◌≡◌, ℕ, ◌<◌, ◌≤◌, ◌+◌, ◌-◌, Bool, true, false, cond, eqb, List, ◌++◌, length, take, drop, sym, refl, ap, ◌∙◌, subst, arith, inl, inr, append_assoc, None, Some, Option, zero, suc}
+use Rattle.std.proofs.lemmas.Bool.{cases_lt, eqb-true, lt-ltb, le-leb}
 use Rattle.std.proofs.lemmas.Bool.Decides.{nat_tests}
-use Rattle.std.proofs.lemmas.List.{take_all, take-append-drop, length-append, length-take}
+use Rattle.std.proofs.lemmas.List.{take_all, take-append-drop, length-append, length-take, length-take-le, length-drop}
 use Rattle.std.proofs.lemmas.Str.{encode_same, length-encode, utf8_valid_len-IsUtf8}
-use Rattle.std.specs.Prelude.{◌↔◌}
+use Rattle.std.specs.Prelude.{◌↔◌, nat_lt, nat_le}
 use Rattle.std.specs.Char.{IsScalar, encode_utf8, len_utf8}
 use Rattle.std.specs.Str.{IsUtf8}
-use Rattle.std.specs.Str.Lossy.{utf8_valid_len}
+use Rattle.std.specs.Str.Lossy.{utf8_valid_len, utf8_error_len, utf8_invalid_len}
+use Rattle.std.specs.Option.{unwrap_or}
+use Rattle.names.specs.declared.refusal.Refusal.{Refusal}
+use Rattle.htext.specs.declared.Bom.{Bom}
 use Rattle.names.specs.declared.refusal.Refusal.TheVariants.{NotUtf8, TooLarge}
-use Rattle.htext.specs.Text.{valid_len, refusal_with, refusal_of, BeginsNoCharacter}
-use Rattle.htext.proofs.Valid.{valid_len_le, valid_front_utf8, starts, starts_back, refusal_same, refusal_past}
+use Rattle.htext.specs.declared.BadBytes.TheVariants.{Refuse, Replace}
+use Rattle.htext.specs.Text.{valid_len, bad_len, or_rest, after_part, fitting_within, fitting, refusal_with, refusal_of, BeginsNoCharacter}
+use Rattle.htext.proofs.Valid.{refusal_within, valid_len_le, valid_front_utf8, utf8_valid_len-append, starts, starts_back, refusal_same, refusal_past}
+use Rattle.htext.proofs.Errors.{invalid_bounds}
+use Rattle.htext.proofs.Fronts.{Parts, front_le, front_past, fit_le}
 
 -- the valid front is all of what is accepted
-all_valid : (b : Bool) (limit : ℕ) (bytes : List ℕ) → eqb (valid_len limit bytes) (length bytes) ≡ b → cond b None (Some (refusal_with (utf8_valid_len bytes - valid_len limit bytes) (valid_len limit bytes))) ≡ None → valid_len limit bytes ≡ length bytes
+all_valid : (b : Bool) (limit : ℕ) (bytes : List ℕ) → eqb (valid_len limit bytes) (length bytes) ≡ b → cond b None (Some (refusal_with Refuse (utf8_valid_len bytes - valid_len limit bytes) (valid_len limit bytes))) ≡ None → valid_len limit bytes ≡ length bytes
 all_valid true limit bytes e h = eqb-true _ _ e
 all_valid false limit bytes e h = absurd cc
 
-pub accepted : (limit : ℕ) (bytes : List ℕ) → (refusal_of limit bytes ≡ None) ↔ (IsUtf8 bytes × (length bytes ≤ limit))
+pub accepted : (limit : ℕ) (bytes : List ℕ) → (refusal_within limit bytes ≡ None) ↔ (IsUtf8 bytes × (length bytes ≤ limit))
 accepted limit bytes = (
   λ h.
       let all : valid_len limit bytes ≡ length bytes = all_valid (eqb (valid_len limit bytes) (length bytes)) limit bytes refl h in
@@ -25,7 +31,7 @@ accepted limit bytes = (
   λ h.
       let all : valid_len limit bytes ≡ length bytes = ap utf8_valid_len (take_all limit bytes h.1) ∙ utf8_valid_len-IsUtf8 bytes h.0 in
       let e : eqb (valid_len limit bytes) (length bytes) ≡ true = grind (arith, nat_tests) in
-      ap (λ (b : Bool). cond b None (Some (refusal_with (utf8_valid_len bytes - valid_len limit bytes) (valid_len limit bytes)))) e,
+      ap (λ (b : Bool). cond b None (Some (refusal_with Refuse (utf8_valid_len bytes - valid_len limit bytes) (valid_len limit bytes)))) e,
 )
 
 -- where no character begins, none begins under a limit
@@ -36,7 +42,7 @@ none_begun limit rest none (c, more, scalar, is) =
 none_begun_unlimited : (rest : List ℕ) → BeginsNoCharacter rest → (c : ℕ) × (more : List ℕ) × IsScalar c × (rest ≡ encode_utf8 c ++ more) → ⊥
 none_begun_unlimited rest none (c, more, scalar, is) = none c more scalar is
 
-pub not_utf8 : (limit : ℕ) (front rest : List ℕ) → IsUtf8 front → length front ≤ limit → 0 < length rest → BeginsNoCharacter rest → refusal_of limit (front ++ rest) ≡ Some (NotUtf8 (length front))
+pub not_utf8 : (limit : ℕ) (front rest : List ℕ) → IsUtf8 front → length front ≤ limit → 0 < length rest → BeginsNoCharacter rest → refusal_within limit (front ++ rest) ≡ Some (NotUtf8 (length front))
 not_utf8 limit front rest u within some none =
     let stuck : valid_len (limit - length front) rest ≡ 0 = elim (cases_lt 0 (valid_len (limit - length front) rest)) [
       | inl begun ↦ absurd (none_begun (limit - length front) rest none (starts (take (limit - length front) rest) begun))
@@ -46,7 +52,7 @@ not_utf8 limit front rest u within some none =
       | inl begun ↦ absurd (none_begun_unlimited rest none (starts rest begun))
       | inr nothing ↦ omega arith
     ] in
-    refusal_past limit front rest u within stuck some ∙ ap (λ (n : ℕ). Some (refusal_with n (length front))) unlimited
+    refusal_past limit front rest u within stuck some ∙ ap (λ (n : ℕ). Some (refusal_with Refuse n (length front))) unlimited
 
 -- a character that is longer than the limit is not in the valid front
 too_long : (limit ch : ℕ) (rest : List ℕ) → limit < len_utf8 ch → (c : ℕ) × (more : List ℕ) × IsScalar c × (take limit (encode_utf8 ch ++ rest) ≡ encode_utf8 c ++ more) → ⊥
@@ -55,7 +61,7 @@ too_long limit ch rest longer (c, more, scalar, is) =
     (sym (take-append-drop limit (encode_utf8 ch ++ rest)) ∙ ap (λ (x : List ℕ). x ++ drop limit (encode_utf8 ch ++ rest)) is ∙ append_assoc (encode_utf8 c) more (drop limit (encode_utf8 ch ++ rest))) in
     absurd (omega (arith, ap len_utf8 same.0, ap length is, length-append (encode_utf8 c) more, length-encode c, length-take limit (encode_utf8 ch ++ rest)))
 
-pub too_large : (limit : ℕ) (front : List ℕ) (ch : ℕ) (rest : List ℕ) → IsUtf8 front → IsScalar ch → length front ≤ limit → limit < length front + len_utf8 ch → refusal_of limit (front ++ (encode_utf8 ch ++ rest)) ≡ Some (TooLarge (length front))
+pub too_large : (limit : ℕ) (front : List ℕ) (ch : ℕ) (rest : List ℕ) → IsUtf8 front → IsScalar ch → length front ≤ limit → limit < length front + len_utf8 ch → refusal_within limit (front ++ (encode_utf8 ch ++ rest)) ≡ Some (TooLarge (length front))
 too_large limit front ch rest u scalar within longer =
     let what : List ℕ = encode_utf8 ch ++ rest in
     let begun : 0 < utf8_valid_len what = starts_back what rest ch scalar refl in
@@ -65,3 +71,67 @@ too_large limit front ch rest u scalar within longer =
       | inr nothing ↦ omega arith
     ] in
     refusal_past limit front what u within stuck long ∙ ap Some (refusal_same (utf8_valid_len what) 1 (length front) (λ _. omega arith) (λ _. begun))
+
+-- WHERE BAD BYTES ARE REPLACED
+
+-- the bad part that stands at the front, where the input has ended
+last_by : (o : Option ℕ) (rest : List ℕ) → 0 < length rest → or_rest true rest o ≡ Some (unwrap_or o (length rest))
+last_by (Some m) rest some = refl
+last_by None rest some = rw (lt-ltb 0 (length rest) some) refl
+
+last_part : (rest : List ℕ) → utf8_valid_len rest ≡ 0 → 0 < length rest → bad_len true rest ≡ Some (utf8_invalid_len rest)
+last_part rest none some = ap (λ (n : ℕ). cond (nat_lt 0 n) None (or_rest true rest (utf8_error_len rest))) none ∙ last_by (utf8_error_len rest) rest some
+
+-- all that fits is read
+all_step : (k limit : ℕ) (bytes : List ℕ) → length bytes ≤ limit → ((r : ℕ) (rest : List ℕ) → length rest ≤ r → length rest < length bytes → fitting_within true k r rest ≡ length rest) → fitting_within true (suc k) limit bytes ≡ length bytes
+unfolding fitting_within
+all_step k limit bytes within after =
+    let n : ℕ = valid_len limit bytes in
+    let rest : List ℕ = drop n bytes in
+    let len : length rest ≡ length bytes - n = length-drop n bytes in
+    let le : n ≤ length bytes = (valid_len_le limit bytes).1 in
+    elim (cases_lt 0 (length rest)) [
+      | inl some ↦
+          let m : ℕ = utf8_invalid_len rest in
+          let bounds = invalid_bounds rest some in
+          let all : n ≡ utf8_valid_len bytes = ap utf8_valid_len (take_all limit bytes within) in
+          let whole : utf8_valid_len bytes ≡ length (take n bytes) + utf8_valid_len rest = ap utf8_valid_len (sym (take-append-drop n bytes)) ∙ utf8_valid_len-append (take n bytes) rest (valid_front_utf8 limit bytes) in
+          let none : utf8_valid_len rest ≡ 0 = omega (arith, all, whole, length-take-le n bytes le) in
+          let test : nat_le m (limit - n) ≡ true = le-leb m (limit - n) (omega (arith, bounds)) in
+          let left : length (drop (n + m) bytes) ≡ length bytes - (n + m) = length-drop (n + m) bytes in
+          let more : fitting_within true k (limit - (n + m)) (drop (n + m) bytes) ≡ length (drop (n + m) bytes) = after (limit - (n + m)) (drop (n + m) bytes) (omega arith) (omega (arith, bounds)) in
+          ap (λ (o : Option ℕ). n + after_part o (limit - n) (λ i. fitting_within true k (limit - (n + i)) (drop (n + i) bytes))) (last_part rest none some)
+          ∙ ap (λ (b : Bool). n + cond b (m + fitting_within true k (limit - (n + m)) (drop (n + m) bytes)) 0) test
+          ∙ ap (λ (x : ℕ). n + (m + x)) more
+          ∙ omega (arith, bounds)
+      | inr nothing ↦ omega (arith, fit_le true (suc k) limit bytes)
+    ]
+
+all_within : (k limit : ℕ) (bytes : List ℕ) → length bytes ≤ limit → length bytes ≤ k → fitting_within true (suc k) limit bytes ≡ length bytes
+all_within zero limit bytes within fuel = all_step zero limit bytes within (λ r rest le less. absurd (omega (arith, less)))
+all_within (suc k) limit bytes within fuel = all_step (suc k) limit bytes within (λ r rest le less. all_within k r rest le (omega (arith, less)))
+
+pub all_read : (limit : ℕ) (bytes : List ℕ) → length bytes ≤ limit → fitting true limit bytes ≡ length bytes
+all_read limit bytes within = all_within (length bytes) limit bytes within (omega arith)
+
+replaced_by : (b : Bool) (n len : ℕ) (r : Refusal) → eqb n len ≡ b → cond b None (Some r) ≡ None → n ≡ len
+replaced_by true n len r e h = eqb-true n len e
+replaced_by false n len r e h = absurd cc
+
+pub replaced : (bom : Bom) (limit : ℕ) (bytes : List ℕ) → (refusal_of (record { bom = bom; bad = Replace; limit = limit }) bytes ≡ None) ↔ (length bytes ≤ limit)
+replaced bom limit bytes = (
+  λ h.
+      let all : fitting true limit bytes ≡ length bytes = replaced_by (eqb (fitting true limit bytes) (length bytes)) _ _ (TooLarge (fitting true limit bytes)) refl h in
+      omega (arith, all, front_le true Replace limit bytes),
+  λ within.
+      let all : fitting true limit bytes ≡ length bytes = all_read limit bytes within in
+      let e : eqb (fitting true limit bytes) (length bytes) ≡ true = grind (arith, nat_tests) in
+      ap (λ (b : Bool). cond b None (Some (TooLarge (fitting true limit bytes)))) e,
+)
+
+-- what follows a front that doesn't fit
+pub replaced_past : (bom : Bom) (limit : ℕ) (front rest : List ℕ) → Parts front rest → length front ≤ limit → fitting true (limit - length front) rest ≡ 0 → 0 < length rest → refusal_of (record { bom = bom; bad = Replace; limit = limit }) (front ++ rest) ≡ Some (TooLarge (length front))
+replaced_past bom limit front rest p within stuck some =
+    let n : fitting true limit (front ++ rest) ≡ length front = omega (arith, front_past true Replace limit front rest p within, stuck) in
+    let e : eqb (length front) (length (front ++ rest)) ≡ false = let l = length-append front rest in grind (arith, nat_tests) in
+    ap (λ (x : ℕ). cond (eqb x (length (front ++ rest))) None (Some (TooLarge x))) n ∙ ap (λ (b : Bool). cond b None (Some (TooLarge (length front)))) e

@@ -1,5 +1,5 @@
 -- Runs of plain characters in a text.
-use Rattle.std.proofs.Common.{◌≡◌, ℕ, ◌<◌, ◌≤◌, ◌+◌, ◌-◌, ◌%◌, zero, suc, Bool, true, false, cond, eqb, List, [], ◌∷◌, ◌++◌, length, take, drop, get_or, add-one, drop-cons, sym, refl, ap, ◌∙◌, subst, arith, append-nil, Result, Ok, Err}
+use Rattle.std.proofs.Common.{map, ◌≡◌, ℕ, ◌<◌, ◌≤◌, ◌+◌, ◌-◌, ◌%◌, zero, suc, Bool, true, false, cond, eqb, List, [], ◌∷◌, ◌++◌, length, take, drop, get_or, add-one, drop-cons, sym, refl, ap, ◌∙◌, subst, arith, append-nil, Result, Ok, Err}
 use Rattle.std.specs.Prelude.{nat_le, ◌&&◌, ◌||◌, encode_utf8_all}
 use Rattle.std.specs.List.{list_all, prefix_len, slice_range}
 use Rattle.std.proofs.lemmas.Bool.Decides.{nat_tests}
@@ -15,7 +15,7 @@ use Rattle.names.specs.declared.refusal.Refusal.{Refusal}
 use Rattle.names.proofs.Handing.{Continues-more}
 use Rattle.htext.specs.declared.Bom.{Bom}
 use Rattle.htext.specs.declared.Bom.TheVariants.{Drop, Keep}
-use Rattle.htext.specs.Text.{read_as, normalized, ends_in_return}
+use Rattle.htext.specs.Text.{Whole, read_as, normalized, ends_in_return}
 use Rattle.htext.specs.Items.{CharItem, Character, items, items_of, is_stray_control}
 use Rattle.htext.specs.Run.{is_plain_byte, run_items}
 use Rattle.htext.proofs.Handing.{Hands-front}
@@ -49,7 +49,7 @@ as_it_came : (bom : Bom) (x at : ℕ) → is_plain_byte x ≡ true → read_as b
 as_it_came Drop x at h = rw (no_mark x h, no_return x h) (no_drop (eqb at 0) (record { ch = x; at = at } ∷ []))
 as_it_came Keep x at h = rw (no_return x h) refl
 
-item_alone : (x at : ℕ) → is_plain_byte x ≡ true → items_of (record { ch = x; at = at }) ≡ Character (record { ch = x; at = at }) ∷ []
+item_alone : (x at : ℕ) → is_plain_byte x ≡ true → items_of (Whole (record { ch = x; at = at })) ≡ Character (record { ch = x; at = at }) ∷ []
 item_alone x at h = rw (no_stray x h, no_nonchar x h) refl
 
 pub one_long : (x : ℕ) → is_plain_byte x ≡ true → len_utf8 x ≡ 1
@@ -65,24 +65,26 @@ run_chars (x ∷ xs) ys a u =
     let more = run_chars xs ys k.1 (IsUtf8-past_char (x ∷ (xs ++ ys)) (xs ++ ys) x u is) in
     (more.0, chars_past_char (x ∷ (xs ++ ys)) (xs ++ ys) x u is ∙ ap (λ (cs : List ℕ). x ∷ cs) more.1)
 
-run_text : (bom : Bom) (at : ℕ) (xs cs : List ℕ) → list_all is_plain_byte xs ≡ true → items (normalized bom false (placed at (xs ++ cs))) ≡ run_items at xs ++ items (normalized bom false (placed (at + length xs) cs))
-run_text bom at [] cs a = let same : at ≡ at + 0 = omega arith in ap (λ (n : ℕ). items (normalized bom false (placed n cs))) same
+run_text : (bom : Bom) (at : ℕ) (xs cs : List ℕ) → list_all is_plain_byte xs ≡ true → items (normalized bom false (map Whole (placed at (xs ++ cs)))) ≡ run_items at xs ++ items (normalized bom false (map Whole (placed (at + length xs) cs)))
+run_text bom at [] cs a = let same : at ≡ at + 0 = omega arith in ap (λ (n : ℕ). items (normalized bom false (map Whole (placed n cs)))) same
 run_text bom at (x ∷ xs) cs a =
     let k = and_parts (is_plain_byte x) (list_all is_plain_byte xs) a in
     let p : Placed = record { ch = x; at = at } in
     let n : ℕ = at + len_utf8 x in
     let end : n + length xs ≡ at + length (x ∷ xs) = omega (arith, one_long x k.0) in
-    ap (λ (r : List Placed). items (r ++ normalized bom (eqb x 13) (placed n (xs ++ cs)))) (as_it_came bom x at k.0)
-    ∙ ap (λ (b : Bool). items_of p ++ items (normalized bom b (placed n (xs ++ cs)))) (no_return x k.0)
-    ∙ ap (λ (i : List CharItem). i ++ items (normalized bom false (placed n (xs ++ cs)))) (item_alone x at k.0)
+    ap (λ (r : List Placed). items (map Whole r ++ normalized bom (eqb x 13) (map Whole (placed n (xs ++ cs))))) (as_it_came bom x at k.0)
+    ∙ ap (λ (b : Bool). items_of (Whole p) ++ items (normalized bom b (map Whole (placed n (xs ++ cs))))) (no_return x k.0)
+    ∙ ap (λ (i : List CharItem). i ++ items (normalized bom false (map Whole (placed n (xs ++ cs))))) (item_alone x at k.0)
     ∙ ap (λ (i : List CharItem). Character p ∷ i) (run_text bom n xs cs k.1)
-    ∙ ap (λ (m : ℕ). Character p ∷ (run_items n xs ++ items (normalized bom false (placed m cs)))) end
+    ∙ ap (λ (m : ℕ). Character p ∷ (run_items n xs ++ items (normalized bom false (map Whole (placed m cs))))) end
 
-run_ends : (xs cs : List ℕ) → list_all is_plain_byte xs ≡ true → ends_in_return false (xs ++ cs) ≡ ends_in_return false cs
-run_ends [] cs a = refl
-run_ends (x ∷ xs) cs a =
+run_ends : (at : ℕ) (xs cs : List ℕ) → list_all is_plain_byte xs ≡ true → ends_in_return false (map Whole (placed at (xs ++ cs))) ≡ ends_in_return false (map Whole (placed (at + length xs) cs))
+run_ends at [] cs a = let same : at ≡ at + 0 = omega arith in ap (λ (n : ℕ). ends_in_return false (map Whole (placed n cs))) same
+run_ends at (x ∷ xs) cs a =
     let k = and_parts (is_plain_byte x) (list_all is_plain_byte xs) a in
-    ap (λ (b : Bool). ends_in_return b (xs ++ cs)) (no_return x k.0) ∙ run_ends xs cs k.1
+    let n : ℕ = at + len_utf8 x in
+    let end : n + length xs ≡ at + length (x ∷ xs) = omega (arith, one_long x k.0) in
+    ap (λ (b : Bool). ends_in_return b (map Whole (placed n (xs ++ cs)))) (no_return x k.0) ∙ run_ends n xs cs k.1 ∙ ap (λ (m : ℕ). ends_in_return false (map Whole (placed m cs))) end
 
 -- the bytes that are counted are a run
 counted_by : (b : Bool) (x : ℕ) (xs : List ℕ) → is_plain_byte x ≡ b → list_all is_plain_byte (take (prefix_len is_plain_byte xs) xs) ≡ true
@@ -178,20 +180,22 @@ module _ (n : ℕ) (bytes : List ℕ) (u : IsUtf8 bytes) (plain : list_all is_pl
   chars_are : chars bytes ≡ take n bytes ++ chars (drop n bytes)
   chars_are = ap chars (sym (take-append-drop n bytes)) ∙ after.1
 
-  pub ends_after : ends_in_return false (chars bytes) ≡ ends_in_return false (chars (drop n bytes))
-  ends_after = ap (ends_in_return false) chars_are ∙ run_ends (take n bytes) (chars (drop n bytes)) plain
+  pub ends_after : (at : ℕ) → n ≤ length bytes → ends_in_return false (map Whole (placed at (chars bytes))) ≡ ends_in_return false (map Whole (placed (at + n) (chars (drop n bytes))))
+  ends_after at within =
+      ap (λ (cs : List ℕ). ends_in_return false (map Whole (placed at cs))) chars_are ∙ run_ends at (take n bytes) (chars (drop n bytes)) plain
+      ∙ ap (λ (m : ℕ). ends_in_return false (map Whole (placed (at + m) (chars (drop n bytes))))) (length-take-le n bytes within)
 
 -- A loop that hands over a text, of which `bytes` are left, at the place `at` and not after a CR, hands over a run at their front.
 module _ {S : Type 0} (gives : S → CharItem → Result (Unit {0}) Refusal → S → Type 0) (bom : Bom) (old : S) (all : List CharItem) (now : S) (at n : ℕ) (bytes : List ℕ)
-    (continues : Continues gives old all now (items (normalized bom false (placed at (chars bytes))))) (u : IsUtf8 bytes) (within : n ≤ length bytes) (plain : list_all is_plain_byte (take n bytes) ≡ true) where
-  run_on : Continues gives old all now (run_items at (take n bytes) ++ items (normalized bom false (placed (at + n) (chars (drop n bytes)))))
+    (continues : Continues gives old all now (items (normalized bom false (map Whole (placed at (chars bytes)))))) (u : IsUtf8 bytes) (within : n ≤ length bytes) (plain : list_all is_plain_byte (take n bytes) ≡ true) where
+  run_on : Continues gives old all now (run_items at (take n bytes) ++ items (normalized bom false (map Whole (placed (at + n) (chars (drop n bytes))))))
   run_on = subst (λ (x : List CharItem). Continues gives old all now x)
-      (ap (λ (cs : List ℕ). items (normalized bom false (placed at cs))) (chars_are n bytes u plain) ∙ run_text bom at (take n bytes) (chars (drop n bytes)) plain
-      ∙ ap (λ (m : ℕ). run_items at (take n bytes) ++ items (normalized bom false (placed (at + m) (chars (drop n bytes))))) (length-take-le n bytes within))
+      (ap (λ (cs : List ℕ). items (normalized bom false (map Whole (placed at cs)))) (chars_are n bytes u plain) ∙ run_text bom at (take n bytes) (chars (drop n bytes)) plain
+      ∙ ap (λ (m : ℕ). run_items at (take n bytes) ++ items (normalized bom false (map Whole (placed (at + m) (chars (drop n bytes)))))) (length-take-le n bytes within))
       continues
 
-  pub run_more : (next : S) → Hands gives now (run_items at (take n bytes)) (Ok tt) next → Continues gives old all next (items (normalized bom false (placed (at + n) (chars (drop n bytes)))))
-  run_more next h = Continues-more gives old now next all (run_items at (take n bytes)) (items (normalized bom false (placed (at + n) (chars (drop n bytes))))) run_on h
+  pub run_more : (next : S) → Hands gives now (run_items at (take n bytes)) (Ok tt) next → Continues gives old all next (items (normalized bom false (map Whole (placed (at + n) (chars (drop n bytes))))))
+  run_more next h = Continues-more gives old now next all (run_items at (take n bytes)) (items (normalized bom false (map Whole (placed (at + n) (chars (drop n bytes)))))) run_on h
 
   pub run_refused : (next : S) (e : Refusal) → Hands gives now (run_items at (take n bytes)) (Err e) next → Hands gives old all (Err e) next
   run_refused next e h = run_on (Err e) next (Hands-front gives now (run_items at (take n bytes)) _ e next h)

@@ -1,71 +1,114 @@
 -- Laws of texts.
-use Rattle.std.proofs.Common.{◌≡◌, ℕ, ◌+◌, ◌-◌, ◌≤◌, ◌<◌, Bool, true, false, cond, ◌&&◌, ◌||◌, subst, List, [], ◌∷◌, ◌++◌, length, drop, sym, refl, ap, ◌∙◌, arith, append_assoc, eqb, map}
-use Rattle.std.proofs.lemmas.List.{length-append, take-append-drop}
-use Rattle.std.proofs.lemmas.Str.{chars-append, encodes-chars, length-encode, len_utf8_bounds}
-use Rattle.std.specs.Str.{chars, IsUtf8, encode_utf8_all}
+use Rattle.std.proofs.Common.{◌≡◌, ℕ, zero, suc, ◌+◌, ◌-◌, ◌≤◌, ◌<◌, Bool, true, false, cond, ◌&&◌, ◌||◌, subst, List, [], ◌∷◌, ◌++◌, length, take, drop, sym, refl, ap, ◌∙◌, arith, append_assoc, eqb, map}
+use Rattle.std.proofs.lemmas.List.{length-append, length-drop, length-take-le, take-append-drop}
+use Rattle.std.proofs.Math.Seq.{take-append-add}
+use Rattle.std.proofs.lemmas.Str.{encodes-chars, length-encode, len_utf8_bounds, utf8_valid_len_le}
+use Rattle.std.specs.Str.{chars, encode_utf8_all}
+use Rattle.std.specs.Str.Lossy.{utf8_valid_len, utf8_invalid_len}
 use Rattle.std.specs.Char.{encode_utf8, len_utf8}
 use Rattle.names.specs.Placed.{placed}
 use Rattle.names.specs.declared.placed.Placed.{Placed}
 use Rattle.names.specs.declared.error.ParseError.{ParseError}
+use Rattle.htext.specs.declared.BadBytes.{BadBytes}
 use Rattle.htext.specs.declared.Bom.{Bom}
-use Rattle.htext.specs.Text.{is_dropped_mark, PlacesRise, read_as, normalized, ends_in_return, text, valid_len, valid_front, decoded}
+use Rattle.htext.specs.Text.{Read, Whole, Bad, character_of, is_dropped_mark, PlacesRise, read_as, reads, reads_within, normalized, ends_in_return, text, front_len}
 use Rattle.htext.specs.Items.{CharItem, Character, InputError, errors_of, items_of, items, input_errors, characters_among, errors_among}
-use Rattle.htext.proofs.Valid.{valid_len_le, valid_front-append, valid_front_utf8, length-valid_front}
+use Rattle.htext.proofs.Valid.{front_utf8}
+use Rattle.htext.proofs.Parts.{reads_at, more_left}
+use Rattle.htext.proofs.Errors.{invalid_bounds}
+use Rattle.htext.proofs.Fronts.{IsFront, front_more, front_is, front_past, front_le, reads_past}
 
--- characters after characters
-normalized-append : (bom : Bom) (after_return : Bool) (at : ℕ) (cs ds : List ℕ) → normalized bom after_return (placed at (cs ++ ds)) ≡ normalized bom after_return (placed at cs) ++ normalized bom (ends_in_return after_return cs) (placed (at + length (encode_utf8_all cs)) ds)
-normalized-append bom after_return at [] ds = ap (λ (x : ℕ). normalized bom after_return (placed x ds)) (omega arith)
-normalized-append bom after_return at (c ∷ cs) ds =
-    let first : List Placed = read_as bom after_return (record { ch = c; at = at }) in
-    let front : List Placed = normalized bom (eqb c 13) (placed (at + len_utf8 c) cs) in
-    ap (λ (x : List Placed). first ++ x) (normalized-append bom (eqb c 13) (at + len_utf8 c) cs ds)
-    ∙ ap (λ (x : ℕ). first ++ (front ++ normalized bom (ends_in_return (eqb c 13) cs) (placed x ds))) (omega (arith, length-append (encode_utf8 c) (encode_utf8_all cs), length-encode c))
-    ∙ sym (append_assoc first front _)
+-- one text after another
+pub normalized-append : (bom : Bom) (after_return : Bool) (rs ss : List Read) → normalized bom after_return (rs ++ ss) ≡ normalized bom after_return rs ++ normalized bom (ends_in_return after_return rs) ss
+normalized-append bom after_return [] ss = refl
+normalized-append bom after_return (Whole p ∷ rs) ss =
+    let first : List Read = map Whole (read_as bom after_return p) in
+    ap (λ (x : List Read). first ++ x) (normalized-append bom (eqb p.ch 13) rs ss) ∙ sym (append_assoc first _ _)
+normalized-append bom after_return (Bad at ∷ rs) ss = ap (λ (x : List Read). Bad at ∷ x) (normalized-append bom false rs ss)
 
-pub ends_in_return-append : (after_return : Bool) (cs ds : List ℕ) → ends_in_return after_return (cs ++ ds) ≡ ends_in_return (ends_in_return after_return cs) ds
-ends_in_return-append after_return [] ds = refl
-ends_in_return-append after_return (c ∷ cs) ds = ends_in_return-append (eqb c 13) cs ds
+pub ends_in_return-append : (after_return : Bool) (rs ss : List Read) → ends_in_return after_return (rs ++ ss) ≡ ends_in_return (ends_in_return after_return rs) ss
+ends_in_return-append after_return [] ss = refl
+ends_in_return-append after_return (Whole p ∷ rs) ss = ends_in_return-append (eqb p.ch 13) rs ss
+ends_in_return-append after_return (Bad at ∷ rs) ss = ends_in_return-append false rs ss
 
--- what is read of a text and what follows it
-pub decoded-append : (bom : Bom) (limit : ℕ) (xs ys : List ℕ) → IsUtf8 xs → length xs ≤ limit → decoded bom limit (xs ++ ys) ≡ text bom xs ++ normalized bom (ends_in_return false (chars xs)) (placed (length xs) (chars (valid_front (limit - length xs) ys)))
-decoded-append bom limit xs ys u within =
-    let back : List ℕ = valid_front (limit - length xs) ys in
-    ap (text bom) (valid_front-append limit xs ys u within)
-    ∙ ap (λ (x : List ℕ). normalized bom false (placed 0 x)) (chars-append xs back u)
-    ∙ normalized-append bom false 0 (chars xs) (chars back)
-    ∙ ap (λ (x : ℕ). text bom xs ++ normalized bom (ends_in_return false (chars xs)) (placed x (chars back))) (omega (arith, ap length (encodes-chars xs u)))
+-- what is read after a front
+pub text_past : (bom : Bom) (bad : BadBytes) (front rest : List ℕ) (n : ℕ) → IsFront bad front rest → text bom (front ++ take n rest) ≡ text bom front ++ normalized bom (ends_in_return false (reads front)) (reads_at (length front) (take n rest))
+text_past bom bad front rest n h = ap (normalized bom false) (reads_past bad front rest n h) ∙ normalized-append bom false (reads front) _
 
-pub decoded_goes_on : (bom : Bom) (limit : ℕ) (bytes more : List ℕ) → (rest : List Placed) × (decoded bom limit (bytes ++ more) ≡ decoded bom limit bytes ++ rest)
-decoded_goes_on bom limit bytes more =
-    let n : ℕ = valid_len limit bytes in
-    let front : List ℕ = valid_front limit bytes in
-    let within : length front ≤ limit = omega (arith, length-valid_front limit bytes, valid_len_le limit bytes) in
-    let parts : bytes ++ more ≡ front ++ (drop n bytes ++ more) = ap (λ (x : List ℕ). x ++ more) (sym (take-append-drop n bytes)) ∙ append_assoc front (drop n bytes) more in (
-      normalized bom (ends_in_return false (chars front)) (placed (length front) (chars (valid_front (limit - length front) (drop n bytes ++ more)))),
-      ap (decoded bom limit) parts ∙ decoded-append bom limit front (drop n bytes ++ more) (valid_front_utf8 limit bytes) within,
+pub read_past : (e : Bool) (bom : Bom) (bad : BadBytes) (limit : ℕ) (front rest : List ℕ) → IsFront bad front rest → length front ≤ limit → text bom (take (front_len e bad limit (front ++ rest)) (front ++ rest)) ≡ text bom front ++ normalized bom (ends_in_return false (reads front)) (reads_at (length front) (take (front_len e bad (limit - length front) rest) rest))
+read_past e bom bad limit front rest h within =
+    let n : ℕ = front_len e bad (limit - length front) rest in
+    ap (λ (x : ℕ). text bom (take x (front ++ rest))) (front_past e bad limit front rest h within)
+    ∙ ap (text bom) (take-append-add front rest n)
+    ∙ text_past bom bad front rest n h
+
+-- more bytes change nothing of what is read whatever follows
+pub goes_on : (e : Bool) (bom : Bom) (bad : BadBytes) (limit : ℕ) (bytes more : List ℕ) → (rest : List Read) × (text bom (take (front_len e bad limit (bytes ++ more)) (bytes ++ more)) ≡ text bom (take (front_len false bad limit bytes) bytes) ++ rest)
+goes_on e bom bad limit bytes more =
+    let n : ℕ = front_len false bad limit bytes in
+    let front : List ℕ = take n bytes in
+    let le = front_le false bad limit bytes in
+    let len : length front ≡ n = length-take-le n bytes le.1 in
+    let whole : bytes ++ more ≡ front ++ (drop n bytes ++ more) = ap (λ (x : List ℕ). x ++ more) (sym (take-append-drop n bytes)) ∙ append_assoc front (drop n bytes) more in (
+      _,
+      ap (λ (x : List ℕ). text bom (take (front_len e bad limit x) x)) whole
+          ∙ read_past e bom bad limit front (drop n bytes ++ more) (front_more bad front (drop n bytes) more (front_is bad limit bytes)) (omega (arith, len, le.0)),
     )
 
--- places rise from character to character
-read_rises : (left_out : Bool) (first at next end c : ℕ) (rest : List Placed) → first ≤ at → at < next → ((from : ℕ) → from ≤ next → PlacesRise from rest end) → PlacesRise first (cond left_out [] (record { ch = c; at = at } ∷ []) ++ rest) end
-read_rises true first at next end c rest le less more = more first (omega arith)
-read_rises false first at next end c rest le less more = (le, more (at + 1) (omega arith))
+-- PLACES RISE
 
-normalized_rises : (bom : Bom) (after_return : Bool) (first at : ℕ) (cs : List ℕ) → first ≤ at → PlacesRise first (normalized bom after_return (placed at cs)) (at + length (encode_utf8_all cs))
-normalized_rises bom after_return first at [] le = omega arith
-normalized_rises bom after_return first at (c ∷ cs) le =
-    let end : (at + len_utf8 c) + length (encode_utf8_all cs) ≡ at + length (encode_utf8 c ++ encode_utf8_all cs) = omega (arith, length-append (encode_utf8 c) (encode_utf8_all cs), length-encode c) in
-    read_rises (is_dropped_mark bom (record { ch = c; at = at }) || (after_return && eqb c 10)) first at (at + len_utf8 c) (at + length (encode_utf8_all (c ∷ cs))) (cond (eqb c 13) 10 c) _ le (omega (arith, (len_utf8_bounds c).0))
-    (λ from within. subst (λ (n : ℕ). PlacesRise from (normalized bom (eqb c 13) (placed (at + len_utf8 c) cs)) n) end (normalized_rises bom (eqb c 13) from (at + len_utf8 c) cs within))
+rises_later : (first next end : ℕ) (ps : List Placed) → first ≤ next → PlacesRise next ps end → PlacesRise first ps end
+rises_later first next end [] le h = omega (arith, h)
+rises_later first next end (p ∷ ps) le h = (omega (arith, h.0), h.1)
 
-pub decoded_rises : (bom : Bom) (limit : ℕ) (bytes : List ℕ) → PlacesRise 0 (decoded bom limit bytes) (valid_len limit bytes)
-decoded_rises bom limit bytes =
-    let front : List ℕ = valid_front limit bytes in
-    subst (PlacesRise 0 (decoded bom limit bytes)) (omega (arith, ap length (encodes-chars front (valid_front_utf8 limit bytes)), length-valid_front limit bytes)) (normalized_rises bom false 0 0 (chars front) (omega arith))
+-- .. from character to character
+placed_rises : (at : ℕ) (cs : List ℕ) (rs : List Read) (end : ℕ) → PlacesRise (at + length (encode_utf8_all cs)) (map character_of rs) end → PlacesRise at (map character_of (map Whole (placed at cs) ++ rs)) end
+placed_rises at [] rs end h = rises_later at (at + 0) end (map character_of rs) (omega arith) h
+placed_rises at (c ∷ cs) rs end h =
+    let on : at + length (encode_utf8_all (c ∷ cs)) ≡ (at + len_utf8 c) + length (encode_utf8_all cs) = omega (arith, length-append (encode_utf8 c) (encode_utf8_all cs), length-encode c) in
+    (omega arith, rises_later (at + 1) (at + len_utf8 c) end _ (omega (arith, (len_utf8_bounds c).0)) (placed_rises (at + len_utf8 c) cs rs end (subst (λ (x : ℕ). PlacesRise x (map character_of rs) end) on h)))
+
+-- .. and from part to part
+tail_rises : (b : Bool) (at next : ℕ) (rs : List Read) (end : ℕ) → at ≤ end → (b ≡ false → (at < next) × PlacesRise next (map character_of rs) end) → PlacesRise at (map character_of (cond b [] (Bad at ∷ rs))) end
+tail_rises true at next rs end within h = within
+tail_rises false at next rs end within h = let k = h refl in (omega arith, rises_later (at + 1) next end (map character_of rs) (omega (arith, k.0)) k.1)
+
+reads_rises : (k at : ℕ) (bytes : List ℕ) → PlacesRise at (map character_of (reads_within k at bytes)) (at + length bytes)
+unfolding reads_within
+reads_rises zero at bytes = omega arith
+reads_rises (suc k) at bytes =
+    let n : ℕ = utf8_valid_len bytes in
+    let m : ℕ = utf8_invalid_len (drop n bytes) in
+    let le : n ≤ length bytes = utf8_valid_len_le bytes in
+    let end : at + length (encode_utf8_all (chars (take n bytes))) ≡ at + n = omega (arith, ap length (encodes-chars (take n bytes) (front_utf8 bytes)), length-take-le n bytes le) in
+    let rest : List Read = reads_within k (at + n + m) (drop (n + m) bytes) in
+    placed_rises at (chars (take n bytes)) _ (at + length bytes)
+    (rw end (tail_rises (eqb n (length bytes)) (at + n) (at + n + m) rest (at + length bytes) (omega (arith, le))
+    (λ e.
+    let some : 0 < length (drop n bytes) = more_left n bytes le e in
+    let bounds = invalid_bounds (drop n bytes) some in
+    let left : at + n + m + length (drop (n + m) bytes) ≡ at + length bytes = omega (arith, bounds, length-drop n bytes, length-drop (n + m) bytes) in
+    (omega (arith, bounds), subst (PlacesRise (at + n + m) (map character_of rest)) left (reads_rises k (at + n + m) (drop (n + m) bytes))))))
+
+read_rises : (left_out : Bool) (first at end c : ℕ) (rs : List Read) → first ≤ at → PlacesRise (at + 1) (map character_of rs) end → PlacesRise first (map character_of (map Whole (cond left_out [] (record { ch = c; at = at } ∷ [])) ++ rs)) end
+read_rises true first at end c rs le more = rises_later first (at + 1) end (map character_of rs) (omega arith) more
+read_rises false first at end c rs le more = (le, more)
+
+normalized_rises : (bom : Bom) (after_return : Bool) (first end : ℕ) (rs : List Read) → PlacesRise first (map character_of rs) end → PlacesRise first (map character_of (normalized bom after_return rs)) end
+normalized_rises bom after_return first end [] h = h
+normalized_rises bom after_return first end (Whole p ∷ rs) h =
+    read_rises (is_dropped_mark bom p || (after_return && eqb p.ch 10)) first p.at end (cond (eqb p.ch 13) 10 p.ch) (normalized bom (eqb p.ch 13) rs) h.0 (normalized_rises bom (eqb p.ch 13) (p.at + 1) end rs h.1)
+normalized_rises bom after_return first end (Bad at ∷ rs) h = (h.0, normalized_rises bom false (at + 1) end rs h.1)
+
+pub text_rises : (bom : Bom) (bytes : List ℕ) → PlacesRise 0 (map character_of (text bom bytes)) (length bytes)
+text_rises bom bytes =
+    let end : 0 + length bytes ≡ length bytes = omega arith in
+    normalized_rises bom false 0 (length bytes) (reads bytes) (subst (PlacesRise 0 (map character_of (reads bytes))) end (reads_rises (suc (length bytes)) 0 bytes))
 
 -- what is handed over of a text
-pub items-append : (xs ys : List Placed) → items (xs ++ ys) ≡ items xs ++ items ys
+pub items-append : (xs ys : List Read) → items (xs ++ ys) ≡ items xs ++ items ys
 items-append [] ys = refl
-items-append (p ∷ ps) ys = ap (λ (x : List CharItem). items_of p ++ x) (items-append ps ys) ∙ sym (append_assoc (items_of p) (items ps) (items ys))
+items-append (r ∷ rs) ys = ap (λ (x : List CharItem). items_of r ++ x) (items-append rs ys) ∙ sym (append_assoc (items_of r) (items rs) (items ys))
 
 past_errors : (es : List ParseError) (p : Placed) (rest : List CharItem) → characters_among ((map InputError es ++ Character p ∷ []) ++ rest) ≡ p ∷ characters_among rest
 past_errors [] p rest = refl
@@ -75,10 +118,10 @@ among_errors : (es : List ParseError) (p : Placed) (rest : List CharItem) → er
 among_errors [] p rest = refl
 among_errors (e ∷ es) p rest = ap (λ (x : List ParseError). e ∷ x) (among_errors es p rest)
 
-pub characters_among-items : (text : List Placed) → characters_among (items text) ≡ text
+pub characters_among-items : (text : List Read) → characters_among (items text) ≡ map character_of text
 characters_among-items [] = refl
-characters_among-items (p ∷ ps) = past_errors (errors_of p) p (items ps) ∙ ap (λ (x : List Placed). p ∷ x) (characters_among-items ps)
+characters_among-items (r ∷ rs) = past_errors (errors_of r) (character_of r) (items rs) ∙ ap (λ (x : List Placed). character_of r ∷ x) (characters_among-items rs)
 
-pub errors_among-items : (text : List Placed) → errors_among (items text) ≡ input_errors text
+pub errors_among-items : (text : List Read) → errors_among (items text) ≡ input_errors text
 errors_among-items [] = refl
-errors_among-items (p ∷ ps) = among_errors (errors_of p) p (items ps) ∙ ap (λ (x : List ParseError). errors_of p ++ x) (errors_among-items ps)
+errors_among-items (r ∷ rs) = among_errors (errors_of r) (character_of r) (items rs) ∙ ap (λ (x : List ParseError). errors_of r ++ x) (errors_among-items rs)

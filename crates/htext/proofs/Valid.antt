@@ -1,5 +1,5 @@
 -- Laws of the valid front.
-use Rattle.std.proofs.Common.{◌≡◌, ℕ, zero, suc, ◌<◌, ◌≤◌, ◌+◌, ◌-◌, Bool, true, false, cond, List, [], ◌∷◌, ◌++◌, length, take, drop, sym, refl, ap, ◌∙◌, subst, arith, inl, inr, ◌&&◌, append_assoc, eqb, None, Some}
+use Rattle.std.proofs.Common.{◌≡◌, ℕ, zero, suc, ◌<◌, ◌≤◌, ◌+◌, ◌-◌, Bool, true, false, cond, List, [], ◌∷◌, ◌++◌, length, take, drop, sym, refl, ap, ◌∙◌, subst, arith, inl, inr, ◌&&◌, append_assoc, eqb, None, Some, Option}
 use Rattle.std.proofs.lemmas.Bool.Decides.{nat_tests}
 use Rattle.std.proofs.lemmas.Bool.{cases_lt}
 use Rattle.std.proofs.lemmas.List.{take_at, drop_at, take-append-le, take_all, length-append, length-take, length-take-le, take-append-drop}
@@ -10,7 +10,17 @@ use Rattle.std.specs.Str.{IsUtf8, is_utf8, encode_utf8_all}
 use Rattle.std.specs.Str.Lossy.{utf8_valid_len, valid_len_up_to}
 use Rattle.std.specs.Char.{IsScalar, encode_utf8}
 use Rattle.names.specs.declared.refusal.Refusal.TheVariants.{NotUtf8, TooLarge}
-use Rattle.htext.specs.Text.{valid_len, valid_front, refusal_with, refusal_of}
+use Rattle.names.specs.declared.refusal.Refusal.{Refusal}
+use Rattle.htext.specs.declared.BadBytes.TheVariants.{Refuse}
+use Rattle.htext.specs.declared.Bom.TheVariants.{Keep}
+use Rattle.htext.specs.Text.{valid_len, refusal_with, refusal_of}
+
+-- the longest front that is UTF-8 and fits, and why the bytes are refused for what follows it, if they are
+abbrev pub valid_front : ℕ → List ℕ → List ℕ
+valid_front limit bytes = take (valid_len limit bytes) bytes
+
+abbrev pub refusal_within : ℕ → List ℕ → Option Refusal
+refusal_within limit bytes = refusal_of (record { bom = Keep; bad = Refuse; limit = limit }) bytes
 
 -- a front of a front
 pub take-take : (m n : ℕ) (bs : List ℕ) → m ≤ n → take m (take n bs) ≡ take m bs
@@ -39,7 +49,7 @@ up_to_utf8 bs zero = IsUtf8-nil
 up_to_utf8 bs (suc n) = step_utf8 (is_utf8 (take (suc n) bs)) bs (suc n) (valid_len_up_to bs n) refl (up_to_utf8 bs n)
 
 -- the longest front that is UTF-8 is so
-front_utf8 : (bs : List ℕ) → IsUtf8 (take (utf8_valid_len bs) bs)
+pub front_utf8 : (bs : List ℕ) → IsUtf8 (take (utf8_valid_len bs) bs)
 unfolding utf8_valid_len
 front_utf8 bs = up_to_utf8 bs (length bs)
 
@@ -75,7 +85,7 @@ valid_len_is bs n within front longest =
     ]
 
 -- after a text the valid front goes on
-utf8_valid_len-append : (xs ys : List ℕ) → IsUtf8 xs → utf8_valid_len (xs ++ ys) ≡ length xs + utf8_valid_len ys
+pub utf8_valid_len-append : (xs ys : List ℕ) → IsUtf8 xs → utf8_valid_len (xs ++ ys) ≡ length xs + utf8_valid_len ys
 utf8_valid_len-append xs ys u = valid_len_is (xs ++ ys) (length xs + utf8_valid_len ys)
     (omega (arith, length-append xs ys, utf8_valid_len_le ys))
     (subst IsUtf8 (sym (take-append-add xs ys (utf8_valid_len ys))) (IsUtf8-append _ _ u (front_utf8 ys)))
@@ -138,7 +148,7 @@ pub going_on : (rest more : List ℕ) → 0 < utf8_valid_len rest → 0 < utf8_v
 going_on rest more h = going_on_by rest more (starts rest h)
 
 -- the refusal depends on whether a character follows, and not on how many do
-pub refusal_same : (j k at : ℕ) → (0 < j → 0 < k) → (0 < k → 0 < j) → refusal_with j at ≡ refusal_with k at
+pub refusal_same : (j k at : ℕ) → (0 < j → 0 < k) → (0 < k → 0 < j) → refusal_with Refuse j at ≡ refusal_with Refuse k at
 refusal_same j k at to from = elim (cases_lt 0 j) [
   | inl some ↦
       let a : eqb j 0 ≡ false = grind (arith, nat_tests) in
@@ -147,18 +157,18 @@ refusal_same j k at to from = elim (cases_lt 0 j) [
       ap (λ (x : Bool). cond x (NotUtf8 at) (TooLarge at)) (a ∙ sym b)
   | inr none ↦ elim (cases_lt 0 k) [
     | inl some ↦ absurd (omega (arith, from some))
-    | inr none_more ↦ ap (λ (x : ℕ). refusal_with x at) (omega arith)
+    | inr none_more ↦ ap (λ (x : ℕ). refusal_with Refuse x at) (omega arith)
   ]
 ]
 
-refusal_value : (v len u w r k : ℕ) → v ≡ w → len ≡ w + r → 0 < r → u ≡ w + k → cond (eqb v len) None (Some (refusal_with (u - v) v)) ≡ Some (refusal_with k w)
+refusal_value : (v len u w r k : ℕ) → v ≡ w → len ≡ w + r → 0 < r → u ≡ w + k → cond (eqb v len) None (Some (refusal_with Refuse (u - v) v)) ≡ Some (refusal_with Refuse k w)
 refusal_value v len u w r k a b c d =
     let less : eqb v len ≡ false = grind (arith, nat_tests) in
     let e : u - v ≡ k = omega arith in
     rw (less, e, a) refl
 
 -- where the valid front ends before the bytes do
-pub refusal_past : (limit : ℕ) (front rest : List ℕ) → IsUtf8 front → length front ≤ limit → valid_len (limit - length front) rest ≡ 0 → 0 < length rest → refusal_of limit (front ++ rest) ≡ Some (refusal_with (utf8_valid_len rest) (length front))
+pub refusal_past : (limit : ℕ) (front rest : List ℕ) → IsUtf8 front → length front ≤ limit → valid_len (limit - length front) rest ≡ 0 → 0 < length rest → refusal_within limit (front ++ rest) ≡ Some (refusal_with Refuse (utf8_valid_len rest) (length front))
 refusal_past limit front rest u within stuck some =
     refusal_value (valid_len limit (front ++ rest)) (length (front ++ rest)) (utf8_valid_len (front ++ rest)) (length front) (length rest) (utf8_valid_len rest)
     (omega (arith, valid_len-append limit front rest u within)) (length-append front rest) some (utf8_valid_len-append front rest u)

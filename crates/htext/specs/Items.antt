@@ -2,21 +2,27 @@
 use Rattle.std.specs.Prelude.{ℕ, Bool, not, ◌&&◌, ◌||◌, ◌==◌, List, [], ◌∷◌, ◌++◌, map}
 use Rattle.std.specs.List.{flat_map}
 use Rattle.std.specs.Char.{is_control}
-use Rattle.names.specs.Placed.{is_space, is_noncharacter, error_if}
+use Rattle.names.specs.Placed.{is_space, is_noncharacter, error, error_if}
 use Rattle.names.specs.declared.placed.Placed.{Placed}
 use Rattle.names.specs.declared.error.ParseError.{ParseError}
-use Rattle.names.specs.declared.error.ErrorCode.TheVariants.{ControlCharacterInInputStream, NoncharacterInInputStream}
+use Rattle.names.specs.declared.error.ErrorCode.TheVariants.{ControlCharacterInInputStream, NoncharacterInInputStream, ReplacedBytes}
+use Rattle.htext.specs.Text.{Read, Whole, Bad, character_of}
 
 -- a control that is neither white space nor NUL
 abbrev pub is_stray_control : ℕ → Bool
 is_stray_control c = is_control c && not (c == 0 || is_space c)
 
--- the errors of the input stream that a character of a text, and a text, raises
-abbrev pub errors_of : Placed → List ParseError
-errors_of p = error_if (is_stray_control p.ch) ControlCharacterInInputStream p.at
+-- the errors of the input stream that a character raises
+abbrev pub char_errors : Placed → List ParseError
+char_errors p = error_if (is_stray_control p.ch) ControlCharacterInInputStream p.at
     ++ error_if (is_noncharacter p.ch) NoncharacterInInputStream p.at
 
-abbrev pub input_errors : List Placed → List ParseError
+-- those of what stands in a text, and of a text
+abbrev pub errors_of : Read → List ParseError
+errors_of (Whole p) = char_errors p
+errors_of (Bad at) = error ReplacedBytes at ∷ []
+
+abbrev pub input_errors : List Read → List ParseError
 input_errors text = flat_map errors_of text
 
 -- what a sink is handed: a character, or an error of the input stream
@@ -24,11 +30,11 @@ pub data CharItem : Type 0 where
   Character : Placed → CharItem
   InputError : ParseError → CharItem
 
--- a character right after its errors, and so each character of a text
-abbrev pub items_of : Placed → List CharItem
-items_of p = map InputError (errors_of p) ++ Character p ∷ []
+-- a character right after its errors, and so each of a text
+abbrev pub items_of : Read → List CharItem
+items_of r = map InputError (errors_of r) ++ Character (character_of r) ∷ []
 
-abbrev pub items : List Placed → List CharItem
+abbrev pub items : List Read → List CharItem
 items text = flat_map items_of text
 
 -- the characters among what is handed over, and the errors

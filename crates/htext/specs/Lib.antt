@@ -3,3 +3,4 @@ pub mod Items
 pub mod Decoding
 pub mod Rows
 pub mod Run
+pub mod Next

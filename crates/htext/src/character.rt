@@ -1,9 +1,9 @@
 //! How a character is handed over.
 
-ghost use Rattle.std.specs.Prelude.{◌≡◌, ◌<◌, Bool, ℕ, [], ◌∷◌, IsTrue};
+ghost use Rattle.std.specs.Prelude.{◌≡◌, ◌<◌, Bool, ℕ, [], ◌∷◌, map, IsTrue};
 ghost use Rattle.names.specs.Sink.{Hands};
 ghost use Rattle.htext.specs.declared.Bom.{Bom as Mark};
-ghost use Rattle.htext.specs.Text.{is_dropped_mark, read_as};
+ghost use Rattle.htext.specs.Text.{Whole, Bad, is_dropped_mark, read_as};
 ghost use Rattle.htext.specs.Items.{Character, items, items_of, is_stray_control};
 
 use crate::Bom;
@@ -24,7 +24,7 @@ pub(crate) fn hand_char<S: CharSink>(
 ) -> Result<(), Refusal>
     requires { at < MAX_INPUT }
     ensures { Hands S.gives sink.old
-        (items (read_as bom after_return (record { ch = ch; at = at }))) result sink.new }
+        (items (map Whole (read_as bom after_return (record { ch = ch; at = at })))) result sink.new }
 {
     if is_plain(ch) {
         return sink.take_char(ch, at);
@@ -41,7 +41,7 @@ pub(crate) fn hand_char<S: CharSink>(
 #[inline]
 fn is_plain(ch: char) -> bool
     ensures { IsTrue result → (bom : Mark) (after_return : Bool) (at : ℕ)
-        → items (read_as bom after_return (record { ch = ch; at = at })) ≡ Character (record { ch = ch; at = at }) ∷ [] }
+        → items (map Whole (read_as bom after_return (record { ch = ch; at = at }))) ≡ Character (record { ch = ch; at = at }) ∷ [] }
 {
     matches!(ch, ' '..='~' | '\u{A0}'..='\u{FDCF}')
 }
@@ -60,7 +60,7 @@ fn is_dropped_mark(bom: Bom, ch: char, at: u64) -> bool
 #[inline(never)]
 fn hand_read<S: CharSink>(ch: char, at: u64, sink: &mut S) -> Result<(), Refusal>
     requires { at < MAX_INPUT }
-    ensures { Hands S.gives sink.old (items_of (record { ch = ch; at = at })) result sink.new }
+    ensures { Hands S.gives sink.old (items_of (Whole (record { ch = ch; at = at }))) result sink.new }
 {
     if is_stray_control(ch) {
         sink.take_error(ParseError {
@@ -75,6 +75,18 @@ fn hand_read<S: CharSink>(ch: char, at: u64, sink: &mut S) -> Result<(), Refusal
         })?;
     }
     sink.take_char(ch, at)
+}
+
+/// Hands over what replaces a bad part, after its error.
+pub(crate) fn hand_replaced<S: CharSink>(at: u64, sink: &mut S) -> Result<(), Refusal>
+    requires { at < MAX_INPUT }
+    ensures { Hands S.gives sink.old (items (Bad at ∷ [])) result sink.new }
+{
+    sink.take_error(ParseError {
+        code: ErrorCode::ReplacedBytes,
+        at,
+    })?;
+    sink.take_char(char::REPLACEMENT_CHARACTER, at)
 }
 
 fn is_stray_control(ch: char) -> bool

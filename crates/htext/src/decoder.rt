@@ -2,12 +2,12 @@
 
 ghost use Rattle.std.specs.Prelude.{◌≡◌, ◌≤◌, ℕ, List, [], ◌∷◌, ◌++◌, length, drop, Some, Ok, Err, OnOk, IfErr, vec_len};
 ghost use Rattle.names.specs.declared.refusal.Refusal.{Refusal as Refused};
-ghost use Rattle.htext.specs.Text.{refusal_of, decoded, valid_len};
-ghost use Rattle.htext.specs.Decoding.{HasFed, Feeds, answer_at_end};
+ghost use Rattle.htext.specs.Text.{settled};
+ghost use Rattle.htext.specs.Decoding.{Ends, Feeds, HasFed};
 
-use crate::Bom;
 use crate::reading::Reading;
 use crate::sink::CharSink;
+use crate::{BadBytes, Bom};
 use names::Refusal;
 use std::alloc::Global;
 use std::marker::Model;
@@ -30,8 +30,7 @@ impl Model for Decoder {
     ghost Value = { Progress };
 
     ghost view = { λ d. record {
-      bom = d.reading.bom;
-      limit = d.reading.limit;
+      how = record { bom = d.reading.bom; bad = d.reading.bad_bytes; limit = d.reading.limit };
       read = d.reading.read;
       after_return = d.reading.after_return;
       undecoded = d.undecoded.items;
@@ -41,16 +40,16 @@ impl Model for Decoder {
 
 impl Decoder {
     /// A decoder that accepts at most `limit` bytes.
-    pub fn new(alloc: Global, bom: Bom, limit: u64) -> Decoder
+    pub fn new(alloc: Global, bom: Bom, bad_bytes: BadBytes, limit: u64) -> Decoder
         requires { limit ≤ MAX_INPUT }
         ensures fed { HasFed result [] }
-        ensures nothing { decoded bom limit [] ≡ [] }
-        ensures bom { result.bom ≡ bom }
-        ensures limit { result.limit ≡ limit }
+        ensures nothing { settled result.how [] ≡ [] }
+        ensures how { result.how ≡ record { bom = bom; bad = bad_bytes; limit = limit } }
     {
         Decoder {
             reading: Reading {
                 bom,
+                bad_bytes,
                 limit,
                 read: 0,
                 after_return: false,
@@ -61,19 +60,18 @@ impl Decoder {
     }
 
     /// Reads the next piece of the input, and hands its text to the sink. The input is refused as soon as the refusal no
-    /// longer depends on what follows: at a byte that no character can have there, and at the end of the first character
-    /// past the limit. After an error, each call returns that error.
+    /// longer depends on what follows: at a byte that no character can have there, unless bad bytes are replaced, and at the
+    /// end of the first character or bad part past the limit. After an error, each call returns that error.
     pub fn feed<S: CharSink>(&mut self, bytes: &[u8], sink: &mut S) -> Result<(), Refusal>
         ensures feeds { (fed : List ℕ) → HasFed self.old fed
-            → Feeds S.gives self.old.bom self.old.limit fed bytes.now sink.old result sink.new }
+            → Feeds S.gives self.old.how fed bytes.now sink.old result sink.new }
         ensures fed { OnOk result ((fed : List ℕ) → HasFed self.old fed → HasFed self.new (fed ++ bytes.now)) }
 
         // A refusal stays.
         ensures refused { IfErr result (λ refusal. self.new.refused ≡ Some refusal) }
         ensures again { (refusal : Refused) → self.old.refused ≡ Some refusal
             → (result ≡ Err refusal) × (self.new ≡ self.old) × (sink.new ≡ sink.old) }
-        ensures bom { self.new.bom ≡ self.old.bom }
-        ensures limit { self.new.limit ≡ self.old.limit }
+        ensures how { self.new.how ≡ self.old.how }
     {
         if let Some(refusal) = self.refused {
             return Err(refusal);
@@ -89,10 +87,9 @@ impl Decoder {
     // completed byte by byte; the rest is read without a copy.
     fn read_on<S: CharSink>(&mut self, bytes: &[u8], sink: &mut S) -> Result<(), Refusal>
         ensures feeds { (fed : List ℕ) → HasFed self.old fed
-            → Feeds S.gives self.old.bom self.old.limit fed bytes.now sink.old result sink.new }
+            → Feeds S.gives self.old.how fed bytes.now sink.old result sink.new }
         ensures fed { OnOk result ((fed : List ℕ) → HasFed self.old fed → HasFed self.new (fed ++ bytes.now)) }
-        ensures bom { self.new.bom ≡ self.old.bom }
-        ensures limit { self.new.limit ≡ self.old.limit }
+        ensures how { self.new.how ≡ self.old.how }
     {
         for (index, byte) in bytes.iter().enumerate() {
             if self.undecoded.is_empty() {
@@ -106,10 +103,9 @@ impl Decoder {
     // The same for one byte, after undecoded ones.
     fn read_byte<S: CharSink>(&mut self, byte: u8, sink: &mut S) -> Result<(), Refusal>
         ensures feeds { (fed : List ℕ) → HasFed self.old fed
-            → Feeds S.gives self.old.bom self.old.limit fed (byte ∷ []) sink.old result sink.new }
+            → Feeds S.gives self.old.how fed (byte ∷ []) sink.old result sink.new }
         ensures fed { OnOk result ((fed : List ℕ) → HasFed self.old fed → HasFed self.new (fed ++ byte ∷ [])) }
-        ensures bom { self.new.bom ≡ self.old.bom }
-        ensures limit { self.new.limit ≡ self.old.limit }
+        ensures how { self.new.how ≡ self.old.how }
     {
         self.undecoded.push(byte)?;
         let count = self.reading.advance(&self.undecoded, sink)?;
@@ -121,46 +117,58 @@ impl Decoder {
     fn read_piece<S: CharSink>(&mut self, bytes: &[u8], sink: &mut S) -> Result<(), Refusal>
         requires { self.old.undecoded ≡ [] }
         ensures feeds { (fed : List ℕ) → HasFed self.old fed
-            → Feeds S.gives self.old.bom self.old.limit fed bytes.now sink.old result sink.new }
+            → Feeds S.gives self.old.how fed bytes.now sink.old result sink.new }
         ensures fed { OnOk result ((fed : List ℕ) → HasFed self.old fed → HasFed self.new (fed ++ bytes.now)) }
-        ensures bom { self.new.bom ≡ self.old.bom }
-        ensures limit { self.new.limit ≡ self.old.limit }
+        ensures how { self.new.how ≡ self.old.how }
     {
         let count = self.reading.advance(bytes, sink)?;
         self.undecoded.extend_from_slice(&bytes[count..])?;
         Ok(())
     }
 
-    /// The number of bytes that have been read: those of the longest front that is UTF-8 and fits.
+    /// The number of bytes that have been read.
     pub fn read(&self) -> u64
         ensures { result ≡ self.now.read }
     {
         self.reading.read
     }
 
-    /// Ends the input, which must not end inside a character. After an error, each call returns that error.
+    /// Ends the input. It must not end inside a character, unless bad bytes are replaced. After an error, each call returns
+    /// that error.
     pub fn finish<S: CharSink>(&mut self, sink: &mut S) -> Result<(), Refusal>
-        ensures answer { (fed : List ℕ) → HasFed self.old fed
-            → result ≡ answer_at_end (refusal_of self.old.limit fed) }
-        ensures whole { OnOk result ((fed : List ℕ) → HasFed self.old fed → self.old.read ≡ length fed) }
-        ensures sink { sink.new ≡ sink.old }
-        ensures unchanged { OnOk result (self.new ≡ self.old) }
+        ensures ends { (fed : List ℕ) → HasFed self.old fed → Ends S.gives self.old.how fed sink.old result sink.new }
+        ensures whole { OnOk result ((fed : List ℕ) → HasFed self.old fed → self.new.read ≡ length fed) }
+        ensures unchanged { OnOk result (self.old.undecoded ≡ [] → (self.new ≡ self.old) × (sink.new ≡ sink.old)) }
+        ensures how { self.new.how ≡ self.old.how }
 
         // A refusal stays.
         ensures refused { IfErr result (λ refusal. self.new.refused ≡ Some refusal) }
         ensures again { (refusal : Refused) → self.old.refused ≡ Some refusal
-            → (result ≡ Err refusal) × (self.new ≡ self.old) }
+            → (result ≡ Err refusal) × (self.new ≡ self.old) × (sink.new ≡ sink.old) }
     {
-        let _ = sink;
         if let Some(refusal) = self.refused {
             return Err(refusal);
         }
+        let answer = self.end(sink);
+        if let Err(refusal) = answer {
+            self.refused = Some(refusal);
+        }
+        answer
+    }
+
+    // The same where nothing was refused.
+    fn end<S: CharSink>(&mut self, sink: &mut S) -> Result<(), Refusal>
+        ensures ends { (fed : List ℕ) → HasFed self.old fed → Ends S.gives self.old.how fed sink.old result sink.new }
+        ensures whole { OnOk result ((fed : List ℕ) → HasFed self.old fed → self.new.read ≡ length fed) }
+        ensures unchanged { OnOk result (self.old.undecoded ≡ [] → (self.new ≡ self.old) × (sink.new ≡ sink.old)) }
+        ensures how { self.new.how ≡ self.old.how }
+    {
         if self.undecoded.is_empty() {
             return Ok(());
         }
-        let refusal = Refusal::NotUtf8 { at: self.read() };
-        self.refused = Some(refusal);
-        Err(refusal)
+        self.reading.end(&self.undecoded, sink)?;
+        self.undecoded.clear();
+        Ok(())
     }
 }
 

@@ -1,40 +1,50 @@
 //! Laws of texts.
 
-ghost use Rattle.std.specs.Prelude.{◌≡◌, ◌+◌, ◌<◌, ◌≤◌, ◌++◌, ◌↔◌, ℕ, List, length, None, Some};
+ghost use Rattle.std.specs.Prelude.{◌≡◌, ◌+◌, ◌<◌, ◌≤◌, ◌++◌, ◌↔◌, ℕ, List, length, map, None, Some};
 ghost use Rattle.std.specs.Char.{IsScalar, encode_utf8, len_utf8};
-ghost use Rattle.std.specs.Str.{IsUtf8};
-ghost use Rattle.names.specs.declared.placed.Placed.{Placed};
-ghost use Rattle.htext.specs.declared.Bom.{Bom as Mark};
+ghost use Rattle.std.specs.Str.{IsUtf8, chars};
+ghost use Rattle.names.specs.Placed.{placed};
 ghost use Rattle.names.specs.declared.refusal.Refusal.TheVariants.{NotUtf8, TooLarge};
-ghost use Rattle.htext.specs.Text.{PlacesRise, valid_len, decoded, refusal_of, BeginsNoCharacter};
+ghost use Rattle.htext.specs.declared.BadBytes.TheVariants.{Refuse, Replace};
+ghost use Rattle.htext.specs.Text.{Policy, Read, Whole, PlacesRise, read_len, decoded, settled, reads, refusal_of, BeginsNoCharacter, character_of};
 ghost use Rattle.htext.specs.Items.{items, characters_among, errors_among, input_errors};
 
 /// What is handed over of a text is its characters and its errors.
 pub fn items_are_characters_and_errors()
-    ensures characters { (text : List Placed) → characters_among (items text) ≡ text }
-    ensures errors { (text : List Placed) → errors_among (items text) ≡ input_errors text }
+    ensures characters { (text : List Read) → characters_among (items text) ≡ map character_of text }
+    ensures errors { (text : List Read) → errors_among (items text) ≡ input_errors text }
+{}
+
+/// What stands in bytes that are UTF-8 is their characters.
+pub fn valid_bytes_are_characters()
+    ensures { (bytes : List ℕ) → IsUtf8 bytes → reads bytes ≡ map Whole (placed 0 (chars bytes)) }
 {}
 
 /// More bytes change nothing of what was read.
 pub fn text_goes_on()
-    ensures { (bom : Mark) (limit : ℕ) (bytes more : List ℕ)
-        → (rest : List Placed) × (decoded bom limit (bytes ++ more) ≡ decoded bom limit bytes ++ rest) }
+    ensures settled { (how : Policy) (bytes more : List ℕ)
+        → (rest : List Read) × (settled how (bytes ++ more) ≡ settled how bytes ++ rest) }
+    ensures decoded { (how : Policy) (bytes more : List ℕ)
+        → (rest : List Read) × (decoded how (bytes ++ more) ≡ settled how bytes ++ rest) }
 {}
 
-/// The places of what was read rise, and lie in the valid front.
+/// The places of what was read rise, and lie in the front that is read.
 pub fn places_rise()
-    ensures { (bom : Mark) (limit : ℕ) (bytes : List ℕ)
-        → PlacesRise 0 (decoded bom limit bytes) (valid_len limit bytes) }
+    ensures { (how : Policy) (bytes : List ℕ)
+        → PlacesRise 0 (map character_of (decoded how bytes)) (read_len how bytes) }
 {}
 
-/// Bytes are refused for what follows the longest front that is UTF-8 and fits, at its end.
+/// Where bad bytes are refused, bytes are refused for what follows the longest front that is UTF-8 and fits, at its end. Where they are
+/// replaced, bytes are refused only if they are too many.
 pub fn refusals_are_of_what_follows()
-    ensures accepted { (limit : ℕ) (bytes : List ℕ)
-        → (refusal_of limit bytes ≡ None) ↔ (IsUtf8 bytes × (length bytes ≤ limit)) }
-    ensures too_large { (limit : ℕ) (front : List ℕ) (ch : ℕ) (rest : List ℕ) → IsUtf8 front → IsScalar ch
-        → length front ≤ limit → limit < length front + len_utf8 ch
-        → refusal_of limit (front ++ (encode_utf8 ch ++ rest)) ≡ Some (TooLarge (length front)) }
-    ensures not_utf8 { (limit : ℕ) (front rest : List ℕ) → IsUtf8 front → length front ≤ limit
+    ensures accepted { (how : Policy) (bytes : List ℕ) → how.bad ≡ Refuse
+        → (refusal_of how bytes ≡ None) ↔ (IsUtf8 bytes × (length bytes ≤ how.limit)) }
+    ensures too_large { (how : Policy) (front : List ℕ) (ch : ℕ) (rest : List ℕ) → how.bad ≡ Refuse → IsUtf8 front → IsScalar ch
+        → length front ≤ how.limit → how.limit < length front + len_utf8 ch
+        → refusal_of how (front ++ (encode_utf8 ch ++ rest)) ≡ Some (TooLarge (length front)) }
+    ensures not_utf8 { (how : Policy) (front rest : List ℕ) → how.bad ≡ Refuse → IsUtf8 front → length front ≤ how.limit
         → 0 < length rest → BeginsNoCharacter rest
-        → refusal_of limit (front ++ rest) ≡ Some (NotUtf8 (length front)) }
+        → refusal_of how (front ++ rest) ≡ Some (NotUtf8 (length front)) }
+    ensures replaced { (how : Policy) (bytes : List ℕ) → how.bad ≡ Replace
+        → (refusal_of how bytes ≡ None) ↔ (length bytes ≤ how.limit) }
 {}

@@ -21,3 +21,12 @@ pub enum Bom {
     /// It is the character U+FEFF, as in a fragment.
     Keep,
 }
+
+/// What becomes of bytes that are not UTF-8.
+#[derive(Clone, Copy)]
+pub enum BadBytes {
+    /// The input is refused at the first of them.
+    Refuse,
+    /// Each bad part becomes one U+FFFD, with the error `replaced-bytes` at its first byte (Encoding Standard, "UTF-8 decode").
+    Replace,
+}

@@ -1,24 +1,26 @@
 //! How far an input has been read.
 
-ghost use Rattle.std.specs.Prelude.{◌≡◌, ℕ, ◌+◌, ◌-◌, ◌<◌, ◌≤◌, ◌++◌, true, false, List, [], length, take, drop, Ok, Err, IfOk, OnOk, MatchOption, MatchResult};
+ghost use Rattle.std.specs.Prelude.{◌≡◌, ℕ, ◌+◌, ◌-◌, ◌<◌, ◌≤◌, ◌++◌, true, false, List, [], ◌∷◌, length, map, take, drop, Ok, Err, IfOk, OnOk, MatchOption, MatchResult};
 ghost use Rattle.std.specs.List.{list_all};
 ghost use Rattle.std.specs.Char.{encode_utf8};
 ghost use Rattle.std.specs.Str.{chars};
 ghost use Rattle.std.specs.Str.Lossy.{utf8_valid_len};
 ghost use Rattle.names.specs.Placed.{placed};
 ghost use Rattle.names.specs.Sink.{Hands};
-ghost use Rattle.names.specs.declared.refusal.Refusal.{Refusal as Refused};
+ghost use Rattle.names.specs.declared.refusal.Refusal.TheVariants.{NotUtf8};
 ghost use Rattle.htext.specs.declared.decoder.TheConstants.{MAX_INPUT};
-ghost use Rattle.htext.specs.Text.{normalized, ends_in_return, settled_refusal, StaysRefused};
+ghost use Rattle.htext.specs.declared.BadBytes.TheVariants.{Refuse, Replace};
+ghost use Rattle.htext.specs.Text.{Policy, Whole, Bad, normalized, ends_in_return, text, settled};
 ghost use Rattle.htext.specs.Items.{items};
 ghost use Rattle.htext.specs.Run.{is_plain_byte};
-ghost use Rattle.htext.specs.Decoding.{HasRead, Feeds, HandsNew};
+ghost use Rattle.htext.specs.Decoding.{HasRead, HandsOn, IsReading, IsUndecided, Stops};
+ghost use Rattle.htext.specs.Next.{next_of, next_part};
 
-use crate::Bom;
-use crate::character::hand_char;
+use crate::character::{hand_char, hand_replaced};
 use crate::decoder::MAX_INPUT;
 use crate::run::plain_run;
 use crate::sink::CharSink;
+use crate::{BadBytes, Bom};
 use names::Refusal;
 use simdutf8::compat::from_utf8;
 
@@ -26,6 +28,7 @@ use simdutf8::compat::from_utf8;
 #[derive(Drop)]
 pub(crate) struct Reading {
     pub(crate) bom: Bom,
+    pub(crate) bad_bytes: BadBytes,
     pub(crate) limit: u64,
     /// How many bytes have been read.
     pub(crate) read: u64,
@@ -35,44 +38,136 @@ pub(crate) struct Reading {
     ghost within: { read ≤ limit },
 }
 
+/// What stands at the front of bytes that begin with no character that fits.
+pub(crate) enum Next {
+    /// A bad part of this length, to be replaced.
+    Bad(usize),
+    /// Nothing that is settled before more bytes follow.
+    Waits,
+    /// What is refused, whatever follows.
+    Refused(Refusal),
+}
+
 impl Reading {
-    /// Reads the longest front of the bytes that is UTF-8 and fits, hands its text to the sink, and returns its length. The
-    /// bytes are refused as soon as what is left can't become a character that fits.
+    /// Reads the longest front of the bytes, which follow those read before, that is read whatever follows them. It hands the text of
+    /// that to the sink, and returns its length. The bytes are refused as soon as what is left can't become what fits.
     pub(crate) fn advance<S: CharSink>(
         &mut self,
         bytes: &[u8],
         sink: &mut S,
     ) -> Result<usize, Refusal>
-        ensures reads { (fed piece : List ℕ) → HasRead self.old.limit self.old.read self.old.after_return fed
-            → bytes.now ≡ drop self.old.read fed ++ piece
+        ensures reads { let how : Policy = record { bom = self.old.bom; bad = self.old.bad_bytes; limit = self.old.limit } in
+            (all : List ℕ) → IsReading how self.old.read self.old.after_return all → bytes.now ≡ drop self.old.read all
             → MatchResult result
-            (λ count. HandsNew S.gives self.old.bom self.old.limit fed (fed ++ piece) sink.old (Ok tt) sink.new
-            × HasRead self.new.limit self.new.read self.new.after_return (fed ++ piece)
-            × (drop count bytes.now ≡ drop self.new.read (fed ++ piece))
-            × ((refusal : Refused) → StaysRefused self.old.limit (fed ++ piece) refusal → ⊥))
-            (λ e. Feeds S.gives self.old.bom self.old.limit fed piece sink.old (Err e) sink.new) }
+            (λ count. HandsOn S.gives (text how.bom (take self.old.read all)) (settled how all) sink.old (Ok tt) sink.new
+            × HasRead how self.new.read self.new.after_return all × (drop count bytes.now ≡ drop self.new.read all) × IsUndecided how all)
+            (λ e. Stops S.gives how (text how.bom (take self.old.read all)) all sink.old e sink.new) }
         ensures few { IfOk result (λ count. (count ≤ length bytes.now) × (length bytes.now ≤ count + 3)) }
         ensures bom { self.new.bom ≡ self.old.bom }
+        ensures bad { self.new.bad_bytes ≡ self.old.bad_bytes }
         ensures limit { self.new.limit ≡ self.old.limit }
     {
-        let room = ((self.limit - self.read) as usize).min(bytes.len());
-        let text = valid_text(&bytes[..room]);
-        self.hand_text(text, sink)?;
-        let rest = &bytes[text.len()..];
-        match settled_refusal(rest, self.read) {
-            Some(refusal) => Err(refusal),
-            None => Ok(text.len()),
+        let mut count = 0;
+        loop {
+            let text = valid_text(self.fitting(&bytes[count..]), count > 0);
+            self.hand_text(text, sink)?;
+            count += text.len();
+            let len = match self.next(&bytes[count..]) {
+                Next::Bad(len) => len,
+                Next::Waits => return Ok(count),
+                Next::Refused(refusal) => return Err(refusal),
+            };
+            self.hand_bad(len, sink)?;
+            count += len;
         }
+    }
+
+    /// Ends the input, after these bytes, which were held: they are replaced or refused.
+    pub(crate) fn end<S: CharSink>(&mut self, rest: &[u8], sink: &mut S) -> Result<(), Refusal>
+        requires { 0 < length rest.now }
+        ensures refused { self.old.bad_bytes ≡ Refuse → (result ≡ Err (NotUtf8 self.old.read)) × (sink.new ≡ sink.old) }
+        ensures replaced { self.old.bad_bytes ≡ Replace → self.old.read + length rest.now ≤ self.old.limit
+            → Hands S.gives sink.old (items (Bad self.old.read ∷ [])) result sink.new }
+        ensures read { OnOk result (self.new.read ≡ self.old.read + length rest.now) }
+        ensures bom { self.new.bom ≡ self.old.bom }
+        ensures bad { self.new.bad_bytes ≡ self.old.bad_bytes }
+        ensures limit { self.new.limit ≡ self.old.limit }
+    {
+        match self.bad_bytes {
+            BadBytes::Replace if rest.len() as u64 <= self.limit - self.read => self.hand_bad(
+                rest.len(),
+                sink,
+            ),
+            _ => Err(Refusal::NotUtf8 { at: self.read }),
+        }
+    }
+
+    // What is read of bytes whose front fits: as much as there is room for.
+    fn fitting<'a>(&self, bytes: &'a [u8]) -> &'a [u8]
+        ensures { result.now ≡ take (self.now.limit - self.now.read) bytes.now }
+    {
+        let room = ((self.limit - self.read) as usize).min(bytes.len());
+        &bytes[..room]
+    }
+
+    // What stands at the front of bytes that begin with no character that fits.
+    fn next(&self, rest: &[u8]) -> Next
+        ensures { result ≡ next_of self.now.bad_bytes rest.now (self.now.limit - self.now.read) self.now.read }
+    {
+        let at = self.read;
+        match str::from_utf8(rest) {
+            Ok("") => self.next_part(None, 0),
+            Ok(_) => Next::Refused(Refusal::TooLarge { at }),
+            Err(error) if error.valid_up_to() > 0 => Next::Refused(Refusal::TooLarge { at }),
+            Err(error) => self.next_part(error.error_len(), rest.len()),
+        }
+    }
+
+    // The same for so many bytes that begin with no character: with a bad part of this length, or with none that is settled.
+    fn next_part(&self, bad_len: Option<usize>, len: usize) -> Next
+        ensures { result ≡ next_part self.now.bad_bytes bad_len len (self.now.limit - self.now.read) self.now.read }
+    {
+        let at = self.read;
+        let room = (self.limit - at) as usize;
+        match (self.bad_bytes, bad_len) {
+            (BadBytes::Refuse, Some(_)) => Next::Refused(Refusal::NotUtf8 { at }),
+            (BadBytes::Refuse, None) => Next::Waits,
+            (BadBytes::Replace, Some(part)) if part > room => Next::Refused(Refusal::TooLarge {
+                at,
+            }),
+            (BadBytes::Replace, Some(part)) => Next::Bad(part),
+            (BadBytes::Replace, None) if len > room => Next::Refused(Refusal::TooLarge { at }),
+            (BadBytes::Replace, None) => Next::Waits,
+        }
+    }
+
+    // Hands over what replaces a bad part of this length, as the next of the input.
+    fn hand_bad<S: CharSink>(&mut self, len: usize, sink: &mut S) -> Result<(), Refusal>
+        requires some { 0 < len }
+        requires fits { self.old.read + len ≤ self.old.limit }
+        ensures handed { Hands S.gives sink.old (items (Bad self.old.read ∷ [])) result sink.new }
+        ensures read { OnOk result (self.new.read ≡ self.old.read + len) }
+        ensures end { OnOk result (self.new.after_return ≡ false) }
+        ensures bom { self.new.bom ≡ self.old.bom }
+        ensures bad { self.new.bad_bytes ≡ self.old.bad_bytes }
+        ensures limit { self.new.limit ≡ self.old.limit }
+    {
+        hand_replaced(self.read, sink)?;
+        self.after_return = false;
+        self.read += len as u64;
+        Ok(())
     }
 
     // Hands a text to the sink, as the next of the input.
     fn hand_text<S: CharSink>(&mut self, text: &str, sink: &mut S) -> Result<(), Refusal>
         requires { self.old.read + length text.now ≤ self.old.limit }
         ensures handed { Hands S.gives sink.old
-            (items (normalized self.old.bom self.old.after_return (placed self.old.read (chars text.now)))) result sink.new }
+            (items (normalized self.old.bom self.old.after_return (map Whole (placed self.old.read (chars text.now))))) result sink.new }
         ensures read { OnOk result (self.new.read ≡ self.old.read + length text.now) }
-        ensures end { OnOk result (self.new.after_return ≡ ends_in_return self.old.after_return (chars text.now)) }
+        ensures end { OnOk result
+            (self.new.after_return ≡ ends_in_return self.old.after_return (map Whole (placed self.old.read (chars text.now)))) }
         ensures bom { self.new.bom ≡ self.old.bom }
+        ensures bad { self.new.bad_bytes ≡ self.old.bad_bytes }
         ensures limit { self.new.limit ≡ self.old.limit }
     {
         let mut rest = text;
@@ -123,24 +218,25 @@ fn run_at(text: &str, first: char, after_return: bool) -> usize
     }
 }
 
-/// The longest front that is UTF-8.
-fn valid_text(bytes: &[u8]) -> &str
+/// The longest front that is UTF-8. After a bad part it is looked for byte by byte, since another may be near: `simdutf8` goes over
+/// all of the bytes before it looks for the first that is bad.
+fn valid_text(bytes: &[u8], after_bad: bool) -> &str
     ensures { result.now ≡ take (utf8_valid_len bytes.now) bytes.now }
 {
+    if after_bad {
+        return valid_text_by_one(bytes);
+    }
     match from_utf8(bytes) {
         Ok(text) => text,
         Err(error) => from_utf8(&bytes[..error.valid_up_to()]).unwrap(),
     }
 }
 
-/// Why the bytes after the valid front, which ends at `at`, are refused whatever follows them, if they are.
-fn settled_refusal(rest: &[u8], at: u64) -> Option<Refusal>
-    ensures { result ≡ settled_refusal rest.now at }
+fn valid_text_by_one(bytes: &[u8]) -> &str
+    ensures { result.now ≡ take (utf8_valid_len bytes.now) bytes.now }
 {
-    match from_utf8(rest) {
-        Ok("") => None,
-        Ok(_) => Some(Refusal::TooLarge { at }),
-        Err(error) if error.valid_up_to() > 0 => Some(Refusal::TooLarge { at }),
-        Err(error) => error.error_len().map(|_| Refusal::NotUtf8 { at }),
+    match str::from_utf8(bytes) {
+        Ok(text) => text,
+        Err(error) => str::from_utf8(&bytes[..error.valid_up_to()]).unwrap(),
     }
 }

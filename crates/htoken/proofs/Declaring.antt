@@ -1,11 +1,12 @@
 -- What the characters after `<!` begin, and what they do not.
-use Rattle.std.proofs.Common.{◌≡◌, ℕ, suc, ◌+◌, ◌<◌, get_or, take, Bool, true, false, ◌&&◌, ◌||◌, eqb, List, [], ◌∷◌, ◌++◌, map, length, sym, refl, ap, ◌∙◌, subst, Some, arith, append_assoc, append-nil}
+use Rattle.std.proofs.Common.{◌≡◌, ℕ, zero, suc, ◌+◌, ◌<◌, get_or, take, Bool, true, false, ◌&&◌, ◌||◌, eqb, List, [], ◌∷◌, ◌++◌, map, length, sym, refl, ap, ◌∙◌, subst, Some, arith, append_assoc, append-nil}
 use Rattle.std.proofs.lemmas.Bool.{eqb-true, eq-eqb}
 use Rattle.std.proofs.Math.Seq.{take-suc}
 use Rattle.std.specs.Prelude.{codes, slice_get, is_some}
 use Rattle.std.specs.Char.{to_ascii_lowercase}
+use Rattle.std.specs.List.{list_all}
 use Rattle.names.specs.declared.placed.Placed.{Placed}
-use Rattle.names.specs.Placed.{characters, all, begins, place, spells, spells_in_any_case}
+use Rattle.names.specs.Placed.{characters, lowered, all, is_letter, begins, place, spells, spells_in_any_case}
 use Rattle.std.proofs.lemmas.Bool.Decides.{nat_tests}
 use Rattle.hmarkup.specs.Comment.{is_plain_in_bogus}
 use Rattle.hmarkup.proofs.Marks.{and_no, and_parts, and_both}
@@ -199,3 +200,38 @@ all_take test ps i c d l is one h =
 
 pub plain_take : (ps : List Placed) (i c : ℕ) (d : Placed) → i < length ps → c ≡ (get_or ps i d).ch → (c ≡ 62 → ⊥) → (c ≡ 0 → ⊥) → all is_plain_in_bogus (take i ps) ≡ true → all is_plain_in_bogus (take (i + 1) ps) ≡ true
 plain_take ps i c d l is greater null h = all_take is_plain_in_bogus ps i c d l is (grind (arith, nat_tests)) h
+
+pub plain_at : (ps : List Placed) (i c : ℕ) (d : Placed) → i < length ps → c ≡ (get_or ps i d).ch → all is_plain_in_bogus ps ≡ true → is_plain_in_bogus c ≡ true
+plain_at [] i c d l is h = absurd (omega arith)
+plain_at (p ∷ ps) zero c d l is h = ap is_plain_in_bogus is ∙ (and_parts (is_plain_in_bogus p.ch) (all is_plain_in_bogus ps) h).0
+plain_at (p ∷ ps) (suc i) c d l is h = plain_at ps i c d (omega arith) is (and_parts (is_plain_in_bogus p.ch) (all is_plain_in_bogus ps) h).1
+
+-- WHAT IS HELD AFTER `<!` IS PLAIN
+
+plain_if : (read : ℕ → ℕ) (test : ℕ → Bool) (text : List Placed) → ((c : ℕ) → test (read c) ≡ true → is_plain_in_bogus c ≡ true) → list_all test (as_read read text) ≡ true → all is_plain_in_bogus text ≡ true
+plain_if read test [] leads h = refl
+plain_if read test (x ∷ xs) leads h =
+    let parts = and_parts (test (read x.ch)) (list_all test (as_read read xs)) h in
+    and_both (is_plain_in_bogus x.ch) (all is_plain_in_bogus xs) (leads x.ch parts.0) (plain_if read test xs leads parts.1)
+
+front_all : (test : ℕ → Bool) (xs ys : List ℕ) → list_all test (xs ++ ys) ≡ true → list_all test xs ≡ true
+front_all test [] ys h = refl
+front_all test (x ∷ xs) ys h = let parts = and_parts (test x) (list_all test (xs ++ ys)) h in and_both (test x) (list_all test xs) parts.0 (front_all test xs ys parts.1)
+
+front_of_word : (test : ℕ → Bool) (word read : List ℕ) → list_all test word ≡ true → IsFrontOf word read → list_all test read ≡ true
+front_of_word test word read h (c, left, is) = front_all test read (c ∷ left) (ap (list_all test) is ∙ h)
+
+letter_plain : (c : ℕ) → is_letter (to_ascii_lowercase c) ≡ true → is_plain_in_bogus c ≡ true
+letter_plain c h = grind (arith, nat_tests)
+
+pub characters_plain : (text : List Placed) → list_all is_plain_in_bogus (characters text) ≡ true → all is_plain_in_bogus text ≡ true
+characters_plain text h = plain_if (λ c. c) is_plain_in_bogus text (λ c plain. plain) h
+
+pub opened_plain : (so : Opened) (text : List Placed) → IsOpened so text → all is_plain_in_bogus text ≡ true
+opened_plain opened.Nothing text h = ap (all is_plain_in_bogus) h
+opened_plain opened.Dash text h = characters_plain text (ap (list_all is_plain_in_bogus) h)
+opened_plain opened.Doctype text h = plain_if to_ascii_lowercase is_letter text letter_plain (front_of_word is_letter (codes "doctype") (lowered text) refl h.1)
+opened_plain opened.Cdata text h = characters_plain text (front_of_word is_plain_in_bogus (codes "[CDATA[") (characters text) refl h.1)
+
+pub cdata_plain : (text : List Placed) → characters text ≡ codes "[CDATA[" → all is_plain_in_bogus text ≡ true
+cdata_plain text h = characters_plain text (ap (list_all is_plain_in_bogus) h)

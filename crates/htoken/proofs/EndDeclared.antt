@@ -1,5 +1,5 @@
 -- The input's end after `<!`: what came after it is read as a comment.
-use Rattle.std.proofs.Common.{◌≡◌, ℕ, false, List, [], ◌∷◌, ◌++◌, sym, refl, ap, ◌∙◌, subst, Result, Ok, Err, append-nil}
+use Rattle.std.proofs.Common.{◌≡◌, ℕ, true, false, List, [], ◌∷◌, ◌++◌, sym, refl, ap, ◌∙◌, subst, Result, Ok, Err, append-nil}
 use Rattle.names.specs.declared.error.ErrorCode.TheVariants.{IncorrectlyOpenedComment}
 use Rattle.names.specs.declared.error.ParseError.{ParseError}
 use Rattle.names.specs.declared.placed.Placed.{Placed}
@@ -7,7 +7,8 @@ use Rattle.names.specs.declared.raw.RawKind.{RawKind}
 use Rattle.names.specs.declared.raw.RawKind.TheVariants as kind
 use Rattle.names.specs.declared.refusal.Refusal.{Refusal}
 use Rattle.names.specs.Names.{Texts}
-use Rattle.names.specs.Placed.{place, error}
+use Rattle.names.specs.Placed.{all, place, error}
+use Rattle.hmarkup.specs.Comment.{is_plain_in_bogus}
 use Rattle.charref.specs.Reference.{Entities}
 use Rattle.hmarkup.specs.declared.comment.CommentKind.TheVariants.{Bogus}
 use Rattle.hmarkup.specs.CommentWalk.{IsSpan as IsCommentOf}
@@ -23,7 +24,7 @@ use Rattle.htoken.specs.Token.{Span, Event, Comment, TokenMeans, gives_item}
 use Rattle.htoken.specs.Tokenizing.{Reads, IsHeld, IsIn, EndsHeld, held_ran_out, held_ended, less}
 use Rattle.htoken.specs.Steps.{Keeps, BeginsBogus, GivesSpan}
 use Rattle.htoken.proofs.AtEnd.{no_script, stands_at_end}
-use Rattle.htoken.proofs.Declaring.{nothing_at_end}
+use Rattle.htoken.proofs.Declaring.{nothing_at_end, opened_plain}
 use Rattle.htoken.proofs.Handing.{span_given}
 use Rattle.htoken.proofs.InData.{in_data}
 use Rattle.htoken.proofs.InMarkup.{keeps, kept, refused}
@@ -41,6 +42,9 @@ module _ {S : Type 0} (gives : S → ParseError → Result (Unit {0}) Refusal �
 
   abbrev declared : IsHeld (state.Declaration at so) table names h.here t h.held []
   declared = subst (λ (x : State). IsHeld x table names h.here t h.held []) after_bang h.is_held
+
+  pub declared_plain : all is_plain_in_bogus body ≡ true
+  declared_plain = opened_plain so body declared.2
 
   here_is : h.here.kind ≡ kind.None
   here_is = subst (λ (x : State). IsIn x h.here.kind) after_bang h.is_in

@@ -1,5 +1,5 @@
 -- The errors of an end tag, kept one after the other.
-use Rattle.std.proofs.Common.{◌≡◌, ℕ, Bool, List, ◌++◌, ap, ◌∙◌, append_assoc}
+use Rattle.std.proofs.Common.{◌≡◌, Bool, List, ◌++◌, ap, ◌∙◌, append_assoc}
 use Rattle.names.specs.declared.error.ErrorCode.TheVariants.{EndTagWithAttributes, EndTagWithTrailingSolidus}
 use Rattle.names.specs.declared.error.ParseError.{ParseError}
 use Rattle.names.specs.Placed.{error_if}

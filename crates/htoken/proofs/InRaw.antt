@@ -41,6 +41,7 @@ use Rattle.htag.proofs.Keeping.{looks_ahead as tag_ahead}
 use Rattle.htoken.proofs.Cutting.{stands_more}
 use Rattle.htoken.proofs.Going.{ran_out, goes_on, span_ends}
 use Rattle.htag.proofs.Parts.{all-snoc}
+use Rattle.htoken.proofs.RawNames.{is_word, raw_word, word_letter, some_held}
 use Rattle.htoken.proofs.RawEnds.{name_ends, differs, goes_past, is_whole, left_some, left_none, letter_not, name_is_lowered, no_solidus, no_name, a_name, other_goes_on, nameless_goes_on, inner_goes_on}
 
 -- a span of raw text is one where raw text stands
@@ -93,7 +94,7 @@ characters_stand table start end (q ∷ qs) front rest here taken raw go s =
     subst (λ (x : List Placed). Stands table start end x rest (after_characters here (q ∷ qs)) (taken ++ run_events (q ∷ qs)) []) (append_assoc front (q ∷ []) qs)
     (subst (λ (x : List Event). Stands table start end ((front ++ q ∷ []) ++ qs) rest (after_characters here (q ∷ qs)) x []) (append_assoc taken (Gives (Char q.ch q.at) ∷ []) (run_events qs)) many)
 
-pub some_letter : (ls : List Placed) → all is_letter ls ≡ true → (length ls ≡ 0 → ⊥) → begins is_letter ls ≡ true
+some_letter : (ls : List Placed) → all is_letter ls ≡ true → (length ls ≡ 0 → ⊥) → begins is_letter ls ≡ true
 some_letter [] h some = absurd (some refl)
 some_letter (l ∷ ls) h some = (and_parts (is_letter l.ch) (all is_letter ls) h).0
 
@@ -278,6 +279,10 @@ module _ {S : Type 0} (gives : S → Item → Result (Unit {0}) Refusal → S �
     abbrev mark : List Placed
     mark = less t ∷ record { ch = 47; at = at } ∷ t.held.items
 
+    -- the name is a word
+    word : is_word (string_bytes t.tag.name) ≡ true
+    word = let s = h.stands 0 [] in raw_word start s.spans h.here (string_bytes t.tag.name) s.leads in_name.named raw_here
+
     -- a letter of the name
     pub raw_letter_follows : (new : Tokenizer) (s : S) (c : ℕ) → Keeps t new → new.state ≡ state.RawName at → new.raised.errors.items ≡ t.raised.errors.items → new.tag ≡ t.tag → new.script ≡ t.script → new.held.items ≡ t.held.items ++ p ∷ []
         → slice_get (string_bytes t.tag.name) (length t.held.items) ≡ Some c → to_ascii_lowercase p.ch ≡ c → is_letter p.ch ≡ true → Takes gives table start text (p ∷ []) taken names s (Ok tt) s new
@@ -303,8 +308,9 @@ module _ {S : Type 0} (gives : S → Item → Result (Unit {0}) Refusal → S �
         → slice_get (string_bytes t.tag.name) (length t.held.items) ≡ Some c → eqb (to_ascii_lowercase p.ch) c ≡ true → Takes gives table start text (p ∷ []) taken names s answer s new
     letter_held new s c (Err r) is expected same = ran_out gives table start text p names taken t h new s (Err r) (ap (λ (x : Refusal). Err x) is)
     letter_held new s c (Ok u) i expected same =
+        let is : to_ascii_lowercase p.ch ≡ c = eqb-true (to_ascii_lowercase p.ch) c same in
         subst (λ (x : Tokenizer). Takes gives table start text (p ∷ []) taken names s (Ok tt) s x) (sym i.then)
-        (raw_letter_follows (record t { held = new.held }) s c (record { kind_is = refl; last_is = refl; at_is = refl; stays = (refl, refl, refl) }) after refl refl refl i.held_is expected (eqb-true (to_ascii_lowercase p.ch) c same) i.letter)
+        (raw_letter_follows (record t { held = new.held }) s c (record { kind_is = refl; last_is = refl; at_is = refl; stays = (refl, refl, refl) }) after refl refl refl i.held_is expected is (word_letter (string_bytes t.tag.name) (length t.held.items) c p.ch word expected is))
 
     -- no end tag stands here
     module _ (other : (more : List Placed) → name_ends (string_bytes t.tag.name) (t.held.items ++ p ∷ more) ≡ false) where
@@ -338,11 +344,12 @@ module _ {S : Type 0} (gives : S → Item → Result (Unit {0}) Refusal → S �
       goes_past_here other more = subst (λ (x : List ℕ). name_ends x (t.held.items ++ p ∷ more) ≡ false) name_whole (goes_past t.held.items p more other)
 
       -- .. and it ends here: the tag goes on with the character
-      pub end_tag_begins : (new : Tokenizer) → new ≡ record t { state = state.Tag; tag = new.tag } → new.tag.kind ≡ tag.End → ends_name p.ch ≡ true → begins is_letter t.held.items ≡ true
+      pub end_tag_begins : (new : Tokenizer) → new ≡ record t { state = state.Tag; tag = new.tag } → new.tag.kind ≡ tag.End → ends_name p.ch ≡ true
           → ((letters : List Placed) → begins is_letter letters ≡ true → all is_letter letters ≡ true → string_bytes t.tag.name ≡ name_bytes letters → IsInTag table names new.tag letters [] [])
           → Reads table start new names text (p ∷ []) taken
-      end_tag_begins new new_is kind ends some begun =
+      end_tag_begins new new_is kind ends begun =
           let i = in_name in
+          let some : begins is_letter t.held.items ≡ true = some_letter t.held.items i.letters (some_held t.held.items (ap is_word name_whole ∙ word)) in
           subst (λ (x : Tokenizer). Reads table start x names text (p ∷ []) taken) (sym new_is) (record {
             accepts = h.accepts;
             table_is = h.table_is;

@@ -1,5 +1,5 @@
 -- A character after an `&`, and the input's end there.
-use Rattle.std.proofs.Common.{◌≡◌, ℕ, ◌+◌, ◌-◌, ◌≤◌, Bool, true, false, ◌&&◌, eqb, List, [], ◌∷◌, ◌++◌, map, length, drop, take, reverse, sym, refl, ap, ◌∙◌, subst, Result, Ok, Err, Option, arith, append_assoc, append-nil}
+use Rattle.std.proofs.Common.{◌≡◌, ℕ, ◌+◌, ◌-◌, ◌≤◌, Bool, true, false, true≢false, ◌&&◌, eqb, List, [], ◌∷◌, ◌++◌, map, length, drop, take, reverse, sym, refl, ap, ◌∙◌, subst, Result, Ok, Err, Option, arith, append_assoc, append-nil}
 use Rattle.std.proofs.lemmas.List.{drop-append-le, take-append-le}
 use Rattle.std.proofs.Math.Seq.{drop-append_seam, take-append_seam}
 use Rattle.std.proofs.Math.ListN.{length-append}
@@ -11,12 +11,15 @@ use Rattle.names.specs.declared.raw.RawKind.{RawKind}
 use Rattle.names.specs.declared.raw.RawKind.TheVariants as kind
 use Rattle.names.specs.declared.refusal.Refusal.{Refusal}
 use Rattle.names.specs.Names.{Texts}
-use Rattle.names.specs.Placed.{begins, past, is_alphanumeric, error_if}
+use Rattle.names.specs.Placed.{all, begins, past, is_alphanumeric, error_if}
 use Rattle.charref.specs.declared.reference.Reference.{Reference}
 use Rattle.charref.specs.Pieces.{IsRead, characters_of, errors_of}
 use Rattle.charref.specs.Reference.{Entities, IsTable, IsReference}
+use Rattle.charref.specs.declared.state.State.{State as WalkState}
+use Rattle.charref.specs.Held.{is_number, kept}
 use Rattle.charref.specs.Walk.{HasTaken as WalkHasTaken}
-use Rattle.hmarkup.proofs.Marks.{and_no}
+use Rattle.charref.proofs.Keeping.{kept_none, kept_all, kept_nothing, is_other, drop-kept, drop-kept-end}
+use Rattle.hmarkup.proofs.Marks.{and_no, and_parts}
 use Rattle.htoken.specs.declared.state.State.{State}
 use Rattle.htoken.specs.declared.state.State.TheVariants as state
 use Rattle.htoken.specs.declared.tokenizer.Tokenizer.{Tokenizer}
@@ -27,7 +30,8 @@ use Rattle.htoken.specs.Spans.{has_references}
 use Rattle.htoken.specs.Giving.{known_errors, piece_events, read_events}
 use Rattle.htoken.specs.Tokens.{tokens_in, eof_of, tokens_of}
 use Rattle.htoken.specs.Handing.{HandsEvents}
-use Rattle.htoken.specs.Steps.{Stays, Keeps, BeginsReference}
+use Rattle.htoken.specs.Run.{run_events}
+use Rattle.htoken.specs.Steps.{Stays, Keeps, BeginsReference, Finds}
 use Rattle.htoken.specs.Tokenizing.{Stands, Reads, IsInRun, Takes, take_took, take_sink_refused, in_run, IsHeld, IsIn, IsLast, IsBetween, IsInReference, EndsHeld, held_ended, later_errors, next_place}
 use Rattle.htoken.proofs.Going.{goes_on, span_ends}
 use Rattle.htoken.proofs.Pending.{stands_on, stands_told, later_on, later_told}
@@ -47,6 +51,10 @@ same_between here after t new may kind name tag b = record {
   leveled = λ s. absurd (no_script here.kind may (ap is_script (sym kind) ∙ s));
 }
 
+all-last : (f : ℕ → Bool) (xs ys : List Placed) → all f (xs ++ ys) ≡ true → all f ys ≡ true
+all-last f [] ys h = h
+all-last f (x ∷ xs) ys h = all-last f xs ys (and_parts (f x.ch) (all f (xs ++ ys)) h).1
+
 -- the part of the text that a reference has, where one character more was taken
 split_at : (text : List Placed) (p : Placed) (left : ℕ) → left ≤ length (text ++ p ∷ []) → (left ≡ 0 → ⊥) → (drop (length (text ++ p ∷ []) - left) (text ++ p ∷ []) ≡ drop (length text + 1 - left) text ++ p ∷ []) × (take (length (text ++ p ∷ []) - left) (text ++ p ∷ []) ≡ take (length text + 1 - left) text)
 split_at text p left within some =
@@ -63,32 +71,55 @@ module _ {S : Type 0} (gives : S → Item → Result (Unit {0}) Refusal → S �
   pub may : has_references h.here.kind ≡ true
   may = subst (λ (s : State). IsIn s h.here.kind) after_amp h.is_in
 
-  pub taken_by_walk : WalkHasTaken t.reference table false t.held.items
+  pub taken_by_walk : WalkHasTaken t.reference table false inside.read
   taken_by_walk = inside.has_taken
 
+  -- what is kept where the reference goes on
+  module _ (next : WalkState) (leads : is_number t.reference.state ≡ true → is_number next ≡ true) where
+    pub number_kept : is_number next ≡ true → [] ≡ kept next (inside.read ++ p ∷ [])
+    number_kept number = sym (kept_none next (inside.read ++ p ∷ []) number)
+
+    pub other_kept : is_number next ≡ false → t.held.items ++ p ∷ [] ≡ kept next (inside.read ++ p ∷ [])
+    other_kept other = ap (λ (x : List Placed). x ++ p ∷ []) (inside.kept_is ∙ kept_all t.reference.state inside.read (is_other t.reference.state (λ number. true≢false (sym (leads number) ∙ other)))) ∙ sym (kept_all next (inside.read ++ p ∷ []) other)
+
   -- the reference goes on
-  pub reference_goes_on : (new : Tokenizer) (s : S) → Keeps t new → new.state ≡ state.Reference → new.tag ≡ t.tag → new.held.items ≡ t.held.items ++ p ∷ [] → new.raised.errors.items ≡ t.raised.errors.items → WalkHasTaken new.reference table false (t.held.items ++ p ∷ [])
+  pub reference_goes_on : (new : Tokenizer) (s : S) → Keeps t new → new.state ≡ state.Reference → new.tag ≡ t.tag → new.held.items ≡ kept new.reference.state (inside.read ++ p ∷ []) → new.raised.errors.items ≡ t.raised.errors.items → WalkHasTaken new.reference table false (inside.read ++ p ∷ [])
       → Takes gives table start text (p ∷ []) taken names s (Ok tt) s new
-  reference_goes_on new s keeps same tag more raised walk =
+  reference_goes_on new s keeps same tag held raised walk =
       let i = inside in
       goes_on gives table start text p names taken t h new s keeps.stays keeps.kind_is keeps.last_is
       (subst (λ (x : State). IsIn x h.here.kind) (sym same) may)
       (subst (λ (x : State). IsHeld x table names h.here new (h.held ++ p ∷ []) []) (sym same) (record {
-        held_is = ap (λ (x : List Placed). x ++ p ∷ []) i.held_is ∙ ap (λ (a : ℕ). record { ch = 38; at = a } ∷ (t.held.items ++ p ∷ [])) (sym keeps.at_is) ∙ ap (λ (x : List Placed). record { ch = 38; at = new.at } ∷ x) (sym more);
+        read = i.read ++ p ∷ [];
+        held_is = ap (λ (x : List Placed). x ++ p ∷ []) i.held_is ∙ ap (λ (a : ℕ). record { ch = 38; at = a } ∷ (i.read ++ p ∷ [])) (sym keeps.at_is);
         raises_none = raised ∙ i.raises_none;
         is_table = i.is_table;
-        has_taken = subst (WalkHasTaken new.reference table false) (sym more) walk;
+        has_taken = walk;
+        kept_is = held;
         between = same_between h.here h.here t new may refl refl tag i.between;
       }))
 
-  module _ (found : Reference) (r : (after : List Placed) → IsRead table false (t.held.items ++ p ∷ []) after found) where
+  module _ (found : Reference) (f : Finds table t.reference p found) where
+    abbrev read : List Placed
+    read = inside.read
+
+    r : (after : List Placed) → IsRead table false (read ++ p ∷ []) after found
+    r after = f.reads read after inside.has_taken
+
+    pub in_letters : found.in_run ≡ true → (found.left ≡ 0 → ⊥) × (is_alphanumeric p.ch ≡ true)
+    in_letters told =
+        let run = (r []).run told in
+        let long : length (read ++ p ∷ []) ≡ length read + 1 = length-append read (p ∷ []) in
+        let parts = and_parts (is_alphanumeric p.ch) true (all-last is_alphanumeric read (p ∷ []) run.1) in
+        (λ none. omega (arith, run.0), parts.0)
+
     abbrev amp : Placed
     amp = record { ch = 38; at = t.at }
 
     -- it ends with the character
     module _ (none : found.left ≡ 0) (told : found.in_run ≡ false) where
       abbrev whole : List Placed
-      whole = amp ∷ (t.held.items ++ p ∷ [])
+      whole = amp ∷ (read ++ p ∷ [])
 
       abbrev span : Span
       span = piece_span (record { text = whole; gives = characters_of found.characters; errors = known_errors found t.at })
@@ -103,10 +134,10 @@ module _ {S : Type 0} (gives : S → Item → Result (Unit {0}) Refusal → S �
 
       is_reference : (after : List Placed) → IsReference table false after (record { text = whole; gives = characters_of found.characters; errors = known_errors found t.at })
       is_reference after =
-          let a = all_of (t.held.items ++ p ∷ []) found.left none in
+          let a = all_of (read ++ p ∷ []) found.left none in
           subst (λ (x : List ParseError). IsReference table false after (record { text = whole; gives = characters_of found.characters; errors = x })) (known after)
           (subst (λ (x : List Placed). IsReference table false after (record { text = amp ∷ x; gives = characters_of found.characters; errors = errors_of found t.at after })) a.1
-          (subst (λ (x : List Placed). IsReference table false (x ++ after) (record { text = amp ∷ take (length (t.held.items ++ p ∷ []) - found.left) (t.held.items ++ p ∷ []); gives = characters_of found.characters; errors = errors_of found t.at after })) a.0
+          (subst (λ (x : List Placed). IsReference table false (x ++ after) (record { text = amp ∷ take (length (read ++ p ∷ []) - found.left) (read ++ p ∷ []); gives = characters_of found.characters; errors = errors_of found t.at after })) a.0
           ((r after).reads amp refl)))
 
       pub reference_ends : (new : Tokenizer) (old s : S) (answer : Result (Unit {0}) Refusal) → Stays t new → new.kind ≡ t.kind → new.last ≡ t.last → new.state ≡ state.Text → new.raised.errors.items ≡ t.raised.errors.items → new.tag ≡ t.tag
@@ -121,32 +152,38 @@ module _ {S : Type 0} (gives : S → Item → Result (Unit {0}) Refusal → S �
 
     -- it ends before
     module _ (some : found.left ≡ 0 → ⊥) where
-      abbrev pub count : ℕ
-      count = length t.held.items + 1 - found.left
+      abbrev count : ℕ
+      count = length read + 1 - found.left
 
       abbrev pub back : List Placed
-      back = drop count t.held.items
+      back = drop count read
 
       abbrev after : Standing
-      after = after_reference h.here t.at t.held.items count
+      after = after_reference h.here t.at read count
 
       abbrev pub given : List Event
-      given = read_events found t.at t.held.items count
+      given = read_events found t.at t.held.items (length t.held.items + 1 - found.left)
 
-      is_before : (more : List Placed) → IsReference table false (back ++ (p ∷ more)) (record { text = amp ∷ take count t.held.items; gives = characters_of found.characters; errors = errors_of found t.at more })
+      given_is : read_events found t.at read count ≡ given
+      given_is =
+          let back_is = drop-kept t.reference.state read found.left (λ number. (f.number number).1) in
+          ap (λ (x : List Placed). piece_events found t.at ++ run_events x) (sym back_is ∙ ap (λ (x : List Placed). drop (length x + 1 - found.left) x) (sym inside.kept_is))
+
+      is_before : (more : List Placed) → IsReference table false (back ++ (p ∷ more)) (record { text = amp ∷ take count read; gives = characters_of found.characters; errors = errors_of found t.at more })
       is_before more =
-          let k = split_at t.held.items p found.left (r more).within some in
-          subst (λ (x : List Placed). IsReference table false x (record { text = amp ∷ take count t.held.items; gives = characters_of found.characters; errors = errors_of found t.at more })) (append_assoc back (p ∷ []) more)
-          (subst (λ (x : List Placed). IsReference table false (x ++ more) (record { text = amp ∷ take count t.held.items; gives = characters_of found.characters; errors = errors_of found t.at more })) k.0
-          (subst (λ (x : List Placed). IsReference table false (drop (length (t.held.items ++ p ∷ []) - found.left) (t.held.items ++ p ∷ []) ++ more) (record { text = amp ∷ x; gives = characters_of found.characters; errors = errors_of found t.at more })) k.1
+          let k = split_at read p found.left (r more).within some in
+          subst (λ (x : List Placed). IsReference table false x (record { text = amp ∷ take count read; gives = characters_of found.characters; errors = errors_of found t.at more })) (append_assoc back (p ∷ []) more)
+          (subst (λ (x : List Placed). IsReference table false (x ++ more) (record { text = amp ∷ take count read; gives = characters_of found.characters; errors = errors_of found t.at more })) k.0
+          (subst (λ (x : List Placed). IsReference table false (drop (length (read ++ p ∷ []) - found.left) (read ++ p ∷ []) ++ more) (record { text = amp ∷ x; gives = characters_of found.characters; errors = errors_of found t.at more })) k.1
           ((r more).reads amp refl)))
 
       stands_before : (end : ℕ) (more : List Placed) → Stands table start end text (p ∷ more) after (taken ++ given) (run_errors found t.at more)
       stands_before end more =
           let i = inside in
-          subst (λ (x : List Placed). Stands table start end x (p ∷ more) after (taken ++ given) (run_errors found t.at more)) (ap (λ (x : List Placed). h.front ++ x) (sym i.held_is) ∙ sym h.text_is)
-          (stands_read table start end h.front h.here taken t.at t.held.items count found may i.is_table (all-drop is_kept count t.held.items (held_kept table false _ t.held.items i.has_taken.held)) (p ∷ more) more (is_before more)
-          (subst (λ (x : List Placed). Stands table start end h.front (x ++ (p ∷ more)) h.here taken []) i.held_is (h.stands end more)))
+          subst (λ (x : List Event). Stands table start end text (p ∷ more) after (taken ++ x) (run_errors found t.at more)) given_is
+          (subst (λ (x : List Placed). Stands table start end x (p ∷ more) after (taken ++ read_events found t.at read count) (run_errors found t.at more)) (ap (λ (x : List Placed). h.front ++ x) (sym i.held_is) ∙ sym h.text_is)
+          (stands_read table start end h.front h.here taken t.at read count found may i.is_table (all-drop is_kept count read (held_kept table false _ read i.has_taken.held)) (p ∷ more) more (is_before more)
+          (subst (λ (x : List Placed). Stands table start end h.front (x ++ (p ∷ more)) h.here taken []) i.held_is (h.stands end more))))
 
       pub reference_refused : (new : Tokenizer) (old s : S) (e : Refusal) → HandsEvents gives names old given (Err e) s → Takes gives table start text (p ∷ []) taken names old (Err e) s new
       reference_refused new old s e handed = take_sink_refused e given refl handed (λ more end.
@@ -207,17 +244,21 @@ module _ {S : Type 0} (gives : S → Item → Result (Unit {0}) Refusal → S �
   end_may : has_references h.here.kind ≡ true
   end_may = subst (λ (s : State). IsIn s h.here.kind) after_amp h.is_in
 
-  pub reference_cut : (found : Reference) (then : Tokenizer) (old s : S) (answer : Result (Unit {0}) Refusal) → IsRead table false t.held.items [] found → then.kind ≡ t.kind → then.script ≡ t.script → HandsEvents gives names old (read_events found t.at t.held.items (length t.held.items - found.left)) answer s
+  pub reference_cut : (found : Reference) (then : Tokenizer) (old s : S) (answer : Result (Unit {0}) Refusal) → IsRead table false at_end.read [] found → (is_number t.reference.state ≡ true → found.left ≡ 0) → then.kind ≡ t.kind → then.script ≡ t.script → HandsEvents gives names old (read_events found t.at t.held.items (length t.held.items - found.left)) answer s
       → EndsHeld gives table start end text taken names old answer then s
-  reference_cut found then old s answer r kind script handed =
+  reference_cut found then old s answer r number kind script handed =
       let i = at_end in
-      let count : ℕ = length t.held.items - found.left in
-      held_ended (read_events found t.at t.held.items count) (after_reference h.here t.at t.held.items count) (kind ∙ h.kind_is) (λ e. absurd (no_script h.here.kind end_may e))
-      (subst (Stands table start end text [] (after_reference h.here t.at t.held.items count) (taken ++ read_events found t.at t.held.items count)) (ap (λ (b : Bool). error_if b UnknownNamedCharacterReference t.at) (and_no found.in_run false refl))
-      (subst (λ (x : List Placed). Stands table start end x [] (after_reference h.here t.at t.held.items count) (taken ++ read_events found t.at t.held.items count) (run_errors found t.at [])) (ap (λ (x : List Placed). h.front ++ x) (sym i.held_is) ∙ sym h.text_is)
-      (stands_read table start end h.front h.here taken t.at t.held.items count found end_may i.is_table (all-drop is_kept count t.held.items (held_kept table false _ t.held.items i.has_taken.held)) [] [] (r.reads (record { ch = 38; at = t.at }) refl)
+      let count : ℕ = length i.read - found.left in
+      let given : List Event = read_events found t.at i.read count in
+      let back_is : drop (length t.held.items - found.left) t.held.items ≡ drop count i.read =
+      ap (λ (x : List Placed). drop (length x - found.left) x) i.kept_is ∙ drop-kept-end t.reference.state i.read found.left number in
+      let after : Standing = after_reference h.here t.at i.read count in
+      held_ended given after (kind ∙ h.kind_is) (λ e. absurd (no_script h.here.kind end_may e))
+      (subst (Stands table start end text [] after (taken ++ given)) (ap (λ (b : Bool). error_if b UnknownNamedCharacterReference t.at) (and_no found.in_run false refl))
+      (subst (λ (x : List Placed). Stands table start end x [] after (taken ++ given) (run_errors found t.at [])) (ap (λ (x : List Placed). h.front ++ x) (sym i.held_is) ∙ sym h.text_is)
+      (stands_read table start end h.front h.here taken t.at i.read count found end_may i.is_table (all-drop is_kept count i.read (held_kept table false _ i.read i.has_taken.held)) [] [] (r.reads (record { ch = 38; at = t.at }) refl)
       (subst (λ (x : List Placed). Stands table start end h.front (x ++ []) h.here taken []) i.held_is (h.stands end [])))))
-      handed
+      (subst (λ (x : List Placed). HandsEvents gives names old (piece_events found t.at ++ run_events x) answer s) back_is handed)
 
 -- A REFERENCE BEGINS
 
@@ -229,10 +270,12 @@ reference_begins gives table start text p names taken t h new s in_text refers i
     goes_on gives table start text p names taken t h new s (ap (λ x. x.refused) b.then, ap (λ x. x.table) b.then, ap (λ x. x.next) b.then) (ap (λ x. x.kind) b.then) (ap (λ x. x.last) b.then)
     (subst (λ (x : State). IsIn x h.here.kind) (sym (ap (λ x. x.state) b.then)) may)
     (subst (λ (x : State). IsHeld x table names h.here new (h.held ++ p ∷ []) []) (sym (ap (λ x. x.state) b.then)) (record {
-      held_is = ap (λ (x : List Placed). x ++ p ∷ []) nothing.0 ∙ ap (λ (c : ℕ). record { ch = c; at = p.at } ∷ []) is ∙ ap (λ (a : ℕ). record { ch = 38; at = a } ∷ []) (sym (ap (λ x. x.at) b.then)) ∙ ap (λ (x : List Placed). record { ch = 38; at = new.at } ∷ x) (sym b.held_is);
+      read = [];
+      held_is = ap (λ (x : List Placed). x ++ p ∷ []) nothing.0 ∙ ap (λ (c : ℕ). record { ch = c; at = p.at } ∷ []) is ∙ ap (λ (a : ℕ). record { ch = 38; at = a } ∷ []) (sym (ap (λ x. x.at) b.then));
       raises_none = ap (λ x. x.raised.errors.items) b.then ∙ nothing.1;
       is_table = subst IsTable h.table_is b.is_table;
-      has_taken = subst (λ (x : Entities). WalkHasTaken new.reference x false new.held.items) h.table_is (subst (WalkHasTaken new.reference t.table.now false) (sym b.held_is) b.has_taken);
+      has_taken = subst (λ (x : Entities). WalkHasTaken new.reference x false []) h.table_is b.has_taken;
+      kept_is = b.held_is ∙ sym (kept_nothing new.reference.state);
       between = same_between h.here h.here t new may refl refl (ap (λ x. x.tag) b.then) nothing.2;
     }))
 

@@ -1,6 +1,6 @@
 //! What `<!` begins: a comment, a doctype, or what is read as a comment (HTML Standard, 13.2.5.42).
 
-ghost use Rattle.std.specs.Prelude.{◌≡◌, ◌∷◌, ◌++◌, [], List, length, true, MatchBool};
+ghost use Rattle.std.specs.Prelude.{◌≡◌, ◌∷◌, ◌++◌, [], List, length, true};
 ghost use Rattle.names.specs.declared.placed.Placed.{Placed as Character};
 ghost use Rattle.names.specs.Placed.{all};
 ghost use Rattle.hmarkup.specs.Comment.{is_plain_in_bogus};
@@ -95,14 +95,15 @@ impl Opened {
     }
 }
 
-/// Whether a text has neither `>` nor NUL.
-pub(crate) fn is_plain(text: &[Placed]) -> bool
-    ensures { MatchBool result (all is_plain_in_bogus text.now ≡ true) (Unit {0}) }
+/// The front of a text before the first `>` or NUL. What is held after `<!` has neither: it is the front of a mark.
+pub(crate) fn plain_front(text: &[Placed]) -> &[Placed]
+    ensures plain { all is_plain_in_bogus result.now ≡ true }
+    ensures whole { all is_plain_in_bogus text.now ≡ true → result.now ≡ text.now }
 {
-    for p in text {
+    for (index, p) in text.iter().enumerate() {
         if p.ch == '>' || p.ch == '\0' {
-            return false;
+            return &text[..index];
         }
     }
-    true
+    text
 }

@@ -1,18 +1,19 @@
 //! What follows `<!`, comments and doctypes (HTML Standard, 13.2.5.41 to 13.2.5.68).
 
-ghost use Rattle.std.specs.Prelude.{◌≡◌, ◌∷◌, List, [], OnOk, length, MatchResult};
+ghost use Rattle.std.specs.Prelude.{◌≡◌, ◌∷◌, List, [], true, OnOk, length, MatchResult};
 ghost use Rattle.names.specs.declared.placed.Placed.{Placed as Character};
 ghost use Rattle.names.specs.declared.raw.RawKind.{RawKind as Kind};
 ghost use Rattle.names.specs.Names.{Texts};
-ghost use Rattle.names.specs.Placed.{error, place};
+ghost use Rattle.names.specs.Placed.{all, error, place};
 ghost use Rattle.charref.specs.Reference.{Entities};
+ghost use Rattle.hmarkup.specs.Comment.{is_plain_in_bogus};
 ghost use Rattle.htoken.specs.declared.tokenizer.Tokenizer.{Tokenizer as Reader};
 ghost use Rattle.htoken.specs.Token.{Event, Comment, TokenMeans, gives_item};
 ghost use Rattle.htoken.specs.Tokenizing.{Reads, Takes, doctype_token};
 ghost use Rattle.htoken.specs.SmallSteps.{BeginsComment, BeginsDoctype};
 ghost use Rattle.htoken.specs.Steps.{BeginsBogus, GivesSpan};
 
-use crate::declaration::{Opened, Opens, is_plain as is_plain_text};
+use crate::declaration::{Opened, Opens, plain_front};
 use crate::sink::TokenSink;
 use crate::state::State;
 use crate::token::Token;
@@ -77,15 +78,12 @@ impl<'t> Tokenizer<'t> {
 
     /// Begins what is read as a comment with the characters that are held after `<!`. The error stands at the first of them, or here.
     pub(crate) fn begin_held(&mut self, code: ErrorCode, at: u64) -> Result<(), Refusal>
-        ensures { MatchResult result (λ _. BeginsBogus self.old self.old.held.items (error code (place at self.old.held.items)) self.new)
-            (λ refusal. refusal ≡ Refusal.Memory) }
+        ensures { MatchResult result (λ _. (self.new.state ≡ State.Comment) × (all is_plain_in_bogus self.old.held.items ≡ true
+            → BeginsBogus self.old self.old.held.items (error code (place at self.old.held.items)) self.new)) (λ refusal. refusal ≡ Refusal.Memory) }
     {
-        if !is_plain_text(&self.held) {
-            return Err(Refusal::Memory);
-        }
         let at = self.first_held(at);
         self.raised.errors.push(ParseError { code, at })?;
-        self.comment = CommentWalk::bogus_after(self.alloc, &self.held)?;
+        self.comment = CommentWalk::bogus_after(self.alloc, plain_front(&self.held))?;
         self.state = State::Comment;
         Ok(())
     }
@@ -100,6 +98,7 @@ impl<'t> Tokenizer<'t> {
     ) -> Result<(), Refusal>
         ensures { (table : Entities) (start : Kind) (names : Texts) (text : List Character) (taken : List Event)
             → Reads table start self.old names text (record { ch = ch; at = at } ∷ []) taken
+            → all is_plain_in_bogus self.old.held.items ≡ true
             → ((new : Reader) → BeginsBogus self.old self.old.held.items (error code (place at self.old.held.items)) new
             → Reads table start new names text (record { ch = ch; at = at } ∷ []) taken)
             → Takes (gives_item S.gives S.gives_token) table start text (record { ch = ch; at = at } ∷ []) taken names sink.old result sink.new self.new }

@@ -71,9 +71,6 @@ impl<'t> Tokenizer<'t> {
             }
             None => {
                 if ends_name(ch) {
-                    if self.held.is_empty() {
-                        return Err(Refusal::Memory);
-                    }
                     self.tag.begin_end();
                     self.state = State::Tag;
                     self.in_tag(names, ch, at, sink)
@@ -85,13 +82,10 @@ impl<'t> Tokenizer<'t> {
         }
     }
 
-    /// Holds a letter of the name. All names of raw texts are letters.
+    /// Holds a letter of the name.
     fn hold(&mut self, ch: char, at: u64) -> Result<(), Refusal>
         ensures { MatchResult result (λ _. Holds self.old (record { ch = ch; at = at }) self.new) (λ refusal. refusal ≡ Refusal.Memory) }
     {
-        if !ch.is_ascii_alphabetic() {
-            return Err(Refusal::Memory);
-        }
         self.held.push(Placed { ch, at })?;
         Ok(())
     }

@@ -1,16 +1,15 @@
 //! References in text, and the runs of alphanumerics after an `&` (HTML Standard, 13.2.5.72 to 13.2.5.80).
 
-ghost use Rattle.std.specs.Prelude.{◌≡◌, ◌∷◌, ◌++◌, ◌+◌, ◌-◌, List, [], true, false, length};
+ghost use Rattle.std.specs.Prelude.{◌≡◌, ◌∷◌, ◌+◌, ◌-◌, List, [], true, false, length};
 ghost use Rattle.names.specs.declared.placed.Placed.{Placed as Character};
 ghost use Rattle.names.specs.declared.raw.RawKind.{RawKind as Kind};
 ghost use Rattle.names.specs.Names.{Texts};
 ghost use Rattle.charref.specs.Reference.{Entities};
-ghost use Rattle.charref.specs.Pieces.{IsRead};
 ghost use Rattle.htoken.specs.Token.{Event, gives_item};
 ghost use Rattle.htoken.specs.Giving.{read_events};
 ghost use Rattle.htoken.specs.Handing.{HandsEvents};
 ghost use Rattle.htoken.specs.Tokenizing.{IsInRun, Reads, Takes};
-ghost use Rattle.htoken.specs.Steps.{BeginsReference};
+ghost use Rattle.htoken.specs.Steps.{BeginsReference, Finds};
 
 use crate::hand::{after_first, give, give_all, give_piece, tell_unknown};
 use crate::sink::TokenSink;
@@ -44,6 +43,10 @@ impl<'t> Tokenizer<'t> {
     {
         match self.reference.take(ch) {
             Some(found) => self.end_reference(&found, ch, at, sink),
+            None if self.reference.is_number() => {
+                self.held.clear();
+                Ok(())
+            }
             None => {
                 self.held.push(Placed { ch, at })?;
                 Ok(())
@@ -61,7 +64,7 @@ impl<'t> Tokenizer<'t> {
     ) -> Result<(), Refusal>
         requires { self.old.state ≡ State.Reference }
         ensures { (table : Entities) (start : Kind) (names : Texts) (text : List Character) (taken : List Event)
-            → ((after : List Character) → IsRead table false (self.old.held.items ++ record { ch = ch; at = at } ∷ []) after found.now)
+            → Finds table self.old.reference (record { ch = ch; at = at }) found.now
             → Reads table start self.old names text (record { ch = ch; at = at } ∷ []) taken
             → Takes (gives_item S.gives S.gives_token) table start text (record { ch = ch; at = at } ∷ []) taken names sink.old result sink.new self.new }
     {
@@ -115,13 +118,10 @@ impl<'t> Tokenizer<'t> {
         requires state { self.old.state ≡ State.Reference }
         requires run { found.now.in_run ≡ true }
         ensures { (table : Entities) (start : Kind) (names : Texts) (text : List Character) (taken : List Event)
-            → ((after : List Character) → IsRead table false (self.old.held.items ++ record { ch = ch; at = at } ∷ []) after found.now)
+            → Finds table self.old.reference (record { ch = ch; at = at }) found.now
             → Reads table start self.old names text (record { ch = ch; at = at } ∷ []) taken
             → Takes (gives_item S.gives S.gives_token) table start text (record { ch = ch; at = at } ∷ []) taken names sink.old result sink.new self.new }
     {
-        if found.left == 0 || !ch.is_ascii_alphanumeric() {
-            return Err(Refusal::Memory);
-        }
         let amp = self.at;
         self.state = State::Run(amp);
         self.give_reference(found, self.given_back(found.left), sink)?;

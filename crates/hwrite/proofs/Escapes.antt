@@ -1,20 +1,20 @@
 -- A text as it is written, in runs of characters that are written as they are.
-use Rattle.std.proofs.Common.{◌≡◌, ℕ, ◌+◌, ◌-◌, ◌≤◌, List, [], ◌∷◌, ◌++◌, Option, length, take, drop, refl, sym, ◌∙◌, ap, subst, arith, length-append}
+use Rattle.std.proofs.Common.{◌≡◌, ℕ, ◌+◌, ◌-◌, ◌≤◌, List, [], ◌∷◌, ◌++◌, length, take, drop, refl, sym, ◌∙◌, ap, subst, arith, length-append}
 use Rattle.std.proofs.Math.Seq.{drop-append_seam, take-append_seam}
 use Rattle.std.proofs.lemmas.List.{append_assoc, take_rest}
 use Rattle.std.proofs.lemmas.Str.{chars-nil, chars_past_char, IsUtf8-past_char}
 use Rattle.std.specs.Char.{encode_utf8}
-use Rattle.std.specs.Io.KnownBytes.{Appends}
 use Rattle.std.specs.List.{flat_map}
 use Rattle.std.specs.Str.{IsUtf8}
+use Rattle.names.specs.declared.refusal.Refusal.{Refusal}
 use Rattle.hwrite.specs.Escaping.{escaped, written_char}
-use Rattle.hwrite.specs.Output.{AppendsBeginning}
+use Rattle.hwrite.specs.Output.{Taken, Adds, Fails}
 use Rattle.hwrite.specs.declared.escaping.Escaping.{Escaping}
 use Rattle.hwrite.specs.declared.escaping.Setting.{Setting}
 use Rattle.hwrite.proofs.Output.{HasLeft, none_put, part_put, part_failed}
 
 -- What stands before `done` is written, and so far each character after it is written as it is.
-pub record IsEscaping (how : Escaping) (setting : Setting) (source : List ℕ) (done at : ℕ) (rest : List ℕ) (old now : Option (List ℕ)) : Type 0 where
+pub record IsEscaping (how : Escaping) (setting : Setting) (source : List ℕ) (done at : ℕ) (rest : List ℕ) (old now : Taken) : Type 0 where
   pub before : List ℕ
   pub run : List ℕ
   pub parts : source ≡ before ++ (run ++ rest)
@@ -23,15 +23,15 @@ pub record IsEscaping (how : Escaping) (setting : Setting) (source : List ℕ) (
   pub utf8 : IsUtf8 rest
   pub left : HasLeft old now (escaped how setting source) (run ++ escaped how setting rest)
 
-begins : (how : Escaping) (setting : Setting) (source : List ℕ) (old : Option (List ℕ)) → IsUtf8 source → IsEscaping how setting source 0 0 source old old
+begins : (how : Escaping) (setting : Setting) (source : List ℕ) (old : Taken) → IsUtf8 source → IsEscaping how setting source 0 0 source old old
 begins how setting source old utf8 =
     record { before = []; run = []; parts = refl; done_is = refl; at_is = refl; utf8 = utf8; left = none_put old (escaped how setting source) }
 
-pub begins_at : (how : Escaping) (setting : Setting) (source : List ℕ) (at : ℕ) (rest : List ℕ) (old : Option (List ℕ)) → at ≡ 0 → rest ≡ source → IsUtf8 source → IsEscaping how setting source 0 at rest old old
+pub begins_at : (how : Escaping) (setting : Setting) (source : List ℕ) (at : ℕ) (rest : List ℕ) (old : Taken) → at ≡ 0 → rest ≡ source → IsUtf8 source → IsEscaping how setting source 0 at rest old old
 begins_at how setting source at rest old none all utf8 =
     subst (λ a. IsEscaping how setting source 0 a rest old old) (sym none) (subst (λ r. IsEscaping how setting source 0 0 r old old) (sym all) (begins how setting source old utf8))
 
-module _ (how : Escaping) (setting : Setting) (source : List ℕ) (done at : ℕ) (rest : List ℕ) (old now : Option (List ℕ)) (s : IsEscaping how setting source done at rest old now) where
+module _ (how : Escaping) (setting : Setting) (source : List ℕ) (done at : ℕ) (rest : List ℕ) (old now : Taken) (s : IsEscaping how setting source done at rest old now) where
   pub run_left : drop done source ≡ s.run ++ rest
   run_left = (λ i. drop (s.done_is i) (s.parts i)) ∙ drop-append_seam s.before (s.run ++ rest)
 
@@ -65,11 +65,11 @@ module _ (how : Escaping) (setting : Setting) (source : List ℕ) (done at : ℕ
     }
 
     -- one that is not, after the run before it
-    module _ (mid : Option (List ℕ)) (part : List ℕ) (is : part ≡ s.run) (first : Appends now mid part) (text : List ℕ) (same : written_char how setting ch ≡ text) where
+    module _ (mid : Taken) (part : List ℕ) (is : part ≡ s.run) (first : Adds now mid part) (text : List ℕ) (same : written_char how setting ch ≡ text) where
       run_put : HasLeft old mid (escaped how setting source) (text ++ escaped how setting next)
       run_put = part_put old now mid _ _ part _ s.left ((λ i. sym is i ++ escaped_next i) ∙ ap (λ t. part ++ (t ++ escaped how setting next)) same) first
 
-      pub replaced : (new : Option (List ℕ)) (past later : ℕ) → past ≡ at + length (encode_utf8 ch) → later ≡ at + length (encode_utf8 ch) → Appends mid new text → IsEscaping how setting source past later next old new
+      pub replaced : (new : Taken) (past later : ℕ) → past ≡ at + length (encode_utf8 ch) → later ≡ at + length (encode_utf8 ch) → Adds mid new text → IsEscaping how setting source past later next old new
       replaced new past later stands moved second = record {
         before = s.before ++ (s.run ++ encode_utf8 ch);
         run = [];
@@ -86,10 +86,10 @@ module _ (how : Escaping) (setting : Setting) (source : List ℕ) (done at : ℕ
               length-append s.before (s.run ++ encode_utf8 ch) ∙ ap (λ n. length s.before + n) (length-append s.run (encode_utf8 ch)) in
               omega (arith, a, s.at_is)
 
-      pub reference_failed : (new : Option (List ℕ)) → AppendsBeginning mid new text → AppendsBeginning old new (escaped how setting source)
+      pub reference_failed : (new : Taken) {e : Refusal} → Fails e mid new text → Fails e old new (escaped how setting source)
       reference_failed new second = part_failed old mid new _ _ text _ run_put refl second
 
-  pub run_failed : (new : Option (List ℕ)) (part : List ℕ) → part ≡ s.run → AppendsBeginning now new part → AppendsBeginning old new (escaped how setting source)
+  pub run_failed : (new : Taken) {e : Refusal} (part : List ℕ) → part ≡ s.run → Fails e now new part → Fails e old new (escaped how setting source)
   run_failed new part is first = part_failed old now new _ _ part _ s.left (ap (λ l. l ++ escaped how setting rest) (sym is)) first
 
   -- the last run

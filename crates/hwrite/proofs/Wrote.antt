@@ -11,6 +11,7 @@ use Rattle.hnodes.specs.Edits.{AreCounted}
 use Rattle.hnodes.specs.Spelled.{spelled, spelled_what, spelled_attribute}
 use Rattle.hnodes.specs.Spots.{what_of, name_of, name_in}
 use Rattle.hnodes.specs.Named.{AreOf, IsLent}
+use Rattle.names.specs.declared.refusal.Refusal.{Refusal}
 use Rattle.hwrite.specs.Walk.{node_of, goes_in, visits}
 use Rattle.hwrite.specs.Written.{has_no_references, is_raw_in, start_tag_text, end_tag_text, node_text, written_among, written}
 use Rattle.hwrite.specs.Writing.{holds_raw, stands_raw, opening, closing, opening_of, closing_of, visit_text}
@@ -20,8 +21,7 @@ use Rattle.hwrite.specs.declared.walk.Visit.{Visit}
 use Rattle.hwrite.specs.declared.walk.Visit.TheVariants.{Enter, Leave}
 use Rattle.hwrite.proofs.KnownNames.{tags-agree}
 use Rattle.hwrite.proofs.Runs.{run, walked, run-visits}
-use Rattle.std.specs.Io.KnownBytes.{Appends}
-use Rattle.hwrite.specs.Output.{AppendsBeginning}
+use Rattle.hwrite.specs.Output.{Taken, Adds, Fails}
 use Rattle.hwrite.proofs.Output.{HasLeft, none_put, part_put, part_failed, all_put}
 use Rattle.hwrite.proofs.Seen.{Seen, IsSeen, seen, lent-visits}
 
@@ -109,11 +109,11 @@ first-visit how names f v old left is = ap (visits_text how names f) is ∙ go v
     go (Leave n) = run-after how names f left (closing_of (text_of names) (what_of n f))
 
 -- The visits that are left, and what they write.
-pub record IsWriting (how : Escaping) (names : Texts) (made : ℕ) (f : Forest ℕ) (node : ℕ) (old now : Option (List ℕ)) (left : List Visit) : Type 0 where
+pub record IsWriting (how : Escaping) (names : Texts) (made : ℕ) (f : Forest ℕ) (node : ℕ) (old now : Taken) (left : List Visit) : Type 0 where
   pub lent : AllByRecursion (λ v. IsLent names made f (node_of v)) left
   pub same : HasLeft old now (wanted how names f node) (visits_text how names f left)
 
-pub begun : (how : Escaping) (names : Texts) (made : ℕ) (f : Forest ℕ) (node : ℕ) (old : Option (List ℕ)) (left items : List Visit) → AreNames names → AreCounted made f → node < made → AreOf names (children_of node f) → left ≡ items
+pub begun : (how : Escaping) (names : Texts) (made : ℕ) (f : Forest ℕ) (node : ℕ) (old : Taken) (left items : List Visit) → AreNames names → AreCounted made f → node < made → AreOf names (children_of node f) → left ≡ items
     → items ≡ visits Written (children_of node f) → IsWriting how names made f node old old left
 begun how names made f node old left items table counted h of same visited = record {
   lent = subst (AllByRecursion (λ v. IsLent names made f (node_of v))) (sym is) (lent-visits names made f node Written counted h of);
@@ -131,22 +131,22 @@ begun how names made f node old left items table counted h of same visited = rec
         ap (visits_text how names f) is ∙ run-visits (enters how (text_of names) f) (leaves how (text_of names) f) Written (children_of node f) []
         ∙ writes how (text_of names) f tags made node node (children_of node f) (seen made f counted node h) [] ∙ ap (λ r. written_among how r (spelled (text_of names) (children_of node f))) (raw-same how (text_of names) f tags made node (name_of node f))
 
-module _ (how : Escaping) (names : Texts) (made : ℕ) (f : Forest ℕ) (node : ℕ) (old now : Option (List ℕ)) (v : Visit) (before left : List Visit) (is : before ≡ v ∷ left) (s : IsWriting how names made f node old now before) where
+module _ (how : Escaping) (names : Texts) (made : ℕ) (f : Forest ℕ) (node : ℕ) (old now : Taken) (v : Visit) (before left : List Visit) (is : before ≡ v ∷ left) (s : IsWriting how names made f node old now before) where
   -- what the next visit asks for
   pub next_is : IsLent names made f (node_of v)
   next_is = (subst (AllByRecursion (λ v. IsLent names made f (node_of v))) is s.lent).0
 
   -- one visit more
-  pub goes_on : (new : Option (List ℕ)) → Appends now new (visit_text how (text_of names) f v) → IsWriting how names made f node old new left
+  pub goes_on : (new : Taken) → Adds now new (visit_text how (text_of names) f v) → IsWriting how names made f node old new left
   goes_on new h = record {
     lent = (subst (AllByRecursion (λ v. IsLent names made f (node_of v))) is s.lent).1;
     same = part_put old now new _ _ _ _ s.same (first-visit how names f v before left is) h;
   }
 
   -- one that failed
-  pub failed : (new : Option (List ℕ)) → AppendsBeginning now new (visit_text how (text_of names) f v) → AppendsBeginning old new (wanted how names f node)
+  pub failed : (new : Taken) {e : Refusal} → Fails e now new (visit_text how (text_of names) f v) → Fails e old new (wanted how names f node)
   failed new h = part_failed old now new _ _ _ _ s.same (first-visit how names f v before left is) h
 
 -- the end
-pub wrote : (how : Escaping) (names : Texts) (made : ℕ) (f : Forest ℕ) (node : ℕ) (old now : Option (List ℕ)) (left : List Visit) → left ≡ [] → IsWriting how names made f node old now left → Appends old now (wanted how names f node)
+pub wrote : (how : Escaping) (names : Texts) (made : ℕ) (f : Forest ℕ) (node : ℕ) (old now : Taken) (left : List Visit) → left ≡ [] → IsWriting how names made f node old now left → Adds old now (wanted how names f node)
 wrote how names made f node old now left is s = all_put old now _ _ s.same (ap (visits_text how names f) is)

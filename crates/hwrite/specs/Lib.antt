@@ -11,4 +11,6 @@ pub mod Walk
 pub mod Lent
 pub mod Printing
 pub mod Writing
+pub mod Calls
 pub mod Output
+pub mod Gathered

@@ -1,6 +1,5 @@
 -- What a walk knows of where a node stands, and what it tests there. Names are numbers, and texts are theirs.
-use Rattle.std.specs.Prelude.{ℕ, Bool, true, false, not, ◌&&◌, eqb, nat_eq, List, Option, Some, None, codes, map, option_and_then, if◌then◌else◌}
-use Rattle.std.specs.List.{list_any}
+use Rattle.std.specs.Prelude.{ℕ, Bool, true, false, not, ◌&&◌, eqb, List, Option, Some, None, codes, map, option_and_then, if◌then◌else◌}
 use Rattle.names.specs.declared.tag.Tag.{Tag}
 use Rattle.names.specs.declared.tag.Tag.TheVariants as tag
 use Rattle.names.specs.Tags.{tag_of}
@@ -107,14 +106,10 @@ is_text_at node f = is_text (option_and_then (λ n. what_of n f) node)
 abbrev pub begins_at : Option ℕ → Forest ℕ → Bool
 begins_at node f = begins_with_line_feed (option_and_then (λ n. what_of n f) node)
 
--- whether one of these attributes has this name
-abbrev pub has_number : ℕ → List (Attribute ℕ) → Bool
-has_number name attrs = list_any (λ a. nat_eq a.0 name) attrs
-
 module _ (spelling : ℕ → List ℕ) where
-  -- an attribute before these others
-  abbrev pub is_plain_attribute : Attribute ℕ → List (Attribute ℕ) → Bool
-  is_plain_attribute a others = is_plain_name (spelling a.0) && is_clean a.1 && not (has_number a.0 others)
+  -- an attribute by itself
+  abbrev pub is_plain_attribute : Attribute ℕ → Bool
+  is_plain_attribute a = is_plain_name (spelling a.0) && is_clean a.1
 
   abbrev pub is_plain_element : Inside → Tag → List (Attribute ℕ) → (line_feed : Bool) → Bool
   is_plain_element inside t attrs line_feed =

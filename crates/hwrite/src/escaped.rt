@@ -3,12 +3,12 @@
 ghost use Rattle.std.specs.Prelude.{◌≡◌, IfSome, None};
 ghost use Rattle.std.specs.Char.{encode_utf8};
 ghost use Rattle.hwrite.specs.Escaping.{escaped, written_char};
-ghost use Rattle.hwrite.specs.Output.{Puts};
+ghost use Rattle.hwrite.specs.Output.{Puts, taken};
 
 use crate::escaping::{Escaping, Setting};
 use crate::sink::put;
-use std::io;
-use std::io::Write;
+use crate::target::Target;
+use names::Refusal;
 
 /// What is written for a character that is not written as it is.
 fn reference(ch: char, escaping: Escaping, setting: Setting) -> Option<&'static str>
@@ -26,13 +26,13 @@ fn reference(ch: char, escaping: Escaping, setting: Setting) -> Option<&'static 
 }
 
 /// Writes a text.
-pub(crate) fn put_escaped<W: Write>(
+pub(crate) fn put_escaped<W: Target>(
     out: &mut W,
     source: &str,
     escaping: Escaping,
     setting: Setting,
-) -> io::Result<()>
-    ensures { Puts (W.contents out.old) (W.contents out.new) (escaped escaping setting source.now) result }
+) -> Result<(), Refusal>
+    ensures { Puts (taken W.written W.failed out.old) (taken W.written W.failed out.new) (escaped escaping setting source.now) result }
 {
     let bytes = source.as_bytes();
     // What stands before is written.

@@ -1,14 +1,14 @@
 //! Whether a list of trees is plain.
 
-ghost use Rattle.std.specs.Prelude.{◌≡◌, ◌<◌, IfSome, false, map};
+ghost use Rattle.std.specs.Prelude.{◌≡◌, ◌<◌, IfSome, Some, false, map};
 ghost use Rattle.names.specs.Names.{AreNames, text_of};
 ghost use Rattle.names.specs.Tags.{tag_of};
 ghost use Rattle.hnodes.specs.Forest.{children_of, element};
-ghost use Rattle.hnodes.specs.Named.{AreOf, NodeIsOf, IsLent};
+ghost use Rattle.hnodes.specs.Named.{AreOf, AttributesAreOf, NodeIsOf, IsLent};
 ghost use Rattle.hnodes.specs.Rows.{attribute_of};
-ghost use Rattle.hnodes.specs.Spelled.{spelled};
-ghost use Rattle.hnodes.specs.Spots.{first_child_of, next_of, parent_of, what_of};
-ghost use Rattle.hwrite.specs.Plain.{is_form, is_plain, drops_line_feed};
+ghost use Rattle.hnodes.specs.Spelled.{spelled, spelled_attribute};
+ghost use Rattle.hnodes.specs.Spots.{attributes_of, first_child_of, next_of, parent_of, what_of};
+ghost use Rattle.hwrite.specs.Plain.{are_plain_attributes, is_form, is_plain, drops_line_feed};
 ghost use Rattle.hwrite.specs.Regions.{are_region_content, form_after, in_region};
 ghost use Rattle.hwrite.specs.Testing.{tag_at, standing_of, inside_is, is_phrasing, is_text_at, begins_at, is_plain_element, is_plain_at, after_visit};
 ghost use Rattle.hwrite.specs.Walk.{node_of};
@@ -17,7 +17,7 @@ use crate::around::{Around, Standing};
 use crate::content::Content;
 use crate::context::context_tag;
 use crate::node::Node;
-use crate::plain_texts::{are_plain_attributes, begins_with, is_plain_comment, is_plain_text};
+use crate::plain_texts::{all_plain_attributes, begins_with, is_plain_comment, is_plain_text};
 use crate::rows::{inserts_marker, row};
 use crate::walk::{Reach, Visit, Walk};
 use hnodes::{Kind, NodeId, Tree};
@@ -77,6 +77,17 @@ fn drops_line_feed(tag: Tag) -> bool
     matches!(tag, Tag::Pre | Tag::Listing | Tag::Textarea)
 }
 
+/// Whether the attributes of an element are plain.
+fn are_plain_attributes(tree: &Tree, names: &Names, node: NodeId, attrs: &[Attr]) -> bool
+    requires made { node < tree.now.made }
+    requires own { attributes_of node tree.now.trees ≡ Some (map attribute_of attrs.now) }
+    requires table { AreNames names.now }
+    requires names { AttributesAreOf names.now (map attribute_of attrs.now) }
+    ensures { result ≡ are_plain_attributes (map (spelled_attribute (text_of names.now)) (map attribute_of attrs.now)) }
+{
+    all_plain_attributes(names, attrs) && tree.attrs_differ(node)
+}
+
 /// Whether an element is plain by itself.
 fn is_plain_element(
     tree: &Tree,
@@ -87,6 +98,7 @@ fn is_plain_element(
     attrs: &[Attr],
 ) -> bool
     requires made { node < tree.now.made }
+    requires own { attributes_of node tree.now.trees ≡ Some (map attribute_of attrs.now) }
     requires table { AreNames names.now }
     requires names { NodeIsOf names.now (element name (map attribute_of attrs.now)) }
     ensures { result ≡ is_plain_element (text_of names.now) (inside_is standing) (tag_of name) (map attribute_of attrs.now)
@@ -95,7 +107,7 @@ fn is_plain_element(
     let tag = name.tag();
     standing.content.takes_role(row(tag).0)
         && !standing.is_nested(tag)
-        && are_plain_attributes(names, attrs)
+        && are_plain_attributes(tree, names, node, attrs)
         && !(drops_line_feed(tag) && begins_with_line_feed(tree, tree.first_child(node)))
 }
 
@@ -190,7 +202,7 @@ fn form_after(tree: &Tree, names: &Names, in_form: bool, visit: Visit) -> Option
 }
 
 /// Whether the children of a node are a plain list in an element of this name: they come back from the parser as they are. Takes
-/// no memory, and as many steps as there are nodes, bytes, and pairs of attributes in one tag.
+/// no memory, and as many steps as there are nodes, attributes, and bytes in names, values and texts.
 pub fn is_plain(tree: &Tree, names: &Names, root: NodeId, context: &str) -> bool
     requires made { root < tree.now.made }
     requires table { AreNames names.now }

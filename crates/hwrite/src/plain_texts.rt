@@ -2,16 +2,15 @@
 
 ghost use Rattle.std.specs.Prelude.{◌≡◌, map};
 ghost use Rattle.std.specs.List.{list_all};
-ghost use Rattle.names.specs.Names.{AreNames, IsOf, text_of};
+ghost use Rattle.names.specs.Names.{IsOf, text_of};
 ghost use Rattle.hnodes.specs.Named.{AttributesAreOf};
 ghost use Rattle.hnodes.specs.Rows.{attribute_of};
-ghost use Rattle.hnodes.specs.Spelled.{spelled_attribute};
-ghost use Rattle.hwrite.specs.Plain.{begins_with, has_part, is_clean, is_among_texts, is_plain_text, is_plain_comment, is_name_byte, is_plain_name, are_plain_attributes};
-ghost use Rattle.hwrite.specs.Testing.{has_number, is_plain_attribute};
+ghost use Rattle.hwrite.specs.Plain.{begins_with, has_part, is_clean, is_among_texts, is_plain_text, is_plain_comment, is_name_byte, is_plain_name};
+ghost use Rattle.hwrite.specs.Testing.{is_plain_attribute};
 
 use crate::content::Texts;
 use crate::sorted::name_text;
-use names::{Attr, NameId, Names};
+use names::{Attr, Names};
 
 /// Whether a part stands in a text.
 fn has_part(text: &str, part: &str) -> bool
@@ -104,36 +103,21 @@ fn is_plain_name(name: &str) -> bool
     }
 }
 
-/// Whether one of these attributes has this name.
-fn has_name(attrs: &[Attr], name: NameId) -> bool
-    ensures { result ≡ has_number name (map attribute_of attrs.now) }
+/// Whether the name and the value of an attribute are plain.
+fn is_plain_attribute(names: &Names, attr: &Attr) -> bool
+    requires { IsOf names.now attr.now.name }
+    ensures { result ≡ is_plain_attribute (text_of names.now) (attribute_of attr.now) }
+{
+    is_plain_name(name_text(names, attr.name)) && is_clean(&attr.value)
+}
+
+/// Whether each of these attributes is plain by itself.
+pub(crate) fn all_plain_attributes(names: &Names, attrs: &[Attr]) -> bool
+    requires { AttributesAreOf names.now (map attribute_of attrs.now) }
+    ensures { result ≡ list_all (is_plain_attribute (text_of names.now)) (map attribute_of attrs.now) }
 {
     for attr in attrs {
-        if attr.name == name {
-            return true;
-        }
-    }
-    false
-}
-
-/// Whether an attribute is plain before these others.
-fn is_plain_attribute(names: &Names, attr: &Attr, others: &[Attr]) -> bool
-    requires { IsOf names.now attr.now.name }
-    ensures { result ≡ is_plain_attribute (text_of names.now) (attribute_of attr.now) (map attribute_of others.now) }
-{
-    is_plain_name(name_text(names, attr.name))
-        && is_clean(&attr.value)
-        && !has_name(others, attr.name)
-}
-
-/// Whether attributes are plain. Compares each with all that follow it.
-pub(crate) fn are_plain_attributes(names: &Names, attrs: &[Attr]) -> bool
-    requires table { AreNames names.now }
-    requires names { AttributesAreOf names.now (map attribute_of attrs.now) }
-    ensures { result ≡ are_plain_attributes (map (spelled_attribute (text_of names.now)) (map attribute_of attrs.now)) }
-{
-    for (index, attr) in attrs.iter().enumerate() {
-        if !is_plain_attribute(names, attr, &attrs[index + 1..]) {
+        if !is_plain_attribute(names, attr) {
             return false;
         }
     }

@@ -9,7 +9,7 @@ ghost use Rattle.hnodes.specs.Spelled.{spelled, spelled_attribute};
 ghost use Rattle.hnodes.specs.Spots.{name_of, what_of};
 ghost use Rattle.hwrite.specs.Escaping.{escaped};
 ghost use Rattle.hnodes.specs.Named.{NodeIsOf, AreOf, IsLent};
-ghost use Rattle.hwrite.specs.Output.{Puts};
+ghost use Rattle.hwrite.specs.Output.{Puts, taken};
 ghost use Rattle.hwrite.specs.Walk.{node_of};
 ghost use Rattle.hwrite.specs.Written.{attribute_text, start_tag_text, end_tag_text, written};
 ghost use Rattle.hwrite.specs.Writing.{stands_raw, holds_raw, opening_of, closing_of, visit_text};
@@ -17,24 +17,24 @@ ghost use Rattle.hwrite.specs.declared.escaping.Setting.TheVariants.{Text};
 
 use crate::escaped::put_escaped;
 use crate::escaping::{Escaping, Setting};
+use crate::gathered::Gathered;
 use crate::node::Node;
 use crate::sink::{put, put_parts};
 use crate::sorted::name_text;
+use crate::target::Target;
 use crate::walk::{Reach, Visit, Walk};
 use hnodes::{NodeId, Tree};
 use names::{Attr, NameId, Names, RawKind, Refusal};
 use std::alloc::Global;
-use std::io;
-use std::io::Write;
 
 /// Writes an attribute.
-fn put_attribute<W: Write>(
+fn put_attribute<W: Target>(
     out: &mut W,
     escaping: Escaping,
     name: &str,
     value: &str,
-) -> io::Result<()>
-    ensures { Puts (W.contents out.old) (W.contents out.new) (attribute_text escaping (name.now, value.now)) result }
+) -> Result<(), Refusal>
+    ensures { Puts (taken W.written W.failed out.old) (taken W.written W.failed out.new) (attribute_text escaping (name.now, value.now)) result }
 {
     put_parts(out, &[b" ", name.as_bytes(), b"=\""])?;
     put_escaped(out, value, escaping, Setting::Value)?;
@@ -42,15 +42,15 @@ fn put_attribute<W: Write>(
 }
 
 /// Writes a start tag.
-fn put_start_tag<W: Write>(
+fn put_start_tag<W: Target>(
     out: &mut W,
     escaping: Escaping,
     names: &Names,
     name: NameId,
     attrs: &[Attr],
-) -> io::Result<()>
+) -> Result<(), Refusal>
     requires { NodeIsOf names.now (element name (map attribute_of attrs.now)) }
-    ensures { Puts (W.contents out.old) (W.contents out.new)
+    ensures { Puts (taken W.written W.failed out.old) (taken W.written W.failed out.new)
         (start_tag_text escaping (text_of names.now name) (map (spelled_attribute (text_of names.now)) (map attribute_of attrs.now))) result }
 {
     put_parts(out, &[b"<", name_text(names, name).as_bytes()])?;
@@ -61,29 +61,34 @@ fn put_start_tag<W: Write>(
 }
 
 /// Writes an end tag.
-fn put_end_tag<W: Write>(out: &mut W, name: &str) -> io::Result<()>
-    ensures { Puts (W.contents out.old) (W.contents out.new) (end_tag_text name.now) result }
+fn put_end_tag<W: Target>(out: &mut W, name: &str) -> Result<(), Refusal>
+    ensures { Puts (taken W.written W.failed out.old) (taken W.written W.failed out.new) (end_tag_text name.now) result }
 {
     put_parts(out, &[b"</", name.as_bytes(), b">"])
 }
 
 /// Writes a comment.
-fn put_comment<W: Write>(out: &mut W, comment: &str) -> io::Result<()>
-    ensures { Puts (W.contents out.old) (W.contents out.new) (codes "<!--" ++ comment.now ++ codes "-->") result }
+fn put_comment<W: Target>(out: &mut W, comment: &str) -> Result<(), Refusal>
+    ensures { Puts (taken W.written W.failed out.old) (taken W.written W.failed out.new) (codes "<!--" ++ comment.now ++ codes "-->") result }
 {
     put_parts(out, &[b"<!--", comment.as_bytes(), b"-->"])
 }
 
 /// Writes a doctype.
-fn put_doctype<W: Write>(out: &mut W, name: &str) -> io::Result<()>
-    ensures { Puts (W.contents out.old) (W.contents out.new) (codes "<!DOCTYPE " ++ name.now ++ codes ">") result }
+fn put_doctype<W: Target>(out: &mut W, name: &str) -> Result<(), Refusal>
+    ensures { Puts (taken W.written W.failed out.old) (taken W.written W.failed out.new) (codes "<!DOCTYPE " ++ name.now ++ codes ">") result }
 {
     put_parts(out, &[b"<!DOCTYPE ", name.as_bytes(), b">"])
 }
 
 /// Writes a text, raw or escaped.
-fn put_text<W: Write>(out: &mut W, escaping: Escaping, source: &str, raw: bool) -> io::Result<()>
-    ensures { Puts (W.contents out.old) (W.contents out.new) (if raw then source.now else escaped escaping Text source.now) result }
+fn put_text<W: Target>(
+    out: &mut W,
+    escaping: Escaping,
+    source: &str,
+    raw: bool,
+) -> Result<(), Refusal>
+    ensures { Puts (taken W.written W.failed out.old) (taken W.written W.failed out.new) (if raw then source.now else escaped escaping Text source.now) result }
 {
     if raw {
         return put(out, source.as_bytes());
@@ -116,15 +121,15 @@ fn stands_raw(tree: &Tree, node: NodeId) -> bool
 }
 
 /// Writes where a node begins.
-fn put_opening<W: Write>(
+fn put_opening<W: Target>(
     out: &mut W,
     escaping: Escaping,
     tree: &Tree,
     names: &Names,
     node: NodeId,
-) -> io::Result<()>
+) -> Result<(), Refusal>
     requires { IsLent names.now tree.now.made tree.now.trees node }
-    ensures { Puts (W.contents out.old) (W.contents out.new) (opening_of escaping (text_of names.now) (stands_raw node tree.now.trees) (what_of node tree.now.trees))
+    ensures { Puts (taken W.written W.failed out.old) (taken W.written W.failed out.new) (opening_of escaping (text_of names.now) (stands_raw node tree.now.trees) (what_of node tree.now.trees))
         result }
 {
     match Node::of(tree, node) {
@@ -137,9 +142,14 @@ fn put_opening<W: Write>(
 }
 
 /// Writes where a node ends.
-fn put_closing<W: Write>(out: &mut W, tree: &Tree, names: &Names, node: NodeId) -> io::Result<()>
+fn put_closing<W: Target>(
+    out: &mut W,
+    tree: &Tree,
+    names: &Names,
+    node: NodeId,
+) -> Result<(), Refusal>
     requires { IsLent names.now tree.now.made tree.now.trees node }
-    ensures { Puts (W.contents out.old) (W.contents out.new) (closing_of (text_of names.now) (what_of node tree.now.trees)) result }
+    ensures { Puts (taken W.written W.failed out.old) (taken W.written W.failed out.new) (closing_of (text_of names.now) (what_of node tree.now.trees)) result }
 {
     match Node::of(tree, node) {
         Node::Element(name, _) if !name.tag().is_void() => put_end_tag(out, name_text(names, name)),
@@ -148,15 +158,15 @@ fn put_closing<W: Write>(out: &mut W, tree: &Tree, names: &Names, node: NodeId) 
 }
 
 /// Writes what a visit writes.
-fn put_visit<W: Write>(
+fn put_visit<W: Target>(
     out: &mut W,
     escaping: Escaping,
     tree: &Tree,
     names: &Names,
     visit: Visit,
-) -> io::Result<()>
+) -> Result<(), Refusal>
     requires { IsLent names.now tree.now.made tree.now.trees (node_of visit) }
-    ensures { Puts (W.contents out.old) (W.contents out.new) (visit_text escaping (text_of names.now) tree.now.trees visit) result }
+    ensures { Puts (taken W.written W.failed out.old) (taken W.written W.failed out.new) (visit_text escaping (text_of names.now) tree.now.trees visit) result }
 {
     match visit {
         Visit::Enter(node) => put_opening(out, escaping, tree, names, node),
@@ -165,20 +175,20 @@ fn put_visit<W: Write>(
 }
 
 /// Writes the children of a node as text. Texts in it are written raw if its own name says so. Takes as many steps as there are
-/// nodes and bytes that are written, and several writes for each node, which a `BufWriter` gathers. Where a write fails or takes
-/// nothing, what was taken before is a beginning of the text, and the error is returned. No write follows, so none is tried again,
-/// not even an interrupted one.
-pub fn serialize<W: Write>(
+/// nodes and bytes that are written, and several writes for each node, which a target may gather. Where a write fails, what was
+/// taken before is a beginning of the text, and `Write` is returned, which comes of nothing else. No write follows, so none is
+/// tried again. Nothing is flushed.
+pub fn serialize<W: Target>(
     tree: &Tree,
     names: &Names,
     node: NodeId,
     escaping: Escaping,
     out: &mut W,
-) -> io::Result<()>
+) -> Result<(), Refusal>
     requires made { node < tree.now.made }
     requires table { AreNames names.now }
     requires names { AreOf names.now (children_of node tree.now.trees) }
-    ensures { Puts (W.contents out.old) (W.contents out.new)
+    ensures { Puts (taken W.written W.failed out.old) (taken W.written W.failed out.new)
         (written escaping (option_map (text_of names.now) (name_of node tree.now.trees)) (spelled (text_of names.now) (children_of node tree.now.trees))) result }
 {
     for visit in Walk::new(tree, node, Reach::Written) {
@@ -202,7 +212,9 @@ pub fn serialize_to_vec(
         ≡ written escaping (option_map (text_of names.now) (name_of node tree.now.trees)) (spelled (text_of names.now) (children_of node tree.now.trees))) }
     ensures memory { IfErr result (λ refusal. refusal ≡ Refusal.Memory) }
 {
-    let mut text = Vec::new(alloc);
-    serialize(tree, names, node, escaping, &mut text).or(Err(Refusal::Memory))?;
-    Ok(text)
+    let mut out = Gathered::new(alloc);
+    if serialize(tree, names, node, escaping, &mut out).is_err() {
+        return Err(Refusal::Memory);
+    }
+    Ok(out.into_text())
 }

@@ -1,29 +1,21 @@
-//! Bytes to a writer, part by part.
+//! Bytes to a target, part by part.
 
 ghost use Rattle.std.specs.Prelude.{flat_map};
-ghost use Rattle.hwrite.specs.Output.{Puts};
+ghost use Rattle.hwrite.specs.Output.{Puts, taken};
 
-use std::io;
-use std::io::{Error, ErrorKind, Write};
+use crate::target::{Target, write_all};
+use names::Refusal;
 
-/// Writes all of the bytes, in as many calls as needed. No call follows one that failed or took nothing.
-pub(crate) fn put<W: Write>(out: &mut W, bytes: &[u8]) -> io::Result<()>
-    ensures { Puts (W.contents out.old) (W.contents out.new) bytes.now result }
+/// Writes all of the bytes.
+pub(crate) fn put<W: Target>(out: &mut W, bytes: &[u8]) -> Result<(), Refusal>
+    ensures { Puts (taken W.written W.failed out.old) (taken W.written W.failed out.new) bytes.now result }
 {
-    let mut rest = bytes;
-    while !rest.is_empty() {
-        let taken = out.write(rest)?;
-        if taken == 0 {
-            return Err(Error::from(ErrorKind::WriteZero));
-        }
-        rest = &rest[taken..];
-    }
-    Ok(())
+    write_all(out, bytes)
 }
 
 /// Writes these parts, one after another.
-pub(crate) fn put_parts<W: Write>(out: &mut W, parts: &[&[u8]]) -> io::Result<()>
-    ensures { Puts (W.contents out.old) (W.contents out.new) (flat_map (λ p. p.now) parts.now) result }
+pub(crate) fn put_parts<W: Target>(out: &mut W, parts: &[&[u8]]) -> Result<(), Refusal>
+    ensures { Puts (taken W.written W.failed out.old) (taken W.written W.failed out.new) (flat_map (λ p. p.now) parts.now) result }
 {
     for part in parts {
         put(out, part)?;

@@ -3,7 +3,7 @@
 use crate::given::Given;
 use charref::Table;
 use hmarkup::{CommentWalk, DoctypeWalk};
-use htext::{Bom, Decoder, MAX_INPUT};
+use htext::{BadBytes, Bom, Decoder, MAX_INPUT};
 use htoken::{Start, Tokenizer};
 use names::{Names, Refusal};
 use std::alloc::Global;
@@ -40,7 +40,7 @@ fn of_a_decoder(rt: HostRuntime) {
     let bytes = b"a\x01\xE2\x82\xAC".as_slice();
     for cut in 0..=bytes.len() {
         let (front, rest) = bytes.split_at(cut);
-        let mut decoder = Decoder::new(rt.alloc(), Bom::Drop, MAX_INPUT);
+        let mut decoder = Decoder::new(rt.alloc(), Bom::Drop, BadBytes::Refuse, MAX_INPUT);
         assert!(rt; refuses_third(&mut decoder, rt.alloc(), front, rest));
         assert!(rt; stays_refused(&mut decoder, rt.alloc()));
     }

@@ -2,7 +2,7 @@ use Rattle.std.proofs.Common.{◌≡◌, List, true, refl, ap, ◌∙◌, subst}
 use Rattle.clap.specs.Walk.{texts}
 use Rattle.clap.specs.Words.{Text, takes}
 use Rattle.hmain.specs.declared.fault.Fault.TheVariants as fault
-use Rattle.hmain.specs.Line.{program, numeric_options, task_of, value_of, AreNumbers, FaultOf, Says}
+use Rattle.hmain.specs.Line.{program, task_of, value_of, AreGood, FaultOf, Says}
 use Rattle.hmain.specs.Program.{words_refused}
 use Rattle.hmain.proofs.Outcomes.{passed_on}
 use Rattle.hmain.proofs.program.answer_words.Goals as goal
@@ -16,7 +16,7 @@ returns-in_err-line g c =
     let e = c.in_err-line.field-0.0 in
     words_refused e (passed_on c.from_residual-in_err-line.result e c.from_residual-in_err-line.ensures.1)
     (subst (λ (words : List Text). FaultOf words e) same c.in_err-line.ensures.fault)
-    (subst (λ (words : List Text). takes program words ≡ true → AreNumbers (value_of words) numeric_options → e ≡ fault.Memory) same c.in_err-line.ensures.memory) refl refl
+    (subst (λ (words : List Text). takes program words ≡ true → AreGood (value_of words) → e ≡ fault.Memory) same c.in_err-line.ensures.memory) refl refl
 
 pub returns : goal.returns
 returns g c =

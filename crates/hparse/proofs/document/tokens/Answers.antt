@@ -2,30 +2,33 @@ use Rattle.std.proofs.Common.{◌≡◌, ◌<◌, ◌+◌, ℕ, List, Bor, lengt
 use Rattle.std.proofs.lemmas.List.{take_all}
 use Rattle.hparse.specs.Shown.{Shows, HasReadTokens}
 use Rattle.hparse.proofs.Joined.{joined, joined_more, joined_all}
-use Rattle.hparse.proofs.RunOf.{of_document, shows_piece, has_read_tokens}
+use Rattle.hparse.specs.Answer.{of_document}
+use Rattle.hparse.proofs.RunOf.{as_document, shows_piece, has_read_tokens}
 use Rattle.hparse.proofs.document.tokens.Goals as goal
 
 pub returns-in-Err : goal.returns-in-Err
 returns-in-Err c =
     let lt : c.loop-piece.piece-index < length c.args.pieces.now = omega arith in
     let table = c.args.options.now.table.now in
+    let of = c.args.options.now.bad_bytes in
     let limit = c.args.options.now.input_limit in
     let fed = joined (take c.loop-piece.piece-index c.args.pieces.now) in
     let h = c.loop-piece.invariant in
-    shows_piece table limit fed c.loop-piece.reading c.feed.new.self h _ (joined (drop (c.loop-piece.piece-index + 1) c.args.pieces.now)) (joined c.args.pieces.now) c.in-Err.refusal
-    (c.in-Err.ensures (of_document table limit) h.began fed h.has_read) (joined_all c.args.pieces.now c.loop-piece.piece-index _ lt)
+    shows_piece table of limit fed c.loop-piece.reading c.feed.new.self h _ (joined (drop (c.loop-piece.piece-index + 1) c.args.pieces.now)) (joined c.args.pieces.now) c.in-Err.refusal
+    (c.in-Err.ensures (as_document table of limit) h.began fed h.has_read) (joined_all c.args.pieces.now c.loop-piece.piece-index _ lt)
 
 pub loop-piece-preserved : goal.loop-piece-preserved
 loop-piece-preserved c =
     let lt : c.loop-piece.piece-index < length c.args.pieces.now = omega arith in
     let table = c.args.options.now.table.now in
+    let of = c.args.options.now.bad_bytes in
     let limit = c.args.options.now.input_limit in
     let fed = joined (take c.loop-piece.piece-index c.args.pieces.now) in
     let h = c.loop-piece.invariant in
-    subst (HasReadTokens table limit c.feed.new.self) (sym (joined_more c.args.pieces.now c.loop-piece.piece-index _ lt))
-    (has_read_tokens table limit fed c.loop-piece.reading c.feed.new.self h _ (c.in-Ok.ensures (of_document table limit) h.began fed h.has_read))
+    subst (HasReadTokens table of limit c.feed.new.self) (sym (joined_more c.args.pieces.now c.loop-piece.piece-index _ lt))
+    (has_read_tokens table of limit fed c.loop-piece.reading c.feed.new.self h _ (c.in-Ok.ensures (as_document table of limit) h.began fed h.has_read))
 
 pub returns : goal.returns
 returns c =
     let all : take c.loop-piece.piece-index c.args.pieces.now ≡ c.args.pieces.now = take_all c.loop-piece.piece-index c.args.pieces.now c.loop-piece-test.false in
-    subst (λ (ps : List (Bor (List ℕ))). Shows c.args.options.now.table.now c.args.options.now.input_limit (joined ps) c.finish.result) all (c.finish.ensures c.args.options.now.table.now c.args.options.now.input_limit (joined (take c.loop-piece.piece-index c.args.pieces.now)) c.loop-piece.invariant)
+    subst (λ (ps : List (Bor (List ℕ))). Shows c.args.options.now.table.now (of_document c.args.options.now.bad_bytes c.args.options.now.input_limit) (joined ps) c.finish.result) all (c.finish.ensures c.args.options.now.table.now c.args.options.now.bad_bytes c.args.options.now.input_limit (joined (take c.loop-piece.piece-index c.args.pieces.now)) c.loop-piece.invariant)

@@ -10,7 +10,7 @@ use Rattle.hrun.proofs.engine.parse.Goals as goal
 pub returns-in_err-parser : goal.returns-in_err-parser
 returns-in_err-parser g c =
     let e = err_from_is_err_and c.from_residual.result c.from_residual.ensures.1 in
-    rw (e.1, e.2) (not_begun g.S.Source.left g.S.Source.failed _ c.args.options.now.input_limit c.args.command.piece c.args.source.now (told_by c.args.options.now) (name_of c.args.command.context)
+    rw (e.1, e.2) (not_begun g.S.Source.left g.S.Source.failed _ _ c.args.command.piece c.args.source.now (told_by c.args.options.now) (name_of c.args.command.context)
     c.in_err-parser.field-0.0 c.in_err-parser.ensures)
 
 pub returns : goal.returns

@@ -12,29 +12,29 @@ use Rattle.hrun.proofs.engine.run_write.Goals as goal
 pub returns-in_err-parsed : goal.returns-in_err-parsed
 returns-in_err-parsed g c =
     let e = err_from_is_err_and c.from_residual.result c.from_residual.ensures.1 in
-    rw (e.1, e.2) (not_read_in g.W.Target.written g.W.Target.failed g.S.Source.left g.S.Source.failed _ _ c.args.options.now.input_limit c.args.command.piece c.args.source.now c.parse.new.source (name_of c.args.command.context)
+    rw (e.1, e.2) (not_read_in g.W.Target.written g.W.Target.failed g.S.Source.left g.S.Source.failed _ _ _ c.args.command.piece c.args.source.now c.parse.new.source (name_of c.args.command.context)
     (λ bytes why its. not_printed why its) c.args.target.now c.in_err-parsed.field-0.0 c.in_err-parsed.ensures)
 
 pub serialize_to_vec-text-requires-clause-made : goal.serialize_to_vec-text-requires-clause-made
 serialize_to_vec-text-requires-clause-made g c =
-    (an_answer_in g.W.Target.written g.W.Target.failed g.S.Source.left g.S.Source.failed _ (Prints (Parses (told_by c.args.options.now) (subject_in (name_of c.args.command.context))) (written_text c.args.command.escaping (subject_in (name_of c.args.command.context)))) c.args.options.now.input_limit c.args.command.piece c.args.source.now c.parse.new.source (name_of c.args.command.context) c.in_ok-parsed.parsed c.in_ok-parsed.ensures).1.1.made
+    (an_answer_in g.W.Target.written g.W.Target.failed g.S.Source.left g.S.Source.failed _ (Prints (Parses (told_by c.args.options.now) (subject_in (name_of c.args.command.context))) (written_text c.args.command.escaping (subject_in (name_of c.args.command.context)))) _ c.args.command.piece c.args.source.now c.parse.new.source (name_of c.args.command.context) c.in_ok-parsed.parsed c.in_ok-parsed.ensures).1.1.made
 
 pub serialize_to_vec-text-requires-clause-table : goal.serialize_to_vec-text-requires-clause-table
 serialize_to_vec-text-requires-clause-table g c =
-    (an_answer_in g.W.Target.written g.W.Target.failed g.S.Source.left g.S.Source.failed _ (Prints (Parses (told_by c.args.options.now) (subject_in (name_of c.args.command.context))) (written_text c.args.command.escaping (subject_in (name_of c.args.command.context)))) c.args.options.now.input_limit c.args.command.piece c.args.source.now c.parse.new.source (name_of c.args.command.context) c.in_ok-parsed.parsed c.in_ok-parsed.ensures).1.1.table
+    (an_answer_in g.W.Target.written g.W.Target.failed g.S.Source.left g.S.Source.failed _ (Prints (Parses (told_by c.args.options.now) (subject_in (name_of c.args.command.context))) (written_text c.args.command.escaping (subject_in (name_of c.args.command.context)))) _ c.args.command.piece c.args.source.now c.parse.new.source (name_of c.args.command.context) c.in_ok-parsed.parsed c.in_ok-parsed.ensures).1.1.table
 
 pub serialize_to_vec-text-requires-clause-names : goal.serialize_to_vec-text-requires-clause-names
 serialize_to_vec-text-requires-clause-names g c =
-    (an_answer_in g.W.Target.written g.W.Target.failed g.S.Source.left g.S.Source.failed _ (Prints (Parses (told_by c.args.options.now) (subject_in (name_of c.args.command.context))) (written_text c.args.command.escaping (subject_in (name_of c.args.command.context)))) c.args.options.now.input_limit c.args.command.piece c.args.source.now c.parse.new.source (name_of c.args.command.context) c.in_ok-parsed.parsed c.in_ok-parsed.ensures).1.1.names_are
+    (an_answer_in g.W.Target.written g.W.Target.failed g.S.Source.left g.S.Source.failed _ (Prints (Parses (told_by c.args.options.now) (subject_in (name_of c.args.command.context))) (written_text c.args.command.escaping (subject_in (name_of c.args.command.context)))) _ c.args.command.piece c.args.source.now c.parse.new.source (name_of c.args.command.context) c.in_ok-parsed.parsed c.in_ok-parsed.ensures).1.1.names_are
 
 pub returns-in_err-text : goal.returns-in_err-text
 returns-in_err-text g c =
     let e = err_from_is_err_and c.from_residual-in_err-text.result c.from_residual-in_err-text.ensures.1 in
-    rw (e.1, e.2) (no_text_in g.W.Target.written g.W.Target.failed g.S.Source.left g.S.Source.failed _ _ c.args.options.now.input_limit c.args.command.piece c.args.source.now c.parse.new.source (name_of c.args.command.context) c.args.target.now c.in_ok-parsed.parsed c.in_err-text.field-0.0
+    rw (e.1, e.2) (no_text_in g.W.Target.written g.W.Target.failed g.S.Source.left g.S.Source.failed _ _ _ c.args.command.piece c.args.source.now c.parse.new.source (name_of c.args.command.context) c.args.target.now c.in_ok-parsed.parsed c.in_err-text.field-0.0
     c.in_ok-parsed.ensures c.in_err-text.ensures.memory)
 
 pub returns : goal.returns
 returns g c =
-    comes_to_text_in g.W.Target.written g.W.Target.failed g.S.Source.left g.S.Source.failed _ _ c.args.options.now.input_limit c.args.command.piece c.args.source.now c.parse.new.source (name_of c.args.command.context) c.args.target.now c.write_text.new.target
+    comes_to_text_in g.W.Target.written g.W.Target.failed g.S.Source.left g.S.Source.failed _ _ _ c.args.command.piece c.args.source.now c.parse.new.source (name_of c.args.command.context) c.args.target.now c.write_text.new.target
     c.in_ok-parsed.parsed c.deref.result.now c.write_text.result c.in_ok-parsed.ensures
     (λ bytes its. html_printed c.args.command.escaping (told_by c.args.options.now) (subject_in (name_of c.args.command.context)) bytes c.in_ok-parsed.parsed c.deref.result.now its (c.deref.ensures.value ∙ c.in_ok-text.ensures.written)) c.write_text.ensures

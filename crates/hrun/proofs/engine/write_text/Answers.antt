@@ -1,6 +1,6 @@
 use Rattle.std.proofs.Common.{ap, ◌∙◌}
 use Rattle.std.proofs.lemmas.Result.{err_from_is_err_and}
-use Rattle.hrun.specs.Calls.{counted_unless}
+use Rattle.hwrite.specs.Calls.{counted_unless}
 use Rattle.hrun.proofs.Written.{cut_short, not_flushed}
 use Rattle.hrun.proofs.engine.write_text.Goals as goal
 

@@ -1,11 +1,25 @@
-use Rattle.htext.proofs.Refusals.{accepted, too_large, not_utf8}
+use Rattle.std.proofs.Common.{◌≡◌, ◌++◌, length, subst, sym, None, Some}
+use Rattle.std.specs.Prelude.{◌↔◌, ◌≤◌}
+use Rattle.std.specs.Char.{encode_utf8}
+use Rattle.std.specs.Str.{IsUtf8}
+use Rattle.names.specs.declared.refusal.Refusal.TheVariants.{NotUtf8, TooLarge}
+use Rattle.htext.specs.declared.BadBytes.{BadBytes}
+use Rattle.htext.specs.Text.{refusal_of}
+use Rattle.htext.proofs.Refusals.{accepted, too_large, not_utf8, replaced}
 use Rattle.htext.proofs.laws.refusals_are_of_what_follows.Goals as goal
 
 pub returns-clause-accepted : goal.returns-clause-accepted
-returns-clause-accepted c = accepted
+returns-clause-accepted c = λ how bytes is.
+    subst (λ (b : BadBytes). (refusal_of (record { bom = how.bom; bad = b; limit = how.limit }) bytes ≡ None) ↔ (IsUtf8 bytes × (length bytes ≤ how.limit))) (sym is) (accepted how.limit bytes)
 
 pub returns-clause-too_large : goal.returns-clause-too_large
-returns-clause-too_large c = too_large
+returns-clause-too_large c = λ how front ch rest is u scalar within longer.
+    subst (λ (b : BadBytes). refusal_of (record { bom = how.bom; bad = b; limit = how.limit }) (front ++ (encode_utf8 ch ++ rest)) ≡ Some (TooLarge (length front))) (sym is) (too_large how.limit front ch rest u scalar within longer)
 
 pub returns-clause-not_utf8 : goal.returns-clause-not_utf8
-returns-clause-not_utf8 c = not_utf8
+returns-clause-not_utf8 c = λ how front rest is u within some none.
+    subst (λ (b : BadBytes). refusal_of (record { bom = how.bom; bad = b; limit = how.limit }) (front ++ rest) ≡ Some (NotUtf8 (length front))) (sym is) (not_utf8 how.limit front rest u within some none)
+
+pub returns-clause-replaced : goal.returns-clause-replaced
+returns-clause-replaced c = λ how bytes is.
+    subst (λ (b : BadBytes). (refusal_of (record { bom = how.bom; bad = b; limit = how.limit }) bytes ≡ None) ↔ (length bytes ≤ how.limit)) (sym is) (replaced how.bom how.limit bytes)

@@ -7,12 +7,12 @@ use Rattle.hwrite.proofs.escaped.put_escaped.Goals as goal
 pub returns-in_err-put : goal.returns-in_err-put
 returns-in_err-put g c =
     let s = c.loop-at.invariant in
-    passed_on _ _ _ _ c.from_residual.ensures.0 (run_failed _ _ _ _ _ _ _ _ s _ _ (run_is _ _ _ _ _ _ _ _ s _ _ c.as_bytes-bytes.ensures.value c.in-Some.ensures.steps.0) c.in_err-put.ensures)
+    passed_on _ _ _ _ c.from_residual.ensures.1 (run_failed _ _ _ _ _ _ _ _ s _ _ (run_is _ _ _ _ _ _ _ _ s _ _ c.as_bytes-bytes.ensures.value c.in-Some.ensures.steps.0) c.in_err-put.ensures)
 
 pub returns-in_err-put-2 : goal.returns-in_err-put-2
 returns-in_err-put-2 g c =
     let s = c.loop-at.invariant in
-    passed_on _ _ _ _ c.from_residual-in_err-put-2.ensures.0
+    passed_on _ _ _ _ c.from_residual-in_err-put-2.ensures.1
     (reference_failed _ _ _ _ _ _ _ _ s c.in-Some.ch _ c.in-Some.ensures.steps.1 _ _ (run_is _ _ _ _ _ _ _ _ s _ _ c.as_bytes-bytes.ensures.value c.in-Some.ensures.steps.0) c.in_ok-put.ensures _
     (c.in-Some-reference.ensures.some ∙ sym c.as_bytes.ensures.value) _ c.in_err-put-2.ensures)
 

@@ -1,5 +1,6 @@
 use Rattle.std.proofs.Common.{◌≡◌, ◌∙◌, ℕ, List, [], ◌∷◌, ◌++◌, codes, refl, sym, ap}
 use Rattle.std.proofs.lemmas.List.{append_assoc}
+use Rattle.hwrite.specs.Output.{taken}
 use Rattle.hwrite.specs.Escaping.{escaped}
 use Rattle.hwrite.specs.Written.{attribute_text}
 use Rattle.hwrite.specs.declared.escaping.Escaping.{Escaping}
@@ -13,18 +14,20 @@ parted how name lent value same = ap (λ n. attribute_text how (n, value)) (sym 
 
 pub returns-in_err-put_parts : goal.returns-in_err-put_parts
 returns-in_err-put_parts g c =
-    passed_on _ _ _ _ c.from_residual.ensures.0
+    passed_on _ _ _ _ c.from_residual.ensures.1
     (part_failed _ _ _ _ _ _ _ (none_put _ _) (parted c.args.escaping c.args.name.now c.as_bytes.result.now c.args.value.now c.as_bytes.ensures.value) c.in_err-put_parts.ensures)
 
 pub returns-in_err-put_escaped : goal.returns-in_err-put_escaped
 returns-in_err-put_escaped g c =
-    passed_on _ _ _ _ c.from_residual-in_err-put_escaped.ensures.0
+    passed_on _ _ _ _ c.from_residual-in_err-put_escaped.ensures.1
     (part_failed _ _ _ _ _ (escaped c.args.escaping Value c.args.value.now) (codes "\"")
     (part_put _ _ _ _ _ _ _ (none_put _ _) (parted c.args.escaping c.args.name.now c.as_bytes.result.now c.args.value.now c.as_bytes.ensures.value) c.in_ok-put_parts.ensures) refl c.in_err-put_escaped.ensures)
 
 pub returns : goal.returns
 returns g c =
-    last_put _ _ _ _ _ (codes "\"") _
-    (part_put _ _ _ _ _ (escaped c.args.escaping Value c.args.value.now) (codes "\"")
-    (part_put _ _ _ _ _ _ _ (none_put _ _) (parted c.args.escaping c.args.name.now c.as_bytes.result.now c.args.value.now c.as_bytes.ensures.value) c.in_ok-put_parts.ensures) refl c.in_ok-put_escaped.ensures)
+    let old = taken g.W.Target.written g.W.Target.failed c.args.out.now in
+    let new = taken g.W.Target.written g.W.Target.failed c.put.new.out in
+    last_put old _ new _ _ (codes "\"") c.put.result
+    (part_put old _ _ _ _ (escaped c.args.escaping Value c.args.value.now) (codes "\"")
+    (part_put old _ _ _ _ _ _ (none_put _ _) (parted c.args.escaping c.args.name.now c.as_bytes.result.now c.args.value.now c.as_bytes.ensures.value) c.in_ok-put_parts.ensures) refl c.in_ok-put_escaped.ensures)
     refl c.put.ensures

@@ -23,7 +23,7 @@ name_text-requires-in-loop-attr g c = attributes-head c.args.names.now c.args.at
 
 pub returns-in_err-put_parts : goal.returns-in_err-put_parts
 returns-in_err-put_parts g c =
-    passed_on _ _ _ _ c.from_residual.ensures.0 (part_failed _ _ _ _ _ _ _ (none_put _ _) (parted _ _ _ _ (c.as_bytes.ensures.value ∙ c.name_text.ensures)) c.in_err-put_parts.ensures)
+    passed_on _ _ _ _ c.from_residual.ensures.1 (part_failed _ _ _ _ _ _ _ (none_put _ _) (parted _ _ _ _ (c.as_bytes.ensures.value ∙ c.name_text.ensures)) c.in_err-put_parts.ensures)
 
 pub loop-attr-init : goal.loop-attr-init
 loop-attr-init g c = record {
@@ -33,7 +33,7 @@ loop-attr-init g c = record {
 
 pub returns-in_err-put_attribute : goal.returns-in_err-put_attribute
 returns-in_err-put_attribute g c =
-    passed_on _ _ _ _ c.from_residual-in_err-put_attribute.ensures.0
+    passed_on _ _ _ _ c.from_residual-in_err-put_attribute.ensures.1
     (part_failed _ _ _ _ _ _ _ c.loop-attr.invariant.left
     (next-text (spelled_attribute (text_of c.args.names.now)) (attribute_text c.args.escaping) c.args.attrs.now c.loop-attr.attr-index c.attr-item.result _ (codes ">") c.loop-attr-test.true c.attr-item.is
     (λ i. (c.name_text-in-loop-attr.ensures i, c.deref.ensures i))) c.in_err-put_attribute.ensures)

@@ -4,6 +4,7 @@ use Rattle.names.specs.Names.{text_of}
 use Rattle.hnodes.specs.Named.{AttributesAreOf}
 use Rattle.hnodes.specs.Rows.{attribute_of}
 use Rattle.hnodes.specs.Spelled.{spelled_attribute}
+use Rattle.hwrite.specs.Output.{taken}
 use Rattle.hwrite.specs.Written.{attribute_text, start_tag_text}
 use Rattle.hwrite.proofs.Output.{HasLeft}
 use Rattle.hwrite.proofs.serializer.put_start_tag.Given as goal
@@ -12,6 +13,6 @@ use Rattle.hwrite.proofs.serializer.put_start_tag.Given as goal
 abbrev pub invariant-loop-attr : goal.invariant-loop-attr
 invariant-loop-attr g l = record {
   of : AttributesAreOf l.names (map attribute_of (drop l.attr-index l.attrs));
-  left : HasLeft (g.W.Write.contents l.fn.out) (g.W.Write.contents l.out) (start_tag_text l.fn.escaping (text_of l.names l.fn.name) (map (spelled_attribute (text_of l.names)) (map attribute_of l.attrs)))
+  left : HasLeft (taken g.W.Target.written g.W.Target.failed l.fn.out) (taken g.W.Target.written g.W.Target.failed l.out) (start_tag_text l.fn.escaping (text_of l.names l.fn.name) (map (spelled_attribute (text_of l.names)) (map attribute_of l.attrs)))
       (flat_map (attribute_text l.fn.escaping) (map (spelled_attribute (text_of l.names)) (map attribute_of (drop l.attr-index l.attrs))) ++ codes ">");
 }

@@ -16,7 +16,7 @@ loop-visit-preserved g c =
 
 pub returns-in_err-put_visit : goal.returns-in_err-put_visit
 returns-in_err-put_visit g c =
-    passed_on _ _ _ _ c.from_residual.ensures.0 (failed c.args.escaping c.args.names.now c.args.tree.now.made c.args.tree.now.trees c.args.node _ _ c.in-Some.visit _ _ c.in-Some.ensures.steps c.loop-visit.invariant _ c.in_err-put_visit.ensures)
+    passed_on _ _ _ _ c.from_residual.ensures.1 (failed c.args.escaping c.args.names.now c.args.tree.now.made c.args.tree.now.trees c.args.node _ _ c.in-Some.visit _ _ c.in-Some.ensures.steps c.loop-visit.invariant _ c.in_err-put_visit.ensures)
 
 pub returns : goal.returns
 returns g c = wrote c.args.escaping c.args.names.now c.args.tree.now.made c.args.tree.now.trees c.args.node _ _ _ c.in-None.ensures.steps.0 c.loop-visit.invariant

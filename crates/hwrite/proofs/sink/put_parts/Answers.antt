@@ -3,7 +3,7 @@ use Rattle.hwrite.proofs.sink.put_parts.Goals as goal
 
 pub returns-in_err-put : goal.returns-in_err-put
 returns-in_err-put g c =
-    passed_on _ _ _ _ c.from_residual.ensures.0 (part_failed _ _ _ _ _ _ _ c.loop-part.invariant (next_part c.args.parts.now c.loop-part.part-index _ c.loop-part-test.true) c.in_err-put.ensures)
+    passed_on _ _ _ _ c.from_residual.ensures.1 (part_failed _ _ _ _ _ _ _ c.loop-part.invariant (next_part c.args.parts.now c.loop-part.part-index _ c.loop-part-test.true) c.in_err-put.ensures)
 
 pub loop-part-preserved : goal.loop-part-preserved
 loop-part-preserved g c =

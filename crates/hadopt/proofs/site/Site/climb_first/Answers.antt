@@ -23,6 +23,7 @@ loop-left-init c =
       begun = c.requires.begun;
       last_in = c.requires.block_in;
       few = omega arith;
+      within = omega arith;
       on = rw (c.depth-left.ensures ∙ ap (λ (s : SiteOf ℕ). length (above c.args.block s.open_nodes.stack)) c.self.view_is) (way-begins c.args.formatting c.args.block c.args.at start);
       different = c.requires.different;
     }
@@ -62,6 +63,7 @@ loop-left-preserved c =
       begun = c.in_ok-on_way.ensures.last.0;
       last_in = c.in_ok-on_way.ensures.last.1;
       few = omega (arith, c.if-passed-lt-MOST_KEPT.true);
+      within = omega (arith, l.invariant.within, c.in_ok-on_way.ensures.few);
       on = way-step c.args.formatting c.args.block c.args.at l.passed (l.left - 1) (climb_of l.on_way l.self) (climb_of c.in_ok-on_way.on_way c.pass.new.self) _ (open_of c.in-Some.node) w (sym c.eq.ensures ∙ c.if-eq.false) goes;
       different = subst (OnGoes (λ (d : Climb ℕ). AreDifferent d.site)) goes (one-different c.args.at c.args.block l.passed (open_of c.in-Some.node) (climb_of l.on_way l.self) l.invariant.different);
     }

@@ -1,4 +1,4 @@
-use Rattle.std.proofs.Common.{◌<◌, ◌≤◌}
+use Rattle.std.proofs.Common.{◌<◌, ◌≤◌, ◌+◌}
 use Rattle.hopen.specs.Nearest.{before}
 use Rattle.hopen.specs.Stack.{is_node, above}
 use Rattle.hformat.specs.declared.bookmark.Bookmark.TheVariants.{InPlace}
@@ -14,6 +14,7 @@ invariant-loop-left l = record {
   begun : 0 < l.on_way.last;
   last_in : l.on_way.last < l.self.nodes.made;
   few : l.passed ≤ 3;
+  within : l.self.nodes.made ≤ l.fn.self.nodes.made + l.passed;
   on : OnWay l.formatting l.block l.at l.passed l.left (climb_of l.on_way l.self) (climbed numbers l.at l.block 0 (before (is_node l.formatting) (above l.block l.fn.self.open_nodes.stack)) (record { last = l.block; bookmark = InPlace; site = l.fn.self }));
   different : AreDifferent l.self;
 }

@@ -17,7 +17,7 @@ turn_with-requires-clause-entry c =
 pub returns-in-Some-clause-kept : goal.returns-in-Some-clause-kept
 returns-in-Some-clause-kept c =
     let found : find_entry nat_eq c.args.name c.args.self.now.items ≡ Some (entry_is c.in-Some.formatting) = sym c.in_ok-formatting.ensures ∙ ap (option_map entry_is) c.in-Some.is in
-    turn-keeps c.args.at c.args.name c.args.self.now c.turn_with.new.self c.turn_with.result c.requires (rw (found) c.turn_with.ensures)
+    turn-keeps c.args.at c.args.name c.args.self.now c.turn_with.new.self c.turn_with.result c.requires (rw (found) c.turn_with.ensures.done)
 
 pub returns-in_ok-other_end-in-None-clause-kept : goal.returns-in_ok-other_end-in-None-clause-kept
 returns-in_ok-other_end-in-None-clause-kept c =

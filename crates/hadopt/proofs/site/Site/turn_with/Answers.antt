@@ -6,7 +6,7 @@ use Rattle.hadopt.proofs.site.Site.turn_with.Goals as goal
 
 pub turn_by-requires : goal.turn_by-requires
 turn_by-requires c = record {
-  turns = unless-turns-by c.is_current-found.result _ c.args.at c.args.self.now c.error_unless.new.self c.args.formatting.node (open_of c.in-Some.block) c.in_ok-error_unless.ensures c.requires.kept
+  turns = unless-turns-by c.is_current-found.result _ c.args.at c.args.self.now c.error_unless.new.self c.args.formatting.node (open_of c.in-Some.block) c.in_ok-error_unless.ensures.done c.requires.kept
       (sym c.is_open.ensures ∙ c.if-not-is_open.false)
       (sym c.node_in_scope.ensures ∙ c.if-not-node_in_scope.false)
       c.requires.entry

@@ -1,18 +1,19 @@
-use Rattle.std.proofs.Common.{ap, sym, subst, ◌∙◌}
+use Rattle.std.proofs.Common.{◌∙◌}
 use Rattle.htext.specs.Items.{items}
-use Rattle.htext.specs.Decoding.{Progress}
 use Rattle.htoken.specs.Token.{gives_item}
-use Rattle.hparse.specs.Holding.{HoldsItems}
-use Rattle.hparse.specs.Input.{text_in}
-use Rattle.hparse.proofs.Pieces.{ends_refused, ends_input}
+use Rattle.hparse.specs.Input.{reads_in}
+use Rattle.hparse.proofs.Pieces.{ends_refused, ends_input, holds_all}
 use Rattle.hparse.proofs.reading.Reading.end.Goals as goal
 
 pub returns-in-Err : goal.returns-in-Err
 returns-in-Err g c = λ m began bytes h.
-    ends_refused (gives_item g.S.ErrorSink.gives g.S.TokenSink.gives_token) m began bytes c.args.self.now h c.in-Err.refusal c.refuse.result _ (c.in-Err.ensures.answer bytes h.fed)
-    (c.refuse.ensures.answer m began (items (text_in m bytes)) (subst (λ f. HoldsItems (gives_item g.S.ErrorSink.gives g.S.TokenSink.gives_token) m began f (items (text_in m bytes))) (sym c.in-Err.ensures.sink) h.holds))
+    ends_refused (gives_item g.S.ErrorSink.gives g.S.TokenSink.gives_token) m began bytes c.args.self.now h c.in-Err.refusal c.refuse.result c.finish.new.sink _
+    (c.refuse.ensures.answer m began) c.refuse.ensures.stopped c.refuse.ensures.memory (c.in-Err.ensures.ends bytes h.fed)
 
 pub returns-in-Ok : goal.returns-in-Ok
 returns-in-Ok g c = λ m began bytes h.
-    ends_input (gives_item g.S.ErrorSink.gives g.S.TokenSink.gives_token) m began bytes c.args.self.now h c.read.result (c.read.ensures ∙ ap (λ (d : Progress). d.read) c.in-Ok.ensures.unchanged) _ (c.in-Ok.ensures.answer bytes h.fed) c.finish-in-Ok.result
-    (c.finish-in-Ok.ensures m began (items (text_in m bytes)) (subst (λ f. HoldsItems (gives_item g.S.ErrorSink.gives g.S.TokenSink.gives_token) m began f (items (text_in m bytes))) (sym c.in-Ok.ensures.sink) h.holds))
+    let gives = gives_item g.S.ErrorSink.gives g.S.TokenSink.gives_token in
+    let ended = c.in-Ok.ensures.ends bytes h.fed in
+    let whole = c.read.ensures ∙ c.in-Ok.ensures.whole bytes h.fed in
+    ends_input gives m began bytes c.args.self.now h c.finish.new.sink _ c.read.result whole ended c.finish-in-Ok.result
+    (c.finish-in-Ok.ensures m began (items (reads_in m bytes)) (holds_all gives m began bytes c.args.self.now h c.finish.new.sink ended))

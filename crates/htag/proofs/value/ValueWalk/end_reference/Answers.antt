@@ -11,5 +11,5 @@ returns c =
       more = _;
       later_is = t.later_is;
       ends = λ table quoted text own h.
-          ends_reference table quoted _ _ text own h c.args.walk c.requires c.end-found.result (λ taken has. c.end-found.ensures table true taken has) (told_then_given _ _ _ _ _ _ _ t b.bytes);
+          ends_reference table quoted _ _ text own h c.args.walk c.requires c.end-found.result (λ taken has. c.end-found.ensures.read table true taken has) c.end-found.ensures.number (told_then_given _ _ _ _ _ _ _ t b.bytes);
     }) c.give_back.ensures

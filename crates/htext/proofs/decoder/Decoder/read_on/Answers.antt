@@ -1,8 +1,9 @@
 use Rattle.std.proofs.Common.{◌≡◌, ℕ, ◌+◌, ◌-◌, ◌++◌, ◌∷◌, [], List, length, take, drop, get_or, Ok, Err, sym, ap, ◌∙◌, subst, arith, append_assoc}
 use Rattle.std.proofs.lemmas.List.{take_all, take_more, take-append-drop, length-drop}
 use Rattle.std.proofs.lemmas.Result.{err_from_is_err_and, on_ok_weaker}
-use Rattle.htext.specs.Decoding.{HasFed, Feeds, HandsNew}
-use Rattle.htext.proofs.Handing.{HandsNew-append, Feeds-append, Feeds-more, handed_all}
+use Rattle.htext.specs.Text.{settled}
+use Rattle.htext.specs.Decoding.{HasFed, Feeds, HandsOn}
+use Rattle.htext.proofs.Handing.{HandsOn-append, Feeds-append, Feeds-more, handed_all}
 use Rattle.htext.proofs.decoder.Decoder.read_on.Goals as goal
 
 pub returns-then-is_empty-clause-feeds : goal.returns-then-is_empty-clause-feeds
@@ -10,9 +11,9 @@ returns-then-is_empty-clause-feeds g c = λ fed h.
     let bytes = c.args.bytes.now in
     let i = c.loop-index.index in
     let left : length (drop i bytes) ≡ length bytes - i = length-drop i bytes in
-    let piece = rw (c.loop-index.invariant.bom, c.loop-index.invariant.limit, take_all (length bytes - i) (drop i bytes) (omega arith)) at (c.read_piece.ensures.feeds (fed ++ take i bytes) (c.loop-index.invariant.fed fed h)) in
-    subst (λ (x : List ℕ). Feeds g.S.CharSink.gives c.args.self.now.bom c.args.self.now.limit fed x c.args.sink.now c.read_piece.result c.read_piece.new.sink) (take-append-drop i bytes)
-    (Feeds-append g.S.CharSink.gives _ _ fed (take i bytes) (drop i bytes) _ _ _ _ (c.loop-index.invariant.handed fed h) piece)
+    let piece = rw (c.loop-index.invariant.how, take_all (length bytes - i) (drop i bytes) (omega arith)) at (c.read_piece.ensures.feeds (fed ++ take i bytes) (c.loop-index.invariant.fed fed h)) in
+    subst (λ (x : List ℕ). Feeds g.S.CharSink.gives c.args.self.now.how fed x c.args.sink.now c.read_piece.result c.read_piece.new.sink) (take-append-drop i bytes)
+    (Feeds-append g.S.CharSink.gives _ fed (take i bytes) (drop i bytes) _ _ _ _ (c.loop-index.invariant.handed fed h) piece)
 
 pub returns-then-is_empty-clause-fed : goal.returns-then-is_empty-clause-fed
 returns-then-is_empty-clause-fed g c =
@@ -32,9 +33,9 @@ returns-in_err-read_byte-clause-feeds g c = λ fed h.
     let i = c.loop-index.index in
     let e = err_from_is_err_and c.from_residual.result c.from_residual.ensures.1 in
     let piece = rw (← take_more bytes i 0 c.loop-index-test.true) at
-    (Feeds-append g.S.CharSink.gives _ _ fed (take i bytes) (get_or bytes i 0 ∷ []) _ _ _ _ (c.loop-index.invariant.handed fed h) (rw (c.loop-index.invariant.bom, c.loop-index.invariant.limit) at (c.in_err-read_byte.ensures.feeds (fed ++ take i bytes) (c.loop-index.invariant.fed fed h)))) in
-    rw (e.1, e.2) (subst (λ (x : List ℕ). Feeds g.S.CharSink.gives c.args.self.now.bom c.args.self.now.limit fed x c.args.sink.now (Err c.in_err-read_byte.field-0.0) c.read_byte.new.sink) (take-append-drop (i + 1) bytes)
-    (Feeds-more g.S.CharSink.gives _ _ fed (take (i + 1) bytes) _ _ _ piece (drop (i + 1) bytes)))
+    (Feeds-append g.S.CharSink.gives _ fed (take i bytes) (get_or bytes i 0 ∷ []) _ _ _ _ (c.loop-index.invariant.handed fed h) (rw (c.loop-index.invariant.how) at (c.in_err-read_byte.ensures.feeds (fed ++ take i bytes) (c.loop-index.invariant.fed fed h)))) in
+    rw (e.1, e.2) (subst (λ (x : List ℕ). Feeds g.S.CharSink.gives c.args.self.now.how fed x c.args.sink.now (Err c.in_err-read_byte.field-0.0) c.read_byte.new.sink) (take-append-drop (i + 1) bytes)
+    (Feeds-more g.S.CharSink.gives _ fed (take (i + 1) bytes) _ _ _ piece (drop (i + 1) bytes)))
 
 pub loop-index-preserved : goal.loop-index-preserved
 loop-index-preserved g c =
@@ -44,9 +45,11 @@ loop-index-preserved g c =
     λ fed. append_assoc fed (take i bytes) (get_or bytes i 0 ∷ []) ∙ ap (λ (x : List ℕ). fed ++ x) (sym (take_more bytes i 0 c.loop-index-test.true)) in
     record {
       fed = λ fed h. subst (HasFed c.read_byte.new.self) (more fed) (c.in_ok-read_byte.ensures.fed (fed ++ take i bytes) (c.loop-index.invariant.fed fed h));
-      handed = λ fed h. subst (λ (x : List ℕ). HandsNew g.S.CharSink.gives c.args.self.now.bom c.args.self.now.limit fed x c.args.sink.now (Ok tt) c.read_byte.new.sink) (more fed)
-          (HandsNew-append g.S.CharSink.gives _ _ fed (fed ++ take i bytes) _ _ _ _ _ (c.loop-index.invariant.handed fed h)
-          (handed_all g.S.CharSink.gives _ _ _ _ _ _ (rw (c.loop-index.invariant.bom, c.loop-index.invariant.limit) at (c.in_ok-read_byte.ensures.feeds (fed ++ take i bytes) (c.loop-index.invariant.fed fed h)))));
-      bom = c.read_byte.ensures.bom ∙ c.loop-index.invariant.bom;
-      limit = c.read_byte.ensures.limit ∙ c.loop-index.invariant.limit;
+      handed = λ fed h. subst (λ (x : List ℕ). HandsOn g.S.CharSink.gives (settled c.args.self.now.how fed) (settled c.args.self.now.how x) c.args.sink.now (Ok tt) c.read_byte.new.sink) (more fed)
+          (HandsOn-append g.S.CharSink.gives _ (settled c.args.self.now.how (fed ++ take i bytes)) _ _ _ _ _ (c.loop-index.invariant.handed fed h)
+          (handed_all g.S.CharSink.gives _ _ _ _ _ (rw (c.loop-index.invariant.how) at (c.in_ok-read_byte.ensures.feeds (fed ++ take i bytes) (c.loop-index.invariant.fed fed h)))));
+      how = c.read_byte.ensures.how ∙ c.loop-index.invariant.how;
     }
+
+pub returns-clause-fed : goal.returns-clause-fed
+returns-clause-fed g c = λ fed h. subst (λ (x : List ℕ). HasFed c.loop-index.self (fed ++ x)) (take_all c.loop-index.index c.args.bytes.now (omega arith)) (c.loop-index.invariant.fed fed h)

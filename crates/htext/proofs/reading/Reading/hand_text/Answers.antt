@@ -1,10 +1,11 @@
-use Rattle.std.proofs.Common.{◌≡◌, ℕ, ◌-◌, List, length, sym, ap, ◌∙◌, arith}
+use Rattle.std.proofs.Common.{◌≡◌, ℕ, ◌-◌, List, length, map, sym, ap, ◌∙◌, arith}
 use Rattle.std.proofs.lemmas.Result.{err_from_is_err_and}
 use Rattle.std.proofs.lemmas.Str.{IsCharBoundary-from_drop, IsUtf8-past_char, chars_past_char, length-encode, chars-nil}
 use Rattle.std.proofs.lemmas.List.{length-append, length-drop}
 use Rattle.std.specs.Char.{encode_utf8, len_utf8}
 use Rattle.std.specs.Str.{chars}
-use Rattle.htext.specs.Text.{ends_in_return}
+use Rattle.names.specs.Placed.{placed}
+use Rattle.htext.specs.Text.{Whole, ends_in_return}
 use Rattle.htext.proofs.Handing.{hand_more, hand_refused, hand_all}
 use Rattle.htext.proofs.Runs.{front_of, run_utf8, run_more, run_refused, ends_after}
 use Rattle.htext.proofs.reading.Reading.hand_text.Goals as goal
@@ -37,7 +38,7 @@ loop-ch-preserved-then-run-gt0 g c =
       handed = rw (free, left) (run_more g.S.CharSink.gives _ _ _ c.loop-ch.sink _ n bytes here c.loop-ch.invariant.utf8 c.run_at-run.ensures.within c.run_at-run.ensures.plain _ taken);
       reached = omega (arith, c.loop-ch.invariant.reached, ap length left, length-drop n bytes, c.run_at-run.ensures.within);
       utf8 = rw left (run_utf8 n bytes c.loop-ch.invariant.utf8 c.run_at-run.ensures.plain);
-      ends = rw (free, left) (sym (ends_after n bytes c.loop-ch.invariant.utf8 c.run_at-run.ensures.plain) ∙ ended);
+      ends = rw (free, left) (sym (ends_after n bytes c.loop-ch.invariant.utf8 c.run_at-run.ensures.plain c.loop-ch.place c.run_at-run.ensures.within) ∙ ended);
     }
 
 pub returns-in_err-hand_char-clause-handed : goal.returns-in_err-hand_char-clause-handed
@@ -55,7 +56,7 @@ loop-ch-preserved g c =
       handed = rw long (hand_more g.S.CharSink.gives _ _ _ c.loop-ch.sink _ _ _ c.loop-ch.invariant.handed c.in-Some.ch _ _ c.loop-ch.invariant.utf8 is c.in_ok-hand_char.ensures);
       reached = omega (arith, c.loop-ch.invariant.reached, c.in-Some.ensures.1);
       utf8 = IsUtf8-past_char bytes after c.in-Some.ch c.loop-ch.invariant.utf8 is;
-      ends = sym (ap (ends_in_return c.loop-ch.after_return) (chars_past_char _ _ _ c.loop-ch.invariant.utf8 is)) ∙ c.loop-ch.invariant.ends;
+      ends = rw long (sym (ap (λ (cs : List ℕ). ends_in_return c.loop-ch.after_return (map Whole (placed c.loop-ch.place cs))) (chars_past_char _ _ _ c.loop-ch.invariant.utf8 is)) ∙ c.loop-ch.invariant.ends);
     }
 
 pub returns-clause-handed : goal.returns-clause-handed
@@ -63,4 +64,4 @@ returns-clause-handed g c = hand_all g.S.CharSink.gives _ _ _ c.loop-ch.sink _ _
 
 pub returns-clause-end : goal.returns-clause-end
 returns-clause-end g c =
-    sym (ap (λ (x : List ℕ). ends_in_return c.loop-ch.after_return x) (ap chars c.in_default.ensures ∙ chars-nil)) ∙ c.loop-ch.invariant.ends
+    sym (ap (λ (cs : List ℕ). ends_in_return c.loop-ch.after_return (map Whole (placed c.loop-ch.place cs))) (ap chars c.in_default.ensures ∙ chars-nil)) ∙ c.loop-ch.invariant.ends

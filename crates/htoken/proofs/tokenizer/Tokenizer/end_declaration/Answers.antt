@@ -1,15 +1,18 @@
 use Rattle.std.proofs.Common.{refl, []}
 use Rattle.std.proofs.lemmas.Result.{err_from_is_err_and}
 use Rattle.hmarkup.specs.declared.comment.CommentKind.TheVariants.{Bogus}
-use Rattle.htoken.proofs.EndDeclared.{declared_stopped, declared_cut}
+use Rattle.htoken.proofs.EndDeclared.{declared_plain, declared_stopped, declared_cut}
 use Rattle.htoken.proofs.tokenizer.Tokenizer.end_declaration.Goals as goal
 
 pub returns-in_err-end : goal.returns-in_err-end
 returns-in_err-end g c =
     let e = err_from_is_err_and c.from_residual-in_err-end.result c.from_residual-in_err-end.ensures.1 in
-    rw (e.1, e.2) (λ table start names text taken h. declared_stopped g.S.ErrorSink.gives g.S.TokenSink.gives_token table start c.args.end text names taken _ h c.args.bang c.args.so c.requires c.begin_held.new.self _ c.end.new.errors _ _ (c.in_err-end.ensures Bogus _ [] c.in_ok-begin_held.ensures.has_read))
+    rw (e.1, e.2) (λ table start names text taken h.
+    let begun = c.in_ok-begin_held.ensures.1 (declared_plain g.S.ErrorSink.gives g.S.TokenSink.gives_token table start c.args.end text names taken _ h c.args.bang c.args.so c.requires) in
+    declared_stopped g.S.ErrorSink.gives g.S.TokenSink.gives_token table start c.args.end text names taken _ h c.args.bang c.args.so c.requires c.begin_held.new.self _ c.end.new.errors _ _ (c.in_err-end.ensures Bogus _ [] begun.has_read))
 
 pub returns : goal.returns
 returns g c = λ table start names text taken h.
-    declared_cut g.S.ErrorSink.gives g.S.TokenSink.gives_token table start c.args.end text names taken _ h c.args.bang c.args.so c.requires c.begin_held.new.self (record c.begin_held.new.self { raised = c.end.new.errors }) _ _ _ _ c.in_ok-begin_held.ensures (record { kind_is = refl; last_is = refl; at_is = refl; stays = (refl, refl, refl) }) refl
-    (c.in_ok-end.ensures Bogus _ [] c.in_ok-begin_held.ensures.has_read) c.end_comment.ensures
+    let begun = c.in_ok-begin_held.ensures.1 (declared_plain g.S.ErrorSink.gives g.S.TokenSink.gives_token table start c.args.end text names taken _ h c.args.bang c.args.so c.requires) in
+    declared_cut g.S.ErrorSink.gives g.S.TokenSink.gives_token table start c.args.end text names taken _ h c.args.bang c.args.so c.requires c.begin_held.new.self (record c.begin_held.new.self { raised = c.end.new.errors }) _ _ _ _ begun (record { kind_is = refl; last_is = refl; at_is = refl; stays = (refl, refl, refl) }) refl
+    (c.in_ok-end.ensures Bogus _ [] begun.has_read) c.end_comment.ensures

@@ -1,5 +1,6 @@
 use Rattle.std.proofs.Common.{refl, rules}
 use Rattle.htoken.specs.Token.{gives_item}
+use Rattle.htoken.proofs.Declaring.{opened_plain}
 use Rattle.htoken.proofs.Going.{ran_out}
 use Rattle.htoken.proofs.InData.{opened_by, front_grows, comment_begins, doctype_begins, cdata_opened, declaration_follows}
 use Rattle.htoken.proofs.tokenizer.Tokenizer.in_declaration.Goals as goal
@@ -29,7 +30,7 @@ returns-in_ok-push-in-Cdata g c = λ table start names text taken h.
 
 pub returns-in-Bogus : goal.returns-in-Bogus
 returns-in-Bogus g c = λ table start names text taken h.
-    c.begin_held_at.ensures table start names text taken h
+    c.begin_held_at.ensures table start names text taken h (opened_plain c.args.so _ (opened_by (gives_item g.S.ErrorSink.gives g.S.TokenSink.gives_token) table start text (record { ch = c.args.ch; at = c.args.at }) names taken _ h c.args.bang c.args.so c.requires))
     (λ new begun. declaration_follows (gives_item g.S.ErrorSink.gives g.S.TokenSink.gives_token) table start text (record { ch = c.args.ch; at = c.args.at }) names taken _ h c.args.bang c.args.so c.requires new begun
     (c.in-Bogus.ensures _ (record { ch = c.args.ch; at = c.args.at }) refl c.held_count.ensures (opened_by (gives_item g.S.ErrorSink.gives g.S.TokenSink.gives_token) table start text (record { ch = c.args.ch; at = c.args.at }) names taken _ h c.args.bang c.args.so c.requires)))
 

@@ -1,0 +1,124 @@
+-- Attributes whose names differ, and their names in ascending order.
+use Rattle.std.proofs.Common.{◌≡◌, ◌↔◌, ℕ, ◌+◌, ◌-◌, ◌<◌, ◌≤◌, Bool, true, false, not, eqb, nat_eq, List, [], ◌∷◌, ◌++◌, length, length-drop, map, get_or, refl, sym, ◌∙◌, ap, subst, arith, drop-cons, drop, take, add-one, Vec, Global}
+use Rattle.std.proofs.lemmas.Bool.{lt-ltb, ltb-true}
+use Rattle.std.proofs.lemmas.Bool.Decides.{Decides-eqb}
+use Rattle.std.proofs.lemmas.List.{take_all, drop_all, map-append, take-append-le}
+use Rattle.std.proofs.lemmas.List.Folds.{list_any-append}
+use Rattle.std.proofs.lemmas.List.Sorted.{IsPermutation-sym}
+use Rattle.std.proofs.lemmas.Map.Keys.{IsDistinct-IsPermutation, IsDistinct-cons, IsDistinct-head, IsDistinct-tail, IsDistinct-from_sorted, IsStrictlyIncreasing-from_distinct, sorted_from_strictly_increasing}
+use Rattle.std.specs.Cmp.{unsigned_tied}
+use Rattle.std.specs.List.{AllByRecursion, IsAllAdjacentAnswer, IsDistinct, list_any}
+use Rattle.std.specs.List.Sorted.{IsNonDecreasing, IsPermutation, IsStrictlyIncreasing}
+use Rattle.std.specs.Ordering.{nat_cmp}
+use Rattle.std.specs.Prelude.{◌&&◌, ◌||◌, ltb, IsTrue}
+use Rattle.names.specs.declared.attr.Attr.{Attr}
+use Rattle.hnodes.specs.Differing.{names_differ}
+use Rattle.hnodes.specs.Forest.{Attribute}
+use Rattle.hnodes.specs.Numbered.{AreNumbered, attributes_in, names_of, numbers_of}
+use Rattle.hnodes.specs.Rows.{attribute_of}
+use Rattle.hnodes.specs.declared.attributes.Indexed.TheInside.{Inside}
+use Rattle.hnodes.proofs.Indexed.{searched-is, within}
+
+flips : (x y : ℕ) → nat_eq x y ≡ nat_eq y x
+flips x y = go (nat_eq x y) (nat_eq y x) refl refl
+  where
+    go : (u v : Bool) → nat_eq x y ≡ u → nat_eq y x ≡ v → u ≡ v
+    go true true e f = refl
+    go false false e f = refl
+    go true false e f = sym ((Decides-eqb y x).1 (sym ((Decides-eqb x y).0 e))) ∙ f
+    go false true e f = sym e ∙ (Decides-eqb x y).1 (sym ((Decides-eqb y x).0 f))
+
+-- an attribute more at the end
+pub differ-last : (attrs : List (Attribute ℕ)) (a : Attribute ℕ) → names_differ nat_eq (attrs ++ a ∷ []) ≡ (names_differ nat_eq attrs && not (list_any (λ b. nat_eq b.0 a.0) attrs))
+differ-last [] a = refl
+differ-last (x ∷ xs) a =
+    (λ i. not ((list_any-append (λ b. nat_eq b.0 x.0) xs (a ∷ []) ∙ ap (λ v. list_any (λ b. nat_eq b.0 x.0) xs || (v || false)) (flips a.0 x.0)) i) && differ-last xs a i)
+    ∙ go (list_any (λ b. nat_eq b.0 x.0) xs) (names_differ nat_eq xs) (nat_eq x.0 a.0) (list_any (λ b. nat_eq b.0 a.0) xs)
+  where
+    go : (u d v w : Bool) → (not (u || (v || false)) && (d && not w)) ≡ ((not u && d) && not (v || w))
+    go true d v w = refl
+    go false true true w = refl
+    go false true false w = refl
+    go false false true w = refl
+    go false false false w = refl
+
+-- numbers that rise differ
+risen : (names : List ℕ) → IsStrictlyIncreasing names → IsDistinct eqb names
+risen names up = subst (λ (e : ℕ → ℕ → Bool). IsDistinct e names) (λ i x y. unsigned_tied x y i) (IsDistinct-from_sorted nat_cmp names (sorted_from_strictly_increasing names up))
+
+-- whether the name of an attribute is one of these
+abbrev among : (n : ℕ) (attrs : List Attr) → Bool
+among n attrs = list_any (λ b. nat_eq b.0 n) (map attribute_of attrs)
+
+others : (n : ℕ) (attrs : List Attr) → among n attrs ≡ false → AllByRecursion (λ m. eqb n m ≡ false) (names_of attrs)
+others n [] h = tt
+others n (a ∷ attrs) h = go (nat_eq a.name n) refl (others n attrs) h
+  where
+    go : (u : Bool) → nat_eq a.name n ≡ u → (among n attrs ≡ false → AllByRecursion (λ m. eqb n m ≡ false) (names_of attrs)) → (u || among n attrs) ≡ false
+        → AllByRecursion (λ m. eqb n m ≡ false) (names_of (a ∷ attrs))
+    go true e more h' = absurd (let no : true ≡ false = h' in cc)
+    go false e more h' = (flips n a.name ∙ e, more h')
+
+no-other : (n : ℕ) (attrs : List Attr) → AllByRecursion (λ m. eqb n m ≡ false) (names_of attrs) → among n attrs ≡ false
+no-other n [] h = refl
+no-other n (a ∷ attrs) h = (λ i. (flips a.name n ∙ h.0) i || among n attrs) ∙ no-other n attrs h.1
+
+distinct : (attrs : List Attr) → names_differ nat_eq (map attribute_of attrs) ≡ true → IsDistinct eqb (names_of attrs)
+distinct [] h = risen [] (λ k p. absurd (omega (arith, p)))
+distinct (a ∷ attrs) h = go (among a.name attrs) refl (distinct attrs) h
+  where
+    go : (u : Bool) → among a.name attrs ≡ u → (names_differ nat_eq (map attribute_of attrs) ≡ true → IsDistinct eqb (names_of attrs)) → (not u && names_differ nat_eq (map attribute_of attrs)) ≡ true
+        → IsDistinct eqb (names_of (a ∷ attrs))
+    go true e more h' = absurd (let no : false ≡ true = h' in cc)
+    go false e more h' = IsDistinct-cons eqb a.name (names_of attrs) (others a.name attrs e) (more h')
+
+differing : (attrs : List Attr) → IsDistinct eqb (names_of attrs) → names_differ nat_eq (map attribute_of attrs) ≡ true
+differing [] h = refl
+differing (a ∷ attrs) h = λ i. not (no-other a.name attrs (IsDistinct-head eqb a.name (names_of attrs) h) i) && differing attrs (IsDistinct-tail eqb a.name (names_of attrs) h) i
+
+-- whether each number is less than the next
+pub rising : (xs : List ℕ) (r : Bool) → IsAllAdjacentAnswer (λ x y b. b ≡ ltb x y) xs r → IsTrue r ↔ IsStrictlyIncreasing xs
+rising xs true h = ((λ _ k p. ltb-true (get_or xs k 0) (get_or xs (k + 1) 0) (sym (h k 0 p))), λ _. refl)
+rising xs false h = (
+  (λ (no : false ≡ true). absurd cc),
+  λ up. absurd (let yes : ltb (get_or xs h.0 0) (get_or xs (h.0 + 1) 0) ≡ true = lt-ltb _ _ (up h.0 h.1) in let both : false ≡ true = h.2 0 ∙ yes in cc),
+)
+
+-- names differ if they rise where they are in ascending order
+pub differ-is : (attrs : List Attr) (names : List ℕ) (r : Bool) → IsPermutation (names_of attrs) names → IsNonDecreasing names → IsTrue r ↔ IsStrictlyIncreasing names → r ≡ names_differ nat_eq (map attribute_of attrs)
+differ-is attrs names true p up h = sym (differing attrs (IsDistinct-IsPermutation eqb flips names (names_of attrs) (IsPermutation-sym _ _ p) (risen names (h.0 refl))))
+differ-is attrs names false p up h = go (names_differ nat_eq (map attribute_of attrs)) refl
+  where
+    go : (u : Bool) → names_differ nat_eq (map attribute_of attrs) ≡ u → false ≡ u
+    go false e = refl
+    go true e = h.1 (IsStrictlyIncreasing-from_distinct names up (IsDistinct-IsPermutation eqb flips (names_of attrs) names p (distinct attrs e)))
+
+-- those from one on
+abbrev pub differ_from : ℕ → List Attr → Bool
+differ_from i attrs = names_differ nat_eq (map attribute_of (drop i attrs))
+
+-- .. if this one's name is not among the others', and those differ
+differ-step : (attrs : List Attr) (i : ℕ) (x : Attr) → i < length attrs → x ≡ get_or attrs i x → differ_from i attrs ≡ (not (list_any (λ (a : Attr). nat_eq a.name x.name) (drop (i + 1) attrs)) && differ_from (i + 1) attrs)
+differ-step attrs i x h is =
+    ap (λ (l : List Attr). names_differ nat_eq (map attribute_of l)) (drop-cons attrs i x h ∙ (λ k. sym is k ∷ drop (sym (add-one i) k) attrs))
+    ∙ ap (λ u. not u && differ_from (i + 1) attrs) (sym (searched-is x.name (drop (i + 1) attrs)))
+
+-- one is tested, as a range of the others is lent
+pub differ-one : (attrs : List Attr) (i : ℕ) (x : Attr) (u : Bool) → i < length attrs → x ≡ get_or attrs i x → differ_from i attrs ≡ differ_from 0 attrs
+    → u ≡ list_any (λ (a : Attr). nat_eq a.name x.name) (take (length attrs - (i + 1)) (drop (i + 1) attrs)) → (not u && differ_from (i + 1) attrs) ≡ differ_from 0 attrs
+differ-one attrs i x u h is before test =
+    ap (λ v. not v && differ_from (i + 1) attrs)
+    (test ∙ ap (list_any (λ (a : Attr). nat_eq a.name x.name)) (take_all (length attrs - (i + 1)) (drop (i + 1) attrs) (omega (arith, length-drop (i + 1) attrs))))
+    ∙ sym (differ-step attrs i x h is) ∙ before
+
+pub none-left : (attrs : List Attr) (i : ℕ) → length attrs ≤ i → differ_from i attrs ≡ differ_from 0 attrs → true ≡ differ_from 0 attrs
+none-left attrs i h before = ap (λ (l : List Attr). names_differ nat_eq (map attribute_of l)) (sym (drop_all i attrs h)) ∙ before
+
+-- an attribute more, which the index does not have yet
+pub pushed : (x : Inside) (old : List (Attribute ℕ)) (new : Vec Attr Global) (a : Attr) (u : Bool) → AreNumbered x → attributes_in x ≡ old → new.items ≡ x.attrs.items ++ a ∷ []
+    → u ≡ (names_differ nat_eq old && not (list_any (λ b. nat_eq b.0 a.name) old)) → AreNumbered (record x { attrs = new; differ = u })
+pushed x old new a u h view is test = record {
+  first = h.first ∙ ap numbers_of (sym (take-append-le (length x.names) x.attrs.items (a ∷ []) (within x.names x.attrs.items h.first)) ∙ ap (take (length x.names)) (sym is));
+  differ = test ∙ sym (differ-last old (attribute_of a))
+      ∙ ap (names_differ nat_eq) (ap (λ l. l ++ attribute_of a ∷ []) (sym view) ∙ sym (map-append attribute_of x.attrs.items (a ∷ [])) ∙ ap (map attribute_of) (sym is));
+}

@@ -1,0 +1,6 @@
+use Rattle.std.proofs.Common.{◌≡◌, take}
+use Rattle.hnodes.specs.Numbered.{names_of}
+use Rattle.hnodes.proofs.attributes.ordered_names.Given as goal
+
+abbrev pub invariant-loop-attr : goal.invariant-loop-attr
+invariant-loop-attr l = l.names.items ≡ names_of (take l.attr-index l.attrs)

@@ -1,0 +1,358 @@
+-- How a front of bytes is read, and the bytes after it.
+use Rattle.std.proofs.Common.{◌≡◌, ℕ, ◌≤◌, ◌+◌, ◌-◌, Bool, true, false, List, [], ◌∷◌, ◌++◌, length, map, take, drop, sym, refl, ap, ◌∙◌, subst, arith, append_assoc, append-nil, None, Some, Result, Ok, Err}
+use Rattle.std.proofs.lemmas.List.{drop_at, take_at, take-append-le, drop-append-le, length-append, length-take-le, take-append-drop, length-drop, drop-drop, take_all}
+use Rattle.std.proofs.lemmas.Str.{IsUtf8-nil}
+use Rattle.std.specs.Str.{chars, IsUtf8}
+use Rattle.std.specs.Str.Lossy.{utf8_valid_len, utf8_error_len, utf8_invalid_len}
+use Rattle.names.specs.Placed.{placed}
+use Rattle.names.specs.Sink.{Hands}
+use Rattle.names.specs.declared.refusal.Refusal.{Refusal}
+use Rattle.htext.specs.declared.Bom.{Bom}
+use Rattle.htext.specs.declared.BadBytes.{BadBytes}
+use Rattle.htext.specs.declared.BadBytes.TheVariants.{Refuse, Replace}
+use Rattle.htext.specs.declared.reading.Next.{Next}
+use Rattle.htext.specs.declared.reading.Next.TheVariants.{Bad as NextBad, Waits, Refused}
+use Rattle.htext.specs.Next.{next_of}
+use Rattle.htext.specs.Text.{Policy, Read, Whole, Bad, reads, normalized, ends_in_return, text as text_of, valid_len, front_len, decoded, settled, refusal_of}
+use Rattle.htext.specs.Items.{CharItem, items}
+use Rattle.htext.specs.Decoding.{HasRead, IsReading, IsRefusedFrom, IsUndecided, HandsOn, Feeds, sink_refused, took_all, Stops, by_sink, by_bytes}
+use Rattle.htext.proofs.Valid.{take-take, valid_front, valid_len_le, valid_front_utf8, length-valid_front, valid_len-append}
+use Rattle.htext.proofs.Parts.{reads_at, reads_nil, reads_of_text, reads_after_bad}
+use Rattle.htext.proofs.Errors.{error_bounds, error_cut}
+use Rattle.htext.proofs.Fronts.{IsFront, front_more, front_is, front_past, front_le, reads_past, cut_none, text_more, part_more}
+use Rattle.htext.proofs.Texts.{normalized-append, ends_in_return-append, read_past}
+use Rattle.htext.proofs.Refusals.{accepted, replaced}
+use Rattle.htext.proofs.Handing.{HandsOn-append, HandsOn-goes_on}
+use Rattle.htext.proofs.Stopping.{WhatWaits, WhatIsBad, what_waits, what_is_bad, waits_unread, waits_undecided, refused_from, stuck_by}
+
+abbrev pub policy : Bom → BadBytes → ℕ → Policy
+policy bom bad limit = record { bom = bom; bad = bad; limit = limit }
+
+-- what was read of bytes is a front of them where more follow
+module _ (bom : Bom) (bad : BadBytes) (limit read : ℕ) (after_return : Bool) (fed piece : List ℕ) (h : HasRead (policy bom bad limit) read after_return fed) where
+  read_le : (read ≤ limit) × (read ≤ length fed)
+  read_le = (omega (arith, h.length_is, front_le false bad limit fed), omega (arith, h.length_is, front_le false bad limit fed))
+
+  front_of_fed : take read (fed ++ piece) ≡ take (front_len false bad limit fed) fed
+  front_of_fed = take-append-le read fed piece read_le.1 ∙ ap (λ (n : ℕ). take n fed) h.length_is
+
+  pub reading_on : IsReading (policy bom bad limit) read after_return (fed ++ piece)
+  reading_on =
+      let front : List ℕ = take read fed in
+      let len : length front ≡ read = length-take-le read fed read_le.1 in
+      let is_front : IsFront bad front (drop read fed ++ piece) =
+      front_more bad front (drop read fed) piece (subst (λ (n : ℕ). IsFront bad (take n fed) (drop n fed)) (sym h.length_is) (front_is bad limit fed)) in
+      let whole : fed ++ piece ≡ front ++ (drop read fed ++ piece) = ap (λ (x : List ℕ). x ++ piece) (sym (take-append-drop read fed)) ∙ append_assoc front (drop read fed) piece in
+      record {
+        within = read_le.0;
+        parts = ap (front_len false bad read) whole ∙ omega (arith, len, front_past false bad read front (drop read fed ++ piece) is_front (omega (arith, len)), front_le false bad (read - length front) (drop read fed ++ piece));
+        end_is = h.end_is ∙ ap (λ (x : List ℕ). ends_in_return false (reads x)) (sym front_of_fed);
+      }
+
+  pub text_on : text_of bom (take read (fed ++ piece)) ≡ settled (policy bom bad limit) fed
+  text_on = ap (text_of bom) front_of_fed
+
+  pub left_on : drop read (fed ++ piece) ≡ drop read fed ++ piece
+  left_on = drop-append-le read fed piece read_le.1
+
+-- `read` bytes have been read.
+module _ (bom : Bom) (bad : BadBytes) (limit read : ℕ) (after_return : Bool) (all : List ℕ) (h : IsReading (policy bom bad limit) read after_return all) where
+  pub le : read ≤ length all
+  le = omega (arith, h.parts, front_le false bad read all)
+
+  pub front_here : IsFront bad (take read all) (drop read all)
+  front_here = subst (λ (n : ℕ). IsFront bad (take n all) (drop n all)) h.parts (front_is bad read all)
+
+  pub len_front : length (take read all) ≡ read
+  len_front = length-take-le read all le
+
+  pub within_here : length (take read all) ≤ limit
+  within_here = omega (arith, len_front, h.within)
+
+  -- `piece` is read next, as `what`.
+  module _ (piece rest : List ℕ) (what : List Read) (left : drop read all ≡ piece ++ rest) (reads_as : reads_at read piece ≡ what) (both : IsFront bad (take read all ++ piece) rest) (fits : read + length piece ≤ limit) where
+    split : all ≡ (take read all ++ piece) ++ rest
+    split = sym (take-append-drop read all) ∙ ap (λ (x : List ℕ). take read all ++ x) left ∙ sym (append_assoc (take read all) piece rest)
+
+    len_both : length (take read all ++ piece) ≡ read + length piece
+    len_both = omega (arith, length-append (take read all) piece, len_front)
+
+    front_next : take (read + length piece) all ≡ take read all ++ piece
+    front_next = ap (take (read + length piece)) split ∙ take_at (take read all ++ piece) rest (read + length piece) len_both
+
+    rest_next : drop (read + length piece) all ≡ rest
+    rest_next = ap (drop (read + length piece)) split ∙ drop_at (take read all ++ piece) rest (read + length piece) len_both
+
+    reads_next : reads (take read all ++ piece) ≡ reads (take read all) ++ what
+    reads_next =
+        let front : List ℕ = take read all in
+        let cut : take (length piece) (drop read all) ≡ piece = ap (take (length piece)) left ∙ take_at piece rest (length piece) refl in
+        ap (λ (x : List ℕ). reads (front ++ x)) (sym cut) ∙ reads_past bad front (drop read all) (length piece) front_here
+        ∙ ap (λ (x : List ℕ). reads front ++ reads_at (length front) x) cut ∙ ap (λ (n : ℕ). reads front ++ reads_at n piece) len_front ∙ ap (λ (x : List Read). reads front ++ x) reads_as
+
+    text_next : text_of bom (take (read + length piece) all) ≡ text_of bom (take read all) ++ normalized bom after_return what
+    text_next =
+        ap (text_of bom) front_next ∙ ap (normalized bom false) reads_next ∙ normalized-append bom false (reads (take read all)) what
+        ∙ ap (λ (b : Bool). text_of bom (take read all) ++ normalized bom b what) (sym h.end_is)
+
+    reading_next : IsReading (policy bom bad limit) (read + length piece) (ends_in_return after_return what) all
+    reading_next =
+        let n : ℕ = read + length piece in
+        record {
+          within = fits;
+          parts = ap (front_len false bad n) split
+              ∙ omega (arith, len_both, front_past false bad n (take read all ++ piece) rest both (omega (arith, len_both)), front_le false bad (n - length (take read all ++ piece)) rest);
+          end_is = ap (λ (b : Bool). ends_in_return b what) h.end_is ∙ sym (ends_in_return-append false (reads (take read all)) what) ∙ ap (ends_in_return false) (sym reads_next)
+              ∙ ap (λ (x : List ℕ). ends_in_return false (reads x)) (sym front_next);
+        }
+
+  -- a text is read next
+  module _ (text : List ℕ) (is : text ≡ valid_front (limit - read) (drop read all)) where
+    text_utf8 : IsUtf8 text
+    text_utf8 = subst IsUtf8 (sym is) (valid_front_utf8 (limit - read) (drop read all))
+
+    text_len : length text ≡ valid_len (limit - read) (drop read all)
+    text_len = ap length is ∙ length-valid_front (limit - read) (drop read all)
+
+    text_rest : List ℕ
+    text_rest = drop (length text) (drop read all)
+
+    text_left : drop read all ≡ text ++ text_rest
+    unfolding text_rest
+    text_left =
+        let n : ℕ = valid_len (limit - read) (drop read all) in
+        sym (take-append-drop n (drop read all)) ∙ ap (λ (x : List ℕ). x ++ drop n (drop read all)) (sym is) ∙ ap (λ (n : ℕ). text ++ drop n (drop read all)) (sym text_len)
+
+    text_front : IsFront bad (take read all ++ text) text_rest
+    text_front = text_more bad (take read all) text text_rest (subst (IsFront bad (take read all)) text_left front_here) text_utf8
+
+    text_fits : read + length text ≤ limit
+    text_fits = omega (arith, h.within, text_len, valid_len_le (limit - read) (drop read all))
+
+    abbrev text_reads : List Read
+    text_reads = map Whole (placed read (chars text))
+
+    pub text_reading : IsReading (policy bom bad limit) (read + length text) (ends_in_return after_return (map Whole (placed read (chars text)))) all
+    text_reading = reading_next text text_rest _ text_left (reads_of_text read text text_utf8) text_front text_fits
+
+    pub text_text : text_of bom (take (read + length text) all) ≡ text_of bom (take read all) ++ normalized bom after_return (map Whole (placed read (chars text)))
+    text_text = text_next text text_rest _ text_left (reads_of_text read text text_utf8) text_front text_fits
+
+    pub text_after : drop (read + length text) all ≡ drop (length text) (drop read all)
+    unfolding text_rest
+    text_after = rest_next text (drop (length text) (drop read all)) _ text_left (reads_of_text read text text_utf8) text_front text_fits
+
+    pub text_stuck : valid_len (limit - (read + length text)) (drop (read + length text) all) ≡ 0
+    unfolding text_rest
+    text_stuck =
+        let rest : List ℕ = drop (length text) (drop read all) in
+        let room : limit - (read + length text) ≡ limit - read - length text = omega arith in
+        let some : valid_len (limit - read) (drop read all) ≡ length text + valid_len (limit - read - length text) rest =
+        ap (valid_len (limit - read)) text_left ∙ valid_len-append (limit - read) text rest text_utf8 (omega (arith, text_fits)) in
+        let none : valid_len (limit - read - length text) rest ≡ 0 = omega (arith, some, text_len) in
+        ap (λ (x : List ℕ). valid_len (limit - (read + length text)) x) text_after ∙ ap (λ (n : ℕ). valid_len n rest) room ∙ none
+
+  -- a bad part is replaced next
+  module _ (n : ℕ) (w : WhatIsBad bad (drop read all) (limit - read) n) where
+    part : List ℕ
+    part = take n (drop read all)
+
+    part_len : length part ≡ n
+    unfolding part
+    part_len = length-take-le n (drop read all) (error_bounds (drop read all) n w.is_bad).1
+
+    part_left : drop read all ≡ part ++ drop n (drop read all)
+    unfolding part
+    part_left = sym (take-append-drop n (drop read all))
+
+    part_none : utf8_valid_len (part ++ drop n (drop read all)) ≡ 0
+    part_none = ap utf8_valid_len (sym part_left) ∙ w.none
+
+    part_bad : utf8_error_len (part ++ drop n (drop read all)) ≡ Some (length part)
+    part_bad = ap utf8_error_len (sym part_left) ∙ w.is_bad ∙ ap Some (sym part_len)
+
+    part_reads : reads_at read part ≡ Bad read ∷ []
+    part_reads =
+        let rest : List ℕ = drop n (drop read all) in
+        let alone : part ++ [] ≡ part = append-nil part in
+        ap (reads_at read) (sym alone)
+        ∙ reads_after_bad read part [] (ap utf8_valid_len alone ∙ cut_none part rest part_none) (ap utf8_invalid_len alone ∙ error_cut part rest (length part) part_bad (omega arith))
+        (omega (arith, error_bounds (part ++ rest) (length part) part_bad))
+        ∙ ap (λ (x : List Read). Bad read ∷ x) (reads_nil (read + length part))
+
+    part_front : IsFront bad (take read all ++ part) (drop n (drop read all))
+    part_front = part_more bad (take read all) part (drop n (drop read all)) w.how (subst (IsFront bad (take read all)) part_left front_here) part_none part_bad
+
+    part_fits : read + length part ≤ limit
+    part_fits = omega (arith, h.within, part_len, w.fits)
+
+    pub bad_reading : IsReading (policy bom bad limit) (read + n) false all
+    bad_reading = subst (λ (k : ℕ). IsReading (policy bom bad limit) (read + k) false all) part_len (reading_next part _ _ part_left part_reads part_front part_fits)
+
+    pub bad_text : text_of bom (take (read + n) all) ≡ text_of bom (take read all) ++ Bad read ∷ []
+    bad_text = subst (λ (k : ℕ). text_of bom (take (read + k) all) ≡ text_of bom (take read all) ++ Bad read ∷ []) part_len (text_next part _ _ part_left part_reads part_front part_fits)
+
+  -- nothing more is read whatever follows
+  module _ (unread : front_len false bad (limit - read) (drop read all) ≡ 0) where
+    settled_is : front_len false bad limit all ≡ read
+    settled_is =
+        let front : List ℕ = take read all in
+        let none : front_len false bad (limit - length front) (drop read all) ≡ 0 = ap (λ (n : ℕ). front_len false bad (limit - n) (drop read all)) len_front ∙ unread in
+        ap (front_len false bad limit) (sym (take-append-drop read all)) ∙ omega (arith, front_past false bad limit front (drop read all) front_here within_here, none, len_front)
+
+    pub has_read : HasRead (policy bom bad limit) read after_return all
+    has_read = record { length_is = sym settled_is; end_is = h.end_is ∙ ap (λ (n : ℕ). ends_in_return false (reads (take n all))) (sym settled_is) }
+
+    pub settled_text : settled (policy bom bad limit) all ≡ text_of bom (take read all)
+    settled_text = ap (λ (n : ℕ). text_of bom (take n all)) settled_is
+
+  pub goes_on_here : (more : List ℕ) → (rest : List Read) × (decoded (policy bom bad limit) (all ++ more) ≡ text_of bom (take read all) ++ rest)
+  goes_on_here more =
+      let front : List ℕ = take read all in
+      let whole : all ++ more ≡ front ++ (drop read all ++ more) = ap (λ (x : List ℕ). x ++ more) (sym (take-append-drop read all)) ∙ append_assoc front (drop read all) more in
+      (_, ap (decoded (policy bom bad limit)) whole ∙ read_past true bom bad limit front (drop read all ++ more) (front_more bad front (drop read all) more front_here) within_here)
+
+  module _ (stuck : valid_len (limit - read) (drop read all) ≡ 0) where
+    stuck_here : valid_len (limit - length (take read all)) (drop read all) ≡ 0
+    stuck_here = ap (λ (n : ℕ). valid_len (limit - n) (drop read all)) len_front ∙ stuck
+
+    -- what is left waits
+    pub unread_here : WhatWaits bad (drop read all) (limit - read) → front_len false bad (limit - read) (drop read all) ≡ 0
+    unread_here w = waits_unread bad (drop read all) (limit - read) stuck w
+
+    pub undecided_here : WhatWaits bad (drop read all) (limit - read) → IsUndecided (policy bom bad limit) all
+    undecided_here w =
+        subst (IsUndecided (policy bom bad limit)) (take-append-drop read all)
+        (waits_undecided bom bad limit (take read all) (drop read all) front_here within_here stuck_here (subst (λ (n : ℕ). WhatWaits bad (drop read all) (limit - n)) (sym len_front) w))
+
+    -- what is left is refused
+    module _ (r : Refusal) (is : next_of bad (drop read all) (limit - read) read ≡ Refused r) where
+      next_here : next_of bad (drop read all) (limit - length (take read all)) (length (take read all)) ≡ Refused r
+      next_here = ap (λ (n : ℕ). next_of bad (drop read all) (limit - n) n) len_front ∙ is
+
+      pub refused_here : IsRefusedFrom (policy bom bad limit) all r
+      refused_here = subst (λ (x : List ℕ). IsRefusedFrom (policy bom bad limit) x r) (take-append-drop read all) (refused_from bom bad limit (take read all) (drop read all) front_here within_here stuck_here r next_here)
+
+      pub settled_here : settled (policy bom bad limit) all ≡ text_of bom (take read all)
+      settled_here =
+          let none : front_len false bad (limit - read) (drop read all) ≡ 0 = ap (front_len false bad (limit - read)) (sym (append-nil (drop read all))) ∙ stuck_by bad (drop read all) (limit - read) read stuck r is false [] in
+          settled_text none
+
+-- THE SINK
+
+module _ {S : Type 0} (gives : S → CharItem → Result (Unit {0}) Refusal → S → Type 0) where
+  -- it was handed what follows one text in another
+  pub handed_on : (before more after : List Read) (old : S) (answer : Result (Unit {0}) Refusal) (new : S) → after ≡ before ++ more → Hands gives old (items more) answer new → HandsOn gives before after old answer new
+  handed_on before more after old answer new is handed = (more, is, handed)
+
+  pub sink_stops : (how : Policy) (before text : List Read) (all : List ℕ) (old : S) (e : Refusal) (new : S) → ((more : List ℕ) → (rest : List Read) × (decoded how (all ++ more) ≡ text ++ rest)) → HandsOn gives before text old (Err e) new → Stops gives how before all old e new
+  sink_stops how before text all old e new on handed = by_sink (λ more. let k = on more in HandsOn-goes_on gives before text (decoded how (all ++ more)) k.0 old e new k.1 handed)
+
+-- NOTHING
+
+module _ (bom : Bom) (bad : BadBytes) (limit : ℕ) where
+  no_front : front_len false bad limit [] ≡ 0
+  no_front = omega (arith, front_le false bad limit [])
+
+  pub nothing_read : HasRead (policy bom bad limit) 0 false []
+  nothing_read = record {
+    length_is = sym no_front;
+    end_is = ap (ends_in_return false) (sym (reads_nil 0)) ∙ ap (λ (n : ℕ). ends_in_return false (reads (take n []))) (sym no_front);
+  }
+
+  pub nothing_settled : settled (policy bom bad limit) [] ≡ []
+  nothing_settled = ap (λ (n : ℕ). text_of bom (take n [])) no_front ∙ ap (normalized bom false) (reads_nil 0)
+
+pub nothing_decided : (bom : Bom) (bad : BadBytes) (limit : ℕ) → IsUndecided (policy bom bad limit) []
+nothing_decided bom Refuse limit refusal stays =
+    let none : refusal_of (policy bom Refuse limit) [] ≡ None = (accepted limit []).1 (IsUtf8-nil, omega arith) in
+    let some : refusal_of (policy bom Refuse limit) [] ≡ Some refusal = stays [] in
+    cc
+nothing_decided bom Replace limit refusal stays =
+    let none : refusal_of (policy bom Replace limit) [] ≡ None = (replaced bom limit []).1 (omega arith) in
+    let some : refusal_of (policy bom Replace limit) [] ≡ Some refusal = stays [] in
+    cc
+
+-- ONE TURN OF THE LOOP
+
+-- what is left of the bytes
+pub left_is : (count : ℕ) (bytes : List ℕ) → take (length bytes - count) (drop count bytes) ≡ drop count bytes
+left_is count bytes = take_all (length bytes - count) (drop count bytes) (omega (arith, length-drop count bytes))
+
+-- the valid front, as it is found in what fits
+pub text_is : (n count : ℕ) (bytes fit text : List ℕ) → fit ≡ take n (take (length bytes - count) (drop count bytes)) → text ≡ take (utf8_valid_len fit) fit → text ≡ valid_front n (drop count bytes)
+text_is n count bytes fit text e is =
+    let left : List ℕ = drop count bytes in
+    is ∙ ap (λ (x : List ℕ). take (utf8_valid_len x) x) (e ∙ ap (take n) (left_is count bytes)) ∙ take-take (valid_len n left) n left (valid_len_le n left).0
+
+pub text_short : (n count : ℕ) (bytes text : List ℕ) → text ≡ valid_front n (drop count bytes) → count ≤ length bytes → count + length text ≤ length bytes
+text_short n count bytes text is within = omega (arith, ap length is, length-valid_front n (drop count bytes), valid_len_le n (drop count bytes), length-drop count bytes)
+
+pub later : (i j n : ℕ) (xs ys : List ℕ) → drop i xs ≡ drop j ys → drop (i + n) xs ≡ drop (j + n) ys
+later i j n xs ys e = sym (drop-drop n i xs) ∙ ap (drop n) e ∙ drop-drop n j ys
+
+pub same_next : (result next : Next) (bad bad' : BadBytes) (count : ℕ) (bytes xs : List ℕ) (limit limit' read read' : ℕ) → result ≡ next_of bad (take (length bytes - count) (drop count bytes)) (limit - read) read → result ≡ next
+    → bad ≡ bad' → drop count bytes ≡ xs → limit ≡ limit' → read ≡ read' → next_of bad' xs (limit' - read') read' ≡ next
+same_next result next bad bad' count bytes xs limit limit' read read' is given a b c d =
+    sym (ap (λ (x : BadBytes). next_of x (take (length bytes - count) (drop count bytes)) (limit - read) read) a
+    ∙ ap (λ (x : List ℕ). next_of bad' x (limit - read) read) (left_is count bytes ∙ b)
+    ∙ ap (λ (x : ℕ). next_of bad' xs (x - read) read) c
+    ∙ ap (λ (x : ℕ). next_of bad' xs (limit' - x) x) d) ∙ sym is ∙ given
+
+module _ {S : Type 0} (gives : S → CharItem → Result (Unit {0}) Refusal → S → Type 0) (bom : Bom) (bad : BadBytes) (limit read : ℕ) (after_return : Bool) (all : List ℕ) (before : List Read) (old now : S)
+    (h : IsReading (policy bom bad limit) read after_return all) (so_far : HandsOn gives before (text_of bom (take read all)) old (Ok tt) now) (text : List ℕ) (is : text ≡ valid_front (limit - read) (drop read all)) (new : S) where
+  now_reading : IsReading (policy bom bad limit) (read + length text) (ends_in_return after_return (map Whole (placed read (chars text)))) all
+  now_reading = text_reading bom bad limit read after_return all h text is
+
+  text_handed : (answer : Result (Unit {0}) Refusal) → Hands gives now (items (normalized bom after_return (map Whole (placed read (chars text))))) answer new → HandsOn gives before (text_of bom (take (read + length text) all)) old answer new
+  text_handed answer handed =
+      HandsOn-append gives before (text_of bom (take read all)) _ old now answer new so_far (handed_on gives _ _ _ now answer new (text_text bom bad limit read after_return all h text is) handed)
+
+  pub text_stops : (e : Refusal) → Hands gives now (items (normalized bom after_return (map Whole (placed read (chars text))))) (Err e) new → Stops gives (policy bom bad limit) before all old e new
+  text_stops e handed = sink_stops gives (policy bom bad limit) before (text_of bom (take (read + length text) all)) all old e new (goes_on_here bom bad limit _ _ all now_reading) (text_handed (Err e) handed)
+
+  module _ (handed : Hands gives now (items (normalized bom after_return (map Whole (placed read (chars text))))) (Ok tt) new) where
+    now_stuck : valid_len (limit - (read + length text)) (drop (read + length text) all) ≡ 0
+    now_stuck = text_stuck bom bad limit read after_return all h text is
+
+    pub refused_stops : (r : Refusal) → next_of bad (drop (read + length text) all) (limit - (read + length text)) (read + length text) ≡ Refused r → Stops gives (policy bom bad limit) before all old r new
+    refused_stops r e =
+        by_bytes (subst (λ (x : List Read). HandsOn gives before x old (Ok tt) new) (sym (settled_here bom bad limit _ _ all now_reading now_stuck r e)) (text_handed (Ok tt) handed))
+        (refused_here bom bad limit _ _ all now_reading now_stuck r e)
+
+    pub waits_now : next_of bad (drop (read + length text) all) (limit - (read + length text)) (read + length text) ≡ Waits
+        → HandsOn gives before (settled (policy bom bad limit) all) old (Ok tt) new × HasRead (policy bom bad limit) (read + length text) (ends_in_return after_return (map Whole (placed read (chars text)))) all × IsUndecided (policy bom bad limit) all
+    waits_now e =
+        let w = what_waits bad _ _ _ e in
+        let unread = unread_here bom bad limit _ _ all now_reading now_stuck w in (
+          subst (λ (x : List Read). HandsOn gives before x old (Ok tt) new) (sym (settled_text bom bad limit _ _ all now_reading unread)) (text_handed (Ok tt) handed),
+          has_read bom bad limit _ _ all now_reading unread,
+          undecided_here bom bad limit _ _ all now_reading now_stuck w,
+        )
+
+    module _ (n : ℕ) (e : next_of bad (drop (read + length text) all) (limit - (read + length text)) (read + length text) ≡ NextBad n) (last : S) where
+      pub replaced_reading : IsReading (policy bom bad limit) (read + length text + n) false all
+      replaced_reading = bad_reading bom bad limit _ _ all now_reading n (what_is_bad bad _ _ _ n e)
+
+      pub replaced_handed : (answer : Result (Unit {0}) Refusal) → Hands gives new (items (Bad (read + length text) ∷ [])) answer last → HandsOn gives before (text_of bom (take (read + length text + n) all)) old answer last
+      replaced_handed answer handed_bad =
+          HandsOn-append gives before (text_of bom (take (read + length text) all)) _ old new answer last (text_handed (Ok tt) handed)
+          (handed_on gives _ _ _ new answer last (bad_text bom bad limit _ _ all now_reading n (what_is_bad bad _ _ _ n e)) handed_bad)
+
+      pub replaced_stops : (r : Refusal) → Hands gives new (items (Bad (read + length text) ∷ [])) (Err r) last → Stops gives (policy bom bad limit) before all old r last
+      replaced_stops r handed_bad =
+          sink_stops gives (policy bom bad limit) before (text_of bom (take (read + length text + n) all)) all old r last (goes_on_here bom bad limit _ _ all replaced_reading) (replaced_handed (Err r) handed_bad)
+
+-- ONE PIECE MORE
+
+module _ (bom : Bom) (bad : BadBytes) (limit read : ℕ) (after_return : Bool) (fed piece joined left : List ℕ) (h : HasRead (policy bom bad limit) read after_return fed) (l : left ≡ drop read fed) (j : joined ≡ left ++ piece) where
+  pub joined_is : joined ≡ drop read (fed ++ piece)
+  joined_is = j ∙ ap (λ (x : List ℕ). x ++ piece) l ∙ sym (left_on bom bad limit read after_return fed piece h)
+
+  module _ {S : Type 0} (gives : S → CharItem → Result (Unit {0}) Refusal → S → Type 0) (old new : S) where
+    pub piece_handed : (text : List Read) (answer : Result (Unit {0}) Refusal) → HandsOn gives (text_of bom (take read (fed ++ piece))) text old answer new → HandsOn gives (settled (policy bom bad limit) fed) text old answer new
+    piece_handed text answer handed = subst (λ (x : List Read). HandsOn gives x text old answer new) (text_on bom bad limit read after_return fed piece h) handed
+
+    pub piece_stops : (e : Refusal) → Stops gives (policy bom bad limit) (text_of bom (take read (fed ++ piece))) (fed ++ piece) old e new → Feeds gives (policy bom bad limit) fed piece old (Err e) new
+    piece_stops e (by_sink refused) = sink_refused e refl (λ more. piece_handed _ (Err e) (refused more))
+    piece_stops e (by_bytes handed refused) = took_all (piece_handed _ (Ok tt) handed) refused

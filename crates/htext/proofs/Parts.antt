@@ -1,0 +1,133 @@
+-- Characters and bad parts, one after another.
+use Rattle.std.proofs.Common.{◌≡◌, ℕ, zero, suc, ◌<◌, ◌≤◌, ◌+◌, ◌-◌, Bool, true, false, cond, eqb, List, [], ◌∷◌, ◌++◌, length, map, take, drop, sym, refl, ap, ◌∙◌, arith, inl, inr, append_assoc, append-nil}
+use Rattle.std.proofs.lemmas.Bool.Decides.{nat_tests}
+use Rattle.std.proofs.lemmas.Bool.{cases_eq}
+use Rattle.std.proofs.lemmas.List.{map-append, length-append, length-drop}
+use Rattle.std.proofs.Math.Seq.{take-append-add, drop-append-add}
+use Rattle.std.proofs.lemmas.Str.{chars-append, chars-nil, encodes-chars, length-encode, utf8_valid_len_le}
+use Rattle.std.specs.Str.{chars, IsUtf8, encode_utf8_all}
+use Rattle.std.specs.Str.Lossy.{utf8_valid_len, utf8_invalid_len}
+use Rattle.std.specs.Char.{encode_utf8, len_utf8}
+use Rattle.names.specs.Placed.{placed}
+use Rattle.names.specs.declared.placed.Placed.{Placed}
+use Rattle.htext.specs.Text.{Read, Whole, Bad, reads_within}
+use Rattle.htext.proofs.Valid.{utf8_valid_len-append}
+use Rattle.htext.proofs.Errors.{invalid_bounds}
+
+-- what stands in bytes, the first of which is at `at`
+abbrev pub reads_at : ℕ → List ℕ → List Read
+reads_at at bytes = reads_within (suc (length bytes)) at bytes
+
+-- .. after the first `n`, which are characters, where there are more
+abbrev tail_at : ℕ → ℕ → List ℕ → ℕ → List Read
+tail_at k at bytes n = cond (eqb n (length bytes)) [] (Bad (at + n) ∷ reads_within k (at + n + utf8_invalid_len (drop n bytes)) (drop (n + utf8_invalid_len (drop n bytes)) bytes))
+
+same_tail : (b : Bool) (xs ys : List Read) → (b ≡ false → xs ≡ ys) → cond b [] xs ≡ cond b [] ys
+same_tail true xs ys f = refl
+same_tail false xs ys f = f refl
+
+pub more_left : (n : ℕ) (bytes : List ℕ) → n ≤ length bytes → eqb n (length bytes) ≡ false → 0 < length (drop n bytes)
+more_left n bytes le e = let d : length (drop n bytes) ≡ length bytes - n = length-drop n bytes in grind (arith, nat_tests)
+
+less_left : (n : ℕ) (bytes : List ℕ) → n ≤ length bytes → eqb n (length bytes) ≡ false → length (drop (n + utf8_invalid_len (drop n bytes)) bytes) < length bytes
+less_left n bytes le e =
+    let some : 0 < length (drop n bytes) = more_left n bytes le e in
+    omega (arith, some, length-drop n bytes, invalid_bounds (drop n bytes) some, length-drop (n + utf8_invalid_len (drop n bytes)) bytes)
+
+-- what is left of the bytes after the first bad part, and where
+abbrev left : List ℕ → List ℕ
+left bytes = drop (utf8_valid_len bytes + utf8_invalid_len (drop (utf8_valid_len bytes) bytes)) bytes
+
+abbrev left_at : ℕ → List ℕ → ℕ
+left_at at bytes = at + utf8_valid_len bytes + utf8_invalid_len (drop (utf8_valid_len bytes) bytes)
+
+same_reads : (k l at : ℕ) (bytes : List ℕ) → (length (left bytes) < length bytes → reads_within k (left_at at bytes) (left bytes) ≡ reads_within l (left_at at bytes) (left bytes))
+    → reads_within (suc k) at bytes ≡ reads_within (suc l) at bytes
+unfolding reads_within
+same_reads k l at bytes same =
+    let n : ℕ = utf8_valid_len bytes in
+    ap (λ (x : List Read). map Whole (placed at (chars (take n bytes))) ++ x)
+    (same_tail (eqb n (length bytes)) _ _ (λ e. ap (λ (x : List Read). Bad (at + n) ∷ x) (same (less_left n bytes (utf8_valid_len_le bytes) e))))
+
+-- more bad parts may stand in bytes than do
+reads_fuel : (k l at : ℕ) (bytes : List ℕ) → length bytes ≤ k → length bytes ≤ l → reads_within (suc k) at bytes ≡ reads_within (suc l) at bytes
+reads_fuel zero l at bytes a b = same_reads zero l at bytes (λ less. absurd (omega (arith, less)))
+reads_fuel (suc k) zero at bytes a b = same_reads (suc k) zero at bytes (λ less. absurd (omega (arith, less)))
+reads_fuel (suc k) (suc l) at bytes a b = same_reads (suc k) (suc l) at bytes (λ less. reads_fuel k l (left_at at bytes) (left bytes) (omega (arith, less)) (omega (arith, less)))
+
+-- READING ON
+
+pub reads_nil : (at : ℕ) → reads_at at [] ≡ []
+unfolding utf8_valid_len reads_within
+reads_nil at = ap (λ (cs : List ℕ). map Whole (placed at cs) ++ []) chars-nil
+
+placed-append : (at : ℕ) (cs ds : List ℕ) → placed at (cs ++ ds) ≡ placed at cs ++ placed (at + length (encode_utf8_all cs)) ds
+placed-append at [] ds = ap (λ (x : ℕ). placed x ds) (omega arith)
+placed-append at (c ∷ cs) ds =
+    ap (λ (x : List Placed). record { ch = c; at = at } ∷ x)
+    (placed-append (at + len_utf8 c) cs ds ∙ ap (λ (x : ℕ). placed (at + len_utf8 c) cs ++ placed x ds) (omega (arith, length-append (encode_utf8 c) (encode_utf8_all cs), length-encode c)))
+
+same_sum : (a m n : ℕ) → eqb (a + m) (a + n) ≡ eqb m n
+same_sum a m n = elim (cases_eq m n) [
+  | inl is ↦
+      let s : eqb (a + m) (a + n) ≡ true = grind (arith, nat_tests) in
+      let t : eqb m n ≡ true = grind (arith, nat_tests) in
+      s ∙ sym t
+  | inr is_not ↦
+      let s : eqb (a + m) (a + n) ≡ false = grind (arith, nat_tests) in
+      let t : eqb m n ≡ false = grind (arith, nat_tests) in
+      s ∙ sym t
+]
+
+tail_past : (k at : ℕ) (xs ys : List ℕ) (n : ℕ) → n ≤ length ys → tail_at k at (xs ++ ys) (length xs + n) ≡ tail_at k (at + length xs) ys n
+tail_past k at xs ys n within =
+    let m : ℕ = utf8_invalid_len (drop n ys) in
+    let same : drop (length xs + n) (xs ++ ys) ≡ drop n ys = drop-append-add xs ys n in
+    let test : eqb (length xs + n) (length (xs ++ ys)) ≡ eqb n (length ys) = ap (eqb (length xs + n)) (length-append xs ys) ∙ same_sum (length xs) n (length ys) in
+    let after : drop (length xs + n + m) (xs ++ ys) ≡ drop (n + m) ys = ap (λ (x : ℕ). drop x (xs ++ ys)) (omega arith) ∙ drop-append-add xs ys (n + m) in
+    let place : at + (length xs + n) ≡ at + length xs + n = omega arith in
+    rw (same, test, after) (ap (λ (x : ℕ). cond (eqb n (length ys)) [] (Bad x ∷ reads_within k (x + m) (drop (n + m) ys))) place)
+
+reads_text : (k at : ℕ) (xs ys : List ℕ) → IsUtf8 xs → reads_within (suc k) at (xs ++ ys) ≡ map Whole (placed at (chars xs)) ++ reads_within (suc k) (at + length xs) ys
+unfolding reads_within
+reads_text k at xs ys u =
+    let n : ℕ = utf8_valid_len ys in
+    let t : List ℕ = take n ys in
+    let texts : map Whole (placed at (chars (xs ++ t))) ≡ map Whole (placed at (chars xs)) ++ map Whole (placed (at + length xs) (chars t)) =
+    ap (λ (x : List ℕ). map Whole (placed at x)) (chars-append xs t u) ∙ ap (map Whole) (placed-append at (chars xs) (chars t)) ∙ map-append Whole (placed at (chars xs)) _
+    ∙ ap (λ (x : List ℕ). map Whole (placed at (chars xs)) ++ map Whole (placed (at + length x) (chars t))) (encodes-chars xs u) in
+    ap (λ (x : ℕ). map Whole (placed at (chars (take x (xs ++ ys)))) ++ tail_at k at (xs ++ ys) x) (utf8_valid_len-append xs ys u)
+    ∙ ap (λ (x : List ℕ). map Whole (placed at (chars x)) ++ tail_at k at (xs ++ ys) (length xs + n)) (take-append-add xs ys n)
+    ∙ ap (λ (x : List Read). map Whole (placed at (chars (xs ++ t))) ++ x) (tail_past k at xs ys n (utf8_valid_len_le ys))
+    ∙ ap (λ (x : List Read). x ++ tail_at k (at + length xs) ys n) texts
+    ∙ append_assoc (map Whole (placed at (chars xs))) _ _
+
+-- characters, and what stands after them
+pub reads_after_text : (at : ℕ) (xs ys : List ℕ) → IsUtf8 xs → reads_at at (xs ++ ys) ≡ map Whole (placed at (chars xs)) ++ reads_at (at + length xs) ys
+reads_after_text at xs ys u =
+    reads_text (length (xs ++ ys)) at xs ys u
+    ∙ ap (λ (x : List Read). map Whole (placed at (chars xs)) ++ x) (reads_fuel (length (xs ++ ys)) (length ys) (at + length xs) ys (omega (arith, length-append xs ys)) (omega arith))
+
+pub reads_of_text : (at : ℕ) (xs : List ℕ) → IsUtf8 xs → reads_at at xs ≡ map Whole (placed at (chars xs))
+reads_of_text at xs u =
+    ap (reads_at at) (sym (append-nil xs)) ∙ reads_after_text at xs [] u ∙ ap (λ (x : List Read). map Whole (placed at (chars xs)) ++ x) (reads_nil (at + length xs)) ∙ append-nil _
+
+-- a bad part, and what stands after it
+reads_bad : (k at : ℕ) (part ys : List ℕ) → utf8_valid_len (part ++ ys) ≡ 0 → utf8_invalid_len (part ++ ys) ≡ length part → 0 < length part → reads_within (suc k) at (part ++ ys) ≡ Bad at ∷ reads_within k (at + length part) ys
+unfolding reads_within
+reads_bad k at part ys none bad some =
+    let test : eqb 0 (length (part ++ ys)) ≡ false = let l = length-append part ys in grind (arith, nat_tests) in
+    ap (λ (x : ℕ). map Whole (placed at (chars (take x (part ++ ys)))) ++ tail_at k at (part ++ ys) x) none
+    ∙ ap (λ (cs : List ℕ). map Whole (placed at cs) ++ tail_at k at (part ++ ys) 0) chars-nil
+    ∙ ap (λ (b : Bool). cond b [] (Bad (at + 0) ∷ reads_within k (at + 0 + utf8_invalid_len (part ++ ys)) (drop (0 + utf8_invalid_len (part ++ ys)) (part ++ ys)))) test
+    ∙ ap (λ (x : ℕ). Bad (at + 0) ∷ reads_within k (at + 0 + x) (drop (0 + x) (part ++ ys))) bad
+    ∙ ap (λ (x : ℕ). Bad x ∷ reads_within k (x + length part) (drop (0 + length part) (part ++ ys))) (omega arith)
+    ∙ ap (λ (x : List ℕ). Bad at ∷ reads_within k (at + length part) x) (ap (λ (x : ℕ). drop x (part ++ ys)) (omega arith) ∙ drop-append-add part ys 0)
+
+pub reads_after_bad : (at : ℕ) (part ys : List ℕ) → utf8_valid_len (part ++ ys) ≡ 0 → utf8_invalid_len (part ++ ys) ≡ length part → 0 < length part → reads_at at (part ++ ys) ≡ Bad at ∷ reads_at (at + length part) ys
+reads_after_bad at part ys none bad some =
+    let k : ℕ = length (part ++ ys) - 1 in
+    let e : length (part ++ ys) ≡ suc k = omega (arith, length-append part ys) in
+    reads_bad (length (part ++ ys)) at part ys none bad some
+    ∙ ap (λ (x : ℕ). Bad at ∷ reads_within x (at + length part) ys) e
+    ∙ ap (λ (x : List Read). Bad at ∷ x) (reads_fuel k (length ys) (at + length part) ys (omega (arith, length-append part ys)) (omega arith))

@@ -1,0 +1,186 @@
+-- What is left of bytes after a front, and doesn't fit or isn't settled.
+use Rattle.std.proofs.Common.{◌≡◌, ℕ, suc, ◌<◌, ◌≤◌, ◌+◌, ◌-◌, Bool, true, false, cond, List, [], ◌++◌, length, take, drop, sym, refl, ap, ◌∙◌, subst, arith, append_assoc, append-nil, Option, None, Some}
+use Rattle.std.specs.Prelude.{nat_lt, nat_le}
+use Rattle.std.proofs.lemmas.Bool.{lt-ltb}
+use Rattle.std.proofs.lemmas.Bool.Decides.{nat_tests}
+use Rattle.std.proofs.lemmas.List.{length-append, take-append-le, take_at}
+use Rattle.std.proofs.lemmas.Str.{utf8_valid_len_le}
+use Rattle.std.specs.Str.Lossy.{utf8_valid_len, utf8_error_len}
+use Rattle.names.specs.declared.refusal.Refusal.{Refusal}
+use Rattle.names.specs.declared.refusal.Refusal.TheVariants.{TooLarge}
+use Rattle.htext.specs.declared.Bom.{Bom}
+use Rattle.htext.specs.declared.BadBytes.{BadBytes}
+use Rattle.htext.specs.declared.BadBytes.TheVariants.{Refuse, Replace}
+use Rattle.htext.specs.declared.reading.Next.{Next}
+use Rattle.htext.specs.declared.reading.Next.TheVariants.{Bad, Waits, Refused}
+use Rattle.htext.specs.Next.{next_of}
+use Rattle.htext.specs.Text.{valid_len, bad_len, or_rest, after_part, fitting_within, front_len, refusal_of, StaysRefused, text as text_of}
+use Rattle.htext.specs.Decoding.{IsRefusedFrom, IsUndecided}
+use Rattle.htext.proofs.Valid.{going_on}
+use Rattle.htext.proofs.Errors.{error_bounds, error_more, error_open}
+use Rattle.htext.proofs.Beginnings.{some_left, none_after, under_limit}
+use Rattle.htext.proofs.Fronts.{IsFront, Parts-more, front_more, front_past, fit_after, undecided_bad}
+use Rattle.htext.proofs.Refusals.{replaced, replaced_past}
+use Rattle.htext.proofs.Deciding.{IsSettled, too_long, no_character, stays_refused, undecided, too_long_after, NextIs, a_character, none_can, a_part, a_long_part, not_yet, too_much, next_is}
+
+-- how long a bad part is at least
+rest_is : (b : Bool) (len m : ℕ) → cond b (Some len) None ≡ Some m → len ≡ m
+rest_is true len m h = cc
+rest_is false len m h = absurd cc
+
+long_by : (b e : Bool) (bs : List ℕ) (o : Option ℕ) (m n : ℕ) → utf8_error_len bs ≡ o → cond b None (or_rest e bs o) ≡ Some m → n ≤ length bs → ((k : ℕ) → utf8_error_len bs ≡ Some k → n ≤ k) → n ≤ m
+long_by true e bs o m n is h within part = absurd cc
+long_by false e bs (Some k) m n is h within part = let same : k ≡ m = cc in omega (arith, part k is)
+long_by false e bs None m n is h within part = omega (arith, rest_is _ (length bs) m h)
+
+part_long : (e : Bool) (bs : List ℕ) (m n : ℕ) → bad_len e bs ≡ Some m → n ≤ length bs → ((k : ℕ) → utf8_error_len bs ≡ Some k → n ≤ k) → n ≤ m
+part_long e bs m n h within part = long_by (nat_lt 0 (utf8_valid_len bs)) e bs (utf8_error_len bs) m n refl h within part
+
+-- nothing is read of what begins with no character and no bad part that fits
+none_fits : (o : Option ℕ) (room : ℕ) (f : ℕ → ℕ) → ((m : ℕ) → o ≡ Some m → room < m) → after_part o room f ≡ 0
+none_fits None room f long = refl
+none_fits (Some m) room f long =
+    let less : room < m = long m refl in
+    let test : nat_le m room ≡ false = grind (arith, nat_tests) in
+    ap (λ (b : Bool). cond b (m + f m) 0) test
+
+fit_stuck : (e : Bool) (k room : ℕ) (bytes : List ℕ) → valid_len room bytes ≡ 0 → ((m : ℕ) → bad_len e bytes ≡ Some m → room < m) → fitting_within e (suc k) room bytes ≡ 0
+unfolding fitting_within
+fit_stuck e k room bytes stuck long =
+    ap (λ (n : ℕ). n + fit_after e k room bytes n) stuck
+    ∙ ap (λ (n : ℕ). 0 + n) (none_fits (bad_len e bytes) (room - 0) (λ m. fitting_within e k (room - (0 + m)) (drop (0 + m) bytes)) (λ m h. omega (arith, long m h)))
+
+-- WHAT IS REFUSED
+
+module _ (bad : BadBytes) (rest : List ℕ) (room at : ℕ) (stuck : valid_len room rest ≡ 0) (r : Refusal) where
+  some_next : (next : Next) → NextIs bad rest room at next → next ≡ Refused r → 0 < length rest
+  some_next next (a_character begun is) e = omega (arith, utf8_valid_len_le rest)
+  some_next next (none_can k how none fault is) e = some_left rest k fault
+  some_next next (a_part k how none fault fits is) e = absurd cc
+  some_next next (a_long_part k how none fault long is) e = some_left rest k fault
+  some_next next (not_yet none open' fits is) e = absurd cc
+  some_next next (too_much how none open' long is) e = omega arith
+
+  valid_next : (next : Next) → NextIs bad rest room at next → next ≡ Refused r → (more : List ℕ) → valid_len room (rest ++ more) ≡ 0
+  valid_next next (a_character begun is) e more = too_long_after room rest more begun stuck
+  valid_next next (none_can k how none fault is) e more = under_limit room (rest ++ more) (none_after rest more k none fault)
+  valid_next next (a_part k how none fault fits is) e more = absurd cc
+  valid_next next (a_long_part k how none fault long is) e more = under_limit room (rest ++ more) (none_after rest more k none fault)
+  valid_next next (not_yet none open' fits is) e more = absurd cc
+  valid_next next (too_much how none open' long is) e more = ap utf8_valid_len (take-append-le room rest more (omega arith)) ∙ stuck
+
+  part_next : (next : Next) → NextIs bad rest room at next → next ≡ Refused r → bad ≡ Replace → (e : Bool) (more : List ℕ) (m : ℕ) → bad_len e (rest ++ more) ≡ Some m → room < m
+  part_next next (a_character begun is) e how b more m h =
+      let some : 0 < utf8_valid_len (rest ++ more) = going_on rest more begun in
+      let g = rw (lt-ltb 0 (utf8_valid_len (rest ++ more)) some) at h in absurd cc
+  part_next next (none_can k how' none fault is) e how b more m h = absurd cc
+  part_next next (a_part k how' none fault fits is) e how b more m h = absurd cc
+  part_next next (a_long_part k how' none fault long is) e how b more m h =
+      let on : utf8_error_len (rest ++ more) ≡ Some k = error_more rest more k fault in
+      omega (arith, long, part_long b (rest ++ more) m k h (omega (arith, error_bounds (rest ++ more) k on)) (λ j g. let same : j ≡ k = cc in omega arith))
+  part_next next (not_yet none open' fits is) e how b more m h = absurd cc
+  part_next next (too_much how' none open' long is) e how b more m h =
+      omega (arith, long, part_long b (rest ++ more) m (length rest) h (omega (arith, length-append rest more)) (λ j g. error_open rest more j open' g))
+
+pub stuck_by : (bad : BadBytes) (rest : List ℕ) (room at : ℕ) → valid_len room rest ≡ 0 → (r : Refusal) → next_of bad rest room at ≡ Refused r → (e : Bool) (more : List ℕ) → front_len e bad room (rest ++ more) ≡ 0
+stuck_by Refuse rest room at stuck r is e more = valid_next Refuse rest room at stuck r _ (next_is Refuse rest room at) is more
+stuck_by Replace rest room at stuck r is e more =
+    fit_stuck e (length (rest ++ more)) room (rest ++ more) (valid_next Replace rest room at stuck r _ (next_is Replace rest room at) is more)
+    (part_next Replace rest room at stuck r _ (next_is Replace rest room at) is refl e more)
+
+settled_next : (rest : List ℕ) (room at : ℕ) (r : Refusal) (next : Next) → NextIs Refuse rest room at next → next ≡ Refused r → IsSettled rest at r
+settled_next rest room at r next (a_character begun is) e = too_long begun cc
+settled_next rest room at r next (none_can k how none fault is) e = no_character k none fault cc
+settled_next rest room at r next (a_part k how none fault fits is) e = absurd cc
+settled_next rest room at r next (a_long_part k how none fault long is) e = absurd cc
+settled_next rest room at r next (not_yet none open' fits is) e = absurd cc
+settled_next rest room at r next (too_much how none open' long is) e = absurd cc
+
+too_large_next : (rest : List ℕ) (room at : ℕ) (r : Refusal) (next : Next) → NextIs Replace rest room at next → next ≡ Refused r → r ≡ TooLarge at
+too_large_next rest room at r next (a_character begun is) e = cc
+too_large_next rest room at r next (none_can k how none fault is) e = absurd cc
+too_large_next rest room at r next (a_part k how none fault fits is) e = absurd cc
+too_large_next rest room at r next (a_long_part k how none fault long is) e = cc
+too_large_next rest room at r next (not_yet none open' fits is) e = absurd cc
+too_large_next rest room at r next (too_much how none open' long is) e = cc
+
+pub refused_by : (bom : Bom) (bad : BadBytes) (limit : ℕ) (front rest : List ℕ) → IsFront bad front rest → length front ≤ limit → valid_len (limit - length front) rest ≡ 0 → (r : Refusal) → next_of bad rest (limit - length front) (length front) ≡ Refused r
+    → StaysRefused (record { bom = bom; bad = bad; limit = limit }) (front ++ rest) r
+refused_by bom Refuse limit front rest u within stuck r is more =
+    stays_refused limit front rest u within stuck r (settled_next rest (limit - length front) (length front) r _ (next_is Refuse rest (limit - length front) (length front)) is) more
+refused_by bom Replace limit front rest p within stuck r is more =
+    let next = next_is Replace rest (limit - length front) (length front) in
+    ap (refusal_of (record { bom = bom; bad = Replace; limit = limit })) (append_assoc front rest more)
+    ∙ replaced_past bom limit front (rest ++ more) (Parts-more front rest more p) within (stuck_by Replace rest (limit - length front) (length front) stuck r is true more)
+    (omega (arith, length-append rest more, some_next Replace rest (limit - length front) (length front) stuck r _ next is))
+    ∙ ap Some (sym (too_large_next rest (limit - length front) (length front) r _ next is))
+
+-- no more of the bytes is read then
+pub only_front : (e : Bool) (bad : BadBytes) (limit : ℕ) (front rest : List ℕ) → IsFront bad front rest → length front ≤ limit → front_len e bad (limit - length front) rest ≡ 0 → take (front_len e bad limit (front ++ rest)) (front ++ rest) ≡ front
+only_front e bad limit front rest h within stuck =
+    let len : length front ≡ front_len e bad limit (front ++ rest) = omega (arith, front_past e bad limit front rest h within, stuck) in
+    take_at front rest (front_len e bad limit (front ++ rest)) len
+
+pub refused_from : (bom : Bom) (bad : BadBytes) (limit : ℕ) (front rest : List ℕ) → IsFront bad front rest → length front ≤ limit → valid_len (limit - length front) rest ≡ 0 → (r : Refusal) → next_of bad rest (limit - length front) (length front) ≡ Refused r
+    → IsRefusedFrom (record { bom = bom; bad = bad; limit = limit }) (front ++ rest) r
+refused_from bom bad limit front rest h within stuck r is more =
+    let none : (e : Bool) (xs : List ℕ) → front_len e bad (limit - length front) (rest ++ xs) ≡ 0 = stuck_by bad rest (limit - length front) (length front) stuck r is in
+    let now : front_len false bad (limit - length front) rest ≡ 0 = ap (front_len false bad (limit - length front)) (sym (append-nil rest)) ∙ none false [] in (
+      refused_by bom bad limit front rest h within stuck r is more,
+      ap (λ (x : List ℕ). text_of bom (take (front_len true bad limit x) x)) (append_assoc front rest more)
+          ∙ ap (text_of bom) (only_front true bad limit front (rest ++ more) (front_more bad front rest more h) within (none true more) ∙ sym (only_front false bad limit front rest h within now)),
+    )
+
+-- WHAT WAITS, AND WHAT IS REPLACED
+
+pub record WhatWaits (bad : BadBytes) (rest : List ℕ) (room : ℕ) : Type 0 where
+  pub none : utf8_valid_len rest ≡ 0
+  pub is_open : utf8_error_len rest ≡ None
+  pub fits : bad ≡ Replace → length rest ≤ room
+
+pub record WhatIsBad (bad : BadBytes) (rest : List ℕ) (room n : ℕ) : Type 0 where
+  pub how : bad ≡ Replace
+  pub none : utf8_valid_len rest ≡ 0
+  pub is_bad : utf8_error_len rest ≡ Some n
+  pub fits : n ≤ room
+
+waits_by : (bad : BadBytes) (rest : List ℕ) (room at : ℕ) (next : Next) → NextIs bad rest room at next → next ≡ Waits → WhatWaits bad rest room
+waits_by bad rest room at next (a_character begun is) e = absurd cc
+waits_by bad rest room at next (none_can k how none fault is) e = absurd cc
+waits_by bad rest room at next (a_part k how none fault fits is) e = absurd cc
+waits_by bad rest room at next (a_long_part k how none fault long is) e = absurd cc
+waits_by bad rest room at next (not_yet none open' fits is) e = record { none = none; is_open = open'; fits = fits }
+waits_by bad rest room at next (too_much how none open' long is) e = absurd cc
+
+pub what_waits : (bad : BadBytes) (rest : List ℕ) (room at : ℕ) → next_of bad rest room at ≡ Waits → WhatWaits bad rest room
+what_waits bad rest room at e = waits_by bad rest room at _ (next_is bad rest room at) e
+
+bad_by : (bad : BadBytes) (rest : List ℕ) (room at n : ℕ) (next : Next) → NextIs bad rest room at next → next ≡ Bad n → WhatIsBad bad rest room n
+bad_by bad rest room at n next (a_character begun is) e = absurd cc
+bad_by bad rest room at n next (none_can k how none fault is) e = absurd cc
+bad_by bad rest room at n next (a_part k how none fault fits is) e =
+    let same : k ≡ n = cc in
+    subst (WhatIsBad bad rest room) same (record { how = how; none = none; is_bad = fault; fits = fits })
+bad_by bad rest room at n next (a_long_part k how none fault long is) e = absurd cc
+bad_by bad rest room at n next (not_yet none open' fits is) e = absurd cc
+bad_by bad rest room at n next (too_much how none open' long is) e = absurd cc
+
+pub what_is_bad : (bad : BadBytes) (rest : List ℕ) (room at n : ℕ) → next_of bad rest room at ≡ Bad n → WhatIsBad bad rest room n
+what_is_bad bad rest room at n e = bad_by bad rest room at n _ (next_is bad rest room at) e
+
+-- nothing is read of what waits
+pub waits_unread : (bad : BadBytes) (rest : List ℕ) (room : ℕ) → valid_len room rest ≡ 0 → WhatWaits bad rest room → front_len false bad room rest ≡ 0
+waits_unread Refuse rest room stuck w = stuck
+waits_unread Replace rest room stuck w = fit_stuck false (length rest) room rest stuck
+    (λ m h. let bad = undecided_bad (nat_lt 0 (utf8_valid_len rest)) rest (utf8_error_len rest) m refl refl h in
+    let is = bad.1 in let open' = w.is_open in absurd cc)
+
+-- and nothing is refused yet whatever follows
+pub waits_undecided : (bom : Bom) (bad : BadBytes) (limit : ℕ) (front rest : List ℕ) → IsFront bad front rest → length front ≤ limit → valid_len (limit - length front) rest ≡ 0 → WhatWaits bad rest (limit - length front)
+    → IsUndecided (record { bom = bom; bad = bad; limit = limit }) (front ++ rest)
+waits_undecided bom Refuse limit front rest u within stuck w refusal stays = undecided limit front rest u within stuck w.none w.is_open refusal stays
+waits_undecided bom Replace limit front rest p within stuck w refusal stays =
+    let whole : length ((front ++ rest) ++ []) ≡ length front + length rest = ap length (append-nil (front ++ rest)) ∙ length-append front rest in
+    let none : refusal_of (record { bom = bom; bad = Replace; limit = limit }) ((front ++ rest) ++ []) ≡ None = (replaced bom limit ((front ++ rest) ++ [])).1 (omega (arith, w.fits refl)) in
+    let some : refusal_of (record { bom = bom; bad = Replace; limit = limit }) ((front ++ rest) ++ []) ≡ Some refusal = stays [] in
+    cc

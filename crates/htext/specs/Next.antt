@@ -1,0 +1,20 @@
+-- What stands at the front of bytes that begin with no character that fits.
+use Rattle.std.specs.Prelude.{ℕ, nat_lt, if◌then◌else◌, List, length, Option, Some, None}
+use Rattle.std.specs.Str.Lossy.{utf8_valid_len, utf8_error_len}
+use Rattle.names.specs.declared.refusal.Refusal.TheVariants.{NotUtf8, TooLarge}
+use Rattle.htext.specs.declared.BadBytes.{BadBytes}
+use Rattle.htext.specs.declared.BadBytes.TheVariants.{Refuse, Replace}
+use Rattle.htext.specs.declared.reading.Next.{Next}
+use Rattle.htext.specs.declared.reading.Next.TheVariants.{Bad, Waits, Refused}
+
+-- .. where there are `len` bytes, which begin with no character: with a bad part of that length, or with none that is settled
+abbrev pub next_part : BadBytes → Option ℕ → ℕ → ℕ → ℕ → Next
+next_part Refuse (Some n) len room at = Refused (NotUtf8 at)
+next_part Refuse None len room at = Waits
+next_part Replace (Some n) len room at = if nat_lt room n then Refused (TooLarge at) else Bad n
+next_part Replace None len room at = if nat_lt room len then Refused (TooLarge at) else Waits
+
+abbrev pub next_of : BadBytes → List ℕ → ℕ → ℕ → Next
+next_of bad rest room at =
+    if nat_lt 0 (utf8_valid_len rest) then Refused (TooLarge at)
+    else next_part bad (utf8_error_len rest) (length rest) room at

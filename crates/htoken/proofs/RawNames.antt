@@ -1,0 +1,81 @@
+-- The names of raw texts are letters: wherever raw text stands after a start tag, its name says the kind.
+use Rattle.std.proofs.Common.{◌≡◌, ℕ, zero, suc, Bool, true, false, not, cond, ◌||◌, List, [], ◌∷◌, length, sym, refl, ap, ◌∙◌, subst, Some, arith}
+use Rattle.std.proofs.lemmas.Bool.Decides.{nat_tests}
+use Rattle.names.proofs.TableLemmas.{bytes_eq-true}
+use Rattle.std.specs.Prelude.{slice_get, bytes_eq}
+use Rattle.std.specs.Char.{to_ascii_lowercase}
+use Rattle.std.specs.List.{list_all}
+use Rattle.names.specs.declared.placed.Placed.{Placed}
+use Rattle.names.specs.declared.raw.RawKind.{RawKind}
+use Rattle.names.specs.declared.tag.Tag.{Tag}
+use Rattle.names.specs.Placed.{lowered, is_letter}
+use Rattle.names.specs.Sets.{raw_kind}
+use Rattle.names.specs.Tags.{tag_text, tags, tag_among}
+use Rattle.hmarkup.proofs.Marks.{and_parts}
+use Rattle.htoken.specs.Token.{Tok, Span, Start, End, Char, Comment, Doctype, Eof}
+use Rattle.htoken.specs.Standing.{Standing, at_start, after_tokens, next, standing_after}
+use Rattle.htoken.specs.Raw.{is_raw}
+
+abbrev pub is_word : List ℕ → Bool
+is_word [] = false
+is_word (c ∷ cs) = list_all is_letter (c ∷ cs)
+
+abbrev fits : Tag → Bool
+fits t = not (is_raw (raw_kind t)) || is_word (tag_text t)
+
+all_fit : list_all fits tags ≡ true
+all_fit = refl
+
+fits_word : (raw word : Bool) → (not raw || word) ≡ true → raw ≡ true → word ≡ true
+fits_word true word h e = h
+fits_word false word h e = absurd cc
+
+word_among : (ts : List Tag) (text : List ℕ) → list_all fits ts ≡ true → is_raw (raw_kind (tag_among ts text)) ≡ true → is_word text ≡ true
+word_among [] text h raw = absurd cc
+word_among (t ∷ ts) text h raw = by (bytes_eq (tag_text t) text) refl raw (word_among ts text parts.1) where
+  parts : (fits t ≡ true) × (list_all fits ts ≡ true)
+  parts = and_parts (fits t) (list_all fits ts) h
+
+  by : (b : Bool) → bytes_eq (tag_text t) text ≡ b → is_raw (raw_kind (cond b t (tag_among ts text))) ≡ true → (is_raw (raw_kind (tag_among ts text)) ≡ true → is_word text ≡ true) → is_word text ≡ true
+  by true same e others = ap is_word (sym (bytes_eq-true (tag_text t) text same)) ∙ fits_word (is_raw (raw_kind t)) (is_word (tag_text t)) parts.0 e
+  by false same e others = others e
+
+-- where raw text stands after a start tag, its name is a word
+abbrev HasWord : Standing → Type 0
+HasWord here = (name : List ℕ) → here.name ≡ Some name → is_raw here.kind ≡ true → is_word name ≡ true
+
+after_word : (here : Standing) (text : List Placed) (tokens : List Tok) → HasWord here → HasWord (after_tokens here text tokens)
+after_word here text [] h name e raw = absurd cc
+after_word here text (Start written attrs closing at ∷ others) h name e raw = let same : written ≡ name = cc in ap is_word (sym same) ∙ word_among tags written all_fit raw
+after_word here text (Char ch at ∷ others) h name e raw = h name e raw
+after_word here text (End written at ∷ others) h name e raw = absurd cc
+after_word here text (Comment text' at ∷ others) h name e raw = absurd cc
+after_word here text (Doctype name' public system forced at ∷ others) h name e raw = absurd cc
+after_word here text (Eof at ∷ others) h name e raw = absurd cc
+
+spans_word : (here : Standing) (spans : List Span) → HasWord here → HasWord (standing_after here spans)
+spans_word here [] h = h
+spans_word here (span ∷ spans) h = spans_word (next here span) spans (after_word here span.text span.tokens h)
+
+pub raw_word : (start : RawKind) (spans : List Span) (here : Standing) (name : List ℕ) → standing_after (at_start start) spans ≡ here → here.name ≡ Some name → is_raw here.kind ≡ true → is_word name ≡ true
+raw_word start spans here name leads e raw = subst HasWord leads (spans_word (at_start start) spans (λ name none raw. absurd cc)) name e raw
+
+-- a word has a character, and each of its bytes is a letter in any case
+letter_at : (text : List ℕ) (n c : ℕ) → list_all is_letter text ≡ true → slice_get text n ≡ Some c → is_letter c ≡ true
+letter_at [] n c h e = absurd cc
+letter_at (x ∷ xs) zero c h e = let same : x ≡ c = cc in ap is_letter (sym same) ∙ (and_parts (is_letter x) (list_all is_letter xs) h).0
+letter_at (x ∷ xs) (suc n) c h e = letter_at xs n c (and_parts (is_letter x) (list_all is_letter xs) h).1 e
+
+letter_lowered : (c : ℕ) → is_letter (to_ascii_lowercase c) ≡ true → is_letter c ≡ true
+letter_lowered c h = grind (arith, nat_tests)
+
+letters_of : (word : List ℕ) → is_word word ≡ true → list_all is_letter word ≡ true
+letters_of [] h = absurd cc
+letters_of (c ∷ cs) h = h
+
+pub word_letter : (word : List ℕ) (n c ch : ℕ) → is_word word ≡ true → slice_get word n ≡ Some c → to_ascii_lowercase ch ≡ c → is_letter ch ≡ true
+word_letter word n c ch h e is = letter_lowered ch (ap is_letter is ∙ letter_at word n c (letters_of word h) e)
+
+pub some_held : (ls : List Placed) → is_word (lowered ls) ≡ true → length ls ≡ 0 → ⊥
+some_held [] h e = absurd cc
+some_held (l ∷ ls) h e = absurd cc

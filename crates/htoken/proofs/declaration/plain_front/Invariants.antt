@@ -1,0 +1,7 @@
+use Rattle.std.proofs.Common.{◌≡◌, true, take}
+use Rattle.names.specs.Placed.{all}
+use Rattle.hmarkup.specs.Comment.{is_plain_in_bogus}
+use Rattle.htoken.proofs.declaration.plain_front.Given as goal
+
+abbrev pub invariant-loop-index : goal.invariant-loop-index
+invariant-loop-index l = all is_plain_in_bogus (take l.index l.text) ≡ true
