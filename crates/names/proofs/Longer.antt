@@ -6,7 +6,7 @@ use Rattle.std.proofs.lemmas.Bool.{cases_lt}
 use Rattle.names.specs.Names.{Texts, text_of, AreDistinct, AreNames}
 use Rattle.names.specs.Tags.{known}
 use Rattle.names.specs.Spelling.{total, spelling}
-use Rattle.names.proofs.AllTexts.{beyond, length-text_of, spelled_within, spelled_beyond}
+use Rattle.names.proofs.AllTexts.{length-text_of, spelled_within, spelled_beyond}
 
 text_of-first : (names : Texts) (x : List ℕ) (id : ℕ) → id < length names → text_of (names ++ x ∷ []) id ≡ text_of names id
 text_of-first [] x id within = absurd (omega (arith, within))

@@ -1,6 +1,6 @@
 //! Names as numbers.
 
-ghost use Rattle.std.specs.Prelude.{◌≡◌, ◌≢◌, ℕ, ◌<◌, List, [], ◌∷◌, ◌++◌, IfOk, OnErr, bytes_eq, length, map, slice_get, Some, true, false};
+ghost use Rattle.std.specs.Prelude.{◌≡◌, ◌≢◌, ℕ, ◌<◌, List, [], ◌∷◌, ◌++◌, IfOk, IfSome, OnErr, bytes_eq, length, map, slice_get, Some, true, false};
 ghost use Rattle.std.specs.List.{list_any};
 ghost use Rattle.names.specs.Names.{Texts, IsOf, Grows, interned, AreNames};
 ghost use Rattle.names.specs.Table.{are_new, HoldsTexts};
@@ -96,10 +96,28 @@ fn tag_texts(alloc: Global, keys: Keys, tags: &[Tag]) -> Result<IndexSet<String,
     Ok(texts)
 }
 
+/// How many slots there are for the numbers that were found last.
+const SLOTS: usize = 64;
+
+/// The slot of a text: by its ends and its length, so that the few names of which most pages consist seldom share one.
+fn slot_of(text: &str) -> usize
+    ensures { result < SLOTS }
+{
+    let bytes = text.as_bytes();
+    match (bytes.first(), bytes.last()) {
+        (Some(first), Some(last)) => {
+            (usize::from(*first) * 5 + usize::from(*last) * 11 + bytes.len() % SLOTS) % SLOTS
+        }
+        _ => 0,
+    }
+}
+
 /// A table of names: texts in the order in which they were added, the known names first.
 #[derive(Drop)]
 pub struct Names {
     texts: IndexSet<String, Keys>,
+    /// In each slot the number that was found last for a text of it; such a text is found again without a hash.
+    recent: [u32; SLOTS],
 }
 
 impl Model for Names {
@@ -132,11 +150,45 @@ impl Names {
     {
         let mut texts = tag_texts(alloc, keys, &TAGS)?;
         put_last(&mut texts, alloc, TYPE)?;
-        Ok(Names { texts })
+        Ok(Names {
+            texts,
+            recent: [0; SLOTS],
+        })
     }
 
     /// The number of a text. A new text is added to the table, which has room for 2³² texts; beyond that it is out of memory.
     pub fn intern(&mut self, alloc: Global, text: &str) -> Result<NameId, AllocError>
+        ensures number { IfOk result (λ id. slice_get self.new id ≡ Some text.now) }
+        ensures tag { IfOk result (λ id. tag_of id ≡ tag_named text.now) }
+        ensures grows { Grows self.old self.new }
+        ensures added { IfOk result (λ id. self.new ≡ interned text.now id self.old) }
+        ensures names { AreNames self.new }
+        ensures unchanged { OnErr result (self.new ≡ self.old) }
+    {
+        if let Some(id) = self.recent(text) {
+            return Ok(id);
+        }
+        let id = self.look_up(alloc, text)?;
+        self.recent[slot_of(text)] = id.index;
+        Ok(id)
+    }
+
+    /// The number that its slot has for a text, if it is the text's.
+    fn recent(&self, text: &str) -> Option<NameId>
+        ensures found { IfSome result (λ id. slice_get self.now id ≡ Some text.now) }
+        ensures names { AreNames self.now }
+    {
+        let index = self.recent[slot_of(text)];
+        let found = self.texts.get_index(index as usize)?;
+        if found.as_str() == text {
+            Some(NameId { index })
+        } else {
+            None
+        }
+    }
+
+    /// The number of a text by its hash.
+    fn look_up(&mut self, alloc: Global, text: &str) -> Result<NameId, AllocError>
         ensures number { IfOk result (λ id. slice_get self.new id ≡ Some text.now) }
         ensures tag { IfOk result (λ id. tag_of id ≡ tag_named text.now) }
         ensures grows { Grows self.old self.new }
