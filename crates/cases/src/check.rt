@@ -1,6 +1,6 @@
 //! What is made of a case's input, however it is cut.
 
-ghost use Rattle.std.specs.Prelude.{◌<◌, ◌≤◌};
+ghost use Rattle.std.specs.Prelude.{◌<◌};
 
 use crate::case::Case;
 use anyhow::{Result, bail};
@@ -35,7 +35,6 @@ pub fn check(alloc: Global, case: &Case) -> Result<bool> {
         table: &table,
         quirks: &quirks,
         bad_bytes: said.bad_bytes,
-        input_limit: case.told.limit.unwrap_or(MAX_INPUT).min(MAX_INPUT),
         limits,
         keys: Keys::fixed(),
     };
@@ -49,7 +48,6 @@ pub fn check(alloc: Global, case: &Case) -> Result<bool> {
 
 /// Whether the input comes to it in pieces of each size.
 fn comes_in_pieces(alloc: Global, case: &Case, command: Command, options: &Options) -> Result<bool>
-    requires limit { options.now.input_limit ≤ MAX_INPUT }
 {
     for piece in PIECES {
         let command = Command { piece, ..command };
@@ -63,7 +61,6 @@ fn comes_in_pieces(alloc: Global, case: &Case, command: Command, options: &Optio
 /// Whether the input comes to it cut in two at each byte.
 fn comes_in_two(alloc: Global, case: &Case, command: Command, options: &Options) -> Result<bool>
     requires piece { 0 < command.piece }
-    requires limit { options.now.input_limit ≤ MAX_INPUT }
 {
     for cut in 0..=case.input.len() {
         let (front, back) = case.input.split_at(cut);
@@ -95,7 +92,6 @@ impl<'a> Read for Failing<'a> {
 
 /// Whether the refusal comes with the last byte: a reader that would fail after it is not asked, and one that fails before it is.
 fn comes_at_once(alloc: Global, case: &Case, command: Command, options: &Options) -> Result<bool>
-    requires limit { options.now.input_limit ≤ MAX_INPUT }
 {
     let command = Command {
         piece: 1,
@@ -129,7 +125,8 @@ fn told(alloc: Global, case: &Case, said: &Line) -> Result<(Table, Quirks, Limit
         Some(text) => Quirks::read(alloc, text)?,
         None => Quirks::read(alloc, "")?,
     };
-    Ok((table, quirks, Limits::new(said.nodes, said.open)?))
+    let input = case.told.limit.unwrap_or(MAX_INPUT);
+    Ok((table, quirks, Limits::new(input, said.nodes, said.open)?))
 }
 
 /// Whether a run over a reader writes what the case says.
@@ -141,7 +138,6 @@ fn comes<R: Read + Drop>(
     reader: R,
 ) -> Result<bool>
     requires piece { 0 < command.piece }
-    requires limit { options.now.input_limit ≤ MAX_INPUT }
 {
     let mut source = Counted::new(reader);
     let mut target = Counted::new(Vec::new(alloc));
@@ -158,7 +154,6 @@ fn refusal_of<S: Source, W: Target>(
     target: &mut W,
 ) -> Option<Refusal>
     requires piece { 0 < command.piece }
-    requires limit { options.now.input_limit ≤ MAX_INPUT }
 {
     run(alloc, command, options, source, target).err()
 }

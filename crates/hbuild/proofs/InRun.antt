@@ -17,12 +17,12 @@ use Rattle.hadopt.specs.Site.{Outcome, Goes, SiteOf}
 use Rattle.hadopt.specs.Site as site
 use Rattle.hadopt.specs.Inserts as inserts
 use Rattle.hmodes.specs.Perform.{flow_of, with_site}
-use Rattle.hmodes.specs.Reached.{Reached, after}
 use Rattle.hmodes.specs.State.{State, Token, character}
 use Rattle.hmodes.specs.Step.{Rule, Chain, ends, refuses, Step, goes, begun}
 use Rattle.hmodes.specs.Tokens.{token_of, place_of}
-use Rattle.hbuild.specs.Building.{Building, Takes, TakesToken, TakesOn, StaysRefused, refused_by}
+use Rattle.hbuild.specs.Building.{Building, Takes, TakesToken, TakesOn, StaysRefused, Stands, refused_by}
 use Rattle.hbuild.specs.Runs.{puts_in}
+use Rattle.hbuild.proofs.Looping.{stands-after}
 use Rattle.hbuild.proofs.OnePut.{here, rule_puts, puts-nodes, place-here}
 
 -- what an operation goes to, or this state
@@ -163,10 +163,13 @@ module _ (b : Building) (free : b.refused ≡ None) (off : b.state.site.foster �
 pub taken : (at : ℕ) (t : Token ℕ) (old new : Building) (answer : Result (Unit {0}) Refusal) → old.refused ≡ None → Takes at t old answer new → TakesOn at t old answer new
 taken at t old new answer none given = subst (λ (q : Option Refusal). MatchOption q (TakesOn at t old answer new) (λ why. StaysRefused why old answer new)) none given
 
--- the state after tokens can be reached
-pub reached-run : (ts : List Given) (old new : Building) → Reached numbers old.state → old.refused ≡ None → Hands TakesToken old ts (Ok tt) new → Reached numbers new.state
-reached-run [] old new r none h = subst (λ (b : Building). Reached numbers b.state) h.1 r
-reached-run (t ∷ ts) old new r none (Err e, mid, given, rest) = let never = rest.0 in absurd cc
-reached-run (t ∷ ts) old new r none (Ok u, mid, given, rest) =
+-- the building after a token, and after tokens
+pub stands-on : (at : ℕ) (t : Token ℕ) (old new : Building) → Stands old.root old.state → TakesOn at t old (Ok tt) new → Stands new.root new.state
+stands-on at t old new s on = subst (λ (r : ℕ). Stands r new.state) (sym on.root) (stands-after old.root at t old.state new.state s on.step)
+
+pub stands-run : (ts : List Given) (old new : Building) → Stands old.root old.state → old.refused ≡ None → Hands TakesToken old ts (Ok tt) new → Stands new.root new.state
+stands-run [] old new s none h = subst (λ (b : Building). Stands b.root b.state) h.1 s
+stands-run (t ∷ ts) old new s none (Err e, mid, given, rest) = let never = rest.0 in absurd cc
+stands-run (t ∷ ts) old new s none (Ok u, mid, given, rest) =
     let on = taken (place_of t) (token_of t) old mid (Ok u) none given in
-    reached-run ts mid new (after r on.step) on.refused rest
+    stands-run ts mid new (stands-on (place_of t) (token_of t) old mid s on) on.refused rest

@@ -1,3 +1,4 @@
+pub mod Growing
 pub mod InRun
 pub mod Looping
 pub mod OnePut

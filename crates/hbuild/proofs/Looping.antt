@@ -1,5 +1,5 @@
 -- What holds between two rules of a token.
-use Rattle.std.proofs.Common.{◌≡◌, ◌⊎◌, inl, inr, ℕ, ◌<◌, false, Result, Ok, Err, sym, subst}
+use Rattle.std.proofs.Common.{◌≡◌, ◌⊎◌, inl, inr, ℕ, suc, ◌<◌, false, Result, Ok, Err, sym, subst}
 use Rattle.std.specs.Result.{IsErrAnd}
 use Rattle.names.specs.declared.refusal.Refusal.{Refusal}
 use Rattle.names.specs.declared.refusal.Refusal.TheVariants.{Memory}
@@ -7,12 +7,13 @@ use Rattle.hadopt.specs.Gives.{Gives}
 use Rattle.hadopt.specs.Naming.{numbers}
 use Rattle.hadopt.specs.Site.{Outcome, Goes}
 use Rattle.hadopt.specs.Site as site
-use Rattle.hmodes.specs.Reached.{Reached, after}
+use Rattle.hmodes.specs.Reached.{after}
 use Rattle.hmodes.specs.State.{Token, State, Done, Again, Refused}
 use Rattle.hmodes.specs.Step.{Rule, Chain, ends, refuses, goes_again, Step, goes, is_dropped, begun, finished}
 use Rattle.hmodes.proofs.Between.{Orderly, numbers-all, reached-orderly, orderly-begins, again-orderly}
 use Rattle.hmodes.proofs.Ends.{left, rule-falls}
-use Rattle.hbuild.specs.Building.{StepGives, ChainGives, HasBegun}
+use Rattle.hbuild.specs.Building.{StepGives, ChainGives, HasBegun, Stands}
+use Rattle.hbuild.proofs.Growing.{step-holds}
 
 -- the rules from here on are rules from the beginning
 pub record GoesBy (at : ℕ) (t : Token ℕ) (s : State ℕ) (t' : Token ℕ) (s' : State ℕ) : Type 0 where
@@ -45,9 +46,9 @@ step-of at t s (Ok x) new e c = goes e c
 step-of at t s (Err x) new e (inl m) = inl m
 step-of at t s (Err x) new e (inr c) = inr (goes e c)
 
--- what a step leads to can be reached
-pub reached-after : (at : ℕ) (t : Token ℕ) (s new : State ℕ) → Reached numbers s → Step numbers at t s (Goes new) → Reached numbers new
-reached-after at t s new r one = after r one
+-- what a step leads to
+pub stands-after : (root at : ℕ) (t : Token ℕ) (s new : State ℕ) → Stands root s → Step numbers at t s (Goes new) → Stands root new
+stands-after root at t s new h one = record { reached = after h.reached one; made = step-holds (suc root) numbers at t s new h.made one }
 
 -- what a call hands on that was refused
 pub wrong-chain : (at : ℕ) (t : Token ℕ) (s : State ℕ) (r : Result (Unit {0}) Refusal) (d : Refusal) (new : State ℕ) → IsErrAnd r (λ e. e ≡ d) → (d ≡ Memory) ⊎ Chain numbers at t s (site.Refused d) → ChainGives at t s r new

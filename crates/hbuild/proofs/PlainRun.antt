@@ -24,13 +24,12 @@ use Rattle.hadopt.specs.Naming.{numbers}
 use Rattle.hadopt.specs.Places.{place}
 use Rattle.hadopt.specs.Site.{Outcome, SiteOf}
 use Rattle.hmodes.specs.Perform.{with_site}
-use Rattle.hmodes.specs.Reached.{Reached, after}
 use Rattle.hmodes.specs.State.{State, Token}
 use Rattle.hmodes.specs.Step.{begun}
-use Rattle.hbuild.specs.Building.{Building, Takes, TakesToken, refused_by}
+use Rattle.hbuild.specs.Building.{Building, Stands, Takes, TakesToken, refused_by}
 use Rattle.hbuild.specs.Runs.{puts_in, puts_each}
 use Rattle.hbuild.proofs.OnePut.{place-here}
-use Rattle.hbuild.proofs.InRun.{AreSome, char_put, run_put, taken, reached-run}
+use Rattle.hbuild.proofs.InRun.{AreSome, char_put, run_put, taken, stands-on, stands-run}
 
 plain_small : (x : ℕ) → is_plain_byte x ≡ true → x < 128
 plain_small x h = grind (arith, nat_tests)
@@ -118,12 +117,13 @@ pub gives-of : (b old : Building) (s : State ℕ) (x : SiteOf ℕ) (answer : Res
 gives-of b old s x answer f is begins g =
     subst (λ (y : SiteOf ℕ). Gives answer x (f y)) (ap (λ (t : State ℕ). t.site) (begins ∙ ap (λ (o : Building). begun o.state) is)) g
 
-pub reached_by_run : (ts : List Given) (old new : Building) (answer : Result (Unit {0}) Refusal) → (old.refused ≡ None → Reached numbers old.state) → old.refused ≡ None → result_err answer ≡ None → Hands TakesToken old ts answer new
-    → Reached numbers new.state
-reached_by_run ts old new answer reached free none h =
-    reached-run ts old new (reached free) free (subst (λ (a : Result (Unit {0}) Refusal). Hands TakesToken old ts a new) (ok-of answer none) h)
+-- what an unrefused building is after tokens, or after one
+pub stands_by_run : (ts : List Given) (old new : Building) (answer : Result (Unit {0}) Refusal) → (old.refused ≡ None → Stands old.root old.state) → old.refused ≡ None → result_err answer ≡ None → Hands TakesToken old ts answer new
+    → Stands new.root new.state
+stands_by_run ts old new answer stands free none h =
+    stands-run ts old new (stands free) free (subst (λ (a : Result (Unit {0}) Refusal). Hands TakesToken old ts a new) (ok-of answer none) h)
 
-pub reached_by_token : (at : ℕ) (t : Token ℕ) (old new : Building) (answer : Result (Unit {0}) Refusal) → (old.refused ≡ None → Reached numbers old.state) → old.refused ≡ None → result_err answer ≡ None → Takes at t old answer new
-    → Reached numbers new.state
-reached_by_token at t old new answer reached free none h =
-    after (reached free) (taken at t old new (Ok tt) free (subst (λ (a : Result (Unit {0}) Refusal). Takes at t old a new) (ok-of answer none) h)).step
+pub stands_by_token : (at : ℕ) (t : Token ℕ) (old new : Building) (answer : Result (Unit {0}) Refusal) → (old.refused ≡ None → Stands old.root old.state) → old.refused ≡ None → result_err answer ≡ None → Takes at t old answer new
+    → Stands new.root new.state
+stands_by_token at t old new answer stands free none h =
+    stands-on at t old new (stands free) (taken at t old new (Ok tt) free (subst (λ (a : Result (Unit {0}) Refusal). Takes at t old a new) (ok-of answer none) h))

@@ -1,5 +1,5 @@
 -- The builder of a tree as one value, and what a call does with it.
-use Rattle.std.specs.Prelude.{◌≡◌, ◌⊎◌, ℕ, List, [], ◌∷◌, ◌++◌, Option, Some, None, Result, Ok, Err, MatchOption}
+use Rattle.std.specs.Prelude.{◌≡◌, ◌<◌, ◌⊎◌, ℕ, List, [], ◌∷◌, ◌++◌, Option, Some, None, Result, Ok, Err, MatchOption}
 use Rattle.names.specs.declared.error.ParseError.{ParseError}
 use Rattle.names.specs.declared.refusal.Refusal.{Refusal}
 use Rattle.names.specs.declared.refusal.Refusal.TheVariants.{Memory}
@@ -28,6 +28,11 @@ StepGives at t old (Err e) new = (e ≡ Memory) ⊎ Step numbers at t old (site.
 abbrev pub ChainGives : ℕ → Token ℕ → State ℕ → Result (Unit {0}) Refusal → State ℕ → Type 0
 ChainGives at t old (Ok _) new = Chain numbers at t old (Goes new)
 ChainGives at t old (Err e) new = (e ≡ Memory) ⊎ Chain numbers at t old (site.Refused e)
+
+-- what a builder that has refused nothing is: tokens led to its state, and the root of what is built was made
+pub record Stands (root : ℕ) (s : State ℕ) : Type 0 where
+  pub reached : Reached numbers s
+  pub made : root < s.site.nodes.made
 
 -- a state in which a token has begun
 abbrev pub HasBegun : State ℕ → Type 0

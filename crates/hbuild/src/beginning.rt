@@ -39,7 +39,7 @@ pub(crate) fn document_rules<'q>(
     quirks: &'q Quirks,
     limits: Limits,
 ) -> Result<Rules<'q>, AllocError>
-    ensures { IfOk result (λ r. state_of r ≡ document_begins quirks.now limits) }
+    ensures { IfOk result (λ r. state_of r ≡ document_begins quirks.now limits.tree) }
 {
     Ok(Rules {
         site: Site::new(alloc, keys, limits.nodes(), limits.depth())?,
@@ -52,7 +52,7 @@ pub(crate) fn document_rules<'q>(
 
 /// The tree in which a fragment begins, and its root element, which is open.
 fn fragment_site(alloc: Global, keys: Keys, limits: Limits) -> Result<(Site, NodeId), Refusal>
-    ensures { MatchResult result (λ r. (r.0 ≡ fragment_site numbers limits) × (r.1 ≡ 1)) (λ e. e ≡ Memory) }
+    ensures { MatchResult result (λ r. (r.0 ≡ fragment_site numbers limits.tree) × (r.1 ≡ 1)) (λ e. e ≡ Memory) }
 {
     let mut site = Site::new(alloc, keys, limits.nodes(), limits.depth())?;
     let place = site.place_in_document();
@@ -77,7 +77,7 @@ pub(crate) fn fragment_rules<'q>(
     context: NameId,
     limits: Limits,
 ) -> Result<(Rules<'q>, NodeId), Refusal>
-    ensures { MatchResult result (λ r. (state_of r.0 ≡ fragment_begins numbers context limits) × (r.1 ≡ 1)) (λ e. e ≡ Memory) }
+    ensures { MatchResult result (λ r. (state_of r.0 ≡ fragment_begins numbers context limits.tree) × (r.1 ≡ 1)) (λ e. e ≡ Memory) }
 {
     let (site, root) = fragment_site(alloc, keys, limits)?;
     let form = form_pointer(&site, context);

@@ -1,6 +1,6 @@
 //! The builder of a tree.
 
-ghost use Rattle.std.specs.Prelude.{◌≡◌, ◌+◌, ◌≤◌, ◌++◌, [], Some, None, true, Err, length, IfErr, IfOk, MatchResult};
+ghost use Rattle.std.specs.Prelude.{◌≡◌, ◌+◌, ◌<◌, ◌≤◌, ◌++◌, [], Some, None, true, Err, length, IfErr, IfOk, MatchResult};
 ghost use Rattle.std.specs.List.{list_all};
 ghost use Rattle.names.specs.declared.refusal.Refusal.{Refusal as Refused};
 ghost use Rattle.names.specs.declared.refusal.Refusal.TheVariants.{Memory};
@@ -40,10 +40,8 @@ impl<'q> Model for Builder<'q> {
     ghost use Rattle.std.specs.Prelude.{◌≡◌, None};
     ghost use Rattle.std.specs.Coded.{codes};
     ghost use Rattle.hnodes.specs.Coding.{coded_forest};
-    ghost use Rattle.hadopt.specs.Naming.{numbers};
-    ghost use Rattle.hmodes.specs.Reached.{Reached};
     ghost use Rattle.hmodes.specs.States.{state_of};
-    ghost use Rattle.hbuild.specs.Building.{Building};
+    ghost use Rattle.hbuild.specs.Building.{Building, Stands};
 
     ghost Value = { Building };
 
@@ -51,7 +49,7 @@ impl<'q> Model for Builder<'q> {
 
     ghost view = { λ b. record { state = state_of b.rules; root = b.root; told = b.told.items; refused = b.refused } };
 
-    ghost invariant = { λ b. b.refused ≡ None → Reached numbers (state_of b.rules) };
+    ghost invariant = { λ b. b.refused ≡ None → Stands b.root (state_of b.rules) };
 }
 
 /// What was built: the tree, the document or a fragment's root element, and the parse errors: those of the rules in the order in
@@ -71,7 +69,7 @@ impl<'q> Builder<'q> {
         quirks: &'q Quirks,
         limits: Limits,
     ) -> Result<Builder<'q>, Refusal>
-        ensures { MatchResult result (λ b. b ≡ record { state = document_begins quirks.now limits; root = 0; told = []; refused = None }) (λ e. e ≡ Memory) }
+        ensures { MatchResult result (λ b. b ≡ record { state = document_begins quirks.now limits.tree; root = 0; told = []; refused = None }) (λ e. e ≡ Memory) }
     {
         let rules = document_rules(alloc, keys, quirks, limits)?;
         let root = rules.site.tree().document();
@@ -90,7 +88,7 @@ impl<'q> Builder<'q> {
         context: NameId,
         limits: Limits,
     ) -> Result<Builder<'q>, Refusal>
-        ensures { MatchResult result (λ b. b ≡ record { state = fragment_begins numbers context limits; root = 1; told = []; refused = None })
+        ensures { MatchResult result (λ b. b ≡ record { state = fragment_begins numbers context limits.tree; root = 1; told = []; refused = None })
             (λ e. e ≡ Memory) }
     {
         let begun = fragment_rules(alloc, keys, context, limits)?;
@@ -106,7 +104,7 @@ impl<'q> Builder<'q> {
     /// stand between two edits of a token. Any other error is `Memory`.
     pub fn finish(self) -> Result<Built, Refusal>
         ensures tree { IfOk result (λ built. built.tree ≡ self.entry.state.site.nodes) }
-        ensures root { IfOk result (λ built. built.root ≡ self.entry.root) }
+        ensures root { IfOk result (λ built. (built.root ≡ self.entry.root) × (built.root < built.tree.made)) }
         ensures errors { IfOk result (λ built. built.errors.items ≡ self.entry.state.site.errors ++ self.entry.told) }
         ensures again { (refusal : Refused) → self.entry.refused ≡ Some refusal → result ≡ Err refusal }
         ensures memory { self.entry.refused ≡ None → IfErr result (λ refusal. refusal ≡ Memory) }

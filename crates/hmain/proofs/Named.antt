@@ -1,12 +1,12 @@
 -- What the words tell, where they are read.
-use Rattle.std.proofs.Common.{◌≡◌, ◌∙◌, ap₂, refl, sym, subst, codes, Option, option_map, ℕ, List, Ok, Err}
+use Rattle.std.proofs.Common.{◌≡◌, ◌∙◌, ap, ap₂, sym, subst, codes, Option, option_map, ℕ, List, Ok, Err}
 use Rattle.std.specs.Borrow.{Bor}
 use Rattle.clap.specs.Words.{Text}
 use Rattle.charref.specs.Reference.{Entities}
 use Rattle.hmarkup.specs.Quirks.{QuirkLine}
 use Rattle.names.specs.declared.refusal.Refusal.TheVariants.{BadContext, BadLimits}
-use Rattle.hbuild.specs.Bounds.{AreLimits}
-use Rattle.hmodes.specs.Beginning.{Limits}
+use Rattle.htext.specs.declared.decoder.TheConstants.{MAX_INPUT}
+use Rattle.hbuild.specs.Bounds.{AreLimits, Bounds}
 use Rattle.hrun.specs.Context.{AllowsContext}
 use Rattle.hmain.specs.declared.fault.Fault.{Fault}
 use Rattle.hmain.specs.declared.fault.Fault.TheVariants as fault
@@ -17,17 +17,17 @@ use Rattle.hmain.specs.Program.{FindsTable, FindsQuirks, FirstFault, no_table, n
 abbrev name_of : Option (Bor (List ℕ)) → Option Text
 name_of = option_map (λ s. s.now)
 
-abbrev told_with : Line → Entities → List QuirkLine → ℕ → Limits → Told
-told_with line table quirks limit limits = record {
+abbrev told_with : Line → Entities → List QuirkLine → Bounds → Told
+told_with line table quirks limits = record {
   task = line.command.task;
   context = name_of line.command.context;
   escaping = line.command.escaping;
   piece = line.command.piece;
-  settings = record { table = table; quirks = quirks; bad = line.bad_bytes; input = limit; limits = limits };
+  settings = record { table = table; quirks = quirks; bad = line.bad_bytes; input = limits.input; limits = limits.tree };
 }
 
-abbrev limits_from : ℕ → ℕ → Limits
-limits_from nodes depth = record { nodes = nodes; depth = depth }
+abbrev limits_from : ℕ → ℕ → Bounds
+limits_from nodes depth = record { input = MAX_INPUT; tree = record { nodes = nodes; depth = depth } }
 
 module _ {R : Type 0} (has_text : R → List ℕ → List ℕ → Type 0) (lacks_text : R → List ℕ → Fault → Type 0) (surroundings : R) (words : List Text) (line : Line)
     (says : Says (task_of words) (value_of words) line) where
@@ -43,11 +43,14 @@ module _ {R : Type 0} (has_text : R → List ℕ → List ℕ → Type 0) (lacks
   quirks_found : (quirks : List QuirkLine) → IsQuirks quirks → FindsQuirks has_text lacks_text surroundings (value_of words (codes "quirks")) (Ok quirks)
   quirks_found quirks is = subst (λ name. FindsQuirks has_text lacks_text surroundings name (Ok quirks)) says.quirks_is is
 
-  limits_found : AreLimits line.nodes line.open → AreLimits (limits_of words).nodes (limits_of words).depth
-  limits_found are = subst (λ n. AreLimits n (limits_of words).depth) says.nodes_is (subst (λ n. AreLimits line.nodes n) says.open_is are)
+  limits_are : limits_from line.nodes line.open ≡ limits_of words
+  limits_are = ap₂ limits_from says.nodes_is says.open_is
 
-  limits_said : AreLimits (limits_of words).nodes (limits_of words).depth → AreLimits line.nodes line.open
-  limits_said are = subst (λ n. AreLimits n line.open) (sym says.nodes_is) (subst (λ n. AreLimits (limits_of words).nodes n) (sym says.open_is) are)
+  limits_found : AreLimits (limits_from line.nodes line.open) → AreLimits (limits_of words)
+  limits_found are = subst AreLimits limits_are are
+
+  limits_said : AreLimits (limits_of words) → AreLimits (limits_from line.nodes line.open)
+  limits_said are = subst AreLimits (sym limits_are) are
 
   pub table_missing : (why : Fault) → FindsTable has_text lacks_text surroundings (name_of line.entities) (Err why) → FirstFault has_text lacks_text surroundings words why
   table_missing why is = no_table (subst (λ name. FindsTable has_text lacks_text surroundings name (Err why)) says.entities_is is)
@@ -56,18 +59,18 @@ module _ {R : Type 0} (has_text : R → List ℕ → List ℕ → Type 0) (lacks
       → FirstFault has_text lacks_text surroundings words why
   quirks_missing table why found is = no_quirks table (table_found table found) (subst (λ name. FindsQuirks has_text lacks_text surroundings name (Err why)) says.quirks_is is)
 
-  pub limits_refused : (table : Entities) (quirks : List QuirkLine) (why : Fault) → IsTable table → IsQuirks quirks → (AreLimits line.nodes line.open → ⊥)
+  pub limits_refused : (table : Entities) (quirks : List QuirkLine) (why : Fault) → IsTable table → IsQuirks quirks → (AreLimits (limits_from line.nodes line.open) → ⊥)
       → why ≡ fault.Refused BadLimits → FirstFault has_text lacks_text surroundings words why
   limits_refused table quirks why found listed none is = no_limits table quirks (table_found table found) (quirks_found quirks listed) (λ are. none (limits_said are)) is
 
-  pub context_refused : (table : Entities) (quirks : List QuirkLine) (why : Fault) → IsTable table → IsQuirks quirks → AreLimits line.nodes line.open
+  pub context_refused : (table : Entities) (quirks : List QuirkLine) (why : Fault) → IsTable table → IsQuirks quirks → AreLimits (limits_from line.nodes line.open)
       → (AllowsContext (name_of line.command.context) → ⊥) → why ≡ fault.Refused BadContext → FirstFault has_text lacks_text surroundings words why
   context_refused table quirks why found listed are none is =
       no_context table quirks (table_found table found) (quirks_found quirks listed) (limits_found are) (λ allows. none (subst AllowsContext (sym says.context_is) allows)) is
 
-  pub tells : (table : Entities) (quirks : List QuirkLine) (limit : ℕ) (limits : Limits) → IsTable table → IsQuirks quirks → AreLimits line.nodes line.open
-      → AllowsContext (name_of line.command.context) → limits ≡ limits_from line.nodes line.open → Tells has_text lacks_text limit surroundings words (told_with line table quirks limit limits)
-  tells table quirks limit limits found listed are allows is =
+  pub tells : (table : Entities) (quirks : List QuirkLine) (limits : Bounds) → IsTable table → IsQuirks quirks → AreLimits (limits_from line.nodes line.open)
+      → AllowsContext (name_of line.command.context) → limits ≡ limits_from line.nodes line.open → Tells has_text lacks_text surroundings words (told_with line table quirks limits)
+  tells table quirks limits found listed are allows is =
       record {
         task = says.task_is;
         context = says.context_is;
@@ -77,7 +80,7 @@ module _ {R : Type 0} (has_text : R → List ℕ → List ℕ → Type 0) (lacks
         table = table_found table found;
         quirks = quirks_found quirks listed;
         bad_bytes = says.bad_bytes_is;
-        input_limit = refl;
-        limits = is ∙ ap₂ limits_from says.nodes_is says.open_is;
+        input_limit = ap (λ (b : Bounds). b.input) (is ∙ limits_are);
+        limits = ap (λ (b : Bounds). b.tree) (is ∙ limits_are);
         in_range = limits_found are;
       }

@@ -8,8 +8,8 @@ use Rattle.names.specs.declared.refusal.Refusal.TheVariants.{Memory, BadLimits, 
 use Rattle.charref.specs.Reference.{Entities, core}
 use Rattle.charref.specs.Reading.{table_of, IsRefusedWith}
 use Rattle.hmarkup.specs.Quirks.{QuirkLine, ReadsQuirks}
-use Rattle.hbuild.specs.Bounds.{AreLimits}
-use Rattle.hmodes.specs.Beginning.{Limits}
+use Rattle.htext.specs.declared.decoder.TheConstants.{MAX_INPUT}
+use Rattle.hbuild.specs.Bounds.{AreLimits, Bounds}
 use Rattle.hrun.specs.declared.command.Task.{Task}
 use Rattle.hwrite.specs.declared.escaping.Escaping.{Escaping}
 use Rattle.hrun.specs.Calls.{EndsWith}
@@ -46,9 +46,12 @@ told_of command options = record {
   settings = told_by options;
 }
 
--- the most nodes, and the most open elements
-abbrev pub limits_of : List Text → Limits
-limits_of words = record { nodes = number_or 16777216 (value_of words (codes "nodes")); depth = number_or 1048576 (value_of words (codes "open")) }
+-- the most bytes, the most nodes, and the most open elements
+abbrev pub limits_of : List Text → Bounds
+limits_of words = record {
+  input = MAX_INPUT;
+  tree = record { nodes = number_or 16777216 (value_of words (codes "nodes")); depth = number_or 1048576 (value_of words (codes "open")) };
+}
 
 -- The engine ran over an input.
 abbrev pub AnswersInput : {S W : Type 0} → (S → Option (List ℕ)) → (S → ℕ) → (W → Option (List ℕ)) → (W → ℕ) → Told → S → S → W → W → Result (Unit {0}) Fault
@@ -79,7 +82,7 @@ module _ {R : Type 0} (has_text : R → List ℕ → List ℕ → Type 0) (lacks
   FindsQuirks = Finds [] ReadsQuirks
 
   -- What the words tell, where all that they name is found and accepted.
-  pub record Tells (limit : ℕ) (surroundings : R) (words : List Text) (told : Told) : Type 0 where
+  pub record Tells (surroundings : R) (words : List Text) (told : Told) : Type 0 where
     pub task : task_of words ≡ Some told.task
     pub context : told.context ≡ value_of words (codes "in")
     pub allowed : AllowsContext told.context
@@ -88,9 +91,9 @@ module _ {R : Type 0} (has_text : R → List ℕ → List ℕ → Type 0) (lacks
     pub table : FindsTable surroundings (value_of words (codes "entities")) (Ok told.settings.table)
     pub quirks : FindsQuirks surroundings (value_of words (codes "quirks")) (Ok told.settings.quirks)
     pub bad_bytes : bad_bytes_of (value_of words (codes "bad-bytes")) ≡ Some told.settings.bad
-    pub input_limit : told.settings.input ≡ limit
-    pub limits : told.settings.limits ≡ limits_of words
-    pub in_range : AreLimits (limits_of words).nodes (limits_of words).depth
+    pub input_limit : told.settings.input ≡ (limits_of words).input
+    pub limits : told.settings.limits ≡ (limits_of words).tree
+    pub in_range : AreLimits (limits_of words)
 
   -- The first of the things that the words name that is not found or not accepted.
   pub data FirstFault (surroundings : R) (words : List Text) (why : Fault) : Type 0 where
@@ -99,9 +102,9 @@ module _ {R : Type 0} (has_text : R → List ℕ → List ℕ → Type 0) (lacks
         → FindsQuirks surroundings (value_of words (codes "quirks")) (Err why) → FirstFault surroundings words why
     no_limits : (table : Entities) (quirks : List QuirkLine) → FindsTable surroundings (value_of words (codes "entities")) (Ok table)
         → FindsQuirks surroundings (value_of words (codes "quirks")) (Ok quirks)
-        → (AreLimits (limits_of words).nodes (limits_of words).depth → ⊥) → why ≡ fault.Refused BadLimits → FirstFault surroundings words why
+        → (AreLimits (limits_of words) → ⊥) → why ≡ fault.Refused BadLimits → FirstFault surroundings words why
     no_context : (table : Entities) (quirks : List QuirkLine) → FindsTable surroundings (value_of words (codes "entities")) (Ok table)
-        → FindsQuirks surroundings (value_of words (codes "quirks")) (Ok quirks) → AreLimits (limits_of words).nodes (limits_of words).depth
+        → FindsQuirks surroundings (value_of words (codes "quirks")) (Ok quirks) → AreLimits (limits_of words)
         → (AllowsContext (value_of words (codes "in")) → ⊥) → why ≡ fault.Refused BadContext → FirstFault surroundings words why
 
 module _ {R F : Type 0} (opens : R → List ℕ → F → Type 0) (cannot_open : R → List ℕ → Type 0) (left_in_file : F → Option (List ℕ))
@@ -118,23 +121,23 @@ module _ {R F : Type 0} (opens : R → List ℕ → F → Type 0) (cannot_open :
   module _ {S W : Type 0} (has_text : R → List ℕ → List ℕ → Type 0) (lacks_text : R → List ℕ → Fault → Type 0)
       (left : S → Option (List ℕ)) (reads : S → ℕ) (written : W → Option (List ℕ)) (writes : W → ℕ) where
     -- What these words say is done.
-    pub data AnswersWords (limit : ℕ) (surroundings : R) (words : List Text) (input input' : S) (output output' : W)
+    pub data AnswersWords (surroundings : R) (words : List Text) (input input' : S) (output output' : W)
         (outcome : Result (Unit {0}) Fault) : Type 0 where
       -- the words are wrong or ask for help; where they are right memory ran out
       words_refused : (why : Fault) → outcome ≡ Err why → FaultOf words why
           → (takes program words ≡ true → AreGood (value_of words) → why ≡ fault.Memory) → input' ≡ input → output' ≡ output
-          → AnswersWords limit surroundings words input input' output output' outcome
+          → AnswersWords surroundings words input input' output output' outcome
       -- something that they name is not there, or is refused
       words_without : (why : Fault) → FirstFault has_text lacks_text surroundings words why → outcome ≡ Err why → input' ≡ input → output' ≡ output
-          → AnswersWords limit surroundings words input input' output output' outcome
+          → AnswersWords surroundings words input input' output output' outcome
       -- they name a file
-      words_with_file : (told : Told) (name : Text) → Tells has_text lacks_text limit surroundings words told → value_of words (codes "file") ≡ Some name
+      words_with_file : (told : Told) (name : Text) → Tells has_text lacks_text surroundings words told → value_of words (codes "file") ≡ Some name
           → AnswersFile written writes told surroundings name output output' outcome → input' ≡ input
-          → AnswersWords limit surroundings words input input' output output' outcome
+          → AnswersWords surroundings words input input' output output' outcome
       -- they name none: the input is the standard input
-      words_without_file : (told : Told) → Tells has_text lacks_text limit surroundings words told → value_of words (codes "file") ≡ None
+      words_without_file : (told : Told) → Tells has_text lacks_text surroundings words told → value_of words (codes "file") ≡ None
           → AnswersInput left reads written writes told input input' output output' outcome
-          → AnswersWords limit surroundings words input input' output output' outcome
+          → AnswersWords surroundings words input input' output output' outcome
 
 module _ {R F S W : Type 0} (has_words : R → List Text → Type 0) (cannot_begin : R → Fault → Type 0) (opens : R → List ℕ → F → Type 0)
     (cannot_open : R → List ℕ → Type 0)
@@ -142,20 +145,20 @@ module _ {R F S W : Type 0} (has_words : R → List Text → Type 0) (cannot_beg
     (left_in_file : F → Option (List ℕ)) (failed_in_file : F → ℕ) (left : S → Option (List ℕ)) (reads : S → ℕ) (written : W → Option (List ℕ))
     (writes : W → ℕ) where
   -- What the command line says is done.
-  pub data Answers (limit : ℕ) (surroundings : R) (input input' : S) (output output' : W) (outcome : Result (Unit {0}) Fault) : Type 0 where
+  pub data Answers (surroundings : R) (input input' : S) (output output' : W) (outcome : Result (Unit {0}) Fault) : Type 0 where
     line_missing : (why : Fault) → cannot_begin surroundings why → outcome ≡ Err why → input' ≡ input → output' ≡ output
-        → Answers limit surroundings input input' output output' outcome
+        → Answers surroundings input input' output output' outcome
     line_answered : (words : List Text) → has_words surroundings words
-        → AnswersWords opens cannot_open left_in_file failed_in_file has_text lacks_text left reads written writes limit surroundings words input input' output
+        → AnswersWords opens cannot_open left_in_file failed_in_file has_text lacks_text left reads written writes surroundings words input input' output
         output' outcome
-        → Answers limit surroundings input input' output output' outcome
+        → Answers surroundings input input' output output' outcome
 
   -- The program does what its command line says, writes the line of its ending to standard error, and returns its status.
-  pub record Ends {E : Type 0} (errors_written : E → Option (List ℕ)) (errors_failed : E → ℕ) (limit : ℕ) (surroundings : R) (input input' : S)
+  pub record Ends {E : Type 0} (errors_written : E → Option (List ℕ)) (errors_failed : E → ℕ) (surroundings : R) (input input' : S)
       (output output' : W)
       (errors errors' : E) (status : ℕ) : Type 0 where
     pub outcome : Result (Unit {0}) Fault
-    pub answered : Answers limit surroundings input input' output output' outcome
+    pub answered : Answers surroundings input input' output output' outcome
     pub told : IfSome (ending_text outcome) (EndsWith (errors_written errors) (errors_failed errors) (errors_written errors') (errors_failed errors'))
     pub status_is : status ≡ status_of outcome
 
@@ -163,10 +166,10 @@ module _ {R F S W : Type 0} (has_words : R → List Text → Type 0) (cannot_beg
 pub record HasRun {R F S W E : Type 0} (has_words : R → List Text → Type 0) (cannot_begin : R → Fault → Type 0) (opens : R → List ℕ → F → Type 0)
     (cannot_open : R → List ℕ → Type 0) (has_text : R → List ℕ → List ℕ → Type 0) (lacks_text : R → List ℕ → Fault → Type 0)
     (left_in_file : F → Option (List ℕ)) (failed_in_file : F → ℕ) (left : S → Option (List ℕ)) (reads : S → ℕ)
-    (written : W → Option (List ℕ)) (writes : W → ℕ) (errors_written : E → Option (List ℕ)) (errors_failed : E → ℕ) (limit : ℕ) (surroundings : R)
+    (written : W → Option (List ℕ)) (writes : W → ℕ) (errors_written : E → Option (List ℕ)) (errors_failed : E → ℕ) (surroundings : R)
     (status : ℕ) : Type 0 where
   pub input : S × S
   pub output : W × W
   pub errors : E × E
   pub ends : Ends has_words cannot_begin opens cannot_open has_text lacks_text left_in_file failed_in_file left reads written writes errors_written errors_failed
-      limit surroundings input.0 input.1 output.0 output.1 errors.0 errors.1 status
+      surroundings input.0 input.1 output.0 output.1 errors.0 errors.1 status

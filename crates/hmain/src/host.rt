@@ -10,7 +10,6 @@ use crate::program::run_program;
 use crate::surroundings::Surroundings;
 use hparse::Source;
 use hrun::{Counted, Target};
-use htext::MAX_INPUT;
 use names::Keys;
 use std::alloc::Global;
 use std::fs::File;
@@ -104,7 +103,7 @@ pub fn start(rt: &HostRuntime) -> ExitCode
         ⟦<Counted<Stdin> as Source>⟧.left ⟦<Counted<Stdin> as Source>⟧.failed
         ⟦<Counted<Stdout> as Target>⟧.written ⟦<Counted<Stdout> as Target>⟧.failed
         ⟦<Counted<Stderr> as Target>⟧.written ⟦<Counted<Stderr> as Target>⟧.failed
-        MAX_INPUT rt.now (exit_status result) }
+        rt.now (exit_status result) }
 {
     let mut input = Counted::new(rt.stdin());
     let mut output = Counted::new(rt.stdout());

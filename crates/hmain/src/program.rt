@@ -30,7 +30,7 @@ pub fn run_program<R: Surroundings, S: Source, W: Target, E: Target>(
 ) -> u8
     ensures { Ends R.has_words R.cannot_begin R.opens R.cannot_open R.has_text R.lacks_text R.File.left R.File.failed S.left S.failed W.written W.failed
         E.written E.failed
-        MAX_INPUT surroundings.now input.old input.new output.old output.new errors.old errors.new result }
+        surroundings.now input.old input.new output.old output.new errors.old errors.new result }
 {
     let outcome = answer(surroundings, input, output);
     ending(&outcome, errors)
@@ -43,7 +43,7 @@ fn answer<R: Surroundings, S: Source, W: Target>(
     output: &mut W,
 ) -> Result<(), Fault>
     ensures { Answers R.has_words R.cannot_begin R.opens R.cannot_open R.has_text R.lacks_text R.File.left R.File.failed S.left S.failed W.written W.failed
-        MAX_INPUT surroundings.now input.old input.new output.old output.new result }
+        surroundings.now input.old input.new output.old output.new result }
 {
     let words = surroundings.words()?;
     let keys = surroundings.keys()?;
@@ -58,7 +58,7 @@ fn answer_words<R: Surroundings, S: Source, W: Target>(
     input: &mut S,
     output: &mut W,
 ) -> Result<(), Fault>
-    ensures { AnswersWords R.opens R.cannot_open R.File.left R.File.failed R.has_text R.lacks_text S.left S.failed W.written W.failed MAX_INPUT surroundings.now
+    ensures { AnswersWords R.opens R.cannot_open R.File.left R.File.failed R.has_text R.lacks_text S.left S.failed W.written W.failed surroundings.now
         (map string_bytes words.now) input.old input.new output.old output.new result }
 {
     let texts = as_texts(surroundings.alloc(), words)?;
@@ -76,7 +76,7 @@ fn answer_line<R: Surroundings, S: Source, W: Target>(
 ) -> Result<(), Fault>
     requires { 0 < line.command.piece }
     ensures { (words : List Text) → Says (task_of words) (value_of words) line.entry
-        → AnswersWords R.opens R.cannot_open R.File.left R.File.failed R.has_text R.lacks_text S.left S.failed W.written W.failed MAX_INPUT surroundings.now
+        → AnswersWords R.opens R.cannot_open R.File.left R.File.failed R.has_text R.lacks_text S.left S.failed W.written W.failed surroundings.now
         words input.old input.new output.old output.new result }
 {
     let table = table(surroundings, line.entities)?;
@@ -101,16 +101,15 @@ fn answer_with<R: Surroundings, S: Source, W: Target>(
     ensures { (words : List Text) → Says (task_of words) (value_of words) line.entry
         → FindsTable R.has_text R.lacks_text surroundings.now (option_map (λ s. s.now) line.entry.entities) (Ok table.now)
         → FindsQuirks R.has_text R.lacks_text surroundings.now (option_map (λ s. s.now) line.entry.quirks) (Ok quirks.now)
-        → AnswersWords R.opens R.cannot_open R.File.left R.File.failed R.has_text R.lacks_text S.left S.failed W.written W.failed MAX_INPUT surroundings.now
+        → AnswersWords R.opens R.cannot_open R.File.left R.File.failed R.has_text R.lacks_text S.left S.failed W.written W.failed surroundings.now
         words input.old input.new output.old output.new result }
 {
-    let limits = Limits::new(line.nodes, line.open)?;
+    let limits = Limits::new(MAX_INPUT, line.nodes, line.open)?;
     check_context(line.command.context)?;
     let options = Options {
         table,
         quirks,
         bad_bytes: line.bad_bytes,
-        input_limit: MAX_INPUT,
         limits,
         keys,
     };
@@ -169,7 +168,6 @@ fn answer_file<R: Surroundings, W: Target>(
     output: &mut W,
 ) -> Result<(), Fault>
     requires piece { 0 < command.piece }
-    requires limit { options.now.input_limit ≤ MAX_INPUT }
     ensures { AnswersFile R.opens R.cannot_open R.File.left R.File.failed W.written W.failed (told_of command.entry options.now) surroundings.now name.now
         output.old output.new result }
 {
@@ -188,7 +186,6 @@ fn answer_input<S: Source, W: Target>(
     target: &mut W,
 ) -> Result<(), Fault>
     requires piece { 0 < command.piece }
-    requires limit { options.now.input_limit ≤ MAX_INPUT }
     ensures { AnswersInput S.left S.failed W.written W.failed (told_of command.entry options.now) source.old source.new target.old target.new result }
 {
     run(alloc, command, options, source, target)?;

@@ -26,7 +26,7 @@ module _ (told : Told) (subject : Subject) (bytes : List ℕ) (old : Parser) (h 
   feeds_on piece new accepts (piece_ran_out is) = absurd cc
   feeds_on piece new accepts (piece_refused refusal is refused) = absurd cc
   feeds_on piece new accepts (piece_read is k) =
-      feed_read refl (record { fits = h.fits; accepts = accepts; began = h.began; unrefused = h.unrefused; none_told = h.none_told; root_is = h.root_is; begins = h.begins; has_read = k })
+      feed_read refl (record { accepts = accepts; began = h.began; unrefused = h.unrefused; none_told = h.none_told; root_is = h.root_is; begins = h.begins; has_read = k })
 
   module _ (reading : Reading Building) (later : Texts) (grows : Grows reading.feeding.names later) (are : AreNames later) (e : Refusal) where
     refused : (all : List ℕ) → IsRefusedFor builds (manner told subject) h.began all reading.feeding.names reading.feeding.sink e → (e ≡ Memory) ⊎ Parses told subject all (Err e)

@@ -1,9 +1,10 @@
 -- What a reading has read, and what its calls do. It began as `began`.
-use Rattle.std.specs.Prelude.{◌≡◌, ℕ, List, ◌++◌, Result, Ok, Err}
+use Rattle.std.specs.Prelude.{◌≡◌, ◌≤◌, ℕ, List, ◌++◌, Result, Ok, Err}
 use Rattle.names.specs.declared.refusal.Refusal.{Refusal}
 use Rattle.names.specs.declared.refusal.Refusal.TheVariants.{Memory}
 use Rattle.htext.specs.Items.{items}
 use Rattle.htext.specs.Decoding.{HasFed}
+use Rattle.htext.specs.declared.decoder.TheConstants.{MAX_INPUT}
 use Rattle.htoken.specs.Token.{Item}
 use Rattle.hparse.specs.declared.reading.Reading.{Reading}
 use Rattle.hparse.specs.Holding.{HoldsItems}
@@ -12,6 +13,7 @@ use Rattle.hparse.specs.Input.{Manner, Began, how_of, settled_in, IsRefusedFor, 
 module _ {S : Type 0} (gives : S → Item → Result (Unit {0}) Refusal → S → Type 0) (m : Manner) (began : Began S) where
   -- The bytes were fed, in any pieces: the text that is read of them whatever follows is held.
   pub record HasRead (reading : Reading S) (bytes : List ℕ) : Type 0 where
+    pub fits : m.limit ≤ MAX_INPUT
     pub how_is : reading.decoder.how ≡ how_of m
     pub fed : HasFed reading.decoder bytes
     pub holds : HoldsItems gives m began reading.feeding (items (settled_in m bytes))

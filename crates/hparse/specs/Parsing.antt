@@ -1,12 +1,11 @@
 -- What a parser has been fed, and what its calls do.
-use Rattle.std.specs.Prelude.{◌≡◌, ◌<◌, ◌≤◌, ℕ, List, [], ◌++◌, slice_get, Some, None, Result, Ok, Err}
+use Rattle.std.specs.Prelude.{◌≡◌, ◌<◌, ℕ, List, [], ◌++◌, slice_get, Some, None, Result, Ok, Err}
 use Rattle.std.specs.List.Sorted.{IsPermutation, IsSorted}
 use Rattle.names.specs.declared.error.ParseError.{ParseError}
 use Rattle.names.specs.declared.refusal.Refusal.{Refusal}
 use Rattle.names.specs.declared.refusal.Refusal.TheVariants.{Memory}
 use Rattle.names.specs.Names.{Texts, AreNames}
 use Rattle.names.specs.Spelling.{spelling}
-use Rattle.htext.specs.declared.decoder.TheConstants.{MAX_INPUT}
 use Rattle.htoken.specs.Token.{Item, gives_item}
 use Rattle.hnodes.specs.Edits.{Nodes}
 use Rattle.hnodes.specs.Forest.{children_of}
@@ -26,7 +25,7 @@ use Rattle.hparse.specs.Parse.{Subject, document, fragment, Told, Parse, Parses,
 
 -- what options tell
 abbrev pub told_by : Options → Told
-told_by options = record { table = options.table.now; quirks = options.quirks.now; bad = options.bad_bytes; input = options.input_limit; limits = options.limits }
+told_by options = record { table = options.table.now; quirks = options.quirks.now; bad = options.bad_bytes; input = options.limits.input; limits = options.limits.tree }
 
 -- a step of the builder
 abbrev pub builds : Building → Item → Result (Unit {0}) Refusal → Building → Type 0
@@ -39,7 +38,6 @@ pub data BeginsIn (told : Told) (names : Texts) : Subject → State ℕ → Type
 
 -- The parser was fed these bytes, in any pieces, and has refused nothing.
 pub record HasParsed (told : Told) (subject : Subject) (parser : Parser) (bytes : List ℕ) : Type 0 where
-  pub fits : told.input ≤ MAX_INPUT
   pub accepts : parser.refused ≡ None
   pub began : Began Building
   pub unrefused : began.sink.refused ≡ None

@@ -1,6 +1,6 @@
 //! The tokens of a document.
 
-ghost use Rattle.std.specs.Prelude.{◌≡◌, ◌≤◌, ℕ, List, [], IfOk, MatchResult};
+ghost use Rattle.std.specs.Prelude.{◌≡◌, ℕ, List, [], IfOk, MatchResult};
 ghost use Rattle.std.specs.List.{flat_map};
 ghost use Rattle.charref.specs.Reference.{Entities};
 ghost use Rattle.names.specs.declared.refusal.Refusal.TheVariants.{Memory};
@@ -13,15 +13,13 @@ use crate::collect::Collected;
 use crate::options::Options;
 use crate::reading::Reading;
 use crate::token_run::TokenRun;
-use htext::MAX_INPUT;
 use htoken::Start;
 use names::{Names, Refusal};
 use std::alloc::{AllocError, Global};
 
 /// The tokens of the pieces joined, however they are cut.
 pub fn tokens(alloc: Global, pieces: &[&[u8]], options: &Options) -> Result<TokenRun, Refusal>
-    requires { options.now.input_limit ≤ MAX_INPUT }
-    ensures { Shows options.now.table.now (of_document options.now.bad_bytes options.now.input_limit) (flat_map (λ piece. piece.now) pieces.now) result }
+    ensures { Shows options.now.table.now (of_document options.now.bad_bytes options.now.limits.input) (flat_map (λ piece. piece.now) pieces.now) result }
 {
     let mut reading = begin(alloc, options)?;
     for piece in pieces {
@@ -41,8 +39,7 @@ pub(crate) fn begin<'t>(
     alloc: Global,
     options: &Options<'t>,
 ) -> Result<Reading<'t, Collected>, AllocError>
-    requires { options.now.input_limit ≤ MAX_INPUT }
-    ensures { IfOk result (λ reading. HasReadTokens options.now.table.now options.now.bad_bytes options.now.input_limit reading []) }
+    ensures { IfOk result (λ reading. HasReadTokens options.now.table.now options.now.bad_bytes options.now.limits.input reading []) }
 {
     let names = Names::with_keys(alloc, options.keys)?;
     let sink = Collected::new(alloc);

@@ -2,24 +2,24 @@
 
 ghost use Rattle.std.specs.Prelude.{◌≡◌};
 ghost use Rattle.htext.specs.declared.BadBytes.TheVariants as bad;
+ghost use Rattle.htext.specs.declared.decoder.TheConstants.{MAX_INPUT};
 ghost use Rattle.hparse.specs.Parse.{Told};
 ghost use Rattle.hparse.specs.Parsing.{told_by};
 
 use charref::Table;
 use hbuild::Limits;
 use hmarkup::Quirks;
-use htext::{BadBytes, MAX_INPUT};
+use htext::BadBytes;
 use names::Keys;
 
-/// The table of character references, the quirks list, what becomes of bytes that are not UTF-8, the most bytes that an input may
-/// have, and how large a tree may become.
+/// The table of character references, the quirks list, what becomes of bytes that are not UTF-8, and how long an input and how large
+/// its tree may be.
 /// The quirks list has a say in documents alone. No result depends on the keys: see [`Keys`].
 #[derive(Clone, Copy)]
 pub struct Options<'t> {
     pub table: &'t Table,
     pub quirks: &'t Quirks,
     pub bad_bytes: BadBytes,
-    pub input_limit: u64,
     pub limits: Limits,
     pub keys: Keys,
 }
@@ -27,7 +27,7 @@ pub struct Options<'t> {
 impl<'t> Options<'t> {
     /// Bad bytes are refused; the greatest limits, and fixed keys: for input that is not trusted, set `keys` to [`Keys::new`] of random bytes.
     pub fn new(table: &'t Table, quirks: &'t Quirks) -> Options<'t>
-        ensures told { told_by result ≡ record {
+        ensures { told_by result ≡ record {
           table = table.now;
           quirks = quirks.now;
           bad = bad.Refuse;
@@ -35,13 +35,11 @@ impl<'t> Options<'t> {
           limits =
               record { nodes = 16777216; depth = 1048576 };
         } }
-        ensures limit { result.input_limit ≡ MAX_INPUT }
     {
         Options {
             table,
             quirks,
             bad_bytes: BadBytes::Refuse,
-            input_limit: MAX_INPUT,
             limits: Limits::greatest(),
             keys: Keys::fixed(),
         }

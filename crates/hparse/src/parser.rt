@@ -1,6 +1,6 @@
 //! A parser that is fed bytes.
 
-ghost use Rattle.std.specs.Prelude.{◌≡◌, ◌<◌, ◌≤◌, ◌⊎◌, ℕ, List, [], ◌++◌, None, Some, true, false, Err, IfErr, MatchResult};
+ghost use Rattle.std.specs.Prelude.{◌≡◌, ◌<◌, ◌⊎◌, ℕ, List, [], ◌++◌, None, Some, true, false, Err, IfErr, MatchResult};
 ghost use Rattle.names.specs.declared.refusal.Refusal.{Refusal as Refused};
 ghost use Rattle.names.specs.declared.refusal.Refusal.TheVariants.{BadContext, Memory};
 ghost use Rattle.hparse.specs.Parse.{Subject, Told, document, fragment, is_context, policy};
@@ -15,7 +15,6 @@ use crate::reader::read_to_end;
 use crate::reading::Reading;
 use crate::source::Source;
 use hbuild::{Builder, Built};
-use htext::MAX_INPUT;
 use htoken::Start;
 use names::{Names, Refusal};
 use std::alloc::Global;
@@ -31,7 +30,6 @@ pub struct Parser<'t> {
 impl<'t> Parser<'t> {
     /// The parser of a document. An error is `Memory`.
     pub fn document(alloc: Global, options: &Options<'t>) -> Result<Parser<'t>, Refusal>
-        requires { options.now.input_limit ≤ MAX_INPUT }
         ensures { MatchResult result (λ parser. HasParsed (told_by options.now) document parser []) (λ refusal. refusal ≡ Memory) }
     {
         let names = Names::with_keys(alloc, options.keys)?;
@@ -51,7 +49,6 @@ impl<'t> Parser<'t> {
         context: &str,
         options: &Options<'t>,
     ) -> Result<Parser<'t>, Refusal>
-        requires { options.now.input_limit ≤ MAX_INPUT }
         ensures { MatchResult result (λ parser. (is_context context.now ≡ true) × HasParsed (told_by options.now) (fragment context.now) parser [])
             (λ refusal. ((is_context context.now ≡ true) × (refusal ≡ Memory)) ⊎ ((is_context context.now ≡ false) × (refusal ≡ BadContext))) }
     {
@@ -170,6 +167,7 @@ fn built_of(reading: Reading<Builder>) -> Result<Parsed, Refusal>
 
 /// What was built, with the errors in their order.
 fn in_order(names: Names, built: Built) -> Result<Parsed, Refusal>
+    requires { built.root < built.tree.made }
     ensures { MatchResult result (IsMadeOf names built.tree built.root built.errors.items) (λ refusal. refusal ≡ Memory) }
 {
     let Built {
@@ -184,9 +182,7 @@ fn in_order(names: Names, built: Built) -> Result<Parsed, Refusal>
         names,
         errors,
     };
-
-    // The root was made before anything else, so no input leads to a tree without it.
-    if sorted.is_err() || !parsed.tree.has(root) {
+    if sorted.is_err() {
         drop(parsed);
         return Err(Refusal::Memory);
     }

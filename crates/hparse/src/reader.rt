@@ -13,7 +13,6 @@ use crate::options::Options;
 use crate::reading::Reading;
 use crate::source::Source;
 use crate::token_run::TokenRun;
-use htext::MAX_INPUT;
 use htoken::TokenSink;
 use names::Refusal;
 use std::alloc::Global;
@@ -26,10 +25,9 @@ pub fn read_tokens<R: Source>(
     options: &Options,
     source: &mut R,
 ) -> Result<TokenRun, Refusal>
-    requires limit { options.now.input_limit ≤ MAX_INPUT }
     requires piece { 0 < piece }
-    ensures { ReadsInput R.left R.failed (AnswersRun options.now.table.now (of_document options.now.bad_bytes options.now.input_limit))
-        (of_document options.now.bad_bytes options.now.input_limit) piece [] source.old source.new
+    ensures { ReadsInput R.left R.failed (AnswersRun options.now.table.now (of_document options.now.bad_bytes options.now.limits.input))
+        (of_document options.now.bad_bytes options.now.limits.input) piece [] source.old source.new
         result }
 {
     let mut reading = begin(alloc, options)?;
@@ -50,7 +48,7 @@ pub(crate) fn read_to_end<S: TokenSink, R: Source>(
     source: &mut R,
 ) -> Result<(), Refusal>
     requires { 0 < piece }
-    ensures { (m : Manner) (began : Began S) (fed : List ℕ) → m.limit ≤ MAX_INPUT → HasRead (gives_item S.gives S.gives_token) m began reading.old fed
+    ensures { (m : Manner) (began : Began S) (fed : List ℕ) → HasRead (gives_item S.gives S.gives_token) m began reading.old fed
         → ReadsInput R.left R.failed (λ bytes. Comes (gives_item S.gives S.gives_token) m began bytes reading.new.feeding.names reading.new.feeding.sink)
         (how_of m) piece fed source.old source.new result }
 {

@@ -1,13 +1,13 @@
 //! An input that comes in pieces.
 
-ghost use Rattle.std.specs.Prelude.{◌≡◌, ◌≤◌, ℕ, List, [], ◌++◌};
+ghost use Rattle.std.specs.Prelude.{◌≡◌, ℕ, List, [], ◌++◌};
 ghost use Rattle.htoken.specs.Token.{gives_item};
 ghost use Rattle.hparse.specs.Fed.{HasRead, FeedsPiece, EndsInput};
 ghost use Rattle.hparse.specs.Input.{Manner, Began, bom_of};
 
 use crate::feeding::Feeding;
 use crate::options::Options;
-use htext::{Bom, Decoder, MAX_INPUT};
+use htext::{Bom, Decoder};
 use htoken::{Start, TokenSink};
 use names::{Names, Refusal};
 use std::alloc::Global;
@@ -38,12 +38,11 @@ impl<'t, S: TokenSink> Reading<'t, S> {
         names: Names,
         sink: S,
     ) -> Reading<'t, S>
-        requires { options.now.input_limit ≤ MAX_INPUT }
-        ensures { HasRead (gives_item S.gives S.gives_token) (record { table = options.now.table.now; start = start; bad = options.now.bad_bytes; limit = options.now.input_limit })
+        ensures { HasRead (gives_item S.gives S.gives_token) (record { table = options.now.table.now; start = start; bad = options.now.bad_bytes; limit = options.now.limits.input })
             (record { names = names; sink = sink }) result [] }
     {
         Reading {
-            decoder: Decoder::new(alloc, bom(start), options.bad_bytes, options.input_limit),
+            decoder: Decoder::new(alloc, bom(start), options.bad_bytes, options.limits.input()),
             feeding: Feeding::new(alloc, options.table, start, names, sink),
         }
     }

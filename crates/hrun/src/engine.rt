@@ -16,7 +16,6 @@ ghost use Rattle.hrun.specs.Running.{BeginsIn, ReadsIn, Runs, RunsIn, RunsTask, 
 use crate::command::{Command, Task};
 use crate::lines::token_lines;
 use hparse::{Options, Parsed, Parser, Source, parse_reader, read_tokens};
-use htext::MAX_INPUT;
 use hwrite::{Target, error_lines, is_plain, serialize_to_vec, tree_text, write_all};
 use names::Refusal;
 use std::alloc::Global;
@@ -31,7 +30,6 @@ pub fn run<S: Source, W: Target>(
     source: &mut S,
     target: &mut W,
 ) -> Result<(), Refusal>
-    requires limit { options.now.input_limit ≤ MAX_INPUT }
     requires piece { 0 < command.piece }
     ensures { RunsTask S.left S.failed W.written W.failed command.entry.escaping command.entry.task (name_of command.entry.context) (told_by options.now) command.entry.piece
         source.old source.new target.old target.new result }
@@ -53,10 +51,9 @@ fn run_tokens<S: Source, W: Target>(
     source: &mut S,
     target: &mut W,
 ) -> Result<(), Refusal>
-    requires limit { options.now.input_limit ≤ MAX_INPUT }
     requires piece { 0 < piece }
-    ensures { Runs S.left S.failed W.written W.failed (Prints (Answers options.now.table.now (of_document options.now.bad_bytes options.now.input_limit)) tokens_text)
-        (of_document options.now.bad_bytes options.now.input_limit) piece
+    ensures { Runs S.left S.failed W.written W.failed (Prints (Answers options.now.table.now (of_document options.now.bad_bytes options.now.limits.input)) tokens_text)
+        (of_document options.now.bad_bytes options.now.limits.input) piece
         source.old source.new target.old target.new result }
 {
     let answer = read_tokens(alloc, piece, options, source)?;
@@ -75,7 +72,6 @@ fn run_tree<S: Source, W: Target>(
     source: &mut S,
     target: &mut W,
 ) -> Result<(), Refusal>
-    requires limit { options.now.input_limit ≤ MAX_INPUT }
     requires piece { 0 < command.piece }
     ensures { RunsIn S.left S.failed W.written W.failed (name_of command.entry.context)
         (Prints (Parses (told_by options.now) (subject_in (name_of command.entry.context))) (nodes_text (subject_in (name_of command.entry.context))))
@@ -97,7 +93,6 @@ fn run_errors<S: Source, W: Target>(
     source: &mut S,
     target: &mut W,
 ) -> Result<(), Refusal>
-    requires limit { options.now.input_limit ≤ MAX_INPUT }
     requires piece { 0 < command.piece }
     ensures { RunsIn S.left S.failed W.written W.failed (name_of command.entry.context)
         (Prints (Parses (told_by options.now) (subject_in (name_of command.entry.context))) errors_text)
@@ -119,7 +114,6 @@ fn run_write<S: Source, W: Target>(
     source: &mut S,
     target: &mut W,
 ) -> Result<(), Refusal>
-    requires limit { options.now.input_limit ≤ MAX_INPUT }
     requires piece { 0 < command.piece }
     ensures { RunsIn S.left S.failed W.written W.failed (name_of command.entry.context)
         (Prints (Parses (told_by options.now) (subject_in (name_of command.entry.context))) (written_text command.entry.escaping (subject_in (name_of command.entry.context))))
@@ -147,7 +141,6 @@ fn run_plain<S: Source, W: Target>(
     source: &mut S,
     target: &mut W,
 ) -> Result<(), Refusal>
-    requires limit { options.now.input_limit ≤ MAX_INPUT }
     requires piece { 0 < command.piece }
     ensures { RunsIn S.left S.failed W.written W.failed (name_of command.entry.context)
         (Prints (Parses (told_by options.now) (subject_in (name_of command.entry.context))) (plain_text (subject_in (name_of command.entry.context))))
@@ -187,7 +180,6 @@ fn parse<S: Source>(
     options: &Options,
     source: &mut S,
 ) -> Result<Parsed, Refusal>
-    requires limit { options.now.input_limit ≤ MAX_INPUT }
     requires piece { 0 < command.piece }
     ensures { ReadsIn S.left S.failed (name_of command.entry.context) (AnswersParse (told_by options.now) (subject_in (name_of command.entry.context)))
         (policy (told_by options.now) (subject_in (name_of command.entry.context))) command.entry.piece source.old source.new result }
@@ -202,7 +194,6 @@ pub fn parser<'t>(
     context: Option<&str>,
     options: &Options<'t>,
 ) -> Result<Parser<'t>, Refusal>
-    requires { options.now.input_limit ≤ MAX_INPUT }
     ensures { BeginsIn (told_by options.now) (name_of context.entry) result }
 {
     match context {

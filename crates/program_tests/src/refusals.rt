@@ -41,7 +41,7 @@ fn of_a_parser(rt: HostRuntime) -> Result<(), Fail> {
 
 /// A builder that may make 16 nodes, and is given a tag for each and more.
 fn full(alloc: Global, quirks: &Quirks) -> Result<Builder<'_>, Refusal> {
-    Builder::document(alloc, Keys::fixed(), quirks, Limits::new(16, 16)?)
+    Builder::document(alloc, Keys::fixed(), quirks, Limits::new(0, 16, 16)?)
 }
 
 /// Hands over a start tag.

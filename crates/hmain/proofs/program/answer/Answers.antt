@@ -1,5 +1,4 @@
 use Rattle.std.proofs.Common.{refl, ap, map, subst, string_bytes}
-use Rattle.htext.specs.declared.decoder.TheConstants.{MAX_INPUT}
 use Rattle.hmain.specs.Program.{AnswersWords, line_missing, line_answered}
 use Rattle.hmain.proofs.Outcomes.{passed_on}
 use Rattle.hmain.proofs.program.answer.Goals as goal
@@ -11,7 +10,7 @@ pub returns : goal.returns
 returns g c =
     line_answered (map string_bytes c.in_ok-words.words.items) c.in_ok-words.ensures
     (subst (λ words. AnswersWords g.R.Surroundings.opens g.R.Surroundings.cannot_open g.R.File.Source.left g.R.File.Source.failed g.R.Surroundings.has_text g.R.Surroundings.lacks_text g.S.Source.left g.S.Source.failed
-    g.W.Target.written g.W.Target.failed MAX_INPUT c.args.surroundings.now words c.args.input.now c.answer_words.new.input c.args.output.now c.answer_words.new.output c.answer_words.result)
+    g.W.Target.written g.W.Target.failed c.args.surroundings.now words c.args.input.now c.answer_words.new.input c.args.output.now c.answer_words.new.output c.answer_words.result)
     (ap (map string_bytes) c.deref.ensures.value) c.answer_words.ensures)
 
 pub returns-in_err-keys : goal.returns-in_err-keys

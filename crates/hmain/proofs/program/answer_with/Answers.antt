@@ -1,6 +1,5 @@
 use Rattle.std.proofs.Common.{List, ℕ, refl, sym, ap, ◌∙◌, option_map}
 use Rattle.std.specs.Borrow.{Bor}
-use Rattle.htext.specs.declared.decoder.TheConstants.{MAX_INPUT}
 use Rattle.hmain.specs.declared.fault.Fault.TheVariants as fault
 use Rattle.hmain.specs.Program.{words_without, words_with_file, words_without_file}
 use Rattle.hmain.proofs.Named.{limits_refused, context_refused, tells}
@@ -23,10 +22,10 @@ returns-in_err-check_context g c = λ words says found listed.
 
 pub returns-in-Some : goal.returns-in-Some
 returns-in-Some g c = λ words says found listed.
-    let told = tells g.R.Surroundings.has_text g.R.Surroundings.lacks_text c.args.surroundings.now words c.args.line says c.args.table.now c.args.quirks.now MAX_INPUT c.in_ok-limits.limits found listed c.in_ok-limits.ensures.0 c.in_ok-check_context.ensures c.in_ok-limits.ensures.1 in
+    let told = tells g.R.Surroundings.has_text g.R.Surroundings.lacks_text c.args.surroundings.now words c.args.line says c.args.table.now c.args.quirks.now c.in_ok-limits.limits found listed c.in_ok-limits.ensures.0 c.in_ok-check_context.ensures c.in_ok-limits.ensures.1 in
     words_with_file _ c.in-Some.name.now told (sym says.file_is ∙ ap (option_map (λ (s : Bor (List ℕ)). s.now)) c.in-Some.is) c.answer_file.ensures refl
 
 pub returns-in-None : goal.returns-in-None
 returns-in-None g c = λ words says found listed.
-    let told = tells g.R.Surroundings.has_text g.R.Surroundings.lacks_text c.args.surroundings.now words c.args.line says c.args.table.now c.args.quirks.now MAX_INPUT c.in_ok-limits.limits found listed c.in_ok-limits.ensures.0 c.in_ok-check_context.ensures c.in_ok-limits.ensures.1 in
+    let told = tells g.R.Surroundings.has_text g.R.Surroundings.lacks_text c.args.surroundings.now words c.args.line says c.args.table.now c.args.quirks.now c.in_ok-limits.limits found listed c.in_ok-limits.ensures.0 c.in_ok-check_context.ensures c.in_ok-limits.ensures.1 in
     words_without_file _ told (sym says.file_is ∙ ap (option_map (λ (s : Bor (List ℕ)). s.now)) c.in-None.is) c.answer_input.ensures

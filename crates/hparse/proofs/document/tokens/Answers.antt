@@ -11,7 +11,7 @@ returns-in-Err c =
     let lt : c.loop-piece.piece-index < length c.args.pieces.now = omega arith in
     let table = c.args.options.now.table.now in
     let of = c.args.options.now.bad_bytes in
-    let limit = c.args.options.now.input_limit in
+    let limit = c.args.options.now.limits.input in
     let fed = joined (take c.loop-piece.piece-index c.args.pieces.now) in
     let h = c.loop-piece.invariant in
     shows_piece table of limit fed c.loop-piece.reading c.feed.new.self h _ (joined (drop (c.loop-piece.piece-index + 1) c.args.pieces.now)) (joined c.args.pieces.now) c.in-Err.refusal
@@ -22,7 +22,7 @@ loop-piece-preserved c =
     let lt : c.loop-piece.piece-index < length c.args.pieces.now = omega arith in
     let table = c.args.options.now.table.now in
     let of = c.args.options.now.bad_bytes in
-    let limit = c.args.options.now.input_limit in
+    let limit = c.args.options.now.limits.input in
     let fed = joined (take c.loop-piece.piece-index c.args.pieces.now) in
     let h = c.loop-piece.invariant in
     subst (HasReadTokens table of limit c.feed.new.self) (sym (joined_more c.args.pieces.now c.loop-piece.piece-index _ lt))
@@ -31,4 +31,4 @@ loop-piece-preserved c =
 pub returns : goal.returns
 returns c =
     let all : take c.loop-piece.piece-index c.args.pieces.now ≡ c.args.pieces.now = take_all c.loop-piece.piece-index c.args.pieces.now c.loop-piece-test.false in
-    subst (λ (ps : List (Bor (List ℕ))). Shows c.args.options.now.table.now (of_document c.args.options.now.bad_bytes c.args.options.now.input_limit) (joined ps) c.finish.result) all (c.finish.ensures c.args.options.now.table.now c.args.options.now.bad_bytes c.args.options.now.input_limit (joined (take c.loop-piece.piece-index c.args.pieces.now)) c.loop-piece.invariant)
+    subst (λ (ps : List (Bor (List ℕ))). Shows c.args.options.now.table.now (of_document c.args.options.now.bad_bytes c.args.options.now.limits.input) (joined ps) c.finish.result) all (c.finish.ensures c.args.options.now.table.now c.args.options.now.bad_bytes c.args.options.now.limits.input (joined (take c.loop-piece.piece-index c.args.pieces.now)) c.loop-piece.invariant)

@@ -5,4 +5,4 @@ use Rattle.hparse.proofs.document.tokens.Given as goal
 
 -- the pieces so far have been read
 abbrev pub invariant-loop-piece : goal.invariant-loop-piece
-invariant-loop-piece l = HasReadTokens l.options.table.now l.options.bad_bytes l.options.input_limit l.reading (joined (take l.piece-index l.pieces))
+invariant-loop-piece l = HasReadTokens l.options.table.now l.options.bad_bytes l.options.limits.input l.reading (joined (take l.piece-index l.pieces))

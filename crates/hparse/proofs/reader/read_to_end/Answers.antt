@@ -1,6 +1,7 @@
 use Rattle.std.proofs.Common.{◌≡◌, ℕ, ◌+◌, ◌<◌, ◌≤◌, List, [], length, take, drop, ap, subst, ◌∙◌, sym, arith, rules}
 use Rattle.std.proofs.lemmas.Result.{err_from_is_err_and}
 use Rattle.std.specs.Io.KnownBytes.{Consumes}
+use Rattle.htext.specs.declared.decoder.TheConstants.{MAX_INPUT}
 use Rattle.htoken.specs.Token.{gives_item}
 use Rattle.hparse.specs.Input.{Comes}
 use Rattle.hparse.proofs.Turns.{not_turned, no_turn, turned, refused_turn, failed_turn, ended, front_of_buffer, some_of_buffer, few_of_buffer}
@@ -13,7 +14,7 @@ loop-turn-init g c = (
 )
 
 pub returns-in-Some-eq0 : goal.returns-in-Some-eq0
-returns-in-Some-eq0 g c = λ m began before small start.
+returns-in-Some-eq0 g c = λ m began before start.
     let h = c.loop-turn.invariant.0 m began before start in
     let buffer : List ℕ = c.read.new.buffer in
     let some : 0 < length buffer = omega arith in
@@ -22,14 +23,14 @@ returns-in-Some-eq0 g c = λ m began before small start.
     c.in-Some-eq0.ensures.bytes.1 c.in-Some-eq0.ensures.count c.args.piece c.end.new.self c.end.result none (c.in-Some-eq0.ensures.bytes.2 c.in-Some-eq0.field-0-test some) (c.end.ensures m began _ h.has_read)
 
 pub returns-in-None : goal.returns-in-None
-returns-in-None g c = λ m began before small start.
+returns-in-None g c = λ m began before start.
     let h = c.loop-turn.invariant.0 m began before start in
     failed_turn g.R.Source.left g.R.Source.failed (gives_item g.S.ErrorSink.gives g.S.TokenSink.gives_token) m began before c.loop-turn._turn c.args.source.now c.loop-turn.source c.loop-turn.reading h c.read.new.self c.args.piece
     (λ bytes. Comes (gives_item g.S.ErrorSink.gives g.S.TokenSink.gives_token) m began bytes c.loop-turn.reading.feeding.names c.loop-turn.reading.feeding.sink)
     c.in-None.ensures.bytes c.in-None.ensures.count
 
 pub returns-in_err-feed-in-Some : goal.returns-in_err-feed-in-Some
-returns-in_err-feed-in-Some g c = λ m began before small start.
+returns-in_err-feed-in-Some g c = λ m began before start.
     let h = c.loop-turn.invariant.0 m began before start in
     let e = err_from_is_err_and c.from_residual-in_err-feed-in-Some.result c.from_residual-in_err-feed-in-Some.ensures.1 in
     let same = front_of_buffer c.in-Some.count c.loop-turn.buffer.len c.read.new.buffer (drop (length c.read.new.buffer) c.loop-turn.buffer.items) c.deref.result.now c.deref.ensures.value (c.read.auto.buffer ∙ c.deref_mut.ensures.len) in
@@ -52,8 +53,9 @@ loop-turn-preserved g c = (
 )
 
 pub returns : goal.returns
-returns g c = λ m began before small start.
+returns g c = λ m began before start.
     let h = c.loop-turn.invariant.0 m began before start in
+    let fits : m.limit ≤ MAX_INPUT = start.fits in
     let many : m.limit + 3 < c.loop-turn._turn = omega arith in
     no_turn g.R.Source.left g.R.Source.failed (gives_item g.S.ErrorSink.gives g.S.TokenSink.gives_token) m began before c.loop-turn._turn c.args.source.now c.loop-turn.source c.loop-turn.reading h c.args.piece
     (λ bytes. Comes (gives_item g.S.ErrorSink.gives g.S.TokenSink.gives_token) m began bytes c.loop-turn.reading.feeding.names c.loop-turn.reading.feeding.sink) _ many

@@ -11,18 +11,18 @@ pub returns-in-Err : goal.returns-in-Err
 returns-in-Err g c =
     let table = c.args.options.now.table.now in
     let of = c.args.options.now.bad_bytes in
-    let limit = c.args.options.now.input_limit in
+    let limit = c.args.options.now.limits.input in
     let h = c.in_ok-reading.ensures in
     let feeding = c.read_to_end.new.reading.feeding in
     not_read g.R.Source.left g.R.Source.failed (λ bytes. Comes collects (as_document table of limit) h.began bytes feeding.names feeding.sink) (AnswersRun table (of_document of limit)) (of_document of limit) c.args.piece [] c.args.source.now c.read_to_end.new.source
-    c.in-Err.refusal (λ bytes r. answers_refused table of limit h.began bytes feeding.names feeding.sink c.in-Err.refusal r) (c.in-Err.ensures (as_document table of limit) h.began [] c.requires.limit h.has_read)
+    c.in-Err.refusal (λ bytes r. answers_refused table of limit h.began bytes feeding.names feeding.sink c.in-Err.refusal r) (c.in-Err.ensures (as_document table of limit) h.began [] h.has_read)
 
 pub returns-in-Ok : goal.returns-in-Ok
 returns-in-Ok g c =
     let table = c.args.options.now.table.now in
     let of = c.args.options.now.bad_bytes in
-    let limit = c.args.options.now.input_limit in
+    let limit = c.args.options.now.limits.input in
     let h = c.in_ok-reading.ensures in
     let feeding = c.read_to_end.new.reading.feeding in
     made g.R.Source.left g.R.Source.failed (λ bytes. Comes collects (as_document table of limit) h.began bytes feeding.names feeding.sink) (AnswersRun table (of_document of limit)) (of_document of limit) c.args.piece [] c.args.source.now c.read_to_end.new.source
-    tt c.run_of.result (λ bytes t. run_answers table of limit h.began feeding.names feeding.sink h.no_tokens h.no_errors c.run_of.result c.run_of.ensures bytes t) (c.in-Ok.ensures (as_document table of limit) h.began [] c.requires.limit h.has_read)
+    tt c.run_of.result (λ bytes t. run_answers table of limit h.began feeding.names feeding.sink h.no_tokens h.no_errors c.run_of.result c.run_of.ensures bytes t) (c.in-Ok.ensures (as_document table of limit) h.began [] h.has_read)

@@ -1,7 +1,8 @@
-use Rattle.std.proofs.Common.{sym, subst}
-use Rattle.hadopt.specs.Naming.{numbers}
-use Rattle.hmodes.specs.Reached.{Reached, document}
+use Rattle.std.proofs.Common.{sym, subst, arith}
+use Rattle.hmodes.specs.Reached.{document}
+use Rattle.hmodes.specs.Beginning.{document_begins}
+use Rattle.hbuild.specs.Building.{Stands}
 use Rattle.hbuild.proofs.builder.Builder.document.Goals as goal
 
 pub invariant_of-result : goal.invariant_of-result
-invariant_of-result c = λ e. subst (Reached numbers) (sym c.in_ok-rules.ensures) (document c.args.quirks.now c.args.limits)
+invariant_of-result c = λ e. subst (Stands 0) (sym c.in_ok-rules.ensures) (record { reached = document c.args.quirks.now c.args.limits.tree; made = omega arith })

@@ -4,10 +4,10 @@ use Rattle.names.specs.declared.refusal.Refusal.{Refusal}
 use Rattle.hmodes.specs.States.{state_of}
 use Rattle.hmodes.specs.Tokens.{token_of}
 use Rattle.hbuild.specs.Building.{StepGives}
-use Rattle.hbuild.proofs.Looping.{reached-after}
+use Rattle.hbuild.proofs.Looping.{stands-after}
 use Rattle.hbuild.proofs.builder.Builder.take.Goals as goal
 
 pub invariant_of-self-in_default-answer : goal.invariant_of-self-in_default-answer
 invariant_of-self-in_default-answer c = λ none.
-    reached-after c.args.at (token_of c.args.token.now) (state_of c.self.inside.rules) (state_of c.step-answer.new.rules) (c.self.invariant none)
+    stands-after c.self.inside.root c.args.at (token_of c.args.token.now) (state_of c.self.inside.rules) (state_of c.step-answer.new.rules) (c.self.invariant none)
     (subst (λ (r : Result (Unit {0}) Refusal). StepGives c.args.at (token_of c.args.token.now) (state_of c.self.inside.rules) r (state_of c.step-answer.new.rules)) c.in_default-answer.is c.step-answer.ensures)

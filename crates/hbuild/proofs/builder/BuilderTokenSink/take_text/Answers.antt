@@ -4,12 +4,11 @@ use Rattle.hadopt.specs.Inserts.{put}
 use Rattle.hadopt.specs.Naming.{numbers}
 use Rattle.hadopt.specs.Places.{place}
 use Rattle.hadopt.specs.Site.{SiteOf}
-use Rattle.hmodes.specs.Reached.{Reached}
 use Rattle.hmodes.specs.State.{character}
 use Rattle.hmodes.specs.States.{state_of}
-use Rattle.hbuild.specs.Building.{Building, Takes}
+use Rattle.hbuild.specs.Building.{Building, Stands, Takes}
 use Rattle.hbuild.specs.Runs.{puts_each}
-use Rattle.hbuild.proofs.PlainRun.{char_taken, free-of, puts-of, gives-of, left_is, reached_by_token}
+use Rattle.hbuild.proofs.PlainRun.{char_taken, free-of, puts-of, gives-of, left_is, stands_by_token}
 use Rattle.hbuild.proofs.builder.BuilderTokenSink.take_text.Goals as goal
 
 pub returns : goal.returns
@@ -29,5 +28,5 @@ invariant_of-self c = λ none.
     let b : Building = c.args.self.now in
     let answer = c.put_one-answer.result in
     let free : b.refused ≡ None = free-of b _ c.is_some.result c.self.view_is c.is_some.ensures c.if-is_some.false in
-    let reached : b.refused ≡ None → Reached numbers b.state = λ u. subst (λ (o : Building). Reached numbers o.state) c.self.view_is (c.self.invariant (ap (λ (o : Building). o.refused) c.self.view_is ∙ u)) in
-    reached_by_token c.args.at (character c.args.ch) b _ answer reached free (sym c.err-self-inside.ensures.value ∙ none) (returns c)
+    let stands : b.refused ≡ None → Stands b.root b.state = λ u. subst (λ (o : Building). Stands o.root o.state) c.self.view_is (c.self.invariant (ap (λ (o : Building). o.refused) c.self.view_is ∙ u)) in
+    stands_by_token c.args.at (character c.args.ch) b _ answer stands free (sym c.err-self-inside.ensures.value ∙ none) (returns c)

@@ -8,7 +8,6 @@ pub returns : goal.returns
 returns c =
     let e = c.in_ok-builder.ensures in
     record {
-      fits = c.requires;
       accepts = refl;
       began = record { names = c.in_ok-names.names; sink = c.in_ok-builder.builder };
       unrefused = ap (λ (b : Building). b.refused) e;

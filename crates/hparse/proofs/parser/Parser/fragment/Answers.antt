@@ -18,13 +18,12 @@ returns c =
     let began : Began Building = record { names = c.intern.new.self; sink = c.in_ok-builder.builder } in (
       allowed,
       record {
-        fits = c.requires;
         accepts = refl;
         began = began;
         unrefused = ap (λ (b : Building). b.refused) e;
         none_told = ap (λ (b : Building). b.told) e;
         root_is = ap (λ (b : Building). b.root) e;
         begins = subst (λ (b : Building). BeginsIn (told_by c.args.options.now) began.names (fragment c.args.context.now) b.state) (sym e) (a_fragment c.args.context.now c.in_ok-name.name c.in_ok-name.ensures.number);
-        has_read = subst (λ (k : RawKind). HasRead builds (record { table = c.args.options.now.table.now; start = start.Context k; bad = c.args.options.now.bad_bytes; limit = c.args.options.now.input_limit }) began c.new.result []) kind c.new.ensures;
+        has_read = subst (λ (k : RawKind). HasRead builds (record { table = c.args.options.now.table.now; start = start.Context k; bad = c.args.options.now.bad_bytes; limit = c.args.options.now.limits.input }) began c.new.result []) kind c.new.ensures;
       },
     )

@@ -1,0 +1,254 @@
+-- Nodes are made and never taken away: no token leads to fewer.
+use Rattle.std.proofs.Common.{◌≡◌, ℕ, zero, suc, ◌≤◌, Bool, true, false, not, cond, leb, List, [], ◌∷◌, Option, Some, None, subst, length, drop, arith}
+use Rattle.std.specs.Prelude.{◌&&◌, is_none}
+use Rattle.std.specs.Option.{option_map_or}
+use Rattle.names.specs.declared.error.ErrorCode.{ErrorCode}
+use Rattle.names.specs.declared.error.ErrorCode.TheVariants.{TreeInBody, NonVoidHtmlElementStartTagWithTrailingSolidus}
+use Rattle.names.specs.declared.placed.Placed.{Placed}
+use Rattle.names.specs.declared.refusal.Refusal.TheVariants.{TooManyNodes, TooDeep}
+use Rattle.names.specs.declared.tag.Tag.TheVariants as tag
+use Rattle.names.specs.Sets.{is_special}
+use Rattle.hnodes.specs.Edits.{make, char_into, text_before}
+use Rattle.hnodes.specs.Forest.{What, Attribute, element}
+use Rattle.hnodes.specs.Forest as forest
+use Rattle.hnodes.specs.declared.node.Place.{Place}
+use Rattle.hnodes.specs.declared.node.Place.TheVariants.{LastIn}
+use Rattle.hopen.specs.Nearest.{before}
+use Rattle.hopen.specs.Scopes.{stops, is_named}
+use Rattle.hopen.specs.Stack.{OpenNode, is_node, is_open, current, above, in_scope, furthest_block}
+use Rattle.hopen.specs.declared.scope.Scope.TheVariants.{Default}
+use Rattle.hformat.specs.Formatting.{EntryOf, entry_of, entry_at, find_entry, without_entry}
+use Rattle.hformat.specs.declared.bookmark.Bookmark.TheVariants.{InPlace}
+use Rattle.hadopt.specs.Adopts.{Turn, Next, Ended, next_turn, Climb, most_turns, climbed_one, climbed, replaced, left, ended_climb, entries_for, adopted_by, popped_with, turned_with, turned, turns, is_unlisted, adopted}
+use Rattle.hadopt.specs.Closes.{is, closed, other_end, popped_to, without_implied}
+use Rattle.hadopt.specs.Inserts.{made, added, pushed, inserted, put}
+use Rattle.hadopt.specs.Naming.{Naming}
+use Rattle.hadopt.specs.Places.{place, place_in}
+use Rattle.hadopt.specs.Reconstructs.{renewed, renewed_each, reconstructed, stops_going_back}
+use Rattle.hadopt.specs.Site.{Outcome, Goes, SiteOf, and_then, stack, trees, with_stack, with_items, with_error, error_unless, current_is, from_top, node_of}
+use Rattle.hadopt.specs.Site as site
+use Rattle.hadopt.proofs.Climbing.{OnGoes, goes-then}
+use Rattle.hmodes.specs.Doctypes.{doctype_node}
+use Rattle.hmodes.specs.Perform.{perform, with_foster, with_control, each_of, flow_of, forgotten, current_node, adopted_listed, head_pushed}
+use Rattle.hmodes.specs.Questions.{answer_of}
+use Rattle.hmodes.specs.Rules.{rule_of}
+use Rattle.hmodes.specs.State.{Token, character, State, Flow, Done, Again, Refused, kind_of, flow_then, flow_map, token_name, token_attrs, token_text, token_char, is_self_closing}
+use Rattle.hmodes.specs.Step.{Rule, Chain, ends, refuses, goes_again, Step, drops, goes, begun, finished}
+use Rattle.hmodes.specs.Words.{Do, ◌▸◌, when, unless, choose, fostered, each_pending, insert, insert_named, insert_root, insert_root_named, insert_comment, comment_in_document, comment_in_first, insert_doctype, push_head, reconstruct, close_p, adopt, adopt_listed}
+use Rattle.hmodes.specs.Words as word
+
+module _ {N : Type 0} (k : ℕ) where
+  -- at least so many nodes were made
+  abbrev pub Holds : SiteOf N → Type 0
+  Holds s = k ≤ s.nodes.made
+
+  abbrev Keeps : Outcome (SiteOf N) → Type 0
+  Keeps = OnGoes Holds
+
+  -- one operation, and another one after it
+  then : (o : Outcome (SiteOf N)) (f : SiteOf N → Outcome (SiteOf N)) → Keeps o → ((s : SiteOf N) → Holds s → Keeps (f s)) → Keeps (and_then o f)
+  then = goes-then Holds Holds
+
+  made-holds : (at : ℕ) (w : What N) (s : SiteOf N) → Holds s → Keeps (made at w s)
+  made-holds at w s h = go (leb s.nodes.limit s.nodes.made)
+    where
+      go : (v : Bool) → Keeps (cond v (site.Refused (TooManyNodes at)) (Goes (record s { nodes = make w s.nodes })))
+      go true = tt
+      go false = omega (arith, h)
+
+  added-holds : (at : ℕ) (w : What N) (p : Place) (s : SiteOf N) → Holds s → Keeps (added at w p s)
+  added-holds at w p s h = then (made at w s) _ (made-holds at w s h) (λ t g. g)
+
+  pushed-holds : (at : ℕ) (x : OpenNode N) (s : SiteOf N) → Holds s → Keeps (pushed at x s)
+  pushed-holds at x s h = go (leb s.open_nodes.limit (length (stack s)))
+    where
+      go : (v : Bool) → Keeps (cond v (site.Refused (TooDeep at)) (Goes (with_stack (x ∷ stack s) s)))
+      go true = tt
+      go false = h
+
+  inserted-holds : (at : ℕ) (name : N) (attrs : List (Attribute N)) (p : Place) (s : SiteOf N) → Holds s → Keeps (inserted at name attrs p s)
+  inserted-holds at name attrs p s h = then (added at (element name attrs) p s) _ (added-holds at (element name attrs) p s h) (λ t g. pushed-holds at _ t g)
+
+  put-holds : (at c : ℕ) (p : Place) (s : SiteOf N) → Holds s → Keeps (put at c p s)
+  put-holds at c p s h = go (text_before p (trees s)) (is_none (text_before p (trees s)) && leb s.nodes.limit s.nodes.made)
+    where
+      go : (o : Option ℕ) (v : Bool) → Keeps (cond v (site.Refused (TooManyNodes at)) (Goes (record s { nodes = char_into c p o s.nodes })))
+      go o true = tt
+      go None false = omega (arith, h)
+      go (Some n) false = h
+
+  module _ (n : Naming N) (at : ℕ) where
+    renewed-holds : (back : ℕ) (s : SiteOf N) → Holds s → Keeps (renewed_each n at back s)
+    renewed-holds zero s h = h
+    renewed-holds (suc back) s h = then (option_map_or (λ e. renewed n at back e s) (entry_at back s.items) (Goes s)) (renewed_each n at back) (go (entry_at back s.items)) (λ t g. renewed-holds back t g)
+      where
+        go : (o : Option (EntryOf N)) → Keeps (option_map_or (λ e. renewed n at back e s) o (Goes s))
+        go None = h
+        go (Some e) = then (inserted at e.name e.attrs (place n s) s) _ (inserted-holds at e.name e.attrs (place n s) s h) (λ t g. g)
+
+    error-holds : (v : Bool) (s : SiteOf N) (code : ErrorCode) → Holds s → Holds (error_unless v code at s)
+    error-holds true s code h = h
+    error-holds false s code h = h
+
+    closed-holds : (sought : OpenNode N → Bool) (s : SiteOf N) → Holds s → Holds (closed n at sought s)
+    closed-holds sought s h = error-holds (current_is sought (without_implied n sought s)) (without_implied n sought s) TreeInBody h
+
+    other-holds : (name : N) (s : SiteOf N) → Holds s → Holds (other_end n at name s)
+    other-holds name s h = go (in_scope (λ x. is_special (n.tag x.name)) (is_named n.same name) (stack s))
+      where
+        go : (v : Bool) → Holds (cond v (closed n at (is_named n.same name) s) (with_error TreeInBody at s))
+        go true = closed-holds (is_named n.same name) s h
+        go false = h
+
+    -- the adoption agency
+    climbed-one-holds : (block passed : ℕ) (x : OpenNode N) (c : Climb N) → Holds c.site → OnGoes (λ d. Holds d.site) (climbed_one n at block passed x c)
+    climbed-one-holds block passed x c h = go (entry_of x.node (entries_for passed x.node c.site.items))
+      where
+        s : SiteOf N
+        s = with_items (entries_for passed x.node c.site.items) c.site
+
+        go : (o : Option (EntryOf N)) → OnGoes (λ d. Holds d.site) (option_map_or (λ e. and_then (made at (element e.name e.attrs) s) (λ t. Goes (replaced block s.nodes.made x e (record c { site = t })))) o (Goes (left x (record c { site = s }))))
+        go None = h
+        go (Some e) = goes-then Holds (λ d. Holds d.site) (made at (element e.name e.attrs) s) _ (made-holds at (element e.name e.attrs) s h) (λ t g. g)
+
+    climbed-holds : (block passed : ℕ) (way : List (OpenNode N)) (c : Climb N) → Holds c.site → OnGoes (λ d. Holds d.site) (climbed n at block passed way c)
+    climbed-holds block passed [] c h = h
+    climbed-holds block passed (x ∷ way) c h =
+        goes-then (λ d. Holds d.site) (λ d. Holds d.site) (climbed_one n at block passed x c) (climbed n at block (suc passed) way) (climbed-one-holds block passed x c h) (λ d g. climbed-holds block (suc passed) way d g)
+
+    ended-holds : (f : EntryOf N) (block : ℕ) (ancestor : Option (OpenNode N)) (c : Climb N) → Holds c.site → Keeps (ended_climb n at f block ancestor c)
+    ended-holds f block ancestor c h = then (made at (element f.name f.attrs) _) _ (made-holds at (element f.name f.attrs) _ h) (λ t g. g)
+
+    abbrev HoldsAfter : Turn (SiteOf N) → Type 0
+    HoldsAfter (Next s) = Holds s
+    HoldsAfter (Ended s) = Holds s
+
+    by-holds : (f : EntryOf N) (s : SiteOf N) (block : OpenNode N) → Holds s → OnGoes HoldsAfter (adopted_by n at f s block)
+    by-holds f s block h =
+        goes-then (λ d. Holds d.site) HoldsAfter (climbed n at block.node 0 (before (is_node f.node) (above block.node (stack s))) (record { last = block.node; bookmark = InPlace; site = s })) _
+        (climbed-holds block.node 0 (before (is_node f.node) (above block.node (stack s))) (record { last = block.node; bookmark = InPlace; site = s }) h)
+        (λ c g. goes-then Holds HoldsAfter (ended_climb n at f block.node (current (above f.node (stack s))) c) _ (ended-holds f block.node (current (above f.node (stack s))) c g) (λ t m. m))
+
+    with-holds : (f : EntryOf N) (s : SiteOf N) → Holds s → OnGoes HoldsAfter (turned_with n at f s)
+    with-holds f s h = go (is_open f.node (stack s)) (in_scope (stops n.tag Default) (is_node f.node) (stack s)) (current_is (is_node f.node) s)
+      where
+        under : (t : SiteOf N) → Holds t → (o : Option (OpenNode N)) → OnGoes HoldsAfter (option_map_or (adopted_by n at f t) o (Goes (Ended (popped_with f t))))
+        under t g None = g
+        under t g (Some b) = by-holds f t b g
+
+        go : (x y z : Bool) → OnGoes HoldsAfter (cond (not x) (Goes (Ended (with_items (without_entry f.node s.items) (with_error TreeInBody at s)))) (cond (not y) (Goes (Ended (with_error TreeInBody at s))) (option_map_or (adopted_by n at f (error_unless z TreeInBody at s)) (furthest_block n.tag f.node (stack (error_unless z TreeInBody at s))) (Goes (Ended (popped_with f (error_unless z TreeInBody at s)))))))
+        go false y z = h
+        go true false z = h
+        go true true z = under (error_unless z TreeInBody at s) (error-holds z s TreeInBody h) (furthest_block n.tag f.node (stack (error_unless z TreeInBody at s)))
+
+    turned-holds : (name : N) (s : SiteOf N) → Holds s → OnGoes HoldsAfter (turned n at name s)
+    turned-holds name s h = go (find_entry n.same name s.items)
+      where
+        go : (o : Option (EntryOf N)) → OnGoes HoldsAfter (option_map_or (λ f. turned_with n at f s) o (Goes (Ended (other_end n at name s))))
+        go None = other-holds name s h
+        go (Some f) = with-holds f s h
+
+    turns-holds : (turns_left : ℕ) (name : N) (s : SiteOf N) → Holds s → Keeps (turns n at turns_left name s)
+    turns-holds zero name s h = h
+    turns-holds (suc j) name s h = goes-then HoldsAfter Holds (turned n at name s) (next_turn (turns n at j name)) (turned-holds name s h) next
+      where
+        next : (t : Turn (SiteOf N)) → HoldsAfter t → Keeps (next_turn (turns n at j name) t)
+        next (Next t) m = turns-holds j name t m
+        next (Ended t) m = m
+
+    adopted-holds : (name : N) (s : SiteOf N) → Holds s → Keeps (adopted n at name s)
+    adopted-holds name s h = go (is_unlisted n at name s)
+      where
+        go : (v : Bool) → Keeps (cond v (Goes (with_stack (drop 1 (stack s)) s)) (turns n at most_turns name s))
+        go true = h
+        go false = turns-holds most_turns name s h
+
+    listed-holds : (name : N) (s : SiteOf N) → Holds s → Keeps (adopted_listed n at name s)
+    listed-holds name s h = then (adopted n at name s) _ (adopted-holds name s h) (λ y g. go y g (find_entry n.same name s.items))
+      where
+        go : (y : SiteOf N) → Holds y → (o : Option (EntryOf N)) → Holds (option_map_or (λ e. forgotten e.node y) o y)
+        go y g None = g
+        go y g (Some e) = g
+
+    head-holds : (o : Option ℕ) (s : SiteOf N) → Holds s → Keeps (head_pushed n at o s)
+    head-holds None s h = h
+    head-holds (Some x) s h = pushed-holds at _ s h
+
+  abbrev KeepsFlow : Flow N → Type 0
+  KeepsFlow (Done s) = Holds s.site
+  KeepsFlow (Again t s) = Holds s.site
+  KeepsFlow (Refused r) = Unit {0}
+
+  on-site : (s : State N) (o : Outcome (SiteOf N)) → Keeps o → KeepsFlow (flow_of s o)
+  on-site s (Goes x) h = h
+  on-site s (site.Refused r) h = tt
+
+  flow-then : (f : Flow N) (g : State N → Flow N) → KeepsFlow f → ((s : State N) → Holds s.site → KeepsFlow (g s)) → KeepsFlow (flow_then f g)
+  flow-then (Done s) g h m = m s h
+  flow-then (Again t s) g h m = h
+  flow-then (Refused r) g h m = tt
+
+  flow-map : (v : Bool) (f : Flow N) → KeepsFlow f → KeepsFlow (flow_map (with_foster v) f)
+  flow-map v (Done s) h = h
+  flow-map v (Again t s) h = h
+  flow-map v (Refused r) h = tt
+
+  flow-each : (f : Placed → State N → Flow N) → ((c : Placed) (s : State N) → Holds s.site → KeepsFlow (f c s)) → (cs : List Placed) (s : State N) → Holds s.site → KeepsFlow (each_of f cs s)
+  flow-each f m [] s h = h
+  flow-each f m (c ∷ cs) s h = flow-then (f c s) (each_of f cs) (m c s h) (λ u g. flow-each f m cs u g)
+
+  module _ (n : Naming N) where
+    perform-holds : (p : Do) (at : ℕ) (t : Token N) (s : State N) → Holds s.site → KeepsFlow (perform n at t p s)
+    perform-holds (p ▸ q) at t s h = flow-then (perform n at t p s) (perform n at t q) (perform-holds p at t s h) (λ u m. perform-holds q at t u m)
+    perform-holds (when question p) at t s h = go (answer_of n t question s) (perform-holds p at t s h)
+      where
+        go : (x : Bool) → KeepsFlow (perform n at t p s) → KeepsFlow (cond x (perform n at t p s) (Done s))
+        go true m = m
+        go false m = h
+    perform-holds (unless question p) at t s h = go (answer_of n t question s) (perform-holds p at t s h)
+      where
+        go : (x : Bool) → KeepsFlow (perform n at t p s) → KeepsFlow (cond x (Done s) (perform n at t p s))
+        go true m = h
+        go false m = m
+    perform-holds (choose question p q) at t s h = go (answer_of n t question s) (perform-holds p at t s h) (perform-holds q at t s h)
+      where
+        go : (x : Bool) → KeepsFlow (perform n at t p s) → KeepsFlow (perform n at t q s) → KeepsFlow (cond x (perform n at t p s) (perform n at t q s))
+        go true m k = m
+        go false m k = k
+    perform-holds (fostered p) at t s h = flow-map false (perform n at t p (with_foster true s)) (perform-holds p at t (with_foster true s) h)
+    perform-holds (each_pending p) at t s h =
+        flow-each (λ c. perform n c.at (character c.ch) p) (λ c u m. perform-holds p c.at (character c.ch) u m) s.control.pending (with_control (record s.control { pending = [] }) s) h
+    perform-holds insert at t s h = on-site s _ (inserted-holds at (token_name n t) (token_attrs t) (place n s.site) s.site h)
+    perform-holds (insert_named x) at t s h = on-site s _ (inserted-holds at (n.known x) [] (place n s.site) s.site h)
+    perform-holds insert_root at t s h = on-site s _ (inserted-holds at (token_name n t) (token_attrs t) (LastIn 0) s.site h)
+    perform-holds (insert_root_named x) at t s h = on-site s _ (inserted-holds at (n.known x) [] (LastIn 0) s.site h)
+    perform-holds insert_comment at t s h = on-site s _ (added-holds at (forest.comment (token_text t)) (LastIn (current_node s.site)) s.site h)
+    perform-holds comment_in_document at t s h = on-site s _ (added-holds at (forest.comment (token_text t)) (LastIn 0) s.site h)
+    perform-holds comment_in_first at t s h = on-site s _ (added-holds at (forest.comment (token_text t)) (LastIn (node_of (from_top 0 s.site))) s.site h)
+    perform-holds insert_doctype at t s h = on-site s _ (added-holds at (doctype_node t) (LastIn 0) s.site h)
+    perform-holds word.put at t s h = on-site s _ (put-holds at (token_char t) (place n s.site) s.site h)
+    perform-holds push_head at t s h = on-site s _ (head-holds n at s.control.head s.site h)
+    perform-holds reconstruct at t s h = on-site s _ (renewed-holds n at (length (before (stops_going_back s.site) s.site.items)) s.site h)
+    perform-holds close_p at t s h = closed-holds n at (is n tag.P) s.site h
+    perform-holds adopt at t s h = on-site s _ (adopted-holds n at (token_name n t) s.site h)
+    perform-holds adopt_listed at t s h = on-site s _ (listed-holds n at (token_name n t) s.site h)
+    perform-holds word.other_end at t s h = other-holds n at (token_name n t) s.site h
+    perform-holds _ at t s h = h
+
+    finished-holds : (at : ℕ) (t : Token N) (s : State N) → Holds s.site → Holds (finished at t s).site
+    finished-holds at t s h = go (is_self_closing t && not s.control.acknowledged)
+      where
+        go : (v : Bool) → Holds (cond v (record s { site = with_error NonVoidHtmlElementStartTagWithTrailingSolidus at s.site }) s).site
+        go true = h
+        go false = h
+
+    chain-holds : (at : ℕ) (t : Token N) (s : State N) (o : Outcome (State N)) → Holds s.site → Chain n at t s o → OnGoes (λ u. Holds u.site) o
+    chain-holds at t s o h (ends {s' = s'} rule) = finished-holds at t s' (subst KeepsFlow rule (perform-holds (rule_of s.control.mode (kind_of n t)) at t s h))
+    chain-holds at t s o h (refuses rule) = tt
+    chain-holds at t s o h (goes_again {t' = t'} {s' = s'} rule rest) =
+        chain-holds at t' s' o (subst KeepsFlow rule (perform-holds (rule_of s.control.mode (kind_of n t)) at t s h)) rest
+
+    -- a token leads to no fewer nodes
+    pub step-holds : (at : ℕ) (t : Token N) (s s' : State N) → Holds s.site → Step n at t s (Goes s') → Holds s'.site
+    step-holds at t s s' h (drops is) = h
+    step-holds at t s s' h (goes isnt rest) = chain-holds at t (begun s) (Goes s') h rest
