@@ -13,9 +13,9 @@ use Rattle.htext.proofs.Fronts.{front_le}
 use Rattle.htoken.specs.Token.{Item}
 use Rattle.hparse.specs.declared.reading.Reading.{Reading}
 use Rattle.hparse.specs.Input.{Manner, Began, Comes, how_of}
-use Rattle.hparse.specs.Fed.{HasRead, FeedsPiece, piece_ran_out, piece_refused, piece_read, EndsInput, input_ran_out, input_comes}
+use Rattle.hparse.specs.Fed.{HasRead, IsUnrefused, FeedsPiece, piece_ran_out, piece_refused, piece_read, EndsInput, input_ran_out, input_comes}
 use Rattle.hparse.specs.Calls.{counted}
-use Rattle.hparse.specs.Reader.{IsRefusedFrom, IsUndecided, ReadsInput, reading_ran_out, reading_failed, reading_stopped, read_to_end}
+use Rattle.hparse.specs.Reader.{IsRefusedFrom, ReadsInput, reading_ran_out, reading_failed, reading_stopped, read_to_end}
 use Rattle.hparse.proofs.Pieces.{has_read, is_memory}
 
 -- The bytes that the reader gave have been read after those before, at least one a turn, and no read has failed.
@@ -69,14 +69,14 @@ module _ {S R : Type 0} (left : R → Option (List ℕ)) (failed : R → ℕ) (g
         omega (arith, length-append before h.fed)
 
     -- .. so none comes after more than that
-    pub no_turn : (most : ℕ) (come : List ℕ → Result (Unit {0}) Refusal → Type 0) (answer : Result (Unit {0}) Refusal) → m.limit + 3 < turn → ReadsInput left failed come (how_of m) most before old now answer
+    pub no_turn : (most : ℕ) (come : List ℕ → Result (Unit {0}) Refusal → Type 0) (answer : Result (Unit {0}) Refusal) → m.limit + 3 < turn → ReadsInput left failed come (IsUnrefused gives m began) most before old now answer
     no_turn most come answer many =
         let few : turn ≤ m.limit + 3 = few_turns in
         let never : ⊥ = omega arith in
         absurd never
 
-    undecided : IsUndecided (how_of m) (before ++ h.fed)
-    undecided = subst (λ (how : Policy). IsUndecided how (before ++ h.fed)) h.has_read.how_is h.has_read.fed.undecided
+    unrefused : IsUnrefused gives m began (before ++ h.fed)
+    unrefused = (reading, h.has_read)
 
     module _ (new : R) (piece : List ℕ) (given : Consumes (left now) (left new) piece) (count : failed new ≡ failed now) where
       given_more : Consumes (left old) (left new) (h.fed ++ piece)
@@ -104,27 +104,28 @@ module _ {S R : Type 0} (left : R → Option (List ℕ)) (failed : R → ℕ) (g
         come bytes = Comes gives m began bytes next.feeding.names next.feeding.sink
 
         -- it was refused
-        pub refused_turn : (e : Refusal) → length piece ≤ most → FeedsPiece gives m began ((before ++ h.fed) ++ piece) (Err e) next → ReadsInput left failed come (how_of m) most before old new (Err e)
+        pub refused_turn : (e : Refusal) → length piece ≤ most → FeedsPiece gives m began ((before ++ h.fed) ++ piece) (Err e) next → ReadsInput left failed come (IsUnrefused gives m began) most before old new (Err e)
         refused_turn e few (piece_ran_out is) = reading_ran_out is unfailed
         refused_turn e few (piece_refused refusal is refused) =
             let same : refusal ≡ e = cc in
-            reading_stopped e h.fed piece refl undecided (record { given = given_more; unfailed = unfailed })
+            reading_stopped e h.fed piece refl unrefused (record { given = given_more; unfailed = unfailed })
             (subst (λ (x : List ℕ). IsRefusedFrom come x e) joined (subst (IsRefusedFrom come ((before ++ h.fed) ++ piece)) same refused)) few
         refused_turn e few (piece_read is k) = absurd cc
 
         -- nothing was left
-        pub ended : (answer : Result (Unit {0}) Refusal) → piece ≡ [] → IsAtEnd (left new) → EndsInput gives m began (before ++ h.fed) answer next → ReadsInput left failed come (how_of m) most before old new answer
+        pub ended : (answer : Result (Unit {0}) Refusal) → piece ≡ [] → IsAtEnd (left new) → EndsInput gives m began (before ++ h.fed) answer next → ReadsInput left failed come (IsUnrefused gives m began) most before old new answer
         ended answer none end (input_ran_out is) = reading_ran_out is unfailed
         ended answer none end (input_comes comes) =
-            read_to_end h.fed undecided
+            read_to_end h.fed unrefused
             (record { given = subst (Consumes (left old) (left new)) (ap (λ (x : List ℕ). h.fed ++ x) none ∙ append-nil h.fed) given_more; unfailed = unfailed }) end comes
 
     -- the read failed
-    pub failed_turn : (new : R) (most : ℕ) (come : List ℕ → Result (Unit {0}) Refusal → Type 0) → Keeps (left now) (left new) → failed new ≡ counted (failed now) → ReadsInput left failed come (how_of m) most before old new (Err Read)
-    failed_turn new most come kept count = reading_failed h.fed refl undecided (Consumes-kept (left old) (left now) (left new) h.fed h.given kept) (count ∙ ap counted h.unfailed)
+    pub failed_turn : (new : R) (most : ℕ) (come : List ℕ → Result (Unit {0}) Refusal → Type 0) → Keeps (left now) (left new) → failed new ≡ counted (failed now) → ReadsInput left failed come (IsUnrefused gives m began) most before old new (Err Read)
+    failed_turn new most come kept count = reading_failed h.fed refl unrefused (Consumes-kept (left old) (left now) (left new) h.fed h.given kept) (count ∙ ap counted h.unfailed)
 
 -- What an input comes to is shown as an answer of another kind.
-module _ {R A B : Type 0} (left : R → Option (List ℕ)) (failed : R → ℕ) (come : List ℕ → Result A Refusal → Type 0) (answers : List ℕ → Result B Refusal → Type 0) (how : Policy) (piece : ℕ) (before : List ℕ) (old new : R) where
+module _ {R A B : Type 0} (left : R → Option (List ℕ)) (failed : R → ℕ) (come : List ℕ → Result A Refusal → Type 0) (answers : List ℕ → Result B Refusal → Type 0) (held stands : List ℕ → Type 0) (kept : (bytes : List ℕ) → held bytes → stands bytes)
+    (piece : ℕ) (before : List ℕ) (old new : R) where
   -- a refusal
   module _ (e : Refusal) (shows : (bytes : List ℕ) → come bytes (Err e) → (e ≡ Memory) ⊎ answers bytes (Err e)) where
     shown : (e ≡ Memory → ⊥) → (bytes : List ℕ) → come bytes (Err e) → answers bytes (Err e)
@@ -134,32 +135,32 @@ module _ {R A B : Type 0} (left : R → Option (List ℕ)) (failed : R → ℕ) 
     ]
 
     -- whether any call of the reader failed, where memory ran out
-    count_kept : ReadsInput left failed come how piece before old new (Err e) → e ≡ Memory → failed new ≡ failed old
+    count_kept : ReadsInput left failed come held piece before old new (Err e) → e ≡ Memory → failed new ≡ failed old
     count_kept (reading_ran_out is count) why = count
-    count_kept (reading_failed bytes is is_undecided given count) why = absurd cc
-    count_kept (reading_stopped refusal front last is is_undecided gave from few) why = gave.unfailed
-    count_kept (read_to_end bytes is_undecided gave end c) why = gave.unfailed
+    count_kept (reading_failed bytes is un given count) why = absurd cc
+    count_kept (reading_stopped refusal front last is un gave from few) why = gave.unfailed
+    count_kept (read_to_end bytes un gave end c) why = gave.unfailed
 
-    with_no_want : (e ≡ Memory → ⊥) → ReadsInput left failed come how piece before old new (Err e) → ReadsInput left failed answers how piece before old new (Err e)
+    with_no_want : (e ≡ Memory → ⊥) → ReadsInput left failed come held piece before old new (Err e) → ReadsInput left failed answers stands piece before old new (Err e)
     with_no_want differs (reading_ran_out is count) = absurd (differs cc)
-    with_no_want differs (reading_failed bytes is is_undecided given count) = reading_failed bytes (let same : e ≡ Read = cc in ap (λ (x : Refusal). Err x) same) is_undecided given count
-    with_no_want differs (reading_stopped refusal front last is is_undecided gave from few) =
+    with_no_want differs (reading_failed bytes is un given count) = reading_failed bytes (let same : e ≡ Read = cc in ap (λ (x : Refusal). Err x) same) (kept (before ++ bytes) un) given count
+    with_no_want differs (reading_stopped refusal front last is un gave from few) =
         let same : refusal ≡ e = cc in
-        reading_stopped e front last refl is_undecided gave (λ more. shown differs ((before ++ (front ++ last)) ++ more) (subst (λ (x : Refusal). come ((before ++ (front ++ last)) ++ more) (Err x)) same (from more))) few
-    with_no_want differs (read_to_end bytes is_undecided gave end c) = read_to_end bytes is_undecided gave end (shown differs (before ++ bytes) c)
+        reading_stopped e front last refl (kept (before ++ front) un) gave (λ more. shown differs ((before ++ (front ++ last)) ++ more) (subst (λ (x : Refusal). come ((before ++ (front ++ last)) ++ more) (Err x)) same (from more))) few
+    with_no_want differs (read_to_end bytes un gave end c) = read_to_end bytes (kept (before ++ bytes) un) gave end (shown differs (before ++ bytes) c)
 
-    pub not_read : ReadsInput left failed come how piece before old new (Err e) → ReadsInput left failed answers how piece before old new (Err e)
+    pub not_read : ReadsInput left failed come held piece before old new (Err e) → ReadsInput left failed answers stands piece before old new (Err e)
     not_read r = elim (is_memory e) [
       | inl why ↦ reading_ran_out (ap (λ (x : Refusal). Err x) why) (count_kept r why)
       | inr differs ↦ with_no_want differs r
     ]
 
   -- an input that was read, and what was made of it
-  pub made : (x : A) (answer : Result B Refusal) → ((bytes : List ℕ) → come bytes (Ok x) → (answer ≡ Err Memory) ⊎ answers bytes answer) → ReadsInput left failed come how piece before old new (Ok x) → ReadsInput left failed answers how piece before old new answer
+  pub made : (x : A) (answer : Result B Refusal) → ((bytes : List ℕ) → come bytes (Ok x) → (answer ≡ Err Memory) ⊎ answers bytes answer) → ReadsInput left failed come held piece before old new (Ok x) → ReadsInput left failed answers stands piece before old new answer
   made x answer shows (reading_ran_out is count) = absurd cc
-  made x answer shows (reading_failed bytes is is_undecided given count) = absurd cc
-  made x answer shows (reading_stopped refusal front last is is_undecided gave from few) = absurd cc
-  made x answer shows (read_to_end bytes is_undecided gave end c) = elim (shows (before ++ bytes) c) [
+  made x answer shows (reading_failed bytes is un given count) = absurd cc
+  made x answer shows (reading_stopped refusal front last is un gave from few) = absurd cc
+  made x answer shows (read_to_end bytes un gave end c) = elim (shows (before ++ bytes) c) [
     | inl why ↦ reading_ran_out why gave.unfailed
-    | inr a ↦ read_to_end bytes is_undecided gave end a
+    | inr a ↦ read_to_end bytes (kept (before ++ bytes) un) gave end a
   ]

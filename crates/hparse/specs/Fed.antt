@@ -1,5 +1,5 @@
 -- What a reading has read, and what its calls do. It began as `began`.
-use Rattle.std.specs.Prelude.{◌≡◌, ◌≤◌, ℕ, List, ◌++◌, Result, Ok, Err}
+use Rattle.std.specs.Prelude.{◌≡◌, ◌≤◌, ℕ, List, [], ◌++◌, Result, Ok, Err}
 use Rattle.names.specs.declared.refusal.Refusal.{Refusal}
 use Rattle.names.specs.declared.refusal.Refusal.TheVariants.{Memory}
 use Rattle.htext.specs.Items.{items}
@@ -17,6 +17,11 @@ module _ {S : Type 0} (gives : S → Item → Result (Unit {0}) Refusal → S �
     pub how_is : reading.decoder.how ≡ how_of m
     pub fed : HasFed reading.decoder bytes
     pub holds : HoldsItems gives m began reading.feeding (items (settled_in m bytes))
+    pub all_fed : reading.feeding.unfed ≡ []
+
+  -- nothing of the bytes is refused, whatever follows them: a reading that was fed them has refused nothing
+  abbrev pub IsUnrefused : List ℕ → Type 0
+  IsUnrefused bytes = (reading : Reading S) × HasRead reading bytes
 
   -- What feeding the last piece of these bytes does: memory ran out, or they are refused, whatever comes after, or they have been read.
   pub data FeedsPiece (bytes : List ℕ) (answer : Result (Unit {0}) Refusal) (new : Reading S) : Type 0 where

@@ -46,6 +46,10 @@ pub record HasParsed (told : Told) (subject : Subject) (parser : Parser) (bytes 
   pub begins : BeginsIn told began.names subject began.sink.state
   pub has_read : HasRead builds (manner told subject) began parser.reading bytes
 
+-- nothing of the bytes is refused, whatever follows them: a parser that was fed them has refused nothing
+abbrev pub IsUnrefused : Told → Subject → List ℕ → Type 0
+IsUnrefused told subject bytes = (parser : Parser) × HasParsed told subject parser bytes
+
 -- What feeding the last piece of these bytes does: memory ran out, or they are refused, whatever comes after, or they have been read.
 pub data FeedsParser (told : Told) (subject : Subject) (bytes : List ℕ) (answer : Result (Unit {0}) Refusal) (new : Parser) : Type 0 where
   feed_ran_out : answer ≡ Err Memory → FeedsParser told subject bytes answer new

@@ -1,10 +1,10 @@
 -- What reading an input from a reader does. `left` says the bytes that the reader has left, where it tells, and `failed` how many
--- of its calls have failed; `answers` says which are the answers of an input's bytes.
+-- of its calls have failed; `answers` says which are the answers of an input's bytes, and `unrefused` that nothing of them is refused,
+-- whatever follows them.
 use Rattle.std.specs.Prelude.{◌≡◌, ℕ, ◌≤◌, List, ◌++◌, length, Option, Result, Err}
 use Rattle.std.specs.Io.KnownBytes.{Consumes, IsAtEnd}
 use Rattle.names.specs.declared.refusal.Refusal.{Refusal}
 use Rattle.names.specs.declared.refusal.Refusal.TheVariants.{Memory, Read}
-use Rattle.htext.specs.Text.{Policy, StaysRefused}
 use Rattle.hparse.specs.Calls.{counted}
 
 -- A reader gave these bytes, the first that it had left, and none of its calls failed.
@@ -12,27 +12,23 @@ pub record Gave {S : Type 0} (left : S → Option (List ℕ)) (failed : S → �
   pub given : Consumes (left old) (left new) bytes
   pub unfailed : failed new ≡ failed old
 
--- What follows these bytes decides whether and why they are refused.
-abbrev pub IsUndecided : Policy → List ℕ → Type 0
-IsUndecided how bytes = (refusal : Refusal) → StaysRefused how bytes refusal → ⊥
-
 -- The input is refused, whatever bytes follow these.
 abbrev pub IsRefusedFrom : {R : Type 0} → (List ℕ → Result R Refusal → Type 0) → List ℕ → Refusal → Type 0
 IsRefusedFrom answers bytes refusal = (more : List ℕ) → answers (bytes ++ more) (Err refusal)
 
 -- What reading an input to its end does, in pieces of at most so many bytes, after the bytes that were fed before.
-pub data ReadsInput {S R : Type 0} (left : S → Option (List ℕ)) (failed : S → ℕ) (answers : List ℕ → Result R Refusal → Type 0) (how : Policy) (piece : ℕ) (fed : List ℕ)
-    (old new : S) (answer : Result R Refusal) : Type 0 where
+pub data ReadsInput {S R : Type 0} (left : S → Option (List ℕ)) (failed : S → ℕ) (answers : List ℕ → Result R Refusal → Type 0)
+    (unrefused : List ℕ → Type 0) (piece : ℕ) (fed : List ℕ) (old new : S) (answer : Result R Refusal) : Type 0 where
   -- memory ran out
-  reading_ran_out : answer ≡ Err Memory → failed new ≡ failed old → ReadsInput left failed answers how piece fed old new answer
-  -- a read failed, before any byte was refused, and none was tried after it
-  reading_failed : (bytes : List ℕ) → answer ≡ Err Read → IsUndecided how (fed ++ bytes) → Consumes (left old) (left new) bytes
+  reading_ran_out : answer ≡ Err Memory → failed new ≡ failed old → ReadsInput left failed answers unrefused piece fed old new answer
+  -- a read failed, before anything was refused, and none was tried after it
+  reading_failed : (bytes : List ℕ) → answer ≡ Err Read → unrefused (fed ++ bytes) → Consumes (left old) (left new) bytes
       → failed new ≡ counted (failed old)
-      → ReadsInput left failed answers how piece fed old new answer
+      → ReadsInput left failed answers unrefused piece fed old new answer
   -- reading stopped after the piece that brought a refusal
-  reading_stopped : (refusal : Refusal) (before last : List ℕ) → answer ≡ Err refusal → IsUndecided how (fed ++ before)
+  reading_stopped : (refusal : Refusal) (before last : List ℕ) → answer ≡ Err refusal → unrefused (fed ++ before)
       → Gave left failed old new (before ++ last)
-      → IsRefusedFrom answers (fed ++ (before ++ last)) refusal → length last ≤ piece → ReadsInput left failed answers how piece fed old new answer
+      → IsRefusedFrom answers (fed ++ (before ++ last)) refusal → length last ≤ piece → ReadsInput left failed answers unrefused piece fed old new answer
   -- the input was read to its end
-  read_to_end : (bytes : List ℕ) → IsUndecided how (fed ++ bytes) → Gave left failed old new bytes → IsAtEnd (left new) → answers (fed ++ bytes) answer
-      → ReadsInput left failed answers how piece fed old new answer
+  read_to_end : (bytes : List ℕ) → unrefused (fed ++ bytes) → Gave left failed old new bytes → IsAtEnd (left new) → answers (fed ++ bytes) answer
+      → ReadsInput left failed answers unrefused piece fed old new answer

@@ -43,7 +43,8 @@ impl<'t, S: TokenSink> Feeding<'t, S> {
         names: Names,
         sink: S,
     ) -> Feeding<'t, S>
-        ensures { (m : Manner) → m.table ≡ table.now → m.start ≡ start
+        ensures all_fed { result.unfed ≡ [] }
+        ensures holds { (m : Manner) → m.table ≡ table.now → m.start ≡ start
             → HoldsItems (gives_item S.gives S.gives_token) m (record { names = names; sink = sink }) result [] }
     {
         Feeding {
@@ -53,6 +54,11 @@ impl<'t, S: TokenSink> Feeding<'t, S> {
             stopped: false,
         }
     }
+
+    /// Nothing waits to be fed: characters of a run do within a call alone.
+    pub fn all_fed(&self)
+        ensures { self.now.unfed ≡ [] }
+    {}
 
     /// Has its texts distinct, the known ones first.
     pub fn settle(&mut self, alloc: Global)

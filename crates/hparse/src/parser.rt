@@ -3,9 +3,9 @@
 ghost use Rattle.std.specs.Prelude.{◌≡◌, ◌<◌, ◌⊎◌, ℕ, List, [], ◌++◌, None, Some, true, false, Err, IfErr, MatchResult};
 ghost use Rattle.names.specs.declared.refusal.Refusal.{Refusal as Refused};
 ghost use Rattle.names.specs.declared.refusal.Refusal.TheVariants.{BadContext, Memory};
-ghost use Rattle.hparse.specs.Parse.{Subject, Told, document, fragment, is_context, policy};
+ghost use Rattle.hparse.specs.Parse.{Subject, Told, document, fragment, is_context};
 ghost use Rattle.hparse.specs.Reader.{ReadsInput};
-ghost use Rattle.hparse.specs.Parsing.{AnswersParse, FeedsParser, HasParsed, IsBuilt, IsMadeOf, ShowsParse, told_by};
+ghost use Rattle.hparse.specs.Parsing.{AnswersParse, FeedsParser, HasParsed, IsBuilt, IsMadeOf, IsUnrefused, ShowsParse, told_by};
 
 use crate::context::is_context;
 use crate::errors::sort_errors;
@@ -124,7 +124,7 @@ pub fn parse_reader<R: Source>(
 ) -> Result<Parsed, Refusal>
     requires { 0 < piece }
     ensures reads { (told : Told) (subject : Subject) (fed : List ℕ) → HasParsed told subject parser.entry fed
-        → ReadsInput R.left R.failed (AnswersParse told subject) (policy told subject) piece fed source.old source.new result }
+        → ReadsInput R.left R.failed (AnswersParse told subject) (IsUnrefused told subject) piece fed source.old source.new result }
 
     // After a refusal of the parser nothing is read.
     ensures again { (refusal : Refused) → parser.entry.refused ≡ Some refusal → (result ≡ Err refusal) × (source.new ≡ source.old) }

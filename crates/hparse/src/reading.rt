@@ -53,7 +53,10 @@ impl<'t, S: TokenSink> Reading<'t, S> {
             → FeedsPiece (gives_item S.gives S.gives_token) m began (bytes ++ piece.now) result self.new }
     {
         match self.decoder.feed(piece, &mut self.feeding) {
-            Ok(()) => Ok(()),
+            Ok(()) => {
+                self.feeding.all_fed();
+                Ok(())
+            }
             Err(refusal) => Err(self.feeding.refuse(refusal)),
         }
     }

@@ -9,7 +9,6 @@ use Rattle.hwrite.specs.Output.{AppendsBeginning}
 use Rattle.hparse.specs.declared.parser.Parser.{Parser}
 use Rattle.hparse.specs.Parse.{Told, document, fragment, is_context}
 use Rattle.hparse.specs.Parsing.{HasParsed}
-use Rattle.htext.specs.Text.{Policy}
 use Rattle.hparse.specs.Reader.{ReadsInput, reading_ran_out, reading_failed, reading_stopped, read_to_end}
 use Rattle.hrun.specs.Running.{WritesText, text_written, text_cut, WritesNothing, Runs, run_ran_out, read_failed, stopped, refused, write_failed, wrote, RunsIn, context_refused, ran, ReadsIn, not_allowed, allowed, BeginsIn}
 
@@ -28,73 +27,73 @@ module _ {W : Type 0} (written : W → Option (List ℕ)) (failed : W → ℕ) w
   untouched target = record { kept = Keeps-refl (written target); unfailed = refl }
 
   module _ {S R : Type 0} (left : S → Option (List ℕ)) (reads : S → ℕ) (answers : List ℕ → Result R Refusal → Type 0) (prints : List ℕ → Result (List ℕ) Refusal → Type 0)
-      (how : Policy) (piece : ℕ) (old new : S) where
+      (unrefused : List ℕ → Type 0) (piece : ℕ) (old new : S) where
     -- there was nothing to write
-    pub not_read : ((bytes : List ℕ) (e : Refusal) → answers bytes (Err e) → prints bytes (Err e)) → (target : W) (e : Refusal) → ReadsInput left reads answers how piece [] old new (Err e)
-        → Runs left reads written failed prints how piece old new target target (Err e)
+    pub not_read : ((bytes : List ℕ) (e : Refusal) → answers bytes (Err e) → prints bytes (Err e)) → (target : W) (e : Refusal) → ReadsInput left reads answers unrefused piece [] old new (Err e)
+        → Runs left reads written failed prints unrefused piece old new target target (Err e)
     not_read none target e (reading_ran_out is count) = run_ran_out (let why : e ≡ Memory = cc in ap (λ (x : Refusal). Err x) why) count (untouched target)
-    not_read none target e (reading_failed bytes is undecided given count) = read_failed bytes (let why : e ≡ Read = cc in ap (λ (x : Refusal). Err x) why) undecided given count (untouched target)
-    not_read none target e (reading_stopped refusal before last is undecided gave from few) =
+    not_read none target e (reading_failed bytes is un given count) = read_failed bytes (let why : e ≡ Read = cc in ap (λ (x : Refusal). Err x) why) un given count (untouched target)
+    not_read none target e (reading_stopped refusal before last is un gave from few) =
         let same : refusal ≡ e = cc in
-        stopped refusal before last (ap (λ (x : Refusal). Err x) (sym same)) undecided gave (λ more. none ((before ++ last) ++ more) refusal (from more)) few (untouched target)
-    not_read none target e (read_to_end bytes undecided gave end its) = refused e bytes refl undecided gave end (none bytes e its) (untouched target)
+        stopped refusal before last (ap (λ (x : Refusal). Err x) (sym same)) un gave (λ more. none ((before ++ last) ++ more) refusal (from more)) few (untouched target)
+    not_read none target e (read_to_end bytes un gave end its) = refused e bytes refl un gave end (none bytes e its) (untouched target)
 
-    unfailed_reads : (run : R) → ReadsInput left reads answers how piece [] old new (Ok run) → reads new ≡ reads old
+    unfailed_reads : (run : R) → ReadsInput left reads answers unrefused piece [] old new (Ok run) → reads new ≡ reads old
     unfailed_reads run (reading_ran_out is count) = count
-    unfailed_reads run (reading_failed bytes is undecided given count) = absurd cc
-    unfailed_reads run (reading_stopped refusal before last is undecided gave from few) = gave.unfailed
-    unfailed_reads run (read_to_end bytes undecided gave end its) = gave.unfailed
+    unfailed_reads run (reading_failed bytes is un given count) = absurd cc
+    unfailed_reads run (reading_stopped refusal before last is un gave from few) = gave.unfailed
+    unfailed_reads run (read_to_end bytes un gave end its) = gave.unfailed
 
     -- there was no memory for the text
-    pub no_text : (target : W) (run : R) (e : Refusal) → ReadsInput left reads answers how piece [] old new (Ok run) → e ≡ Memory → Runs left reads written failed prints how piece old new target target (Err e)
+    pub no_text : (target : W) (run : R) (e : Refusal) → ReadsInput left reads answers unrefused piece [] old new (Ok run) → e ≡ Memory → Runs left reads written failed prints unrefused piece old new target target (Err e)
     no_text target run e r why = run_ran_out (ap (λ (x : Refusal). Err x) why) (unfailed_reads run r) (untouched target)
 
     -- what was read is an answer of some bytes
-    pub an_answer : (run : R) → ReadsInput left reads answers how piece [] old new (Ok run) → (bytes : List ℕ) × answers bytes (Ok run)
+    pub an_answer : (run : R) → ReadsInput left reads answers unrefused piece [] old new (Ok run) → (bytes : List ℕ) × answers bytes (Ok run)
     an_answer run (reading_ran_out is count) = absurd cc
-    an_answer run (reading_failed bytes is undecided given count) = absurd cc
-    an_answer run (reading_stopped refusal before last is undecided gave from few) = absurd cc
-    an_answer run (read_to_end bytes undecided gave end its) = (bytes, its)
+    an_answer run (reading_failed bytes is un given count) = absurd cc
+    an_answer run (reading_stopped refusal before last is un gave from few) = absurd cc
+    an_answer run (read_to_end bytes un gave end its) = (bytes, its)
 
     -- the text was written, or a beginning of it
-    pub comes_to_text : (target target' : W) (run : R) (text : List ℕ) (answer : Result (Unit {0}) Refusal) → ReadsInput left reads answers how piece [] old new (Ok run)
+    pub comes_to_text : (target target' : W) (run : R) (text : List ℕ) (answer : Result (Unit {0}) Refusal) → ReadsInput left reads answers unrefused piece [] old new (Ok run)
         → ((bytes : List ℕ) → answers bytes (Ok run) → prints bytes (Ok text)) → WritesText written failed text target target' answer
-        → Runs left reads written failed prints how piece old new target target' answer
+        → Runs left reads written failed prints unrefused piece old new target target' answer
     comes_to_text target target' run text answer (reading_ran_out is count) printed w = absurd cc
-    comes_to_text target target' run text answer (reading_failed bytes is undecided given count) printed w = absurd cc
-    comes_to_text target target' run text answer (reading_stopped refusal before last is undecided gave from few) printed w = absurd cc
-    comes_to_text target target' run text answer (read_to_end bytes undecided gave end its) printed (text_written e appended unfailed) =
+    comes_to_text target target' run text answer (reading_failed bytes is un given count) printed w = absurd cc
+    comes_to_text target target' run text answer (reading_stopped refusal before last is un gave from few) printed w = absurd cc
+    comes_to_text target target' run text answer (read_to_end bytes un gave end its) printed (text_written e appended unfailed) =
         wrote bytes text e gave end (printed bytes its) appended unfailed
-    comes_to_text target target' run text answer (read_to_end bytes undecided gave end its) printed (text_cut beginning rest e whole appended failing) =
+    comes_to_text target target' run text answer (read_to_end bytes un gave end its) printed (text_cut beginning rest e whole appended failing) =
         write_failed bytes beginning rest e gave end (subst (λ (t : List ℕ). prints bytes (Ok t)) whole (printed bytes its)) appended failing
 
     -- the same of an input that stands in an element
     module _ (context : Option (List ℕ)) where
-      pub not_read_in : ((bytes : List ℕ) (e : Refusal) → answers bytes (Err e) → prints bytes (Err e)) → (target : W) (e : Refusal) → ReadsIn left reads context answers how piece old new (Err e)
-          → RunsIn left reads written failed context prints how piece old new target target (Err e)
+      pub not_read_in : ((bytes : List ℕ) (e : Refusal) → answers bytes (Err e) → prints bytes (Err e)) → (target : W) (e : Refusal) → ReadsIn left reads context answers unrefused piece old new (Err e)
+          → RunsIn left reads written failed context prints unrefused piece old new target target (Err e)
       not_read_in none target e (not_allowed not is same) = context_refused not (let why : e ≡ BadContext = cc in ap (λ (x : Refusal). Err x) why) same refl
       not_read_in none target e (allowed is r) = ran is (not_read none target e r)
 
-      pub no_text_in : (target : W) (run : R) (e : Refusal) → ReadsIn left reads context answers how piece old new (Ok run) → e ≡ Memory
-          → RunsIn left reads written failed context prints how piece old new target target (Err e)
+      pub no_text_in : (target : W) (run : R) (e : Refusal) → ReadsIn left reads context answers unrefused piece old new (Ok run) → e ≡ Memory
+          → RunsIn left reads written failed context prints unrefused piece old new target target (Err e)
       no_text_in target run e (not_allowed not is same) why = absurd cc
       no_text_in target run e (allowed is r) why = ran is (no_text target run e r why)
 
-      pub an_answer_in : (run : R) → ReadsIn left reads context answers how piece old new (Ok run) → (bytes : List ℕ) × answers bytes (Ok run)
+      pub an_answer_in : (run : R) → ReadsIn left reads context answers unrefused piece old new (Ok run) → (bytes : List ℕ) × answers bytes (Ok run)
       an_answer_in run (not_allowed not is same) = absurd cc
       an_answer_in run (allowed is r) = an_answer run r
 
-      pub comes_to_text_in : (target target' : W) (run : R) (text : List ℕ) (answer : Result (Unit {0}) Refusal) → ReadsIn left reads context answers how piece old new (Ok run)
+      pub comes_to_text_in : (target target' : W) (run : R) (text : List ℕ) (answer : Result (Unit {0}) Refusal) → ReadsIn left reads context answers unrefused piece old new (Ok run)
           → ((bytes : List ℕ) → answers bytes (Ok run) → prints bytes (Ok text)) → WritesText written failed text target target' answer
-          → RunsIn left reads written failed context prints how piece old new target target' answer
+          → RunsIn left reads written failed context prints unrefused piece old new target target' answer
       comes_to_text_in target target' run text answer (not_allowed not is same) printed w = absurd cc
       comes_to_text_in target target' run text answer (allowed is r) printed w = ran is (comes_to_text target target' run text answer r printed w)
 
 -- a parse that did not begin
-pub not_begun : {S R : Type 0} (left : S → Option (List ℕ)) (failed : S → ℕ) (answers : List ℕ → Result R Refusal → Type 0) (how : Policy) (piece : ℕ) (old : S) (told : Told) (context : Option (List ℕ))
-    (e : Refusal) → BeginsIn told context (Err e) → ReadsIn left failed context answers how piece old old (Err e)
-not_begun left failed answers how piece old told context e (inl (is, why)) = allowed is (reading_ran_out (ap (λ (x : Refusal). Err x) why) refl)
-not_begun left failed answers how piece old told context e (inr (not, why)) = not_allowed not (ap (λ (x : Refusal). Err x) why) refl
+pub not_begun : {S R : Type 0} (left : S → Option (List ℕ)) (failed : S → ℕ) (answers : List ℕ → Result R Refusal → Type 0) (unrefused : List ℕ → Type 0) (piece : ℕ) (old : S) (told : Told) (context : Option (List ℕ))
+    (e : Refusal) → BeginsIn told context (Err e) → ReadsIn left failed context answers unrefused piece old old (Err e)
+not_begun left failed answers unrefused piece old told context e (inl (is, why)) = allowed is (reading_ran_out (ap (λ (x : Refusal). Err x) why) refl)
+not_begun left failed answers unrefused piece old told context e (inr (not, why)) = not_allowed not (ap (λ (x : Refusal). Err x) why) refl
 
 pub begun_document : (told : Told) (r : Result Parser Refusal) → MatchResult r (λ parser. HasParsed told document parser []) (λ e. e ≡ Memory) → BeginsIn told None r
 begun_document told (Ok parser) h = (tt, h)

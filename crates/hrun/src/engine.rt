@@ -6,8 +6,9 @@ ghost use Rattle.hnodes.specs.Forest.{children_of};
 ghost use Rattle.hnodes.specs.Named.{AreOf};
 ghost use Rattle.hnodes.specs.Spelled.{spelled};
 ghost use Rattle.hparse.specs.Answer.{Answers, of_document};
-ghost use Rattle.hparse.specs.Parse.{Parses, policy};
-ghost use Rattle.hparse.specs.Parsing.{told_by, AnswersParse};
+ghost use Rattle.hparse.specs.Parse.{Parses};
+ghost use Rattle.hparse.specs.Parsing.{told_by, AnswersParse, IsUnrefused};
+ghost use Rattle.hparse.specs.Shown as shown;
 ghost use Rattle.hrun.specs.Command.{name_of};
 ghost use Rattle.hrun.specs.Context.{subject_in};
 ghost use Rattle.hrun.specs.Prints.{errors_text, is_plain_in, nodes_text, plain_line, plain_text, tokens_text, written_text, Prints};
@@ -53,7 +54,7 @@ fn run_tokens<S: Source, W: Target>(
 ) -> Result<(), Refusal>
     requires piece { 0 < piece }
     ensures { Runs S.left S.failed W.written W.failed (Prints (Answers options.now.table.now (of_document options.now.bad_bytes options.now.limits.input)) tokens_text)
-        (of_document options.now.bad_bytes options.now.limits.input) piece
+        (shown.IsUnrefused options.now.table.now options.now.bad_bytes options.now.limits.input) piece
         source.old source.new target.old target.new result }
 {
     let answer = read_tokens(alloc, piece, options, source)?;
@@ -75,7 +76,7 @@ fn run_tree<S: Source, W: Target>(
     requires piece { 0 < command.piece }
     ensures { RunsIn S.left S.failed W.written W.failed (name_of command.entry.context)
         (Prints (Parses (told_by options.now) (subject_in (name_of command.entry.context))) (nodes_text (subject_in (name_of command.entry.context))))
-        (policy (told_by options.now) (subject_in (name_of command.entry.context))) command.entry.piece source.old source.new target.old target.new result }
+        (IsUnrefused (told_by options.now) (subject_in (name_of command.entry.context))) command.entry.piece source.old source.new target.old target.new result }
 {
     let parsed = parse(alloc, command, options, source)?;
     let text = tree_text(alloc, &parsed.tree, &parsed.names, parsed.root);
@@ -96,7 +97,7 @@ fn run_errors<S: Source, W: Target>(
     requires piece { 0 < command.piece }
     ensures { RunsIn S.left S.failed W.written W.failed (name_of command.entry.context)
         (Prints (Parses (told_by options.now) (subject_in (name_of command.entry.context))) errors_text)
-        (policy (told_by options.now) (subject_in (name_of command.entry.context))) command.entry.piece source.old source.new target.old target.new result }
+        (IsUnrefused (told_by options.now) (subject_in (name_of command.entry.context))) command.entry.piece source.old source.new target.old target.new result }
 {
     let parsed = parse(alloc, command, options, source)?;
     let text = error_lines(alloc, &parsed.errors);
@@ -117,7 +118,7 @@ fn run_write<S: Source, W: Target>(
     requires piece { 0 < command.piece }
     ensures { RunsIn S.left S.failed W.written W.failed (name_of command.entry.context)
         (Prints (Parses (told_by options.now) (subject_in (name_of command.entry.context))) (written_text command.entry.escaping (subject_in (name_of command.entry.context))))
-        (policy (told_by options.now) (subject_in (name_of command.entry.context))) command.entry.piece source.old source.new target.old target.new result }
+        (IsUnrefused (told_by options.now) (subject_in (name_of command.entry.context))) command.entry.piece source.old source.new target.old target.new result }
 {
     let parsed = parse(alloc, command, options, source)?;
     let text = serialize_to_vec(
@@ -144,7 +145,7 @@ fn run_plain<S: Source, W: Target>(
     requires piece { 0 < command.piece }
     ensures { RunsIn S.left S.failed W.written W.failed (name_of command.entry.context)
         (Prints (Parses (told_by options.now) (subject_in (name_of command.entry.context))) (plain_text (subject_in (name_of command.entry.context))))
-        (policy (told_by options.now) (subject_in (name_of command.entry.context))) command.entry.piece source.old source.new target.old target.new result }
+        (IsUnrefused (told_by options.now) (subject_in (name_of command.entry.context))) command.entry.piece source.old source.new target.old target.new result }
 {
     let parsed = parse(alloc, command, options, source)?;
     let is_plain = is_plain_in(command.context, &parsed);
@@ -182,7 +183,7 @@ fn parse<S: Source>(
 ) -> Result<Parsed, Refusal>
     requires piece { 0 < command.piece }
     ensures { ReadsIn S.left S.failed (name_of command.entry.context) (AnswersParse (told_by options.now) (subject_in (name_of command.entry.context)))
-        (policy (told_by options.now) (subject_in (name_of command.entry.context))) command.entry.piece source.old source.new result }
+        (IsUnrefused (told_by options.now) (subject_in (name_of command.entry.context))) command.entry.piece source.old source.new result }
 {
     let parser = parser(alloc, command.context, options)?;
     parse_reader(alloc, parser, command.piece, source)

@@ -1,15 +1,15 @@
 use Rattle.std.proofs.Common.{ap, subst}
 use Rattle.hparse.specs.Input.{Comes}
-use Rattle.hparse.specs.Parse.{manner, policy}
-use Rattle.hparse.specs.Parsing.{builds, AnswersParse}
-use Rattle.hparse.proofs.Parsings.{BuiltBy, built_answers, refused_answers}
+use Rattle.hparse.specs.Parse.{manner}
+use Rattle.hparse.specs.Parsing.{builds, AnswersParse, IsUnrefused}
+use Rattle.hparse.proofs.Parsings.{BuiltBy, IsUnrefusedBy, built_answers, refused_answers, unrefused}
 use Rattle.hparse.proofs.Turns.{not_read, made}
 use Rattle.hparse.proofs.parser.parse_reader.Goals as goal
 
 pub returns-in-Err-clause-reads : goal.returns-in-Err-clause-reads
 returns-in-Err-clause-reads g c = λ told subject fed h.
     let feeding = c.read_to_end-answer.new.reading.feeding in
-    not_read g.R.Source.left g.R.Source.failed (λ bytes. Comes builds (manner told subject) h.began bytes feeding.names feeding.sink) (AnswersParse told subject) (policy told subject) c.args.piece fed c.args.source.now c.read_to_end-answer.new.source
+    not_read g.R.Source.left g.R.Source.failed (λ bytes. Comes builds (manner told subject) h.began bytes feeding.names feeding.sink) (AnswersParse told subject) (IsUnrefusedBy (manner told subject) h.began) (IsUnrefused told subject) (λ bytes u. unrefused told subject fed c.args.parser h bytes u) c.args.piece fed c.args.source.now c.read_to_end-answer.new.source
     c.in-Err.refusal (λ bytes r. refused_answers told subject fed c.args.parser h c.read_to_end-answer.new.reading c.settle.new.self.names c.settle.ensures.grows c.settle.ensures.are c.in-Err.refusal bytes r)
     (c.in-Err.ensures (manner told subject) h.began fed h.has_read)
 
@@ -17,6 +17,6 @@ pub returns-in-Ok-clause-reads : goal.returns-in-Ok-clause-reads
 returns-in-Ok-clause-reads g c = λ told subject fed h.
     let feeding = c.read_to_end-answer.new.reading.feeding in
     let built = subst (λ sink. BuiltBy c.settle.new.self.names sink c.built_of.result) (ap (λ f. f.sink) c.settle.ensures.rest) c.built_of.ensures.built in
-    made g.R.Source.left g.R.Source.failed (λ bytes. Comes builds (manner told subject) h.began bytes feeding.names feeding.sink) (AnswersParse told subject) (policy told subject) c.args.piece fed c.args.source.now c.read_to_end-answer.new.source
+    made g.R.Source.left g.R.Source.failed (λ bytes. Comes builds (manner told subject) h.began bytes feeding.names feeding.sink) (AnswersParse told subject) (IsUnrefusedBy (manner told subject) h.began) (IsUnrefused told subject) (λ bytes u. unrefused told subject fed c.args.parser h bytes u) c.args.piece fed c.args.source.now c.read_to_end-answer.new.source
     tt c.built_of.result (λ bytes t. built_answers told subject fed c.args.parser h c.read_to_end-answer.new.reading c.settle.new.self.names c.settle.ensures.grows c.settle.ensures.are c.built_of.result built bytes t)
     (c.in-Ok.ensures (manner told subject) h.began fed h.has_read)

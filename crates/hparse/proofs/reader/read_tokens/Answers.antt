@@ -1,6 +1,7 @@
 use Rattle.std.proofs.Common.{[]}
 use Rattle.hparse.specs.Input.{Comes}
-use Rattle.hparse.specs.Shown.{AnswersRun}
+use Rattle.hparse.specs.Fed as fed
+use Rattle.hparse.specs.Shown.{AnswersRun, IsUnrefused}
 use Rattle.hparse.proofs.Gathered.{collects}
 use Rattle.hparse.specs.Answer.{of_document}
 use Rattle.hparse.proofs.RunOf.{as_document, answers_refused, run_answers}
@@ -14,7 +15,7 @@ returns-in-Err g c =
     let limit = c.args.options.now.limits.input in
     let h = c.in_ok-reading.ensures in
     let feeding = c.read_to_end.new.reading.feeding in
-    not_read g.R.Source.left g.R.Source.failed (λ bytes. Comes collects (as_document table of limit) h.began bytes feeding.names feeding.sink) (AnswersRun table (of_document of limit)) (of_document of limit) c.args.piece [] c.args.source.now c.read_to_end.new.source
+    not_read g.R.Source.left g.R.Source.failed (λ bytes. Comes collects (as_document table of limit) h.began bytes feeding.names feeding.sink) (AnswersRun table (of_document of limit)) (fed.IsUnrefused collects (as_document table of limit) h.began) (IsUnrefused table of limit) (λ bytes u. (u.0, record { began = h.began; no_tokens = h.no_tokens; no_errors = h.no_errors; has_read = u.1 })) c.args.piece [] c.args.source.now c.read_to_end.new.source
     c.in-Err.refusal (λ bytes r. answers_refused table of limit h.began bytes feeding.names feeding.sink c.in-Err.refusal r) (c.in-Err.ensures (as_document table of limit) h.began [] h.has_read)
 
 pub returns-in-Ok : goal.returns-in-Ok
@@ -24,5 +25,5 @@ returns-in-Ok g c =
     let limit = c.args.options.now.limits.input in
     let h = c.in_ok-reading.ensures in
     let feeding = c.read_to_end.new.reading.feeding in
-    made g.R.Source.left g.R.Source.failed (λ bytes. Comes collects (as_document table of limit) h.began bytes feeding.names feeding.sink) (AnswersRun table (of_document of limit)) (of_document of limit) c.args.piece [] c.args.source.now c.read_to_end.new.source
+    made g.R.Source.left g.R.Source.failed (λ bytes. Comes collects (as_document table of limit) h.began bytes feeding.names feeding.sink) (AnswersRun table (of_document of limit)) (fed.IsUnrefused collects (as_document table of limit) h.began) (IsUnrefused table of limit) (λ bytes u. (u.0, record { began = h.began; no_tokens = h.no_tokens; no_errors = h.no_errors; has_read = u.1 })) c.args.piece [] c.args.source.now c.read_to_end.new.source
     tt c.run_of.result (λ bytes t. run_answers table of limit h.began feeding.names feeding.sink h.no_tokens h.no_errors c.run_of.result c.run_of.ensures bytes t) (c.in-Ok.ensures (as_document table of limit) h.began [] h.has_read)
