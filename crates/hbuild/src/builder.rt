@@ -69,7 +69,8 @@ impl<'q> Builder<'q> {
         quirks: &'q Quirks,
         limits: Limits,
     ) -> Result<Builder<'q>, Refusal>
-        ensures { MatchResult result (λ b. b ≡ record { state = document_begins quirks.now limits.tree; root = 0; told = []; refused = None }) (λ e. e ≡ Memory) }
+        ensures { MatchResult result
+            (λ b. b ≡ record { state = document_begins quirks.now limits.tree; root = 0; told = []; refused = None }) (λ e. e ≡ Memory) }
     {
         let rules = document_rules(alloc, keys, quirks, limits)?;
         let root = rules.site.tree().document();

@@ -171,5 +171,5 @@ pub record HasRun {R F S W E : Type 0} (has_words : R → List Text → Type 0) 
   pub input : S × S
   pub output : W × W
   pub errors : E × E
-  pub ends : Ends has_words cannot_begin opens cannot_open has_text lacks_text left_in_file failed_in_file left reads written writes errors_written errors_failed
-      surroundings input.0 input.1 output.0 output.1 errors.0 errors.1 status
+  pub ends : Ends has_words cannot_begin opens cannot_open has_text lacks_text left_in_file failed_in_file left reads written writes
+      errors_written errors_failed surroundings input.0 input.1 output.0 output.1 errors.0 errors.1 status

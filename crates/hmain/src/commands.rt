@@ -94,10 +94,8 @@ static WRITTEN: [Choice; 2] = [
 
 /// The option that names the context of a command that reads a fragment alone.
 static FRAGMENT: [Choice; 1] = [Choice {
-    name: "in",
-    value: "NAME",
-    help: "The element in which the input stands",
     required: true,
+    ..CONTEXT
 }];
 
 /// The options of each command.

@@ -25,7 +25,13 @@ use Rattle.hparse.specs.Parse.{Subject, document, fragment, Told, Parse, Parses,
 
 -- what options tell
 abbrev pub told_by : Options → Told
-told_by options = record { table = options.table.now; quirks = options.quirks.now; bad = options.bad_bytes; input = options.limits.input; limits = options.limits.tree }
+told_by options = record {
+  table = options.table.now;
+  quirks = options.quirks.now;
+  bad = options.bad_bytes;
+  input = options.limits.input;
+  limits = options.limits.tree;
+}
 
 -- a step of the builder
 abbrev pub builds : Building → Item → Result (Unit {0}) Refusal → Building → Type 0

@@ -38,7 +38,8 @@ impl<'t, S: TokenSink> Reading<'t, S> {
         names: Names,
         sink: S,
     ) -> Reading<'t, S>
-        ensures { HasRead (gives_item S.gives S.gives_token) (record { table = options.now.table.now; start = start; bad = options.now.bad_bytes; limit = options.now.limits.input })
+        ensures { HasRead (gives_item S.gives S.gives_token)
+            (record { table = options.now.table.now; start = start; bad = options.now.bad_bytes; limit = options.now.limits.input })
             (record { names = names; sink = sink }) result [] }
     {
         Reading {

@@ -60,8 +60,8 @@ pub data Runs {S W : Type 0} (left : S → Option (List ℕ)) (failed_reads : S 
 
 -- The same of an input that stands in this element, or is a document: an element that is not allowed is refused before anything is read.
 pub data RunsIn {S W : Type 0} (left : S → Option (List ℕ)) (failed_reads : S → ℕ) (written : W → Option (List ℕ)) (failed_writes : W → ℕ)
-    (context : Option (List ℕ)) (prints : List ℕ → Result (List ℕ) Refusal → Type 0) (unrefused : List ℕ → Type 0) (piece : ℕ) (source source' : S) (target target' : W)
-    (answer : Result (Unit {0}) Refusal) : Type 0 where
+    (context : Option (List ℕ)) (prints : List ℕ → Result (List ℕ) Refusal → Type 0) (unrefused : List ℕ → Type 0) (piece : ℕ)
+    (source source' : S) (target target' : W) (answer : Result (Unit {0}) Refusal) : Type 0 where
   context_refused : (AllowsContext context → ⊥) → answer ≡ Err BadContext → source' ≡ source → target' ≡ target
       → RunsIn left failed_reads written failed_writes context prints unrefused piece source source' target target' answer
   ran : AllowsContext context → Runs left failed_reads written failed_writes prints unrefused piece source source' target target' answer
