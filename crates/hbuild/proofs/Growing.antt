@@ -150,11 +150,11 @@ module _ {N : Type 0} (k : ℕ) where
 
     turns-holds : (turns_left : ℕ) (name : N) (s : SiteOf N) → Holds s → Keeps (turns n at turns_left name s)
     turns-holds zero name s h = h
-    turns-holds (suc j) name s h = goes-then HoldsAfter Holds (turned n at name s) (next_turn (turns n at j name)) (turned-holds name s h) next
+    turns-holds (suc j) name s h = goes-then HoldsAfter Holds (turned n at name s) (next_turn (turns n at j name)) (turned-holds name s h) (next (turns-holds j name))
       where
-        next : (t : Turn (SiteOf N)) → HoldsAfter t → Keeps (next_turn (turns n at j name) t)
-        next (Next t) m = turns-holds j name t m
-        next (Ended t) m = m
+        next : ((t : SiteOf N) → Holds t → Keeps (turns n at j name t)) → (t : Turn (SiteOf N)) → HoldsAfter t → Keeps (next_turn (turns n at j name) t)
+        next r (Next t) m = r t m
+        next r (Ended t) m = m
 
     adopted-holds : (name : N) (s : SiteOf N) → Holds s → Keeps (adopted n at name s)
     adopted-holds name s h = go (is_unlisted n at name s)

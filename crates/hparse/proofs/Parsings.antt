@@ -65,15 +65,18 @@ module _ (told : Told) (subject : Subject) (bytes : List ℕ) (old : Parser) (h 
 
   -- what a reading has not refused the parser has not
   pub unrefused : (all : List ℕ) → IsUnrefusedBy (manner told subject) h.began all → IsUnrefused told subject all
-  unrefused all (reading, read) = (record old { reading = reading }, record {
-    accepts = h.accepts;
-    began = h.began;
-    unrefused = h.unrefused;
-    none_told = h.none_told;
-    root_is = h.root_is;
-    begins = h.begins;
-    has_read = read;
-  })
+  unrefused all (reading, read) = (
+    record old { reading = reading },
+    record {
+      accepts = h.accepts;
+      began = h.began;
+      unrefused = h.unrefused;
+      none_told = h.none_told;
+      root_is = h.root_is;
+      begins = h.begins;
+      has_read = read;
+    },
+  )
 
   -- a builder that took all of its input has refused nothing
   still_unrefused : (all : List ℕ) (names : Texts) (sink : Building) → IsTaken builds (manner told subject) h.began all names sink → sink.refused ≡ None

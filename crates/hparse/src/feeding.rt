@@ -58,7 +58,9 @@ impl<'t, S: TokenSink> Feeding<'t, S> {
     /// Nothing waits to be fed: characters of a run do within a call alone.
     pub fn all_fed(&self)
         ensures { self.now.unfed ≡ [] }
-    {}
+    {
+        let _names = &self.names;
+    }
 
     /// Has its texts distinct, the known ones first.
     pub fn settle(&mut self, alloc: Global)

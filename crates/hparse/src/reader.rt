@@ -2,8 +2,7 @@
 
 ghost use Rattle.std.specs.Prelude.{◌<◌, ◌≤◌, ℕ, List, []};
 ghost use Rattle.htoken.specs.Token.{gives_item};
-ghost use Rattle.hparse.specs.Fed.{HasRead};
-ghost use Rattle.hparse.specs.Fed as fed;
+ghost use Rattle.hparse.specs.Fed.{HasRead, IsUnrefused as IsUnrefusedBy};
 ghost use Rattle.hparse.specs.Answer.{of_document};
 ghost use Rattle.hparse.specs.Input.{Manner, Began, Comes};
 ghost use Rattle.hparse.specs.Reader.{ReadsInput};
@@ -50,7 +49,7 @@ pub(crate) fn read_to_end<S: TokenSink, R: Source>(
     requires { 0 < piece }
     ensures { (m : Manner) (began : Began S) (fed : List ℕ) → HasRead (gives_item S.gives S.gives_token) m began reading.old fed
         → ReadsInput R.left R.failed (λ bytes. Comes (gives_item S.gives S.gives_token) m began bytes reading.new.feeding.names reading.new.feeding.sink)
-        (fed.IsUnrefused (gives_item S.gives S.gives_token) m began) piece fed source.old source.new result }
+        (IsUnrefusedBy (gives_item S.gives S.gives_token) m began) piece fed source.old source.new result }
 {
     let mut buffer = vec![in alloc; 0u8; piece]?;
     for _turn in 0..u64::MAX {

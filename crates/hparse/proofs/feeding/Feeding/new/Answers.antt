@@ -6,8 +6,8 @@ use Rattle.htoken.specs.Tokenizing.{HasTaken}
 use Rattle.hparse.proofs.Handing.{handed_none}
 use Rattle.hparse.proofs.feeding.Feeding.new.Goals as goal
 
-pub returns : goal.returns
-returns g c = λ m table_is start_is. record {
+pub returns-clause-holds : goal.returns-clause-holds
+returns-clause-holds g c = λ m table_is start_is. record {
   fed = [];
   items_are = refl;
   was_fed = record {

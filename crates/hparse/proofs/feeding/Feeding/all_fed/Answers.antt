@@ -1,0 +1,6 @@
+use Rattle.std.proofs.Common.{ap, sym}
+use Rattle.hparse.specs.Intake.{Intake}
+use Rattle.hparse.proofs.feeding.Feeding.all_fed.Goals as goal
+
+pub returns : goal.returns
+returns g c = sym (ap (λ (o : Intake _). o.unfed) c.self.view_is)
