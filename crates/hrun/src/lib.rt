@@ -1,4 +1,5 @@
-//! The program's engine: a document from a reader, and what is printed of it to a writer.
+//! The one crate that a user of the library depends on: parsing, writing, what comes back, and the program's engine, which reads an
+//! input from a reader and prints to a writer. What stands in crates below is passed on.
 #![tactic(auto)]
 
 pub mod command;
@@ -8,9 +9,19 @@ pub mod engine;
 pub mod lines;
 mod quoted;
 
+pub use charref::Table;
 pub use command::{Command, Task};
 pub use context::check_context;
 pub use counted::Counted;
 pub use engine::{parser, run};
-pub use hwrite::{Target, write_all};
+pub use hbuild::Limits;
+pub use hmarkup::Quirks;
+pub use hnodes::{Kind, NodeId, Place, Tree};
+pub use hparse::{Options, Parsed, Parser, Source, TokenRun};
+pub use hparse::{is_context, parse_reader, read_tokens, tokens};
+pub use htext::BadBytes;
+pub use htoken::Token;
+pub use hwrite::{Escaping, Target, write_all};
+pub use hwrite::{error_lines, is_plain, serialize, serialize_to_vec, tree_text};
 pub use lines::token_lines;
+pub use names::{Attr, ErrorCode, Keys, NameId, Names, ParseError, Refusal, RefusedName, Tag};
