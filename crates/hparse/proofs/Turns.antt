@@ -10,10 +10,15 @@ use Rattle.names.specs.declared.refusal.Refusal.TheVariants.{Memory, Read}
 use Rattle.htext.specs.Text.{Policy, settled_len}
 use Rattle.htext.specs.Decoding.{Progress, HasFed}
 use Rattle.htext.proofs.Fronts.{front_le}
+use Rattle.names.specs.declared.placed.Placed.{Placed}
+use Rattle.htext.specs.Items.{CharItem, items, characters_among}
+use Rattle.htext.proofs.Texts.{characters_among-items}
+use Rattle.htoken.specs.Standing.{start_kind}
 use Rattle.htoken.specs.Token.{Item}
+use Rattle.htoken.specs.Tokenizing.{HasTaken}
 use Rattle.hparse.specs.declared.reading.Reading.{Reading}
-use Rattle.hparse.specs.Input.{Manner, Began, Comes, how_of}
-use Rattle.hparse.specs.Fed.{HasRead, IsUnrefused, FeedsPiece, piece_ran_out, piece_refused, piece_read, EndsInput, input_ran_out, input_comes}
+use Rattle.hparse.specs.Input.{Manner, Began, Comes, how_of, settled_in}
+use Rattle.hparse.specs.Fed.{HasRead, IsUnrefused, IsUnrefusedText, FeedsPiece, piece_ran_out, piece_refused, piece_read, EndsInput, input_ran_out, input_comes}
 use Rattle.hparse.specs.Calls.{counted}
 use Rattle.hparse.specs.Reader.{IsRefusedFrom, ReadsInput, reading_ran_out, reading_failed, reading_stopped, read_to_end}
 use Rattle.hparse.proofs.Pieces.{has_read, is_memory}
@@ -122,6 +127,22 @@ module _ {S R : Type 0} (left : R → Option (List ℕ)) (failed : R → ℕ) (g
     -- the read failed
     pub failed_turn : (new : R) (most : ℕ) (come : List ℕ → Result (Unit {0}) Refusal → Type 0) → Keeps (left now) (left new) → failed new ≡ counted (failed now) → ReadsInput left failed come (IsUnrefused gives m began) most before old new (Err Read)
     failed_turn new most come kept count = reading_failed h.fed refl unrefused (Consumes-kept (left old) (left now) (left new) h.fed h.given kept) (count ∙ ap counted h.unfailed)
+
+-- what a reading has not refused its text has not
+pub unrefused_text : {S : Type 0} (gives : S → Item → Result (Unit {0}) Refusal → S → Type 0) (m : Manner) (began : Began S) (reading : Reading S) (bytes : List ℕ) → HasRead gives m began reading bytes → IsUnrefusedText m bytes
+unrefused_text gives m began reading bytes h =
+    let text = settled_in m bytes in
+    let all : h.holds.fed ≡ items text = sym (append-nil h.holds.fed) ∙ ap (λ (more : List CharItem). h.holds.fed ++ more) (sym h.all_fed) ∙ h.holds.items_are in
+    record {
+      decoder = reading.decoder;
+      how_is = h.how_is;
+      fed = h.fed;
+      tokenizer = reading.feeding.tokenizer;
+      names = reading.feeding.names;
+      taken = h.holds.was_fed.taken;
+      has_taken = subst (λ (cs : List Placed). HasTaken m.table (start_kind m.start) reading.feeding.tokenizer reading.feeding.names cs h.holds.was_fed.taken)
+          (ap characters_among all ∙ characters_among-items text) h.holds.was_fed.has_taken;
+    }
 
 -- What an input comes to is shown as an answer of another kind.
 module _ {R A B : Type 0} (left : R → Option (List ℕ)) (failed : R → ℕ) (come : List ℕ → Result A Refusal → Type 0) (answers : List ℕ → Result B Refusal → Type 0) (held stands : List ℕ → Type 0) (kept : (bytes : List ℕ) → held bytes → stands bytes)

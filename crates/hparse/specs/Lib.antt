@@ -4,6 +4,7 @@ pub mod Collecting
 pub mod Fed
 pub mod Holding
 pub mod Input
+pub mod Into
 pub mod Intake
 pub mod Parse
 pub mod Parsing

@@ -35,7 +35,3 @@ pub record HasReadTokens (table : Entities) (bad : BadBytes) (limit : ℕ) (read
   pub no_tokens : began.sink.tokens.items ≡ []
   pub no_errors : began.sink.errors.items ≡ []
   pub has_read : HasRead (gives_item KeepsError KeepsToken) (record { table = table; start = Document; bad = bad; limit = limit }) began reading bytes
-
--- nothing of the bytes is refused, whatever follows them: a reading that was fed them has refused nothing
-abbrev pub IsUnrefused : Entities → BadBytes → ℕ → List ℕ → Type 0
-IsUnrefused table bad limit bytes = (reading : Reading Collected) × HasReadTokens table bad limit reading bytes

@@ -2,11 +2,12 @@
 
 ghost use Rattle.std.specs.Prelude.{◌<◌, ◌≤◌, ℕ, List, []};
 ghost use Rattle.htoken.specs.Token.{gives_item};
-ghost use Rattle.hparse.specs.Fed.{HasRead, IsUnrefused as IsUnrefusedBy};
+ghost use Rattle.hparse.specs.Fed.{HasRead, IsUnrefused, IsUnrefusedText};
 ghost use Rattle.hparse.specs.Answer.{of_document};
 ghost use Rattle.hparse.specs.Input.{Manner, Began, Comes};
+ghost use Rattle.hparse.specs.Into.{as_document};
 ghost use Rattle.hparse.specs.Reader.{ReadsInput};
-ghost use Rattle.hparse.specs.Shown.{AnswersRun, IsUnrefused};
+ghost use Rattle.hparse.specs.Shown.{AnswersRun};
 
 use crate::document::{begin, run_of};
 use crate::options::Options;
@@ -27,7 +28,7 @@ pub fn read_tokens<R: Source>(
 ) -> Result<TokenRun, Refusal>
     requires piece { 0 < piece }
     ensures { ReadsInput R.left R.failed (AnswersRun options.now.table.now (of_document options.now.bad_bytes options.now.limits.input))
-        (IsUnrefused options.now.table.now options.now.bad_bytes options.now.limits.input) piece [] source.old source.new result }
+        (IsUnrefusedText (as_document options.now.table.now options.now.bad_bytes options.now.limits.input)) piece [] source.old source.new result }
 {
     let mut reading = begin(alloc, options)?;
     match read_to_end(alloc, piece, &mut reading, source) {
@@ -49,7 +50,7 @@ pub(crate) fn read_to_end<S: TokenSink, R: Source>(
     requires { 0 < piece }
     ensures { (m : Manner) (began : Began S) (fed : List ℕ) → HasRead (gives_item S.gives S.gives_token) m began reading.old fed
         → ReadsInput R.left R.failed (λ bytes. Comes (gives_item S.gives S.gives_token) m began bytes reading.new.feeding.names reading.new.feeding.sink)
-        (IsUnrefusedBy (gives_item S.gives S.gives_token) m began) piece fed source.old source.new result }
+        (IsUnrefused (gives_item S.gives S.gives_token) m began) piece fed source.old source.new result }
 {
     let mut buffer = vec![in alloc; 0u8; piece]?;
     for _turn in 0..u64::MAX {

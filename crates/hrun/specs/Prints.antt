@@ -10,9 +10,9 @@ use Rattle.hwrite.specs.Plain.{is_plain}
 use Rattle.hwrite.specs.Written.{written}
 use Rattle.hwrite.specs.declared.escaping.Escaping.{Escaping}
 use Rattle.hparse.specs.Answer.{Answers}
-use Rattle.hparse.specs.Parsing as parsing
-use Rattle.hparse.specs.Shown as shown
-use Rattle.hparse.specs.Parse.{Parse, Parses, Subject, document, fragment, Told, policy, root_of}
+use Rattle.hparse.specs.Fed.{IsUnrefusedText}
+use Rattle.hparse.specs.Parsing.{IsUnrefused}
+use Rattle.hparse.specs.Parse.{Parse, Parses, Subject, document, fragment, Told, manner, policy, root_of}
 use Rattle.hrun.specs.declared.command.Task.{Task}
 use Rattle.hrun.specs.declared.command.Task.TheVariants as task
 use Rattle.hrun.specs.Context.{subject_in}
@@ -59,8 +59,8 @@ prints_of escaping task.Plain context told = Prints (Parses told (subject_in con
 
 -- nothing of the bytes is refused, whatever follows them
 abbrev pub unrefused_of : Task → Option (List ℕ) → Told → List ℕ → Type 0
-unrefused_of task.Tokens context told = shown.IsUnrefused told.table told.bad told.input
-unrefused_of other context told = parsing.IsUnrefused told (subject_in context)
+unrefused_of task.Tokens context told = IsUnrefusedText (manner told document)
+unrefused_of other context told = IsUnrefused told (subject_in context)
 
 -- the element in which a task's input stands
 abbrev pub context_of : Task → Option (List ℕ) → Option (List ℕ)

@@ -8,7 +8,8 @@ ghost use Rattle.hnodes.specs.Spelled.{spelled};
 ghost use Rattle.hparse.specs.Answer.{Answers, of_document};
 ghost use Rattle.hparse.specs.Parse.{Parses};
 ghost use Rattle.hparse.specs.Parsing.{told_by, AnswersParse, IsUnrefused};
-ghost use Rattle.hparse.specs.Shown as shown;
+ghost use Rattle.hparse.specs.Fed.{IsUnrefusedText};
+ghost use Rattle.hparse.specs.Into.{as_document};
 ghost use Rattle.hrun.specs.Command.{name_of};
 ghost use Rattle.hrun.specs.Context.{subject_in};
 ghost use Rattle.hrun.specs.Prints.{errors_text, is_plain_in, nodes_text, plain_line, plain_text, tokens_text, written_text, Prints};
@@ -54,7 +55,7 @@ fn run_tokens<S: Source, W: Target>(
 ) -> Result<(), Refusal>
     requires piece { 0 < piece }
     ensures { Runs S.left S.failed W.written W.failed (Prints (Answers options.now.table.now (of_document options.now.bad_bytes options.now.limits.input)) tokens_text)
-        (shown.IsUnrefused options.now.table.now options.now.bad_bytes options.now.limits.input) piece
+        (IsUnrefusedText (as_document options.now.table.now options.now.bad_bytes options.now.limits.input)) piece
         source.old source.new target.old target.new result }
 {
     let answer = read_tokens(alloc, piece, options, source)?;
