@@ -1,7 +1,7 @@
 //! Bytes to a target by way of a buffer, part by part.
 
-ghost use Rattle.std.specs.Prelude.{◌≡◌, [], IfOk, OnOk, flat_map, vec_capacity};
-ghost use Rattle.hwrite.specs.Output.{Ends, Puts, taken};
+ghost use Rattle.std.specs.Prelude.{◌≡◌, ◌+◌, ◌≤◌, [], IfOk, OnOk, flat_map, length, vec_capacity};
+ghost use Rattle.hwrite.specs.Output.{Adds, Ends, Puts, taken};
 
 use crate::target::{Target, write_all};
 use names::Refusal;
@@ -58,20 +58,39 @@ impl<'t, W: Target> Sink<'t, W> {
     }
 }
 
+/// Holds bytes that there is room for.
+#[inline]
+fn hold<W: Target>(out: &mut Sink<'_, W>, bytes: &[u8])
+    requires { length out.old.held.now.items + length bytes.now ≤ vec_capacity out.old.held.now }
+    ensures { Adds (taken W.written W.failed out.old) (taken W.written W.failed out.new) bytes.now }
+{
+    let is_held = out.held.extend_from_slice(bytes).is_ok();
+    prove!(is_held);
+}
+
+/// Writes all of the bytes, for which there is no room beside those that are held.
+#[cold]
+#[inline(never)]
+fn put_past<W: Target>(out: &mut Sink<'_, W>, bytes: &[u8]) -> Result<(), Refusal>
+    ensures { Puts (taken W.written W.failed out.old) (taken W.written W.failed out.new) bytes.now result }
+{
+    out.hand_over()?;
+    if bytes.len() > out.held.capacity() {
+        return write_all(out.target, bytes);
+    }
+    hold(out, bytes);
+    Ok(())
+}
+
 /// Writes all of the bytes.
+#[inline]
 pub(crate) fn put<W: Target>(out: &mut Sink<'_, W>, bytes: &[u8]) -> Result<(), Refusal>
     ensures { Puts (taken W.written W.failed out.old) (taken W.written W.failed out.new) bytes.now result }
 {
-    let room = out.held.capacity();
-    if bytes.len() > room - out.held.len() {
-        out.hand_over()?;
-        if bytes.len() > room {
-            return write_all(out.target, bytes);
-        }
+    if bytes.len() > out.held.capacity() - out.held.len() {
+        return put_past(out, bytes);
     }
-    // There is room for them.
-    let is_held = out.held.extend_from_slice(bytes).is_ok();
-    prove!(is_held);
+    hold(out, bytes);
     Ok(())
 }
 
