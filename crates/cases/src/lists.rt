@@ -8,7 +8,7 @@ use crate::grow::{Grown, grow};
 use crate::records::{Record, Section};
 use anyhow::{Context, Result, bail};
 use hrun::Counted;
-use hwrite::{Escaping, is_plain, serialize, serialize_to_vec, tree_text};
+use hwrite::{Escaping, Target, is_plain, print_tree, serialize};
 use std::alloc::Global;
 use std::mem;
 
@@ -104,20 +104,29 @@ impl List {
 fn texts(alloc: Global, grown: &Grown) -> Result<(Vec<u8>, Vec<u8>)>
     requires { IsGrown grown.now }
 {
-    let Ok(tree) = tree_text(alloc, &grown.tree, &grown.names, grown.root) else {
+    let mut out = Counted::new(Vec::new(alloc));
+    if print_tree(alloc, &grown.tree, &grown.names, grown.root, &mut out).is_err() {
         bail!("no text of a tree");
-    };
-    Ok((tree, html(alloc, grown, Escaping::One)?))
+    }
+    Ok((out.into_inner(), html(alloc, grown, Escaping::One)?))
 }
 
 /// The tree's HTML.
 fn html(alloc: Global, grown: &Grown, escaping: Escaping) -> Result<Vec<u8>>
     requires { IsGrown grown.now }
 {
-    match serialize_to_vec(alloc, &grown.tree, &grown.names, grown.root, escaping) {
-        Ok(written) => Ok(written),
-        Err(_) => bail!("a tree is not written"),
+    let mut out = Counted::new(Vec::new(alloc));
+    if !takes_html(alloc, grown, escaping, &mut out) {
+        bail!("a tree is not written");
     }
+    Ok(out.into_inner())
+}
+
+/// Whether a writer takes the tree's HTML.
+fn takes_html<W: Target>(alloc: Global, grown: &Grown, escaping: Escaping, out: &mut W) -> bool
+    requires { IsGrown grown.now }
+{
+    serialize(alloc, &grown.tree, &grown.names, grown.root, escaping, out).is_ok()
 }
 
 /// Whether a writer that has room for less than the tree's HTML takes as much of it, for each room, and fails.
@@ -129,14 +138,8 @@ fn is_begun_so(alloc: Global, grown: &Grown, written: &[u8]) -> Result<bool>
         let mut taken = Vec::from_slice(alloc, front)?;
         taken.fill(0);
         let mut out = Counted::new(taken.as_mut_slice());
-        let answer = serialize(
-            &grown.tree,
-            &grown.names,
-            grown.root,
-            Escaping::One,
-            &mut out,
-        );
-        if answer.is_ok() != (room == written.len()) || taken.as_slice() != front {
+        let is_whole = takes_html(alloc, grown, Escaping::One, &mut out);
+        if is_whole != (room == written.len()) || taken.as_slice() != front {
             return Ok(false);
         }
     }

@@ -5,12 +5,12 @@ use Rattle.std.proofs.KnownBytes.{Keeps-refl, Appends-kept}
 use Rattle.names.specs.declared.refusal.Refusal.{Refusal}
 use Rattle.names.specs.declared.refusal.Refusal.TheVariants.{Memory, Read, Write, BadContext}
 use Rattle.hparse.specs.Calls.{counted}
-use Rattle.hwrite.specs.Output.{AppendsBeginning}
+use Rattle.hwrite.specs.Output.{AppendsBeginning, WritesText, no_buffer, text_cut, text_written}
 use Rattle.hparse.specs.declared.parser.Parser.{Parser}
 use Rattle.hparse.specs.Parse.{Told, document, fragment, is_context}
 use Rattle.hparse.specs.Parsing.{HasParsed}
 use Rattle.hparse.specs.Reader.{ReadsInput, reading_ran_out, reading_failed, reading_stopped, read_to_end}
-use Rattle.hrun.specs.Running.{WritesText, text_written, text_cut, WritesNothing, Runs, run_ran_out, read_failed, stopped, refused, write_failed, wrote, RunsIn, context_refused, ran, ReadsIn, not_allowed, allowed, BeginsIn}
+use Rattle.hrun.specs.Running.{WritesNothing, Runs, run_ran_out, read_failed, stopped, refused, write_failed, wrote, RunsIn, context_refused, ran, ReadsIn, not_allowed, allowed, BeginsIn}
 
 module _ {W : Type 0} (written : W → Option (List ℕ)) (failed : W → ℕ) where
   -- a beginning was written
@@ -62,6 +62,8 @@ module _ {W : Type 0} (written : W → Option (List ℕ)) (failed : W → ℕ) w
     comes_to_text target target' run text answer (reading_ran_out is count) printed w = absurd cc
     comes_to_text target target' run text answer (reading_failed bytes is un given count) printed w = absurd cc
     comes_to_text target target' run text answer (reading_stopped refusal before last is un gave from few) printed w = absurd cc
+    comes_to_text target target' run text answer (read_to_end bytes un gave end its) printed (no_buffer e kept unfailed) =
+        run_ran_out e gave.unfailed (record { kept = kept; unfailed = unfailed })
     comes_to_text target target' run text answer (read_to_end bytes un gave end its) printed (text_written e appended unfailed) =
         wrote bytes text e gave end (printed bytes its) appended unfailed
     comes_to_text target target' run text answer (read_to_end bytes un gave end its) printed (text_cut beginning rest e whole appended failing) =
@@ -73,11 +75,6 @@ module _ {W : Type 0} (written : W → Option (List ℕ)) (failed : W → ℕ) w
           → RunsIn left reads written failed context prints unrefused piece old new target target (Err e)
       not_read_in none target e (not_allowed not is same) = context_refused not (let why : e ≡ BadContext = cc in ap (λ (x : Refusal). Err x) why) same refl
       not_read_in none target e (allowed is r) = ran is (not_read none target e r)
-
-      pub no_text_in : (target : W) (run : R) (e : Refusal) → ReadsIn left reads context answers unrefused piece old new (Ok run) → e ≡ Memory
-          → RunsIn left reads written failed context prints unrefused piece old new target target (Err e)
-      no_text_in target run e (not_allowed not is same) why = absurd cc
-      no_text_in target run e (allowed is r) why = ran is (no_text target run e r why)
 
       pub an_answer_in : (run : R) → ReadsIn left reads context answers unrefused piece old new (Ok run) → (bytes : List ℕ) × answers bytes (Ok run)
       an_answer_in run (not_allowed not is same) = absurd cc

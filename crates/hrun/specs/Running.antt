@@ -15,14 +15,6 @@ use Rattle.hwrite.specs.declared.escaping.Escaping.{Escaping}
 use Rattle.hrun.specs.Context.{AllowsContext, subject_in}
 use Rattle.hrun.specs.Prints.{prints_of, context_of, unrefused_of}
 
--- What writing a text does: it was written, or a call failed after a beginning of it.
-pub data WritesText {W : Type 0} (written : W → Option (List ℕ)) (failed : W → ℕ) (text : List ℕ) (old new : W)
-    (answer : Result (Unit {0}) Refusal) : Type 0 where
-  text_written : answer ≡ Ok tt → Appends (written old) (written new) text → failed new ≡ failed old → WritesText written failed text old new answer
-  text_cut : (beginning rest : List ℕ) → answer ≡ Err Write → text ≡ beginning ++ rest → Appends (written old) (written new) beginning
-      → failed new ≡ counted (failed old)
-      → WritesText written failed text old new answer
-
 -- nothing was written, and no call of the writer has failed
 pub record WritesNothing {W : Type 0} (written : W → Option (List ℕ)) (failed : W → ℕ) (old new : W) : Type 0 where
   pub kept : Keeps (written old) (written new)

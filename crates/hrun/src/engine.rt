@@ -13,12 +13,13 @@ ghost use Rattle.hparse.specs.Into.{as_document};
 ghost use Rattle.hrun.specs.Command.{name_of};
 ghost use Rattle.hrun.specs.Context.{subject_in};
 ghost use Rattle.hrun.specs.Prints.{errors_text, is_plain_in, nodes_text, plain_line, plain_text, tokens_text, written_text, Prints};
-ghost use Rattle.hrun.specs.Running.{BeginsIn, ReadsIn, Runs, RunsIn, RunsTask, WritesText};
+ghost use Rattle.hrun.specs.Running.{BeginsIn, ReadsIn, Runs, RunsIn, RunsTask};
+ghost use Rattle.hwrite.specs.Output.{WritesText};
 
 use crate::command::{Command, Task};
 use crate::lines::token_lines;
 use hparse::{Options, Parsed, Parser, Source, parse_reader, read_tokens};
-use hwrite::{Target, error_lines, is_plain, serialize_to_vec, tree_text, write_all};
+use hwrite::{Target, is_plain, print_errors, print_tree, serialize, write_all};
 use names::Refusal;
 use std::alloc::Global;
 
@@ -80,11 +81,9 @@ fn run_tree<S: Source, W: Target>(
         (IsUnrefused (told_by options.now) (subject_in (name_of command.entry.context))) command.entry.piece source.old source.new target.old target.new result }
 {
     let parsed = parse(alloc, command, options, source)?;
-    let text = tree_text(alloc, &parsed.tree, &parsed.names, parsed.root);
-    // What was parsed is let go before its text is written.
+    let answer = print_tree(alloc, &parsed.tree, &parsed.names, parsed.root, target);
     drop(parsed);
-    let text = text?;
-    write_text(target, &text)
+    answer
 }
 
 // The parse errors of a document or a fragment.
@@ -101,11 +100,9 @@ fn run_errors<S: Source, W: Target>(
         (IsUnrefused (told_by options.now) (subject_in (name_of command.entry.context))) command.entry.piece source.old source.new target.old target.new result }
 {
     let parsed = parse(alloc, command, options, source)?;
-    let text = error_lines(alloc, &parsed.errors);
-    // What was parsed is let go before its text is written.
+    let answer = print_errors(alloc, &parsed.errors, target);
     drop(parsed);
-    let text = text?;
-    write_text(target, &text)
+    answer
 }
 
 // The tree of a document or a fragment as HTML.
@@ -122,17 +119,16 @@ fn run_write<S: Source, W: Target>(
         (IsUnrefused (told_by options.now) (subject_in (name_of command.entry.context))) command.entry.piece source.old source.new target.old target.new result }
 {
     let parsed = parse(alloc, command, options, source)?;
-    let text = serialize_to_vec(
+    let answer = serialize(
         alloc,
         &parsed.tree,
         &parsed.names,
         parsed.root,
         command.escaping,
+        target,
     );
-    // What was parsed is let go before its text is written.
     drop(parsed);
-    let text = text?;
-    write_text(target, &text)
+    answer
 }
 
 // Whether a fragment is plain in its context.

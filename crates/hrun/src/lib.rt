@@ -22,6 +22,6 @@ pub use hparse::{is_context, parse_reader, read_tokens, tokens};
 pub use htext::BadBytes;
 pub use htoken::Token;
 pub use hwrite::{Escaping, Target, write_all};
-pub use hwrite::{error_lines, is_plain, serialize, serialize_to_vec, tree_text};
+pub use hwrite::{is_plain, print_errors, print_tree, serialize};
 pub use lines::token_lines;
 pub use names::{Attr, ErrorCode, Keys, NameId, Names, ParseError, Refusal, RefusedName, Tag};

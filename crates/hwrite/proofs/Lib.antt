@@ -17,3 +17,4 @@ pub mod PlainNames
 pub mod Entering
 pub mod Output
 pub mod Kept
+pub mod Finished

@@ -1,35 +1,49 @@
--- Texts that are put together of parts.
-use Rattle.std.proofs.Common.{◌≡◌, ℕ, suc, Result, ◌+◌, ◌<◌, List, [], ◌∷◌, ◌++◌, length, drop, get_or, map, sym, ap, ◌∙◌, drop-cons, add-one}
-use Rattle.std.proofs.lemmas.List.{append_assoc, append-nil}
-use Rattle.std.proofs.lemmas.Result.{on_ok_weaker}
-use Rattle.std.specs.List.{flat_map}
+-- Lines that are put together of parts.
+use Rattle.std.proofs.Common.{◌≡◌, ℕ, suc, ◌+◌, ◌-◌, ◌<◌, ◌≤◌, ◌&&◌, false, cond, List, [], ◌∷◌, ◌++◌, length, drop, get_or, map, sym, ap, ◌∙◌, drop-cons, add-one, arith}
+use Rattle.std.proofs.lemmas.List.{append_assoc}
+use Rattle.std.specs.List.{flat_map, repeat}
 use Rattle.std.specs.Prelude.{codes}
-use Rattle.std.specs.Result.{OnOk}
 use Rattle.hnodes.specs.Forest.{Attribute}
-use Rattle.hwrite.specs.Lines.{attribute_line, indented}
-
--- one part more
-pub part_added : (text new all left part rest : List ℕ) → text ++ left ≡ all → left ≡ part ++ rest → new ≡ text ++ part → new ++ rest ≡ all
-part_added text new all left part rest before split is = ap (λ t. t ++ rest) is ∙ append_assoc text part rest ∙ ap (λ l. text ++ l) (sym split) ∙ before
-
-pub parts_ended : (text all left : List ℕ) → text ++ left ≡ all → left ≡ [] → text ≡ all
-parts_ended text all left before empty = sym (append-nil text) ∙ ap (λ l. text ++ l) (sym empty) ∙ before
+use Rattle.hwrite.specs.Lines.{attribute_line, between_quotes, identifiers, indented}
+use Rattle.hwrite.specs.Plain.{is_empty}
 
 -- the lines from an index on, by the first of them
 pub next_lines : {A : Type 0} (f : A → List ℕ) (xs : List A) (i : ℕ) (d : A) → i < length xs → flat_map f (drop i xs) ≡ f (get_or xs i d) ++ flat_map f (drop (i + 1) xs)
 next_lines f xs i d h = ap (flat_map f) (drop-cons xs i d h ∙ (λ k. get_or xs i d ∷ drop (sym (add-one i) k) xs))
 
-pub next_pairs : {A B : Type 0} (f : B → List ℕ) (g : A → B) (xs : List A) (i : ℕ) (d : A) → i < length xs
+-- the first of some items that are left, and those after it
+pub next_items : {A B : Type 0} (f : B → List ℕ) (g : A → B) (xs : List A) (i : ℕ) (d : A) → i < length xs
     → flat_map f (map g (drop i xs)) ≡ f (g (get_or xs i d)) ++ flat_map f (map g (drop (i + 1) xs))
-next_pairs f g xs i d h = ap (λ l. flat_map f (map g l)) (drop-cons xs i d h ∙ (λ k. get_or xs i d ∷ drop (sym (add-one i) k) xs))
+next_items f g xs i d h = ap (λ l. flat_map f (map g l)) (drop-cons xs i d h ∙ (λ k. get_or xs i d ∷ drop (sym (add-one i) k) xs))
+
+-- the spaces of a line: at first, after two more, and at the end
+pub first_level : (depth : ℕ) → codes "| " ++ repeat depth (codes "  ") ≡ codes "| " ++ repeat (depth - 0) (codes "  ")
+first_level depth = let all : depth ≡ depth - 0 = omega arith in ap (λ n. codes "| " ++ repeat n (codes "  ")) all
+
+pub no_level : (depth level : ℕ) → depth ≤ level → repeat (depth - level) (codes "  ") ≡ []
+no_level depth level h = let none : depth - level ≡ 0 = omega arith in ap (λ n. repeat n (codes "  ")) none
+
+pub one_level : (depth level : ℕ) → level < depth → repeat (depth - level) (codes "  ") ≡ codes "  " ++ repeat (depth - (level + 1)) (codes "  ")
+one_level depth level h = let one : depth - level ≡ suc (depth - (level + 1)) = omega arith in ap (λ n. repeat n (codes "  ")) one
+
+-- the words of a line, and what stands around them
+pub line_parts : (depth : ℕ) (words : List ℕ) → indented depth words ≡ (codes "| " ++ repeat depth (codes "  ")) ++ (words ++ codes "\n")
+line_parts depth words = append_assoc (codes "| " ++ repeat depth (codes "  ")) words (codes "\n")
+
+pub attribute_parts : (depth : ℕ) (name value : List ℕ) → indented depth (name ++ (codes "=\"" ++ (value ++ codes "\""))) ≡ attribute_line depth (name, value)
+attribute_parts depth name value = ap (indented depth) (sym (append_assoc name (codes "=") (between_quotes value)))
+
+pub doctype_parts : (depth : ℕ) (name public_id system_id : List ℕ) → is_empty public_id && is_empty system_id ≡ false
+    → indented depth (codes "<!DOCTYPE " ++ (name ++ (codes " \"" ++ (public_id ++ (codes "\" \"" ++ (system_id ++ codes "\">"))))))
+    ≡ indented depth (codes "<!DOCTYPE " ++ name ++ identifiers public_id system_id ++ codes ">")
+doctype_parts depth name public_id system_id some =
+    ap (indented depth)
+    (ap (λ t. codes "<!DOCTYPE " ++ (name ++ (codes " \"" ++ t))) (sym (append_assoc public_id (codes "\" \"" ++ (system_id ++ codes "\"")) (codes ">") ∙ ap (λ t. public_id ++ (codes "\" \"" ++ t)) (append_assoc system_id (codes "\"") (codes ">"))))
+    ∙ ap (λ t. codes "<!DOCTYPE " ++ (name ++ (codes " \"" ++ (t ++ codes ">")))) (sym (append_assoc (public_id ++ codes "\"") (codes " ") (between_quotes system_id) ∙ append_assoc public_id (codes "\"") (codes " " ++ between_quotes system_id)))
+    ∙ sym (append_assoc (codes "<!DOCTYPE " ++ name) (codes " " ++ between_quotes public_id ++ codes " " ++ between_quotes system_id) (codes ">"))
+    ∙ ap (λ u. codes "<!DOCTYPE " ++ name ++ cond u [] (codes " " ++ between_quotes public_id ++ codes " " ++ between_quotes system_id) ++ codes ">") (sym some))
 
 -- the line of an element, and those of its attributes
-pub element_added : {T E : Type 0} (r : Result T E) (depth : ℕ) (old mid new name : List ℕ) (xs ys : List (Attribute (List ℕ)))
-    → mid ≡ old ++ indented depth (codes "<" ++ (name ++ codes ">")) → xs ≡ ys → OnOk r (new ≡ mid ++ flat_map (attribute_line (depth + 1)) xs)
-    → OnOk r (new ≡ old ++ (indented depth (codes "<" ++ (name ++ codes ">")) ++ flat_map (attribute_line (suc depth)) ys))
-element_added r depth old mid new name xs ys begun same last = on_ok_weaker r whole last
-  where
-    whole : new ≡ mid ++ flat_map (attribute_line (depth + 1)) xs → new ≡ old ++ (indented depth (codes "<" ++ (name ++ codes ">")) ++ flat_map (attribute_line (suc depth)) ys)
-    whole added =
-        added ∙ (λ i. begun i ++ flat_map (attribute_line (add-one depth i)) (same i))
-        ∙ append_assoc old (indented depth (codes "<" ++ (name ++ codes ">"))) (flat_map (attribute_line (suc depth)) ys)
+pub element_parts : (depth : ℕ) (name lent : List ℕ) (attrs sorted : List (Attribute (List ℕ))) → lent ≡ name → sorted ≡ attrs
+    → indented depth (codes "<" ++ name ++ codes ">") ++ flat_map (attribute_line (suc depth)) attrs ≡ indented depth (codes "<" ++ (lent ++ codes ">")) ++ flat_map (attribute_line (depth + 1)) sorted
+element_parts depth name lent attrs sorted same order = λ i. indented depth (codes "<" ++ (sym same i ++ codes ">")) ++ flat_map (attribute_line (sym (add-one depth) i)) (sym order i)

@@ -21,31 +21,58 @@ HasLeft old new bytes left = (done : List ℕ) × (bytes ≡ done ++ left) × Ad
 abbrev pub all_parts : List (Bor (List ℕ)) → List ℕ
 all_parts parts = flat_map (λ (p : Bor (List ℕ)). p.now) parts
 
+pub none_added : (old : Taken) → Adds old old []
+none_added old = record { name = refl; done = []; split = append-nil old.held; appended = Appends-nil old.bytes; unfailed = refl }
+
 pub none_put : (old : Taken) (bytes : List ℕ) → HasLeft old old bytes bytes
-none_put old bytes = ([], refl, (Appends-nil old.bytes, refl))
+none_put old bytes = ([], refl, none_added old)
 
 not_nil : (xs ys : List ℕ) → xs ≢ [] → xs ++ ys ≢ []
 not_nil [] ys h e = h refl
 not_nil (x ∷ xs) ys h e = cc
 
+-- what was held, and what comes after it, where a first part of that was added
+moved : (held first done held' part : List ℕ) → held ++ first ≡ done ++ held' → held ++ (first ++ part) ≡ done ++ (held' ++ part)
+moved held first done held' part e = sym (append_assoc held first part) ∙ ap (λ l. l ++ part) e ∙ append_assoc done held' part
+
+-- two parts
+pub both_added : (old mid new : Taken) (first part : List ℕ) → Adds old mid first → Adds mid new part → Adds old new (first ++ part)
+both_added old mid new first part h k = record {
+  name = k.name ∙ h.name;
+  done = h.done ++ k.done;
+  split = moved old.held first h.done mid.held part h.split ∙ ap (λ l. h.done ++ l) k.split ∙ sym (append_assoc h.done k.done new.held);
+  appended = Appends-trans old.bytes mid.bytes new.bytes h.done k.done h.appended k.appended;
+  unfailed = k.unfailed ∙ h.unfailed;
+}
+
+-- a part, and then one of which a write failed
+pub then_failed : (old mid new : Taken) (first part rest : List ℕ) {e : Refusal} → Adds old mid first → Fails e mid new part → Fails e old new (first ++ (part ++ rest))
+then_failed old mid new first part rest h k =
+    let (done, other, split, more, appended) = k.beginning in
+    record {
+      why = k.why;
+      name = k.name ∙ h.name;
+      beginning = (
+        h.done ++ done,
+        other ++ rest,
+        moved old.held first h.done mid.held (part ++ rest) h.split
+            ∙ ap (λ l. h.done ++ l) (sym (append_assoc mid.held part rest) ∙ ap (λ l. l ++ rest) split ∙ append_assoc done other rest)
+            ∙ sym (append_assoc h.done done (other ++ rest)),
+        not_nil other rest more,
+        Appends-trans old.bytes mid.bytes new.bytes h.done done h.appended appended,
+      );
+      failed = k.failed ∙ ap counted h.unfailed;
+    }
+
 -- one part more
 pub part_put : (old mid new : Taken) (bytes left part rest : List ℕ) → HasLeft old mid bytes left → left ≡ part ++ rest → Adds mid new part → HasLeft old new bytes rest
-part_put old mid new bytes left part rest (done, split, (before, same)) is (more, still) =
-    (done ++ part, split ∙ ap (λ l. done ++ l) is ∙ sym (append_assoc done part rest), (Appends-trans old.bytes mid.bytes new.bytes done part before more, still ∙ same))
+part_put old mid new bytes left part rest (done, split, added) is more =
+    (done ++ part, split ∙ ap (λ l. done ++ l) is ∙ sym (append_assoc done part rest), both_added old mid new done part added more)
 
 -- a part of which a write failed
 pub part_failed : (old mid new : Taken) (bytes left part rest : List ℕ) {e : Refusal} → HasLeft old mid bytes left → left ≡ part ++ rest → Fails e mid new part → Fails e old new bytes
-part_failed old mid new bytes left part rest (done, split, (before, same)) is (why, (some, other, parted, more, after), count) = (
-  why,
-  (
-    done ++ some,
-    other ++ rest,
-    split ∙ ap (λ l. done ++ l) (is ∙ ap (λ l. l ++ rest) parted ∙ append_assoc some other rest) ∙ sym (append_assoc done some (other ++ rest)),
-    not_nil other rest more,
-    Appends-trans old.bytes mid.bytes new.bytes done some before after,
-  ),
-  count ∙ ap counted same,
-)
+part_failed old mid new bytes left part rest {e} (done, split, added) is failed =
+    subst (Fails e old new) (sym (split ∙ ap (λ l. done ++ l) is)) (then_failed old mid new done part rest added failed)
 
 -- nothing is left
 pub all_put : (old new : Taken) (bytes left : List ℕ) → HasLeft old new bytes left → left ≡ [] → Adds old new bytes
@@ -59,13 +86,33 @@ last_put old mid new bytes left part (Err _) before is more = part_failed old mi
 -- an error that is passed on
 pub passed_on : {e : Refusal} (old new : Taken) (bytes : List ℕ) (r : Result (Unit {0}) Refusal) → IsErrAnd r (λ y. y ≡ e) → Fails e old new bytes → Puts old new bytes r
 passed_on old new bytes (Ok _) is h = absurd is
-passed_on old new bytes (Err y) is h = (is ∙ h.0, h.1, h.2)
+passed_on old new bytes (Err y) is h = record { why = is ∙ h.why; name = h.name; beginning = h.beginning; failed = h.failed }
 
--- the clauses of `write_all` as one fact
-pub all_or_failed : (old new : Taken) (bytes : List ℕ) (r : Result (Unit {0}) Refusal) → new.failures ≡ counted_by_result old.failures r → OnOk r (Appends old.bytes new.bytes bytes)
-    → IfErr r (λ refusal. refusal ≡ Write) → OnErr r (AppendsBeginning old.bytes new.bytes bytes) → Puts old new bytes r
-all_or_failed old new bytes (Ok _) count all why beginning = (all, count)
-all_or_failed old new bytes (Err e) count all why beginning = (why, beginning, count)
+-- a first part of which a write failed
+pub first_failed : {e : Refusal} (old new : Taken) (bytes part rest : List ℕ) (r : Result (Unit {0}) Refusal) → IsErrAnd r (λ y. y ≡ e) → bytes ≡ part ++ rest → Fails e old new part → Puts old new bytes r
+first_failed old new bytes part rest r is split h = passed_on old new bytes r is (part_failed old old new bytes bytes part rest (none_put old bytes) split h)
+
+-- a first part, and what comes of the rest
+pub then_put : (old mid new : Taken) (bytes part rest : List ℕ) (r : Result (Unit {0}) Refusal) → bytes ≡ part ++ rest → Adds old mid part → Puts mid new rest r → Puts old new bytes r
+then_put old mid new bytes part rest r split h more = last_put old mid new bytes rest rest r (part_put old old mid bytes bytes part rest (none_put old bytes) split h) refl more
+
+-- a call failed before what was held was handed over
+pub not_handed : (old new : Taken) (lent : List ℕ) {e : Refusal} → lent ≡ old.held → new.name ≡ old.name → e ≡ Write → AppendsBeginning old.bytes new.bytes lent → new.failures ≡ counted old.failures
+    → Fails e old new []
+not_handed old new lent same name why beginning count = record {
+  why = why;
+  name = name;
+  beginning = subst (AppendsBeginning old.bytes new.bytes) (same ∙ sym (append-nil old.held)) beginning;
+  failed = count;
+}
+
+-- bytes were handed over while none were held
+pub passed_over : (old new : Taken) (bytes : List ℕ) (r : Result (Unit {0}) Refusal) → old.held ≡ [] → new.held ≡ [] → new.name ≡ old.name → new.failures ≡ counted_by_result old.failures r
+    → OnOk r (Appends old.bytes new.bytes bytes) → IfErr r (λ refusal. refusal ≡ Write) → OnErr r (AppendsBeginning old.bytes new.bytes bytes) → Puts old new bytes r
+passed_over old new bytes (Ok _) none none' name count all why beginning =
+    record { name = name; done = bytes; split = ap (λ l. l ++ bytes) none ∙ sym (append-nil bytes) ∙ ap (λ l. bytes ++ l) (sym none'); appended = all; unfailed = count }
+passed_over old new bytes (Err e) none none' name count all why beginning =
+    record { why = why; name = name; beginning = subst (AppendsBeginning old.bytes new.bytes) (ap (λ l. l ++ bytes) (sym none)) beginning; failed = count }
 
 -- the next of some parts
 pub next_part : (parts : List (Bor (List ℕ))) (i : ℕ) (d : Bor (List ℕ)) → i < length parts → all_parts (drop i parts) ≡ (get_or parts i d).now ++ all_parts (drop (i + 1) parts)

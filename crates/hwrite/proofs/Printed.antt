@@ -1,8 +1,7 @@
 -- What a walk prints.
-use Rattle.std.proofs.Common.{◌≡◌, ℕ, zero, suc, ◌+◌, ◌-◌, ◌^◌, ◌<◌, ◌≤◌, Bool, true, false, cond, List, [], ◌∷◌, ◌++◌, length, sym, ◌∙◌, ap, subst, arith}
+use Rattle.std.proofs.Common.{◌≡◌, ℕ, zero, suc, ◌+◌, ◌^◌, ◌<◌, ◌≤◌, Bool, true, false, cond, List, [], ◌∷◌, ◌++◌, length, refl, sym, ◌∙◌, ap, subst, arith}
 use Rattle.std.proofs.lemmas.List.{append_assoc, append-nil}
-use Rattle.std.specs.List.{AllByRecursion, repeat}
-use Rattle.std.specs.Prelude.{codes}
+use Rattle.std.specs.List.{AllByRecursion}
 use Rattle.names.specs.Names.{Texts, text_of}
 use Rattle.hnodes.specs.Forest.{Forest, none, tree, children_of}
 use Rattle.hnodes.specs.Edits.{AreCounted}
@@ -16,6 +15,9 @@ use Rattle.hwrite.specs.declared.walk.Reach.{Reach}
 use Rattle.hwrite.specs.declared.walk.Reach.TheVariants.{Whole}
 use Rattle.hwrite.specs.declared.walk.Visit.{Visit}
 use Rattle.hwrite.specs.declared.walk.Visit.TheVariants.{Enter, Leave}
+use Rattle.names.specs.declared.refusal.Refusal.{Refusal}
+use Rattle.hwrite.specs.Output.{Taken, Adds, Fails}
+use Rattle.hwrite.proofs.Output.{none_added, both_added, then_failed}
 use Rattle.hwrite.proofs.Runs.{run, walked, run-visits}
 use Rattle.hwrite.proofs.Seen.{Seen, seen, lent-visits}
 
@@ -62,7 +64,7 @@ pub record IsPrinting (names : Texts) (made : ℕ) (f : Forest ℕ) (root depth 
   pub lent : AllByRecursion (λ v. IsLent names made f (node_of v)) left
   pub same : run (enters (text_of names) f) (leaves (text_of names) f) left (depth, out) ≡ (0, tree_text (spelled (text_of names) (children_of root f)))
 
-pub begun : (names : Texts) (made : ℕ) (f : Forest ℕ) (root : ℕ) (out : List ℕ) (left items : List Visit) → AreCounted made f → root < made → AreOf names (children_of root f) → out ≡ [] → left ≡ items
+begun : (names : Texts) (made : ℕ) (f : Forest ℕ) (root : ℕ) (out : List ℕ) (left items : List Visit) → AreCounted made f → root < made → AreOf names (children_of root f) → out ≡ [] → left ≡ items
     → items ≡ visits Whole (children_of root f) → length items < 2 ^ 33 → IsPrinting names made f root 0 out left
 begun names made f root out left items counted h of empty same visited few = record {
   few = let long : length left ≡ length items = ap length same in omega (arith, few, long);
@@ -76,7 +78,7 @@ begun names made f root out left items counted h of empty same visited few = rec
     is = same ∙ visited
 
 -- one visit more
-pub goes_on : (names : Texts) (made : ℕ) (f : Forest ℕ) (root depth depth' : ℕ) (out out' : List ℕ) (v : Visit) (old left : List Visit) → old ≡ v ∷ left → IsPrinting names made f root depth out old
+goes_on : (names : Texts) (made : ℕ) (f : Forest ℕ) (root depth depth' : ℕ) (out out' : List ℕ) (v : Visit) (old left : List Visit) → old ≡ v ∷ left → IsPrinting names made f root depth out old
     → depth' ≡ depth_after v depth → out' ≡ out ++ visit_lines (text_of names) f depth v → IsPrinting names made f root depth' out' left
 goes_on names made f root depth depth' out out' v old left is s d o = go v (subst (IsPrinting names made f root depth out) is s) d o
   where
@@ -105,11 +107,45 @@ next_is names made f root depth out v old left is s =
     let t = subst (IsPrinting names made f root depth out) is s in let long = t.few in (omega (arith, long), t.balanced.0, t.lent.0)
 
 -- the end
-pub printed : (names : Texts) (made : ℕ) (f : Forest ℕ) (root depth : ℕ) (out : List ℕ) (left : List Visit) → left ≡ [] → IsPrinting names made f root depth out left → out ≡ tree_text (spelled (text_of names) (children_of root f))
+printed : (names : Texts) (made : ℕ) (f : Forest ℕ) (root depth : ℕ) (out : List ℕ) (left : List Visit) → left ≡ [] → IsPrinting names made f root depth out left → out ≡ tree_text (spelled (text_of names) (children_of root f))
 printed names made f root depth out left is s = ap (λ (q : ℕ × List ℕ). q.1) (subst (IsPrinting names made f root depth out) is s).same
 
--- two spaces more
-pub one-level : (text new all : List ℕ) (depth level : ℕ) → level < depth → new ≡ text ++ codes "  " → text ++ repeat (depth - level) (codes "  ") ≡ all → new ++ repeat (depth - (level + 1)) (codes "  ") ≡ all
-one-level text new all depth level h is before =
-    let one : depth - level ≡ suc (depth - (level + 1)) = omega arith in
-    ap (λ t. t ++ repeat (depth - (level + 1)) (codes "  ")) is ∙ append_assoc text (codes "  ") (repeat (depth - (level + 1)) (codes "  ")) ∙ ap (λ n. text ++ repeat n (codes "  ")) (sym one) ∙ before
+-- What was added so far is a beginning of the text.
+pub record IsPutting (names : Texts) (made : ℕ) (f : Forest ℕ) (root depth : ℕ) (old now : Taken) (left : List Visit) : Type 0 where
+  pub done : List ℕ
+  pub added : Adds old now done
+  pub printing : IsPrinting names made f root depth done left
+
+pub begun_putting : (names : Texts) (made : ℕ) (f : Forest ℕ) (root : ℕ) (old : Taken) (left items : List Visit) → AreCounted made f → root < made → AreOf names (children_of root f) → left ≡ items
+    → items ≡ visits Whole (children_of root f) → length items < 2 ^ 33 → IsPutting names made f root 0 old old left
+begun_putting names made f root old left items counted h of same visited few = record {
+  done = [];
+  added = none_added old;
+  printing = begun names made f root [] left items counted h of refl same visited few;
+}
+
+module _ (names : Texts) (made : ℕ) (f : Forest ℕ) (root depth : ℕ) (old now : Taken) (v : Visit) (before left : List Visit) (is : before ≡ v ∷ left) (s : IsPutting names made f root depth old now before) where
+  -- one visit more
+  pub put_more : (depth' : ℕ) (new : Taken) → depth' ≡ depth_after v depth → Adds now new (visit_lines (text_of names) f depth v) → IsPutting names made f root depth' old new left
+  put_more depth' new e h = record {
+    done = s.done ++ visit_lines (text_of names) f depth v;
+    added = both_added old now new s.done (visit_lines (text_of names) f depth v) s.added h;
+    printing = goes_on names made f root depth depth' s.done _ v before left is s.printing e refl;
+  }
+
+  -- one that failed
+  pub put_failed : (new : Taken) {e : Refusal} → Fails e now new (visit_lines (text_of names) f depth v) → Fails e old new (tree_text (spelled (text_of names) (children_of root f)))
+  put_failed new h =
+      let lines = visit_lines (text_of names) f depth v in
+      let t = goes_on names made f root depth (depth_after v depth) s.done (s.done ++ lines) v before left is s.printing refl refl in
+      let (rest, more) = extends left (depth_after v depth) (s.done ++ lines) in
+      subst (Fails _ old new) (sym (append_assoc s.done lines rest) ∙ sym more ∙ ap (λ (q : ℕ × List ℕ). q.1) t.same) (then_failed old now new s.done lines rest s.added h)
+    where
+      extends : (vs : List Visit) (d : ℕ) (out : List ℕ) → (rest : List ℕ) × ((run (enters (text_of names) f) (leaves (text_of names) f) vs (d, out)).1 ≡ out ++ rest)
+      extends [] d out = ([], sym (append-nil out))
+      extends (Enter n ∷ vs) d out = let (rest, is) = extends vs (suc d) (out ++ lines_of (text_of names) d (what_of n f)) in (lines_of (text_of names) d (what_of n f) ++ rest, is ∙ append_assoc out (lines_of (text_of names) d (what_of n f)) rest)
+      extends (Leave n ∷ vs) d out = extends vs (one_less d) out
+
+-- the end
+pub all_printed : (names : Texts) (made : ℕ) (f : Forest ℕ) (root depth : ℕ) (old now : Taken) (left : List Visit) → left ≡ [] → IsPutting names made f root depth old now left → Adds old now (tree_text (spelled (text_of names) (children_of root f)))
+all_printed names made f root depth old now left is s = subst (Adds old now) (printed names made f root depth s.done left is s.printing) s.added

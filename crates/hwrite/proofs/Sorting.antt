@@ -50,7 +50,7 @@ module _ {X : Type 0} (lt : X → X → Bool) where
     tied : (x y : X) → lt x y ≡ false → lt y x ≡ false → ties lt x y ≡ true
     tied x y p q = λ i. not (p i) && not (q i)
 
-    parts : (x y : X) → ties lt x y ≡ true → (lt x y ≡ false) × (lt y x ≡ false)
+    pub parts : (x y : X) → ties lt x y ≡ true → (lt x y ≡ false) × (lt y x ≡ false)
     parts x y h = go (lt x y) (lt y x) h
       where
         go : (u v : Bool) → not u && not v ≡ true → (u ≡ false) × (v ≡ false)

@@ -13,4 +13,3 @@ pub mod Printing
 pub mod Writing
 pub mod Calls
 pub mod Output
-pub mod Gathered

@@ -1,6 +1,6 @@
 -- What a visit of a walk prints, and the depth after it.
-use Rattle.std.specs.Prelude.{ℕ, zero, suc, ◌<◌, List, [], Option, Some, None}
-use Rattle.hnodes.specs.Forest.{What, Forest}
+use Rattle.std.specs.Prelude.{ℕ, zero, suc, ◌<◌, List, [], length, Option, Some, None}
+use Rattle.hnodes.specs.Forest.{What, element, Forest}
 use Rattle.hnodes.specs.Spelled.{spelled_what}
 use Rattle.hnodes.specs.Spots.{what_of}
 use Rattle.hwrite.specs.Lines.{node_lines}
@@ -19,6 +19,11 @@ depth_after (Leave n) depth = one_less depth
 abbrev pub IsOpen : ℕ → Visit → Type 0
 IsOpen depth (Enter n) = Unit {0}
 IsOpen depth (Leave n) = 0 < depth
+
+-- how many attributes a node has
+abbrev pub attribute_count : Option (What ℕ) → ℕ
+attribute_count (Some (element name attrs)) = length attrs
+attribute_count _ = 0
 
 module _ (texts : ℕ → List ℕ) where
   abbrev pub lines_of : ℕ → Option (What ℕ) → List ℕ

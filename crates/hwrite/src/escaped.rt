@@ -6,7 +6,7 @@ ghost use Rattle.hwrite.specs.Escaping.{escaped, written_char};
 ghost use Rattle.hwrite.specs.Output.{Puts, taken};
 
 use crate::escaping::{Escaping, Setting};
-use crate::sink::put;
+use crate::sink::{Sink, put};
 use crate::target::Target;
 use names::Refusal;
 
@@ -27,7 +27,7 @@ fn reference(ch: char, escaping: Escaping, setting: Setting) -> Option<&'static 
 
 /// Writes a text.
 pub(crate) fn put_escaped<W: Target>(
-    out: &mut W,
+    out: &mut Sink<'_, W>,
     source: &str,
     escaping: Escaping,
     setting: Setting,

@@ -6,7 +6,6 @@ pub mod content;
 mod context;
 mod escaped;
 pub mod escaping;
-mod gathered;
 mod lines;
 mod node;
 mod plain;
@@ -20,7 +19,7 @@ mod walk;
 
 pub use content::{Content, Role, Texts};
 pub use escaping::Escaping;
-pub use lines::{error_lines, tree_text};
+pub use lines::{print_errors, print_tree};
 pub use plain::is_plain;
-pub use serializer::{serialize, serialize_to_vec};
+pub use serializer::serialize;
 pub use target::{Target, write_all};

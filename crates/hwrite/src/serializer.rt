@@ -1,6 +1,6 @@
 //! Trees as text (HTML Standard, 13.3, "Serializing HTML fragments").
 
-ghost use Rattle.std.specs.Prelude.{◌≡◌, ◌++◌, ◌<◌, codes, IfOk, IfErr, map, if◌then◌else◌};
+ghost use Rattle.std.specs.Prelude.{◌≡◌, ◌++◌, ◌<◌, codes, map, if◌then◌else◌};
 ghost use Rattle.std.specs.Option.{option_map};
 ghost use Rattle.names.specs.Names.{AreNames, text_of};
 ghost use Rattle.hnodes.specs.Forest.{children_of, element};
@@ -9,7 +9,7 @@ ghost use Rattle.hnodes.specs.Spelled.{spelled, spelled_attribute};
 ghost use Rattle.hnodes.specs.Spots.{name_of, what_of};
 ghost use Rattle.hwrite.specs.Escaping.{escaped};
 ghost use Rattle.hnodes.specs.Named.{NodeIsOf, AreOf, IsLent};
-ghost use Rattle.hwrite.specs.Output.{Puts, taken};
+ghost use Rattle.hwrite.specs.Output.{Puts, WritesText, taken};
 ghost use Rattle.hwrite.specs.Walk.{node_of};
 ghost use Rattle.hwrite.specs.Written.{attribute_text, start_tag_text, end_tag_text, written};
 ghost use Rattle.hwrite.specs.Writing.{stands_raw, holds_raw, opening_of, closing_of, visit_text};
@@ -17,9 +17,8 @@ ghost use Rattle.hwrite.specs.declared.escaping.Setting.TheVariants.{Text};
 
 use crate::escaped::put_escaped;
 use crate::escaping::{Escaping, Setting};
-use crate::gathered::Gathered;
 use crate::node::Node;
-use crate::sink::{put, put_parts};
+use crate::sink::{Sink, put, put_parts, room};
 use crate::sorted::name_text;
 use crate::target::Target;
 use crate::walk::{Reach, Visit, Walk};
@@ -29,7 +28,7 @@ use std::alloc::Global;
 
 /// Writes an attribute.
 fn put_attribute<W: Target>(
-    out: &mut W,
+    out: &mut Sink<'_, W>,
     escaping: Escaping,
     name: &str,
     value: &str,
@@ -43,7 +42,7 @@ fn put_attribute<W: Target>(
 
 /// Writes a start tag.
 fn put_start_tag<W: Target>(
-    out: &mut W,
+    out: &mut Sink<'_, W>,
     escaping: Escaping,
     names: &Names,
     name: NameId,
@@ -61,21 +60,21 @@ fn put_start_tag<W: Target>(
 }
 
 /// Writes an end tag.
-fn put_end_tag<W: Target>(out: &mut W, name: &str) -> Result<(), Refusal>
+fn put_end_tag<W: Target>(out: &mut Sink<'_, W>, name: &str) -> Result<(), Refusal>
     ensures { Puts (taken W.written W.failed out.old) (taken W.written W.failed out.new) (end_tag_text name.now) result }
 {
     put_parts(out, &[b"</", name.as_bytes(), b">"])
 }
 
 /// Writes a comment.
-fn put_comment<W: Target>(out: &mut W, comment: &str) -> Result<(), Refusal>
+fn put_comment<W: Target>(out: &mut Sink<'_, W>, comment: &str) -> Result<(), Refusal>
     ensures { Puts (taken W.written W.failed out.old) (taken W.written W.failed out.new) (codes "<!--" ++ comment.now ++ codes "-->") result }
 {
     put_parts(out, &[b"<!--", comment.as_bytes(), b"-->"])
 }
 
 /// Writes a doctype.
-fn put_doctype<W: Target>(out: &mut W, name: &str) -> Result<(), Refusal>
+fn put_doctype<W: Target>(out: &mut Sink<'_, W>, name: &str) -> Result<(), Refusal>
     ensures { Puts (taken W.written W.failed out.old) (taken W.written W.failed out.new) (codes "<!DOCTYPE " ++ name.now ++ codes ">") result }
 {
     put_parts(out, &[b"<!DOCTYPE ", name.as_bytes(), b">"])
@@ -83,7 +82,7 @@ fn put_doctype<W: Target>(out: &mut W, name: &str) -> Result<(), Refusal>
 
 /// Writes a text, raw or escaped.
 fn put_text<W: Target>(
-    out: &mut W,
+    out: &mut Sink<'_, W>,
     escaping: Escaping,
     source: &str,
     raw: bool,
@@ -122,7 +121,7 @@ fn stands_raw(tree: &Tree, node: NodeId) -> bool
 
 /// Writes where a node begins.
 fn put_opening<W: Target>(
-    out: &mut W,
+    out: &mut Sink<'_, W>,
     escaping: Escaping,
     tree: &Tree,
     names: &Names,
@@ -143,7 +142,7 @@ fn put_opening<W: Target>(
 
 /// Writes where a node ends.
 fn put_closing<W: Target>(
-    out: &mut W,
+    out: &mut Sink<'_, W>,
     tree: &Tree,
     names: &Names,
     node: NodeId,
@@ -159,7 +158,7 @@ fn put_closing<W: Target>(
 
 /// Writes what a visit writes.
 fn put_visit<W: Target>(
-    out: &mut W,
+    out: &mut Sink<'_, W>,
     escaping: Escaping,
     tree: &Tree,
     names: &Names,
@@ -174,16 +173,13 @@ fn put_visit<W: Target>(
     }
 }
 
-/// Writes the children of a node as text. Texts in it are written raw if its own name says so. Takes as many steps as there are
-/// nodes and bytes that are written, and several writes for each node, which a target may gather. Where a write fails, what was
-/// taken before is a beginning of the text, and `Write` is returned, which comes of nothing else. No write follows, so none is
-/// tried again. Nothing is flushed.
-pub fn serialize<W: Target>(
+/// Writes the children of a node. Nothing is handed on.
+fn put_children<W: Target>(
+    out: &mut Sink<'_, W>,
+    escaping: Escaping,
     tree: &Tree,
     names: &Names,
     node: NodeId,
-    escaping: Escaping,
-    out: &mut W,
 ) -> Result<(), Refusal>
     requires made { node < tree.now.made }
     requires table { AreNames names.now }
@@ -197,24 +193,27 @@ pub fn serialize<W: Target>(
     Ok(())
 }
 
-/// The text that `serialize` writes.
-pub fn serialize_to_vec(
+/// Writes the children of a node as text, and flushes. Texts in it are written raw if its own name says so. Takes as many steps
+/// as there are nodes and bytes that are written. `Memory` comes before the first write, and nothing is written then. Where a
+/// write fails, what was taken before is a beginning of the text, and `Write` is returned. No write follows, so none is tried
+/// again.
+pub fn serialize<W: Target>(
     alloc: Global,
     tree: &Tree,
     names: &Names,
     node: NodeId,
     escaping: Escaping,
-) -> Result<Vec<u8>, Refusal>
+    target: &mut W,
+) -> Result<(), Refusal>
     requires made { node < tree.now.made }
     requires table { AreNames names.now }
     requires names { AreOf names.now (children_of node tree.now.trees) }
-    ensures written { IfOk result (λ text. text.items
-        ≡ written escaping (option_map (text_of names.now) (name_of node tree.now.trees)) (spelled (text_of names.now) (children_of node tree.now.trees))) }
-    ensures memory { IfErr result (λ refusal. refusal ≡ Refusal.Memory) }
+    ensures { WritesText W.written W.failed
+        (written escaping (option_map (text_of names.now) (name_of node tree.now.trees)) (spelled (text_of names.now) (children_of node tree.now.trees)))
+        target.old target.new result }
 {
-    let mut out = Gathered::new(alloc);
-    if serialize(tree, names, node, escaping, &mut out).is_err() {
-        return Err(Refusal::Memory);
-    }
-    Ok(out.into_text())
+    let mut held = room(alloc)?;
+    let mut out = Sink::new(target, &mut held);
+    put_children(&mut out, escaping, tree, names, node)?;
+    out.finish()
 }

@@ -1,15 +1,17 @@
 //! Attributes in the order of their names.
 
-ghost use Rattle.std.specs.Prelude.{◌≡◌, IfOk, map};
+ghost use Rattle.std.specs.Prelude.{◌≡◌, ◌<◌, ◌≤◌, [], ◌∷◌, ◌++◌, length, map, vec_capacity};
 ghost use Rattle.names.specs.Names.{IsOf, text_of};
 ghost use Rattle.hnodes.specs.Rows.{attribute_of};
 ghost use Rattle.hnodes.specs.Spelled.{spelled_attribute};
-ghost use Rattle.hwrite.specs.Lent.{pair_of};
+ghost use Rattle.hwrite.specs.Lent.{AreNumbered, pair_of};
 ghost use Rattle.hwrite.specs.Lines.{in_order};
 ghost use Rattle.hnodes.specs.Named.{AttributesAreOf};
 
 use names::{Attr, NameId, Names};
-use std::alloc::{AllocError, Global};
+
+/// An attribute: the text of its name, its place among those of its element, and its value.
+pub(crate) type Entry<'a> = (&'a str, usize, &'a str);
 
 /// The text of a name.
 pub(crate) fn name_text(names: &Names, name: NameId) -> &str
@@ -19,32 +21,38 @@ pub(crate) fn name_text(names: &Names, name: NameId) -> &str
     names.text(name)
 }
 
-/// Attributes as the texts of their names and their values.
-fn spelled<'a>(
-    alloc: Global,
-    names: &'a Names,
-    attrs: &'a [Attr],
-) -> Result<Vec<(&'a str, &'a str)>, AllocError>
-    requires { AttributesAreOf names.now (map attribute_of attrs.now) }
-    ensures { IfOk result (λ pairs. map pair_of pairs.items ≡ map (spelled_attribute (text_of names.now)) (map attribute_of attrs.now)) }
+/// Adds an entry, where there is room.
+fn add<'a>(entries: &mut Vec<Entry<'a>>, added: Entry<'a>)
+    requires { length entries.old.items < vec_capacity entries.old }
+    ensures items { entries.new.items ≡ entries.old.items ++ added.entry ∷ [] }
+    ensures room { vec_capacity entries.old ≤ vec_capacity entries.new }
 {
-    let mut pairs = Vec::new(alloc);
-    for attr in attrs {
-        pairs.push((name_text(names, attr.name), attr.value.as_str()))?;
-    }
-    Ok(pairs)
+    let is_added = entries.push(added).is_ok();
+    prove!(is_added);
 }
 
-/// The same in the order of the names' bytes; those of one name stay as they stand.
-pub(crate) fn in_order<'a>(
-    alloc: Global,
-    names: &'a Names,
-    attrs: &'a [Attr],
-) -> Result<Vec<(&'a str, &'a str)>, AllocError>
-    requires { AttributesAreOf names.now (map attribute_of attrs.now) }
-    ensures { IfOk result (λ pairs. map pair_of pairs.items ≡ in_order (map (spelled_attribute (text_of names.now)) (map attribute_of attrs.now))) }
+/// Makes these the attributes, as they stand.
+fn enter<'a>(entries: &mut Vec<Entry<'a>>, names: &'a Names, attrs: &'a [Attr])
+    requires room { length attrs.now ≤ vec_capacity entries.old }
+    requires names { AttributesAreOf names.now (map attribute_of attrs.now) }
+    ensures pairs { map pair_of entries.new.items ≡ map (spelled_attribute (text_of names.now)) (map attribute_of attrs.now) }
+    ensures places { AreNumbered entries.new.items }
+    ensures room { vec_capacity entries.old ≤ vec_capacity entries.new }
 {
-    let mut pairs = spelled(alloc, names, attrs)?;
-    pairs.sort_by_key(|pair| pair.0)?;
-    Ok(pairs)
+    entries.clear();
+    for attr in attrs {
+        let place = entries.len();
+        add(entries, (name_text(names, attr.name), place, &attr.value));
+    }
+}
+
+/// Makes these the attributes in the order of the names' bytes; those of one name stay as they stand. No memory is taken.
+pub(crate) fn in_order<'a>(entries: &mut Vec<Entry<'a>>, names: &'a Names, attrs: &'a [Attr])
+    requires room { length attrs.now ≤ vec_capacity entries.old }
+    requires names { AttributesAreOf names.now (map attribute_of attrs.now) }
+    ensures pairs { map pair_of entries.new.items ≡ in_order (map (spelled_attribute (text_of names.now)) (map attribute_of attrs.now)) }
+    ensures room { vec_capacity entries.old ≤ vec_capacity entries.new }
+{
+    enter(entries, names, attrs);
+    entries.sort_unstable();
 }

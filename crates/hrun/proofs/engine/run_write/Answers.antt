@@ -1,11 +1,11 @@
-use Rattle.std.proofs.Common.{◌∙◌}
+use Rattle.std.proofs.Common.{refl}
 use Rattle.std.proofs.lemmas.Result.{err_from_is_err_and}
 use Rattle.hparse.specs.Parse.{Parses}
 use Rattle.hparse.specs.Parsing.{told_by}
 use Rattle.hrun.specs.Context.{subject_in}
 use Rattle.hrun.specs.Command.{name_of}
 use Rattle.hrun.specs.Prints.{not_printed, written_text, Prints}
-use Rattle.hrun.proofs.Written.{not_read_in, an_answer_in, no_text_in, comes_to_text_in}
+use Rattle.hrun.proofs.Written.{not_read_in, an_answer_in, comes_to_text_in}
 use Rattle.hrun.proofs.Printed.{html_printed}
 use Rattle.hrun.proofs.engine.run_write.Goals as goal
 
@@ -15,26 +15,20 @@ returns-in_err-parsed g c =
     rw (e.1, e.2) (not_read_in g.W.Target.written g.W.Target.failed g.S.Source.left g.S.Source.failed _ _ _ c.args.command.piece c.args.source.now c.parse.new.source (name_of c.args.command.context)
     (λ bytes why its. not_printed why its) c.args.target.now c.in_err-parsed.field-0.0 c.in_err-parsed.ensures)
 
-pub serialize_to_vec-text-requires-clause-made : goal.serialize_to_vec-text-requires-clause-made
-serialize_to_vec-text-requires-clause-made g c =
+pub serialize-answer-requires-clause-made : goal.serialize-answer-requires-clause-made
+serialize-answer-requires-clause-made g c =
     (an_answer_in g.W.Target.written g.W.Target.failed g.S.Source.left g.S.Source.failed _ (Prints (Parses (told_by c.args.options.now) (subject_in (name_of c.args.command.context))) (written_text c.args.command.escaping (subject_in (name_of c.args.command.context)))) _ c.args.command.piece c.args.source.now c.parse.new.source (name_of c.args.command.context) c.in_ok-parsed.parsed c.in_ok-parsed.ensures).1.1.made
 
-pub serialize_to_vec-text-requires-clause-table : goal.serialize_to_vec-text-requires-clause-table
-serialize_to_vec-text-requires-clause-table g c =
+pub serialize-answer-requires-clause-table : goal.serialize-answer-requires-clause-table
+serialize-answer-requires-clause-table g c =
     (an_answer_in g.W.Target.written g.W.Target.failed g.S.Source.left g.S.Source.failed _ (Prints (Parses (told_by c.args.options.now) (subject_in (name_of c.args.command.context))) (written_text c.args.command.escaping (subject_in (name_of c.args.command.context)))) _ c.args.command.piece c.args.source.now c.parse.new.source (name_of c.args.command.context) c.in_ok-parsed.parsed c.in_ok-parsed.ensures).1.1.table
 
-pub serialize_to_vec-text-requires-clause-names : goal.serialize_to_vec-text-requires-clause-names
-serialize_to_vec-text-requires-clause-names g c =
+pub serialize-answer-requires-clause-names : goal.serialize-answer-requires-clause-names
+serialize-answer-requires-clause-names g c =
     (an_answer_in g.W.Target.written g.W.Target.failed g.S.Source.left g.S.Source.failed _ (Prints (Parses (told_by c.args.options.now) (subject_in (name_of c.args.command.context))) (written_text c.args.command.escaping (subject_in (name_of c.args.command.context)))) _ c.args.command.piece c.args.source.now c.parse.new.source (name_of c.args.command.context) c.in_ok-parsed.parsed c.in_ok-parsed.ensures).1.1.names_are
-
-pub returns-in_err-text : goal.returns-in_err-text
-returns-in_err-text g c =
-    let e = err_from_is_err_and c.from_residual-in_err-text.result c.from_residual-in_err-text.ensures.1 in
-    rw (e.1, e.2) (no_text_in g.W.Target.written g.W.Target.failed g.S.Source.left g.S.Source.failed _ _ _ c.args.command.piece c.args.source.now c.parse.new.source (name_of c.args.command.context) c.args.target.now c.in_ok-parsed.parsed c.in_err-text.field-0.0
-    c.in_ok-parsed.ensures c.in_err-text.ensures.memory)
 
 pub returns : goal.returns
 returns g c =
-    comes_to_text_in g.W.Target.written g.W.Target.failed g.S.Source.left g.S.Source.failed _ _ _ c.args.command.piece c.args.source.now c.parse.new.source (name_of c.args.command.context) c.args.target.now c.write_text.new.target
-    c.in_ok-parsed.parsed c.deref.result.now c.write_text.result c.in_ok-parsed.ensures
-    (λ bytes its. html_printed c.args.command.escaping (told_by c.args.options.now) (subject_in (name_of c.args.command.context)) bytes c.in_ok-parsed.parsed c.deref.result.now its (c.deref.ensures.value ∙ c.in_ok-text.ensures.written)) c.write_text.ensures
+    comes_to_text_in g.W.Target.written g.W.Target.failed g.S.Source.left g.S.Source.failed _ _ _ c.args.command.piece c.args.source.now c.parse.new.source (name_of c.args.command.context) c.args.target.now c.serialize-answer.new.target
+    c.in_ok-parsed.parsed _ c.serialize-answer.result c.in_ok-parsed.ensures
+    (λ bytes its. html_printed c.args.command.escaping (told_by c.args.options.now) (subject_in (name_of c.args.command.context)) bytes c.in_ok-parsed.parsed _ its refl) c.serialize-answer.ensures

@@ -1,9 +1,11 @@
-use Rattle.std.proofs.Common.{◌≡◌, ◌-◌, ◌++◌}
-use Rattle.std.specs.Prelude.{codes}
+use Rattle.std.proofs.Common.{◌-◌, ◌++◌}
 use Rattle.std.specs.List.{repeat}
-use Rattle.std.specs.String.{string_bytes}
+use Rattle.std.specs.Prelude.{codes}
+use Rattle.hwrite.specs.Output.{taken}
+use Rattle.hwrite.proofs.Output.{HasLeft}
 use Rattle.hwrite.proofs.lines.begin_line.Given as goal
 
--- the spaces so far and those to come are all of them
+-- the spaces that are left
 abbrev pub invariant-loop-level : goal.invariant-loop-level
-invariant-loop-level l = string_bytes l.text ++ repeat (l.depth - l.level) (codes "  ") ≡ string_bytes l.initial.text ++ repeat l.depth (codes "  ")
+invariant-loop-level g l =
+    HasLeft (taken g.W.Target.written g.W.Target.failed l.fn.out) (taken g.W.Target.written g.W.Target.failed l.out) (codes "| " ++ repeat l.depth (codes "  ")) (repeat (l.depth - l.level) (codes "  "))
