@@ -17,11 +17,14 @@ pub use engine::{parser, run};
 pub use hbuild::Limits;
 pub use hmarkup::Quirks;
 pub use hnodes::{Kind, NodeId, Place, Tree};
-pub use hparse::{Options, Parsed, Parser, Source, TokenRun};
-pub use hparse::{is_context, parse_reader, read_tokens, tokens};
+pub use hparse::{
+    Options, Parsed, Parser, Source, TokenRun, is_context, parse_reader, read_tokens, tokens,
+};
 pub use htext::BadBytes;
 pub use htoken::Token;
-pub use hwrite::{Escaping, Target, write_all};
-pub use hwrite::{is_plain, print_errors, print_tree, serialize};
+pub use hwrite::{
+    Escaping, Target, error_lines, is_plain, print_errors, print_tree, serialize, serialize_to_vec,
+    tree_text, write_all,
+};
 pub use lines::token_lines;
 pub use names::{Attr, ErrorCode, Keys, NameId, Names, ParseError, Refusal, RefusedName, Tag};

@@ -18,3 +18,4 @@ pub mod Entering
 pub mod Output
 pub mod Kept
 pub mod Finished
+pub mod InMemory

@@ -1,4 +1,5 @@
 pub mod Escaping
+pub mod Gathered
 pub mod Written
 pub mod ContentTable
 pub mod Plain

@@ -6,6 +6,8 @@ pub mod content;
 mod context;
 mod escaped;
 pub mod escaping;
+mod gathered;
+mod in_memory;
 mod lines;
 mod node;
 mod plain;
@@ -19,6 +21,7 @@ mod walk;
 
 pub use content::{Content, Role, Texts};
 pub use escaping::Escaping;
+pub use in_memory::{error_lines, serialize_to_vec, tree_text};
 pub use lines::{print_errors, print_tree};
 pub use plain::is_plain;
 pub use serializer::serialize;
