@@ -55,11 +55,26 @@ fn change(list: &mut Formatting, hand: &mut Hand, line: &str) -> Answer {
         "clear" => list.clear(),
         "remove" => list.remove(from),
         "replace" => list.replace(from, to),
-        "renew" => list.renew(count(line, 2) as usize, to),
-        "reach" => list.reach(count(line, 2) as usize),
         "keep" => return move_to(list, from, to, Bookmark::InPlace),
         "move" => return move_to(list, from, to, Bookmark::After(hand.near(line, 4))),
-        word => return ask(list, word, from, count(line, 2) as usize, &mut hand.out),
+        _ => return go_back(list, from, to, line, &mut hand.out),
+    }
+    Answer::Done
+}
+
+/// Calls for an entry that is told by how many stand after it, and questions.
+fn go_back(
+    list: &mut Formatting,
+    node: NodeId,
+    to: NodeId,
+    line: &str,
+    out: &mut Answers,
+) -> Answer {
+    let back = count(line, 2) as usize;
+    match word(line, 1) {
+        "renew" => list.renew(back, to),
+        "reach" => list.reach(back),
+        word => return ask(list, word, node, back, out),
     }
     Answer::Done
 }

@@ -12,6 +12,7 @@ use crate::words::{count, word};
 use hadopt::Site;
 use names::{Keys, Refusal};
 use std::alloc::{AllocError, Global};
+use std::mem;
 
 /// A site, and whether it is sound: the adoption agency may be called. It is not after a refusal, and once a node was pushed.
 #[derive(Drop)]
@@ -86,7 +87,8 @@ impl Run {
         requires { IsTrue self.old.sound → Kept numbers self.old.site }
         ensures { IsTrue self.new.sound → Kept numbers self.new.site }
     {
-        *self = Run::new(alloc, most_nodes, most_open)?;
+        let new = Run::new(alloc, most_nodes, most_open)?;
+        drop(mem::replace(self, new));
         Ok(Answer::Done)
     }
 

@@ -40,7 +40,7 @@ fn adopt(site: &mut Site, hand: &mut Hand, line: &str, at: u64) -> Result<Answer
     Ok(Answer::Done)
 }
 
-/// Makes an edit that may be refused, if it is one.
+/// Makes an edit.
 fn edit(site: &mut Site, hand: &mut Hand, line: &str, at: u64) -> Result<Answer, Refusal>
     ensures { Kept numbers site.old → IfOk result (λ _. Kept numbers site.new) }
 {
@@ -48,8 +48,17 @@ fn edit(site: &mut Site, hand: &mut Hand, line: &str, at: u64) -> Result<Answer,
         "element" => insert_element(site, hand, line, at),
         "formatting" => insert_formatting(site, hand, line, at),
         "missing" => add_missing(site, hand, line),
-        "close" | "other-end" | "pop-to" | "pop-past" => close(site, hand, line, at),
         "comment" | "doctype" | "text" | "char" => insert(site, hand, line, at),
+        _ => edit_open(site, hand, line, at),
+    }
+}
+
+/// Makes an edit of the open nodes or the list.
+fn edit_open(site: &mut Site, hand: &mut Hand, line: &str, at: u64) -> Result<Answer, Refusal>
+    ensures { Kept numbers site.old → IfOk result (λ _. Kept numbers site.new) }
+{
+    match word(line, 1) {
+        "close" | "other-end" | "pop-to" | "pop-past" => close(site, hand, line, at),
         "close-p" | "marker" | "error" | "reconstruct" => follow(site, line, at),
         _ => Ok(remove(site, line)),
     }

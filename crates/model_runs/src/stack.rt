@@ -15,6 +15,13 @@ pub fn call(stack: &mut OpenStack, hand: &mut Hand, line: &str) -> Result<Answer
         "new" => Ok(begin(stack, hand.alloc, count(line, 2))),
         "push" | "insert_below" | "replace" => open(stack, hand, line),
         "exchange" => exchange(stack, hand, line),
+        _ => shorten(stack, hand, line),
+    }
+}
+
+/// Calls that close nodes.
+fn shorten(stack: &mut OpenStack, hand: &mut Hand, line: &str) -> Result<Answer, Refusal> {
+    match word(line, 1) {
         "pop_to" => pop_to(stack, hand, line),
         "pop" => Ok(pop(stack, hand)),
         "remove_run" => Ok(remove_run(stack, count(line, 2), count(line, 3))),

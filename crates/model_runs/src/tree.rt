@@ -82,22 +82,31 @@ fn move_children(tree: &mut Tree, from: NodeId, to: NodeId) -> bool
     fits
 }
 
-/// The place that two words are: `in` a node, after its last child, or `before` one that has a parent.
-fn place(hand: &Hand, line: &str) -> Option<Place>
-    ensures { IfSome result (λ p. IsPlace p hand.now.tree) }
+/// A place: `in` a node, after its last child, or `before` one that has a parent.
+fn place(tree: &Tree, side: &str, node: NodeId) -> Option<Place>
+    requires { node < tree.now.made }
+    ensures { IfSome result (λ p. IsPlace p tree.now) }
 {
-    let node = hand.node(line, 3)?;
-    match word(line, 2) {
+    match side {
         "in" => Some(Place::LastIn(node)),
-        "before" if hand.tree.parent(node).is_some() => Some(Place::Before(node)),
+        "before" if tree.parent(node).is_some() => Some(Place::Before(node)),
         _ => None,
     }
 }
 
 /// Puts a text, or its first character, at a place.
 fn put(hand: &mut Hand, line: &str) -> Result<Answer, Refusal> {
-    match place(hand, line) {
-        Some(place) => done(put_at(&mut hand.tree, word(line, 1), after(line, 4), place)),
+    match hand.node(line, 3) {
+        Some(node) => put_beside(&mut hand.tree, node, line),
+        None => Ok(Answer::NotMade),
+    }
+}
+
+fn put_beside(tree: &mut Tree, node: NodeId, line: &str) -> Result<Answer, Refusal>
+    requires { node < tree.old.made }
+{
+    match place(tree, word(line, 2), node) {
+        Some(place) => done(put_at(tree, word(line, 1), after(line, 4), place)),
         None => Ok(Answer::NotMade),
     }
 }
