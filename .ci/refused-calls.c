@@ -2,8 +2,8 @@
 
    At each call of a swept kind the process makes a child in which the call fails, waits for it, reports what came of it, and goes on
    with the call as if nothing had been. So one run shows what comes of each call's failure. The environment's REFUSE is letters:
-   `m` sweeps the allocations, `l` those from the first read of standard input on, `r` the reads, `w` the writes on standard output;
-   `1` makes reads and writes take one byte a call, and `n` gives no random
+   `m` sweeps the allocations, `l` those from the first read of standard input on, `e` those from its end on, each alone, `r` the reads,
+   `w` the writes on standard output; `1` makes reads and writes take one byte a call, and `n` gives no random
    bytes. The parent and the children have the open files 100, for the reports, and 101
    and 102, which a child writes on in place of standard output and standard error. */
 #define _GNU_SOURCE
@@ -29,7 +29,7 @@ struct outcome {
 };
 
 static const char *swept = "";
-static int is_reading, one_byte;
+static int is_reading, is_at_end, one_byte;    /* whether standard input has been read, and to its end; whether by one byte a call */
 static int kind_refused, way;    /* in a child: the kind of the call that failed, and how */
 static int *goes_on;             /* shared by parent and child */
 
@@ -46,7 +46,7 @@ __attribute__((constructor)) static void begin(void)
 
 static int is_swept(int kind)
 {
-    return strchr(swept, kind) || (kind == 'm' && is_reading && strchr(swept, 'l'));
+    return strchr(swept, kind) || (kind == 'm' && ((is_reading && strchr(swept, 'l')) || (is_at_end && strchr(swept, 'e'))));
 }
 
 /* Reports what the child wrote, and empties its outputs. */
@@ -107,7 +107,7 @@ static int fails(int kind, int ways)
 /* An allocation fails alone, or with all that follow. */
 static int has_memory(void)
 {
-    if (!fails('m', 2))
+    if (!fails('m', strchr(swept, 'e') ? 1 : 2))
         return 1;
     errno = ENOMEM;
     return 0;
@@ -138,7 +138,9 @@ ssize_t read(int file, void *bytes, size_t size)
         errno = way ? EINTR : EIO;
         return -1;
     }
-    return syscall(SYS_read, file, bytes, one_byte && size ? 1 : size);
+    ssize_t count = syscall(SYS_read, file, bytes, one_byte && size ? 1 : size);
+    is_at_end |= file == 0 && count == 0 && size;
+    return count;
 }
 
 /* A write finds no room, is interrupted, or takes nothing. */

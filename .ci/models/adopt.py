@@ -1,13 +1,11 @@
 #!/usr/bin/env python3
-"""Scripts for the program `adopt_runs`, and what it must answer by the plain model of plain_site.py.
+"""Scripts of calls on a site, and what model_runs must answer by the plain model of plain_site.py.
 
   adopt.py FOLDER    writes NAME.in and NAME.out for each script into the folder"""
 import re
 import sys
 
 from plain_site import CONTEXTS, FORMATTING, GROUPS, MARKER, Refused, Site, words
-
-PROGRAM = "adopt_runs"
 
 # -- the calls of a script
 
@@ -22,7 +20,7 @@ EDITS = {  # of a site and the words after that of the call
     "element": lambda site, words: site.insert_element(*token(words)),
     "formatting": lambda site, words: site.insert_formatting(*token(words)),
     "comment": lambda site, words: site.insert_comment(*words.partition(" ")[::2]),
-    "doctype": lambda site, words: site.insert(site.make("Doctype"), (site.nodes[0], None)),
+    "doctype": lambda site, words: site.insert(site.make("Doctype", text=words), (site.nodes[0], None)),
     "text": lambda site, words: [site.put(character) for character in words],
     "char": lambda site, words: [site.put(character) for character in words[:1]],
     "missing": lambda site, words: site.add_missing(*token(words)),
@@ -49,8 +47,8 @@ QUESTIONS = {
     "group": lambda site, group: site.about_group(GROUPS[group]),
     "flags": lambda site, _: site.flags(),
     "nodes": lambda site, _: site.shown_nodes(),
-    "errors": lambda site, _: "errors" + "".join(f" {at} tree-in-body" for at in site.errors),
-    "tree": lambda site, _: "tree true",
+    "errors": lambda site, _: str(len(site.errors)) + "".join(f" {at} tree-in-body" for at in site.errors),
+    "tree": lambda site, _: "yes",
 }
 
 
@@ -82,15 +80,15 @@ class Script:
 
     def answer(self, line):
         call, _, words = line.partition(" ")
-        if call == "site":
+        if call == "new":
             self.site, self.sound = Site(*map(int, words.split(" "))), True
             return self.site.state()
         self.site.at += 1
         return QUESTIONS[call](self.site, words) if call in QUESTIONS else self.edit(call, words)
 
     def say(self, line):
-        """Adds a line. Returns the answer."""
-        self.lines.append(line)
+        """Adds a call. Returns the answer."""
+        self.lines.append(f"site {line}")
         self.answers.append(self.answer(line))
         return self.answers[-1]
 
@@ -168,7 +166,7 @@ def run_edits(script, supply):
 def ample_limits(name, weights, lists):
     script, supply = Script(name), Supply(weights)
     for _ in range(lists):
-        script.say("site 10000 1000")
+        script.say("new 10000 1000")
         want(run_edits(script, supply), "an edit within ample limits")
         for line in ("errors", "flags", "reopen", "nodes"):
             script.say(line)
@@ -179,7 +177,7 @@ def narrow_limits():
     """Edits of which many are refused. The nodes are a tree even then."""
     script, supply, refused = Script("limits"), Supply(EDIT_WEIGHTS), []
     for _ in range(300):
-        script.say(f"site {supply.pick(50) + 2} {supply.pick(16) + 1}")
+        script.say(f"new {supply.pick(50) + 2} {supply.pick(16) + 1}")
         if not run_edits(script, supply):
             refused.append(script.answers[-1])
         script.say("tree")
@@ -232,7 +230,7 @@ def page_lines(page):
 
 def open_page(script, page, most_nodes, most_open):
     """Takes a page in html, body and div, up to a refusal. Returns the last answer."""
-    script.say(f"site {most_nodes} {most_open}")
+    script.say(f"new {most_nodes} {most_open}")
     for line in page_lines("<html><body><div>" + page):
         if script.say(line).startswith("refused"):
             break

@@ -1,21 +1,19 @@
 #!/usr/bin/env python3
-"""Scripts of calls on the list of active formatting elements (HTML Standard, 13.2.4.3) for list_runs, and what it must print for them.
+"""Scripts of calls on the list of active formatting elements (HTML Standard, 13.2.4.3) for model_runs, and what it must print for them.
 
 The list is a list of rows in the Standard's order, in which a marker is None; each question searches it as the Standard says. The
 answers about lists that are too long for a search are written beside the calls.
 
-    python3 lists.py FOLDER
+    python3 lists.py FOLDER [BEGINNING]
 
-writes FOLDER/NAME.in, a script, and FOLDER/NAME.out, its answers. crates/list_runs/stdin shows what each call is.
+writes FOLDER/NAME.in, a script, and FOLDER/NAME.out, its answers, for each name with this beginning. crates/model_runs/stdin shows what each call is.
 """
-PROGRAM = "list_runs"
-
 from stacks import FIRST_OTHER, Picks, Script, is_named, is_node, main
 
 
 def entry(row):
     """An entry as it is printed: its node, its name and its attributes."""
-    return "-" if row is None else ",".join([f"{row[0]}:{row[1]}", *row[2]])
+    return "-" if row is None else " ".join([f"{row[0]}:{row[1]}", *row[2]])
 
 
 class List:
@@ -135,7 +133,7 @@ def ask_list(script, model):
 def list_edits():
     """Ten thousand edits of one list, with questions after each."""
     script, picks, model, longest = Script(), Picks(), List(), 0
-    script.say("nodes 60", "60")
+    script.make_nodes(60)
     for turn in range(10_000):
         script.ask(model, edit_list(picks))
         longest = max(longest, len(model.rows))
@@ -156,7 +154,7 @@ def list_edits():
 def list_deep():
     """20,000 edits in the middle of 50,000 entries, each with a name of its own; then questions of all that are left."""
     script, entries = Script(), 50_000
-    script.say("nodes 100001", "100001")
+    script.make_nodes(100_001)
     rows = {index: 2 * index + 1 for index in range(entries)}
     for index, node in rows.items():
         script.say(f"list push {node} name{index}")
@@ -243,4 +241,20 @@ def list_attributes():
     return script
 
 
-main([list_edits, list_deep, list_long, list_attributes])
+def again_list():
+    """Each call by itself, for a run in which memory is refused: among them pushes after which an equal entry gives way."""
+    script, picks, model = Script(), Picks(), List()
+    script.make_each(60)
+    for _ in range(250):
+        script.ask(model, edit_list(picks))
+        script.ask(model, "all")
+    assert model.gave_way > 5, model.gave_way
+    # attributes that are looked for by a table, and new names
+    for turn in range(4):
+        attrs = [f"name{index}=1" for index in range(40)]
+        script.say(f"list push 0 b {' '.join(attrs[:: 1 if turn % 2 else -1])}")
+    script.say("list len", str(len(model.rows) + 3))
+    return script
+
+
+main([list_edits, list_deep, list_long, list_attributes, again_list])

@@ -1,29 +1,31 @@
-"""Scripts for node_runs, and what it must print, from the plainest lists.
+"""Scripts of calls of a list of numbers and of a tree, and what model_runs must print of them, from the plainest lists.
 
 A list of numbers is a list, searched from one end to the other. A tree is a table of nodes, each with the list of its children:
 a node is moved by taking it out of one list and putting it into another (the appending and inserting of the DOM), a character
 goes where "insert a character" of the HTML Standard, 13.2.6.1, puts it, at the end of the text right before its place or in a
 new text there, and an attribute is added where an element has none of its name, as 13.2.6.4.7 adds those of a second <body>.
 
-`python3 nodes.py FOLDER` writes each script to FOLDER/NAME.in, and what it must print to FOLDER/NAME.out.
+`python3 nodes.py FOLDER [BEGINNING]` writes each script to FOLDER/NAME.in, and what it must print to FOLDER/NAME.out, for each name with
+this beginning.
 """
-PROGRAM = "node_runs"
-
 import random
 import sys
 from functools import cache
 from pathlib import Path
 
 NOTHING = 1
-FULL = "TooManyNodes at 7"
+FULL = "refused TooManyNodes at 7"
+# The names of these scripts that have a number of their own, and the number of the first other one, in the order in which they come.
+KNOWN = ("p", "q", "div")
+FIRST_OTHER = 128
 
 
 def quoted(text):
     return "-" if text is None else f'"{text}"'
 
 
-def bracketed(items):
-    return "".join(f"[{item}]" for item in items)
+def spaced(items):
+    return " ".join("-" if item is None else str(item) for item in items)
 
 
 def last_place(numbers, number):
@@ -63,8 +65,8 @@ def edit_list(numbers, word, number):
 
 def entries(numbers):
     """Each number, the place before it where it stands too, and the last one."""
-    told = [f"{n}:{last_place(numbers[:index], n)}:{last_place(numbers, n)}" for index, n in enumerate(numbers)]
-    return " ".join([str(len(numbers)), *told])
+    told = [(n, last_place(numbers[:index], n), last_place(numbers, n)) for index, n in enumerate(numbers)]
+    return spaced([len(numbers), *(number for each in told for number in each)])
 
 
 class Node:
@@ -151,22 +153,26 @@ class Forest:
 
     def add_attr(self, number, attr):
         if self.nodes[number].attrs is not None:
-            self.nodes[number].attrs.setdefault(*attr.split("="))
+            self.nodes[number].attrs.setdefault(*attr)
         return "ok"
 
+    def all_of(self, number, shown):
+        """A node, with what it holds and what stands around it. `shown` is how names are shown."""
+        node = self.nodes[number]
+        held = [] if node.name is None else [shown(node.name), *(f"{shown(name)}={value}" for name, value in node.attrs.items())]
+        text = [] if node.text is None else [quoted(node.text)]
+        return spaced([number, node.kind, *held, *text, *self.links()[number]])
+
     def question(self, word, number, name=None):
-        node, inside = self.nodes[number], self.descendants(number)
-        links = ["-" if link is None else str(link) for link in self.links()[number]]
+        inside = self.descendants(number)
+        if word == "named":
+            node = self.nodes[number]
+            return f"{'yes' if node.name == name else 'no'} {quoted((node.attrs or {}).get(name))}"
         return {
-            "kind": node.kind,
-            "around": " ".join([*links, quoted(node.text)]),
-            "children": bracketed(node.children),
-            "ancestors": bracketed(self.ancestors(number)),
-            "descendants": bracketed(inside),
+            "children": spaced(self.nodes[number].children),
+            "ancestors": spaced(self.ancestors(number)),
+            "descendants": spaced(inside),
             "content": quoted("".join(self.nodes[each].text for each in inside if self.nodes[each].kind == "Text")),
-            "named": "true" if node.name == name else "false",
-            "value": quoted((node.attrs or {}).get(name)),
-            "values": "-" if node.attrs is None else bracketed(node.attrs.values()),
         }[word]
 
 
@@ -176,29 +182,48 @@ class Script:
     def __init__(self):
         self.numbers = []
         self.forest = Forest(1)
+        self.names = {}
         self.pairs = []
 
-    def answer(self, word, *words):
+    def shown(self, name):
+        """A name as it is printed: those that are not known are numbered as they come."""
+        return name if name in KNOWN else self.names.setdefault(name, f"#{FIRST_OTHER + len(self.names)}")
+
+    def attr(self, word):
+        name, value = word.split("=")
+        self.shown(name)
+        return name, value
+
+    def answer(self, what, word, *words):
         words = [int(each) if each.isdecimal() else each for each in words]
-        match word, *words:
-            case "list", "new":
+        return (self.answer_list if what == "chain" else self.answer_tree)(word, *words)
+
+    def answer_list(self, word, number=None):
+        match word:
+            case "new":
                 self.numbers = []
-            case "list", "last", number:
+                return "ok"
+            case "last":
                 return str(last_place(self.numbers, number))
-            case "list", edit, number:
-                return edit_list(self.numbers, edit, number)
-            case "entries",:
+            case "entries":
                 return entries(self.numbers)
-            case "tree", limit:
+            case _:
+                return edit_list(self.numbers, word, number)
+
+    def answer_tree(self, word, *words):
+        match word, *words:
+            case "new", limit:
                 self.forest = Forest(limit)
+                return "ok"
             case "element", name, *attrs:
-                return self.forest.make(Node("Element", name, dict(attr.split("=") for attr in attrs)))
+                self.shown(name)
+                return self.forest.make(Node("Element", name, dict(map(self.attr, attrs))))
             case "comment", *texts:
                 return self.forest.make(Node("Comment", text=" ".join(texts)))
             case "char" | "text", *place:
                 return self.forest.put(*place)
-            case "attr" | "missing", *attr:
-                return self.forest.add_attr(*attr)
+            case "attr" | "missing", number, attr:
+                return self.forest.add_attr(number, self.attr(attr))
             case "append" | "before" | "move", *nodes:
                 return getattr(self.forest, word)(*nodes)
             case "made",:
@@ -206,9 +231,11 @@ class Script:
             case "sum",:
                 pairs = zip(self.forest.links(), self.forest.nodes)
                 return str(fnv(node_sum(tuple(links), node.text) for links, node in pairs))
-            case _:
-                return self.forest.question(word, *words)
-        return "ok"
+            case "node", number:
+                return self.forest.all_of(number, self.shown)
+            case "named", _, name:
+                self.shown(name)
+        return self.forest.question(word, *words)
 
     def call(self, line, by_hand=None):
         """A call, which answers as the model does, and as was worked by hand, if it was."""
@@ -224,23 +251,23 @@ class Script:
     def ask_each(self):
         """Every question about every node."""
         for number in range(len(self.forest.nodes)):
-            for word in ("kind", "around", "children", "ancestors", "descendants", "content", "values"):
-                self.call(f"{word} {number}")
+            for word in ("node", "children", "ancestors", "descendants", "content"):
+                self.call(f"tree {word} {number}")
 
 
 def fill(script, count):
     """Adds so many numbers to the list: every other one is in one group of a small table."""
     for turn in range(count):
-        script.call(f"list push {turn * 13 % 90 * 61 + 2 if turn % 2 == 0 else turn % 17 + 3}", "ok")
+        script.call(f"chain push {turn * 13 % 90 * 61 + 2 if turn % 2 == 0 else turn % 17 + 3}", "ok")
 
 
 def ask_list(script, length):
     """The whole list, and numbers that need not be in it: 63 and 5492 leave 2 where they are divided by 61, the width of a table."""
     if len(script.numbers) != length:
         raise SystemExit(f"a list has not {length} numbers")
-    script.call("entries")
+    script.call("chain entries")
     for number in (0, 2, 3, 63, 64, 5492, 2**64 - 1):
-        script.call(f"list last {number}")
+        script.call(f"chain last {number}")
 
 
 def lists(script):
@@ -249,16 +276,16 @@ def lists(script):
     for count, length in ((1, 1), (60, 61), (1, 62), (122, 184), (66, 250)):
         fill(script, count)
         ask_list(script, length)
-    script.call("list new")
+    script.call("chain new")
     fill(script, 210)
-    script.worked("\n".join(f"list clear {turn * 3} -> ok" for turn in range(70)))
+    script.worked("\n".join(f"chain clear {turn * 3} -> ok" for turn in range(70)))
     for edit, length in (("compact 210", 210), ("compact 150", 190), ("truncate 120", 120)):
-        script.call(f"list {edit}", "ok")
+        script.call(f"chain {edit}", "ok")
         ask_list(script, length)
     fill(script, 40)
-    script.call("list compact 0", "ok")
+    script.call("chain compact 0", "ok")
     ask_list(script, 120)
-    script.worked("list truncate 0 -> ok\n list compact 0 -> ok")
+    script.worked("chain truncate 0 -> ok\n chain compact 0 -> ok")
     fill(script, 3)
     ask_list(script, 3)
 
@@ -270,8 +297,8 @@ def random_lists(script):
         number = picked.choice((1, 2, 63, 124, 3, 64, picked.randrange(400)))
         end = picked.randint(size * 3 // 4, size + 1)
         cut = picked.choice((f"clear {picked.randint(0, size)}", f"truncate {end}", f"compact {end}"))
-        script.call("list " + picked.choice((f"push {number}", f"push {number}", cut)))
-        script.call("entries")
+        script.call("chain " + picked.choice((f"push {number}", f"push {number}", cut)))
+        script.call("chain entries")
 
 
 # Moves below node 1, by hand: the move, its answer, and the children of node 1 after it.
@@ -287,44 +314,47 @@ move 1 5 -> - -> [4][3][2][5]"""
 
 
 def moves(script):
-    script.call("tree 6")
+    script.call("tree new 6")
     for number in range(1, 6):
-        script.worked(f"element p -> {number}\n append {number} {0 if number == 1 else 1} -> ok")
+        script.worked(f"tree element p -> {number}\n tree append {number} {0 if number == 1 else 1} -> ok")
     for row in MOVES.splitlines():
         line, answer, children = row.split(" -> ")
-        script.worked(f"{line} -> {answer}\n children 1 -> {children}")
+        script.call(f"tree {line}", answer)
+        if script.forest.nodes[1].children != [int(number) for number in children.strip("[]").split("][")]:
+            raise SystemExit(f"{line}: by hand the children are {children}")
         script.ask_each()
 
 
 def edits(script):
     """Ten thousand edits, allowed or not, with the sum of all nodes after each of them, and each node at times."""
     picked = random.Random(2)
-    script.call("tree 120", "ok")
+    script.call("tree new 120", "ok")
     for turn in range(10_000):
         one, other = picked.choices(range(len(script.forest.nodes)), k=2)
         make = picked.choice(("element div", "element div", "comment no text"))
         put = picked.choice(("char {} {} ä", "char {} {} \U0001F600", "text {} {} ", "text {} {} ab"))
         put = put.format(picked.choice(("in", "before")), one)
         moves = [f"append {one} {other}"] * 3 + [f"before {one} {other}"] * 2 + [f"move {one} {other}"]
-        script.call(picked.choice([make, put, *moves]))
-        script.call("sum")
+        script.call("tree " + picked.choice([make, put, *moves]))
+        script.call("tree sum")
         if turn % 2500 == 2499:
             script.ask_each()
-    script.call("made", "120")
+    script.call("tree made", "120")
 
 
 def add_attributes(script, made, added, step):
     """An element that is made with attributes gets those that it lacks, and each of them once."""
-    script.call("tree 3", "ok")
-    script.call(" ".join(["element p", *(f"a{number}=made{number}" for number in range(made))]), "1")
+    script.call("tree new 3", "ok")
+    script.call(" ".join(["tree element p", *(f"a{number}=made{number}" for number in range(made))]), "1")
     values = [f"{'made' if number < made else 'first'}{number}" for number in range(added)]
     for value in ("first", "second"):
         for number in range(added):
-            script.call(f"missing 1 a{number}={value}{number}", "ok")
-        script.call("values 1", bracketed(values))
+            script.call(f"tree missing 1 a{number}={value}{number}", "ok")
+        held = [f"{script.shown(f'a{number}')}={text}" for number, text in enumerate(values)]
+        script.call("tree node 1", spaced(["1 Element p", *held, "- - - - -"]))
         for number in range(0, added, step):
-            script.call(f"value 1 a{number}", quoted(values[number]))
-        script.worked(f"value 1 a{added} -> -\n kind 1 -> Element\n named 1 p -> true\n named 1 q -> false")
+            script.call(f"tree named 1 a{number}", f"no {quoted(values[number])}")
+        script.worked(f"tree named 1 a{added} -> no -\n tree named 1 p -> yes -\n tree named 1 q -> no -")
 
 
 def attributes(script):
@@ -332,18 +362,24 @@ def attributes(script):
     add_attributes(script, 100, 150, 1)
 
 
-def again(script):
-    """Calls that are made once more where memory is refused, so that one that fails changes nothing that is printed."""
-    script.call("tree 120", "ok")
+def again_nodes(script):
+    """Each call by itself, for a run in which memory is refused: an element with new names, its attributes, characters and texts."""
+    fill(script, 70)
+    script.call("chain entries")
+    script.call("tree new 120", "ok")
     for turn in range(20):
         number = len(script.forest.nodes)
-        script.worked(f"element p -> {number}\n attr {number} p= -> ok" + turn * f"\n char in {number} c -> ok")
-    script.call("made", "40")
+        script.worked(f"tree element name{turn} made{turn}=1 -> {number}\n tree attr {number} a{turn}=2 -> ok")
+        script.worked("\n".join([f"tree char in {number} c -> ok"] * turn))
+    script.call("tree made", "40")
+    script.call("tree comment some text")
     script.ask_each()
-    add_attributes(script, 17, 80, 1)
+    add_attributes(script, 17, 40, 1)
 
 
-for make in (lists, random_lists, moves, edits, attributes, again):
-    make(made := Script())
-    for ending, texts in zip(("in", "out"), zip(*made.pairs)):
-        Path(sys.argv[1], f"{make.__name__}.{ending}").write_text("".join(text + "\n" for text in texts))
+folder, beginning = (*sys.argv[1:], "")[:2]
+for make in (lists, random_lists, moves, edits, attributes, again_nodes):
+    if make.__name__.startswith(beginning):
+        make(made := Script())
+        for ending, texts in zip(("in", "out"), zip(*made.pairs)):
+            Path(folder, f"{make.__name__}.{ending}").write_text("".join(text + "\n" for text in texts))

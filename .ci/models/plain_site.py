@@ -14,8 +14,8 @@ FOSTERING = set("table tbody tfoot thead tr".split())
 SECTIONS = set("tbody tfoot thead".split())
 STOPS = set("applet caption html table td th marquee object".split())
 SCOPES = [STOPS, STOPS | {"ol", "ul"}, STOPS | {"button"}, {"html", "table"}]  # default, list item, button, table
-GROUPS = {"heading": set("h1 h2 h3 h4 h5 h6".split()), "section": SECTIONS, "cell": {"td", "th"},
-          "mode": set("body caption colgroup table tbody td tfoot th thead tr".split())}
+GROUPS = {"heading": set("h1 h2 h3 h4 h5 h6".split()), "table_section": SECTIONS, "cell": {"td", "th"},
+          "tells_mode": set("body caption colgroup table tbody td tfoot th thead tr".split())}
 CONTEXTS = {"to-table": {"table", "html"}, "to-body": SECTIONS | {"html"}, "to-row": {"tr", "html"}}
 MARKER, BOOKMARK = "marker", "bookmark"
 
@@ -264,36 +264,43 @@ class Site:
 
     def state(self):
         parent, before = self.place()
-        listed = "".join(" *" if item == MARKER else f" {item.number}:{item.name}{words(item.token)}" for item in self.list)
+        listed = " ".join(["list", *("-" if item == MARKER else named(item) + words(item.token) for item in self.list)])
         place = f"before {before.number}" if before else f"in {parent.number}"
-        return f"open{numbers(self.open)} list{listed} errors {len(self.errors)} place {place}"
+        return f"{' '.join(['open', *map(named, self.open)])} {listed} errors {len(self.errors)} {place}"
 
     def about_name(self, name):
         found = self.find(name)
-        current, item = said(self.current().name == name), said(self.is_near({name}, SPECIAL - {"address", "div", "p"}))
-        return f"entry {said(found and found.number)} current {current} item {item} in scope{self.scopes({name})}"
+        is_near = self.is_near({name}, SPECIAL - {"address", "div", "p"})
+        return f"{found.number if found else '-'} {said(self.current().name == name)} {said(is_near)} {self.scopes({name})}"
 
     def about_group(self, group):
         places = [up for up, node in enumerate(reversed(self.open)) if node.name in group]
-        current, place = said(self.current().name in group), said(places[0] if places else None)
-        return f"current {current} place {place} in scope{self.scopes(group)}"
+        return f"{said(self.current().name in group)} {places[0] if places else '-'} {self.scopes(group)}"
 
     def scopes(self, names):
-        return "".join(" " + said(self.is_near(names, stops)) for stops in SCOPES)
+        return " ".join(said(self.is_near(names, stops)) for stops in SCOPES)
 
     def flags(self):
-        fosters, current = said(self.foster), said(self.current().name in FOSTERING)
-        stay = said(all(node.name in MAY_STAY_OPEN for node in self.open))
-        return f"fosters {fosters} current {current} stay {stay} reconstructed {said(self.first_closed() == len(self.list))}"
+        stay = all(node.name in MAY_STAY_OPEN for node in self.open)
+        return " ".join(map(said, (self.foster, self.current().name in FOSTERING, stay, self.first_closed() == len(self.list))))
 
-    def shown_nodes(self, node=None):
-        """The nodes below one in tree order, or all."""
-        if node is None:
-            return f"made {len(self.nodes)}" + self.shown_nodes(self.nodes[0])
-        what = node.name + words(node.attrs) if node.name else node.kind
-        what += "" if node.text is None else f' "{node.text}"'
-        what += f" in {node.parent.number}" if node.parent else ""
-        return f"; {node.number} {what}:{numbers(node.children)}" + "".join(map(self.shown_nodes, node.children))
+    def shown_nodes(self):
+        """How many nodes were made, and those of the document in tree order."""
+        return " ".join([str(len(self.nodes)), *self.shown(self.nodes[0])])
+
+    def shown(self, node):
+        """A node, and those inside it: what it holds, its parent, the siblings after and before it, its first and last child, and all."""
+        held = [node.name + words(node.attrs)] if node.name else []
+        if node.kind == "Doctype":
+            held = [f'"{node.text}" "" ""']
+        elif node.text is not None:
+            held = [f'"{node.text}"']
+        siblings = [None, *node.parent.children, None] if node.parent else [None, node, None]
+        at, ends = siblings.index(node), node.children or [None]
+        links = [number(it) for it in (node.parent, siblings[at + 1], siblings[at - 1], ends[0], ends[-1])]
+        yield " ".join([str(node.number), node.kind, *held, *links, ":", *map(number, node.children)])
+        for child in node.children:
+            yield from self.shown(child)
 
     def page(self, node=None):
         """The nodes below one as HTML, or all, without attributes."""
@@ -306,10 +313,13 @@ def words(attrs):
     return "".join(f" {name}={value}" for name, value in attrs.items())
 
 
-def numbers(nodes):
-    return "".join(f" {node.number}" for node in nodes)
+def number(node):
+    return "-" if node is None else str(node.number)
 
 
-def said(value):
-    """A Boolean, or a number that may be missing."""
-    return str(value).lower()
+def named(node):
+    return f"{node.number}:{node.name}"
+
+
+def said(holds):
+    return "yes" if holds else "no"

@@ -1,15 +1,13 @@
 #!/usr/bin/env python3
-"""Scripts of calls on the stack of open elements (HTML Standard, 13.2.4.2) for list_runs, and what it must print for them.
+"""Scripts of calls on the stack of open elements (HTML Standard, 13.2.4.2) for model_runs, and what it must print for them.
 
 The stack is a list of nodes with their names, the current node first, which each question searches as the Standard says. The answers
 about stacks that are too deep for a search are written beside the calls.
 
-    python3 stacks.py FOLDER
+    python3 stacks.py FOLDER [BEGINNING]
 
-writes FOLDER/NAME.in, a script, and FOLDER/NAME.out, its answers. crates/list_runs/stdin shows what each call is.
+writes FOLDER/NAME.in, a script, and FOLDER/NAME.out, its answers, for each name with this beginning. crates/model_runs/stdin shows what each call is.
 """
-PROGRAM = "list_runs"
-
 import sys
 
 SPECIAL = set(
@@ -69,6 +67,17 @@ class Script:
         """A call that a model answers, by its method of the same name."""
         word, *values = call.split()
         self.say(f"{model.WORD} {call}", getattr(model, word)(*values) or "ok")
+
+    def make_nodes(self, count):
+        """Makes nodes with the numbers below a count."""
+        self.say(f"tree new {count}")
+        self.say(f"tree fill 0 {count - 1}", str(count - 1))
+
+    def make_each(self, count):
+        """The same by a call for each node."""
+        self.say(f"tree new {count}")
+        for number in range(1, count):
+            self.say("tree comment", str(number))
 
     def write(self, folder, name):
         for end, lines in (("in", self.calls), ("out", self.answers)):
@@ -136,7 +145,7 @@ class Stack:
 
     def push(self, node, name):
         if self.is_full():
-            return "TooDeep at 7"
+            return "refused TooDeep at 7"
         self.nodes.insert(0, (node, name))
 
     def pop(self):
@@ -162,23 +171,23 @@ class Stack:
         for _ in range(int(count)):
             del self.nodes[int(up)]
 
-    def replace(self, node, new, name):
+    def replace(self, new, name, node):
         place = self.find(is_node(node))
         if place is not None:
             self.nodes[place] = (new, name)
 
-    def insert_below(self, node, new, name):
+    def insert_below(self, new, name, node):
         if self.is_full():
-            return "TooDeep at 7"
+            return "refused TooDeep at 7"
         place = self.find(is_node(node))
         if place is not None:
             self.nodes.insert(place, (new, name))
 
-    def exchange(self, leaving, above, new, name):
+    def exchange(self, new, name, leaving, above):
         if self.find(is_node(leaving)) is None:
             return "-"
         self.remove(leaving)
-        self.insert_below(above, new, name)
+        self.insert_below(new, name, above)
 
     # questions
 
@@ -201,11 +210,11 @@ class Stack:
         blocks = [opened for opened in self.nodes[:place] if opened[1] in SPECIAL]
         return element(blocks[-1] if blocks else None)
 
-    def name(self, scope, name):
+    def name(self, name, scope):
         found = [yes(self.is_in_scope(is_named(name), stops)) for stops in (SCOPES[scope], SPECIAL, STOPS_ITEM)]
         return " ".join(found + [element(self.at(self.find(is_named(name))))])
 
-    def group(self, scope, group):
+    def group(self, group, scope):
         place = self.find(is_of(group))
         return f"{yes(self.is_in_scope(is_of(group), SCOPES[scope]))} {'-' if place is None else place}"
 
@@ -221,7 +230,7 @@ def exchange(stack, picks):
     leaving = stack.at(up + length + 1) or picks.of(OPENS)
     above = length < 3 and stack.at(up) or picks.of(OPENS)
     name = picks.of(OPENS)[1] if picks.below(4) == 0 else leaving[1]
-    return f"exchange {leaving[0]} {above[0]} {picks.of(OPENS)[0]} {name}"
+    return f"exchange {picks.of(OPENS)[0]} {name} {leaving[0]} {above[0]}"
 
 
 def edit_stack(stack, picks):
@@ -231,9 +240,9 @@ def edit_stack(stack, picks):
     if kind > 13:
         return exchange(stack, picks)
     if kind > 10:
-        return f"insert_below {node} {new} {new_name}"
+        return f"insert_below {new} {new_name} {node}"
     if kind > 7:
-        return f"replace {node} {new} {new_name}"
+        return f"replace {new} {new_name} {node}"
     shorter = [f"pop_to {name}", f"pop_to_node {node}", f"pop_to_group {picks.of(list(GROUPS))}"]
     shorter += [f"remove_run {picks.below(6)} {picks.below(5)}", f"remove {node}", f"remove {node}", "pop", "pop"]
     return shorter[kind]
@@ -242,7 +251,7 @@ def edit_stack(stack, picks):
 def stack_edits():
     """Ten thousand lists of edits, with questions after each."""
     script, picks, full = Script(), Picks(), 0
-    script.say("nodes 100", "100")
+    script.make_nodes(100)
     for _ in range(10_000):
         script.say("stack new 12")
         stack = Stack(12)
@@ -253,8 +262,8 @@ def stack_edits():
             node, scope, group = picks.of(OPENS)[0], picks.of(list(SCOPES)), picks.of(list(GROUPS))
             script.ask(stack, f"node {node}")
             script.ask(stack, f"block {node}")
-            script.ask(stack, f"name {scope} {picks.of(OPENS)[1]}")
-            script.ask(stack, f"group {scope} {group}")
+            script.ask(stack, f"name {picks.of(OPENS)[1]} {scope}")
+            script.ask(stack, f"group {group} {scope}")
     assert full > 100, full
     return script
 
@@ -272,7 +281,7 @@ WINDOWS = [
 def stack_windows():
     """The current node is popped and exchanged for the third, whose name it takes. Every question, as the nodes are popped."""
     script = Script()
-    script.say("nodes 100", "100")
+    script.make_nodes(100)
     for between, texts in WINDOWS:
         script.say("stack new 16")
         stack = Stack(16)
@@ -280,7 +289,7 @@ def stack_windows():
             script.ask(stack, f"push {node} {name}")
         new, (leaving, name), above = stack.at(0)[0], stack.nodes[-3], stack.nodes[-4 - between][0]
         script.ask(stack, "pop")
-        script.ask(stack, f"exchange {leaving} {above} {new} {name}")
+        script.ask(stack, f"exchange {new} {name} {leaving} {above}")
         for _ in range(16):
             ask_everything(script, stack)
             script.ask(stack, "pop")
@@ -294,15 +303,15 @@ def ask_everything(script, stack):
         script.ask(stack, f"block {node}")
     for scope in SCOPES:
         for name in TEXTS + ["other"]:
-            script.ask(stack, f"name {scope} {name}")
+            script.ask(stack, f"name {name} {scope}")
         for group in GROUPS:
-            script.ask(stack, f"group {scope} {group}")
+            script.ask(stack, f"group {group} {scope}")
 
 
 def stack_deep():
     """Questions of the topmost node, below which 100,000 are opened, and popped again. Searches would take minutes."""
     script, depth = Script(), 100_000
-    script.say("nodes 100001", "100001")
+    script.make_nodes(100_001)
     script.say("stack new 200000")
     script.say("stack push 0 html")
     for below in range(depth):
@@ -318,32 +327,51 @@ def stack_deep():
 def ask_topmost(script, below):
     script.say("stack ends", f"{below + 1} {below}:b no" if below else "1 0:html yes")
     script.say("stack node 0", f"{below} yes 0 - yes")
-    script.say("stack name table html", "yes yes yes 0:html")
-    script.say("stack group default heading", "no -")
-    script.say("stack group table tells_mode", "no -")
+    script.say("stack name html table", "yes yes yes 0:html")
+    script.say("stack group heading default", "no -")
+    script.say("stack group tells_mode table", "no -")
 
 
 def stack_exchanges():
     """50,000 elements a, each with a div below it, give way to new ones below the div. Mending all below would take minutes."""
     script, pairs = Script(), 50_000
-    script.say("nodes 150000", "150000")
+    script.make_nodes(150_000)
     script.say("stack new 200000")
     for leaving in range(0, 2 * pairs, 2):
         script.say(f"stack push {leaving} a")
         script.say(f"stack push {leaving + 1} div")
     for leaving in range(0, 2 * pairs, 2):
         block, new = leaving + 1, 2 * pairs + leaving // 2
-        script.say(f"stack exchange {leaving} {block} {new} a")
+        script.say(f"stack exchange {new} a {leaving} {block}")
         script.say(f"stack node {new}", f"{2 * pairs - 2 - leaving} yes {leaving + 1} {block}:div yes")
         script.say(f"stack node {leaving}", "- no 0 - no")
     script.say("stack ends", "100000 149999:a no")
     return script
 
 
+def again_stack():
+    """Each call by itself, for a run in which memory is refused."""
+    script, picks, stack = Script(), Picks(), Stack(20)
+    script.make_each(40)
+    script.say("names intern other", str(FIRST_OTHER))
+    script.say("stack new 40")
+    for index in range(30):
+        script.say(f"stack push {index} name{index}")
+        above = f"{index - 1}:#{FIRST_OTHER + index}" if index else "-"
+        script.say(f"stack node {index}", f"0 yes {index} {above} yes")
+    script.say("stack new 20")
+    for _ in range(150):
+        script.ask(stack, edit_stack(stack, picks))
+        script.ask(stack, "all")
+    return script
+
+
 def main(makers):
+    folder, beginning = (*sys.argv[1:], "")[:2]
     for make in makers:
-        make().write(sys.argv[1], make.__name__)
+        if make.__name__.startswith(beginning):
+            make().write(folder, make.__name__)
 
 
 if __name__ == "__main__":
-    main([stack_edits, stack_windows, stack_deep, stack_exchanges])
+    main([stack_edits, stack_windows, stack_deep, stack_exchanges, again_stack])

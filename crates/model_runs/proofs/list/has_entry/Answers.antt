@@ -1,0 +1,8 @@
+use Rattle.std.proofs.Common.{is_some, sym, ◌∙◌, ap}
+use Rattle.hformat.specs.Items.{entry_is}
+use Rattle.hformat.proofs.Bookmarks.{any-is_entry, is_some-option_map}
+use Rattle.model_runs.proofs.list.has_entry.Goals as goal
+
+pub returns : goal.returns
+returns c =
+    c.is_some.ensures ∙ sym (is_some-option_map (λ e. entry_is e.now) c.entry_of.result) ∙ ap is_some c.entry_of.ensures ∙ sym (any-is_entry c.args.node c.args.list.now)

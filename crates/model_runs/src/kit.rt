@@ -1,0 +1,55 @@
+//! What the calls of a script are made on.
+
+use crate::hand::Hand;
+use charref::Table;
+use hchain::Chains;
+use hformat::Formatting;
+use hopen::OpenStack;
+use names::{Keys, Refusal};
+use std::alloc::{AllocError, Global};
+
+/// What a call answers.
+#[derive(Clone, Copy)]
+pub enum Answer {
+    Done,
+    /// There is no such call, or its condition is not met.
+    NotMade,
+    Number(usize),
+    /// What the call itself has said.
+    Said,
+}
+
+/// The place of the token that each call is made for, if a refusal tells it.
+pub const PLACE: u64 = 7;
+
+/// The answer of a call that gives nothing.
+pub fn done(outcome: Result<(), Refusal>) -> Result<Answer, Refusal> {
+    match outcome {
+        Ok(()) => Ok(Answer::Done),
+        Err(refusal) => Err(refusal),
+    }
+}
+
+/// A list of numbers, a stack of open elements, a list of active formatting elements, a table of references, and a tree, names and
+/// answers for all calls.
+#[derive(Drop)]
+pub struct Kit {
+    pub hand: Hand,
+    pub chain: Chains,
+    pub stack: OpenStack,
+    pub list: Formatting,
+    pub table: Option<Table>,
+}
+
+impl Kit {
+    /// Empty lists, and the document alone.
+    pub fn new(alloc: Global) -> Result<Self, AllocError> {
+        Ok(Kit {
+            hand: Hand::new(alloc)?,
+            chain: Chains::new(alloc),
+            stack: OpenStack::new(alloc, 0),
+            list: Formatting::new(alloc, Keys::fixed()),
+            table: None,
+        })
+    }
+}

@@ -1,0 +1,111 @@
+//! Makes the calls of a script, one a line, and prints a line for each: what it answers, `ok` where it answers nothing, `refused` and
+//! why where it is refused, and `-` where it is not made, since there is no such call or its condition is not met. The first word of a
+//! line says what is called. Lines that are empty or begin with `#` are skipped.
+//!
+//! What the calls are made on, and the room for the answers, is there before the script is read. So after its end memory is asked for by
+//! its calls alone, unless the answers are longer than that room.
+#![tactic(auto)]
+
+ghost use Rattle.std.specs.Prelude.{IsTrue};
+ghost use Rattle.hadopt.specs.Kept.{Kept};
+ghost use Rattle.hadopt.specs.Naming.{numbers};
+
+mod answers;
+mod chain;
+mod hand;
+mod kit;
+mod list;
+mod making;
+mod nodes;
+mod site;
+mod site_edits;
+mod site_questions;
+mod stack;
+mod stack_questions;
+mod sums;
+mod texts;
+mod tree;
+mod words;
+
+use crate::kit::{Answer, Kit};
+use crate::site::{Run, call_site};
+use crate::words::word;
+use hopen::Open;
+use names::Refusal;
+use std::io;
+
+const _: () = prove!(std::mem::size_of::<Open>() == 8);
+
+fn main(rt: HostRuntime) -> io::Result<()> {
+    let mut kit = Kit::new(rt.alloc())?;
+    let done = begin(&rt, &mut kit);
+    drop(kit);
+    done
+}
+
+/// Makes the calls of the script, the first ones on a site of the document alone.
+fn begin(rt: &HostRuntime, kit: &mut Kit) -> io::Result<()> {
+    let mut run = Run::new(rt.alloc(), 1, 1)?;
+    let done = read(rt, kit, &mut run);
+    drop(run);
+    done
+}
+
+/// Reads the script, makes its calls, and prints what they answer.
+fn read(rt: &HostRuntime, kit: &mut Kit, run: &mut Run) -> io::Result<()>
+    requires { IsTrue run.old.sound → Kept numbers run.old.site }
+{
+    let script = io::read_to_string(rt.alloc(), rt.reader())?;
+    play(kit, run, &script);
+    rt.print(kit.hand.out.lines()?)
+}
+
+/// Makes the call of each line.
+fn play(kit: &mut Kit, run: &mut Run, script: &str)
+    requires { IsTrue run.old.sound → Kept numbers run.old.site }
+{
+    for line in script.lines() {
+        if !is_comment(line) {
+            answer(kit, run, line);
+        }
+    }
+}
+
+/// Whether a line of the script is no call.
+fn is_comment(line: &str) -> bool {
+    line.is_empty() || line.starts_with('#')
+}
+
+/// Makes the call of a line, and says what it answers.
+fn answer(kit: &mut Kit, run: &mut Run, line: &str)
+    requires { IsTrue run.old.sound → Kept numbers run.old.site }
+    ensures { IsTrue run.new.sound → Kept numbers run.new.site }
+{
+    let answer = if word(line, 0) == "site" {
+        call_site(run, &mut kit.hand, line)
+    } else {
+        call_again(kit, line)
+    };
+    kit.hand.out.answer(answer);
+}
+
+/// Makes a call, and makes it again where memory was refused: the call that failed has changed nothing.
+fn call_again(kit: &mut Kit, line: &str) -> Result<Answer, Refusal> {
+    match call(kit, line) {
+        Err(Refusal::Memory) => call(kit, line),
+        answer => answer,
+    }
+}
+
+/// Makes a call.
+fn call(kit: &mut Kit, line: &str) -> Result<Answer, Refusal> {
+    match word(line, 0) {
+        "chain" => chain::call(&mut kit.chain, &mut kit.hand, line),
+        "tree" => making::call(&mut kit.hand, line),
+        "stack" => stack::call(&mut kit.stack, &mut kit.hand, line),
+        "list" => list::call(&mut kit.list, &mut kit.hand, line),
+        "names" => texts::call_names(&mut kit.hand, line),
+        "table" => texts::call_table(&mut kit.table, &mut kit.hand, line),
+        _ => Ok(Answer::NotMade),
+    }
+}

@@ -1,0 +1,55 @@
+//! The words of a line.
+
+use hopen::{Group, Scope};
+
+/// The first word of a text, and what comes after it.
+fn cut(text: &str) -> (&str, &str) {
+    match text.split_once(' ') {
+        Some(parts) => parts,
+        None => (text, ""),
+    }
+}
+
+/// What comes after so many words.
+pub fn after(line: &str, count: usize) -> &str {
+    let mut rest = line;
+    for _ in 0..count {
+        rest = cut(rest).1;
+    }
+    rest
+}
+
+/// The word with so many before it; an empty one if there is none.
+pub fn word(line: &str, index: usize) -> &str {
+    cut(after(line, index)).0
+}
+
+/// The number that a word is.
+pub fn number(line: &str, index: usize) -> Option<usize> {
+    word(line, index).parse::<usize>().ok()
+}
+
+/// The number that a word is; 0 if it is none.
+pub fn count(line: &str, index: usize) -> u32 {
+    word(line, index).parse::<u32>().unwrap_or(0)
+}
+
+/// The scope that a word is; the default one of any other.
+pub fn scope(line: &str, index: usize) -> Scope {
+    match word(line, index) {
+        "list_item" => Scope::ListItem,
+        "button" => Scope::Button,
+        "table" => Scope::Table,
+        _ => Scope::Default,
+    }
+}
+
+/// The group that a word is; the cells of any other.
+pub fn group(line: &str, index: usize) -> Group {
+    match word(line, index) {
+        "heading" => Group::Heading,
+        "table_section" => Group::TableSection,
+        "tells_mode" => Group::TellsMode,
+        _ => Group::Cell,
+    }
+}
