@@ -1,0 +1,72 @@
+//! The parser for C: each export calls the library and states its clauses again. `include/jeanzircon.h` is its header.
+#![tactic(auto)]
+
+ghost use Rattle.std.specs.Prelude.{◌≡◌};
+ghost use Rattle.html_c.specs.Exports.{AnswersText, AnswersTree};
+
+pub mod answer;
+mod fault;
+mod given;
+mod input;
+mod room;
+mod rows;
+mod text;
+mod tree;
+
+use crate::answer::{Answer, Given, NodeRow};
+use crate::room::{fault_answer, put_rows, put_text};
+use crate::text::text_of;
+use crate::tree::rows_of;
+use std::alloc::Global;
+
+/// Makes the text of a task of an input, and writes it to the beginning of `output` where it fits. Returns the
+/// status, which is that of the answer.
+#[unsafe(no_mangle)]
+pub extern "C" fn jz_text(
+    alloc: Global,
+    task: u32,
+    input: &[u8],
+    given: &Given,
+    output: &mut [u8],
+    answer: &mut Answer,
+) -> u32
+    ensures answers { AnswersText task input.now given.now output.old output.new answer.new }
+    ensures status { result ≡ answer.new.status }
+{
+    match text_of(alloc, task, input, given) {
+        Ok(text) => {
+            *answer = put_text(&text, output);
+            answer.status
+        }
+        Err(fault) => {
+            *answer = fault_answer(fault);
+            answer.status
+        }
+    }
+}
+
+/// Makes the tree of an input, and writes its nodes in tree order to `rows` and their words to `words` where all
+/// of them fit. Returns the status, which is that of the answer.
+#[unsafe(no_mangle)]
+pub extern "C" fn jz_tree(
+    alloc: Global,
+    input: &[u8],
+    given: &Given,
+    rows: &mut [NodeRow],
+    words: &mut [u8],
+    answer: &mut Answer,
+) -> u32
+    ensures answers { AnswersTree input.now given.now rows.old rows.new words.old words.new answer.new }
+    ensures status { result ≡ answer.new.status }
+{
+    match rows_of(alloc, input, given) {
+        Ok(tree) => {
+            *answer = put_rows(&tree.nodes, &tree.words, rows, words);
+            answer.status
+        }
+        Err(fault) => {
+            *answer = fault_answer(fault);
+            answer.status
+        }
+    }
+}

@@ -1,0 +1,330 @@
+//! Safe Rust over the library for C: texts of an input, its tree, and why it is refused.
+//!
+//! The library's two functions are proved; this crate is not, and keeps what they require: slices are Rust's, and no buffer overlaps
+//! another.
+
+mod raw;
+
+use std::{error, fmt, str};
+
+/// What is made of an input.
+#[derive(Clone, Copy, Debug, PartialEq, Eq)]
+pub enum Task {
+    Tokens,
+    Tree,
+    Errors,
+    Write,
+    Plain,
+}
+
+/// What becomes of bytes that are not UTF-8.
+#[derive(Clone, Copy, Debug, PartialEq, Eq)]
+pub enum BadBytes {
+    Refuse,
+    Replace,
+}
+
+/// What is told beside the input. `Options::default()` reads a document under the greatest limits.
+#[derive(Clone, Copy, Debug)]
+pub struct Options<'a> {
+    /// The name of the element in which a fragment stands; empty for a document.
+    pub context: &'a str,
+    /// The table of character references as JSON, and the quirks list; empty for the defaults.
+    pub entities: &'a str,
+    pub quirks: &'a str,
+    pub nodes: u64,
+    pub open: u64,
+    /// How many bytes are read at a time. No answer depends on it.
+    pub piece: u64,
+    /// 16 random bytes, where the input is not trusted. No answer depends on them.
+    pub keys: u128,
+    /// How `Task::Write` escapes: 1 or 2.
+    pub escaping: u32,
+    pub bad_bytes: BadBytes,
+}
+
+impl Default for Options<'_> {
+    fn default() -> Self {
+        Options {
+            context: "",
+            entities: "",
+            quirks: "",
+            nodes: 16_777_216,
+            open: 1_048_576,
+            piece: 65_536,
+            keys: 0,
+            escaping: 1,
+            bad_bytes: BadBytes::Refuse,
+        }
+    }
+}
+
+impl Options<'_> {
+    fn raw(&self) -> raw::Options {
+        raw::Options {
+            context: raw::Bytes::of(self.context.as_bytes()),
+            entities: raw::Bytes::of(self.entities.as_bytes()),
+            quirks: raw::Bytes::of(self.quirks.as_bytes()),
+            nodes: self.nodes,
+            open: self.open,
+            piece: self.piece,
+            key_low: self.keys as u64,
+            key_high: (self.keys >> 64) as u64,
+            escaping: self.escaping,
+            bad_bytes: self.bad_bytes as u32,
+        }
+    }
+}
+
+/// Why an input is refused: a number of `jeanzircon.h`, what it names, and the byte (of a quirks list the line).
+#[derive(Clone, Copy, Debug, PartialEq, Eq)]
+pub struct Error {
+    pub status: u32,
+    pub detail: u32,
+    pub at: u64,
+}
+
+/// The status of too little room, which the functions here answer themselves.
+const TOO_SHORT: u32 = 13;
+
+const STATUSES: [&str; 16] = [
+    "Ok", "NotUtf8", "OutOfProfile", "TooLarge", "TooManyNodes", "TooDeep", "Memory", "Read", "BadContext", "BadTable", "BadQuirks",
+    "BadLimits", "Write", "TooShort", "NotText", "BadNumber",
+];
+const ELEMENTS: [&str; 10] = ["", "math", "svg", "template", "select", "option", "optgroup", "frame", "frameset", "keygen"];
+const CAUSES: [&str; 6] = ["", "Json", "Shape", "Key", "Codepoints", "Characters"];
+
+impl Error {
+    fn of(answer: &raw::Answer) -> Error {
+        Error { status: answer.status, detail: answer.detail, at: answer.at }
+    }
+
+    /// Its name, as `NotUtf8`.
+    pub fn name(&self) -> &'static str {
+        STATUSES.get(self.status as usize).copied().unwrap_or("?")
+    }
+}
+
+/// As the program says it: `NotUtf8 at 1`, `OutOfProfile svg at 4`, `BadQuirks line 2`, `Memory`.
+impl fmt::Display for Error {
+    fn fmt(&self, f: &mut fmt::Formatter) -> fmt::Result {
+        f.write_str(self.name())?;
+        match (self.status, self.detail as usize) {
+            (2, detail) => write!(f, " {} at {}", ELEMENTS[detail], self.at),
+            (9, detail) => write!(f, " {}", CAUSES[detail]),
+            (10, _) => write!(f, " line {}", self.at),
+            (1 | 3..=5, _) => write!(f, " at {}", self.at),
+            _ => Ok(()),
+        }
+    }
+}
+
+impl error::Error for Error {}
+
+/// The text of a task.
+pub fn text(task: Task, input: &[u8], options: &Options) -> Result<String, Error> {
+    let (given, mut answer) = (options.raw(), raw::Answer::default());
+    let mut output = vec![0; input.len() * 2 + 256];
+    loop {
+        // SAFETY: the slices are Rust's and do not overlap, and live through the call.
+        unsafe { raw::jz_text(task as u32, input.as_ptr(), input.len(), &given, output.as_mut_ptr(), output.len(), &mut answer) };
+        match answer.status {
+            0 => break,
+            TOO_SHORT => output.resize(answer.length as usize, 0),
+            _ => return Err(Error::of(&answer)),
+        }
+    }
+    output.truncate(answer.length as usize);
+    Ok(String::from_utf8(output).expect("the library writes UTF-8"))
+}
+
+/// Whether a fragment is plain in its context: it comes back when what is written of it is parsed.
+pub fn is_plain(fragment: &[u8], options: &Options) -> Result<bool, Error> {
+    Ok(text(Task::Plain, fragment, options)? == "plain\n")
+}
+
+/// Gathers an input that comes in pieces. The library reads an input whole, so it is refused at the end and not before.
+#[derive(Default)]
+pub struct Parser<'a> {
+    input: Vec<u8>,
+    options: Options<'a>,
+}
+
+impl<'a> Parser<'a> {
+    pub fn new(options: Options<'a>) -> Parser<'a> {
+        Parser { input: Vec::new(), options }
+    }
+
+    pub fn feed(&mut self, piece: &[u8]) {
+        self.input.extend_from_slice(piece);
+    }
+
+    pub fn finish(self) -> Result<Tree, Error> {
+        Tree::parse(&self.input, &self.options)
+    }
+}
+
+/// No node.
+const NONE: u32 = u32::MAX;
+
+/// The tree of an input. It owns all that it lends.
+pub struct Tree {
+    root: u32,
+    /// By number: a row, and where its words begin and end.
+    nodes: Vec<(raw::Row, usize, usize)>,
+    words: Vec<u8>,
+}
+
+impl Tree {
+    /// Parses an input.
+    pub fn parse(input: &[u8], options: &Options) -> Result<Tree, Error> {
+        let (given, mut answer) = (options.raw(), raw::Answer::default());
+        let mut rows = vec![raw::Row::default(); input.len() / 16 + 64];
+        let mut words = vec![0; input.len() + input.len() / 8 + 256];
+        loop {
+            // SAFETY: the slices are Rust's and do not overlap, and live through the call.
+            unsafe {
+                raw::jz_tree(input.as_ptr(), input.len(), &given, rows.as_mut_ptr(), rows.len(), words.as_mut_ptr(), words.len(), &mut answer)
+            };
+            match answer.status {
+                0 => break,
+                TOO_SHORT => {
+                    rows.resize(answer.nodes as usize, raw::Row::default());
+                    words.resize(answer.length as usize, 0);
+                }
+                _ => return Err(Error::of(&answer)),
+            }
+        }
+        rows.truncate(answer.nodes as usize);
+        words.truncate(answer.length as usize);
+        Ok(Tree::index(rows, words, u32::from(!options.context.is_empty())))
+    }
+
+    /// Puts rows into their places by number, and finds their words.
+    fn index(rows: Vec<raw::Row>, words: Vec<u8>, root: u32) -> Tree {
+        let count = rows.iter().map(|row| row.number).max().unwrap_or(root).max(root) + 1;
+        let blank = raw::Row { number: NONE, kind: NONE, parent: NONE, first_child: NONE, next: NONE };
+        let mut nodes = vec![(blank, 0, 0); count as usize];
+        let first_child = rows.first().map_or(NONE, |row| row.number);
+        nodes[root as usize].0 = raw::Row { number: root, kind: if root == 0 { 0 } else { 2 }, first_child, ..blank };
+        let mut at = 0;
+        for row in rows {
+            let end = at + words[at..].iter().position(|byte| *byte == 0xFE).expect("a node's words end");
+            nodes[row.number as usize] = (row, at, end);
+            at = end + 1;
+        }
+        Tree { root, nodes, words }
+    }
+
+    /// The document, or the root element of a fragment.
+    pub fn root(&self) -> Node<'_> {
+        Node { tree: self, number: self.root }
+    }
+}
+
+/// The kind of a node.
+#[derive(Clone, Copy, Debug, PartialEq, Eq)]
+pub enum Kind {
+    Document,
+    Doctype,
+    Element,
+    Comment,
+    Text,
+}
+
+/// A node of a tree, which it is lent from.
+#[derive(Clone, Copy)]
+pub struct Node<'a> {
+    tree: &'a Tree,
+    number: u32,
+}
+
+impl<'a> Node<'a> {
+    fn row(self) -> &'a raw::Row {
+        &self.tree.nodes[self.number as usize].0
+    }
+
+    fn at(self, number: u32) -> Option<Node<'a>> {
+        (number != NONE).then_some(Node { tree: self.tree, number })
+    }
+
+    pub fn kind(self) -> Kind {
+        [Kind::Document, Kind::Doctype, Kind::Element, Kind::Comment, Kind::Text][self.row().kind as usize]
+    }
+
+    pub fn parent(self) -> Option<Node<'a>> {
+        self.at(self.row().parent)
+    }
+
+    pub fn first_child(self) -> Option<Node<'a>> {
+        self.at(self.row().first_child)
+    }
+
+    pub fn next(self) -> Option<Node<'a>> {
+        self.at(self.row().next)
+    }
+
+    fn words(self) -> impl Iterator<Item = &'a str> {
+        let (_, start, end) = self.tree.nodes[self.number as usize];
+        let words = self.tree.words[start..end].split_inclusive(|byte| *byte == 0xFF);
+        words.map(|word| str::from_utf8(&word[..word.len() - 1]).expect("the library writes UTF-8"))
+    }
+
+    /// The name of an element or a doctype.
+    pub fn name(self) -> Option<&'a str> {
+        matches!(self.kind(), Kind::Element | Kind::Doctype).then(|| self.words().next())?
+    }
+
+    /// The characters of a text, or the data of a comment.
+    pub fn text(self) -> Option<&'a str> {
+        matches!(self.kind(), Kind::Text | Kind::Comment).then(|| self.words().next())?
+    }
+
+    /// The attributes of an element, in their order.
+    pub fn attributes(self) -> impl Iterator<Item = (&'a str, &'a str)> {
+        let count = if self.kind() == Kind::Element { usize::MAX } else { 0 };
+        let (names, values) = (self.words().skip(1).step_by(2), self.words().skip(2).step_by(2));
+        names.zip(values).take(count)
+    }
+
+    /// The value of an element's attribute of this name.
+    pub fn attribute(self, name: &str) -> Option<&'a str> {
+        self.attributes().find(|attribute| attribute.0 == name).map(|attribute| attribute.1)
+    }
+
+    /// The children of a node.
+    pub fn children(self) -> impl Iterator<Item = Node<'a>> {
+        std::iter::successors(self.first_child(), |node| node.next())
+    }
+
+    /// The nodes inside a node, in tree order.
+    pub fn descendants(self) -> impl Iterator<Item = Node<'a>> {
+        std::iter::successors(self.first_child(), move |node| node.after(self.number))
+    }
+
+    /// The node after this one in tree order, of those inside `top`.
+    fn after(self, top: u32) -> Option<Node<'a>> {
+        if let Some(child) = self.first_child() {
+            return Some(child);
+        }
+        let mut node = self;
+        while node.number != top {
+            if let Some(next) = node.next() {
+                return Some(next);
+            }
+            node = node.parent()?;
+        }
+        None
+    }
+
+    /// The characters of all texts inside a node.
+    pub fn text_content(self) -> String {
+        self.descendants().filter(|node| node.kind() == Kind::Text).filter_map(Node::text).collect()
+    }
+}
+
+/// The links of a page, each with its text.
+pub fn links(tree: &Tree) -> impl Iterator<Item = (&str, String)> {
+    let anchors = tree.root().descendants().filter(|node| node.name() == Some("a"));
+    anchors.filter_map(|node| Some((node.attribute("href")?, node.text_content())))
+}

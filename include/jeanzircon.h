@@ -1,0 +1,312 @@
+/* Jeanzircon: HTML as a browser reads it. The header of the library for C.
+ *
+ * Two functions of the library, jz_text and jz_tree, are proved: what they promise stands at each. What else is here is plain C that
+ * prepares their arguments and indexes what they wrote.
+ *
+ * Who owns what. Every buffer is the caller's. The library keeps no pointer after a call, and has no state of its own: nothing is
+ * opened, and nothing but a jz_doc (below) is to be freed.
+ * Units. Lengths and places are bytes, from 0. Texts are UTF-8 and end with no NUL.
+ * Errors. Every call returns a status: 0, a refusal of the input, or a fault of the call. A refusal has its place.
+ * Threads. Any number of threads may call at once, each with buffers of its own. Not from a signal handler.
+ * Memory. The library calls malloc, realloc and free, and frees all that it took before it returns. Where they give none the status is
+ * JZ_MEMORY. It needs some 80 KB of stack, however the input is nested.
+ */
+#ifndef JEANZIRCON_H
+#define JEANZIRCON_H
+
+#include <stddef.h>
+#include <stdint.h>
+#include <stdlib.h>
+#include <string.h>
+
+#ifdef __cplusplus
+extern "C" {
+#endif
+
+/* The statuses. */
+enum {
+    JZ_OK = 0,
+    /* Refusals. `at` is the byte, but at JZ_BAD_QUIRKS the line of the list, from 1. */
+    JZ_NOT_UTF8 = 1,       /* the first byte of what is not UTF-8 */
+    JZ_OUT_OF_PROFILE = 2, /* a start tag that is left out of the profile; `detail` says which (jz_detail_name) */
+    JZ_TOO_LARGE = 3,      /* the input is longer than 1,073,741,824 bytes */
+    JZ_TOO_MANY_NODES = 4,
+    JZ_TOO_DEEP = 5,
+    JZ_MEMORY = 6,
+    JZ_BAD_CONTEXT = 8, /* no fragment may stand in an element of this name */
+    JZ_BAD_TABLE = 9,   /* `detail` says what is wrong (jz_detail_name) */
+    JZ_BAD_QUIRKS = 10,
+    JZ_BAD_LIMITS = 11,
+    /* Faults of the call. */
+    JZ_TOO_SHORT = 13,  /* there is too little room: the answer says how much is needed */
+    JZ_NOT_TEXT = 14,   /* the context's name or a list is not UTF-8 */
+    JZ_BAD_NUMBER = 15, /* a task, an escaping, a piece or a choice on bad bytes that is none */
+    JZ_NULL = 16        /* a null pointer where there must be none; told by the functions below, not by jz_text and jz_tree */
+};
+
+/* The tasks of jz_text: what is made of the input. The forms of the lines stand in docs/PROFILE.md. */
+enum {
+    JZ_TOKENS = 0, /* a line for each token of a document */
+    JZ_TREE = 1,   /* the tree, a line for each node and each attribute */
+    JZ_ERRORS = 2, /* a line for each parse error: its byte and its code */
+    JZ_WRITE = 3,  /* the tree as HTML */
+    JZ_PLAIN = 4   /* "plain\n" or "not plain\n": whether a fragment comes back when what is written of it is parsed */
+};
+
+/* Bytes that are lent for a call. `bytes` must not be null and must be readable for `length` bytes; an empty one is JZ_NO_BYTES. */
+typedef struct jz_bytes {
+    const uint8_t *bytes;
+    size_t length;
+} jz_bytes;
+
+#define JZ_NO_BYTES { (const uint8_t *)"", 0 }
+
+/* What is told beside the input. Begin with JZ_DEFAULTS, and change what you need. */
+typedef struct jz_options {
+    jz_bytes context;   /* the name of the element in which a fragment stands; empty: the input is a document */
+    jz_bytes entities;  /* the table of character references as JSON (data/entities.json); empty: five of them */
+    jz_bytes quirks;    /* the quirks list (data/quirks.txt); empty: no list */
+    uint64_t nodes;     /* the most nodes: 16 to 16,777,216 */
+    uint64_t open;      /* the most open elements: 16 to 1,048,576 */
+    uint64_t piece;     /* how many bytes are read at a time: 1 to 65,536; no answer depends on it */
+    uint64_t key_low;   /* 16 random bytes, drawn once a program, where the input is not trusted: with keys that are known a */
+    uint64_t key_high;  /* page can be made that takes the square of its length. No answer depends on them */
+    uint32_t escaping;  /* of JZ_WRITE: 1, or 2, which escapes < and > in attribute values */
+    uint32_t bad_bytes; /* 0 refuses bytes that are not UTF-8; 1 reads each bad part as U+FFFD */
+} jz_options;
+
+#define JZ_DEFAULTS { JZ_NO_BYTES, JZ_NO_BYTES, JZ_NO_BYTES, 16777216, 1048576, 65536, 0, 0, 1, 0 }
+
+/* How a call went. */
+typedef struct jz_answer {
+    uint32_t status;
+    uint32_t detail; /* what a refusal names, from 1; 0 if nothing */
+    uint64_t at;     /* where the input is refused */
+    uint64_t length; /* the bytes of the text, or of the words of a tree, whether there was room for them or not */
+    uint64_t nodes;  /* the nodes of a tree, whether there was room for them or not */
+} jz_answer;
+
+/* Makes the text of a task of an input, and writes it to the beginning of `output`, if `room` is enough.
+ *
+ * Promised: the text is the one that the program prints for the same input and options, however it is read in pieces. Where the status
+ * is not JZ_OK, nothing is written; at JZ_TOO_SHORT `answer->length` is the room that is needed, and 0 bytes of room are a way to ask.
+ * Required, and not checked: no pointer is null, those in `options` neither; `input` is readable for `length` bytes and `output`
+ * writable for `room`; `output` and `answer` overlap nothing else that is handed in; each length is below 2^63; nobody writes to
+ * what is lent, nor reads `output` and `answer`, until the call returns. */
+uint32_t jz_text(uint32_t task, const uint8_t *input, size_t length, const jz_options *options, uint8_t *output, size_t room,
+                 jz_answer *answer);
+
+/* A node as jz_tree writes it. A link is the number of a node, or JZ_NONE. */
+typedef struct jz_row {
+    uint32_t number;
+    uint32_t kind; /* JZ_DOCTYPE to JZ_TEXT_NODE */
+    uint32_t parent;
+    uint32_t first_child;
+    uint32_t next;
+} jz_row;
+
+enum { JZ_DOCUMENT = 0, JZ_DOCTYPE = 1, JZ_ELEMENT = 2, JZ_COMMENT = 3, JZ_TEXT_NODE = 4 };
+
+#define JZ_NONE 0xFFFFFFFFu
+
+/* Makes the tree of an input, and writes its nodes in tree order to `rows` and their words to `words`, if all of them have room.
+ *
+ * Promised: the rows are those of the nodes in the document (number 0), or in a fragment's root element (number 1), each before those
+ * inside it; the words of each node, in the same order, are the name of an element and the name and the value of each of its
+ * attributes, the name and both identifiers of a doctype, the data of a comment, or the characters of a text. A word ends with the
+ * byte 0xFF, and a node's words with 0xFE, which stand in no UTF-8 text. Where the status is not JZ_OK, nothing is written; at
+ * JZ_TOO_SHORT the answer has the rooms that are needed.
+ * Required, and not checked: as at jz_text, of both rooms; `row_room` counts rows. */
+uint32_t jz_tree(const uint8_t *input, size_t length, const jz_options *options, jz_row *rows, size_t row_room, uint8_t *words,
+                 size_t word_room, jz_answer *answer);
+
+/* From here on plain C, which is not proved: the tree with an index, and names for numbers. */
+
+/* The name of a status, as "NotUtf8". */
+static inline const char *jz_status_name(uint32_t status) {
+    static const char *const names[] = { "Ok", "NotUtf8", "OutOfProfile", "TooLarge", "TooManyNodes", "TooDeep", "Memory", "Read",
+                                         "BadContext", "BadTable", "BadQuirks", "BadLimits", "Write", "TooShort", "NotText",
+                                         "BadNumber", "Null" };
+    return status < sizeof names / sizeof *names ? names[status] : "?";
+}
+
+/* What a refusal names: an element, or what is wrong with a table; "" if nothing. */
+static inline const char *jz_detail_name(const jz_answer *answer) {
+    static const char *const elements[] = { "", "math", "svg", "template", "select", "option", "optgroup", "frame", "frameset", "keygen" };
+    static const char *const causes[] = { "", "Json", "Shape", "Key", "Codepoints", "Characters" };
+    if (answer->status == JZ_OUT_OF_PROFILE && answer->detail < sizeof elements / sizeof *elements) return elements[answer->detail];
+    if (answer->status == JZ_BAD_TABLE && answer->detail < sizeof causes / sizeof *causes) return causes[answer->detail];
+    return "";
+}
+
+/* A tree in the caller's memory, made by jz_parse and freed by jz_free. It lends its words until it is freed; to read it from several
+ * threads at once is fine. Its fields are its own business. */
+typedef struct jz_node {
+    uint32_t kind, parent, first_child, next;
+    size_t words, end;
+} jz_node;
+
+typedef struct jz_doc {
+    jz_node *nodes; /* by number */
+    uint32_t count;
+    uint32_t root; /* the document, or a fragment's root */
+    uint8_t *words;
+} jz_doc;
+
+/* Whether all that must not be null is not. */
+static inline int jz_is_whole(const uint8_t *input, const jz_options *options) {
+    return input && options && options->context.bytes && options->entities.bytes && options->quirks.bytes;
+}
+
+static inline uint32_t jz_fault(jz_answer *answer, uint32_t status) {
+    memset(answer, 0, sizeof *answer);
+    return answer->status = status;
+}
+
+/* The text of a task in memory of its own, which the caller frees with free(); *text is null where the status is not JZ_OK. */
+static inline uint32_t jz_make_text(uint32_t task, const uint8_t *input, size_t length, const jz_options *options, uint8_t **text,
+                                    jz_answer *answer) {
+    size_t room = length < 256 ? 512 : length * 2;
+    uint32_t status;
+    if (!answer) return JZ_NULL;
+    if (!text || !jz_is_whole(input, options)) return jz_fault(answer, JZ_NULL);
+    do {
+        if (!(*text = (uint8_t *)malloc(room))) return jz_fault(answer, JZ_MEMORY);
+        status = jz_text(task, input, length, options, *text, room, answer);
+        if (status == JZ_OK) return status;
+        free(*text);
+        *text = NULL;
+        room = (size_t)answer->length;
+    } while (status == JZ_TOO_SHORT);
+    return status;
+}
+
+/* Gives back what a tree holds. A tree of zeros holds nothing, and a freed one is of zeros, so that it can be freed again. */
+static inline void jz_free(jz_doc *doc) {
+    if (!doc) return;
+    free(doc->nodes);
+    free(doc->words);
+    memset(doc, 0, sizeof *doc);
+}
+
+/* Puts rows into their places by number, and finds their words. */
+static inline uint32_t jz_index(jz_doc *doc, const jz_row *rows, size_t count, size_t bytes) {
+    size_t i, at = 0;
+    doc->count = doc->root + 1;
+    for (i = 0; i < count; i++)
+        if (rows[i].number >= doc->count) doc->count = rows[i].number + 1;
+    if (!(doc->nodes = (jz_node *)malloc(doc->count * sizeof *doc->nodes))) return JZ_MEMORY;
+    memset(doc->nodes, 0xFF, doc->count * sizeof *doc->nodes); /* JZ_NONE in each link */
+    doc->nodes[doc->root].words = doc->nodes[doc->root].end = 0;
+    doc->nodes[doc->root].kind = doc->root == 0 ? JZ_DOCUMENT : JZ_ELEMENT;
+    if (count) doc->nodes[doc->root].first_child = rows[0].number;
+    for (i = 0; i < count; i++) {
+        const uint8_t *end = (const uint8_t *)memchr(doc->words + at, 0xFE, bytes - at);
+        size_t stop = (size_t)(end - doc->words);
+        jz_node *node = &doc->nodes[rows[i].number];
+        node->kind = rows[i].kind;
+        node->parent = rows[i].parent;
+        node->first_child = rows[i].first_child;
+        node->next = rows[i].next;
+        node->words = at;
+        node->end = stop;
+        at = stop + 1;
+    }
+    return JZ_OK;
+}
+
+/* Parses an input into a tree. `answer` may not be null; the tree is of zeros where the status is not JZ_OK. */
+static inline uint32_t jz_parse(const uint8_t *input, size_t length, const jz_options *options, jz_doc *doc, jz_answer *answer) {
+    size_t rows = 64 + length / 16, words = 256 + length + length / 8;
+    jz_row *table;
+    uint32_t status;
+    if (!answer) return JZ_NULL;
+    if (!doc || !jz_is_whole(input, options)) return jz_fault(answer, JZ_NULL);
+    memset(doc, 0, sizeof *doc);
+    do {
+        table = (jz_row *)malloc(rows * sizeof *table);
+        doc->words = (uint8_t *)malloc(words);
+        if (!table || !doc->words) status = jz_fault(answer, JZ_MEMORY);
+        else status = jz_tree(input, length, options, table, rows, doc->words, words, answer);
+        if (status == JZ_OK) {
+            doc->root = options->context.length ? 1 : 0;
+            status = answer->status = jz_index(doc, table, (size_t)answer->nodes, (size_t)answer->length);
+        }
+        free(table);
+        if (status != JZ_OK) jz_free(doc);
+        rows = (size_t)answer->nodes + 1;
+        words = (size_t)answer->length + 1;
+    } while (status == JZ_TOO_SHORT);
+    return status;
+}
+
+/* The kind of a node, and the nodes around it; JZ_NONE where there is none, or no such node. */
+static inline uint32_t jz_kind(const jz_doc *doc, uint32_t node) { return node < doc->count ? doc->nodes[node].kind : JZ_NONE; }
+static inline uint32_t jz_parent(const jz_doc *doc, uint32_t node) { return node < doc->count ? doc->nodes[node].parent : JZ_NONE; }
+static inline uint32_t jz_first_child(const jz_doc *doc, uint32_t node) { return node < doc->count ? doc->nodes[node].first_child : JZ_NONE; }
+static inline uint32_t jz_next(const jz_doc *doc, uint32_t node) { return node < doc->count ? doc->nodes[node].next : JZ_NONE; }
+
+/* The node after this one in tree order, of those inside `top`; JZ_NONE after the last. */
+static inline uint32_t jz_after(const jz_doc *doc, uint32_t node, uint32_t top) {
+    uint32_t child = jz_first_child(doc, node);
+    if (child != JZ_NONE) return child;
+    while (node != top && node != JZ_NONE) {
+        if (jz_next(doc, node) != JZ_NONE) return jz_next(doc, node);
+        node = jz_parent(doc, node);
+    }
+    return JZ_NONE;
+}
+
+static inline jz_bytes jz_lent(const uint8_t *bytes, size_t length) {
+    jz_bytes lent;
+    lent.bytes = bytes;
+    lent.length = length;
+    return lent;
+}
+
+/* A word of a node, by its place from 0; its bytes are null where there is none. */
+static inline jz_bytes jz_word(const jz_doc *doc, uint32_t node, size_t place) {
+    if (node >= doc->count) return jz_lent(NULL, 0);
+    for (size_t at = doc->nodes[node].words; at < doc->nodes[node].end; place--) {
+        const uint8_t *start = doc->words + at, *end = (const uint8_t *)memchr(start, 0xFF, doc->nodes[node].end - at);
+        if (place == 0) return jz_lent(start, (size_t)(end - start));
+        at = (size_t)(end + 1 - doc->words);
+    }
+    return jz_lent(NULL, 0);
+}
+
+/* The name of an element or a doctype. */
+static inline jz_bytes jz_name(const jz_doc *doc, uint32_t node) {
+    return jz_kind(doc, node) == JZ_ELEMENT || jz_kind(doc, node) == JZ_DOCTYPE ? jz_word(doc, node, 0) : jz_lent(NULL, 0);
+}
+
+/* The characters of a text, or the data of a comment. */
+static inline jz_bytes jz_data(const jz_doc *doc, uint32_t node) {
+    return jz_kind(doc, node) == JZ_TEXT_NODE || jz_kind(doc, node) == JZ_COMMENT ? jz_word(doc, node, 0) : jz_lent(NULL, 0);
+}
+
+static inline int jz_is(jz_bytes bytes, const char *text) {
+    return bytes.bytes && bytes.length == strlen(text) && memcmp(bytes.bytes, text, bytes.length) == 0;
+}
+
+/* The name and the value of an attribute of an element by its place from 0. */
+static inline jz_bytes jz_attribute_name(const jz_doc *doc, uint32_t node, size_t place) {
+    return jz_kind(doc, node) == JZ_ELEMENT ? jz_word(doc, node, 1 + 2 * place) : jz_lent(NULL, 0);
+}
+
+static inline jz_bytes jz_attribute_value(const jz_doc *doc, uint32_t node, size_t place) {
+    return jz_kind(doc, node) == JZ_ELEMENT ? jz_word(doc, node, 2 + 2 * place) : jz_lent(NULL, 0);
+}
+
+/* The value of an element's attribute of this name. */
+static inline jz_bytes jz_attribute(const jz_doc *doc, uint32_t node, const char *name) {
+    for (size_t place = 0; jz_attribute_name(doc, node, place).bytes; place++)
+        if (jz_is(jz_attribute_name(doc, node, place), name)) return jz_attribute_value(doc, node, place);
+    return jz_lent(NULL, 0);
+}
+
+#ifdef __cplusplus
+}
+#endif
+
+#endif
