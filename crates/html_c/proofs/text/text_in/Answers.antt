@@ -2,7 +2,6 @@ use Rattle.std.proofs.Common.{ℕ, Vec, Global, ap, sym, subst, ◌∙◌}
 use Rattle.hrun.specs.Prints.{unrefused_of}
 use Rattle.hparse.specs.Parsing.{told_by}
 use Rattle.hrun.specs.Command.{name_of}
-use Rattle.hrun.specs.Context.{subject_in}
 use Rattle.hrun.specs.Counted.{failures_of}
 use Rattle.hrun.specs.Prints.{context_of, prints_of}
 use Rattle.hrun.specs.declared.counted.Counted.{Counted}
