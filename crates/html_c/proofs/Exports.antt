@@ -1,5 +1,5 @@
 -- What a call gives, from what was told and what came of the input.
-use Rattle.std.proofs.Common.{◌≡◌, ℕ, List, Option, Result, Ok, Err, refl, sym, subst}
+use Rattle.std.proofs.Common.{◌≡◌, ℕ, List, Option, Ok, Err, refl, subst}
 use Rattle.names.specs.declared.refusal.Refusal.{Refusal}
 use Rattle.hparse.specs.Parse.{Told}
 use Rattle.hrun.specs.Command.{name_of}

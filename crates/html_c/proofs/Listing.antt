@@ -1,17 +1,16 @@
 -- The nodes of a tree, listed one after another.
-use Rattle.std.proofs.Common.{◌≡◌, ℕ, ◌<◌, List, [], ◌∷◌, ◌++◌, Option, Some, None, map, refl, sym, ap, ap₂, subst, ◌∙◌}
+use Rattle.std.proofs.Common.{◌≡◌, ℕ, ◌<◌, List, [], ◌∷◌, ◌++◌, Some, map, refl, sym, ap, ap₂, subst, ◌∙◌}
 use Rattle.std.proofs.lemmas.List.{append_assoc, append-nil, map-append}
 use Rattle.std.proofs.lemmas.Grind.{flat_map-append}
 use Rattle.std.specs.List.{flat_map, AllByRecursion}
 use Rattle.std.specs.Option.{option_map, option_map_or}
 use Rattle.names.specs.Names.{Texts, text_of}
-use Rattle.hnodes.specs.Forest.{What, Forest, none, tree, children_of}
+use Rattle.hnodes.specs.Forest.{Forest, none, tree, children_of}
 use Rattle.hnodes.specs.Edits.{AreCounted}
 use Rattle.hnodes.specs.Named.{AreOf, IsLent, NodeIsOf}
 use Rattle.hnodes.specs.Passed.{order}
 use Rattle.hnodes.specs.Spelled.{spelled}
 use Rattle.hnodes.specs.Spots.{kind_in, what_of}
-use Rattle.hnodes.specs.declared.node.Kind.{Kind}
 use Rattle.hnodes.proofs.Forests.{some_inj}
 use Rattle.hwrite.proofs.Seen.{Seen, seen}
 use Rattle.html_c.specs.Rows.{kind_number, link_to, node_words_at, row_at, row_of, rows_of, words_of}

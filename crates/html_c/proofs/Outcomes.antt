@@ -1,5 +1,5 @@
 -- What comes of a call that is passed up.
-use Rattle.std.proofs.Common.{◌≡◌, ℕ, Bool, true, false, List, Result, Ok, Err, MatchResult, length, sym, subst}
+use Rattle.std.proofs.Common.{◌≡◌, ℕ, true, false, List, Result, Ok, Err, MatchResult, length, sym, subst}
 use Rattle.std.specs.Prelude.{IsErrAnd, ◌==◌}
 use Rattle.names.specs.declared.refusal.Refusal.{Refusal}
 use Rattle.names.specs.declared.refusal.Refusal.TheVariants.{Memory}

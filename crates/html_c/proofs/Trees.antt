@@ -20,7 +20,6 @@ use Rattle.hrun.proofs.Alike.{spelled-alike}
 use Rattle.html_c.specs.Exports.{ComesToNone, none_for_memory, none_in_context, none_of_bytes}
 use Rattle.html_c.specs.Rows.{kind_number, link_to, rows_of, words_of}
 use Rattle.html_c.specs.Trees.{ComesToParse, HasRows}
-use Rattle.html_c.specs.declared.answer.NodeRow.{NodeRow}
 use Rattle.html_c.specs.declared.rows.Rows.{Rows}
 
 module _ {S : Type 0} (left : S → List ℕ) (told : Told) (context : Option (List ℕ)) (how : Policy) (piece : ℕ) (source source' : S) where

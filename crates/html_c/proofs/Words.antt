@@ -1,11 +1,9 @@
 -- Words that are added one after another.
-use Rattle.std.proofs.Common.{◌≡◌, ℕ, suc, ◌+◌, ◌<◌, List, [], ◌∷◌, ◌++◌, length, drop, get_or, map, sym, ap, subst, ◌∙◌, drop-cons, add-one}
+use Rattle.std.proofs.Common.{◌≡◌, ℕ, ◌+◌, ◌<◌, List, [], ◌++◌, length, drop, get_or, map, sym, ap, ◌∙◌}
 use Rattle.std.proofs.lemmas.List.{append_assoc, append-nil}
 use Rattle.std.specs.List.{flat_map}
 use Rattle.std.specs.String.{string_bytes}
 use Rattle.names.specs.declared.attr.Attr.{Attr}
-use Rattle.names.specs.Names.{Texts, IsOf}
-use Rattle.hnodes.specs.Named.{AttributesAreOf}
 use Rattle.hnodes.specs.Rows.{attribute_of}
 use Rattle.hnodes.specs.Spelled.{spelled_attribute}
 use Rattle.hwrite.proofs.Ordered.{dropped}

@@ -1,4 +1,4 @@
-use Rattle.std.proofs.Common.{ap, drop, sym, ◌∙◌, ◌+◌, ◌++◌}
+use Rattle.std.proofs.Common.{ap, drop, ◌∙◌, ◌+◌, ◌++◌}
 use Rattle.std.proofs.lemmas.List.{drop_all}
 use Rattle.names.specs.Names.{text_of}
 use Rattle.hwrite.proofs.Ordered.{attributes-head, attributes-rest}

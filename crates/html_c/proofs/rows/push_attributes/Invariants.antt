@@ -1,4 +1,4 @@
-use Rattle.std.proofs.Common.{◌≡◌, ◌++◌, map, drop, flat_map}
+use Rattle.std.proofs.Common.{◌≡◌, ◌++◌, map, drop}
 use Rattle.names.specs.Names.{text_of}
 use Rattle.hnodes.specs.Named.{AttributesAreOf}
 use Rattle.hnodes.specs.Rows.{attribute_of}
