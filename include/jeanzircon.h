@@ -217,7 +217,7 @@ static inline uint32_t jz_index(jz_doc *doc, const jz_row *rows, size_t count, s
 
 /* Parses an input into a tree. `answer` may not be null; the tree is of zeros where the status is not JZ_OK. */
 static inline uint32_t jz_parse(const uint8_t *input, size_t length, const jz_options *options, jz_doc *doc, jz_answer *answer) {
-    size_t rows = 64 + length / 16, words = 256 + length + length / 8;
+    size_t rows = 64 + length / 4, words = 256 + length * 2; /* what is not written takes no memory */
     jz_row *table;
     uint32_t status;
     if (!answer) return JZ_NULL;

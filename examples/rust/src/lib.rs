@@ -88,15 +88,35 @@ pub struct Error {
 const TOO_SHORT: u32 = 13;
 
 const STATUSES: [&str; 16] = [
-    "Ok", "NotUtf8", "OutOfProfile", "TooLarge", "TooManyNodes", "TooDeep", "Memory", "Read", "BadContext", "BadTable", "BadQuirks",
-    "BadLimits", "Write", "TooShort", "NotText", "BadNumber",
+    "Ok",
+    "NotUtf8",
+    "OutOfProfile",
+    "TooLarge",
+    "TooManyNodes",
+    "TooDeep",
+    "Memory",
+    "Read",
+    "BadContext",
+    "BadTable",
+    "BadQuirks",
+    "BadLimits",
+    "Write",
+    "TooShort",
+    "NotText",
+    "BadNumber",
 ];
-const ELEMENTS: [&str; 10] = ["", "math", "svg", "template", "select", "option", "optgroup", "frame", "frameset", "keygen"];
+const ELEMENTS: [&str; 10] = [
+    "", "math", "svg", "template", "select", "option", "optgroup", "frame", "frameset", "keygen",
+];
 const CAUSES: [&str; 6] = ["", "Json", "Shape", "Key", "Codepoints", "Characters"];
 
 impl Error {
     fn of(answer: &raw::Answer) -> Error {
-        Error { status: answer.status, detail: answer.detail, at: answer.at }
+        Error {
+            status: answer.status,
+            detail: answer.detail,
+            at: answer.at,
+        }
     }
 
     /// Its name, as `NotUtf8`.
@@ -127,7 +147,17 @@ pub fn text(task: Task, input: &[u8], options: &Options) -> Result<String, Error
     let mut output = vec![0; input.len() * 2 + 256];
     loop {
         // SAFETY: the slices are Rust's and do not overlap, and live through the call.
-        unsafe { raw::jz_text(task as u32, input.as_ptr(), input.len(), &given, output.as_mut_ptr(), output.len(), &mut answer) };
+        unsafe {
+            raw::jz_text(
+                task as u32,
+                input.as_ptr(),
+                input.len(),
+                &given,
+                output.as_mut_ptr(),
+                output.len(),
+                &mut answer,
+            )
+        };
         match answer.status {
             0 => break,
             TOO_SHORT => output.resize(answer.length as usize, 0),
@@ -152,7 +182,10 @@ pub struct Parser<'a> {
 
 impl<'a> Parser<'a> {
     pub fn new(options: Options<'a>) -> Parser<'a> {
-        Parser { input: Vec::new(), options }
+        Parser {
+            input: Vec::new(),
+            options,
+        }
     }
 
     pub fn feed(&mut self, piece: &[u8]) {
@@ -184,7 +217,16 @@ impl Tree {
         loop {
             // SAFETY: the slices are Rust's and do not overlap, and live through the call.
             unsafe {
-                raw::jz_tree(input.as_ptr(), input.len(), &given, rows.as_mut_ptr(), rows.len(), words.as_mut_ptr(), words.len(), &mut answer)
+                raw::jz_tree(
+                    input.as_ptr(),
+                    input.len(),
+                    &given,
+                    rows.as_mut_ptr(),
+                    rows.len(),
+                    words.as_mut_ptr(),
+                    words.len(),
+                    &mut answer,
+                )
             };
             match answer.status {
                 0 => break,
@@ -197,19 +239,44 @@ impl Tree {
         }
         rows.truncate(answer.nodes as usize);
         words.truncate(answer.length as usize);
-        Ok(Tree::index(rows, words, u32::from(!options.context.is_empty())))
+        Ok(Tree::index(
+            rows,
+            words,
+            u32::from(!options.context.is_empty()),
+        ))
     }
 
     /// Puts rows into their places by number, and finds their words.
     fn index(rows: Vec<raw::Row>, words: Vec<u8>, root: u32) -> Tree {
-        let count = rows.iter().map(|row| row.number).max().unwrap_or(root).max(root) + 1;
-        let blank = raw::Row { number: NONE, kind: NONE, parent: NONE, first_child: NONE, next: NONE };
+        let count = rows
+            .iter()
+            .map(|row| row.number)
+            .max()
+            .unwrap_or(root)
+            .max(root)
+            + 1;
+        let blank = raw::Row {
+            number: NONE,
+            kind: NONE,
+            parent: NONE,
+            first_child: NONE,
+            next: NONE,
+        };
         let mut nodes = vec![(blank, 0, 0); count as usize];
         let first_child = rows.first().map_or(NONE, |row| row.number);
-        nodes[root as usize].0 = raw::Row { number: root, kind: if root == 0 { 0 } else { 2 }, first_child, ..blank };
+        nodes[root as usize].0 = raw::Row {
+            number: root,
+            kind: if root == 0 { 0 } else { 2 },
+            first_child,
+            ..blank
+        };
         let mut at = 0;
         for row in rows {
-            let end = at + words[at..].iter().position(|byte| *byte == 0xFE).expect("a node's words end");
+            let end = at
+                + words[at..]
+                    .iter()
+                    .position(|byte| *byte == 0xFE)
+                    .expect("a node's words end");
             nodes[row.number as usize] = (row, at, end);
             at = end + 1;
         }
@@ -218,7 +285,10 @@ impl Tree {
 
     /// The document, or the root element of a fragment.
     pub fn root(&self) -> Node<'_> {
-        Node { tree: self, number: self.root }
+        Node {
+            tree: self,
+            number: self.root,
+        }
     }
 }
 
@@ -245,11 +315,20 @@ impl<'a> Node<'a> {
     }
 
     fn at(self, number: u32) -> Option<Node<'a>> {
-        (number != NONE).then_some(Node { tree: self.tree, number })
+        (number != NONE).then_some(Node {
+            tree: self.tree,
+            number,
+        })
     }
 
     pub fn kind(self) -> Kind {
-        [Kind::Document, Kind::Doctype, Kind::Element, Kind::Comment, Kind::Text][self.row().kind as usize]
+        [
+            Kind::Document,
+            Kind::Doctype,
+            Kind::Element,
+            Kind::Comment,
+            Kind::Text,
+        ][self.row().kind as usize]
     }
 
     pub fn parent(self) -> Option<Node<'a>> {
@@ -282,14 +361,23 @@ impl<'a> Node<'a> {
 
     /// The attributes of an element, in their order.
     pub fn attributes(self) -> impl Iterator<Item = (&'a str, &'a str)> {
-        let count = if self.kind() == Kind::Element { usize::MAX } else { 0 };
-        let (names, values) = (self.words().skip(1).step_by(2), self.words().skip(2).step_by(2));
+        let count = if self.kind() == Kind::Element {
+            usize::MAX
+        } else {
+            0
+        };
+        let (names, values) = (
+            self.words().skip(1).step_by(2),
+            self.words().skip(2).step_by(2),
+        );
         names.zip(values).take(count)
     }
 
     /// The value of an element's attribute of this name.
     pub fn attribute(self, name: &str) -> Option<&'a str> {
-        self.attributes().find(|attribute| attribute.0 == name).map(|attribute| attribute.1)
+        self.attributes()
+            .find(|attribute| attribute.0 == name)
+            .map(|attribute| attribute.1)
     }
 
     /// The children of a node.
@@ -319,12 +407,18 @@ impl<'a> Node<'a> {
 
     /// The characters of all texts inside a node.
     pub fn text_content(self) -> String {
-        self.descendants().filter(|node| node.kind() == Kind::Text).filter_map(Node::text).collect()
+        self.descendants()
+            .filter(|node| node.kind() == Kind::Text)
+            .filter_map(Node::text)
+            .collect()
     }
 }
 
 /// The links of a page, each with its text.
 pub fn links(tree: &Tree) -> impl Iterator<Item = (&str, String)> {
-    let anchors = tree.root().descendants().filter(|node| node.name() == Some("a"));
+    let anchors = tree
+        .root()
+        .descendants()
+        .filter(|node| node.name() == Some("a"));
     anchors.filter_map(|node| Some((node.attribute("href")?, node.text_content())))
 }

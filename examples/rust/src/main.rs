@@ -1,6 +1,6 @@
 //! Prints the links of a page, each with its text, and with `--in NAME` whether a fragment is plain.
 
-use jeanzircon::{Options, Tree, is_plain, links};
+use jeanzircon::{is_plain, links, Options, Tree};
 use std::process::ExitCode;
 use std::{env, fs};
 
@@ -12,8 +12,18 @@ fn run(words: &[String]) -> Result<(), Box<dyn std::error::Error>> {
             }
         }
         [option, context, fragment] if option == "--in" => {
-            let options = Options { context, ..Options::default() };
-            println!("{}", if is_plain(&fs::read(fragment)?, &options)? { "plain" } else { "not plain" });
+            let options = Options {
+                context,
+                ..Options::default()
+            };
+            println!(
+                "{}",
+                if is_plain(&fs::read(fragment)?, &options)? {
+                    "plain"
+                } else {
+                    "not plain"
+                }
+            );
         }
         _ => return Err("name a page, or --in NAME and a fragment".into()),
     }

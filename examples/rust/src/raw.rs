@@ -9,7 +9,10 @@ pub struct Bytes {
 
 impl Bytes {
     pub fn of(bytes: &[u8]) -> Bytes {
-        Bytes { bytes: bytes.as_ptr(), length: bytes.len() }
+        Bytes {
+            bytes: bytes.as_ptr(),
+            length: bytes.len(),
+        }
     }
 }
 
@@ -48,7 +51,24 @@ pub struct Row {
 }
 
 extern "C" {
-    pub fn jz_text(task: u32, input: *const u8, length: usize, options: *const Options, output: *mut u8, room: usize, answer: *mut Answer) -> u32;
+    pub fn jz_text(
+        task: u32,
+        input: *const u8,
+        length: usize,
+        options: *const Options,
+        output: *mut u8,
+        room: usize,
+        answer: *mut Answer,
+    ) -> u32;
 
-    pub fn jz_tree(input: *const u8, length: usize, options: *const Options, rows: *mut Row, row_room: usize, words: *mut u8, word_room: usize, answer: *mut Answer) -> u32;
+    pub fn jz_tree(
+        input: *const u8,
+        length: usize,
+        options: *const Options,
+        rows: *mut Row,
+        row_room: usize,
+        words: *mut u8,
+        word_room: usize,
+        answer: *mut Answer,
+    ) -> u32;
 }

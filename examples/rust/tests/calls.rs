@@ -1,11 +1,15 @@
 //! What the wrapper gives.
 
-use jeanzircon::{BadBytes, Error, Kind, Options, Parser, Task, Tree, is_plain, links, text};
+use jeanzircon::{is_plain, links, text, BadBytes, Error, Kind, Options, Parser, Task, Tree};
 
-const PAGE: &[u8] = b"<!DOCTYPE html><p title='a&lt;b'>x<a href=/one>one <b>two</b></a><!--c--><a>no link</a>";
+const PAGE: &[u8] =
+    b"<!DOCTYPE html><p title='a&lt;b'>x<a href=/one>one <b>two</b></a><!--c--><a>no link</a>";
 
 fn div<'a>() -> Options<'a> {
-    Options { context: "div", ..Options::default() }
+    Options {
+        context: "div",
+        ..Options::default()
+    }
 }
 
 #[test]
@@ -15,7 +19,11 @@ fn a_tree_is_walked() {
     assert_eq!(found, [("/one", "one two".to_string())]);
     let kinds: Vec<_> = tree.root().children().map(|node| node.kind()).collect();
     assert_eq!(kinds, [Kind::Doctype, Kind::Element]);
-    let paragraph = tree.root().descendants().find(|node| node.name() == Some("p")).unwrap();
+    let paragraph = tree
+        .root()
+        .descendants()
+        .find(|node| node.name() == Some("p"))
+        .unwrap();
     assert_eq!(paragraph.attribute("title"), Some("a<b"));
     assert_eq!(paragraph.parent().unwrap().name(), Some("body"));
 }
@@ -28,19 +36,47 @@ fn pieces_are_gathered() {
     }
     let tree = parser.finish().unwrap();
     assert_eq!(tree.root().text_content(), "xone twono link");
-    assert_eq!(tree.root().descendants().filter(|node| node.kind() == Kind::Comment).count(), 1);
+    assert_eq!(
+        tree.root()
+            .descendants()
+            .filter(|node| node.kind() == Kind::Comment)
+            .count(),
+        1
+    );
 }
 
 #[test]
 fn refusals_have_places() {
     let refused = Tree::parse(b"a<svg>", &Options::default()).err().unwrap();
-    assert_eq!(refused, Error { status: 2, detail: 2, at: 1 });
+    assert_eq!(
+        refused,
+        Error {
+            status: 2,
+            detail: 2,
+            at: 1
+        }
+    );
     assert_eq!(refused.to_string(), "OutOfProfile svg at 1");
-    assert_eq!(text(Task::Tree, b"a\xff", &div()).unwrap_err().to_string(), "NotUtf8 at 1");
-    let replaced = Options { bad_bytes: BadBytes::Replace, ..div() };
-    assert_eq!(text(Task::Tree, b"a\xff", &replaced).unwrap(), "| \"a\u{FFFD}\"\n");
-    let context = Options { context: "svg", ..Options::default() };
-    assert_eq!(text(Task::Tree, b"", &context).unwrap_err().name(), "BadContext");
+    assert_eq!(
+        text(Task::Tree, b"a\xff", &div()).unwrap_err().to_string(),
+        "NotUtf8 at 1"
+    );
+    let replaced = Options {
+        bad_bytes: BadBytes::Replace,
+        ..div()
+    };
+    assert_eq!(
+        text(Task::Tree, b"a\xff", &replaced).unwrap(),
+        "| \"a\u{FFFD}\"\n"
+    );
+    let context = Options {
+        context: "svg",
+        ..Options::default()
+    };
+    assert_eq!(
+        text(Task::Tree, b"", &context).unwrap_err().name(),
+        "BadContext"
+    );
 }
 
 #[test]
