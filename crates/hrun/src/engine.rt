@@ -34,7 +34,8 @@ pub fn run<S: Source, W: Target>(
     target: &mut W,
 ) -> Result<(), Refusal>
     requires piece { 0 < command.piece }
-    ensures { RunsTask S.left S.failed W.written W.failed command.entry.escaping command.entry.task (name_of command.entry.context) (told_by options.now) command.entry.piece
+    ensures { RunsTask S.left S.failed W.written W.failed command.entry.escaping command.entry.task (name_of command.entry.context)
+        (told_by options.now) command.entry.piece
         source.old source.new target.old target.new result }
 {
     match command.task {
@@ -55,7 +56,8 @@ fn run_tokens<S: Source, W: Target>(
     target: &mut W,
 ) -> Result<(), Refusal>
     requires piece { 0 < piece }
-    ensures { Runs S.left S.failed W.written W.failed (Prints (Answers options.now.table.now (of_document options.now.bad_bytes options.now.limits.input)) tokens_text)
+    ensures { Runs S.left S.failed W.written W.failed
+        (Prints (Answers options.now.table.now (of_document options.now.bad_bytes options.now.limits.input)) tokens_text)
         (IsUnrefusedText (as_document options.now.table.now options.now.bad_bytes options.now.limits.input)) piece
         source.old source.new target.old target.new result }
 {
@@ -78,7 +80,8 @@ fn run_tree<S: Source, W: Target>(
     requires piece { 0 < command.piece }
     ensures { RunsIn S.left S.failed W.written W.failed (name_of command.entry.context)
         (Prints (Parses (told_by options.now) (subject_in (name_of command.entry.context))) (nodes_text (subject_in (name_of command.entry.context))))
-        (IsUnrefused (told_by options.now) (subject_in (name_of command.entry.context))) command.entry.piece source.old source.new target.old target.new result }
+        (IsUnrefused (told_by options.now) (subject_in (name_of command.entry.context)))
+        command.entry.piece source.old source.new target.old target.new result }
 {
     let parsed = parse(alloc, command, options, source)?;
     let answer = print_tree(alloc, &parsed.tree, &parsed.names, parsed.root, target);
@@ -97,7 +100,8 @@ fn run_errors<S: Source, W: Target>(
     requires piece { 0 < command.piece }
     ensures { RunsIn S.left S.failed W.written W.failed (name_of command.entry.context)
         (Prints (Parses (told_by options.now) (subject_in (name_of command.entry.context))) errors_text)
-        (IsUnrefused (told_by options.now) (subject_in (name_of command.entry.context))) command.entry.piece source.old source.new target.old target.new result }
+        (IsUnrefused (told_by options.now) (subject_in (name_of command.entry.context)))
+        command.entry.piece source.old source.new target.old target.new result }
 {
     let parsed = parse(alloc, command, options, source)?;
     let answer = print_errors(alloc, &parsed.errors, target);
@@ -115,8 +119,10 @@ fn run_write<S: Source, W: Target>(
 ) -> Result<(), Refusal>
     requires piece { 0 < command.piece }
     ensures { RunsIn S.left S.failed W.written W.failed (name_of command.entry.context)
-        (Prints (Parses (told_by options.now) (subject_in (name_of command.entry.context))) (written_text command.entry.escaping (subject_in (name_of command.entry.context))))
-        (IsUnrefused (told_by options.now) (subject_in (name_of command.entry.context))) command.entry.piece source.old source.new target.old target.new result }
+        (Prints (Parses (told_by options.now) (subject_in (name_of command.entry.context)))
+        (written_text command.entry.escaping (subject_in (name_of command.entry.context))))
+        (IsUnrefused (told_by options.now) (subject_in (name_of command.entry.context)))
+        command.entry.piece source.old source.new target.old target.new result }
 {
     let parsed = parse(alloc, command, options, source)?;
     let answer = serialize(
@@ -142,7 +148,8 @@ fn run_plain<S: Source, W: Target>(
     requires piece { 0 < command.piece }
     ensures { RunsIn S.left S.failed W.written W.failed (name_of command.entry.context)
         (Prints (Parses (told_by options.now) (subject_in (name_of command.entry.context))) (plain_text (subject_in (name_of command.entry.context))))
-        (IsUnrefused (told_by options.now) (subject_in (name_of command.entry.context))) command.entry.piece source.old source.new target.old target.new result }
+        (IsUnrefused (told_by options.now) (subject_in (name_of command.entry.context)))
+        command.entry.piece source.old source.new target.old target.new result }
 {
     let parsed = parse(alloc, command, options, source)?;
     let is_plain = is_plain_in(command.context, &parsed);

@@ -54,5 +54,6 @@ Puts old new bytes (Err refusal) = Fails refusal old new bytes
 -- What was held was handed over and handed on, or a call failed.
 abbrev pub Ends : Taken → Taken → Result (Unit {0}) Refusal → Type 0
 Ends old new (Ok _) = (new.name ≡ old.name) × Appends old.bytes new.bytes old.held × (new.failures ≡ old.failures)
-Ends old new (Err refusal) = (refusal ≡ Write) × (new.name ≡ old.name) × (done : List ℕ) × (rest : List ℕ) × (old.held ≡ done ++ rest) × Appends old.bytes new.bytes done
+Ends old new (Err refusal) = (refusal ≡ Write) × (new.name ≡ old.name)
+    × (done : List ℕ) × (rest : List ℕ) × (old.held ≡ done ++ rest) × Appends old.bytes new.bytes done
     × (new.failures ≡ counted old.failures)

@@ -169,7 +169,8 @@ fn put_node<'a, W: Target>(
     requires deep { depth < 2 ^ 33 }
     requires room { attribute_count (what_of node tree.now.trees) ≤ vec_capacity entries.old }
     requires lent { IsLent names.now tree.now.made tree.now.trees node }
-    ensures text { Puts (taken W.written W.failed out.old) (taken W.written W.failed out.new) (lines_of (text_of names.now) depth (what_of node tree.now.trees)) result }
+    ensures text { Puts (taken W.written W.failed out.old) (taken W.written W.failed out.new)
+        (lines_of (text_of names.now) depth (what_of node tree.now.trees)) result }
     ensures room { vec_capacity entries.old ≤ vec_capacity entries.new }
 {
     match Node::of(tree, node) {
@@ -193,7 +194,8 @@ fn put_visit<'a, W: Target>(
     requires deep { depth < 2 ^ 33 }
     requires room { attribute_count (what_of (node_of visit.now) tree.now.trees) ≤ vec_capacity entries.old }
     requires lent { IsLent names.now tree.now.made tree.now.trees (node_of visit.now) }
-    ensures text { Puts (taken W.written W.failed out.old) (taken W.written W.failed out.new) (visit_lines (text_of names.now) tree.now.trees depth visit.now) result }
+    ensures text { Puts (taken W.written W.failed out.old) (taken W.written W.failed out.new)
+        (visit_lines (text_of names.now) tree.now.trees depth visit.now) result }
     ensures room { vec_capacity entries.old ≤ vec_capacity entries.new }
 {
     match visit {
@@ -249,7 +251,8 @@ fn put_nodes<'a, W: Target>(
     requires made { root < tree.now.made }
     requires room { (n : ℕ) → n < tree.now.made → attribute_count (what_of n tree.now.trees) ≤ vec_capacity entries.old }
     requires names { AreOf names.now (children_of root tree.now.trees) }
-    ensures { Puts (taken W.written W.failed out.old) (taken W.written W.failed out.new) (tree_text (spelled (text_of names.now) (children_of root tree.now.trees))) result }
+    ensures { Puts (taken W.written W.failed out.old) (taken W.written W.failed out.new)
+        (tree_text (spelled (text_of names.now) (children_of root tree.now.trees))) result }
 {
     let mut depth = 0;
     for visit in Walk::new(tree, root, Reach::Whole) {

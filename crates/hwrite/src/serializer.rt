@@ -128,7 +128,8 @@ fn put_opening<W: Target>(
     node: NodeId,
 ) -> Result<(), Refusal>
     requires { IsLent names.now tree.now.made tree.now.trees node }
-    ensures { Puts (taken W.written W.failed out.old) (taken W.written W.failed out.new) (opening_of escaping (text_of names.now) (stands_raw node tree.now.trees) (what_of node tree.now.trees))
+    ensures { Puts (taken W.written W.failed out.old) (taken W.written W.failed out.new)
+        (opening_of escaping (text_of names.now) (stands_raw node tree.now.trees) (what_of node tree.now.trees))
         result }
 {
     match Node::of(tree, node) {
@@ -185,7 +186,8 @@ fn put_children<W: Target>(
     requires table { AreNames names.now }
     requires names { AreOf names.now (children_of node tree.now.trees) }
     ensures { Puts (taken W.written W.failed out.old) (taken W.written W.failed out.new)
-        (written escaping (option_map (text_of names.now) (name_of node tree.now.trees)) (spelled (text_of names.now) (children_of node tree.now.trees))) result }
+        (written escaping (option_map (text_of names.now) (name_of node tree.now.trees))
+        (spelled (text_of names.now) (children_of node tree.now.trees))) result }
 {
     for visit in Walk::new(tree, node, Reach::Written) {
         put_visit(out, escaping, tree, names, visit)?;
