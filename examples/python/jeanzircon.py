@@ -58,7 +58,8 @@ def tree(page, **told):
     answer, rooms, given = Answer(), (len(page) // 16 + 64, len(page) * 2 + 256), options(**told)
     while True:
         rows, words = (Row * rooms[0])(), ctypes.create_string_buffer(rooms[1])
-        LIBRARY.jz_tree(page, ctypes.c_size_t(len(page)), ctypes.byref(given), rows, ctypes.c_size_t(rooms[0]), words, ctypes.c_size_t(rooms[1]), ctypes.byref(answer))
+        sizes = [ctypes.c_size_t(it) for it in (len(page), *rooms)]
+        LIBRARY.jz_tree(page, sizes[0], ctypes.byref(given), rows, sizes[1], words, sizes[2], ctypes.byref(answer))
         if answer.status == 0:
             each = words.raw[:answer.length].split(b"\xfe")
             return [(row, [word.decode() for word in node.split(b"\xff")[:-1]]) for row, node in zip(rows[:answer.nodes], each)]

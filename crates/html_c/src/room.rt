@@ -54,8 +54,10 @@ pub(crate) fn put_rows(
     row_room: &mut [NodeRow],
     word_room: &mut [u8],
 ) -> Answer
-    ensures rows { row_room.new ≡ put_over (nat_le (length rows.now) (length row_room.old) && nat_le (length words.now) (length word_room.old)) rows.now row_room.old }
-    ensures words { word_room.new ≡ put_over (nat_le (length rows.now) (length row_room.old) && nat_le (length words.now) (length word_room.old)) words.now word_room.old }
+    ensures rows { row_room.new ≡ put_over (nat_le (length rows.now) (length row_room.old) && nat_le (length words.now) (length word_room.old))
+        rows.now row_room.old }
+    ensures words { word_room.new ≡ put_over (nat_le (length rows.now) (length row_room.old) && nat_le (length words.now) (length word_room.old))
+        words.now word_room.old }
     ensures answer { result ≡ room_answer (nat_le (length rows.now) (length row_room.old) && nat_le (length words.now) (length word_room.old))
         (length words.now) (length rows.now) }
 {

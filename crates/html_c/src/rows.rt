@@ -47,7 +47,8 @@ fn push_word(words: &mut Vec<u8>, word: &str) -> Result<(), AllocError>
 /// Adds the words of attributes.
 fn push_attributes(words: &mut Vec<u8>, names: &Names, attrs: &[Attr]) -> Result<(), AllocError>
     requires { AttributesAreOf names.now (map attribute_of attrs.now) }
-    ensures { OnOk result (words.new.items ≡ words.old.items ++ flat_map attribute_words (map (spelled_attribute (text_of names.now)) (map attribute_of attrs.now))) }
+    ensures { OnOk result (words.new.items ≡ words.old.items
+        ++ flat_map attribute_words (map (spelled_attribute (text_of names.now)) (map attribute_of attrs.now))) }
 {
     for attr in attrs {
         push_word(words, name_text(names, attr.name))?;
