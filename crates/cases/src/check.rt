@@ -47,8 +47,12 @@ pub fn check(alloc: Global, case: &Case) -> Result<bool> {
 }
 
 /// Whether the input comes to it in pieces of each size.
-fn comes_in_pieces(alloc: Global, case: &Case, command: Command, options: &Options) -> Result<bool>
-{
+fn comes_in_pieces(
+    alloc: Global,
+    case: &Case,
+    command: Command,
+    options: &Options,
+) -> Result<bool> {
     for piece in PIECES {
         let command = Command { piece, ..command };
         if !comes(alloc, case, command, options, case.input.as_slice())? {
@@ -91,8 +95,7 @@ impl<'a> Read for Failing<'a> {
 }
 
 /// Whether the refusal comes with the last byte: a reader that would fail after it is not asked, and one that fails before it is.
-fn comes_at_once(alloc: Global, case: &Case, command: Command, options: &Options) -> Result<bool>
-{
+fn comes_at_once(alloc: Global, case: &Case, command: Command, options: &Options) -> Result<bool> {
     let command = Command {
         piece: 1,
         ..command

@@ -27,7 +27,7 @@ enum Line<'a> {
 /// More than any stored tree has.
 const NODES: u32 = 1_000;
 
-/// The list of a text in the form that `print_tree` writes, in an element of this name.
+/// The list of a text in the form that `tree_text` writes, in an element of this name.
 pub fn grow(alloc: Global, context: &str, text: &str) -> Result<Grown>
     ensures { IfOk result IsGrown }
 {

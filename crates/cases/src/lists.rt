@@ -8,7 +8,7 @@ use crate::grow::{Grown, grow};
 use crate::records::{Record, Section};
 use anyhow::{Context, Result, bail};
 use hrun::Counted;
-use hwrite::{Escaping, Target, is_plain, print_tree, serialize};
+use hwrite::{Escaping, Target, is_plain, serialize, serialize_to_vec, tree_text};
 use std::alloc::Global;
 use std::mem;
 
@@ -104,22 +104,20 @@ impl List {
 fn texts(alloc: Global, grown: &Grown) -> Result<(Vec<u8>, Vec<u8>)>
     requires { IsGrown grown.now }
 {
-    let mut out = Counted::new(Vec::new(alloc));
-    if print_tree(alloc, &grown.tree, &grown.names, grown.root, &mut out).is_err() {
+    let Ok(tree) = tree_text(alloc, &grown.tree, &grown.names, grown.root) else {
         bail!("no text of a tree");
-    }
-    Ok((out.into_inner(), html(alloc, grown, Escaping::One)?))
+    };
+    Ok((tree, html(alloc, grown, Escaping::One)?))
 }
 
 /// The tree's HTML.
 fn html(alloc: Global, grown: &Grown, escaping: Escaping) -> Result<Vec<u8>>
     requires { IsGrown grown.now }
 {
-    let mut out = Counted::new(Vec::new(alloc));
-    if !takes_html(alloc, grown, escaping, &mut out) {
-        bail!("a tree is not written");
+    match serialize_to_vec(alloc, &grown.tree, &grown.names, grown.root, escaping) {
+        Ok(written) => Ok(written),
+        Err(_) => bail!("a tree is not written"),
     }
-    Ok(out.into_inner())
 }
 
 /// Whether a writer takes the tree's HTML.
