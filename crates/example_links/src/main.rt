@@ -28,7 +28,7 @@ fn parse(alloc: Global, bytes: &[u8]) -> Result<Parsed, Refusal> {
 
 fn print_links(rt: &HostRuntime, page: &mut Parsed) -> anyhow::Result<()> {
     let href = page.names.intern(rt.alloc(), "href")?;
-    for node in page.tree.descendants(page.root) {
+    for node in page.tree.descendants(page.tree.document()) {
         if page.tree.is(node, Tag::A) {
             if let Some(link) = page.tree.attr(node, href) {
                 let text = page.tree.text_content(rt.alloc(), node)?;
