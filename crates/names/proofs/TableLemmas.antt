@@ -1,24 +1,28 @@
 -- Laws of a table's texts.
-use Rattle.std.proofs.Common.{◌≡◌, ℕ, zero, suc, ◌<◌, ◌≤◌, ◌^◌, true, false, List, [], ◌∷◌, ◌++◌, length, map, get_or, Option, Some, None, sym, refl, ap, ◌∙◌, arith, rules}
-use Rattle.std.proofs.lemmas.List.{map-append, take-append-le, length-take, length-append}
+use Rattle.std.proofs.Common.{◌≡◌, ℕ, zero, suc, ◌+◌, ◌-◌, ◌<◌, ◌≤◌, ◌^◌, true, false, List, [], ◌∷◌, ◌++◌, length, map, get_or, Option, Some, None, sym, refl, ap, ◌∙◌, arith, rules}
+use Rattle.std.proofs.lemmas.List.{append_assoc, map-append, get_or_append_left, length-append}
 use Rattle.std.proofs.lemmas.Map.Keys.{apart_from_distinct}
 use Rattle.std.proofs.lemmas.Slice.Eq.{bytes_eq-Decides}
 use Rattle.std.proofs.lemmas.List.Quantifiers.{position-Some}
 use Rattle.std.proofs.lemmas.Grind.{common_steps}
-use Rattle.std.specs.Prelude.{String, slice_get}
-use Rattle.std.specs.List.{IsDistinct, position, list_any}
+use Rattle.std.specs.Prelude.{String, option_map, slice_get}
+use Rattle.std.specs.List.{IsDistinct, position, list_all, list_any}
 use Rattle.indexmap.specs.IndexSet.{insert_key}
-use Rattle.std.proofs.Common.{cond, is_some, nat_lt}
+use Rattle.std.proofs.Common.{append-nil, zero-add, cond, is_some, nat_lt, not, ◌&&◌, true≢false}
 use Rattle.std.proofs.lemmas.Bool.Decides.{nat_tests}
 use Rattle.std.specs.Str.{bytes_eq}
 use Rattle.std.specs.String.{string_bytes, string_eq}
 use Rattle.std.proofs.Math.ListN.{length-map}
-use Rattle.std.proofs.lemmas.Bool.{cases_lt}
-use Rattle.std.proofs.lemmas.Option.{slice_get-get_or}
+use Rattle.std.proofs.Math.Seq.{take-append_seam}
+use Rattle.std.proofs.lemmas.List.Folds.{list_all-append, list_any_at}
+use Rattle.std.proofs.lemmas.Bool.{cases_lt, and_parts}
+use Rattle.std.proofs.lemmas.Option.{slice_get-get_or, slice_get-map}
 use Rattle.std.proofs.Common.{inl, inr}
 use Rattle.names.specs.Names.{Texts, interned, text_of, AreDistinct, AreNames}
 use Rattle.names.specs.Tags.{known}
-use Rattle.names.specs.Table.{IsTable}
+use Rattle.names.specs.Table.{AreOthers, is_other}
+use Rattle.names.proofs.Handing.{slice_get-append}
+use Rattle.names.proofs.KnownTexts.{known-distinct}
 
 -- the test of two texts tells whether they are equal
 pub bytes_eq-true : (xs ys : List ℕ) → bytes_eq xs ys ≡ true → xs ≡ ys
@@ -64,14 +68,13 @@ distinct_from (k ∷ ks) h i j p q same =
 pub grown : {A : Type 0} (old new : List (String A)) (key : String A) → list_any (string_eq key) old ≡ false → new ≡ insert_key string_eq old key → new ≡ old ++ key ∷ []
 grown old new key absent e = e ∙ ap (λ b. cond b old (old ++ key ∷ [])) absent
 
--- the table with a new key last
-pub table_grown : {A : Type 0} (old new : List (String A)) (key : String A) → IsTable old → length old < 2 ^ 32 → IsDistinct string_eq new → new ≡ old ++ key ∷ [] → IsTable new
-table_grown old new key h room distinct e = record {
-  known_first =
-      let long : length known ≤ length (map string_bytes old) = omega (arith, length-take (length known) (map string_bytes old), ap length h.known_first) in
-      rw (e, map-append) (rw take-append-le h.known_first);
+-- the texts beside the known ones, with a new one last
+pub others_grown : {A : Type 0} (old new : List (String A)) (key : String A) → AreOthers old → length known + length old < 2 ^ 32 → list_any (bytes_eq (string_bytes key)) known ≡ false
+    → IsDistinct string_eq new → new ≡ old ++ key ∷ [] → AreOthers new
+others_grown old new key h room other distinct e = record {
+  others = rw e (list_all-append is_other old (key ∷ []) ∙ ap (λ b. b && (not (list_any (bytes_eq (string_bytes key)) known) && true)) h.others ∙ ap (λ b. not b && true) other);
   distinct = distinct;
-  fits = rw (e, length-append) (omega (arith, room));
+  fits = omega (arith, room, ap length e, length-append old (key ∷ []));
 }
 
 -- no key has the text that was looked for in vain
@@ -88,12 +91,6 @@ number_from_position (k ∷ ks) i text h =
     let e : text_of (map string_bytes (k ∷ ks)) i ≡ text = text_of-position (k ∷ ks) i text h in
     slice_get-get_or (map string_bytes (k ∷ ks)) i [] within ∙ ap Some e
 
--- the text of the key at a place
-pub text_of-key : {A : Type 0} (keys : List (String A)) (i : ℕ) (key : String A) → slice_get keys i ≡ Some key → slice_get (map string_bytes keys) i ≡ Some (string_bytes key)
-text_of-key [] i key h = cc
-text_of-key (k ∷ ks) zero key h = cc
-text_of-key (k ∷ ks) (suc i) key h = text_of-key ks i key h
-
 -- the number of a text that was put in last
 pub number_last : {A : Type 0} (old new : List (String A)) (key : String A) (text : List ℕ) → string_bytes key ≡ text → new ≡ old ++ key ∷ [] → slice_get (map string_bytes new) (length old) ≡ Some text
 number_last {A = A} old new key text is e = rw e (go old)
@@ -102,9 +99,96 @@ number_last {A = A} old new key text is e = rw e (go old)
     go [] = ap Some is
     go (k ∷ ks) = go ks
 
+-- what stands after others
+pub text_of-after : (xs ys : Texts) (i : ℕ) → length xs ≤ i → text_of (xs ++ ys) i ≡ text_of ys (i - length xs)
+text_of-after [] ys i past = let e : i ≡ i - 0 = omega arith in ap (text_of ys) e
+text_of-after (x ∷ xs) ys zero past = absurd (omega (arith, past))
+text_of-after (x ∷ xs) ys (suc i) past =
+    let e : i - length xs ≡ suc i - suc (length xs) = omega arith in
+    text_of-after xs ys i (omega (arith, past)) ∙ ap (text_of ys) e
+
+pub slice_get-after : (xs ys : Texts) (i : ℕ) → slice_get (xs ++ ys) (length xs + i) ≡ slice_get ys i
+slice_get-after [] ys i = ap (slice_get ys) (zero-add i)
+slice_get-after (x ∷ xs) ys i =
+    let e : suc (length xs) + i ≡ suc (length xs + i) = omega arith in
+    ap (slice_get (x ∷ xs ++ ys)) e ∙ slice_get-after xs ys i
+
+-- texts that are different, after others that are
+joined : (xs ys : Texts) → AreDistinct xs → AreDistinct ys → ((i j : ℕ) → i < length xs → j < length ys → text_of xs i ≡ text_of ys j → ⊥) → AreDistinct (xs ++ ys)
+joined xs ys first last differ i j p q same =
+    let p' : i < length xs + length ys = simp length-append at p in
+    let q' : j < length xs + length ys = simp length-append at q in
+    elim (cases_lt i (length xs)) [
+      | inl i_in ↦ elim (cases_lt j (length xs)) [
+        | inl j_in ↦ first i j i_in j_in (sym (get_or_append_left xs ys [] i i_in) ∙ same ∙ get_or_append_left xs ys [] j j_in)
+        | inr j_past ↦ absurd (differ i (j - length xs) i_in (omega (arith, q', j_past)) (sym (get_or_append_left xs ys [] i i_in) ∙ same ∙ text_of-after xs ys j j_past))
+      ]
+      | inr i_past ↦ elim (cases_lt j (length xs)) [
+        | inl j_in ↦ absurd (differ j (i - length xs) j_in (omega (arith, p', i_past)) (sym (get_or_append_left xs ys [] j j_in) ∙ sym same ∙ text_of-after xs ys i i_past))
+        | inr j_past ↦
+            let e = last (i - length xs) (j - length xs) (omega (arith, p', i_past)) (omega (arith, q', j_past)) (sym (text_of-after xs ys i i_past) ∙ same ∙ text_of-after xs ys j j_past) in
+            omega (arith, e, i_past, j_past)
+      ]
+    ]
+
+-- none of the others is a known name
+none_known : {A : Type 0} (keys : List (String A)) (i j : ℕ) → list_all is_other keys ≡ true → i < length known → j < length (map string_bytes keys)
+    → text_of known i ≡ text_of (map string_bytes keys) j → ⊥
+none_known [] i j h p q e = absurd (omega (arith, q))
+none_known (k ∷ ks) i zero h p q e =
+    let is : list_any (bytes_eq (string_bytes k)) known ≡ true = list_any_at (bytes_eq (string_bytes k)) known i [] p ((bytes_eq-Decides (string_bytes k) (text_of known i)).1 (sym e)) in
+    true≢false (sym (and_parts (is_other k) (list_all is_other ks) h).0 ∙ ap not is)
+none_known (k ∷ ks) i (suc j) h p q e = none_known ks i j (and_parts (is_other k) (list_all is_other ks) h).1 p (omega (arith, q)) e
+
 -- a table's texts are names
-pub are_names : {A : Type 0} (keys : List (String A)) → IsTable keys → AreNames (map string_bytes keys)
-are_names keys h = record { known_first = h.known_first; distinct = distinct_from keys h.distinct }
+pub are_names : {A : Type 0} (keys : List (String A)) → AreOthers keys → AreNames (known ++ map string_bytes keys)
+are_names keys h = record {
+  known_first = take-append_seam known (map string_bytes keys);
+  distinct = joined known (map string_bytes keys) known-distinct (distinct_from keys h.distinct) (λ i j. none_known keys i j h.others);
+}
+
+-- the number of one of the others that was found, and of one that was put in last
+pub number_after : {A : Type 0} (keys : List (String A)) (i : ℕ) (text : List ℕ) → position (λ k. bytes_eq text (string_bytes k)) keys ≡ Some i
+    → slice_get (known ++ map string_bytes keys) (length known + i) ≡ Some text
+number_after keys i text h = slice_get-after known (map string_bytes keys) i ∙ number_from_position keys i text h
+
+pub number_after_all : {A : Type 0} (old new : List (String A)) (key : String A) (text : List ℕ) → string_bytes key ≡ text → new ≡ old ++ key ∷ []
+    → slice_get (known ++ map string_bytes new) (length known + length old) ≡ Some text
+number_after_all old new key text is e = slice_get-after known (map string_bytes new) (length old) ∙ number_last old new key text is e
+
+-- how long a table is, and what it is with one more
+pub table_length : {A : Type 0} (keys : List (String A)) (names : Texts) → known ++ map string_bytes keys ≡ names → length names ≡ length known + length keys
+table_length keys names e = ap length (sym e) ∙ length-append known (map string_bytes keys) ∙ ap (λ n. length known + n) (length-map keys string_bytes)
+
+pub table_grown : {A : Type 0} (old new : List (String A)) (key : String A) (names : Texts) → known ++ map string_bytes old ≡ names → new ≡ old ++ key ∷ []
+    → known ++ map string_bytes new ≡ names ++ string_bytes key ∷ []
+table_grown old new key names is e =
+    ap (λ (x : Texts). known ++ x) (ap (map string_bytes) e ∙ map-append string_bytes old (key ∷ [])) ∙ sym (append_assoc known (map string_bytes old) (string_bytes key ∷ []))
+    ∙ ap (λ (x : Texts). x ++ string_bytes key ∷ []) is
+
+-- what stands at a place after the known names
+pub slice_get-past : (xs ys : Texts) (i : ℕ) → length xs ≤ i → slice_get (xs ++ ys) i ≡ slice_get ys (i - length xs)
+slice_get-past xs ys i past =
+    let e : i ≡ length xs + (i - length xs) = omega (arith, past) in
+    ap (slice_get (xs ++ ys)) e ∙ slice_get-after xs ys (i - length xs)
+
+pub other_at : {A : Type 0} (keys : List (String A)) (names : Texts) (i : ℕ) (key : Option (String A)) → known ++ map string_bytes keys ≡ names → length known ≤ i
+    → key ≡ slice_get keys (i - 128) → slice_get names i ≡ option_map string_bytes key
+other_at keys names i key is past found =
+    ap (λ (x : Texts). slice_get x i) (sym is) ∙ slice_get-past known (map string_bytes keys) i past
+    ∙ slice_get-map string_bytes keys (i - 128) ∙ ap (option_map string_bytes) (sym found)
+
+pub slice_get-within : (xs ys : Texts) (i : ℕ) → i < length xs → slice_get (xs ++ ys) i ≡ slice_get xs i
+slice_get-within xs ys i within =
+    let e : slice_get xs i ≡ Some (text_of xs i) = slice_get-get_or xs i [] within in
+    slice_get-append xs ys i (text_of xs i) e ∙ sym e
+
+-- nothing beside the known names
+pub no_others : {A : Type 0} (keys : List (String A)) → keys ≡ [] → IsDistinct string_eq keys → AreOthers keys
+no_others keys none distinct = record { others = ap (list_all is_other) none; distinct = distinct; fits = omega (arith, ap length none) }
+
+pub no_others_known : {A : Type 0} (keys : List (String A)) → keys ≡ [] → known ++ map string_bytes keys ≡ known
+no_others_known keys none = ap (λ (x : List (String _)). known ++ map string_bytes x) none ∙ append-nil known
 
 -- a number that was there, and the next one
 pub interned-there : (names : Texts) (id : ℕ) (text : List ℕ) → id < length names → names ≡ interned text id names

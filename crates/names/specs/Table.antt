@@ -1,21 +1,20 @@
 -- How a table keeps its texts.
-use Rattle.std.specs.Prelude.{◌≡◌, ◌≤◌, ◌^◌, ℕ, Bool, true, not, ◌&&◌, List, [], ◌∷◌, ◌++◌, length, take, map, String, bytes_eq}
-use Rattle.std.specs.List.{IsDistinct, list_any}
+use Rattle.std.specs.Prelude.{ℕ, ◌-◌, ◌&&◌, nat_le, if◌then◌else◌, Option, Some, None, [], ◌∷◌, ◌≡◌, ◌≤◌, ◌+◌, ◌^◌, Bool, true, not, List, length, String, bytes_eq}
+use Rattle.std.specs.List.{IsDistinct, list_all, list_any}
 use Rattle.std.specs.String.{string_bytes, string_eq}
 use Rattle.names.specs.Tags.{known}
 
--- the known texts come first, no two texts are equal, and the place of each is a number of 32 bits
-pub record IsTable {A : Type 0} (keys : List (String A)) : Type 0 where
-  pub known_first : take (length known) (map string_bytes keys) ≡ known
-  pub distinct : IsDistinct string_eq keys
-  pub fits : length keys ≤ 2 ^ 32
+-- whether a text is none of the known names
+abbrev pub is_other : {A : Type 0} → String A → Bool
+is_other text = not (list_any (bytes_eq (string_bytes text)) known)
 
--- keys with these texts, no two of which are equal
-pub record HoldsTexts {A : Type 0} (keys : List (String A)) (texts : List (List ℕ)) : Type 0 where
-  pub texts_are : map string_bytes keys ≡ texts
+-- the texts that are kept: none is a known name, no two are equal, and the number of each has 32 bits
+pub record AreOthers {A : Type 0} (keys : List (String A)) : Type 0 where
+  pub others : list_all is_other keys ≡ true
   pub distinct : IsDistinct string_eq keys
+  pub fits : length known + length keys ≤ 2 ^ 32
 
--- each text is equal to none before it, nor to one that was there already
-abbrev pub are_new : List (List ℕ) → List (List ℕ) → Bool
-are_new there [] = true
-are_new there (text ∷ texts) = not (list_any (bytes_eq text) there) && are_new (there ++ text ∷ []) texts
+-- which letter a text begins with, from 0 for `a`
+abbrev pub letter_of : List ℕ → Option ℕ
+letter_of [] = None
+letter_of (byte ∷ bytes) = if nat_le 97 byte && nat_le byte 122 then Some (byte - 97) else None

@@ -6,6 +6,7 @@ pub mod attr;
 pub mod error;
 pub mod groups;
 pub mod keys;
+mod known;
 pub mod laws;
 pub mod placed;
 pub mod raw;

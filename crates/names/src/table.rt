@@ -1,13 +1,13 @@
 //! Names as numbers.
 
-ghost use Rattle.std.specs.Prelude.{◌≡◌, ◌≢◌, ℕ, ◌<◌, List, [], ◌∷◌, ◌++◌, IfOk, IfSome, OnErr, bytes_eq, length, map, slice_get, Some, true, false};
+ghost use Rattle.std.specs.Prelude.{◌≡◌, ◌≢◌, ℕ, ◌<◌, List, [], ◌∷◌, ◌++◌, IfOk, IfSome, OnErr, bytes_eq, option_map, length, map, slice_get, Some, true, false};
 ghost use Rattle.std.specs.List.{list_any};
 ghost use Rattle.names.specs.Names.{Texts, IsOf, Grows, interned, AreNames};
-ghost use Rattle.names.specs.Table.{are_new, HoldsTexts};
 ghost use Rattle.names.specs.Tags.{known, tags, type_name, tag_of, number_of, tag_named, tag_text};
 ghost use Rattle.names.specs.declared.tag.Tag.{Tag as KnownTag};
 
 use crate::keys::Keys;
+use crate::known::{KNOWN, known_number, known_text};
 use crate::tag::{TAGS, Tag};
 use indexmap::IndexSet;
 use std::alloc::{AllocError, Global};
@@ -72,30 +72,6 @@ impl Tag {
     }
 }
 
-/// The name of the attribute that says whether an input is hidden.
-const TYPE: &str = "type";
-
-/// Puts a copy of a text last in a set, where the text is not there yet.
-fn put_last(texts: &mut IndexSet<String, Keys>, alloc: Global, text: &str) -> Result<(), AllocError>
-    ensures { IfOk result (λ _. (there : List (List ℕ)) → HoldsTexts texts.old.keys there → list_any (bytes_eq text.now) there ≡ false
-        → HoldsTexts texts.new.keys (there ++ text.now ∷ [])) }
-{
-    texts.insert(String::from_str(alloc, text)?)?;
-    Ok(())
-}
-
-/// The texts of tags in their order, no two of which are equal.
-fn tag_texts(alloc: Global, keys: Keys, tags: &[Tag]) -> Result<IndexSet<String, Keys>, AllocError>
-    requires { are_new [] (map tag_text tags.now) ≡ true }
-    ensures { IfOk result (λ texts. HoldsTexts texts.keys (map tag_text tags.now)) }
-{
-    let mut texts = IndexSet::with_hasher(alloc, keys);
-    for tag in tags {
-        put_last(&mut texts, alloc, tag.text())?;
-    }
-    Ok(texts)
-}
-
 /// How many slots there are for the numbers that were found last.
 const SLOTS: usize = 64;
 
@@ -115,21 +91,23 @@ fn slot_of(text: &str) -> usize
 /// A table of names: texts in the order in which they were added, the known names first.
 #[derive(Drop)]
 pub struct Names {
-    texts: IndexSet<String, Keys>,
+    /// The names that are not known ones.
+    others: IndexSet<String, Keys>,
     /// In each slot the number that was found last for a text of it; such a text is found again without a hash.
     recent: [u32; SLOTS],
 }
 
 impl Model for Names {
-    ghost use Rattle.std.specs.Prelude.{ℕ, List, map};
+    ghost use Rattle.std.specs.Prelude.{ℕ, List, ◌++◌, map};
     ghost use Rattle.std.specs.String.{string_bytes};
-    ghost use Rattle.names.specs.Table.{IsTable};
+    ghost use Rattle.names.specs.Table.{AreOthers};
+    ghost use Rattle.names.specs.Tags.{known};
 
     ghost Value = { List (List ℕ) };
 
-    ghost view = { λ n. map string_bytes n.texts.keys };
+    ghost view = { λ n. known ++ map string_bytes n.others.keys };
 
-    ghost invariant = { λ n. IsTable n.texts.keys };
+    ghost invariant = { λ n. AreOthers n.others.keys };
 }
 
 impl Names {
@@ -142,16 +120,13 @@ impl Names {
         Names::with_keys(alloc, Keys::fixed())
     }
 
-    /// A table of the known names. It allocates and hashes each of them (128 texts), so a table that serves many inputs is
-    /// cheaper than one for each.
+    /// A table of the known names. They are the same for every table, so nothing is allocated for them.
     pub fn with_keys(alloc: Global, keys: Keys) -> Result<Names, AllocError>
         ensures known { IfOk result (λ names. names ≡ known) }
         ensures names { IfOk result AreNames }
     {
-        let mut texts = tag_texts(alloc, keys, &TAGS)?;
-        put_last(&mut texts, alloc, TYPE)?;
         Ok(Names {
-            texts,
+            others: IndexSet::with_hasher(alloc, keys),
             recent: [0; SLOTS],
         })
     }
@@ -168,7 +143,7 @@ impl Names {
         if let Some(id) = self.recent(text) {
             return Ok(id);
         }
-        let id = self.look_up(alloc, text)?;
+        let id = self.find(alloc, text)?;
         self.recent[slot_of(text)] = id.index;
         Ok(id)
     }
@@ -179,16 +154,17 @@ impl Names {
         ensures names { AreNames self.now }
     {
         let index = self.recent[slot_of(text)];
-        let found = self.texts.get_index(index as usize)?;
-        if found.as_str() == text {
+        let found = self.stored(index as usize)?;
+        if found == text {
             Some(NameId { index })
         } else {
             None
         }
     }
 
-    /// The number of a text by its hash.
-    fn look_up(&mut self, alloc: Global, text: &str) -> Result<NameId, AllocError>
+    /// The number of a text, that of a known name without a hash.
+    fn find(&mut self, alloc: Global, text: &str) -> Result<NameId, AllocError>
+        requires names { AreNames self.old }
         ensures number { IfOk result (λ id. slice_get self.new id ≡ Some text.now) }
         ensures tag { IfOk result (λ id. tag_of id ≡ tag_named text.now) }
         ensures grows { Grows self.old self.new }
@@ -196,18 +172,47 @@ impl Names {
         ensures names { AreNames self.new }
         ensures unchanged { OnErr result (self.new ≡ self.old) }
     {
-        match self.texts.get_index_of(text) {
+        match known_number(text) {
+            Some(index) => Ok(NameId { index }),
+            None => self.look_up(alloc, text),
+        }
+    }
+
+    /// The number of a text that is no known name, by its hash.
+    fn look_up(&mut self, alloc: Global, text: &str) -> Result<NameId, AllocError>
+        requires other { list_any (bytes_eq text.now) known ≡ false }
+        ensures number { IfOk result (λ id. slice_get self.new id ≡ Some text.now) }
+        ensures tag { IfOk result (λ id. tag_of id ≡ tag_named text.now) }
+        ensures grows { Grows self.old self.new }
+        ensures added { IfOk result (λ id. self.new ≡ interned text.now id self.old) }
+        ensures names { AreNames self.new }
+        ensures unchanged { OnErr result (self.new ≡ self.old) }
+    {
+        match self.others.get_index_of(text) {
             Some(index) => Ok(NameId {
-                index: index as u32,
+                index: (KNOWN + index) as u32,
             }),
             None => {
-                let Ok(index) = u32::try_from(self.texts.len()) else {
+                let Ok(index) = u32::try_from(KNOWN + self.others.len()) else {
                     return Err(AllocError);
                 };
-                self.texts.insert(String::from_str(alloc, text)?)?;
+                self.others.insert(String::from_str(alloc, text)?)?;
                 Ok(NameId { index })
             }
         }
+    }
+
+    /// The text at a place of the table.
+    fn stored(&self, index: usize) -> Option<&str>
+        ensures text { option_map (λ t. t.now) result ≡ slice_get self.now index }
+        ensures names { AreNames self.now }
+    {
+        let others = &self.others;
+        if index < KNOWN {
+            return known_text(index);
+        }
+        let text = others.get_index(index - KNOWN)?;
+        Some(text.as_str())
     }
 
     /// The text of a name.
@@ -216,7 +221,10 @@ impl Names {
         ensures text { slice_get self.now id ≡ Some result.now }
         ensures names { AreNames self.now }
     {
-        self.texts[id.index()].as_str()
+        match self.stored(id.index()) {
+            Some(text) => text,
+            None => unreachable!(),
+        }
     }
 }
 

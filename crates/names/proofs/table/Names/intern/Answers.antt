@@ -1,6 +1,6 @@
 use Rattle.std.proofs.lemmas.Option.{slice_get_within}
 use Rattle.names.proofs.KnownTags.{tag_of-named}
-use Rattle.names.proofs.TableLemmas.{interned-there}
+use Rattle.names.proofs.TableLemmas.{are_names, interned-there}
 use Rattle.names.proofs.table.Names.intern.Goals as goal
 
 pub returns-in-Some-clause-tag : goal.returns-in-Some-clause-tag
@@ -8,3 +8,6 @@ returns-in-Some-clause-tag c = tag_of-named c.args.self.now c.in-Some.id c.args.
 
 pub returns-in-Some-clause-added : goal.returns-in-Some-clause-added
 returns-in-Some-clause-added c = interned-there c.args.self.now c.in-Some.id c.args.text.now (slice_get_within c.args.self.now c.in-Some.id c.args.text.now c.in-Some.ensures.found)
+
+pub returns-clause-names : goal.returns-clause-names
+returns-clause-names c = are_names _ c.self.invariant

@@ -1,28 +1,29 @@
-use Rattle.std.proofs.Common.{◌≡◌, ℕ, ◌++◌, ◌∷◌, [], map, sym, ◌∙◌, ap, string_bytes, refl}
-use Rattle.std.proofs.lemmas.List.{map-append}
-use Rattle.std.proofs.Math.ListN.{length-map}
-use Rattle.names.proofs.TableLemmas.{interned-there, interned-last, number_from_position, number_last, grown, table_grown, absent, are_names}
-use Rattle.std.specs.Prelude.{List, String, Some, slice_get}
-use Rattle.std.proofs.Common.{Global, subst, arith, length}
+use Rattle.std.proofs.Common.{◌≡◌, ℕ, ◌+◌, ◌++◌, ◌∷◌, [], map, sym, ◌∙◌, ap, string_bytes, refl, Global, subst, arith, length}
+use Rattle.std.proofs.lemmas.Option.{slice_get_within}
+use Rattle.std.specs.Prelude.{List, String, Some, slice_get, bytes_eq}
+use Rattle.std.specs.List.{list_any}
 use Rattle.names.specs.Names.{AreNames}
-use Rattle.names.specs.Table.{IsTable}
+use Rattle.names.specs.Table.{AreOthers}
+use Rattle.names.specs.Tags.{known}
+use Rattle.names.proofs.TableLemmas.{interned-there, interned-last, number_after, number_after_all, table_length, table_grown, others_grown, grown, absent, are_names}
 use Rattle.names.proofs.Handing.{grows_not, grows_same}
 use Rattle.names.proofs.KnownTags.{tag_of-named}
 use Rattle.names.proofs.table.Names.look_up.Goals as goal
 
+found : (c : goal.In-Some) → slice_get c.args.self.now (128 + c.in-Some.index) ≡ Some c.args.text.now
+found c = rw (← c.self.view_is) (number_after c.self.inside.others.keys _ _ (sym c.in-Some.ensures.index))
+
 pub returns-in-Some-clause-number : goal.returns-in-Some-clause-number
-returns-in-Some-clause-number c = rw (← c.self.view_is) (number_from_position c.self.inside.texts.keys _ _ (sym c.in-Some.ensures.index))
+returns-in-Some-clause-number c = found c
 
 pub returns-in-Some-clause-names : goal.returns-in-Some-clause-names
 returns-in-Some-clause-names c = rw (← c.self.view_is) (are_names _ c.self.invariant)
 
 pub returns-in-Some-clause-tag : goal.returns-in-Some-clause-tag
-returns-in-Some-clause-tag c = tag_of-named _ _ _ (are_names _ c.self.invariant) (number_from_position c.self.inside.texts.keys _ _ (sym c.in-Some.ensures.index))
+returns-in-Some-clause-tag c = tag_of-named c.args.self.now _ _ (rw (← c.self.view_is) (are_names _ c.self.invariant)) (found c)
 
 pub returns-in-Some-clause-added : goal.returns-in-Some-clause-added
-returns-in-Some-clause-added c =
-    let count : length c.args.self.now ≡ length c.self.inside.texts.keys = ap length (sym c.self.view_is) ∙ length-map c.self.inside.texts.keys string_bytes in
-    interned-there c.args.self.now c.in-Some.index c.args.text.now (let within = c.in-Some.ensures.within in omega (arith, count, within))
+returns-in-Some-clause-added c = interned-there c.args.self.now _ c.args.text.now (slice_get_within c.args.self.now _ _ (found c))
 
 pub returns-in-Some-clause-grows : goal.returns-in-Some-clause-grows
 returns-in-Some-clause-grows c = grows_not _
@@ -34,10 +35,10 @@ pub returns-in_err-from_str-in-None-clause-grows : goal.returns-in_err-from_str-
 returns-in_err-from_str-in-None-clause-grows c = grows_same _ _ c.self.view_is
 
 pub invariant_of-self-in_err-insert-in-None : goal.invariant_of-self-in_err-insert-in-None
-invariant_of-self-in_err-insert-in-None c = subst (λ (keys : List (String Global)). IsTable keys) (sym c.in_err-insert-in-None.ensures.err) c.self.invariant
+invariant_of-self-in_err-insert-in-None c = subst (λ (keys : List (String Global)). AreOthers keys) (sym c.in_err-insert-in-None.ensures.err) c.self.invariant
 
 pub returns-in_err-insert-in-None-clause-grows : goal.returns-in_err-insert-in-None-clause-grows
-returns-in_err-insert-in-None-clause-grows c = grows_same _ _ (ap (map string_bytes) c.in_err-insert-in-None.ensures.err ∙ c.self.view_is)
+returns-in_err-insert-in-None-clause-grows c = grows_same _ _ (ap (λ (keys : List (String Global)). known ++ map string_bytes keys) c.in_err-insert-in-None.ensures.err ∙ c.self.view_is)
 
 pub returns-in_err-from_str-in-None-clause-names : goal.returns-in_err-from_str-in-None-clause-names
 returns-in_err-from_str-in-None-clause-names c = are_names _ c.self.invariant
@@ -47,44 +48,45 @@ returns-in_default-clause-names c = rw (← c.self.view_is) (are_names _ c.self.
 
 pub returns-in_err-insert-in-None-clause-names : goal.returns-in_err-insert-in-None-clause-names
 returns-in_err-insert-in-None-clause-names c =
-    let P : List (String Global) → Type 0 = λ keys. AreNames (map string_bytes keys) in
-    subst P (sym c.in_err-insert-in-None.ensures.err) (are_names c.self.inside.texts.keys c.self.invariant)
+    let P : List (String Global) → Type 0 = λ keys. AreNames (known ++ map string_bytes keys) in
+    subst P (sym c.in_err-insert-in-None.ensures.err) (are_names c.self.inside.others.keys c.self.invariant)
 
--- the keys with the new one last
-grown_keys : (c : goal.In_ok-insert-in-None) → c.insert.new.self.keys ≡ c.self.inside.texts.keys ++ c.in_ok-from_str-in-None.field-0 ∷ []
-grown_keys c = grown c.self.inside.texts.keys _ c.in_ok-from_str-in-None.field-0
-    (absent c.self.inside.texts.keys c.in_ok-from_str-in-None.field-0 c.args.text.now _ c.in_ok-from_str-in-None.ensures.ok c.in-None.ensures.found refl) c.in_ok-insert-in-None.ensures.keys
+-- the others with the new one last
+grown_keys : (c : goal.In_ok-insert-in-None) → c.insert.new.self.keys ≡ c.self.inside.others.keys ++ c.in_ok-from_str-in-None.field-0 ∷ []
+grown_keys c = grown c.self.inside.others.keys _ c.in_ok-from_str-in-None.field-0
+    (absent c.self.inside.others.keys c.in_ok-from_str-in-None.field-0 c.args.text.now _ c.in_ok-from_str-in-None.ensures.ok c.in-None.ensures.found refl) c.in_ok-insert-in-None.ensures.keys
 
-grown_table : (c : goal.In_ok-insert-in-None) → IsTable c.insert.new.self.keys
-grown_table c = table_grown c.self.inside.texts.keys _ _ c.self.invariant (omega (arith, c.len.ensures.len)) c.insert.ensures.unique (grown_keys c)
+-- how many there were
+number : (c : goal.In_ok-insert-in-None) → c.in-Ok.index ≡ 128 + length c.self.inside.others.keys
+number c = c.in-Ok.ensures.1 ∙ ap (λ n. 128 + n) c.len.ensures.len
+
+grown_others : (c : goal.In_ok-insert-in-None) → AreOthers c.insert.new.self.keys
+grown_others c = others_grown c.self.inside.others.keys _ _ c.self.invariant (let fits = c.in-Ok.ensures in omega (arith, fits, number c))
+    (ap (λ (text : List ℕ). list_any (bytes_eq text) known) c.in_ok-from_str-in-None.ensures.ok ∙ c.requires.other) c.insert.ensures.unique (grown_keys c)
+
+grown_table : (c : goal.In_ok-insert-in-None) → known ++ map string_bytes c.insert.new.self.keys ≡ c.args.self.now ++ c.args.text.now ∷ []
+grown_table c = table_grown c.self.inside.others.keys _ _ c.args.self.now c.self.view_is (grown_keys c)
+    ∙ ap (λ (x : List ℕ). c.args.self.now ++ x ∷ []) c.in_ok-from_str-in-None.ensures.ok
 
 pub invariant_of-self-in-None : goal.invariant_of-self-in-None
-invariant_of-self-in-None c = grown_table c
+invariant_of-self-in-None c = grown_others c
 
 pub returns-in_ok-insert-in-None-clause-grows : goal.returns-in_ok-insert-in-None-clause-grows
-returns-in_ok-insert-in-None-clause-grows c = (
-  string_bytes c.in_ok-from_str-in-None.field-0 ∷ [],
-  ap (map string_bytes) (grown_keys c) ∙ map-append string_bytes _ _ ∙ ap (λ (x : _). x ++ string_bytes c.in_ok-from_str-in-None.field-0 ∷ []) c.self.view_is,
-)
+returns-in_ok-insert-in-None-clause-grows c = (c.args.text.now ∷ [], grown_table c)
 
 pub returns-in_ok-insert-in-None-clause-added : goal.returns-in_ok-insert-in-None-clause-added
 returns-in_ok-insert-in-None-clause-added c =
-    let count : length c.args.self.now ≡ length c.self.inside.texts.keys = ap length (sym c.self.view_is) ∙ length-map c.self.inside.texts.keys string_bytes in
-    ap (map string_bytes) (grown_keys c) ∙ map-append string_bytes _ _ ∙ ap (λ (x : _). x ++ string_bytes c.in_ok-from_str-in-None.field-0 ∷ []) c.self.view_is
-    ∙ ap (λ (x : List ℕ). c.args.self.now ++ x ∷ []) c.in_ok-from_str-in-None.ensures.ok
-    ∙ sym (interned-last c.args.self.now c.in-Ok.index c.args.text.now (let number = c.in-Ok.ensures.1 ∙ c.len.ensures.len in omega (arith, count, number)))
+    let count : length c.args.self.now ≡ 128 + length c.self.inside.others.keys = table_length c.self.inside.others.keys c.args.self.now c.self.view_is in
+    grown_table c ∙ sym (interned-last c.args.self.now c.in-Ok.index c.args.text.now (omega (arith, count, number c)))
 
-stored : (c : goal.In_ok-insert-in-None) → slice_get (map string_bytes c.insert.new.self.keys) c.in-Ok.index ≡ Some c.args.text.now
-stored c = rw (← number) (number_last c.self.inside.texts.keys _ c.in_ok-from_str-in-None.field-0 c.args.text.now c.in_ok-from_str-in-None.ensures.ok (grown_keys c))
-  where
-    number : length c.self.inside.texts.keys ≡ c.in-Ok.index
-    number = sym (c.in-Ok.ensures.1 ∙ c.len.ensures.len)
+stored : (c : goal.In_ok-insert-in-None) → slice_get (known ++ map string_bytes c.insert.new.self.keys) c.in-Ok.index ≡ Some c.args.text.now
+stored c = rw (number c) (number_after_all c.self.inside.others.keys _ c.in_ok-from_str-in-None.field-0 c.args.text.now c.in_ok-from_str-in-None.ensures.ok (grown_keys c))
 
 pub returns-in_ok-insert-in-None-clause-number : goal.returns-in_ok-insert-in-None-clause-number
 returns-in_ok-insert-in-None-clause-number c = stored c
 
 pub returns-in_ok-insert-in-None-clause-names : goal.returns-in_ok-insert-in-None-clause-names
-returns-in_ok-insert-in-None-clause-names c = are_names _ (grown_table c)
+returns-in_ok-insert-in-None-clause-names c = are_names _ (grown_others c)
 
 pub returns-in_ok-insert-in-None-clause-tag : goal.returns-in_ok-insert-in-None-clause-tag
-returns-in_ok-insert-in-None-clause-tag c = tag_of-named _ _ _ (are_names _ (grown_table c)) (stored c)
+returns-in_ok-insert-in-None-clause-tag c = tag_of-named _ c.in-Ok.index _ (are_names _ (grown_others c)) (stored c)

@@ -1,0 +1,105 @@
+-- The known names as they stand in every table.
+use Rattle.std.proofs.Common.{subst, ◌≡◌, ℕ, suc, ◌+◌, ◌<◌, ◌≤◌, Bool, true, false, ◌&&◌, ◌||◌, nat_lt, List, [], ◌∷◌, length, map, sym, refl, ap, ◌∙◌, arith, inl, inr, get_or, Option, Some, None, zero-add, replicate, subst}
+use Rattle.std.proofs.lemmas.Bool.{and_parts, cases_lt, false≢true, leb-true, ltb-true}
+use Rattle.std.proofs.lemmas.List.{get_or-map, get_or-replicate}
+use Rattle.std.proofs.lemmas.List.FromFn.{get_or-range_with_len}
+use Rattle.std.proofs.lemmas.Option.{get_or_from_slice_get, slice_get-get_or, slice_get-map}
+use Rattle.std.proofs.lemmas.Slice.Eq.{bytes_eq-Decides}
+use Rattle.std.specs.Prelude.{bytes_eq, nat_le, option_map, slice_get}
+use Rattle.std.specs.List.{list_any, position, range_with_len}
+use Rattle.names.specs.Names.{Texts, text_of, AreDistinct}
+use Rattle.names.specs.Table.{letter_of}
+use Rattle.names.specs.Tags.{known, tags, tag_text, type_name}
+use Rattle.names.specs.declared.known.TheConstants.{FIRST}
+use Rattle.names.specs.declared.tag.Tag.{Tag}
+use Rattle.names.specs.declared.tag.Tag.TheVariants.{A}
+use Rattle.names.proofs.Handing.{slice_get-append}
+use Rattle.names.proofs.KnownTags.{different}
+
+-- each has the place at which it stands alone
+places : map (λ t. position (bytes_eq t) known) known ≡ map Some (range_with_len 0 128)
+places = refl
+
+place_of : (i : ℕ) → i < 128 → position (bytes_eq (text_of known i)) known ≡ Some i
+place_of i within =
+    sym (get_or-map (λ t. position (bytes_eq t) known) known i [] None within) ∙ ap (λ (x : List (Option ℕ)). get_or x i None) places
+    ∙ get_or-map Some (range_with_len 0 128) i 0 None within ∙ ap Some (get_or-range_with_len 0 128 i 0 within ∙ zero-add i)
+
+pub known-distinct : AreDistinct known
+known-distinct i j p q same =
+    let e : Some i ≡ Some j = sym (place_of i p) ∙ ap (λ t. position (bytes_eq t) known) same ∙ place_of j q in
+    cc
+
+-- a known name that is no attribute's
+pub known_tag : (i : ℕ) (t : Tag) → i < 127 → slice_get known i ≡ Some (tag_text (get_or tags i t))
+known_tag i t within =
+    slice_get-append (map tag_text tags) (type_name ∷ []) i (tag_text (get_or tags i t))
+    (slice_get-map tag_text tags i ∙ ap (option_map tag_text) (slice_get-get_or tags i t within))
+
+-- where a text that begins with a letter stands, if it is a known name
+abbrev stands : Option ℕ → ℕ → Bool
+stands None i = false
+stands (Some letter) i = nat_le (get_or FIRST letter 0) i && nat_lt i (get_or FIRST (letter + 1) 0)
+
+in_order : map (λ i. stands (letter_of (get_or known i [])) i) (range_with_len 0 127) ≡ replicate 127 true
+in_order = refl
+
+stands_at : (i : ℕ) → i < 127 → stands (letter_of (text_of known i)) i ≡ true
+stands_at i within =
+    ap (λ (n : ℕ). stands (letter_of (text_of known n)) n) (sym (get_or-range_with_len 0 127 i 0 within ∙ zero-add i))
+    ∙ sym (get_or-map (λ n. stands (letter_of (get_or known n [])) n) (range_with_len 0 127) i 0 false within)
+    ∙ ap (λ (x : List Bool). get_or x i false) in_order ∙ get_or-replicate 127 i true false within
+
+none_any : (p : List ℕ → Bool) (xs : Texts) → ((i : ℕ) → i < length xs → p (text_of xs i) ≡ false) → list_any p xs ≡ false
+none_any p [] h = refl
+none_any p (x ∷ xs) h = ap (λ b. b || list_any p xs) (h 0 (omega arith)) ∙ none_any p xs (λ i l. h (suc i) (omega (arith, l)))
+
+-- no known name from the first with this letter up to a number is the text
+abbrev pub Passed : (letter end : ℕ) → List ℕ → Type 0
+Passed letter end text = (i : ℕ) → get_or FIRST letter 0 ≤ i → i < end → bytes_eq (text_of known i) text ≡ false
+
+pub passed_none : (letter : ℕ) (text : List ℕ) → Passed letter (get_or FIRST letter 0) text
+passed_none letter text i from to = absurd (omega (arith, from, to))
+
+pub passed_more : (letter end : ℕ) (text : List ℕ) → end < 127 → Passed letter end text → bytes_eq (tag_text (get_or tags end A)) text ≡ false → Passed letter (end + 1) text
+passed_more letter end text within h not_it i from to = elim (cases_lt i end) [
+  | inl less ↦ h i from less
+  | inr past ↦
+      let e : i ≡ end = omega (arith, to, past) in
+      ap (λ (n : ℕ). bytes_eq (text_of known n) text) e
+      ∙ ap (λ (x : List ℕ). bytes_eq x text) (get_or_from_slice_get known end (tag_text (get_or tags end A)) [] (known_tag end A within)) ∙ not_it
+]
+
+first_most : map (λ n. nat_le (get_or FIRST n 0) 127) (range_with_len 0 27) ≡ replicate 27 true
+first_most = refl
+
+first_within : (n : ℕ) → n < 27 → get_or FIRST n 0 ≤ 127
+first_within n within = leb-true (get_or FIRST n 0) 127
+    (ap (λ (k : ℕ). nat_le (get_or FIRST k 0) 127) (sym (get_or-range_with_len 0 27 n 0 within ∙ zero-add n))
+    ∙ sym (get_or-map (λ n. nat_le (get_or FIRST n 0) 127) (range_with_len 0 27) n 0 false within)
+    ∙ ap (λ (x : List Bool). get_or x n false) first_most ∙ get_or-replicate 27 n true false within)
+
+pub tag_within : (letter i : ℕ) → letter < 26 → i < get_or FIRST (letter + 1) 0 → i < 127
+tag_within letter i few less = omega (arith, less, first_within (letter + 1) (omega (arith, few)))
+
+-- a text is no known name if it is none of those with its first letter, and not the attribute's
+abbrev pub IsNoneOf : Option ℕ → List ℕ → Type 0
+IsNoneOf None text = Unit {0}
+IsNoneOf (Some letter) text = Passed letter (get_or FIRST (letter + 1) 0) text
+
+none_at : (text : List ℕ) (i : ℕ) (letter : Option ℕ) → IsNoneOf letter text → stands letter i ≡ true → bytes_eq (text_of known i) text ≡ false
+none_at text i None h s = absurd (false≢true s)
+none_at text i (Some letter) h s =
+    let (from, to) = and_parts (nat_le (get_or FIRST letter 0) i) (nat_lt i (get_or FIRST (letter + 1) 0)) s in
+    h i (leb-true (get_or FIRST letter 0) i from) (ltb-true i (get_or FIRST (letter + 1) 0) to)
+
+pub none_known : (text : List ℕ) → IsNoneOf (letter_of text) text → bytes_eq text type_name ≡ false → list_any (bytes_eq text) known ≡ false
+none_known text h other = none_any (bytes_eq text) known (λ i within. elim (cases_lt i 127) [
+  | inl less ↦ different text (text_of known i) (λ e.
+      let s : stands (letter_of text) i ≡ true = ap (λ (x : List ℕ). stands (letter_of x) i) e ∙ stands_at i less in
+      false≢true (sym (none_at text i (letter_of text) h s) ∙ (bytes_eq-Decides (text_of known i) text).1 (sym e)))
+  | inr past ↦ let e : i ≡ 127 = omega (arith, within, past) in ap (λ (n : ℕ). bytes_eq text (text_of known n)) e ∙ other
+])
+
+pub none_without : (text : List ℕ) → letter_of text ≡ None → list_any (bytes_eq text) known ≡ false
+none_without text h = none_known text (subst (λ o. IsNoneOf o text) (sym h) tt) (different text type_name (λ e. let k : Some 19 ≡ None = sym (ap letter_of e) ∙ h in cc))

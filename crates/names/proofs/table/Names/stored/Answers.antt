@@ -1,0 +1,30 @@
+use Rattle.std.proofs.Common.{ap, map, sym, ◌∙◌, string_bytes}
+use Rattle.std.specs.Prelude.{None, Some, option_map, slice_get}
+use Rattle.names.specs.Names.{Texts}
+use Rattle.names.specs.Tags.{known}
+use Rattle.names.proofs.TableLemmas.{are_names, other_at, slice_get-within}
+use Rattle.names.proofs.table.Names.stored.Goals as goal
+
+pub returns-then-index-lt-KNOWN-clause-text : goal.returns-then-index-lt-KNOWN-clause-text
+returns-then-index-lt-KNOWN-clause-text c =
+    c.known_text.ensures ∙ sym (slice_get-within known (map string_bytes c.self.inside.others.keys) c.args.index c.if-index-lt-KNOWN.true)
+    ∙ ap (λ (names : Texts). slice_get names c.args.index) c.self.view_is
+
+pub returns-then-index-lt-KNOWN-clause-names : goal.returns-then-index-lt-KNOWN-clause-names
+returns-then-index-lt-KNOWN-clause-names c = rw (← c.self.view_is) (are_names _ c.self.invariant)
+
+pub returns-in_err-text-clause-text : goal.returns-in_err-text-clause-text
+returns-in_err-text-clause-text c =
+    ap (option_map (λ t. t.now)) c.from_residual.ensures
+    ∙ sym (other_at c.self.inside.others.keys c.args.self.now c.args.index None c.self.view_is c.if-index-lt-KNOWN.false c.in_err-text.ensures.key)
+
+pub returns-in_err-text-clause-names : goal.returns-in_err-text-clause-names
+returns-in_err-text-clause-names c = rw (← c.self.view_is) (are_names _ c.self.invariant)
+
+pub returns-clause-text : goal.returns-clause-text
+returns-clause-text c =
+    ap Some c.as_str.ensures.value
+    ∙ sym (other_at c.self.inside.others.keys c.args.self.now c.args.index (Some c.in_ok-text.text.now) c.self.view_is c.if-index-lt-KNOWN.false c.in_ok-text.ensures.key)
+
+pub returns-clause-names : goal.returns-clause-names
+returns-clause-names c = rw (← c.self.view_is) (are_names _ c.self.invariant)

@@ -1,0 +1,65 @@
+//! The names with which every table begins.
+
+ghost use Rattle.std.specs.Prelude.{◌≡◌, ◌<◌, IfSome, MatchOption, bytes_eq, slice_get, Some, false};
+ghost use Rattle.std.specs.List.{list_any};
+ghost use Rattle.std.specs.Option.{option_map};
+ghost use Rattle.names.specs.Table.{letter_of};
+ghost use Rattle.names.specs.Tags.{known};
+
+use crate::tag::TAGS;
+
+/// How many there are: the tags', and `type`.
+pub(crate) const KNOWN: usize = 128;
+
+/// The name of the attribute that says whether an input is hidden.
+const TYPE: &str = "type";
+
+/// Where the tags that begin with each letter begin among the tags, which stand in the order of their texts; last, how many there are.
+static FIRST: [u8; 27] = [
+    0, 7, 18, 24, 34, 36, 44, 44, 55, 61, 61, 63, 67, 73, 78, 83, 87, 88, 93, 109, 122, 124, 125,
+    126, 127, 127, 127,
+];
+
+/// The text of a known name.
+pub(crate) fn known_text(index: usize) -> Option<&'static str>
+    ensures { option_map (λ t. t.now) result ≡ slice_get known index }
+{
+    if index < TAGS.len() {
+        return Some(TAGS[index].text());
+    }
+    if index == TAGS.len() {
+        Some(TYPE)
+    } else {
+        None
+    }
+}
+
+/// Which letter a text begins with, from 0 for `a`.
+fn letter_of(text: &str) -> Option<usize>
+    ensures letter { result ≡ letter_of text.now }
+    ensures few { IfSome result (λ letter. letter < 26) }
+{
+    let first = *text.as_bytes().first()?;
+    if first < b'a' || first > b'z' {
+        return None;
+    }
+    Some(usize::from(first - b'a'))
+}
+
+/// The number of a text, where it is that of a known name.
+pub(crate) fn known_number(text: &str) -> Option<u32>
+    ensures { MatchOption result (list_any (bytes_eq text.now) known ≡ false) (λ n. slice_get known n ≡ Some text.now) }
+{
+    let letter = letter_of(text)?;
+    let end = FIRST[letter + 1] as usize;
+    for index in FIRST[letter] as usize..end {
+        if TAGS[index].text() == text {
+            return Some(index as u32);
+        }
+    }
+    if text == TYPE {
+        Some(TAGS.len() as u32)
+    } else {
+        None
+    }
+}
