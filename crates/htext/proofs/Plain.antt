@@ -147,3 +147,19 @@ other_narrow c h = elim (cases_lt c 128) [
     ]
   ]
 ]
+
+-- the first byte of a character is no other byte of one
+abbrev pub BeginsAnew : List ℕ → Type 0
+BeginsAnew bytes = (b : ℕ) × (bs : List ℕ) × (bytes ≡ b ∷ bs) × (128 ≤ b → 192 ≤ b)
+
+pub begins_anew : (c : ℕ) → BeginsAnew (encode_utf8 c)
+begins_anew c = elim (cases_lt c 128) [
+  | inl one ↦ (c, [], encode_ascii c one, λ l. absurd (omega (arith, l)))
+  | inr above ↦ elim (cases_lt c 2048) [
+    | inl two ↦ (_, _, two_bytes c above two, λ l. omega arith)
+    | inr more ↦ elim (cases_lt c 65536) [
+      | inl three ↦ (_, _, three_bytes c more three, λ l. omega arith)
+      | inr four ↦ (_, _, four_bytes c four, λ l. omega arith)
+    ]
+  ]
+]

@@ -1,13 +1,15 @@
 -- Runs of plain characters in a text, by its bytes.
-use Rattle.std.proofs.Common.{◌≡◌, ℕ, ◌≤◌, ◌+◌, zero, suc, Bool, true, false, cond, eqb, List, [], ◌∷◌, ◌++◌, map, length, take, drop, sym, refl, ap, ◌∙◌, subst, arith, append_assoc, append-nil, Result, Ok, Err}
+use Rattle.std.proofs.Common.{◌≡◌, ℕ, ◌≤◌, ◌+◌, zero, suc, Bool, true, false, cond, eqb, List, [], ◌∷◌, ◌++◌, map, length, take, drop, get_or, sym, refl, ap, ◌∙◌, subst, arith, append_assoc, append-nil, Result, Ok, Err}
 use Rattle.std.specs.Prelude.{encode_utf8_all}
 use Rattle.std.specs.List.{list_all, prefix_len}
+use Rattle.std.proofs.lemmas.Bool.Decides.{nat_tests}
 use Rattle.std.proofs.lemmas.Bool.{and_parts, and_from}
 use Rattle.std.proofs.lemmas.List.{take_at, drop_at, take-append-drop, length-append, length-take-le, length-drop, drop-drop, take_all, drop_all, nil_from_length}
 use Rattle.std.proofs.lemmas.List.Folds.{list_all-append}
-use Rattle.std.proofs.lemmas.Str.{chars-append, chars-encodes, encodes-chars, scalars-chars, IsUtf8-append, IsUtf8-nil, IsUtf8-encode, length-encode, chars_past_char, chars-nil}
+use Rattle.std.proofs.Math.Seq.{get_or-append_seam}
+use Rattle.std.proofs.lemmas.Str.{chars-append, chars-encodes, encodes-chars, scalars-chars, IsUtf8-append, IsUtf8-nil, IsUtf8-encode, IsUtf8-take, IsUtf8-drop, length-encode, chars_past_char, chars-nil}
 use Rattle.std.specs.Str.{all_scalars as scalars}
-use Rattle.std.specs.Str.{chars, IsUtf8}
+use Rattle.std.specs.Str.{chars, IsUtf8, IsCharBoundary}
 use Rattle.std.specs.Char.{IsScalar, encode_utf8, len_utf8}
 use Rattle.names.specs.Placed.{placed}
 use Rattle.names.specs.Sink.{Hands, Continues}
@@ -20,7 +22,7 @@ use Rattle.htext.specs.Items.{CharItem, Character, items, items_of}
 use Rattle.htext.specs.Run.{is_plain_byte, is_plain, is_wide_byte, run_items, IsCut, IsPlainFront}
 use Rattle.htext.proofs.Handing.{Hands-front}
 use Rattle.htext.proofs.Parts.{placed-append}
-use Rattle.htext.proofs.Plain.{byte_plain, no_return, as_it_came, item_alone, plain_wide, other_narrow}
+use Rattle.htext.proofs.Plain.{byte_plain, no_return, as_it_came, item_alone, plain_wide, other_narrow, begins_anew}
 use Rattle.htext.proofs.Runs.{counted, take_more, plain_chars, plain_utf8, run_chars}
 
 -- FRONTS
@@ -129,6 +131,13 @@ pub plain_after : (n : ℕ) (bytes : List ℕ) → IsCut n bytes → list_all is
 plain_after n bytes cut h =
     (and_parts (list_all is_plain (chars (take n bytes))) _ (sym (list_all-append is_plain (chars (take n bytes)) (chars (drop n bytes))) ∙ ap (list_all is_plain) (sym (chars_cut n bytes cut)) ∙ h)).1
 
+-- a text that is not empty has characters
+pub has_characters : (bytes : List ℕ) → IsUtf8 bytes → false ≡ eqb (length bytes) 0 → false ≡ eqb (length (chars bytes)) 0
+has_characters bytes u some = by (chars bytes) (encodes-chars bytes u) where
+  by : (cs : List ℕ) → encode_utf8_all cs ≡ bytes → false ≡ eqb (length cs) 0
+  by [] e = some ∙ sym (ap (λ (l : List ℕ). eqb (length l) 0) e)
+  by (c ∷ cs) e = grind (arith, nat_tests)
+
 -- the first character of a text
 module _ (bytes : List ℕ) (u : IsUtf8 bytes) (c : ℕ) (cs : List ℕ) (is : chars bytes ≡ c ∷ cs) where
   first_bytes : bytes ≡ encode_utf8 c ++ encode_utf8_all cs
@@ -151,6 +160,15 @@ module _ (bytes : List ℕ) (u : IsUtf8 bytes) (c : ℕ) (cs : List ℕ) (is : c
   first_char at = ap (placed at) (sym (ap chars (first_front ∙ sym (append-nil (encode_utf8 c))) ∙ chars_past_char (encode_utf8 c ++ []) [] c (subst IsUtf8 (sym (append-nil (encode_utf8 c))) (IsUtf8-encode c first_scalars.0)) refl ∙ ap (λ (l : List ℕ). c ∷ l) chars-nil))
 
 -- .. and the last one, which begins after `n` bytes
+pub cut_last : (bytes xs : List ℕ) (c n : ℕ) → IsUtf8 bytes → bytes ≡ xs ++ encode_utf8 c → n ≡ length xs → IsCut n bytes
+cut_last bytes xs c n u is here =
+    let (b, bs, first, anew) = begins_anew c in
+    let e : bytes ≡ xs ++ b ∷ bs = is ∙ ap (λ (l : List ℕ). xs ++ l) first in
+    let within : n ≤ length bytes = omega (arith, here, ap length e, length-append xs (b ∷ bs)) in
+    let lead : get_or bytes n 0 ≡ b = ap (λ (l : List ℕ). get_or l n 0) e ∙ ap (λ (k : ℕ). get_or (xs ++ b ∷ bs) k 0) here ∙ get_or-append_seam xs b bs 0 in
+    let edge : IsCharBoundary bytes n = (within, λ l a. omega (arith, lead, anew (omega (arith, lead, a)))) in
+    record { within = within; front = IsUtf8-take bytes n u edge; back = IsUtf8-drop bytes n u edge }
+
 pub last_char : (n at : ℕ) (bytes : List ℕ) (c : ℕ) → IsCut n bytes → drop n bytes ≡ encode_utf8 c → placed at (chars bytes) ≡ placed at (chars (take n bytes)) ++ record { ch = c; at = at + n } ∷ []
 last_char n at bytes c cut is =
     placed_cut n bytes cut at

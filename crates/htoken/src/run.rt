@@ -264,12 +264,7 @@ impl<'t> Tokenizer<'t> {
     }
 
     /// Takes a run where nothing is held: the sink takes it as a whole.
-    fn run_of_text<S: TokenSink>(
-        &mut self,
-        run: &str,
-        at: u64,
-        sink: &mut S,
-    ) -> Result<(), Refusal>
+    fn run_of_text<S: TokenSink>(&mut self, run: &str, at: u64, sink: &mut S) -> Result<(), Refusal>
         requires text { self.old.state ≡ State.Text }
         requires some { 0 < length run.now }
         requires plain { list_all is_plain (chars run.now) ≡ true }
