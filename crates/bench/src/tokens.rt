@@ -45,7 +45,7 @@ impl TokenSink for Counter {
 
     fn take_run(&mut self, run: &str, _: u64) -> Result<(), Refusal> {
         if !run.is_empty() {
-            self.tokens = self.tokens.saturating_add(run.len() as u64);
+            self.tokens = self.tokens.saturating_add(run.chars().count() as u64);
         }
         Ok(())
     }
@@ -79,6 +79,14 @@ impl<'t> CharSink for Counting<'t> {
         }
         self.tokenizer
             .feed_run(&mut self.names, run, at, &mut self.counter)
+    }
+
+    fn take_text(&mut self, run: &str, at: u64) -> Result<(), Refusal> {
+        if run.is_empty() {
+            return Ok(());
+        }
+        self.tokenizer
+            .feed_text(&mut self.names, run, at, &mut self.counter)
     }
 }
 

@@ -1,16 +1,12 @@
 -- Characters that are put as they are, a run or one alone.
-use Rattle.std.proofs.Common.{◌≡◌, ℕ, ◌<◌, Bool, true, false, List, [], ◌∷◌, ◌+◌, length, Option, Some, None, Result, Ok, Err, refl, sym, ap, ◌∙◌, arith, subst}
-use Rattle.std.specs.List.{list_all, All}
+use Rattle.std.proofs.Common.{◌≡◌, ℕ, Bool, true, false, List, [], ◌∷◌, ◌+◌, length, Option, Some, None, Result, Ok, Err, refl, sym, ap, ◌∙◌, arith, subst}
+use Rattle.std.specs.List.{list_all}
 use Rattle.std.specs.Prelude.{◌&&◌, ◌==◌, not, is_some}
 use Rattle.std.specs.Result.{result_err}
-use Rattle.std.specs.Str.{chars}
 use Rattle.std.proofs.lemmas.Bool.{and_parts}
 use Rattle.std.proofs.lemmas.Bool.Decides.{nat_tests}
-use Rattle.std.proofs.lemmas.List.Elements.{All-cons}
-use Rattle.std.proofs.lemmas.Str.{chars-IsAscii}
-use Rattle.std.proofs.lemmas.Str.Ascii.{IsAscii-from_all}
 use Rattle.names.specs.Placed.{placed}
-use Rattle.htext.specs.Run.{is_plain_byte}
+use Rattle.htext.specs.Run.{is_plain}
 use Rattle.std.specs.Char.{len_utf8}
 use Rattle.names.specs.Sink.{Hands}
 use Rattle.names.specs.declared.refusal.Refusal.{Refusal}
@@ -31,26 +27,14 @@ use Rattle.hbuild.specs.Runs.{puts_in, puts_each}
 use Rattle.hbuild.proofs.OnePut.{place-here}
 use Rattle.hbuild.proofs.InRun.{AreSome, char_put, run_put, taken, stands-on, stands-run}
 
-plain_small : (x : ℕ) → is_plain_byte x ≡ true → x < 128
-plain_small x h = grind (arith, nat_tests)
-
-plain_some : (x : ℕ) → is_plain_byte x ≡ true → (x == 0) ≡ false
+plain_some : (x : ℕ) → is_plain x ≡ true → (x == 0) ≡ false
 plain_some x h = grind (arith, nat_tests)
 
-all_small : (bs : List ℕ) → list_all is_plain_byte bs ≡ true → All (λ b. b < 128) bs
-all_small [] h = λ k d lt. omega (arith, lt)
-all_small (b ∷ bs) h =
-    let parts = and_parts (is_plain_byte b) (list_all is_plain_byte bs) h in
-    All-cons (λ x. x < 128) b bs (plain_small b parts.0) (all_small bs parts.1)
-
-pub chars_plain : (bs : List ℕ) → list_all is_plain_byte bs ≡ true → chars bs ≡ bs
-chars_plain bs h = chars-IsAscii bs (IsAscii-from_all bs (all_small bs h))
-
-pub some_plain : (at : ℕ) (bs : List ℕ) → list_all is_plain_byte bs ≡ true → AreSome (placed at bs)
+pub some_plain : (at : ℕ) (cs : List ℕ) → list_all is_plain cs ≡ true → AreSome (placed at cs)
 some_plain at [] h = tt
-some_plain at (b ∷ bs) h =
-    let k = and_parts (is_plain_byte b) (list_all is_plain_byte bs) h in
-    (plain_some b k.0, some_plain (at + len_utf8 b) bs k.1)
+some_plain at (c ∷ cs) h =
+    let k = and_parts (is_plain c) (list_all is_plain cs) h in
+    (plain_some c k.0, some_plain (at + len_utf8 c) cs k.1)
 
 -- what the test of a state says
 off-of : (a b c : Bool) → (not a && not b && c) ≡ true → (a ≡ false) × (b ≡ false) × (c ≡ true)
@@ -68,7 +52,7 @@ abbrev pub after_put : Building → SiteOf ℕ → Result (Unit {0}) Refusal →
 after_put b x answer = record { state = with_site x (begun b.state); root = b.root; told = b.told; refused = refused_by answer }
 
 -- a run that is put as a whole is taken character by character
-pub run_taken : (b : Building) → b.refused ≡ None → puts_each b.state ≡ true → (at : ℕ) (run : List ℕ) → false ≡ (length run == 0) → list_all is_plain_byte run ≡ true
+pub run_taken : (b : Building) → b.refused ≡ None → puts_each b.state ≡ true → (at : ℕ) (run : List ℕ) → false ≡ (length run == 0) → list_all is_plain run ≡ true
     → (answer : Result (Unit {0}) Refusal) (x : SiteOf ℕ) → Gives answer x (put_each (placed at run) (place numbers b.state.site) b.state.site)
     → Hands TakesToken b (run_tokens (placed at run)) answer (after_put b x answer)
 run_taken b free puts at [] some plain answer x g = absurd cc

@@ -1,7 +1,7 @@
 //! The builder of a tree.
 
 ghost use Rattle.std.specs.Prelude.{◌≡◌, ◌+◌, ◌<◌, ◌≤◌, ◌++◌, [], Some, None, true, Err, length, IfErr, IfOk, MatchResult};
-ghost use Rattle.std.specs.List.{list_all};
+ghost use Rattle.std.specs.Str.{chars};
 ghost use Rattle.names.specs.declared.refusal.Refusal.{Refusal as Refused};
 ghost use Rattle.names.specs.declared.refusal.Refusal.TheVariants.{Memory};
 ghost use Rattle.hadopt.specs.Naming.{numbers};
@@ -9,7 +9,6 @@ ghost use Rattle.hmodes.specs.Beginning.{document_begins, fragment_begins};
 ghost use Rattle.hmodes.specs.Tokens.{token_of, place_of};
 ghost use Rattle.hbuild.specs.Building.{Takes, TakesToken};
 ghost use Rattle.htext.specs.declared.decoder.TheConstants.{MAX_INPUT};
-ghost use Rattle.htext.specs.Run.{is_plain_byte};
 ghost use Rattle.htoken.specs.Run.{run_tokens};
 ghost use Rattle.names.specs.Placed.{placed};
 ghost use Rattle.names.specs.Sink.{Hands};
@@ -130,12 +129,11 @@ impl<'q> Builder<'q> {
 
     /// Takes the characters of a run one by one.
     fn take_one_by_one(&mut self, run: &str, at: u64) -> Result<(), Refusal>
-        requires plain { list_all is_plain_byte run.now ≡ true }
-        requires within { at + length run.now ≤ MAX_INPUT }
-        ensures { Hands TakesToken self.old (run_tokens (placed at run.now)) result self.new }
+        requires { at + length run.now ≤ MAX_INPUT }
+        ensures { Hands TakesToken self.old (run_tokens (placed at (chars run.now))) result self.new }
     {
-        for (index, byte) in run.as_bytes().iter().enumerate() {
-            self.take_text(char::from(*byte), at + index as u64)?;
+        for (index, ch) in run.char_indices() {
+            self.take_text(ch, at + index as u64)?;
         }
         Ok(())
     }

@@ -1,9 +1,8 @@
 //! Characters that are put as they are, one alone or a run.
 
-ghost use Rattle.std.specs.Prelude.{◌≡◌, true};
-ghost use Rattle.std.specs.List.{list_all};
+ghost use Rattle.std.specs.Prelude.{◌≡◌};
+ghost use Rattle.std.specs.Str.{chars};
 ghost use Rattle.names.specs.Placed.{placed};
-ghost use Rattle.htext.specs.Run.{is_plain_byte};
 ghost use Rattle.hadopt.specs.Gives.{Gives};
 ghost use Rattle.hadopt.specs.Inserts.{put, put_each};
 ghost use Rattle.hadopt.specs.Naming.{numbers};
@@ -33,8 +32,7 @@ pub(crate) fn puts_each(rules: &Rules<'_>) -> bool
 
 /// Puts the characters of a run at the appropriate place.
 pub(crate) fn put_run(rules: &mut Rules<'_>, run: &str, at: u64) -> Result<(), Refusal>
-    requires { list_all is_plain_byte run.now ≡ true }
-    ensures gives { Gives result rules.new.site (put_each (placed at run.now) (place numbers rules.old.site) rules.old.site) }
+    ensures gives { Gives result rules.new.site (put_each (placed at (chars run.now)) (place numbers rules.old.site) rules.old.site) }
     ensures rest { state_of rules.new ≡ with_site rules.new.site (state_of rules.old) }
 {
     let place = rules.site.place();

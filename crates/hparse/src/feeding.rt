@@ -125,6 +125,17 @@ impl<'t, S: TokenSink> CharSink for Feeding<'t, S> {
         answer
     }
 
+    fn take_text(&mut self, run: &str, at: u64) -> Result<(), Refusal> {
+        if run.is_empty() {
+            return Ok(());
+        }
+        let answer = self
+            .tokenizer
+            .feed_text(&mut self.names, run, at, &mut self.sink);
+        self.stopped = answer.is_err();
+        answer
+    }
+
     fn take_error(&mut self, error: ParseError) -> Result<(), Refusal> {
         let answer = self.sink.take_error(error);
         self.stopped = answer.is_err();

@@ -9,7 +9,9 @@ pub mod Stopping
 pub mod Texts
 pub mod Handing
 pub mod Lanes
+pub mod Plain
 pub mod Runs
+pub mod Wide
 pub mod Advancing
 pub mod Ending
 pub mod Whole

@@ -61,7 +61,7 @@ pub reads_nil : (at : ℕ) → reads_at at [] ≡ []
 unfolding utf8_valid_len reads_within
 reads_nil at = ap (λ (cs : List ℕ). map Whole (placed at cs) ++ []) chars-nil
 
-placed-append : (at : ℕ) (cs ds : List ℕ) → placed at (cs ++ ds) ≡ placed at cs ++ placed (at + length (encode_utf8_all cs)) ds
+pub placed-append : (at : ℕ) (cs ds : List ℕ) → placed at (cs ++ ds) ≡ placed at cs ++ placed (at + length (encode_utf8_all cs)) ds
 placed-append at [] ds = ap (λ (x : ℕ). placed x ds) (omega arith)
 placed-append at (c ∷ cs) ds =
     ap (λ (x : List Placed). record { ch = c; at = at } ∷ x)

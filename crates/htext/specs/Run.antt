@@ -1,15 +1,44 @@
 -- Runs of plain characters.
-use Rattle.std.specs.Prelude.{ℕ, Bool, not, ◌&&◌, ◌||◌, ◌==◌, nat_le, List, map}
+use Rattle.std.specs.Prelude.{◌≡◌, ℕ, ◌≤◌, Bool, true, not, ◌&&◌, ◌||◌, ◌==◌, nat_le, List, length, map, take, drop}
+use Rattle.std.specs.List.{list_all}
+use Rattle.std.specs.Str.{chars, IsUtf8}
 use Rattle.names.specs.Placed.{placed}
 use Rattle.htext.specs.Items.{CharItem, Character}
+use Rattle.htext.specs.declared.run.Kind.{Kind}
+use Rattle.htext.specs.declared.run.Kind.TheVariants.{Plain, Wide}
 
 -- a byte that is a character by itself, stands in the text as it came but for an LF after a CR, raises no error, and is neither `<` nor `&`
 abbrev pub is_plain_byte : ℕ → Bool
 is_plain_byte byte = (byte == 9 || byte == 10 || byte == 12 || (nat_le 32 byte && nat_le byte 126)) && not (byte == 60 || byte == 38)
 
--- the characters of such bytes, one after another, the first at the place `at`
+-- A character of which the same is true: such a byte, or one of U+00C0 to U+EFFF. (Not all are: it leaves out the few of which it is true
+-- beside controls and noncharacters.)
+abbrev pub is_plain : ℕ → Bool
+is_plain c = is_plain_byte c || (nat_le 0xC0 c && nat_le c 0xEFFF)
+
+-- a byte of one of these characters in UTF-8, and of no other character's first byte
+abbrev pub is_wide_byte : ℕ → Bool
+is_wide_byte byte = is_plain_byte byte || (nat_le 0x80 byte && nat_le byte 0xBF) || (nat_le 0xC3 byte && nat_le byte 0xEE)
+
+-- the bytes of a run of each kind
+abbrev pub is_of : Kind → ℕ → Bool
+is_of Plain byte = is_plain_byte byte
+is_of Wide byte = is_wide_byte byte
+
+abbrev pub is_not_of : Kind → ℕ → Bool
+is_not_of kind byte = not (is_of kind byte)
+
+-- characters one after another, the first at the place `at`
 abbrev pub run_items : ℕ → List ℕ → List CharItem
 run_items at run = map Character (placed at run)
 
-abbrev pub is_no_plain_byte : ℕ → Bool
-is_no_plain_byte byte = not (is_plain_byte byte)
+-- a text is cut after `n` bytes, between characters
+pub record IsCut (n : ℕ) (text : List ℕ) : Type 0 where
+  pub within : n ≤ length text
+  pub front : IsUtf8 (take n text)
+  pub back : IsUtf8 (drop n text)
+
+-- .. and all characters before are plain
+pub record IsPlainFront (n : ℕ) (text : List ℕ) : Type 0 where
+  pub cut : IsCut n text
+  pub plain : list_all is_plain (chars (take n text)) ≡ true

@@ -3,55 +3,104 @@
 ghost use Rattle.std.specs.Prelude.{◌≡◌, ◌≤◌, map, length};
 ghost use Rattle.std.specs.List.{prefix_len};
 ghost use Rattle.std.specs.Simd.Lanes.{mask_l};
-ghost use Rattle.htext.specs.Run.{is_plain_byte, is_no_plain_byte};
+ghost use Rattle.htext.specs.Run.{is_plain_byte, is_wide_byte, is_of, is_not_of};
 
 use std::simd::prelude::*;
 
-// The plain bytes by their halves: a bit for each kind of high half, 1 for 0, 2 for 2, 4 for 3, 8 for 4 to 6, and 16 for 7.
-// A byte is plain where its low half has the bit of its high one.
+/// Which bytes make up a run.
+#[derive(Clone, Copy)]
+pub(crate) enum Kind {
+    /// Those of plain characters, in ASCII.
+    Plain,
+    /// Those of all plain characters.
+    Wide,
+}
+
+// The bytes of a run by their halves: a bit for each kind of high half, 1 for 0, 2 for 2, 4 for 3, 8 for 4 to 6, 16 for 7, 32 for 8
+// to B and D, 64 for C, and 128 for E. A byte is in a run where its low half has the bit of its high one.
 const BY_LOW: [u8; 16] = [
-    30, 30, 30, 30, 30, 30, 28, 30, 30, 31, 31, 30, 27, 30, 30, 14,
+    190, 190, 190, 254, 254, 254, 252, 254, 254, 255, 255, 254, 251, 254, 254, 110,
 ];
 
-const BY_HIGH: [u8; 16] = [1, 0, 2, 4, 8, 8, 8, 16, 0, 0, 0, 0, 0, 0, 0, 0];
+const PLAIN_BY_HIGH: [u8; 16] = [1, 0, 2, 4, 8, 8, 8, 16, 0, 0, 0, 0, 0, 0, 0, 0];
+
+const WIDE_BY_HIGH: [u8; 16] = [1, 0, 2, 4, 8, 8, 8, 16, 32, 32, 32, 32, 64, 32, 128, 0];
 
 /// Counts the bytes before the first one that is not plain: `<`, `&`, or any but tab, LF, FF and 20 to 7E. Each of the bytes
 /// before it is a character that stands in the text as it came, unless it is an LF after a CR.
 pub fn plain_run(bytes: &[u8]) -> usize
     ensures { result ≡ prefix_len is_plain_byte bytes.now }
 {
+    run(Kind::Plain, bytes)
+}
+
+/// Counts the bytes before the first one that is neither plain nor one of the characters U+00C0 to U+EFFF in UTF-8.
+pub fn wide_run(bytes: &[u8]) -> usize
+    ensures { result ≡ prefix_len is_wide_byte bytes.now }
+{
+    run(Kind::Wide, bytes)
+}
+
+#[inline(always)]
+fn run(kind: Kind, bytes: &[u8]) -> usize
+    ensures { result ≡ prefix_len (is_of kind) bytes.now }
+{
     let mut count = 0;
     while bytes.len() - count >= 16 {
-        let found = stops(u8x16::from_slice(&bytes[count..]));
+        let found = stops(kind, u8x16::from_slice(&bytes[count..]));
         if found != 0 {
             return count + found.trailing_zeros() as usize;
         }
         count += 16;
     }
-    count + plain_run_by_one(&bytes[count..])
+    count + run_by_one(kind, &bytes[count..])
 }
 
 /// The same, a byte at a time.
-fn plain_run_by_one(bytes: &[u8]) -> usize
-    ensures counted { result ≡ prefix_len is_plain_byte bytes.now }
+#[inline(always)]
+fn run_by_one(kind: Kind, bytes: &[u8]) -> usize
+    ensures counted { result ≡ prefix_len (is_of kind) bytes.now }
     ensures few { result ≤ length bytes.now }
 {
     for (index, byte) in bytes.iter().enumerate() {
-        if !is_plain(*byte) {
+        if !is_in_run(kind, *byte) {
             return index;
         }
     }
     bytes.len()
 }
 
-/// Which of these bytes are not plain: a bit for each, the lowest for the first.
+/// Which of these bytes end a run: a bit for each, the lowest for the first.
 #[inline(always)]
-fn stops(bytes: u8x16) -> u64
-    ensures { result ≡ mask_l (map is_no_plain_byte bytes) }
+fn stops(kind: Kind, bytes: u8x16) -> u64
+    ensures { result ≡ mask_l (map (is_not_of kind) bytes) }
 {
     let low = u8x16::from_array(BY_LOW).swizzle_dyn(bytes & u8x16::splat(15));
-    let high = u8x16::from_array(BY_HIGH).swizzle_dyn(bytes >> u8x16::splat(4));
+    let high = u8x16::from_array(by_high(kind)).swizzle_dyn(bytes >> u8x16::splat(4));
     (low & high).simd_eq(u8x16::splat(0)).to_bitmask()
+}
+
+/// The bits of the high halves.
+#[inline(always)]
+fn by_high(kind: Kind) -> [u8; 16]
+    ensures plain { kind ≡ Kind.Plain → result ≡ PLAIN_BY_HIGH }
+    ensures wide { kind ≡ Kind.Wide → result ≡ WIDE_BY_HIGH }
+{
+    match kind {
+        Kind::Plain => PLAIN_BY_HIGH,
+        Kind::Wide => WIDE_BY_HIGH,
+    }
+}
+
+/// Whether a byte may stand in a run.
+#[inline(always)]
+fn is_in_run(kind: Kind, byte: u8) -> bool
+    ensures { result ≡ is_of kind byte }
+{
+    match kind {
+        Kind::Plain => is_plain(byte),
+        Kind::Wide => is_plain(byte) || matches!(byte, 0x80..=0xBF | 0xC3..=0xEE),
+    }
 }
 
 /// Whether a byte is plain.

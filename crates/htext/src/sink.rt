@@ -10,7 +10,8 @@ pub trait CharSink {
     ghost use Rattle.names.specs.declared.refusal.Refusal.{Refusal as Refused};
     ghost use Rattle.htext.specs.declared.decoder.TheConstants.{MAX_INPUT};
     ghost use Rattle.htext.specs.Items.{CharItem, Character, InputError};
-    ghost use Rattle.htext.specs.Run.{is_plain_byte, run_items};
+    ghost use Rattle.htext.specs.Run.{is_plain, is_plain_byte, run_items};
+    ghost use Rattle.std.specs.Str.{chars};
 
     /// A step of the sink: as it was, what it was handed, its answer, and as it is then.
     ghost gives: { Self → CharItem → Result (Unit {0}) Refused → Self → Type 0 };
@@ -33,6 +34,18 @@ pub trait CharSink {
     {
         for (index, byte) in run.as_bytes().iter().enumerate() {
             self.take_char(char::from(*byte), at + index as u64)?;
+        }
+        Ok(())
+    }
+
+    /// The same for a run of any plain characters, the first byte of which is at `at`.
+    fn take_text(&mut self, run: &str, at: u64) -> Result<(), Refusal>
+        requires plain { list_all is_plain (chars run.now) ≡ true }
+        requires within { at + length run.now ≤ MAX_INPUT }
+        ensures { Hands gives self.old (run_items at (chars run.now)) result self.new }
+    {
+        for (index, ch) in run.char_indices() {
+            self.take_char(ch, at + index as u64)?;
         }
         Ok(())
     }

@@ -2,6 +2,7 @@
 use Rattle.std.proofs.Common.{◌≡◌, ◌≤◌, ℕ, ◌+◌, List, [], ◌∷◌, ◌++◌, length, take, drop, sym, refl, ap, ◌∙◌, subst, Result, Ok, Err, append_assoc, append-nil}
 use Rattle.std.specs.Prelude.{true}
 use Rattle.std.specs.List.{list_all}
+use Rattle.std.specs.Str.{chars}
 use Rattle.std.proofs.lemmas.List.{take_all}
 use Rattle.names.specs.declared.placed.Placed.{Placed}
 use Rattle.names.specs.declared.raw.RawKind.{RawKind}
@@ -9,8 +10,9 @@ use Rattle.names.specs.declared.refusal.Refusal.{Refusal}
 use Rattle.names.specs.Names.{Texts, Grows}
 use Rattle.names.specs.Placed.{placed}
 use Rattle.names.proofs.Handing.{text_kept}
-use Rattle.htext.specs.Run.{is_plain_byte}
+use Rattle.htext.specs.Run.{is_plain_byte, IsCut}
 use Rattle.htext.proofs.Runs.{placed_part, placed_rest}
+use Rattle.htext.proofs.Wide.{placed_cut, placed_more}
 use Rattle.charref.specs.Reference.{Entities}
 use Rattle.htag.proofs.Naming.{attrs_kept}
 use Rattle.htoken.specs.declared.token.Token.{Token}
@@ -94,31 +96,62 @@ module _ {S : Type 0} (gives : S → Item → Result (Unit {0}) Refusal → S �
       subst (λ (x : List Placed). Takes gives table start text x taken names old (Err e) new then) (sym (placed_rest at count run plain within))
       (refused_longer (placed at (take count run)) (placed (at + count) (drop count run)) taken names old new e next then h)
 
-  -- A LOOP OVER A RUN, of which `count` bytes have been taken
+  -- A LOOP OVER A RUN, of which a front has been taken
+
+  module _ (front : List Placed) (taken : List Event) (before names : Texts) (grows : Grows before names) (old mid : S) (t : Tokenizer) where
+    -- how a part of what is left is taken, if the rest has been
+    abbrev pub ThenTakes : List Placed → Result (Unit {0}) Refusal → S → Tokenizer → Type 0
+    ThenTakes part answer new next = (fed : List Placed) (events : List Event) → HasTaken table start t before fed events → Takes gives table start fed part events names mid answer new next
+
+    pub part_taken : (part whole : List Placed) → whole ≡ front ++ part → (answer : Result (Unit {0}) Refusal) (new : S) (next : Tokenizer) → Takes gives table start text front taken before old (Ok tt) mid t → ThenTakes part answer new next
+        → Takes gives table start text whole taken names old answer new next
+    part_taken part whole is answer new next (take_ran_out es e handed front_is) then = absurd cc
+    part_taken part whole is answer new next (take_refused name place es e handed front_is) then = absurd cc
+    part_taken part whole is answer new next (take_sink_refused r es e handed front_is) then = absurd cc
+    part_taken part whole is answer new next (take_took es e (items, mean, given) has) then =
+        subst (λ (x : List Placed). Takes gives table start text x taken names old answer new next) (sym is)
+        (takes_both front part taken es names old mid new answer next (items, mean_kept before names grows items es mean, given) (then (text ++ front) (taken ++ es) has))
+
+  -- .. of which `count` bytes have been taken, each a character
 
   module _ (at count : ℕ) (run : List ℕ) (plain : list_all is_plain_byte run ≡ true) (within : count ≤ length run) (taken : List Event) (before names : Texts) (grows : Grows before names) (old mid : S) (t : Tokenizer) where
     abbrev pub SoFar : Type 0
     SoFar = Takes gives table start text (placed at (take count run)) taken before old (Ok tt) mid t
 
-    -- how a front of what is left is taken, if the rest has been
     abbrev pub Then : List ℕ → Result (Unit {0}) Refusal → S → Tokenizer → Type 0
-    Then part answer new next = (fed : List Placed) (events : List Event) → HasTaken table start t before fed events → Takes gives table start fed (placed (at + count) part) events names mid answer new next
+    Then part = ThenTakes (placed at (take count run)) taken before names grows old mid t (placed (at + count) part)
 
     pub more_taken : (n : ℕ) (new : S) (next : Tokenizer) → SoFar → Then (take n (drop count run)) (Ok tt) new next → Takes gives table start text (placed at (take (count + n) run)) taken names old (Ok tt) new next
-    more_taken n new next (take_ran_out es e handed is) then = absurd cc
-    more_taken n new next (take_refused name place es e handed is) then = absurd cc
-    more_taken n new next (take_sink_refused r es e handed is) then = absurd cc
-    more_taken n new next (take_took es e (items, mean, given) has) then =
-        subst (λ (x : List Placed). Takes gives table start text x taken names old (Ok tt) new next) (sym (placed_part at count n run plain within))
-        (takes_both (placed at (take count run)) (placed (at + count) (take n (drop count run))) taken es names old mid new (Ok tt) next (items, mean_kept before names grows items es mean, given) (then (text ++ placed at (take count run)) (taken ++ es) has))
+    more_taken n = part_taken (placed at (take count run)) taken before names grows old mid t (placed (at + count) (take n (drop count run))) (placed at (take (count + n) run)) (placed_part at count n run plain within) (Ok tt)
 
     pub more_refused : (e : Refusal) (new : S) (next : Tokenizer) → SoFar → Then (drop count run) (Err e) new next → Takes gives table start text (placed at run) taken names old (Err e) new next
-    more_refused r new next (take_ran_out es e handed is) then = absurd cc
-    more_refused r new next (take_refused name place es e handed is) then = absurd cc
-    more_refused r new next (take_sink_refused x es e handed is) then = absurd cc
-    more_refused r new next (take_took es e (items, mean, given) has) then =
-        subst (λ (x : List Placed). Takes gives table start text x taken names old (Err r) new next) (sym (placed_rest at count run plain within))
-        (takes_both (placed at (take count run)) (placed (at + count) (drop count run)) taken es names old mid new (Err r) next (items, mean_kept before names grows items es mean, given) (then (text ++ placed at (take count run)) (taken ++ es) has))
+    more_refused e = part_taken (placed at (take count run)) taken before names grows old mid t (placed (at + count) (drop count run)) (placed at run) (placed_rest at count run plain within) (Err e)
 
     pub all_taken : length run ≤ count → SoFar → Takes gives table start text (placed at run) taken before old (Ok tt) mid t
     all_taken l h = subst (λ (x : List ℕ). Takes gives table start text (placed at x) taken before old (Ok tt) mid t) (take_all count run l) h
+
+  -- .. or each a part of one
+
+  -- a refusal in a front of a run
+  pub cut_refused : (at count : ℕ) (run : List ℕ) → IsCut count run → (taken : List Event) (names : Texts) (old new : S) (e : Refusal) (next then : Tokenizer)
+      → Takes gives table start text (placed at (chars (take count run))) taken names old (Err e) new next → Takes gives table start text (placed at (chars run)) taken names old (Err e) new then
+  cut_refused at count run cut taken names old new e next then h =
+      subst (λ (x : List Placed). Takes gives table start text x taken names old (Err e) new then) (sym (placed_cut count run cut at))
+      (refused_longer (placed at (chars (take count run))) (placed (at + count) (chars (drop count run))) taken names old new e next then h)
+
+  module _ (at count : ℕ) (run : List ℕ) (cut : IsCut count run) (taken : List Event) (before names : Texts) (grows : Grows before names) (old mid : S) (t : Tokenizer) where
+    abbrev pub SoFarCut : Type 0
+    SoFarCut = Takes gives table start text (placed at (chars (take count run))) taken before old (Ok tt) mid t
+
+    abbrev pub ThenCut : List ℕ → Result (Unit {0}) Refusal → S → Tokenizer → Type 0
+    ThenCut part = ThenTakes (placed at (chars (take count run))) taken before names grows old mid t (placed (at + count) (chars part))
+
+    pub cut_more_taken : (n : ℕ) → IsCut n (drop count run) → (new : S) (next : Tokenizer) → SoFarCut → ThenCut (take n (drop count run)) (Ok tt) new next
+        → Takes gives table start text (placed at (chars (take (count + n) run))) taken names old (Ok tt) new next
+    cut_more_taken n again = part_taken (placed at (chars (take count run))) taken before names grows old mid t (placed (at + count) (chars (take n (drop count run)))) (placed at (chars (take (count + n) run))) (placed_more count n run cut again at) (Ok tt)
+
+    pub cut_more_refused : (e : Refusal) (new : S) (next : Tokenizer) → SoFarCut → ThenCut (drop count run) (Err e) new next → Takes gives table start text (placed at (chars run)) taken names old (Err e) new next
+    cut_more_refused e = part_taken (placed at (chars (take count run))) taken before names grows old mid t (placed (at + count) (chars (drop count run))) (placed at (chars run)) (placed_cut count run cut at) (Err e)
+
+    pub cut_all_taken : length run ≤ count → SoFarCut → Takes gives table start text (placed at (chars run)) taken before old (Ok tt) mid t
+    cut_all_taken l h = subst (λ (x : List ℕ). Takes gives table start text (placed at (chars x)) taken before old (Ok tt) mid t) (take_all count run l) h

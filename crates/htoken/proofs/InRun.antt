@@ -1,10 +1,11 @@
 -- A run of plain characters, taken as a whole.
-use Rattle.std.proofs.Common.{◌≡◌, ◌≤◌, ◌<◌, ℕ, ◌+◌, Bool, true, false, cond, eqb, List, [], ◌∷◌, ◌++◌, length, take, sym, refl, ap, ◌∙◌, subst, arith, Result, Ok, Err, Option, append_assoc, append-nil}
+use Rattle.std.proofs.Common.{◌≡◌, ◌≤◌, ◌<◌, ℕ, ◌+◌, Bool, true, false, cond, eqb, List, [], ◌∷◌, ◌++◌, length, take, sym, refl, ap, ◌∙◌, subst, arith, drop, Result, Ok, Err, Option, append_assoc, append-nil}
 use Rattle.std.proofs.lemmas.Bool.Decides.{nat_tests}
 use Rattle.std.specs.List.{list_all}
 use Rattle.std.specs.Prelude.{slice_index}
 use Rattle.std.proofs.lemmas.List.{length-take-le}
-use Rattle.std.specs.Char.{len_utf8}
+use Rattle.std.specs.Char.{len_utf8, encode_utf8}
+use Rattle.std.specs.Str.{chars}
 use Rattle.std.specs.String.{string_bytes}
 use Rattle.names.specs.declared.error.ParseError.{ParseError}
 use Rattle.names.specs.declared.placed.Placed.{Placed}
@@ -14,8 +15,9 @@ use Rattle.names.specs.declared.refusal.Refusal.{Refusal}
 use Rattle.names.specs.declared.refusal.Refusal.TheVariants.{Memory}
 use Rattle.names.specs.Names.{Texts, Grows}
 use Rattle.names.specs.Placed.{all, placed, null_errors}
-use Rattle.htext.specs.Run.{is_plain_byte}
+use Rattle.htext.specs.Run.{is_plain_byte, is_plain, IsCut}
 use Rattle.htext.proofs.Runs.{one_long, plain_take}
+use Rattle.htext.proofs.Wide.{last_char}
 use Rattle.charref.specs.Reference.{Entities}
 use Rattle.hmarkup.proofs.Marks.{and_parts, and_no}
 use Rattle.hmarkup.proofs.Characters.{no_null_error}
@@ -43,7 +45,7 @@ use Rattle.htoken.proofs.InTag.{reads_kept}
 use Rattle.htoken.proofs.RawEnds.{other_goes_on}
 use Rattle.htoken.proofs.Scripting.{all_followed}
 
-module _ (c : ℕ) (h : is_plain_byte c ≡ true) where
+module _ (c : ℕ) (h : is_plain c ≡ true) where
   no_less : eqb c 60 ≡ false
   no_less = grind (arith, nat_tests)
 
@@ -81,6 +83,12 @@ next_front text at count run plain some within room =
     let long : length (take count run) ≡ count = length-take-le count run within in
     ap (λ (n : ℕ). at + n) (sym long) ∙ sym (next_run text at (take count run) (plain_take count run plain) (omega (arith, long)) (omega (arith, long)))
 
+-- .. after a run of any characters, the last of which begins after `n` bytes
+pub next_last : (text : List Placed) (at n : ℕ) (run : List ℕ) (c : ℕ) → IsCut n run → drop n run ≡ encode_utf8 c → after_place (at + n) ≡ next_place (text ++ placed at (chars run))
+next_last text at n run c cut is =
+    sym (ap (λ (x : List Placed). next_place (text ++ x)) (last_char n at run c cut is) ∙ ap next_place (sym (append_assoc text (placed at (chars (take n run))) (record { ch = c; at = at + n } ∷ [])))
+    ∙ next_from-append 0 (text ++ placed at (chars (take n run))) (record { ch = c; at = at + n } ∷ []))
+
 -- the first character of a run
 pub first_of : (at : ℕ) (run : List ℕ) (c : ℕ) → 0 < length run → c ≡ slice_index run 0 → record { ch = c; at = at } ∷ [] ≡ placed at (take 1 run)
 first_of at [] c h e = absurd (omega (arith, h))
@@ -98,7 +106,7 @@ as_character p some = ap (λ (es : List ParseError). record { text = p ∷ []; t
 as_raw : (p : Placed) → eqb p.ch 0 ≡ false → plain_span p ≡ raw_span p
 as_raw p some = as_character p some ∙ ap (λ (b : Bool). record { text = p ∷ []; tokens = Char (cond b 0xFFFD p.ch) p.at ∷ []; errors = null_errors (p ∷ []) }) (sym some)
 
-module _ (table : Entities) (end : ℕ) (here : Standing) (rest : List Placed) (p : Placed) (plain : is_plain_byte p.ch ≡ true) where
+module _ (table : Entities) (end : ℕ) (here : Standing) (rest : List Placed) (p : Placed) (plain : is_plain p.ch ≡ true) where
   in_raw : IsRawSpan table end here rest (plain_span p)
   in_raw = raw_character p (other_goes_on here p rest (no_less p.ch plain)) (and_no (has_references here.kind) (eqb p.ch 38) (no_sign p.ch plain)) (as_raw p (no_null p.ch plain))
 
@@ -112,12 +120,12 @@ module _ (table : Entities) (end : ℕ) (here : Standing) (rest : List Placed) (
   of_kind kind.Script = in_raw
   of_kind kind.Plaintext = in_raw
 
-run_stands : (table : Entities) (start : RawKind) (end : ℕ) (run front rest : List Placed) (here : Standing) (taken : List Event) → all is_plain_byte run ≡ true → Stands table start end front (run ++ rest) here taken []
+run_stands : (table : Entities) (start : RawKind) (end : ℕ) (run front rest : List Placed) (here : Standing) (taken : List Event) → all is_plain run ≡ true → Stands table start end front (run ++ rest) here taken []
     → Stands table start end (front ++ run) rest (after_characters here run) (taken ++ run_events run) []
 run_stands table start end [] front rest here taken plain s =
     subst (λ (x : List Placed). Stands table start end x rest here (taken ++ []) []) (sym (append-nil front)) (subst (λ (x : List Event). Stands table start end front rest here x []) (sym (append-nil taken)) s)
 run_stands table start end (q ∷ qs) front rest here taken plain s =
-    let k = and_parts (is_plain_byte q.ch) (all is_plain_byte qs) plain in
+    let k = and_parts (is_plain q.ch) (all is_plain qs) plain in
     let one : Stands table start end (front ++ q ∷ []) (qs ++ rest) (record here { front = q ∷ here.front }) (taken ++ Gives (Char q.ch q.at) ∷ []) [] =
     stands_more table start end front (qs ++ rest) here taken (plain_span q) s (of_kind table end here (qs ++ rest) q k.0 here.kind) refl in
     subst (λ (x : List Placed). Stands table start end x rest (after_characters here (q ∷ qs)) (taken ++ run_events (q ∷ qs)) []) (append_assoc front (q ∷ []) qs)
@@ -125,7 +133,7 @@ run_stands table start end (q ∷ qs) front rest here taken plain s =
     (run_stands table start end qs (front ++ q ∷ []) rest (record here { front = q ∷ here.front }) (taken ++ Gives (Char q.ch q.at) ∷ []) k.1 one))
 
 module _ {S : Type 0} (gives : S → Item → Result (Unit {0}) Refusal → S → Type 0) (table : Entities) (start : RawKind) (names : Texts) (text : List Placed) (taken : List Event) (t : Tokenizer) (h : Reads table start t names text [] taken) (run : List Placed) where
-  module _ (in_text : t.state ≡ state.Text) (plain : all is_plain_byte run ≡ true) (new : Tokenizer) (then : new ≡ record t { next = new.next; script = new.script }) (next : new.next ≡ next_place (text ++ run))
+  module _ (in_text : t.state ≡ state.Text) (plain : all is_plain run ≡ true) (new : Tokenizer) (then : new ≡ record t { next = new.next; script = new.script }) (next : new.next ≡ next_place (text ++ run))
       (follows : is_script t.kind ≡ true → FollowsAll t.script run new.script) where
     abbrev here : Standing
     here = after_characters h.here run

@@ -1,25 +1,28 @@
 //! Runs of plain characters, taken as wholes where a state allows it.
 
-ghost use Rattle.std.specs.Prelude.{◌≡◌, ◌≤◌, ◌<◌, ◌+◌, ◌∷◌, ℕ, List, true, Some, Err, IfErr, IfOk, length};
+ghost use Rattle.std.specs.Prelude.{◌≡◌, ◌≤◌, ◌<◌, ◌+◌, ◌∷◌, ℕ, List, true, Some, Err, IfErr, IfOk, length, drop};
 ghost use Rattle.std.specs.List.{list_all, prefix_len};
+ghost use Rattle.std.specs.Char.{encode_utf8};
+ghost use Rattle.std.specs.Str.{chars};
 ghost use Rattle.names.specs.declared.placed.Placed.{Placed as Character};
 ghost use Rattle.names.specs.declared.raw.RawKind.{RawKind as Kind};
 ghost use Rattle.names.specs.declared.refusal.Refusal.{Refusal as Refused};
 ghost use Rattle.names.specs.Names.{Texts, Grows};
 ghost use Rattle.names.specs.Placed.{placed};
 ghost use Rattle.htext.specs.declared.decoder.TheConstants.{MAX_INPUT};
-ghost use Rattle.htext.specs.Run.{is_plain_byte};
+ghost use Rattle.htext.specs.Run.{is_plain, is_plain_byte, IsCut};
 ghost use Rattle.charref.specs.Reference.{Entities};
 ghost use Rattle.hmarkup.specs.Comment.{is_only_data};
 ghost use Rattle.htoken.specs.Raw.{is_script};
 ghost use Rattle.htoken.specs.Script.{FollowsAll};
-ghost use Rattle.htoken.specs.Steps.{TakesFront};
+ghost use Rattle.htoken.specs.Steps.{TakesFront, TakesPart};
 ghost use Rattle.htoken.specs.Token.{Event, gives_item};
 ghost use Rattle.htoken.specs.Tokenizing.{HasTaken, Takes};
 
 use crate::sink::TokenSink;
 use crate::state::State;
-use crate::tokenizer::Tokenizer;
+use crate::tokenizer::{Tokenizer, after};
+use htext::plain_run;
 use names::{Names, Refusal};
 
 /// How many bytes stand before the first one that may end a comment, or is a fault in it.
@@ -33,6 +36,28 @@ fn count_data(run: &str) -> usize
         }
     }
     run.len()
+}
+
+/// The first character of a text.
+#[inline]
+fn first(text: &str) -> char
+    requires { 0 < length text.now }
+    ensures { (rest : List ℕ) × (chars text.now ≡ result ∷ rest) }
+{
+    text.chars().next().unwrap()
+}
+
+/// Where the last character of a text begins.
+#[inline]
+fn last_start(text: &str) -> usize
+    requires { 0 < length text.now }
+    ensures cut { IsCut result text.now }
+    ensures last { (c : ℕ) × (drop result text.now ≡ encode_utf8 c) }
+{
+    match text.char_indices().next_back() {
+        Some((index, _)) => index,
+        None => 0,
+    }
 }
 
 impl<'t> Tokenizer<'t> {
@@ -64,6 +89,107 @@ impl<'t> Tokenizer<'t> {
             self.refused = Some(refusal);
         }
         answer
+    }
+
+    /// Takes a run of any plain characters, the first byte of which is at `place`. It is the same as feeding them one by one.
+    pub fn feed_text<S: TokenSink>(
+        &mut self,
+        names: &mut Names,
+        run: &str,
+        place: u64,
+        sink: &mut S,
+    ) -> Result<(), Refusal>
+        requires plain { list_all is_plain (chars run.now) ≡ true }
+        requires within { place + length run.now ≤ MAX_INPUT }
+        ensures takes { (table : Entities) (start : Kind) (before : Texts) (text : List Character) (taken : List Event) → Grows before names.old
+            → HasTaken table start self.old before text taken
+            → Takes (gives_item S.gives S.gives_token) table start text (placed place (chars run.now)) taken names.new sink.old result sink.new self.new }
+        ensures grows { Grows names.old names.new }
+
+        // After a refusal every later call returns the same one, and hands over nothing.
+        ensures refused { IfErr result (λ refusal. self.new.refused ≡ Some refusal) }
+        ensures again { (refusal : Refused) → self.old.refused ≡ Some refusal → (result ≡ Err refusal) × (sink.new ≡ sink.old) × (names.new ≡ names.old) }
+    {
+        if let Some(refusal) = self.refused {
+            return Err(refusal);
+        }
+        let answer = self.take_parts(names, run, place, sink);
+        if let Err(refusal) = answer {
+            self.refused = Some(refusal);
+        }
+        answer
+    }
+
+    /// Takes a run of any plain characters, a part after another.
+    fn take_parts<S: TokenSink>(
+        &mut self,
+        names: &mut Names,
+        run: &str,
+        place: u64,
+        sink: &mut S,
+    ) -> Result<(), Refusal>
+        requires plain { list_all is_plain (chars run.now) ≡ true }
+        requires within { place + length run.now ≤ MAX_INPUT }
+        ensures takes { (table : Entities) (start : Kind) (before : Texts) (text : List Character) (taken : List Event) → Grows before names.old
+            → HasTaken table start self.old before text taken
+            → Takes (gives_item S.gives S.gives_token) table start text (placed place (chars run.now)) taken names.new sink.old result sink.new self.new }
+        ensures grows { Grows names.old names.new }
+    {
+        let mut count = 0;
+        while count < run.len() {
+            let more = self.take_part(names, &run[count..], place + count as u64, sink)?;
+            count += more;
+        }
+        Ok(())
+    }
+
+    /// Takes the whole run where nothing is held, or else what is ASCII at its front, or else one character. Returns the length.
+    fn take_part<S: TokenSink>(
+        &mut self,
+        names: &mut Names,
+        run: &str,
+        at: u64,
+        sink: &mut S,
+    ) -> Result<usize, Refusal>
+        requires some { 0 < length run.now }
+        requires plain { list_all is_plain (chars run.now) ≡ true }
+        requires within { at + length run.now ≤ MAX_INPUT }
+        ensures takes { (table : Entities) (start : Kind) (before : Texts) (text : List Character) (taken : List Event) → Grows before names.old
+            → HasTaken table start self.old before text taken
+            → TakesPart (gives_item S.gives S.gives_token) table start text at run.now taken names.new sink.old result sink.new self.new }
+        ensures few { IfOk result (λ count. (0 < count) × IsCut count run.now) }
+        ensures grows { Grows names.old names.new }
+    {
+        if let State::Text = self.state {
+            self.run_of_text(run, at, sink)?;
+            return Ok(run.len());
+        }
+        let count = plain_run(run.as_bytes());
+        if count == 0 {
+            return self.take_one(names, run, at, sink);
+        }
+        self.take_fronts(names, &run[..count], at, sink)?;
+        Ok(count)
+    }
+
+    /// Takes the first character of a run, and returns its length.
+    fn take_one<S: TokenSink>(
+        &mut self,
+        names: &mut Names,
+        run: &str,
+        at: u64,
+        sink: &mut S,
+    ) -> Result<usize, Refusal>
+        requires some { 0 < length run.now }
+        ensures takes { (table : Entities) (start : Kind) (before : Texts) (text : List Character) (taken : List Event) → Grows before names.old
+            → HasTaken table start self.old before text taken
+            → TakesPart (gives_item S.gives S.gives_token) table start text at run.now taken names.new sink.old result sink.new self.new }
+        ensures few { IfOk result (λ count. (0 < count) × IsCut count run.now) }
+        ensures grows { Grows names.old names.new }
+    {
+        let ch = first(run);
+        self.take(names, ch, at, sink)?;
+        Ok(ch.len_utf8())
     }
 
     /// Takes a run, a front of what is left of it after another.
@@ -107,7 +233,10 @@ impl<'t> Tokenizer<'t> {
         ensures grows { Grows names.old names.new }
     {
         match self.state {
-            State::Text => self.run_of_text(run, at, sink),
+            State::Text => {
+                self.run_of_text(run, at, sink)?;
+                Ok(run.len())
+            }
             State::Comment => self.run_of_comment(names, run, at, sink),
             State::Tag => self.run_of_tag(names, run, at, sink),
             _ => self.take_first(names, run, at, sink),
@@ -135,34 +264,27 @@ impl<'t> Tokenizer<'t> {
     }
 
     /// Takes a run where nothing is held: the sink takes it as a whole.
-    fn run_of_text<S: TokenSink>(
-        &mut self,
-        run: &str,
-        at: u64,
-        sink: &mut S,
-    ) -> Result<usize, Refusal>
+    fn run_of_text<S: TokenSink>(&mut self, run: &str, at: u64, sink: &mut S) -> Result<(), Refusal>
         requires text { self.old.state ≡ State.Text }
         requires some { 0 < length run.now }
-        requires plain { list_all is_plain_byte run.now ≡ true }
+        requires plain { list_all is_plain (chars run.now) ≡ true }
         requires within { at + length run.now ≤ MAX_INPUT }
-        ensures takes { (table : Entities) (start : Kind) (names : Texts) (text : List Character) (taken : List Event)
+        ensures { (table : Entities) (start : Kind) (names : Texts) (text : List Character) (taken : List Event)
             → HasTaken table start self.old names text taken
-            → TakesFront (gives_item S.gives S.gives_token) table start text at run.now taken names sink.old result sink.new self.new }
-        ensures all { IfOk result (λ count. count ≡ length run.now) }
+            → Takes (gives_item S.gives S.gives_token) table start text (placed at (chars run.now)) taken names sink.old result sink.new self.new }
     {
-        self.next = at + run.len() as u64;
+        self.next = after(at + last_start(run) as u64);
         self.follow_run(run);
-        sink.take_run(run, at)?;
-        Ok(run.len())
+        sink.take_run(run, at)
     }
 
     /// Follows the level of script data.
     fn follow_run(&mut self, run: &str)
         ensures then { self.new ≡ record self.old { script = self.new.script } }
-        ensures follows { (at : ℕ) → is_script self.old.kind ≡ true → FollowsAll self.old.script (placed at run.now) self.new.script }
+        ensures follows { (at : ℕ) → is_script self.old.kind ≡ true → FollowsAll self.old.script (placed at (chars run.now)) self.new.script }
     {
         if self.is_in_script() {
-            self.script = self.script.after_run(run.as_bytes());
+            self.script = self.script.after_text(run);
         }
     }
 

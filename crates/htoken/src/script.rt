@@ -2,6 +2,7 @@
 
 ghost use Rattle.std.specs.Prelude.{◌≡◌, [], ◌∷◌, ◌==◌, ◌&&◌, ℕ, List, nat_lt};
 ghost use Rattle.std.specs.Char.{to_ascii_lowercase};
+ghost use Rattle.std.specs.Str.{chars};
 ghost use Rattle.names.specs.declared.placed.Placed.{Placed as Character};
 ghost use Rattle.names.specs.Placed.{placed};
 ghost use Rattle.hmarkup.specs.CommentWalk.{backwards};
@@ -201,13 +202,13 @@ impl Script {
         script
     }
 
-    /// .. each of which is a byte.
-    pub fn after_run(self, run: &[u8]) -> Script
-        ensures { (at : ℕ) → FollowsAll self (placed at run.now) result }
+    /// .. those of a text.
+    pub fn after_text(self, text: &str) -> Script
+        ensures { (at : ℕ) → FollowsAll self (placed at (chars text.now)) result }
     {
         let mut script = self;
-        for byte in run {
-            script = script.after(char::from(*byte));
+        for ch in text.chars() {
+            script = script.after(ch);
         }
         script
     }

@@ -47,7 +47,7 @@ pub struct Tokenizer<'t> {
 }
 
 /// One more than the place of a character.
-fn after(place: u64) -> u64
+pub(crate) fn after(place: u64) -> u64
     ensures { result ≡ after_place place }
 {
     place.saturating_add(1)

@@ -1,7 +1,8 @@
-use Rattle.std.proofs.Common.{sym, ◌∙◌}
+use Rattle.std.specs.Str.{chars}
+use Rattle.htext.proofs.Wide.{has_characters}
 use Rattle.htoken.specs.declared.token.Token.TheVariants as code
 use Rattle.bench.proofs.Counted.{counted_run}
 use Rattle.bench.proofs.tokens.CounterTokenSink.take_run.Goals as goal
 
 pub returns-then-not-is_empty : goal.returns-then-not-is_empty
-returns-then-not-is_empty c = counted_run _ (λ p. code.Char p.ch p.at) c.args.arg3 c.args.run.now c.if-not-is_empty.ensures _ _
+returns-then-not-is_empty c = counted_run _ (λ p. code.Char p.ch p.at) c.args.arg3 (chars c.args.run.now) (has_characters c.args.run.now c.utf8.run c.if-not-is_empty.ensures) _ _

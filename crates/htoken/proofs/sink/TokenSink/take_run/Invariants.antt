@@ -1,4 +1,5 @@
-use Rattle.std.proofs.Common.{◌+◌, drop}
+use Rattle.std.proofs.Common.{◌+◌}
+use Rattle.std.specs.Str.{chars, IsUtf8}
 use Rattle.names.specs.Placed.{placed}
 use Rattle.names.specs.Sink.{Continues}
 use Rattle.htoken.specs.Run.{run_tokens}
@@ -6,4 +7,7 @@ use Rattle.htoken.proofs.sink.TokenSink.take_run.Given as goal
 
 -- To take the rest of the run is to take all of it.
 abbrev pub invariant-loop-index : goal.invariant-loop-index
-invariant-loop-index g l = Continues g.Self.TokenSink.gives_token l.fn.self (run_tokens (placed l.fn.at l.run)) l.self (run_tokens (placed (l.fn.at + l.index) (drop l.index l.run)))
+invariant-loop-index g l = record {
+  takes : Continues g.Self.TokenSink.gives_token l.fn.self (run_tokens (placed l.fn.at (chars l.run))) l.self (run_tokens (placed (l.fn.at + l.index-iterator.at) (chars l.index-iterator.rest.now)));
+  utf8 : IsUtf8 l.index-iterator.rest.now;
+}

@@ -1,16 +1,16 @@
 use Rattle.std.proofs.Common.{ap, ◌∙◌, sym, arith}
 use lib.Count.{count_trailing_zeros}
-use Rattle.htext.specs.Run.{is_plain_byte}
+use Rattle.htext.specs.Run.{is_of}
 use Rattle.htext.proofs.Lanes.{run_through, run_stops}
-use Rattle.htext.proofs.run.plain_run.Goals as goal
+use Rattle.htext.proofs.run.run.Goals as goal
 
 pub returns-then-found-ne0 : goal.returns-then-found-ne0
 returns-then-found-ne0 c =
     let found = c.stops-found in
-    let run = run_stops is_plain_byte c.args.bytes.now c.loop-count.count 16 (omega arith) (omega arith) (omega (arith, found.ensures)) ∙ ap (count_trailing_zeros 64) (sym found.ensures) in
+    let run = run_stops (is_of c.args.kind) c.args.bytes.now c.loop-count.count 16 (omega arith) (omega arith) (omega (arith, found.ensures)) ∙ ap (count_trailing_zeros 64) (sym found.ensures) in
     omega (arith, run, c.loop-count.invariant.counted)
 
 pub loop-count-preserved : goal.loop-count-preserved
 loop-count-preserved c =
-    let run = run_through is_plain_byte c.args.bytes.now c.loop-count.count 16 (omega arith) (omega (arith, c.stops-found.ensures)) in
+    let run = run_through (is_of c.args.kind) c.args.bytes.now c.loop-count.count 16 (omega arith) (omega (arith, c.stops-found.ensures)) in
     record { counted = omega (arith, run, c.loop-count.invariant.counted); within = omega arith }

@@ -1,11 +1,11 @@
 use Rattle.std.proofs.Common.{◌≡◌, ◌+◌, ◌-◌, ◌≤◌, length, drop}
 use Rattle.std.specs.List.{prefix_len}
-use Rattle.htext.specs.Run.{is_plain_byte}
-use Rattle.htext.proofs.run.plain_run.Given as goal
+use Rattle.htext.specs.Run.{is_of}
+use Rattle.htext.proofs.run.run.Given as goal
 
 abbrev pub invariant-loop-count : goal.invariant-loop-count
 invariant-loop-count l = record {
-  counted : prefix_len is_plain_byte l.bytes ≡ l.count + prefix_len is_plain_byte (drop l.count l.bytes);
+  counted : prefix_len (is_of l.kind) l.bytes ≡ l.count + prefix_len (is_of l.kind) (drop l.count l.bytes);
   within : l.count ≤ length l.bytes;
 }
 

@@ -1,0 +1,22 @@
+use Rattle.std.proofs.Common.{[], subst, refl}
+use Rattle.std.specs.Str.{chars}
+use Rattle.names.specs.Sink.{Hands}
+use Rattle.names.proofs.Handing.{grows_not}
+use Rattle.htext.specs.Items.{characters_among}
+use Rattle.htext.specs.Run.{run_items}
+use Rattle.htext.proofs.Wide.{has_characters}
+use Rattle.htoken.specs.Standing.{start_kind}
+use Rattle.htoken.specs.Token.{gives_item}
+use Rattle.hparse.specs.Holding.{Proceeds}
+use Rattle.hparse.specs.Intake.{Intake}
+use Rattle.hparse.proofs.Held.{run_taken}
+use Rattle.hparse.proofs.feeding.FeedingCharSink.take_text.Goals as goal
+
+pub returns : goal.returns
+returns g c =
+    let gives = gives_item g.S.ErrorSink.gives g.S.TokenSink.gives_token in
+    let old : Intake _ = record { names = c.self.inside.names; tokenizer = c.self.inside.tokenizer; sink = c.self.inside.sink; stopped = c.self.inside.stopped; unfed = [] } in
+    let new : Intake _ = record { names = c.feed_text-answer.new.names; tokenizer = c.feed_text-answer.new.self; sink = c.feed_text-answer.new.sink; stopped = c.is_err-self-inside.result; unfed = [] } in
+    subst (λ s. Hands (Proceeds gives) s (run_items c.args.at (chars c.args.run.now)) c.feed_text-answer.result new) c.self.view_is
+    (run_taken gives old new c.feed_text-answer.result refl refl c.args.at (chars c.args.run.now) (has_characters c.args.run.now c.utf8.run c.if-is_empty.ensures) c.feed_text-answer.ensures.grows c.is_err-self-inside.ensures.value
+    (λ m began before h. c.feed_text-answer.ensures.takes m.table (start_kind m.start) old.names (characters_among before) h.taken (grows_not old.names) h.has_taken))

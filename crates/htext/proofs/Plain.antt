@@ -1,0 +1,165 @@
+-- Plain characters, and their bytes in UTF-8.
+use Rattle.std.proofs.Common.{◌≡◌, ℕ, ◌<◌, ◌≤◌, ◌+◌, ◌/◌, ◌%◌, Bool, true, false, cond, eqb, List, [], ◌∷◌, refl, ap, ◌∙◌, arith, inl, inr}
+use Rattle.std.specs.Prelude.{nat_le, nat_lt, ◌&&◌, ◌||◌}
+use Rattle.std.specs.List.{list_all}
+use Rattle.std.proofs.lemmas.Bool.{cases_lt}
+use Rattle.std.proofs.lemmas.Bool.Decides.{nat_tests}
+use Rattle.std.proofs.lemmas.Str.{encode_ascii}
+use Rattle.std.specs.Char.{encode_utf8}
+use lib.Utf8.{encode}
+use Rattle.names.specs.Placed.{is_noncharacter}
+use Rattle.names.specs.declared.placed.Placed.{Placed}
+use Rattle.htext.specs.declared.Bom.{Bom}
+use Rattle.htext.specs.declared.Bom.TheVariants.{Drop, Keep}
+use Rattle.htext.specs.Text.{Whole, read_as}
+use Rattle.htext.specs.Items.{Character, items_of, is_stray_control}
+use Rattle.htext.specs.Run.{is_plain_byte, is_plain, is_wide_byte}
+
+-- a plain byte is ASCII, and a plain character
+pub plain_small : (x : ℕ) → is_plain_byte x ≡ true → x < 127
+plain_small x h = grind (arith, nat_tests)
+
+or_left : (a b : Bool) → a ≡ true → (a || b) ≡ true
+or_left true b h = refl
+or_left false b h = absurd cc
+
+pub byte_plain : (x : ℕ) → is_plain_byte x ≡ true → is_plain x ≡ true
+byte_plain x h = or_left (is_plain_byte x) (nat_le 0xC0 x && nat_le x 0xEFFF) h
+
+-- IN A TEXT
+
+pub no_return : (x : ℕ) → is_plain x ≡ true → eqb x 13 ≡ false
+no_return x h = grind (arith, nat_tests)
+
+no_mark : (x : ℕ) → is_plain x ≡ true → eqb x 0xFEFF ≡ false
+no_mark x h = grind (arith, nat_tests)
+
+no_stray : (x : ℕ) → is_plain x ≡ true → is_stray_control x ≡ false
+no_stray x h = grind (arith, nat_tests)
+
+plain_below : (x : ℕ) → is_plain x ≡ true → x < 0xF000
+plain_below x h = grind (arith, nat_tests)
+
+no_nonchar : (x : ℕ) → is_plain x ≡ true → is_noncharacter x ≡ false
+no_nonchar x h =
+    let small : x < 0xF000 = plain_below x h in
+    let low : nat_le 0xFDD0 x ≡ false = grind (arith, nat_tests) in
+    let rest : x % 0x10000 < 0xF000 = omega (arith, small) in
+    let last : nat_le 0xFFFE (x % 0x10000) ≡ false = grind (arith, nat_tests) in
+    rw (low, last) refl
+
+no_drop : (b : Bool) (ps : List Placed) → cond {A = List Placed} ((b && false) || false) [] ps ≡ ps
+no_drop true ps = refl
+no_drop false ps = refl
+
+pub as_it_came : (bom : Bom) (x at : ℕ) → is_plain x ≡ true → read_as bom false (record { ch = x; at = at }) ≡ record { ch = x; at = at } ∷ []
+as_it_came Drop x at h = rw (no_mark x h, no_return x h) (no_drop (eqb at 0) (record { ch = x; at = at } ∷ []))
+as_it_came Keep x at h = rw (no_return x h) refl
+
+pub item_alone : (x at : ℕ) → is_plain x ≡ true → items_of (Whole (record { ch = x; at = at })) ≡ Character (record { ch = x; at = at }) ∷ []
+item_alone x at h = rw (no_stray x h, no_nonchar x h) refl
+
+-- IN UTF-8
+
+continues : (b : ℕ) → 128 ≤ b → b ≤ 191 → is_wide_byte b ≡ true
+continues b l m = grind (arith, nat_tests)
+
+leads : (b : ℕ) → 195 ≤ b → b ≤ 238 → is_wide_byte b ≡ true
+leads b l m = grind (arith, nat_tests)
+
+leads_early : (b : ℕ) → 192 ≤ b → b < 195 → is_wide_byte b ≡ false
+leads_early b l m = grind (arith, nat_tests)
+
+leads_late : (b : ℕ) → 239 ≤ b → is_wide_byte b ≡ false
+leads_late b l = grind (arith, nat_tests)
+
+high : (c : ℕ) → 128 ≤ c → is_plain c ≡ true → (192 ≤ c) × (c ≤ 0xEFFF)
+high c l h = (grind (arith, nat_tests), grind (arith, nat_tests))
+
+high_not : (c : ℕ) → 192 ≤ c → c ≤ 0xEFFF → is_plain c ≡ true
+high_not c l m = grind (arith, nat_tests)
+
+or_none : (b : Bool) → ((b || false) || false) ≡ (b || false)
+or_none true = refl
+or_none false = refl
+
+small_wide : (c : ℕ) → c < 128 → is_wide_byte c ≡ is_plain c
+small_wide c l =
+    let a : nat_le 0x80 c ≡ false = grind (arith, nat_tests) in
+    let b : nat_le 0xC3 c ≡ false = grind (arith, nat_tests) in
+    let d : nat_le 0xC0 c ≡ false = grind (arith, nat_tests) in
+    rw (a, b, d) (or_none (is_plain_byte c))
+
+two_bytes : (c : ℕ) → 128 ≤ c → c < 2048 → encode_utf8 c ≡ (192 + c / 64) ∷ (128 + c % 64) ∷ []
+unfolding encode
+two_bytes c l m =
+    let a : nat_lt c 128 ≡ false = grind (arith, nat_tests) in
+    let b : nat_lt c 2048 ≡ true = grind (arith, nat_tests) in
+    rw (a, b) refl
+
+three_bytes : (c : ℕ) → 2048 ≤ c → c < 65536 → encode_utf8 c ≡ (224 + c / 4096) ∷ (128 + c / 64 % 64) ∷ (128 + c % 64) ∷ []
+unfolding encode
+three_bytes c l m =
+    let a : nat_lt c 128 ≡ false = grind (arith, nat_tests) in
+    let b : nat_lt c 2048 ≡ false = grind (arith, nat_tests) in
+    let d : nat_lt c 65536 ≡ true = grind (arith, nat_tests) in
+    rw (a, b, d) refl
+
+four_bytes : (c : ℕ) → 65536 ≤ c → encode_utf8 c ≡ (240 + c / 262144) ∷ (128 + c / 4096 % 64) ∷ (128 + c / 64 % 64) ∷ (128 + c % 64) ∷ []
+unfolding encode
+four_bytes c l =
+    let a : nat_lt c 128 ≡ false = grind (arith, nat_tests) in
+    let b : nat_lt c 2048 ≡ false = grind (arith, nat_tests) in
+    let d : nat_lt c 65536 ≡ false = grind (arith, nat_tests) in
+    rw (a, b, d) refl
+
+next_wide : (n : ℕ) → is_wide_byte (128 + n % 64) ≡ true
+next_wide n = let l : n % 64 < 64 = omega arith in continues (128 + n % 64) (omega arith) (omega (arith, l))
+
+-- the bytes of a plain character are wide
+pub plain_wide : (c : ℕ) → is_plain c ≡ true → list_all is_wide_byte (encode_utf8 c) ≡ true
+plain_wide c h = elim (cases_lt c 128) [
+  | inl one ↦ ap (list_all is_wide_byte) (encode_ascii c one) ∙ rw (small_wide c one, h) refl
+  | inr above ↦ elim (cases_lt c 2048) [
+    | inl two ↦
+        let is = high c above h in
+        let lead : is_wide_byte (192 + c / 64) ≡ true = leads (192 + c / 64) (omega (arith, is.0)) (omega (arith, two)) in
+        ap (list_all is_wide_byte) (two_bytes c above two) ∙ rw (lead, next_wide c) refl
+    | inr more ↦
+        let is = high c above h in
+        let lead : is_wide_byte (224 + c / 4096) ≡ true = leads (224 + c / 4096) (omega arith) (omega (arith, is.1)) in
+        ap (list_all is_wide_byte) (three_bytes c more (omega (arith, is.1))) ∙ rw (lead, next_wide (c / 64), next_wide c) refl
+  ]
+]
+
+-- the first byte of another one is not
+abbrev pub BeginsNarrow : List ℕ → Type 0
+BeginsNarrow bytes = (b : ℕ) × (bs : List ℕ) × (bytes ≡ b ∷ bs) × (is_wide_byte b ≡ false)
+
+pub other_narrow : (c : ℕ) → is_plain c ≡ false → BeginsNarrow (encode_utf8 c)
+other_narrow c h = elim (cases_lt c 128) [
+  | inl one ↦ (c, [], encode_ascii c one, small_wide c one ∙ h)
+  | inr above ↦ elim (cases_lt c 2048) [
+    | inl two ↦ (_, _, two_bytes c above two, leads_early (192 + c / 64) (omega arith) (elim (cases_lt c 192) [ inl low ↦ omega (arith, low) | inr up ↦ (let no : is_plain c ≡ true = high_not c up (omega (arith, two)) in absurd cc) ]))
+    | inr more ↦ elim (cases_lt c 65536) [
+      | inl three ↦ (_, _, three_bytes c more three, leads_late (224 + c / 4096) (elim (cases_lt 0xEFFF c) [ inl late ↦ omega (arith, late) | inr up ↦ (let no : is_plain c ≡ true = high_not c (omega (arith, more)) up in absurd cc) ]))
+      | inr four ↦ (_, _, four_bytes c four, leads_late (240 + c / 262144) (omega arith))
+    ]
+  ]
+]
+
+-- the first byte of a character is no other byte of one
+abbrev pub BeginsAnew : List ℕ → Type 0
+BeginsAnew bytes = (b : ℕ) × (bs : List ℕ) × (bytes ≡ b ∷ bs) × (128 ≤ b → 192 ≤ b)
+
+pub begins_anew : (c : ℕ) → BeginsAnew (encode_utf8 c)
+begins_anew c = elim (cases_lt c 128) [
+  | inl one ↦ (c, [], encode_ascii c one, λ l. absurd (omega (arith, l)))
+  | inr above ↦ elim (cases_lt c 2048) [
+    | inl two ↦ (_, _, two_bytes c above two, λ l. omega arith)
+    | inr more ↦ elim (cases_lt c 65536) [
+      | inl three ↦ (_, _, three_bytes c more three, λ l. omega arith)
+      | inr four ↦ (_, _, four_bytes c four, λ l. omega arith)
+    ]
+  ]
+]

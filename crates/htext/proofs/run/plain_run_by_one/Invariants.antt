@@ -1,7 +1,0 @@
-use Rattle.std.proofs.Common.{◌≡◌, ◌+◌, drop}
-use Rattle.std.specs.List.{prefix_len}
-use Rattle.htext.specs.Run.{is_plain_byte}
-use Rattle.htext.proofs.run.plain_run_by_one.Given as goal
-
-abbrev pub invariant-loop-index : goal.invariant-loop-index
-invariant-loop-index l = prefix_len is_plain_byte l.bytes ≡ l.index + prefix_len is_plain_byte (drop l.index l.bytes)

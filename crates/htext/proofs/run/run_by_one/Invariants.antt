@@ -1,0 +1,7 @@
+use Rattle.std.proofs.Common.{◌≡◌, ◌+◌, drop}
+use Rattle.std.specs.List.{prefix_len}
+use Rattle.htext.specs.Run.{is_of}
+use Rattle.htext.proofs.run.run_by_one.Given as goal
+
+abbrev pub invariant-loop-index : goal.invariant-loop-index
+invariant-loop-index l = prefix_len (is_of l.kind) l.bytes ≡ l.index + prefix_len (is_of l.kind) (drop l.index l.bytes)

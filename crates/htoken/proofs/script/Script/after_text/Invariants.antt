@@ -1,0 +1,12 @@
+use Rattle.std.proofs.Common.{ℕ}
+use Rattle.std.specs.Str.{chars, IsUtf8}
+use Rattle.names.specs.Placed.{placed}
+use Rattle.htoken.specs.declared.script.Script.{Script}
+use Rattle.htoken.specs.Script.{FollowsAll}
+use Rattle.htoken.proofs.script.Script.after_text.Given as goal
+
+abbrev pub invariant-loop-ch : goal.invariant-loop-ch
+invariant-loop-ch l = record {
+  follows : (new : Script) → ((at : ℕ) → FollowsAll l.script (placed at (chars l.ch-iterator.rest.now)) new) → (at : ℕ) → FollowsAll l.fn.self (placed at (chars l.text)) new;
+  utf8 : IsUtf8 l.ch-iterator.rest.now;
+}

@@ -1,0 +1,35 @@
+use Rattle.std.proofs.Common.{List, ℕ, ◌∙◌, Ok, Err, ap, sym, subst, take, arith}
+use Rattle.std.proofs.lemmas.Result.{err_from_is_err_and}
+use Rattle.std.proofs.lemmas.Str.{len_utf8_bounds}
+use Rattle.std.specs.Char.{len_utf8}
+use Rattle.std.specs.Str.{chars}
+use Rattle.names.specs.Placed.{placed}
+use Rattle.names.specs.declared.placed.Placed.{Placed}
+use Rattle.htext.specs.Run.{IsCut}
+use Rattle.htext.proofs.Wide.{first_cut, first_char}
+use Rattle.htoken.specs.Token.{gives_item}
+use Rattle.htoken.specs.Tokenizing.{Takes}
+use Rattle.htoken.proofs.Fronts.{cut_refused}
+use Rattle.htoken.proofs.tokenizer.Tokenizer.take_one.Goals as goal
+
+pub returns-clause-takes : goal.returns-clause-takes
+returns-clause-takes g c = λ table start before text taken grows h.
+    let run = c.args.run.now in
+    subst (λ (x : List Placed). Takes (gives_item g.S.ErrorSink.gives g.S.TokenSink.gives_token) table start text x taken c.take.new.names c.args.sink.now (Ok tt) c.take.new.sink c.take.new.self)
+    (first_char run c.utf8.run c.first-ch.result c.first-ch.ensures.0 c.first-ch.ensures.1 c.args.at ∙ ap (λ (n : ℕ). placed c.args.at (chars (take n run))) (sym c.len_utf8.ensures.value))
+    (c.in_ok-take.ensures.takes table start before text taken grows h)
+
+pub returns-clause-few : goal.returns-clause-few
+returns-clause-few g c =
+    let ch = c.first-ch.result in
+    (omega (arith, c.len_utf8.ensures.value, (len_utf8_bounds ch).0), subst (λ (n : ℕ). IsCut n c.args.run.now) (sym c.len_utf8.ensures.value) (first_cut c.args.run.now c.utf8.run ch c.first-ch.ensures.0 c.first-ch.ensures.1))
+
+pub returns-in_err-take-clause-takes : goal.returns-in_err-take-clause-takes
+returns-in_err-take-clause-takes g c =
+    let e = err_from_is_err_and c.from_residual.result c.from_residual.ensures.1 in
+    let run = c.args.run.now in
+    let ch = c.first-ch.result in
+    rw (e.1, e.2) (λ table start before text taken grows h.
+    cut_refused (gives_item g.S.ErrorSink.gives g.S.TokenSink.gives_token) table start text c.args.at (len_utf8 ch) run (first_cut run c.utf8.run ch c.first-ch.ensures.0 c.first-ch.ensures.1) taken _ _ _ _ c.take.new.self _
+    (subst (λ (x : List Placed). Takes (gives_item g.S.ErrorSink.gives g.S.TokenSink.gives_token) table start text x taken c.take.new.names c.args.sink.now (Err c.in_err-take.field-0.0) c.take.new.sink c.take.new.self)
+    (first_char run c.utf8.run ch c.first-ch.ensures.0 c.first-ch.ensures.1 c.args.at) (c.in_err-take.ensures.takes table start before text taken grows h)))
