@@ -2,21 +2,10 @@
 #![tactic(auto)]
 
 ghost use Rattle.std.specs.Prelude.{◌≡◌};
-ghost use Rattle.html_c.specs.Exports.{AnswersText, AnswersTree};
+ghost use Rattle.hflat.specs.Exports.{AnswersText, AnswersTree};
 
-pub mod answer;
-mod fault;
-mod given;
-mod input;
-mod room;
-mod rows;
-mod text;
-mod tree;
-
-use crate::answer::{Answer, Given, NodeRow};
-use crate::room::{fault_answer, put_rows, put_text};
-use crate::text::text_of;
-use crate::tree::rows_of;
+use hflat::answer::{Answer, Given, NodeRow};
+use hflat::{write_text, write_tree};
 use std::alloc::Global;
 
 /// Makes the text of a task of an input, and writes it to the beginning of `output` where it fits. Returns the
@@ -33,16 +22,8 @@ pub extern "C" fn jz_text(
     ensures answers { AnswersText task input.now given.now output.old output.new answer.new }
     ensures status { result ≡ answer.new.status }
 {
-    match text_of(alloc, task, input, given) {
-        Ok(text) => {
-            *answer = put_text(&text, output);
-            answer.status
-        }
-        Err(fault) => {
-            *answer = fault_answer(fault);
-            answer.status
-        }
-    }
+    *answer = write_text(alloc, task, input, given, output);
+    answer.status
 }
 
 /// Makes the tree of an input, and writes its nodes in tree order to `rows` and their words to `words` where all
@@ -59,14 +40,6 @@ pub extern "C" fn jz_tree(
     ensures answers { AnswersTree input.now given.now rows.old rows.new words.old words.new answer.new }
     ensures status { result ≡ answer.new.status }
 {
-    match rows_of(alloc, input, given) {
-        Ok(tree) => {
-            *answer = put_rows(&tree.nodes, &tree.words, rows, words);
-            answer.status
-        }
-        Err(fault) => {
-            *answer = fault_answer(fault);
-            answer.status
-        }
-    }
+    *answer = write_tree(alloc, input, given, rows, words);
+    answer.status
 }

@@ -1,35 +1,12 @@
 //! The status of the program, and its line on standard error.
 
+use crate::counted::Faulty;
 use hmain::Fault;
 use hmain::ending::ending;
 use hrun::{Counted, Target};
 use names::{Refusal, RefusedName, TableFault};
 use std::alloc::Global;
-use std::io;
-use std::io::Write;
 use std::test::Fail;
-
-/// Takes a byte a call, but for the one that fails.
-#[derive(Drop)]
-struct Faulty {
-    calls: u64,
-    failing: u64,
-}
-
-impl Write for Faulty {
-    fn write(&mut self, bytes: &[u8]) -> io::Result<usize> {
-        let is_failing = self.calls == self.failing;
-        self.calls = self.calls.saturating_add(1);
-        if is_failing {
-            return Err(io::ErrorKind::Interrupted.into());
-        }
-        Ok(bytes.len().min(1))
-    }
-
-    fn flush(&mut self) -> io::Result<()> {
-        Ok(())
-    }
-}
 
 /// Each refusal, in the order of the lines.
 static REFUSALS: [Refusal; 12] = [
@@ -119,7 +96,7 @@ fn of_an_answer(rt: HostRuntime) -> Result<(), Fail> {
 
 /// Whether a refusal keeps its status where its line cannot be written.
 fn keeps_status(failing: u64) -> bool {
-    let mut target = Counted::new(Faulty { calls: 0, failing });
+    let mut target = Counted::new(Faulty::at(failing));
     let outcome = Err(Fault::Refused(Refusal::NotUtf8 { at: 1 }));
     ending(&outcome, &mut target) == 2 && Target::failures(&target) == 1
 }

@@ -4,8 +4,8 @@ ghost use Rattle.std.specs.Prelude.{◌<◌};
 
 use charref::Table;
 use hmarkup::Quirks;
-use hparse::Options;
-use hrun::{Command, Counted, Task, run};
+use hparse::{Options, Source};
+use hrun::{Command, Counted, Target, Task, run};
 use hwrite::Escaping;
 use names::{Refusal, RefusedName};
 use std::alloc::Global;
@@ -84,6 +84,19 @@ struct Outcome {
     writer: Writer,
 }
 
+/// What a run answers. Nothing is promised of it here, so that what the contract of a run says is not carried on.
+fn answer_of<S: Source, W: Target>(
+    alloc: Global,
+    command: Command,
+    options: &Options,
+    source: &mut S,
+    target: &mut W,
+) -> Result<(), Refusal>
+    requires { 0 < command.piece }
+{
+    run(alloc, command, options, source, target)
+}
+
 /// Runs over an input with the core table. One call of the reader and one of the writer fail.
 fn run_over(
     alloc: Global,
@@ -108,7 +121,7 @@ fn run_over(
         failing: failing_write,
         flushed: false,
     });
-    let answer = run(alloc, command, &options, &mut source, &mut target);
+    let answer = answer_of(alloc, command, &options, &mut source, &mut target);
     Ok(Outcome {
         answer,
         reads: source.into_inner().calls,

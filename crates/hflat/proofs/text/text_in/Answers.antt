@@ -1,0 +1,20 @@
+use Rattle.std.proofs.Common.{ℕ, Vec, Global, ap, sym, subst, ◌∙◌}
+use Rattle.hrun.specs.Prints.{unrefused_of}
+use Rattle.hparse.specs.Parsing.{told_by}
+use Rattle.hrun.specs.Command.{name_of}
+use Rattle.hrun.specs.Counted.{failures_of}
+use Rattle.hrun.specs.Prints.{context_of, prints_of}
+use Rattle.hrun.specs.declared.counted.Counted.{Counted}
+use Rattle.hflat.specs.Exports.{ComesToNone}
+use Rattle.hflat.specs.Input.{left_in}
+use Rattle.hflat.proofs.Texts.{came, gives_none}
+use Rattle.hflat.proofs.text.text_in.Goals as goal
+
+pub returns-in-Err : goal.returns-in-Err
+returns-in-Err c =
+    let told = told_by c.args.options.now in let context = context_of c.args.command.task (name_of c.args.command.context) in
+    let prints = prints_of c.args.command.escaping c.args.command.task (name_of c.args.command.context) told in
+    subst (ComesToNone prints context c.args.input.now) (sym c.kept.ensures)
+    (gives_none prints context (left_in c.new-source.result) c.run-outcome.new.target.inner.items c.run-outcome.result c.args.input.now c.in-Err.refusal c.in-Err.is c.new-source.ensures
+    (came left_in (λ (t : Counted (Vec ℕ Global)). t.inner.items) failures_of context prints (unrefused_of c.args.command.task (name_of c.args.command.context) told) c.args.command.piece c.new-source.result c.run-outcome.new.source
+    c.new-target.result c.run-outcome.new.target c.run-outcome.result (ap (λ v. v.items) c.new-target.ensures.inner ∙ c.new.ensures.items) c.run-outcome.ensures))

@@ -1,0 +1,193 @@
+//! What is told beside the input.
+
+ghost use Rattle.std.specs.Prelude.{◌≡◌, ◌<◌, ◌≤◌, MatchResult, IfOk, Some, None, Ok};
+ghost use Rattle.hmarkup.specs.Quirks.{ReadsQuirks};
+ghost use Rattle.hparse.specs.Parsing.{told_by};
+ghost use Rattle.hrun.specs.Command.{name_of};
+ghost use Rattle.hflat.specs.Given.{bad_told, context_told, escaping_told, table_told, task_told, HasLimits, HasLists, IsCommand, IsPiece, NoCommand, Tells, Unmet};
+ghost use Rattle.hflat.specs.declared.fault.Fault.TheVariants as fault;
+
+use crate::answer::Given;
+use crate::fault::Fault;
+use charref::Table;
+use hbuild::Limits;
+use hmarkup::Quirks;
+use hparse::Options;
+use hrun::{Command, Task};
+use htext::{BadBytes, MAX_INPUT};
+use hwrite::Escaping;
+use names::Keys;
+use std::alloc::Global;
+
+/// The most bytes that are fed at a time.
+const MOST_PIECE: u64 = 65_536;
+
+/// The task of a number.
+pub(crate) fn task_of(number: u32) -> Option<Task>
+    ensures { result ≡ task_told number }
+{
+    match number {
+        0 => Some(Task::Tokens),
+        1 => Some(Task::Tree),
+        2 => Some(Task::Errors),
+        3 => Some(Task::Write),
+        4 => Some(Task::Plain),
+        _ => None,
+    }
+}
+
+/// The way of escaping of a number.
+fn escaping_of(number: u32) -> Option<Escaping>
+    ensures { result ≡ escaping_told number }
+{
+    match number {
+        1 => Some(Escaping::One),
+        2 => Some(Escaping::Two),
+        _ => None,
+    }
+}
+
+/// What becomes of bad bytes, by its number.
+fn bad_bytes_of(number: u32) -> Option<BadBytes>
+    ensures { result ≡ bad_told number }
+{
+    match number {
+        0 => Some(BadBytes::Refuse),
+        1 => Some(BadBytes::Replace),
+        _ => None,
+    }
+}
+
+/// The lists that are told.
+#[derive(Drop)]
+pub(crate) struct Lists {
+    pub(crate) table: Table,
+    pub(crate) quirks: Quirks,
+}
+
+impl<'a> Given<'a> {
+    /// How `Write` escapes.
+    pub(crate) fn escaping(&self) -> Result<Escaping, Fault>
+        ensures { MatchResult result (λ how. escaping_told self.now.escaping ≡ Some how) (Unmet self.now) }
+    {
+        match escaping_of(self.escaping) {
+            Some(escaping) => Ok(escaping),
+            None => Err(Fault::BadNumber),
+        }
+    }
+
+    /// How many bytes are fed at a time.
+    pub(crate) fn piece(&self) -> Result<usize, Fault>
+        ensures { MatchResult result (λ piece. (piece ≡ self.now.piece) × IsPiece piece) (Unmet self.now) }
+    {
+        if 0 < self.piece && self.piece <= MOST_PIECE {
+            Ok(self.piece as usize)
+        } else {
+            Err(Fault::BadNumber)
+        }
+    }
+
+    /// The name of the element in which the input stands, if it is a fragment.
+    pub(crate) fn context(&self) -> Result<Option<&'a str>, Fault>
+        ensures { MatchResult result (λ name. name_of name ≡ context_told self.now.context.now) (Unmet self.now) }
+    {
+        if self.context.is_empty() {
+            return Ok(None);
+        }
+        match str::from_utf8(self.context) {
+            Ok(name) => Ok(Some(name)),
+            Err(_) => Err(Fault::NotText),
+        }
+    }
+
+    /// The table of character references.
+    fn table(&self, alloc: Global) -> Result<Table, Fault>
+        ensures { MatchResult result (λ table. table_told self.now.entities.now ≡ Ok table) (Unmet self.now) }
+    {
+        if self.entities.is_empty() {
+            return Ok(Table::core(alloc)?);
+        }
+        match str::from_utf8(self.entities) {
+            Ok(text) => Ok(Table::read(alloc, text)?),
+            Err(_) => Err(Fault::NotText),
+        }
+    }
+
+    /// The quirks list.
+    fn quirks(&self, alloc: Global) -> Result<Quirks, Fault>
+        ensures { MatchResult result (λ quirks. ReadsQuirks self.now.quirks.now (Ok quirks)) (Unmet self.now) }
+    {
+        match str::from_utf8(self.quirks) {
+            Ok(text) => Ok(Quirks::read(alloc, text)?),
+            Err(_) => Err(Fault::NotText),
+        }
+    }
+
+    /// The command that is told, with the task of this number.
+    pub(crate) fn command(&self, number: u32) -> Result<Command<'a>, Fault>
+        ensures says { MatchResult result (IsCommand number self.now) (NoCommand number self.now) }
+        ensures piece { IfOk result (λ command. 0 < command.piece) }
+    {
+        let Some(task) = task_of(number) else {
+            return Err(Fault::BadNumber);
+        };
+        Ok(Command {
+            task,
+            context: self.context()?,
+            escaping: self.escaping()?,
+            piece: self.piece()?,
+        })
+    }
+
+    /// The lists that are told.
+    pub(crate) fn lists(&self, alloc: Global) -> Result<Lists, Fault>
+        ensures { MatchResult result (HasLists self.now) (Unmet self.now) }
+    {
+        let table = self.table(alloc)?;
+        let quirks = self.quirks(alloc)?;
+        Ok(Lists { table, quirks })
+    }
+
+    /// What becomes of bytes that are not UTF-8.
+    pub(crate) fn bad_bytes(&self) -> Result<BadBytes, Fault>
+        ensures { MatchResult result (λ bad. bad_told self.now.bad_bytes ≡ Some bad) (Unmet self.now) }
+    {
+        match bad_bytes_of(self.bad_bytes) {
+            Some(bad_bytes) => Ok(bad_bytes),
+            None => Err(Fault::BadNumber),
+        }
+    }
+
+    /// How large a tree may become.
+    pub(crate) fn limits(&self) -> Result<Limits, Fault>
+        ensures { MatchResult result (HasLimits self.now) (Unmet self.now) }
+    {
+        Ok(Limits::new(MAX_INPUT, self.nodes, self.open)?)
+    }
+
+    /// The keys of the hashes.
+    fn keys(&self) -> Keys {
+        Keys::new((u128::from(self.key_high) << 64) | u128::from(self.key_low))
+    }
+
+    /// The options, which lend the lists.
+    pub(crate) fn options<'t>(
+        &self,
+        lists: &'t Lists,
+        bad_bytes: BadBytes,
+        limits: Limits,
+    ) -> Options<'t>
+        requires lists { HasLists self.now lists.now }
+        requires bad_bytes { bad_told self.now.bad_bytes ≡ Some bad_bytes }
+        requires limits { HasLimits self.now limits }
+        ensures { Tells self.now (told_by result) }
+    {
+        Options {
+            table: &lists.table,
+            quirks: &lists.quirks,
+            bad_bytes,
+            limits,
+            keys: self.keys(),
+        }
+    }
+}
