@@ -6,9 +6,9 @@ use Rattle.std.proofs.lemmas.Slice.Eq.{bytes_eq-Decides}
 use Rattle.std.proofs.lemmas.List.Quantifiers.{position-Some}
 use Rattle.std.proofs.lemmas.Grind.{common_steps}
 use Rattle.std.specs.Prelude.{String, slice_get}
-use Rattle.std.specs.List.{IsDistinct, position, list_any}
+use Rattle.std.specs.List.{IsDistinct, position, prefix_len, list_any}
 use Rattle.indexmap.specs.IndexSet.{insert_key}
-use Rattle.std.proofs.Common.{cond, is_some, nat_lt}
+use Rattle.std.proofs.Common.{cond, is_some, nat_lt, not, ◌+◌}
 use Rattle.std.proofs.lemmas.Bool.Decides.{nat_tests}
 use Rattle.std.specs.Str.{bytes_eq}
 use Rattle.std.specs.String.{string_bytes, string_eq}
@@ -87,6 +87,14 @@ number_from_position (k ∷ ks) i text h =
     let within : i < length (map string_bytes (k ∷ ks)) = simp length-map at.0 in
     let e : text_of (map string_bytes (k ∷ ks)) i ≡ text = text_of-position (k ∷ ks) i text h in
     slice_get-get_or (map string_bytes (k ∷ ks)) i [] within ∙ ap Some e
+
+-- the place of a text among the texts of keys
+pub position-texts : {A : Type 0} (text : List ℕ) (keys : List (String A)) → position (λ k. bytes_eq text (string_bytes k)) keys ≡ position (bytes_eq text) (map string_bytes keys)
+position-texts {A = A} text keys = λ i. cond (nat_lt (same keys i) (sym (length-map keys string_bytes) i)) (Some (same keys i)) None
+  where
+    same : (ks : List (String A)) → prefix_len (λ k. not (bytes_eq text (string_bytes k))) ks ≡ prefix_len (λ t. not (bytes_eq text t)) (map string_bytes ks)
+    same [] = refl
+    same (k ∷ ks) = ap (λ n. cond (not (bytes_eq text (string_bytes k))) (1 + n) 0) (same ks)
 
 -- the text of the key at a place
 pub text_of-key : {A : Type 0} (keys : List (String A)) (i : ℕ) (key : String A) → slice_get keys i ≡ Some key → slice_get (map string_bytes keys) i ≡ Some (string_bytes key)

@@ -1,7 +1,7 @@
 //! Names as numbers.
 
 ghost use Rattle.std.specs.Prelude.{◌≡◌, ◌≢◌, ℕ, ◌<◌, List, [], ◌∷◌, ◌++◌, IfOk, IfSome, OnErr, bytes_eq, length, map, slice_get, Some, true, false};
-ghost use Rattle.std.specs.List.{list_any};
+ghost use Rattle.std.specs.List.{list_any, position};
 ghost use Rattle.names.specs.Names.{Texts, IsOf, Grows, interned, AreNames};
 ghost use Rattle.names.specs.Table.{are_new, HoldsTexts};
 ghost use Rattle.names.specs.Tags.{known, tags, type_name, tag_of, number_of, tag_named, tag_text};
@@ -171,6 +171,17 @@ impl Names {
         let id = self.look_up(alloc, text)?;
         self.recent[slot_of(text)] = id.index;
         Ok(id)
+    }
+
+    /// The number of a text, if the table has it. Takes no memory.
+    pub fn find(&self, text: &str) -> Option<NameId>
+        ensures place { result ≡ position (bytes_eq text.now) self.now }
+        ensures names { AreNames self.now }
+    {
+        let index = self.texts.get_index_of(text)?;
+        Some(NameId {
+            index: index as u32,
+        })
     }
 
     /// The number that its slot has for a text, if it is the text's.
