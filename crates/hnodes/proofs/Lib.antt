@@ -38,3 +38,4 @@ pub mod Siblings
 pub mod WaysUp
 pub mod TreeOrder
 pub mod TextOrder
+pub mod ElementLemmas

@@ -14,3 +14,4 @@ pub mod Numbered
 pub mod View
 pub mod Worked
 pub mod Named
+pub mod Elements

@@ -2,6 +2,7 @@
 #![tactic(auto)]
 
 pub mod attributes;
+mod elements;
 mod laws;
 mod links;
 mod node;
@@ -9,6 +10,7 @@ mod tree;
 mod walks;
 
 pub use attributes::{index_attrs, name_number};
+pub use elements::ChildElements;
 pub use laws::{edits_know_no_names, questions_know_no_names};
 pub use node::{Doctype, Kind, NodeId, Place};
 pub use tree::Tree;

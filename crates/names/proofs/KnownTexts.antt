@@ -20,7 +20,7 @@ use Rattle.names.proofs.KnownTags.{different}
 places : map (λ t. position (bytes_eq t) known) known ≡ map Some (range_with_len 0 128)
 places = refl
 
-place_of : (i : ℕ) → i < 128 → position (bytes_eq (text_of known i)) known ≡ Some i
+pub place_of : (i : ℕ) → i < 128 → position (bytes_eq (text_of known i)) known ≡ Some i
 place_of i within =
     sym (get_or-map (λ t. position (bytes_eq t) known) known i [] None within) ∙ ap (λ (x : List (Option ℕ)). get_or x i None) places
     ∙ get_or-map Some (range_with_len 0 128) i 0 None within ∙ ap Some (get_or-range_with_len 0 128 i 0 within ∙ zero-add i)

@@ -1,7 +1,7 @@
 //! Names as numbers.
 
 ghost use Rattle.std.specs.Prelude.{◌≡◌, ◌≢◌, ℕ, ◌<◌, List, [], ◌∷◌, ◌++◌, IfOk, IfSome, OnErr, bytes_eq, option_map, length, map, slice_get, Some, true, false};
-ghost use Rattle.std.specs.List.{list_any};
+ghost use Rattle.std.specs.List.{list_any, position};
 ghost use Rattle.names.specs.Names.{Texts, IsOf, Grows, interned, AreNames};
 ghost use Rattle.names.specs.Tags.{known, tags, type_name, tag_of, number_of, tag_named, tag_text};
 ghost use Rattle.names.specs.declared.tag.Tag.{Tag as KnownTag};
@@ -143,9 +143,24 @@ impl Names {
         if let Some(id) = self.recent(text) {
             return Ok(id);
         }
-        let id = self.find(alloc, text)?;
+        let id = self.number_of(alloc, text)?;
         self.recent[slot_of(text)] = id.index;
         Ok(id)
+    }
+
+    /// The number of a text, if the table has it. Takes no memory.
+    pub fn find(&self, text: &str) -> Option<NameId>
+        ensures place { result ≡ position (bytes_eq text.now) self.now }
+        ensures names { AreNames self.now }
+    {
+        let others = &self.others;
+        if let Some(index) = known_number(text) {
+            return Some(NameId { index });
+        }
+        let index = others.get_index_of(text)?;
+        Some(NameId {
+            index: (KNOWN + index) as u32,
+        })
     }
 
     /// The number that its slot has for a text, if it is the text's.
@@ -163,7 +178,7 @@ impl Names {
     }
 
     /// The number of a text, that of a known name without a hash.
-    fn find(&mut self, alloc: Global, text: &str) -> Result<NameId, AllocError>
+    fn number_of(&mut self, alloc: Global, text: &str) -> Result<NameId, AllocError>
         requires names { AreNames self.old }
         ensures number { IfOk result (λ id. slice_get self.new id ≡ Some text.now) }
         ensures tag { IfOk result (λ id. tag_of id ≡ tag_named text.now) }

@@ -1,19 +1,30 @@
-use Rattle.std.specs.Prelude.{Some, slice_get}
-use Rattle.std.proofs.Common.{◌≡◌}
-use Rattle.std.proofs.lemmas.Option.{slice_get_within}
-use Rattle.names.proofs.KnownNumbers.{text_of_first}
-use Rattle.names.proofs.KnownTags.{tag_of-named}
-use Rattle.names.proofs.TableLemmas.{interned-there}
+use Rattle.std.proofs.Common.{◌+◌, ap, sym, ◌∙◌}
+use Rattle.std.specs.Prelude.{bytes_eq, option_map}
+use Rattle.std.specs.List.{position}
+use Rattle.names.specs.Names.{Texts}
+use Rattle.names.proofs.TableLemmas.{are_names}
+use Rattle.names.proofs.Places.{place_of_known, place_of_other}
 use Rattle.names.proofs.table.Names.find.Goals as goal
 
-there : (c : goal.In-Some) → slice_get c.args.self.now c.in-Some.index ≡ Some c.args.text.now
-there c = text_of_first c.args.self.now c.in-Some.index c.args.text.now c.requires.names c.in-Some.ensures
+pub returns-in-Some-clause-place : goal.returns-in-Some-clause-place
+returns-in-Some-clause-place c =
+    sym (place_of_known c.self.inside.others.keys c.args.text.now c.in-Some.index c.in-Some.ensures) ∙ ap (λ (names : Texts). position (bytes_eq c.args.text.now) names) c.self.view_is
 
-pub returns-in-Some-clause-number : goal.returns-in-Some-clause-number
-returns-in-Some-clause-number c = there c
+pub returns-in-Some-clause-names : goal.returns-in-Some-clause-names
+returns-in-Some-clause-names c = rw (← c.self.view_is) (are_names _ c.self.invariant)
 
-pub returns-in-Some-clause-tag : goal.returns-in-Some-clause-tag
-returns-in-Some-clause-tag c = tag_of-named c.args.self.now c.in-Some.index c.args.text.now c.requires.names (there c)
+pub returns-in_err-index-clause-place : goal.returns-in_err-index-clause-place
+returns-in_err-index-clause-place c =
+    c.from_residual.ensures ∙ ap (option_map (λ n. 128 + n)) (sym c.in_err-index.was ∙ c.get_index_of.ensures.index)
+    ∙ sym (place_of_other c.self.inside.others.keys c.args.text.now c.in_default.ensures) ∙ ap (λ (names : Texts). position (bytes_eq c.args.text.now) names) c.self.view_is
 
-pub returns-in-Some-clause-added : goal.returns-in-Some-clause-added
-returns-in-Some-clause-added c = interned-there c.args.self.now c.in-Some.index c.args.text.now (slice_get_within c.args.self.now c.in-Some.index c.args.text.now (there c))
+pub returns-in_err-index-clause-names : goal.returns-in_err-index-clause-names
+returns-in_err-index-clause-names c = rw (← c.self.view_is) (are_names _ c.self.invariant)
+
+pub returns-clause-place : goal.returns-clause-place
+returns-clause-place c =
+    ap (option_map (λ n. 128 + n)) (sym c.in_ok-index.was ∙ c.get_index_of.ensures.index)
+    ∙ sym (place_of_other c.self.inside.others.keys c.args.text.now c.in_default.ensures) ∙ ap (λ (names : Texts). position (bytes_eq c.args.text.now) names) c.self.view_is
+
+pub returns-clause-names : goal.returns-clause-names
+returns-clause-names c = rw (← c.self.view_is) (are_names _ c.self.invariant)

@@ -1,0 +1,28 @@
+use Rattle.std.proofs.Common.{◌≡◌, ◌<◌, ◌∷◌, ◌∙◌, ap, sym, subst, arith, false, length, Option, ℕ}
+use Rattle.std.specs.Prelude.{IfSome, is_some}
+use Rattle.hnodes.specs.Elements.{elements_among, is_element}
+use Rattle.hnodes.specs.Passed.{siblings_from}
+use Rattle.hnodes.proofs.ElementLemmas.{element-none}
+use Rattle.hnodes.proofs.Siblings.{siblings-step}
+use Rattle.hnodes.proofs.tree.Tree.element_from.Goals as goal
+
+pub loop-next-smaller : goal.loop-next-smaller
+loop-next-smaller c =
+    let within : c.in-Some.node < c.args.self.now.made = subst (λ (o : Option ℕ). IfSome o (λ n. n < c.args.self.now.made)) c.in-Some.is c.loop-next.invariant.within in
+    let step : siblings_from c.loop-next.next c.args.self.now.trees ≡ c.in-Some.node ∷ siblings_from c.next-next.result c.args.self.now.trees =
+    ap (λ o. siblings_from o c.args.self.now.trees) c.in-Some.is ∙ siblings-step c.args.self.now.made c.args.self.now.trees c.next-next.ensures.nodes.counted c.in-Some.node within
+    ∙ ap (λ o. c.in-Some.node ∷ siblings_from o c.args.self.now.trees) (sym c.next-next.ensures.sibling) in
+    omega (arith, ap length step)
+
+pub loop-next-preserved : goal.loop-next-preserved
+loop-next-preserved c =
+    let within : c.in-Some.node < c.args.self.now.made = subst (λ (o : Option ℕ). IfSome o (λ n. n < c.args.self.now.made)) c.in-Some.is c.loop-next.invariant.within in
+    let step : siblings_from c.loop-next.next c.args.self.now.trees ≡ c.in-Some.node ∷ siblings_from c.next-next.result c.args.self.now.trees =
+    ap (λ o. siblings_from o c.args.self.now.trees) c.in-Some.is ∙ siblings-step c.args.self.now.made c.args.self.now.trees c.next-next.ensures.nodes.counted c.in-Some.node within
+    ∙ ap (λ o. c.in-Some.node ∷ siblings_from o c.args.self.now.trees) (sym c.next-next.ensures.sibling) in
+    let other : is_element c.args.self.now.trees c.in-Some.node ≡ false = ap is_some (sym c.name.ensures) ∙ sym c.is_some.ensures ∙ c.if-is_some.false in
+    record {
+      within = c.next-next.ensures.within;
+      same = c.loop-next.invariant.same ∙ ap (λ ns. elements_among ns c.args.self.now.trees) step
+          ∙ element-none c.args.self.now.trees c.in-Some.node (siblings_from c.next-next.result c.args.self.now.trees) other;
+    }
