@@ -23,7 +23,7 @@ use Rattle.hparse.specs.Parse.{Told, fragment, manner, policy, Parse, Parses, ac
 use Rattle.hparse.specs.Taken.{placed}
 use Rattle.hlaws.specs.ComesBack.{text_of}
 use Rattle.hlaws.proofs.OneInput.{all-read}
-use Rattle.hlaws.proofs.Sorting.{in_order, order-permutes, order-sorted}
+use Rattle.hparse.proofs.Sorting.{in_order, order-permutes, order-sorted}
 
 -- bytes in UTF-8 that fit are accepted, whatever becomes of bad ones, and all read
 accepted-bytes : (how : Policy) (bytes : List ℕ) → IsUtf8 bytes → length bytes ≤ how.limit → refusal_of how bytes ≡ None

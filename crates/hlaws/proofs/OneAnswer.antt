@@ -18,7 +18,7 @@ use Rattle.hcut.proofs.SomeCut.{some_answer}
 use Rattle.hparse.specs.Answer.{Answers, read_text, refused_text, refused_bytes, accepted}
 use Rattle.hlaws.specs.OneAnswer.{ExactlyOne, OneAnswer}
 use Rattle.hlaws.proofs.OneInput.{all-read, one-some, never-both, one-list}
-use Rattle.hlaws.proofs.Sorting.{in_order, order-permutes, order-sorted}
+use Rattle.hparse.proofs.Sorting.{in_order, order-permutes, order-sorted}
 
 module _ (table : Entities) (how : Policy) (bytes : List ℕ) where
   abbrev text : List Placed

@@ -33,7 +33,7 @@ use Rattle.hparse.specs.Parse.{Told, Subject, document, fragment, Parse, Parses,
 use Rattle.hparse.specs.Taken.{placed}
 use Rattle.hlaws.specs.OneAnswer.{ExactlyOne, OneParse}
 use Rattle.hlaws.proofs.OneInput.{all-read, one-some, never-both, one-list}
-use Rattle.hlaws.proofs.Sorting.{in_order, order-permutes, order-sorted}
+use Rattle.hparse.proofs.Sorting.{in_order, order-permutes, order-sorted}
 
 -- tokens in order have one result
 steps-one : (ts : List (PlacedToken (List ℕ))) (s : State (List ℕ)) (o o' : Outcome (State (List ℕ))) → Steps texts ts s o → Steps texts ts s o' → o ≡ o'

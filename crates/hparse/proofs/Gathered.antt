@@ -3,7 +3,6 @@ use Rattle.std.proofs.Common.{◌≡◌, List, [], ◌∷◌, ◌++◌, sym, ap,
 use Rattle.std.specs.List.Sorted.{IsPermutation}
 use Rattle.names.specs.declared.error.ParseError.{ParseError}
 use Rattle.names.specs.declared.refusal.Refusal.{Refusal}
-use Rattle.names.specs.declared.refusal.Refusal.TheVariants.{Memory}
 use Rattle.names.specs.Names.{Texts}
 use Rattle.names.specs.Sink.{Hands}
 use Rattle.htoken.specs.declared.token.Token.{Token}
@@ -12,6 +11,7 @@ use Rattle.hparse.specs.declared.collect.Collected.{Collected}
 use Rattle.hparse.specs.Collecting.{KeepsError, KeepsToken}
 use Rattle.hparse.specs.Input.{Began, Handed, tokens_handed, errors_handed}
 use Rattle.hparse.specs.TokenRun.{TokensMean}
+use Rattle.hparse.proofs.Refusing.{RefusesForMemory}
 
 -- a step of the collection
 abbrev pub collects : Collected → Item → Result (Unit {0}) Refusal → Collected → Type 0
@@ -27,17 +27,12 @@ gathers s t (ItemError e ∷ items) (Ok u, next, given, rest) =
     (g.0 ∙ ap (λ (x : List Token). x ++ tokens_handed items) given.0, g.1 ∙ ap (λ (x : List ParseError). x ++ errors_handed items) given.1 ∙ append_assoc s.errors.items (e ∷ []) (errors_handed items))
 gathers s t (x ∷ items) (Err e, next, given, rest) = let never = rest.0 in absurd cc
 
-stops : (s t : Collected) (items : List Item) (e : Refusal) → Hands collects s items (Err e) t → e ≡ Memory
-stops s t [] e h = let never = h.0 in absurd cc
-stops s t (ItemToken k ∷ items) e (Err x, m, g, rest) = let is = rest.0 in let why : x ≡ Memory = g in cc
-stops s t (ItemError k ∷ items) e (Err x, m, g, rest) = let is = rest.0 in let why : x ≡ Memory = g in cc
-stops s t (x ∷ items) e (Ok u, m, g, rest) = stops m t items e rest
+-- it refuses for want of memory alone
+pub collects-refuses : RefusesForMemory collects
+collects-refuses old (ItemToken k) e new h = h
+collects-refuses old (ItemError x) e new h = h
 
 module _ (names : Texts) (began : Began Collected) (now : Collected) (tokens : List Tok) (errors : List ParseError) where
-  -- it refuses for want of memory alone
-  pub stopped : (e : Refusal) → Handed collects names began tokens errors (Err e) now → e ≡ Memory
-  stopped e h = stops began.sink now h.items e h.hands
-
   -- what an empty collection has then
   module _ (h : Handed collects names began tokens errors (Ok tt) now) where
     pub tokens_gathered : began.sink.tokens.items ≡ [] → TokensMean names now.tokens.items tokens

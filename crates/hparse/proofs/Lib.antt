@@ -9,6 +9,8 @@ pub mod Numbered
 pub mod OfNames
 pub mod Parsings
 pub mod Pieces
+pub mod Refusing
 pub mod RunOf
+pub mod Sorting
 pub mod Trees
 pub mod Turns

@@ -10,40 +10,30 @@ use Rattle.htext.specs.declared.BadBytes.{BadBytes}
 use Rattle.htext.specs.Items.{input_errors}
 use Rattle.htext.specs.Text.{Policy, decoded}
 use Rattle.charref.specs.Reference.{Entities}
-use Rattle.htoken.specs.declared.token.Start.TheVariants.{Document}
 use Rattle.htoken.specs.declared.token.Token.{Token}
 use Rattle.hparse.specs.declared.collect.Collected.{Collected}
 use Rattle.hparse.specs.declared.reading.Reading.{Reading}
 use Rattle.hparse.specs.declared.token_run.TokenRun.{TokenRun}
-use Rattle.hparse.specs.Answer.{of_document, Answers, refused_text, refused_bytes, accepted}
+use Rattle.hparse.specs.Answer.{of_document, Answers, accepted}
 use Rattle.hparse.specs.Collecting.{IsRunOf}
 use Rattle.hparse.specs.Fed.{FeedsPiece, piece_ran_out, piece_refused, piece_read, EndsInput, input_ran_out, input_comes}
-use Rattle.hparse.specs.Input.{Manner, Began, IsRefusedFor, by_sink, by_tag, by_bytes, IsTaken}
+use Rattle.hparse.specs.Input.{Began, IsRefusedFor, IsTaken}
+use Rattle.hparse.specs.Into.{as_document}
 use Rattle.hparse.specs.Shown.{Shows, AnswersRun, HasReadTokens}
 use Rattle.hparse.specs.Shown as shown
 use Rattle.hparse.specs.TokenRun.{TokensMean}
-use Rattle.hparse.proofs.Gathered.{collects, stopped, tokens_gathered, errors_gathered}
+use Rattle.hparse.proofs.Gathered.{collects, collects-refuses, tokens_gathered, errors_gathered}
+use Rattle.hparse.proofs.Refusing.{answers_refused}
 use Rattle.hparse.proofs.Pieces.{has_read}
 
 module _ (table : Entities) (of : BadBytes) (limit : ℕ) where
-  -- how a document is read
-  abbrev pub as_document : Manner
-  as_document = record { table = table; start = Document; bad = of; limit = limit }
-
   abbrev how : Policy
   how = of_document of limit
 
   module _ (began : Began Collected) (bytes : List ℕ) (names : Texts) (now : Collected) where
-    -- a refusal, but for want of memory
-    pub answers_refused : (e : Refusal) → IsRefusedFor collects as_document began bytes names now e → (e ≡ Memory) ⊎ Answers table how bytes (Err e)
-    answers_refused e (by_sink refusal events errors handed front) = inl (stopped names began now _ errors e handed)
-    answers_refused e (by_tag name at tokens errors handed refused) =
-        inr (refused_text e (record { tokens = tokens; name = name; at = at; refused = refused; refusal_is = refl }))
-    answers_refused e (by_bytes refusal tokens errors handed given read is) = inr (refused_bytes e tokens errors read is)
-
     module _ (no_tokens : began.sink.tokens.items ≡ []) (no_errors : began.sink.errors.items ≡ []) where
       -- what was taken
-      pub answers_taken : (run : TokenRun) → IsTaken collects as_document began bytes names now → IsRunOf names now run → AnswersRun table how bytes (Ok run)
+      pub answers_taken : (run : TokenRun) → IsTaken collects (as_document table of limit) began bytes names now → IsRunOf names now run → AnswersRun table how bytes (Ok run)
       answers_taken run t r =
           let all : List ParseError = input_errors (decoded how bytes) ++ t.errors in (
             t.tokens,
@@ -54,7 +44,7 @@ module _ (table : Entities) (of : BadBytes) (limit : ℕ) where
 
   -- .. or memory ran out
   module _ (began : Began Collected) (names : Texts) (now : Collected) (no_tokens : began.sink.tokens.items ≡ []) (no_errors : began.sink.errors.items ≡ []) where
-    pub run_answers : (result : Result TokenRun Refusal) → MatchResult result (IsRunOf names now) (λ refusal. refusal ≡ Memory) → (bytes : List ℕ) → IsTaken collects as_document began bytes names now
+    pub run_answers : (result : Result TokenRun Refusal) → MatchResult result (IsRunOf names now) (λ refusal. refusal ≡ Memory) → (bytes : List ℕ) → IsTaken collects (as_document table of limit) began bytes names now
         → (result ≡ Err Memory) ⊎ AnswersRun table how bytes result
     run_answers (Ok run) r bytes t = inr (answers_taken began bytes names now no_tokens no_errors run t r)
     run_answers (Err e) r bytes t = inl (ap (λ (x : Refusal). Err x) r)
@@ -70,26 +60,26 @@ module _ (table : Entities) (of : BadBytes) (limit : ℕ) where
 
     module _ (old new : Reading Collected) (h : HasReadTokens table of limit old bytes) where
       -- the end of a document
-      pub shows_end : (e : Refusal) → EndsInput collects as_document h.began bytes (Err e) new → Shows table how bytes (Err e)
+      pub shows_end : (e : Refusal) → EndsInput collects (as_document table of limit) h.began bytes (Err e) new → Shows table how bytes (Err e)
       shows_end e (input_ran_out is) = shown.ran_out (let why : e ≡ Memory = cc in ap (λ (x : Refusal). Err x) why)
-      shows_end e (input_comes r) = shows_refused e (answers_refused h.began bytes new.feeding.names new.feeding.sink e r)
+      shows_end e (input_comes r) = shows_refused e (answers_refused collects table of limit h.began bytes new.feeding.names new.feeding.sink collects-refuses e r)
 
-      pub shows_all : (result : Result TokenRun Refusal) → EndsInput collects as_document h.began bytes (Ok tt) new → MatchResult result (IsRunOf new.feeding.names new.feeding.sink) (λ refusal. refusal ≡ Memory) → Shows table how bytes result
+      pub shows_all : (result : Result TokenRun Refusal) → EndsInput collects (as_document table of limit) h.began bytes (Ok tt) new → MatchResult result (IsRunOf new.feeding.names new.feeding.sink) (λ refusal. refusal ≡ Memory) → Shows table how bytes result
       shows_all result (input_ran_out is) r = absurd cc
       shows_all (Ok run) (input_comes t) r = shows_run run (answers_taken h.began bytes new.feeding.names new.feeding.sink h.no_tokens h.no_errors run t r)
       shows_all (Err e) (input_comes t) r = shown.ran_out (ap (λ (x : Refusal). Err x) r)
 
   module _ (fed : List ℕ) (old new : Reading Collected) (h : HasReadTokens table of limit old fed) (piece : List ℕ) where
     -- a piece that is refused, whatever comes after
-    pub shows_piece : (more all : List ℕ) (e : Refusal) → FeedsPiece collects as_document h.began (fed ++ piece) (Err e) new → (fed ++ piece) ++ more ≡ all → Shows table how all (Err e)
+    pub shows_piece : (more all : List ℕ) (e : Refusal) → FeedsPiece collects (as_document table of limit) h.began (fed ++ piece) (Err e) new → (fed ++ piece) ++ more ≡ all → Shows table how all (Err e)
     shows_piece more all e (piece_ran_out is) whole = shown.ran_out (let why : e ≡ Memory = cc in ap (λ (x : Refusal). Err x) why)
     shows_piece more all e (piece_refused refusal is refused) whole =
         let same : refusal ≡ e = cc in
         subst (λ (x : List ℕ). Shows table how x (Err e)) whole
-        (shows_refused ((fed ++ piece) ++ more) e (answers_refused h.began ((fed ++ piece) ++ more) new.feeding.names new.feeding.sink e
-        (subst (IsRefusedFor collects as_document h.began ((fed ++ piece) ++ more) new.feeding.names new.feeding.sink) same (refused more))))
+        (shows_refused ((fed ++ piece) ++ more) e (answers_refused collects table of limit h.began ((fed ++ piece) ++ more) new.feeding.names new.feeding.sink collects-refuses e
+        (subst (IsRefusedFor collects (as_document table of limit) h.began ((fed ++ piece) ++ more) new.feeding.names new.feeding.sink) same (refused more))))
     shows_piece more all e (piece_read is k) whole = absurd cc
 
     -- a piece that was read
-    pub has_read_tokens : FeedsPiece collects as_document h.began (fed ++ piece) (Ok tt) new → HasReadTokens table of limit new (fed ++ piece)
-    has_read_tokens f = record { began = h.began; no_tokens = h.no_tokens; no_errors = h.no_errors; has_read = has_read collects as_document h.began (fed ++ piece) new f }
+    pub has_read_tokens : FeedsPiece collects (as_document table of limit) h.began (fed ++ piece) (Ok tt) new → HasReadTokens table of limit new (fed ++ piece)
+    has_read_tokens f = record { began = h.began; no_tokens = h.no_tokens; no_errors = h.no_errors; has_read = has_read collects (as_document table of limit) h.began (fed ++ piece) new f }

@@ -5,17 +5,17 @@ ghost use Rattle.htoken.specs.Token.{gives_item};
 ghost use Rattle.hparse.specs.Fed.{HasRead, IsUnrefused, IsUnrefusedText};
 ghost use Rattle.hparse.specs.Answer.{of_document};
 ghost use Rattle.hparse.specs.Input.{Manner, Began, Comes};
-ghost use Rattle.hparse.specs.Into.{as_document};
+ghost use Rattle.hparse.specs.Into.{as_document, ComesInto};
 ghost use Rattle.hparse.specs.Reader.{ReadsInput};
 ghost use Rattle.hparse.specs.Shown.{AnswersRun};
 
-use crate::document::{begin, run_of};
+use crate::collect::Collected;
 use crate::options::Options;
 use crate::reading::Reading;
 use crate::source::Source;
 use crate::token_run::TokenRun;
-use htoken::TokenSink;
-use names::Refusal;
+use htoken::{Start, TokenSink};
+use names::{Names, Refusal};
 use std::alloc::Global;
 
 /// The tokens of a document that a reader gives, in pieces of at most this many bytes. Reading goes on to the end, unless a read
@@ -30,9 +30,29 @@ pub fn read_tokens<R: Source>(
     ensures { ReadsInput R.left R.failed (AnswersRun options.now.table.now (of_document options.now.bad_bytes options.now.limits.input))
         (IsUnrefusedText (as_document options.now.table.now options.now.bad_bytes options.now.limits.input)) piece [] source.old source.new result }
 {
-    let mut reading = begin(alloc, options)?;
+    let (names, collected) = read_into(alloc, piece, options, Collected::new(alloc), source)?;
+    collected.into_run(names)
+}
+
+/// Hands the tokens and the parse errors of a document that a reader gives to a sink, as they come: it is read in pieces of at
+/// most this many bytes, and reading goes on to the end, unless a read fails or a piece brings a refusal. The answer is the table
+/// of the tokens' names, which is whole only then, and the sink.
+pub fn read_into<S: TokenSink + Drop, R: Source>(
+    alloc: Global,
+    piece: usize,
+    options: &Options,
+    sink: S,
+    source: &mut R,
+) -> Result<(Names, S), Refusal>
+    requires piece { 0 < piece }
+    ensures { ReadsInput R.left R.failed
+        (ComesInto (gives_item S.gives S.gives_token) (as_document options.now.table.now options.now.bad_bytes options.now.limits.input) sink)
+        (IsUnrefusedText (as_document options.now.table.now options.now.bad_bytes options.now.limits.input)) piece [] source.old source.new result }
+{
+    let names = Names::with_keys(alloc, options.keys)?;
+    let mut reading = Reading::new(alloc, options, Start::Document, names, sink);
     match read_to_end(alloc, piece, &mut reading, source) {
-        Ok(()) => run_of(reading),
+        Ok(()) => Ok(reading.into_parts()),
         Err(refusal) => {
             drop(reading);
             Err(refusal)

@@ -1,12 +1,13 @@
 -- How bytes and characters stand between quotes.
-use Rattle.std.proofs.Common.{◌≡◌, ◌≢◌, ℕ, ◌<◌, ◌≤◌, ◌-◌, ◌^◌, suc, List, [], ◌∷◌, ◌++◌, length, get_or, false, refl, sym, ap, arith, codes, append-nil}
+use Rattle.std.proofs.Common.{◌≡◌, ◌≢◌, ℕ, ◌<◌, ◌≤◌, ◌-◌, ◌^◌, suc, List, [], ◌∷◌, ◌++◌, length, get_or, true, false, refl, sym, ap, arith, codes, append-nil}
 use Rattle.std.specs.Char.{encode_utf8}
+use Rattle.std.specs.List.{list_all}
 use Rattle.std.specs.Fmt.{digits, padded_integral, format_spec}
 use Rattle.std.proofs.Math.Decide.{dec_lt}
 use Rattle.std.proofs.lemmas.Bool.Decides.{nat_tests}
 use Rattle.std.proofs.lemmas.Str.{inside_one, encode_ascii}
 use Rattle.std.proofs.lemmas.Fmt.{hex_byte}
-use Rattle.hrun.specs.Quoted.{escaped_byte, escaped}
+use Rattle.hrun.specs.Quoted.{escaped_byte, escaped, is_unescaped}
 
 -- the bytes that are not escaped
 pub escaped_byte-plain : (b : ℕ) → 32 ≤ b → b ≢ 34 → b ≢ 92 → escaped_byte b ≡ b ∷ []
@@ -33,6 +34,15 @@ escaped-plain c low not_quote not_backslash =
       | yes ascii ↦ rw (encode_ascii c ascii) (ap (λ xs. xs ++ []) (escaped_byte-plain c low not_quote not_backslash))
       | no wide ↦ escaped-high (encode_utf8 c) (λ k inside. byte-high c k (omega arith) inside)
     ]
+
+-- a text in which nothing is escaped
+pub escaped-unescaped : (text : List ℕ) → list_all is_unescaped text ≡ true → escaped text ≡ text
+escaped-unescaped [] h = refl
+escaped-unescaped (b ∷ text) h =
+    let here : is_unescaped b ≡ true = grind (arith, h) in
+    let rest : list_all is_unescaped text ≡ true = grind (arith, h) in
+    let plain : escaped_byte b ≡ b ∷ [] = escaped_byte-plain b (grind (arith, nat_tests, here)) (grind (arith, nat_tests, here)) (grind (arith, nat_tests, here)) in
+    rw (plain, escaped-unescaped text rest) refl
 
 -- a control character in two hex digits
 pub escaped_byte-hex : (n : ℕ) → n < 32 → n ≢ 10 → escaped_byte n ≡ codes "\\x" ++ padded_integral (format_spec 32 0 4 2 (2 ^ 64 - 1)) false [] (digits 16 false n)

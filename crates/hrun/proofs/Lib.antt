@@ -1,9 +1,13 @@
 pub mod Alike
-pub mod AttributeWords
 pub mod CallLemmas
 pub mod DoctypeLine
+pub mod DraftRead
+pub mod Drafting
 pub mod Escapes
+pub mod InHoles
+pub mod Fills
 pub mod Grouping
+pub mod Holes
 pub mod Meanings
 pub mod OpenLines
 pub mod Printed

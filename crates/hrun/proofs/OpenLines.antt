@@ -1,27 +1,15 @@
 -- Lines that are written while a line of characters may be open.
-use Rattle.std.proofs.Common.{◌≡◌, ℕ, Bool, true, false, List, [], ◌∷◌, ◌++◌, refl, drop, length, get_or, ◌+◌, ◌<◌, sym, ap, subst, ◌∙◌, append_assoc, codes, decimal, encode_utf8, ◌≤◌, if◌then◌else◌}
-use Rattle.std.proofs.lemmas.List.{drop_all}
+use Rattle.std.proofs.Common.{◌≡◌, ℕ, Bool, true, false, List, [], ◌∷◌, ◌++◌, refl, sym, ap, subst, ◌∙◌, append_assoc, codes, decimal, encode_utf8}
 use Rattle.std.specs.List.{flat_map}
 use Rattle.std.proofs.lemmas.List.Concat.{flat_map-append}
 use Rattle.names.specs.Names.{Texts}
 use Rattle.htoken.specs.declared.token.Token.{Token}
 use Rattle.htoken.specs.declared.token.Token.TheVariants as code
+use Rattle.hrun.specs.Draft.{after_characters, to_write}
 use Rattle.hrun.specs.Quoted.{escaped, escaped_byte}
 use Rattle.htoken.specs.Token.{Tok, TokenMeans}
-use Rattle.hrun.specs.TokenLines.{Line, Words, Characters, joined, line_of, lines_of, line_text, token_lines}
-use Rattle.hparse.specs.TokenRun.{TokensMean}
+use Rattle.hrun.specs.TokenLines.{Line, Words, Characters, joined, line_of, line_text}
 use Rattle.hrun.proofs.Grouping.{regroup}
-use Rattle.hrun.proofs.Meanings.{stands_at}
-
--- what is still to be written of lines, right after characters that are their line's so far
-abbrev pub after_characters : List Line → List ℕ
-after_characters (Characters at text ∷ lines) = escaped text ++ (codes "\"\n" ++ flat_map line_text lines)
-after_characters lines = codes "\"\n" ++ flat_map line_text lines
-
--- what is still to be written of lines, where a line of characters is open or not
-abbrev pub to_write : Bool → List Line → List ℕ
-to_write true lines = after_characters lines
-to_write false lines = flat_map line_text lines
 
 -- characters that stand right after others
 after_characters-joined : (text : List ℕ) (at : ℕ) (lines : List Line) → after_characters (joined (Characters at text) lines) ≡ escaped text ++ after_characters lines
@@ -91,22 +79,3 @@ IsWords-line_of names (code.End name at) meant other means = subst (λ (t : Tok)
 IsWords-line_of names (code.Comment text at) meant other means = subst (λ (t : Tok). IsWords (line_of t)) (sym means) tt
 IsWords-line_of names (code.Char ch at) meant other means = absurd (other ch at refl)
 IsWords-line_of names (code.Eof at) meant other means = subst (λ (t : Tok). IsWords (line_of t)) (sym means) tt
-
--- The token at a place of a run, and what is to be written of it and those after it.
-pub record IsNext (names : Texts) (token : Token) (tokens : List Tok) (open' : Bool) (written : List ℕ) (i : ℕ) : Type 0 where
-  pub it : Tok
-  pub means : TokenMeans names token it
-  pub all : written ++ to_write open' (joined (line_of it) (lines_of (drop (i + 1) tokens))) ≡ token_lines tokens
-
-pub next_at : (names : Texts) (items : List Token) (token : Token) (tokens : List Tok) (open' : Bool) (written : List ℕ) (i : ℕ)
-    → TokensMean names items tokens → i < length items → token ≡ get_or items i token
-    → written ++ to_write open' (lines_of (drop i tokens)) ≡ token_lines tokens → IsNext names token tokens open' written i
-next_at names items token tokens open' written i means inside is all =
-    let s = stands_at (TokenMeans names) items tokens i token means inside is in
-    record { it = s.it; means = s.means; all = rw (s.is_next) at all }
-
--- what is left to be written after the last token
-pub at_end : (tokens : List Tok) (open' : Bool) (written : List ℕ) (i : ℕ) → length tokens ≤ i
-    → written ++ to_write open' (lines_of (drop i tokens)) ≡ token_lines tokens → written ++ (if open' then codes "\"\n" else []) ≡ token_lines tokens
-at_end tokens true written i past all = rw (drop_all i tokens past) at all
-at_end tokens false written i past all = rw (drop_all i tokens past) at all

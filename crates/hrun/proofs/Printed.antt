@@ -1,12 +1,5 @@
 -- What is printed of an answer.
 use Rattle.std.proofs.Common.{◌≡◌, ◌∙◌, ℕ, List, Option, Bool, None, Some, ap, ap₂, refl, sym, subst, option_map, Ok}
-use Rattle.htext.specs.Text.{Policy}
-use Rattle.charref.specs.Reference.{Entities}
-use Rattle.htoken.specs.Token.{Tok}
-use Rattle.hparse.specs.declared.token_run.TokenRun.{TokenRun}
-use Rattle.hparse.specs.Answer.{Answers}
-use Rattle.hparse.specs.Shown.{AnswersRun}
-use Rattle.hparse.specs.TokenRun.{TokensMean}
 use Rattle.names.specs.declared.tag.Tag.{Tag}
 use Rattle.names.specs.Names.{AreNames, Texts, text_of}
 use Rattle.names.specs.Sets.{raw_kind}
@@ -24,13 +17,7 @@ use Rattle.hparse.specs.Parse.{Parse, Parses, Subject, Told, root_of}
 use Rattle.hparse.specs.Parsing.{AnswersParse, IsParse}
 use Rattle.hnodes.proofs.Spellings.{questions, spelled-children_of}
 use Rattle.hrun.proofs.Alike.{spelled-alike}
-use Rattle.hrun.specs.Prints.{Prints, printed, tokens_text, nodes_text, errors_text, is_plain_in, plain_line, plain_text, written_text}
-use Rattle.hrun.specs.TokenLines.{token_lines}
-
-pub tokens_printed : (table : Entities) (how : Policy) (bytes : List ℕ) (run : TokenRun) (text : List ℕ) → AnswersRun table how bytes (Ok run)
-    → ((tokens : List Tok) → TokensMean run.names run.tokens.items tokens → text ≡ token_lines tokens) → Prints (Answers table how) tokens_text bytes (Ok text)
-tokens_printed table how bytes run text (tokens, mean, its) lines =
-    subst (λ (t : List ℕ). Prints (Answers table how) tokens_text bytes (Ok t)) (sym (lines tokens mean)) (printed (tokens, run.errors.items) its)
+use Rattle.hrun.specs.Prints.{Prints, printed, nodes_text, errors_text, is_plain_in, plain_line, plain_text, written_text}
 
 -- what stands in the root of a parse: each number of a name is read as its text
 abbrev children_spelled : Parsed → Forest (List ℕ)

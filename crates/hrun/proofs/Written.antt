@@ -1,6 +1,6 @@
 -- What a run comes to, from what its reading and its writing do.
 use Rattle.std.proofs.Common.{◌≡◌, ◌⊎◌, inl, inr, true, false, None, Some, MatchResult, ℕ, List, [], ◌++◌, refl, sym, ap, subst, ◌∙◌, append-nil, Option, Result, Ok, Err}
-use Rattle.std.specs.Io.KnownBytes.{Keeps, Appends}
+use Rattle.std.specs.Io.KnownBytes.{Keeps, Appends, IsAtEnd}
 use Rattle.std.proofs.KnownBytes.{Keeps-refl, Appends-kept}
 use Rattle.names.specs.declared.refusal.Refusal.{Refusal}
 use Rattle.names.specs.declared.refusal.Refusal.TheVariants.{Memory, Read, Write, BadContext}
@@ -9,7 +9,7 @@ use Rattle.hwrite.specs.Output.{AppendsBeginning, WritesText, no_buffer, text_cu
 use Rattle.hparse.specs.declared.parser.Parser.{Parser}
 use Rattle.hparse.specs.Parse.{Told, document, fragment, is_context}
 use Rattle.hparse.specs.Parsing.{HasParsed}
-use Rattle.hparse.specs.Reader.{ReadsInput, reading_ran_out, reading_failed, reading_stopped, read_to_end}
+use Rattle.hparse.specs.Reader.{ReadsInput, reading_ran_out, reading_failed, reading_stopped, read_to_end, Gave}
 use Rattle.hrun.specs.Running.{WritesNothing, Runs, run_ran_out, read_failed, stopped, refused, write_failed, wrote, RunsIn, context_refused, ran, ReadsIn, not_allowed, allowed, BeginsIn}
 
 module _ {W : Type 0} (written : W → Option (List ℕ)) (failed : W → ℕ) where
@@ -38,16 +38,6 @@ module _ {W : Type 0} (written : W → Option (List ℕ)) (failed : W → ℕ) w
         stopped refusal before last (ap (λ (x : Refusal). Err x) (sym same)) un gave (λ more. none ((before ++ last) ++ more) refusal (from more)) few (untouched target)
     not_read none target e (read_to_end bytes un gave end its) = refused e bytes refl un gave end (none bytes e its) (untouched target)
 
-    unfailed_reads : (run : R) → ReadsInput left reads answers unrefused piece [] old new (Ok run) → reads new ≡ reads old
-    unfailed_reads run (reading_ran_out is count) = count
-    unfailed_reads run (reading_failed bytes is un given count) = absurd cc
-    unfailed_reads run (reading_stopped refusal before last is un gave from few) = gave.unfailed
-    unfailed_reads run (read_to_end bytes un gave end its) = gave.unfailed
-
-    -- there was no memory for the text
-    pub no_text : (target : W) (run : R) (e : Refusal) → ReadsInput left reads answers unrefused piece [] old new (Ok run) → e ≡ Memory → Runs left reads written failed prints unrefused piece old new target target (Err e)
-    no_text target run e r why = run_ran_out (ap (λ (x : Refusal). Err x) why) (unfailed_reads run r) (untouched target)
-
     -- what was read is an answer of some bytes
     pub an_answer : (run : R) → ReadsInput left reads answers unrefused piece [] old new (Ok run) → (bytes : List ℕ) × answers bytes (Ok run)
     an_answer run (reading_ran_out is count) = absurd cc
@@ -55,19 +45,27 @@ module _ {W : Type 0} (written : W → Option (List ℕ)) (failed : W → ℕ) w
     an_answer run (reading_stopped refusal before last is un gave from few) = absurd cc
     an_answer run (read_to_end bytes un gave end its) = (bytes, its)
 
-    -- the text was written, or a beginning of it
+    -- the input was read, and its text was written, or a beginning of it
+    text_comes : (target target' : W) (bytes text : List ℕ) (answer : Result (Unit {0}) Refusal) → Gave left reads old new bytes → IsAtEnd (left new) → prints bytes (Ok text)
+        → WritesText written failed text target target' answer → Runs left reads written failed prints unrefused piece old new target target' answer
+    text_comes target target' bytes text answer gave end printed (no_buffer e kept unfailed) = run_ran_out e gave.unfailed (record { kept = kept; unfailed = unfailed })
+    text_comes target target' bytes text answer gave end printed (text_written e appended unfailed) = wrote bytes text e gave end printed appended unfailed
+    text_comes target target' bytes text answer gave end printed (text_cut beginning rest e whole appended failing) =
+        write_failed bytes beginning rest e gave end (subst (λ (t : List ℕ). prints bytes (Ok t)) whole printed) appended failing
+
+    pub comes_to_written : (target target' : W) (run : R) (answer : Result (Unit {0}) Refusal) → ReadsInput left reads answers unrefused piece [] old new (Ok run)
+        → ((bytes : List ℕ) → answers bytes (Ok run) → (text : List ℕ) × prints bytes (Ok text) × WritesText written failed text target target' answer)
+        → Runs left reads written failed prints unrefused piece old new target target' answer
+    comes_to_written target target' run answer (reading_ran_out is count) written_of = absurd cc
+    comes_to_written target target' run answer (reading_failed bytes is un given count) written_of = absurd cc
+    comes_to_written target target' run answer (reading_stopped refusal before last is un gave from few) written_of = absurd cc
+    comes_to_written target target' run answer (read_to_end bytes un gave end its) written_of =
+        let w = written_of bytes its in text_comes target target' bytes w.0 answer gave end w.1 w.2
+
     pub comes_to_text : (target target' : W) (run : R) (text : List ℕ) (answer : Result (Unit {0}) Refusal) → ReadsInput left reads answers unrefused piece [] old new (Ok run)
         → ((bytes : List ℕ) → answers bytes (Ok run) → prints bytes (Ok text)) → WritesText written failed text target target' answer
         → Runs left reads written failed prints unrefused piece old new target target' answer
-    comes_to_text target target' run text answer (reading_ran_out is count) printed w = absurd cc
-    comes_to_text target target' run text answer (reading_failed bytes is un given count) printed w = absurd cc
-    comes_to_text target target' run text answer (reading_stopped refusal before last is un gave from few) printed w = absurd cc
-    comes_to_text target target' run text answer (read_to_end bytes un gave end its) printed (no_buffer e kept unfailed) =
-        run_ran_out e gave.unfailed (record { kept = kept; unfailed = unfailed })
-    comes_to_text target target' run text answer (read_to_end bytes un gave end its) printed (text_written e appended unfailed) =
-        wrote bytes text e gave end (printed bytes its) appended unfailed
-    comes_to_text target target' run text answer (read_to_end bytes un gave end its) printed (text_cut beginning rest e whole appended failing) =
-        write_failed bytes beginning rest e gave end (subst (λ (t : List ℕ). prints bytes (Ok t)) whole (printed bytes its)) appended failing
+    comes_to_text target target' run text answer r printed w = comes_to_written target target' run answer r (λ bytes its. (text, printed bytes its, w))
 
     -- the same of an input that stands in an element
     module _ (context : Option (List ℕ)) where

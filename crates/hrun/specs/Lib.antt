@@ -2,6 +2,7 @@ pub mod Calls
 pub mod Command
 pub mod Context
 pub mod Counted
+pub mod Draft
 pub mod Prints
 pub mod Quoted
 pub mod Running

@@ -1,5 +1,5 @@
 -- Texts between quotes, as they are printed.
-use Rattle.std.specs.Prelude.{ℕ, ◌/◌, ◌%◌, List, [], ◌∷◌, ◌++◌, ◌==◌, nat_lt, if◌then◌else◌, codes}
+use Rattle.std.specs.Prelude.{ℕ, ◌/◌, ◌%◌, Bool, not, ◌&&◌, ◌||◌, List, [], ◌∷◌, ◌++◌, ◌==◌, nat_le, nat_lt, if◌then◌else◌, codes}
 use Rattle.std.specs.Char.{digit_char}
 use Rattle.std.specs.List.{flat_map}
 
@@ -18,3 +18,7 @@ escaped text = flat_map escaped_byte text
 -- a text between quotes
 abbrev pub quoted : List ℕ → List ℕ
 quoted text = codes "\"" ++ escaped text ++ codes "\""
+
+-- whether a byte stands there as it is
+abbrev pub is_unescaped : ℕ → Bool
+is_unescaped b = nat_le 32 b && not (b == 34 || b == 92)

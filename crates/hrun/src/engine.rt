@@ -1,6 +1,6 @@
 //! An input from a reader, and what is made of it to a writer.
 
-ghost use Rattle.std.specs.Prelude.{◌≡◌, ◌<◌, ◌≤◌};
+ghost use Rattle.std.specs.Prelude.{◌≡◌, ◌<◌, ◌≤◌, []};
 ghost use Rattle.names.specs.Names.{AreNames, text_of};
 ghost use Rattle.hnodes.specs.Forest.{children_of};
 ghost use Rattle.hnodes.specs.Named.{AreOf};
@@ -10,17 +10,20 @@ ghost use Rattle.hparse.specs.Parse.{Parses};
 ghost use Rattle.hparse.specs.Parsing.{told_by, AnswersParse, IsUnrefused};
 ghost use Rattle.hparse.specs.Fed.{IsUnrefusedText};
 ghost use Rattle.hparse.specs.Into.{as_document};
+ghost use Rattle.hparse.specs.Reader.{ReadsInput};
 ghost use Rattle.hrun.specs.Command.{name_of};
 ghost use Rattle.hrun.specs.Context.{subject_in};
 ghost use Rattle.hrun.specs.Prints.{errors_text, is_plain_in, nodes_text, plain_line, plain_text, tokens_text, written_text, Prints};
+ghost use Rattle.hrun.specs.Draft.{AnswersDraft};
 ghost use Rattle.hrun.specs.Running.{BeginsIn, ReadsIn, Runs, RunsIn, RunsTask};
 ghost use Rattle.hwrite.specs.Output.{WritesText};
 
 use crate::command::{Command, Task};
-use crate::lines::token_lines;
-use hparse::{Options, Parsed, Parser, Source, parse_reader, read_tokens};
+use crate::draft::Draft;
+use crate::filling::print_draft;
+use hparse::{Options, Parsed, Parser, Source, parse_reader, read_into};
 use hwrite::{Target, is_plain, print_errors, print_tree, serialize, write_all};
-use names::Refusal;
+use names::{Names, Refusal};
 use std::alloc::Global;
 
 /// Reads an input, and writes what the command makes of it. A context that is not allowed is refused before anything is read.
@@ -61,12 +64,25 @@ fn run_tokens<S: Source, W: Target>(
         (IsUnrefusedText (as_document options.now.table.now options.now.bad_bytes options.now.limits.input)) piece
         source.old source.new target.old target.new result }
 {
-    let answer = read_tokens(alloc, piece, options, source)?;
-    let text = token_lines(alloc, &answer);
-    // What was read is let go before its text is written.
-    drop(answer);
-    let text = text?;
-    write_text(target, &text)
+    let (names, draft) = read_draft(alloc, piece, options, source)?;
+    let answer = print_draft(alloc, &draft, &names, target);
+    drop(names);
+    drop(draft);
+    answer
+}
+
+// The lines of the tokens of a document, and the names that they leave out.
+fn read_draft<S: Source>(
+    alloc: Global,
+    piece: usize,
+    options: &Options,
+    source: &mut S,
+) -> Result<(Names, Draft), Refusal>
+    requires piece { 0 < piece }
+    ensures { ReadsInput S.left S.failed (AnswersDraft options.now.table.now (of_document options.now.bad_bytes options.now.limits.input))
+        (IsUnrefusedText (as_document options.now.table.now options.now.bad_bytes options.now.limits.input)) piece [] source.old source.new result }
+{
+    read_into(alloc, piece, options, Draft::new(alloc), source)
 }
 
 // The tree of a document or a fragment.

@@ -5,9 +5,12 @@
 pub mod command;
 pub mod context;
 pub mod counted;
+mod draft;
 pub mod engine;
+mod filling;
 pub mod lines;
 mod quoted;
+mod words;
 
 pub use charref::Table;
 pub use command::{Command, Task};
@@ -20,7 +23,8 @@ pub use hnodes::{
     Ancestors, ChildElements, Children, Descendants, Doctype, Kind, NodeId, Place, Tree,
 };
 pub use hparse::{
-    Options, Parsed, Parser, Source, TokenRun, is_context, parse_reader, read_tokens, tokens,
+    Options, Parsed, Parser, Source, TokenRun, is_context, parse_reader, read_into, read_tokens,
+    tokens,
 };
 pub use htext::BadBytes;
 pub use htoken::Token;

@@ -10,14 +10,14 @@ use std::alloc::Global;
 
 /// The bytes that were written, and how often there was no memory for some.
 #[derive(Drop)]
-pub(crate) struct Gathered {
+pub struct Gathered {
     text: Vec<u8>,
     failures: u64,
 }
 
 impl Gathered {
     /// Nothing yet.
-    pub(crate) fn new(alloc: Global) -> Self
+    pub fn new(alloc: Global) -> Self
         ensures { gathered result ≡ Some [] }
     {
         Gathered {
@@ -27,7 +27,7 @@ impl Gathered {
     }
 
     /// The text, if all of it was written: what fails is memory alone.
-    pub(crate) fn into_text(self, answer: Result<(), Refusal>) -> Result<Vec<u8>, Refusal>
+    pub fn into_text(self, answer: Result<(), Refusal>) -> Result<Vec<u8>, Refusal>
         ensures { (text : List ℕ) (old : Gathered) → gathered old ≡ Some []
             → WritesText gathered failures_of text old self answer → Holds result text }
     {

@@ -21,8 +21,10 @@ mod walk;
 
 pub use content::{Content, Role, Texts};
 pub use escaping::Escaping;
+pub use gathered::Gathered;
 pub use in_memory::{error_lines, serialize_to_vec, tree_text};
 pub use lines::{print_errors, print_tree};
 pub use plain::is_plain;
 pub use serializer::serialize;
+pub use sink::{Sink, put, room};
 pub use target::{Target, write_all};

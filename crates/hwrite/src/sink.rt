@@ -12,13 +12,13 @@ const ROOM: usize = 65536;
 
 /// A target, and bytes that it is yet to be handed. Their memory is taken once: no write takes any.
 #[derive(Drop)]
-pub(crate) struct Sink<'t, W> {
+pub struct Sink<'t, W> {
     target: &'t mut W,
     held: &'t mut Vec<u8>,
 }
 
 /// The memory of what is held.
-pub(crate) fn room(alloc: Global) -> Result<Vec<u8>, AllocError>
+pub fn room(alloc: Global) -> Result<Vec<u8>, AllocError>
     ensures { IfOk result (λ room. room.items ≡ []) }
 {
     Vec::with_capacity(alloc, ROOM)
@@ -26,7 +26,7 @@ pub(crate) fn room(alloc: Global) -> Result<Vec<u8>, AllocError>
 
 impl<'t, W: Target> Sink<'t, W> {
     /// Nothing is held yet.
-    pub(crate) fn new(target: &'t mut W, held: &'t mut Vec<u8>) -> Sink<'t, W>
+    pub fn new(target: &'t mut W, held: &'t mut Vec<u8>) -> Sink<'t, W>
         ensures name { result.target.ghost_name ≡ target.entry.ghost_name }
         ensures same { result.target.now ≡ target.old }
         ensures held { result.held.now ≡ held.old }
@@ -46,7 +46,7 @@ impl<'t, W: Target> Sink<'t, W> {
     }
 
     /// Hands over what is held, and flushes the target.
-    pub(crate) fn finish(&mut self) -> Result<(), Refusal>
+    pub fn finish(&mut self) -> Result<(), Refusal>
         ensures { Ends (taken W.written W.failed self.old) (taken W.written W.failed self.new) result }
     {
         self.hand_over()?;
@@ -84,7 +84,7 @@ fn put_past<W: Target>(out: &mut Sink<'_, W>, bytes: &[u8]) -> Result<(), Refusa
 
 /// Writes all of the bytes.
 #[inline]
-pub(crate) fn put<W: Target>(out: &mut Sink<'_, W>, bytes: &[u8]) -> Result<(), Refusal>
+pub fn put<W: Target>(out: &mut Sink<'_, W>, bytes: &[u8]) -> Result<(), Refusal>
     ensures { Puts (taken W.written W.failed out.old) (taken W.written W.failed out.new) bytes.now result }
 {
     if bytes.len() > out.held.capacity() - out.held.len() {

@@ -1,4 +1,5 @@
-use Rattle.hparse.proofs.RunOf.{as_document, shows_end, shows_all}
+use Rattle.hparse.specs.Into.{as_document}
+use Rattle.hparse.proofs.RunOf.{shows_end, shows_all}
 use Rattle.hparse.proofs.document.finish.Goals as goal
 
 pub returns-in-Err : goal.returns-in-Err

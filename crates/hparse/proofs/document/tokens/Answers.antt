@@ -3,7 +3,8 @@ use Rattle.std.proofs.lemmas.List.{take_all}
 use Rattle.hparse.specs.Shown.{Shows, HasReadTokens}
 use Rattle.hparse.proofs.Joined.{joined, joined_more, joined_all}
 use Rattle.hparse.specs.Answer.{of_document}
-use Rattle.hparse.proofs.RunOf.{as_document, shows_piece, has_read_tokens}
+use Rattle.hparse.specs.Into.{as_document}
+use Rattle.hparse.proofs.RunOf.{shows_piece, has_read_tokens}
 use Rattle.hparse.proofs.document.tokens.Goals as goal
 
 pub returns-in-Err : goal.returns-in-Err

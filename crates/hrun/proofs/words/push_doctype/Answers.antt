@@ -4,8 +4,8 @@ use Rattle.hmarkup.specs.DoctypeWalk.{text_of}
 use Rattle.htoken.specs.Token.{Doctype}
 use Rattle.hrun.specs.TokenLines.{line_of, line_text}
 use Rattle.hrun.proofs.DoctypeLine.{before_end}
-use Rattle.hrun.proofs.lines.push_doctype.Goals as goal
-use Rattle.hrun.proofs.lines.push_doctype.Goals.{In_ok-push_optional-3}
+use Rattle.hrun.proofs.words.push_doctype.Goals as goal
+use Rattle.hrun.proofs.words.push_doctype.Goals.{In_ok-push_optional-3}
 
 -- what is written before the end of the line
 written : (c : In_ok-push_optional-3) (end : List ℕ) → end ≡ (if c.args.forced then codes " quirks" else codes "") ++ codes "\n"

@@ -1,6 +1,6 @@
 use Rattle.std.proofs.Common.{arith}
 use Rattle.std.proofs.lemmas.Grind.{common_steps}
-use Rattle.hrun.proofs.quoted.push_quoted.Goals as goal
+use Rattle.hrun.proofs.quoted.push_each.Goals as goal
 
 pub loop-ch-preserved : goal.loop-ch-preserved
 loop-ch-preserved c = grind (arith, common_steps)

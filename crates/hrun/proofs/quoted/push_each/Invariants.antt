@@ -1,7 +1,7 @@
 use Rattle.std.proofs.Common.{◌≡◌, ◌++◌}
 use Rattle.std.specs.String.{string_bytes}
 use Rattle.hrun.specs.Quoted.{escaped}
-use Rattle.hrun.proofs.quoted.push_quoted.Given as goal
+use Rattle.hrun.proofs.quoted.push_each.Given as goal
 
 -- what is written and what is still to come make up the whole text
 abbrev pub invariant-loop-ch : goal.invariant-loop-ch
