@@ -3,7 +3,7 @@ use Rattle.std.proofs.Common.{◌≡◌, ℕ, ◌≤◌, ◌+◌, zero, suc, Boo
 use Rattle.std.specs.Prelude.{encode_utf8_all}
 use Rattle.std.specs.List.{list_all, prefix_len}
 use Rattle.std.proofs.lemmas.Bool.Decides.{nat_tests}
-use Rattle.std.proofs.lemmas.Bool.{and_parts, and_from}
+use Rattle.std.proofs.lemmas.Bool.{and_parts, and_from, eqb-true}
 use Rattle.std.proofs.lemmas.List.{take_at, drop_at, take-append-drop, length-append, length-take-le, length-drop, drop-drop, take_all, drop_all, nil_from_length}
 use Rattle.std.proofs.lemmas.List.Folds.{list_all-append}
 use Rattle.std.proofs.Math.Seq.{get_or-append_seam}
@@ -131,7 +131,11 @@ pub plain_after : (n : ℕ) (bytes : List ℕ) → IsCut n bytes → list_all is
 plain_after n bytes cut h =
     (and_parts (list_all is_plain (chars (take n bytes))) _ (sym (list_all-append is_plain (chars (take n bytes)) (chars (drop n bytes))) ∙ ap (list_all is_plain) (sym (chars_cut n bytes cut)) ∙ h)).1
 
--- a text that is not empty has characters
+-- a text that is empty has no characters, and another one has some
+pub no_characters : (bytes : List ℕ) → true ≡ eqb (length bytes) 0 → chars bytes ≡ []
+no_characters [] none = chars-nil
+no_characters (b ∷ bs) none = absurd (omega (arith, eqb-true (length (b ∷ bs)) 0 (sym none)))
+
 pub has_characters : (bytes : List ℕ) → IsUtf8 bytes → false ≡ eqb (length bytes) 0 → false ≡ eqb (length (chars bytes)) 0
 has_characters bytes u some = by (chars bytes) (encodes-chars bytes u) where
   by : (cs : List ℕ) → encode_utf8_all cs ≡ bytes → false ≡ eqb (length cs) 0

@@ -1,4 +1,4 @@
-use Rattle.std.proofs.Common.{◌≡◌, ℕ, true, None, ap, sym, subst, ◌∙◌}
+use Rattle.std.proofs.Common.{◌≡◌, ℕ, List, true, None, Ok, refl, ap, sym, subst, ◌∙◌}
 use Rattle.std.specs.Str.{chars}
 use Rattle.names.specs.Placed.{placed}
 use Rattle.names.specs.Sink.{Hands}
@@ -10,9 +10,13 @@ use Rattle.hadopt.specs.Site.{SiteOf}
 use Rattle.hmodes.specs.States.{state_of}
 use Rattle.hbuild.specs.Building.{Building, Stands, TakesToken}
 use Rattle.hbuild.specs.Runs.{puts_each}
-use Rattle.htext.proofs.Wide.{has_characters}
+use Rattle.htext.proofs.Wide.{has_characters, no_characters}
 use Rattle.hbuild.proofs.PlainRun.{run_taken, free-of, puts-of, gives-of, left_is, stands_by_run}
 use Rattle.hbuild.proofs.builder.BuilderTokenSink.take_run.Goals as goal
+
+pub returns-then-is_empty : goal.returns-then-is_empty
+returns-then-is_empty c =
+    subst (λ (l : List ℕ). Hands TakesToken c.args.self.now (run_tokens (placed c.args.at l)) (Ok tt) c.args.self.now) (sym (no_characters c.args.run.now c.if-is_empty.ensures)) (refl, refl)
 
 pub returns : goal.returns
 returns c =

@@ -1,16 +1,20 @@
-use Rattle.std.proofs.Common.{[], subst, refl}
+use Rattle.std.proofs.Common.{[], List, ℕ, Ok, subst, sym, refl}
 use Rattle.std.specs.Str.{chars}
 use Rattle.names.specs.Sink.{Hands}
 use Rattle.names.proofs.Handing.{grows_not}
 use Rattle.htext.specs.Items.{characters_among}
 use Rattle.htext.specs.Run.{run_items}
-use Rattle.htext.proofs.Wide.{has_characters}
+use Rattle.htext.proofs.Wide.{has_characters, no_characters}
 use Rattle.htoken.specs.Standing.{start_kind}
 use Rattle.htoken.specs.Token.{gives_item}
 use Rattle.hparse.specs.Holding.{Proceeds}
 use Rattle.hparse.specs.Intake.{Intake}
 use Rattle.hparse.proofs.Held.{run_taken}
 use Rattle.hparse.proofs.feeding.FeedingCharSink.take_text.Goals as goal
+
+pub returns-then-is_empty : goal.returns-then-is_empty
+returns-then-is_empty g c =
+    subst (λ (l : List ℕ). Hands (Proceeds (gives_item g.S.ErrorSink.gives g.S.TokenSink.gives_token)) c.args.self.now (run_items c.args.at l) (Ok tt) c.args.self.now) (sym (no_characters c.args.run.now c.if-is_empty.ensures)) (refl, refl)
 
 pub returns : goal.returns
 returns g c =
