@@ -170,6 +170,7 @@ class Forest:
             return f"{'yes' if node.name == name else 'no'} {quoted((node.attrs or {}).get(name))}"
         return {
             "children": spaced(self.nodes[number].children),
+            "elements": spaced(child for child in self.nodes[number].children if self.nodes[child].kind == "Element"),
             "ancestors": spaced(self.ancestors(number)),
             "descendants": spaced(inside),
             "content": quoted("".join(self.nodes[each].text for each in inside if self.nodes[each].kind == "Text")),
@@ -233,8 +234,6 @@ class Script:
                 return str(fnv(node_sum(tuple(links), node.text) for links, node in pairs))
             case "node", number:
                 return self.forest.all_of(number, self.shown)
-            case "named", _, name:
-                self.shown(name)
         return self.forest.question(word, *words)
 
     def call(self, line, by_hand=None):
@@ -251,7 +250,7 @@ class Script:
     def ask_each(self):
         """Every question about every node."""
         for number in range(len(self.forest.nodes)):
-            for word in ("node", "children", "ancestors", "descendants", "content"):
+            for word in ("node", "children", "elements", "ancestors", "descendants", "content"):
                 self.call(f"tree {word} {number}")
 
 

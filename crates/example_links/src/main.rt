@@ -10,7 +10,7 @@ fn main(rt: HostRuntime) -> anyhow::Result<()> {
     let name = env::args(&rt)?.nth(1).context("name a page")?;
     let bytes = fs::read(&rt, name.as_str())?;
     match parse(rt.alloc(), &bytes) {
-        Ok(mut page) => print_links(&rt, &mut page),
+        Ok(page) => print_links(&rt, &page),
         Err(refusal) => Ok(println!(rt; "refused: {refusal}")?),
     }
 }
@@ -26,13 +26,11 @@ fn parse(alloc: Global, bytes: &[u8]) -> Result<Parsed, Refusal> {
     parser.finish()
 }
 
-fn print_links(rt: &HostRuntime, page: &mut Parsed) -> anyhow::Result<()> {
-    let href = page.names.intern(rt.alloc(), "href")?;
+fn print_links(rt: &HostRuntime, page: &Parsed) -> anyhow::Result<()> {
     for node in page.tree.descendants(page.tree.document()) {
         if page.tree.is(node, Tag::A) {
-            if let Some(link) = page.tree.attr(node, href) {
-                let text = page.tree.text_content(rt.alloc(), node)?;
-                println!(rt; "{link} {text}")?;
+            if let Some(link) = page.tree.attribute(&page.names, node, "href") {
+                println!(rt; "{link} {}", page.tree.text_content(rt.alloc(), node)?)?;
             }
         }
     }

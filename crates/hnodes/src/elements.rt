@@ -49,7 +49,8 @@ impl Tree {
     /// The first element among a node and the siblings after it.
     fn element_from(&self, first: Option<NodeId>) -> Option<NodeId>
         requires { IfSome first (λ n. n < self.now.made) }
-        ensures same { elements_among (siblings_from first self.now.trees) self.now.trees ≡ elements_among (siblings_from result self.now.trees) self.now.trees }
+        ensures same { elements_among (siblings_from first self.now.trees) self.now.trees
+            ≡ elements_among (siblings_from result self.now.trees) self.now.trees }
         ensures element { IfSome result (λ n. (n < self.now.made) × IsTrue (is_element self.now.trees n)) }
     {
         let mut next = first;

@@ -244,7 +244,7 @@ fn widen_content(content: &mut Content, alloc: Global) -> Result<(), AllocError>
     Ok(())
 }
 
-/// .. with an index of all their names.
+/// The same, and takes all their names into the index.
 fn index_content(content: &mut Content, alloc: Global) -> Result<(), AllocError>
     ensures { content_is content.new ≡ content_is content.old }
 {

@@ -207,8 +207,8 @@ pub fn parser<'t>(
     }
 }
 
-// Writes a text, and flushes.
-fn write_text<W: Target>(target: &mut W, text: &[u8]) -> Result<(), Refusal>
+/// Writes a text, and flushes.
+pub fn write_text<W: Target>(target: &mut W, text: &[u8]) -> Result<(), Refusal>
     ensures { WritesText W.written W.failed text.now target.old target.new result }
 {
     write_all(target, text)?;

@@ -13,10 +13,12 @@ pub use charref::Table;
 pub use command::{Command, Task};
 pub use context::check_context;
 pub use counted::Counted;
-pub use engine::{parser, run};
+pub use engine::{parser, run, write_text};
 pub use hbuild::Limits;
 pub use hmarkup::Quirks;
-pub use hnodes::{Kind, NodeId, Place, Tree};
+pub use hnodes::{
+    Ancestors, ChildElements, Children, Descendants, Doctype, Kind, NodeId, Place, Tree,
+};
 pub use hparse::{
     Options, Parsed, Parser, Source, TokenRun, is_context, parse_reader, read_tokens, tokens,
 };

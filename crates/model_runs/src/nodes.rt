@@ -8,7 +8,7 @@ use crate::kit::Answer;
 use crate::sums::sum;
 use crate::words::word;
 use hnodes::{NodeId, Tree};
-use names::{NameId, Refusal};
+use names::{Names, Refusal};
 use std::alloc::Global;
 
 /// Answers a question about a tree.
@@ -16,25 +16,24 @@ pub fn ask(hand: &mut Hand, line: &str) -> Result<Answer, Refusal> {
     match word(line, 1) {
         "made" => Ok(Answer::Number(hand.tree.made() as usize)),
         "sum" => Ok(Answer::Number(sum(&hand.tree) as usize)),
-        "named" => ask_name(hand, line),
+        "named" => Ok(ask_name(hand, line)),
         word => ask_node(hand, word, line),
     }
 }
 
 /// Says whether a node is an element of a name, and the value of its attribute of that name, or `-`.
-fn ask_name(hand: &mut Hand, line: &str) -> Result<Answer, Refusal> {
-    let name = hand.name(line, 3)?;
+fn ask_name(hand: &mut Hand, line: &str) -> Answer {
     match hand.node(line, 2) {
-        Some(node) => Ok(say_named(&hand.tree, node, name, &mut hand.out)),
-        None => Ok(Answer::NotMade),
+        Some(node) => say_named(&hand.tree, &hand.names, node, word(line, 3), &mut hand.out),
+        None => Answer::NotMade,
     }
 }
 
-fn say_named(tree: &Tree, node: NodeId, name: NameId, out: &mut Answers) -> Answer
+fn say_named(tree: &Tree, names: &Names, node: NodeId, name: &str, out: &mut Answers) -> Answer
     requires { node < tree.now.made }
 {
-    out.flag(tree.name(node) == Some(name));
-    match tree.attr(node, name) {
+    out.flag(tree.is_element(names, node, name));
+    match tree.attribute(names, node, name) {
         Some(value) => out.quoted(value),
         None => out.word("-"),
     }
@@ -73,6 +72,7 @@ fn say_about(tree: &Tree, word: &str, node: NodeId, out: &mut Answers) -> Answer
     match word {
         "node" => say_node(tree, node, out),
         "children" => say_children(tree, node, out),
+        "elements" => say_elements(tree, node, out),
         "ancestors" => say_ancestors(tree, node, out),
         "descendants" => say_descendants(tree, node, out),
         _ => return Answer::NotMade,
@@ -93,6 +93,14 @@ fn say_descendants(tree: &Tree, node: NodeId, out: &mut Answers)
 {
     for inside in tree.descendants(node) {
         out.number(inside.index());
+    }
+}
+
+fn say_elements(tree: &Tree, node: NodeId, out: &mut Answers)
+    requires { node < tree.now.made }
+{
+    for child in tree.child_elements(node) {
+        out.number(child.index());
     }
 }
 
