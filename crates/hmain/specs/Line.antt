@@ -1,5 +1,5 @@
 -- The command line of the program, in the words of `clap`, and what its words say.
-use Rattle.std.specs.Prelude.{◌≡◌, ◌⊎◌, ◌^◌, ◌-◌, ℕ, ⊤, true, List, [], ◌∷◌, map, Option, None, Some, option_and_then, option_map, bytes_eq, codes, IsSome, ◌==◌, if◌then◌else◌}
+use Rattle.std.specs.Prelude.{◌≡◌, ◌⊎◌, ◌^◌, ◌-◌, ℕ, ⊤, Bool, true, false, List, [], ◌∷◌, map, Option, None, Some, option_and_then, option_map, bytes_eq, codes, IsSome, ◌==◌, if◌then◌else◌}
 use Rattle.std.specs.Str.Parse.{digits_value, without_leading_plus}
 use Rattle.clap.specs.Words.{App, IsAmong, IsUnsignedIn, Rule, Text, fault_of, first_of, kind_of, new_app, new_rule, subcommand_of, with_rule, with_subcommand}
 use Rattle.htext.specs.declared.BadBytes.{BadBytes}
@@ -70,6 +70,11 @@ commands =
 
 abbrev pub program : App
 program = with_commands commands bare_program
+
+-- whether the words are `--version` alone, after the program's own name
+abbrev pub asks_version : List Text → Bool
+asks_version (own ∷ word ∷ []) = bytes_eq word (codes "--version")
+asks_version words = false
 
 -- the task that the words name
 abbrev pub task_of : List Text → Option Task

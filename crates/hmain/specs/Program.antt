@@ -1,7 +1,7 @@
 -- What the program does in its surroundings. `has_words`, `cannot_begin` (there are no words, or no keys), `opens` and `cannot_open` say
 -- what calls of the surroundings returned; of a reader `left` says the bytes that it has left, where it tells, and of a writer `written`
 -- those that it has taken; `failed` says how many of their calls have failed.
-use Rattle.std.specs.Prelude.{◌≡◌, ◌⊎◌, ℕ, List, [], true, Option, None, Some, Result, Ok, Err, IfSome, MatchResult, option_map, codes}
+use Rattle.std.specs.Prelude.{◌≡◌, ◌⊎◌, ℕ, List, [], true, false, Option, None, Some, Result, Ok, Err, IfSome, MatchResult, option_map, codes}
 use Rattle.clap.specs.Words.{Text, takes}
 use Rattle.names.specs.declared.refusal.Refusal.{Refusal}
 use Rattle.names.specs.declared.refusal.Refusal.TheVariants.{Memory, BadLimits, BadContext}
@@ -12,6 +12,7 @@ use Rattle.htext.specs.declared.decoder.TheConstants.{MAX_INPUT}
 use Rattle.hbuild.specs.Bounds.{AreLimits, Bounds}
 use Rattle.hrun.specs.declared.command.Task.{Task}
 use Rattle.hwrite.specs.declared.escaping.Escaping.{Escaping}
+use Rattle.hwrite.specs.Output.{WritesText}
 use Rattle.hrun.specs.Calls.{EndsWith}
 use Rattle.hrun.specs.declared.command.Command.{Command}
 use Rattle.hparse.specs.declared.options.Options.{Options}
@@ -22,7 +23,8 @@ use Rattle.hrun.specs.Running.{RunsTask}
 use Rattle.hmain.specs.declared.fault.Fault.{Fault}
 use Rattle.hmain.specs.declared.fault.Fault.TheVariants as fault
 use Rattle.hmain.specs.Ending.{ending_text, status_of}
-use Rattle.hmain.specs.Line.{program, task_of, value_of, escaping_of, number_or, bad_bytes_of, AreGood, FaultOf}
+use Rattle.hmain.specs.Line.{program, task_of, value_of, asks_version, escaping_of, number_or, bad_bytes_of, AreGood, FaultOf}
+use Rattle.hmain.specs.declared.version.TheConstants.{VERSION}
 
 -- what a run of the engine is for the program
 abbrev pub outcome_of : Result (Unit {0}) Refusal → Result (Unit {0}) Fault
@@ -60,6 +62,12 @@ AnswersInput left reads written writes told source source' target target' outcom
     (answer : Result (Unit {0}) Refusal)
     × RunsTask left reads written writes told.escaping told.task told.context told.settings told.piece source source' target target' answer
     × (outcome ≡ outcome_of answer)
+
+-- The version was written.
+pub record WritesVersion {W : Type 0} (written : W → Option (List ℕ)) (writes : W → ℕ) (target target' : W) (outcome : Result (Unit {0}) Fault) : Type 0 where
+  pub answer : Result (Unit {0}) Refusal
+  pub writes_text : WritesText written writes VERSION.now target target' answer
+  pub outcome_is : outcome ≡ outcome_of answer
 
 -- what is read of the text of a table of character references
 abbrev pub ReadsTable : List ℕ → Result Entities Refusal → Type 0
@@ -148,7 +156,10 @@ module _ {R F S W : Type 0} (has_words : R → List Text → Type 0) (cannot_beg
   pub data Answers (surroundings : R) (input input' : S) (output output' : W) (outcome : Result (Unit {0}) Fault) : Type 0 where
     line_missing : (why : Fault) → cannot_begin surroundings why → outcome ≡ Err why → input' ≡ input → output' ≡ output
         → Answers surroundings input input' output output' outcome
-    line_answered : (words : List Text) → has_words surroundings words
+    line_for_version : (words : List Text) → has_words surroundings words → asks_version words ≡ true
+        → WritesVersion written writes output output' outcome → input' ≡ input
+        → Answers surroundings input input' output output' outcome
+    line_answered : (words : List Text) → has_words surroundings words → asks_version words ≡ false
         → AnswersWords opens cannot_open left_in_file failed_in_file has_text lacks_text left reads written writes surroundings words input input' output
         output' outcome
         → Answers surroundings input input' output output' outcome

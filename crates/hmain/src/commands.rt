@@ -25,6 +25,8 @@ pub enum Reads {
 pub struct Entry {
     pub name: &'static str,
     pub about: &'static str,
+    /// What stands at the end of its help.
+    pub example: &'static str,
     pub reads: Reads,
 }
 
@@ -40,32 +42,38 @@ pub struct Choice {
 static COMMANDS: [Entry; 6] = [
     Entry {
         name: "tokens",
-        about: "A line for each token",
+        about: "The tokens of a document, a line each",
+        example: "Example: printf '<p class=x>a' | htmlp tokens",
         reads: Reads::Document,
     },
     Entry {
         name: "tree",
-        about: "The tree, a line for each node",
+        about: "The tree of a document",
+        example: "Example: htmlp tree --entities entities.json page.html",
         reads: Reads::Document,
     },
     Entry {
         name: "errors",
-        about: "A line for each parse error",
+        about: "The parse errors of a document, or of a fragment, a line each: the byte and the code",
+        example: "Example: printf '<p id=a id=b>' | htmlp errors --in div",
         reads: Reads::Either,
     },
     Entry {
         name: "write",
-        about: "The tree as HTML",
+        about: "The serialization of a document, or of a fragment",
+        example: "Example: htmlp write --in div --escape 2 fragment.html",
         reads: Reads::Written,
     },
     Entry {
         name: "fragment",
-        about: "The tree of a fragment",
+        about: "The tree of a fragment in the context of an element of a name",
+        example: "Example: printf '<b>1<p>2</b>3</p>' | htmlp fragment --in div",
         reads: Reads::Fragment,
     },
     Entry {
         name: "plain",
-        about: "Whether a fragment is plain",
+        about: "Whether a fragment comes back when its serialization is parsed: plain or not plain",
+        example: "Example: printf '<form><div></form><form>x' | htmlp plain --in div",
         reads: Reads::Fragment,
     },
 ];
@@ -151,6 +159,9 @@ fn bare_program<'a>(alloc: Global) -> Command<'a>
 {
     Command::new(alloc, "htmlp")
         .about("Reads HTML as the HTML Standard says")
+        .after_help(
+            "htmlp --version writes the version, htmlp COMMAND --help the options of a command.",
+        )
         .subcommand_required(true)
         .disable_help_subcommand(true)
 }
@@ -207,6 +218,7 @@ fn bare_command<'a>(alloc: Global, entry: &Entry) -> Result<Command<'a>, AllocEr
 {
     Command::new(alloc, entry.name)
         .about(entry.about)
+        .after_help(entry.example)
         .arg(file(alloc))
 }
 

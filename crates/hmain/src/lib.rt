@@ -9,6 +9,7 @@ pub mod line;
 pub mod program;
 pub mod said;
 pub mod surroundings;
+mod version;
 
 pub use fault::Fault;
 pub use host::start;

@@ -11,6 +11,7 @@ use crate::fault::Fault;
 use crate::line::line;
 use crate::said::Line;
 use crate::surroundings::Surroundings;
+use crate::version::{asks_version, write_version};
 use charref::Table;
 use hbuild::Limits;
 use hmarkup::Quirks;
@@ -47,6 +48,9 @@ fn answer<R: Surroundings, S: Source, W: Target>(
 {
     let words = surroundings.words()?;
     let keys = surroundings.keys()?;
+    if asks_version(&words) {
+        return write_version(output);
+    }
     answer_words(surroundings, keys, &words, input, output)
 }
 
