@@ -159,7 +159,9 @@ fn bare_program<'a>(alloc: Global) -> Command<'a>
 {
     Command::new(alloc, "htmlp")
         .about("Reads HTML as the HTML Standard says")
-        .after_help("htmlp --version writes the version, htmlp COMMAND --help the options of a command.")
+        .after_help(
+            "htmlp --version writes the version, htmlp COMMAND --help the options of a command.",
+        )
         .subcommand_required(true)
         .disable_help_subcommand(true)
 }

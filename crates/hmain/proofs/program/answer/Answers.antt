@@ -21,4 +21,4 @@ returns g c =
     (sym (c.asks_version.ensures ∙ ap (λ words. asks_version (map string_bytes words)) c.deref.ensures.value) ∙ c.if-asks_version.false)
     (subst (λ words. AnswersWords g.R.Surroundings.opens g.R.Surroundings.cannot_open g.R.File.Source.left g.R.File.Source.failed g.R.Surroundings.has_text g.R.Surroundings.lacks_text g.S.Source.left g.S.Source.failed
     g.W.Target.written g.W.Target.failed c.args.surroundings.now words c.args.input.now c.answer_words.new.input c.args.output.now c.answer_words.new.output c.answer_words.result)
-    (ap (map string_bytes) c.deref-else-asks_version.ensures.value) c.answer_words.ensures)
+    (ap (map string_bytes) c.deref-2.ensures.value) c.answer_words.ensures)
