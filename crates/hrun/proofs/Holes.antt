@@ -35,10 +35,10 @@ digits-whole zero n acc h = h
 digits-whole (suc k) n acc h =
     let more : IsWhole (digit_glyph false (n % 10) ∷ acc) = IsWhole-cons (digit_glyph false (n % 10)) acc (glyph-large (n % 10)) h in
     go (eqb (n / 10) 0) more (digits-whole k (n / 10) (digit_glyph false (n % 10) ∷ acc) more) where
-  go : (v : Bool) → IsWhole (digit_glyph false (n % 10) ∷ acc) → IsWhole (digits_onto k 10 false (n / 10) (digit_glyph false (n % 10) ∷ acc))
-      → IsWhole (cond v (digit_glyph false (n % 10) ∷ acc) (digits_onto k 10 false (n / 10) (digit_glyph false (n % 10) ∷ acc)))
-  go true last more = last
-  go false last more = more
+      go : (v : Bool) → IsWhole (digit_glyph false (n % 10) ∷ acc) → IsWhole (digits_onto k 10 false (n / 10) (digit_glyph false (n % 10) ∷ acc))
+          → IsWhole (cond v (digit_glyph false (n % 10) ∷ acc) (digits_onto k 10 false (n / 10) (digit_glyph false (n % 10) ∷ acc)))
+      go true last more = last
+      go false last more = more
 
 pub decimal-whole : (n : ℕ) → IsWhole (decimal n)
 unfolding digits

@@ -33,7 +33,10 @@ fn put_escaped_byte<W: Target>(out: &mut Sink<'_, W>, byte: u8) -> Result<(), Re
         b'"' => put(out, b"\\\""),
         b'\\' => put(out, b"\\\\"),
         b'\n' => put(out, b"\\n"),
-        0..32 => put(out, &[b'\\', b'x', hex_digit(byte / 16), hex_digit(byte % 16)]),
+        0..32 => put(
+            out,
+            &[b'\\', b'x', hex_digit(byte / 16), hex_digit(byte % 16)],
+        ),
         _ => put(out, &[byte]),
     }
 }
@@ -97,11 +100,7 @@ fn put_filled<W: Target>(
 }
 
 /// Writes the lines of a draft.
-fn put_draft<W: Target>(
-    out: &mut Sink<'_, W>,
-    draft: &Draft,
-    names: &Names,
-) -> Result<(), Refusal>
+fn put_draft<W: Target>(out: &mut Sink<'_, W>, draft: &Draft, names: &Names) -> Result<(), Refusal>
     requires { (text : List ℕ) × ComesTo names.now (drafted draft.now) [] text }
     ensures { (text : List ℕ) → ComesTo names.now (drafted draft.now) [] text
         → Puts (taken W.written W.failed out.old) (taken W.written W.failed out.new) text result }

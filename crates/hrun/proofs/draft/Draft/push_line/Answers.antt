@@ -19,8 +19,11 @@ returns-in-Comment c = λ names meant means.
     let at = c.in-Comment in
     let same : c.deref-in-Comment.result.now ≡ string_bytes at.comment = search rules in
     on_ok c.push_comment.result c.push_comment.ensures
-    (λ is. (whole_line names _ _ _ (Comment (string_bytes at.comment) at.at) meant (subst (λ (t : Token). TokenMeans names t meant) at.is means)
-    (is ∙ ap (λ (text : List ℕ). string_bytes c.args.self.now.text ++ line_text (line_of (Comment text at.at))) same) (comment-whole (string_bytes at.comment) at.at), refl))
+    (λ is. (
+      whole_line names _ _ _ (Comment (string_bytes at.comment) at.at) meant (subst (λ (t : Token). TokenMeans names t meant) at.is means)
+          (is ∙ ap (λ (text : List ℕ). string_bytes c.args.self.now.text ++ line_text (line_of (Comment text at.at))) same) (comment-whole (string_bytes at.comment) at.at),
+      refl,
+    ))
 
 pub returns-in-Char : goal.returns-in-Char
 returns-in-Char c = λ names meant means.
