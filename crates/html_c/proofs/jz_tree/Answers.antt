@@ -1,0 +1,4 @@
+use Rattle.html_c.proofs.jz_tree.Goals as goal
+
+pub returns-clause-answers : goal.returns-clause-answers
+returns-clause-answers c = c.write_tree.ensures
