@@ -89,7 +89,7 @@ impl<'t> TagWalk<'t> {
         }
     }
 
-    /// .. in the tag's name.
+    /// Takes that part of the tag's name.
     fn part_of_name(&mut self, run: &str) -> Result<usize, AllocError>
         requires phase { self.old.phase ≡ Phase.Name }
         requires plain { list_all is_plain_byte run.now ≡ true }
@@ -100,7 +100,7 @@ impl<'t> TagWalk<'t> {
         Ok(count)
     }
 
-    /// .. in an attribute's name.
+    /// Takes that part of an attribute's name.
     fn part_of_attribute(&mut self, run: &str) -> Result<usize, AllocError>
         requires phase { self.old.phase ≡ Phase.AttributeName }
         requires plain { list_all is_plain_byte run.now ≡ true }
@@ -111,7 +111,7 @@ impl<'t> TagWalk<'t> {
         Ok(count)
     }
 
-    /// .. in a value in quotes.
+    /// Takes that part of a value in quotes.
     fn part_of_quoted(&mut self, mark: char, run: &str) -> Result<usize, AllocError>
         requires phase { self.old.phase ≡ Phase.Quoted mark }
         requires plain { list_all is_plain_byte run.now ≡ true }
@@ -125,7 +125,7 @@ impl<'t> TagWalk<'t> {
         Ok(count)
     }
 
-    /// .. in a value without quotes.
+    /// Takes that part of a value without quotes.
     fn part_of_unquoted(&mut self, run: &str) -> Result<usize, AllocError>
         requires phase { self.old.phase ≡ Phase.Unquoted }
         requires plain { list_all is_plain_byte run.now ≡ true }

@@ -49,7 +49,7 @@ impl<'t> Tokenizer<'t> {
         }
     }
 
-    /// .. before a character with which it begins no markup: it is text.
+    /// A `<` before a character with which it begins no markup is text.
     fn less_is_text<S: TokenSink>(&mut self, ch: char, at: u64, sink: &mut S) -> Result<(), Refusal>
         requires state { self.old.state ≡ State.Less }
         requires other { is_no_markup (record { ch = ch; at = at } ∷ []) ≡ true }

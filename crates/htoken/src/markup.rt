@@ -88,7 +88,7 @@ impl<'t> Tokenizer<'t> {
         Ok(())
     }
 
-    /// .. and takes this character, which comes after them.
+    /// Begins it in the same way, and takes this character, which comes after those that are held.
     fn begin_held_at<S: TokenSink>(
         &mut self,
         code: ErrorCode,
@@ -117,7 +117,7 @@ impl<'t> Tokenizer<'t> {
         Ok(())
     }
 
-    /// .. at this character, which is the first of it.
+    /// Begins it in the same way, and takes this character, which is the first of it.
     pub(crate) fn begin_bogus_at<S: TokenSink>(
         &mut self,
         code: ErrorCode,

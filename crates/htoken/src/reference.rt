@@ -86,7 +86,7 @@ impl<'t> Tokenizer<'t> {
         (self.held.len() + 1).saturating_sub(left)
     }
 
-    /// .. where the input ends after them.
+    /// How many of them belong to it where the input ends after them, and so many are read again.
     pub(crate) fn left_at_end(&self, left: usize) -> usize
         ensures { result ≡ length self.now.held.items - left }
     {

@@ -18,7 +18,7 @@ pub(crate) enum Level {
     Plain,
     /// After `<!--`.
     Escaped,
-    /// .. and `<script`.
+    /// After `<!--` and `<script`.
     DoubleEscaped,
 }
 
@@ -146,7 +146,7 @@ impl Word {
         }
     }
 
-    /// .. that is no `<`, after `<` and so many characters of the name.
+    /// What ends the text after a character that is no `<`, where `<` and so many characters of the name did.
     fn after_letters(name: &[u8], n: usize, ch: char) -> Word
         ensures { result ≡ next_word name.now (Word.Read n) ch }
     {
@@ -202,7 +202,7 @@ impl Script {
         script
     }
 
-    /// .. those of a text.
+    /// The script after the characters of a text.
     pub fn after_text(self, text: &str) -> Script
         ensures { (at : ℕ) → FollowsAll self (placed at (chars text.now)) result }
     {

@@ -39,7 +39,7 @@ impl<'t> Tokenizer<'t> {
         }
     }
 
-    /// .. in data (13.2.5.1).
+    /// Takes a character in data (13.2.5.1).
     fn in_data<S: TokenSink>(&mut self, ch: char, at: u64, sink: &mut S) -> Result<(), Refusal>
         requires text { self.old.state ≡ State.Text }
         requires is_data { self.old.kind ≡ RawKind.None }
@@ -62,7 +62,7 @@ impl<'t> Tokenizer<'t> {
         }
     }
 
-    /// .. in RCDATA, RAWTEXT, script data or PLAINTEXT (13.2.5.2 to 13.2.5.5).
+    /// Takes a character in RCDATA, RAWTEXT, script data or PLAINTEXT (13.2.5.2 to 13.2.5.5).
     fn in_raw<S: TokenSink>(&mut self, ch: char, at: u64, sink: &mut S) -> Result<(), Refusal>
         requires text { self.old.state ≡ State.Text }
         requires raw { is_raw self.old.kind ≡ true }
