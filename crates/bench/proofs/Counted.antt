@@ -20,3 +20,8 @@ module _ {S X E : Type 0} (new : S) where
   pub counted_run : (f : Placed → X) (at : ℕ) (run : List ℕ) → false ≡ (length run == 0) → (old : S) (answer : Result (Unit {0}) E) → Hands Anything old (map f (placed at run)) answer new
   counted_run f at [] e old answer = absurd cc
   counted_run f at (b ∷ bs) e old answer = counted old (f (record { ch = b; at = at })) (map f (placed (at + len_utf8 b) bs)) answer
+
+-- .. and one that is
+pub none_counted : {S X E : Type 0} (f : Placed → X) (at : ℕ) (cs : List ℕ) → cs ≡ [] → (s : S) → Hands {S} {X} {E} (λ _ _ _ _. ⊤) s (map f (placed at cs)) (Ok tt) s
+none_counted f at [] e s = (refl, refl)
+none_counted f at (c ∷ cs) e s = absurd cc
