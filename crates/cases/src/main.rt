@@ -1,8 +1,10 @@
-//! Runs the engine on the stored cases of files, each cut in many ways, and prints how many gave the expected answer.
+//! `cases check FILE..` runs the engine on the stored cases of files, each cut in many ways, and prints how many gave the expected
+//! answer. `cases tokens FILE..` and `cases tree FILE..` count what is in files, in pieces of 65,536 bytes, without printing it.
 #![tactic(auto)]
 
 mod case;
 mod check;
+mod count;
 mod grow;
 mod lists;
 mod pages;
@@ -10,25 +12,61 @@ mod records;
 
 use crate::case::Case;
 use crate::check::check;
+use crate::count::{count_nodes, count_tokens};
 use crate::lists::check_list;
 use crate::pages::check_page;
 use crate::records::{Record, Section};
-use anyhow::Result;
+use anyhow::{Context, Result, bail};
+use std::fs::File;
 use std::{env, fs};
 
 fn main(rt: HostRuntime) -> Result<()> {
+    let mut words = env::args(&rt)?.skip(1);
+    let task = words.next().context("name a task")?;
     let mut passed = 0u64;
-    for name in env::args(&rt)?.skip(1) {
-        let text = fs::read_to_string(&rt, name.as_str())?;
-        let more = if name.ends_with(".dat") {
-            check_records(&rt, &text)?
-        } else {
-            check_lines(&rt, &text)?
-        };
-        passed = passed.saturating_add(more);
+    for name in words {
+        match task.as_str() {
+            "check" => passed = passed.saturating_add(check_file(&rt, &name)?),
+            "tokens" => print_tokens(&rt, &name)?,
+            "tree" => print_nodes(&rt, &name)?,
+            _ => bail!("the tasks are `check`, `tokens` and `tree`"),
+        }
     }
-    println!(rt; "{passed} cases answered as expected")?;
+    if task.as_str() == "check" {
+        println!(rt; "{passed} cases answered as expected")?;
+    }
     Ok(())
+}
+
+fn print_tokens(rt: &HostRuntime, name: &str) -> Result<()> {
+    match count_tokens(rt.alloc(), File::open(rt, name)?) {
+        Ok((tokens, errors)) => println!(rt; "{tokens} tokens, {errors} errors")?,
+        Err(refusal) => println!(rt; "refused: {refusal}")?,
+    }
+    Ok(())
+}
+
+fn print_nodes(rt: &HostRuntime, name: &str) -> Result<()> {
+    match count_nodes(rt.alloc(), File::open(rt, name)?) {
+        Ok((nodes, errors)) => println!(rt; "{nodes} nodes, {errors} errors")?,
+        Err(refusal) => println!(rt; "refused: {refusal}")?,
+    }
+    Ok(())
+}
+
+/// Returns how many cases of a file gave the expected answer, and prints the others. Of a page it prints the counts.
+fn check_file(rt: &HostRuntime, name: &str) -> Result<u64> {
+    if name.ends_with(".html") {
+        print_tokens(rt, name)?;
+        print_nodes(rt, name)?;
+        return Ok(0);
+    }
+    let text = fs::read_to_string(rt, name)?;
+    if name.ends_with(".dat") {
+        check_records(rt, &text)
+    } else {
+        check_lines(rt, &text)
+    }
 }
 
 /// Prints the cases of a file, one a line, that gave another answer, and returns how many gave the expected one.

@@ -1,0 +1,75 @@
+//! What is in a file, counted: the tokens of a document, or the nodes of its tree.
+
+use hmarkup::ErrorSink;
+use hrun::{
+    Counted, Options, ParseError, Parser, Quirks, Refusal, Table, Token, parse_reader, read_into,
+};
+use htoken::TokenSink;
+use std::alloc::Global;
+use std::fs::File;
+
+/// How many bytes are read at a time.
+const PIECE: usize = 65_536;
+
+/// Counts tokens, none of which it keeps, and parse errors. Each character of text is a token.
+#[derive(Drop)]
+struct Counter {
+    tokens: u64,
+    errors: u64,
+}
+
+impl ErrorSink for Counter {
+    ghost use Rattle.std.specs.Prelude.{⊤};
+
+    ghost gives = { λ _ _ _ _. ⊤ };
+
+    fn take_error(&mut self, _: ParseError) -> Result<(), Refusal> {
+        self.errors = self.errors.saturating_add(1);
+        Ok(())
+    }
+}
+
+impl TokenSink for Counter {
+    ghost use Rattle.std.specs.Prelude.{⊤};
+
+    ghost gives_token = { λ _ _ _ _. ⊤ };
+
+    fn take_token(&mut self, _: Token) -> Result<(), Refusal> {
+        self.tokens = self.tokens.saturating_add(1);
+        Ok(())
+    }
+
+    fn take_text(&mut self, _: char, _: u64) -> Result<(), Refusal> {
+        self.tokens = self.tokens.saturating_add(1);
+        Ok(())
+    }
+
+    fn take_run(&mut self, run: &str, _: u64) -> Result<(), Refusal> {
+        if !run.is_empty() {
+            self.tokens = self.tokens.saturating_add(run.chars().count() as u64);
+        }
+        Ok(())
+    }
+}
+
+/// How many tokens a file has, and how many parse errors.
+pub fn count_tokens(alloc: Global, file: File) -> Result<(u64, u64), Refusal> {
+    let table = Table::core(alloc)?;
+    let quirks = Quirks::read(alloc, "")?;
+    let options = Options::new(&table, &quirks);
+    let counter = Counter {
+        tokens: 0,
+        errors: 0,
+    };
+    let (_, counter) = read_into(alloc, PIECE, &options, counter, &mut Counted::new(file))?;
+    Ok((counter.tokens, counter.errors))
+}
+
+/// How many nodes its tree has, and how many parse errors.
+pub fn count_nodes(alloc: Global, file: File) -> Result<(u64, u64), Refusal> {
+    let table = Table::core(alloc)?;
+    let quirks = Quirks::read(alloc, "")?;
+    let parser = Parser::document(alloc, &Options::new(&table, &quirks))?;
+    let parsed = parse_reader(alloc, parser, PIECE, &mut Counted::new(file))?;
+    Ok((u64::from(parsed.tree.made()), parsed.errors.len() as u64))
+}
