@@ -8,7 +8,8 @@ use Rattle.hprint.specs.Lines.{tree_text, error_lines}
 
 -- the printed lines
 lines : tree_text (tree 0 (doctype (codes "html") (codes "-//X//") []) none
-    (tree 0 (element (codes "p") ((codes "b", codes "2") ∷ (codes "a", codes "1") ∷ [])) (tree 0 (comment (codes "c")) none (tree 0 (text (codes "x")) none none)) none))
+    (tree 0 (element (codes "p") ((codes "b", codes "2") ∷ (codes "a", codes "1") ∷ []))
+    (tree 0 (comment (codes "c")) none (tree 0 (text (codes "x")) none none)) none))
     ≡ codes "| <!DOCTYPE html \"-//X//\" \"\">\n| <p>\n|   a=\"1\"\n|   b=\"2\"\n|   <!-- c -->\n|   \"x\"\n"
 lines = refl
 
