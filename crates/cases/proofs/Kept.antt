@@ -6,7 +6,7 @@ use Rattle.hnodes.specs.Forest.{element}
 use Rattle.hnodes.specs.Edits.{Nodes, make, add_attribute}
 use Rattle.hnodes.specs.Named.{AttributesAreOf, AreOf}
 use Rattle.hnodes.specs.Rows.{attribute_of}
-use Rattle.hwrite.proofs.Kept.{made, attribute_added, is_of}
+use Rattle.hserialize.proofs.Kept.{made, attribute_added, is_of}
 use Rattle.names.specs.declared.attr.Attr.{Attr}
 
 pub element_made : (names : Texts) (id : ℕ) (bytes : List ℕ) (attrs : List Attr) (old new : Nodes ℕ) → slice_get names id ≡ Some bytes → attrs ≡ [] → new ≡ make (element id (map attribute_of attrs)) old → AreOf names old.trees → AreOf names new.trees

@@ -10,7 +10,7 @@ use hmain::Line;
 use hmain::line::line;
 use hmarkup::Quirks;
 use hparse::{Options, Source};
-use hrun::{Command, Counted, Target, run};
+use hwrite::{Command, Counted, Target, run};
 use htext::MAX_INPUT;
 use names::{Keys, Refusal};
 use std::alloc::Global;

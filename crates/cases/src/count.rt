@@ -1,7 +1,7 @@
 //! What is in a file, counted: the tokens of a document, or the nodes of its tree.
 
 use hmarkup::ErrorSink;
-use hrun::{
+use hwrite::{
     Counted, Options, ParseError, Parser, Quirks, Refusal, Table, Token, parse_reader, read_into,
 };
 use htoken::TokenSink;

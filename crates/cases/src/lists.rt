@@ -7,8 +7,7 @@ use crate::check::check;
 use crate::grow::{Grown, grow};
 use crate::records::{Record, Section};
 use anyhow::{Context, Result, bail};
-use hrun::Counted;
-use hwrite::{Escaping, Target, is_plain, serialize, serialize_to_vec, tree_text};
+use hwrite::{Counted, Escaping, Target, is_plain, serialize, serialize_to_vec, tree_text};
 use std::alloc::Global;
 use std::mem;
 

@@ -2,7 +2,7 @@
 #![tactic(auto)]
 
 use anyhow::Context;
-use hrun::{Options, Parsed, Parser, Quirks, Refusal, Table, Tag};
+use hwrite::{Options, Parsed, Parser, Quirks, Refusal, Table, Tag};
 use std::alloc::Global;
 use std::{env, fs};
 

@@ -2,9 +2,9 @@
 use Rattle.std.proofs.Common.{◌≡◌, ℕ, List, Option, Ok, Err, refl, subst}
 use Rattle.names.specs.declared.refusal.Refusal.{Refusal}
 use Rattle.hparse.specs.Parse.{Told}
-use Rattle.hrun.specs.Command.{name_of}
-use Rattle.hrun.specs.Prints.{prints_of, context_of}
-use Rattle.hrun.specs.declared.command.Command.{Command}
+use Rattle.hwrite.specs.Command.{name_of}
+use Rattle.hwrite.specs.Prints.{prints_of, context_of}
+use Rattle.hwrite.specs.declared.command.Command.{Command}
 use Rattle.hflat.specs.Exports.{ComesToNone, GivesText, GivesNone, comes_to_none, GivesRows, GivesNoRows, no_rows}
 use Rattle.hflat.specs.Given.{IsCommand, Tells, context_told}
 use Rattle.hflat.specs.Trees.{ComesToRows}

@@ -12,7 +12,7 @@ use Rattle.hnodes.specs.Passed.{order}
 use Rattle.hnodes.specs.Spelled.{spelled}
 use Rattle.hnodes.specs.Spots.{kind_in, what_of}
 use Rattle.hnodes.proofs.Forests.{some_inj}
-use Rattle.hwrite.proofs.Seen.{Seen, seen}
+use Rattle.hserialize.proofs.Seen.{Seen, seen}
 use Rattle.hflat.specs.Rows.{kind_number, link_to, node_words_at, row_at, row_of, rows_of, words_of}
 use Rattle.hflat.specs.declared.answer.NodeRow.{NodeRow}
 

@@ -3,7 +3,7 @@ use Rattle.std.proofs.Common.{◌≡◌, ℕ, List, [], ◌++◌, Option, Some, 
 use Rattle.std.proofs.lemmas.List.{append-nil}
 use Rattle.names.specs.declared.refusal.Refusal.{Refusal}
 use Rattle.names.specs.declared.refusal.Refusal.TheVariants.{Memory, Write, BadContext}
-use Rattle.hrun.specs.Running.{Runs, RunsIn, context_refused, ran, run_ran_out, read_failed, stopped, refused, write_failed, wrote}
+use Rattle.hwrite.specs.Running.{Runs, RunsIn, context_refused, ran, run_ran_out, read_failed, stopped, refused, write_failed, wrote}
 use Rattle.hflat.specs.Exports.{ComesToNone, none_for_memory, none_in_context, none_of_bytes}
 use Rattle.hflat.specs.Faults.{kept}
 use Rattle.names.specs.declared.refusal.Refusal.TheVariants as refusal

@@ -14,8 +14,8 @@ use Rattle.hparse.specs.declared.parsed.Parsed.{Parsed}
 use Rattle.hparse.specs.Parse.{Parse, Parses, Subject, Told, root_of}
 use Rattle.hparse.specs.Parsing.{AnswersParse, IsParse}
 use Rattle.hparse.specs.Reader.{ReadsInput, reading_ran_out, reading_failed, reading_stopped, read_to_end}
-use Rattle.hrun.specs.Context.{AllowsContext, subject_in}
-use Rattle.hrun.proofs.Alike.{spelled-alike}
+use Rattle.hwrite.specs.Context.{AllowsContext, subject_in}
+use Rattle.hwrite.proofs.Alike.{spelled-alike}
 use Rattle.hflat.specs.Exports.{ComesToNone, none_for_memory, none_in_context, none_of_bytes}
 use Rattle.hflat.specs.Rows.{kind_number, link_to, rows_of, words_of}
 use Rattle.hflat.specs.Trees.{ComesToParse, HasRows}

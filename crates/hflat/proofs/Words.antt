@@ -6,7 +6,7 @@ use Rattle.std.specs.String.{string_bytes}
 use Rattle.names.specs.declared.attr.Attr.{Attr}
 use Rattle.hnodes.specs.Rows.{attribute_of}
 use Rattle.hnodes.specs.Spelled.{spelled_attribute}
-use Rattle.hwrite.proofs.Ordered.{dropped}
+use Rattle.hserialize.proofs.Attributes.{dropped}
 use Rattle.hflat.specs.Rows.{attribute_words, ended}
 
 -- the bytes of attributes by the texts of their names

@@ -4,10 +4,10 @@ use Rattle.names.specs.declared.refusal.Refusal.{Refusal}
 use Rattle.names.specs.declared.refusal.Refusal.TheVariants.{Memory, BadContext}
 use Rattle.hnodes.specs.Forest.{children_of}
 use Rattle.hparse.specs.Parse.{Parse, Parses, Subject, Told, root_of}
-use Rattle.hrun.specs.Context.{AllowsContext, subject_in}
-use Rattle.hrun.specs.Prints.{prints_of, context_of}
-use Rattle.hrun.specs.declared.command.Task.{Task}
-use Rattle.hwrite.specs.declared.escaping.Escaping.{Escaping}
+use Rattle.hwrite.specs.Context.{AllowsContext, subject_in}
+use Rattle.hwrite.specs.Prints.{prints_of, context_of}
+use Rattle.hwrite.specs.declared.command.Task.{Task}
+use Rattle.hserialize.specs.declared.escaping.Escaping.{Escaping}
 use Rattle.hflat.specs.Given.{context_told, escaping_told, task_told, NoCommand, Tells, Unmet}
 use Rattle.hflat.specs.Room.{fault_answer, put_over, room_answer}
 use Rattle.hflat.specs.Rows.{rows_of, words_of}

@@ -12,12 +12,12 @@ use Rattle.htext.specs.declared.BadBytes.TheVariants as bad
 use Rattle.htext.specs.declared.decoder.TheConstants.{MAX_INPUT}
 use Rattle.hbuild.specs.Bounds.{AreLimits, Bounds}
 use Rattle.hparse.specs.Parse.{Told}
-use Rattle.hrun.specs.Command.{name_of}
-use Rattle.hrun.specs.declared.command.Command.{Command}
-use Rattle.hrun.specs.declared.command.Task.{Task}
-use Rattle.hrun.specs.declared.command.Task.TheVariants as task
-use Rattle.hwrite.specs.declared.escaping.Escaping.{Escaping}
-use Rattle.hwrite.specs.declared.escaping.Escaping.TheVariants.{One, Two}
+use Rattle.hwrite.specs.Command.{name_of}
+use Rattle.hwrite.specs.declared.command.Command.{Command}
+use Rattle.hwrite.specs.declared.command.Task.{Task}
+use Rattle.hwrite.specs.declared.command.Task.TheVariants as task
+use Rattle.hserialize.specs.declared.escaping.Escaping.{Escaping}
+use Rattle.hserialize.specs.declared.escaping.Escaping.TheVariants.{One, Two}
 use Rattle.hflat.specs.declared.answer.Given.{Given}
 use Rattle.hflat.specs.declared.given.Lists.{Lists}
 use Rattle.hflat.specs.declared.fault.Fault.{Fault}

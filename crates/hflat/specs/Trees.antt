@@ -5,7 +5,7 @@ use Rattle.hnodes.specs.Forest.{children_of}
 use Rattle.hparse.specs.declared.parsed.Parsed.{Parsed}
 use Rattle.hparse.specs.Parse.{Parse, Parses, Told, root_of}
 use Rattle.hparse.specs.Parsing.{AnswersParse}
-use Rattle.hrun.specs.Context.{subject_in}
+use Rattle.hwrite.specs.Context.{subject_in}
 use Rattle.hflat.specs.Exports.{ComesToNone}
 use Rattle.hflat.specs.Rows.{rows_of, words_of}
 use Rattle.hflat.specs.declared.rows.Rows.{Rows}

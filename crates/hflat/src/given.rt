@@ -3,7 +3,7 @@
 ghost use Rattle.std.specs.Prelude.{◌≡◌, ◌<◌, ◌≤◌, MatchResult, IfOk, Some, None, Ok};
 ghost use Rattle.hmarkup.specs.Quirks.{ReadsQuirks};
 ghost use Rattle.hparse.specs.Parsing.{told_by};
-ghost use Rattle.hrun.specs.Command.{name_of};
+ghost use Rattle.hwrite.specs.Command.{name_of};
 ghost use Rattle.hflat.specs.Given.{bad_told, context_told, escaping_told, table_told, task_told, HasLimits, HasLists, IsCommand, IsPiece, NoCommand, Tells, Unmet};
 ghost use Rattle.hflat.specs.declared.fault.Fault.TheVariants as fault;
 
@@ -13,9 +13,8 @@ use charref::Table;
 use hbuild::Limits;
 use hmarkup::Quirks;
 use hparse::Options;
-use hrun::{Command, Task};
+use hwrite::{Command, Escaping, Task};
 use htext::{BadBytes, MAX_INPUT};
-use hwrite::Escaping;
 use names::Keys;
 use std::alloc::Global;
 

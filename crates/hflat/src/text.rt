@@ -2,8 +2,8 @@
 
 ghost use Rattle.std.specs.Prelude.{◌≡◌, ◌<◌, ◌≤◌, ℕ, MatchResult, Ok, Err};
 ghost use Rattle.hparse.specs.Parsing.{told_by};
-ghost use Rattle.hrun.specs.Command.{name_of};
-ghost use Rattle.hrun.specs.Prints.{context_of, prints_of};
+ghost use Rattle.hwrite.specs.Command.{name_of};
+ghost use Rattle.hwrite.specs.Prints.{context_of, prints_of};
 ghost use Rattle.hflat.specs.Exports.{ComesToNone, GivesNone, GivesText};
 ghost use Rattle.hflat.specs.Faults.{kept};
 ghost use Rattle.hflat.specs.Given.{HasLists, IsCommand};
@@ -13,7 +13,7 @@ use crate::fault::Fault;
 use crate::given::Lists;
 use crate::input::Input;
 use hparse::Options;
-use hrun::{Command, Counted, run};
+use hwrite::{Command, Counted, run};
 use names::Refusal;
 use std::alloc::Global;
 

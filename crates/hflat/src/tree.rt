@@ -2,7 +2,7 @@
 
 ghost use Rattle.std.specs.Prelude.{◌≡◌, ◌<◌, ◌≤◌, MatchResult};
 ghost use Rattle.hparse.specs.Parsing.{told_by};
-ghost use Rattle.hrun.specs.Command.{name_of};
+ghost use Rattle.hwrite.specs.Command.{name_of};
 ghost use Rattle.hflat.specs.Exports.{GivesNoRows, GivesRows};
 ghost use Rattle.hflat.specs.Given.{HasLists, context_told};
 ghost use Rattle.hflat.specs.Trees.{ComesToParse, ComesToRows};
@@ -13,7 +13,7 @@ use crate::given::Lists;
 use crate::input::Input;
 use crate::rows::{Rows, rows_inside};
 use hparse::{Options, Parsed, parse_reader};
-use hrun::parser;
+use hwrite::parser;
 use names::Refusal;
 use std::alloc::Global;
 

@@ -7,8 +7,8 @@ use Rattle.names.specs.declared.tag.Tag.TheVariants as tag
 use Rattle.names.specs.Sets.{is_refused}
 use Rattle.names.specs.Tags.{tags, tag_named, tag_text}
 use Rattle.hnodes.specs.Forest.{Forest}
-use Rattle.hwrite.specs.ContentTable.{row}
-use Rattle.hwrite.specs.Plain.{are_content_if, in_context_of, is_form, is_plain}
+use Rattle.hplain.specs.ContentTable.{row}
+use Rattle.hplain.specs.Plain.{are_content_if, in_context_of, is_form, is_plain}
 use Rattle.hparse.specs.Parse.{is_context, is_name}
 use Rattle.hlaws.proofs.NamesAsTexts.{named_back}
 

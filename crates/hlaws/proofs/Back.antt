@@ -21,18 +21,18 @@ use Rattle.hmodes.specs.declared.kind.Kind.TheVariants.{Eof}
 use Rattle.hmodes.specs.State.{PlacedToken, State, eof, Done}
 use Rattle.hmodes.specs.Step.{Rule, begun, Chain, ends, Step, goes, Steps, and}
 use Rattle.hmodes.specs.Step as step
-use Rattle.hwrite.specs.declared.content.Content.{Content}
-use Rattle.hwrite.specs.declared.content.Content.TheVariants as content
-use Rattle.hwrite.specs.declared.content.Texts.TheVariants as allowed
-use Rattle.hwrite.specs.declared.escaping.Escaping.{Escaping}
+use Rattle.hplain.specs.declared.content.Content.{Content}
+use Rattle.hplain.specs.declared.content.Content.TheVariants as content
+use Rattle.hplain.specs.declared.content.Texts.TheVariants as allowed
+use Rattle.hserialize.specs.declared.escaping.Escaping.{Escaping}
 use Rattle.hlaws.specs.Building.{IsQuiet, Builds, fits_mode, fits_current, is_flow_mode, numbered}
 use Rattle.hlaws.specs.ComesBack.{AreTexts, AreRead, Fits, Gives, PlainTokens, PlainComesBack}
 use Rattle.hparse.specs.Parse.{Told, is_context}
 use Rattle.hparse.specs.Taken.{placed, taken}
-use Rattle.hwrite.specs.ContentTable.{row, texts_in}
-use Rattle.hwrite.specs.Plain.{Inside, are_content, are_content_if, in_context_of, is_form}
+use Rattle.hplain.specs.ContentTable.{row, texts_in}
+use Rattle.hplain.specs.Plain.{Inside, are_content, are_content_if, in_context_of, is_form}
 use Rattle.hlaws.specs.PlainTokens.{tokens_of}
-use Rattle.hwrite.specs.Written.{written}
+use Rattle.hserialize.specs.Written.{written}
 use Rattle.hlaws.proofs.TokenLists.{AreTokens, parted, first, after, ended}
 use Rattle.hlaws.proofs.Content.{parts_mode_is, rows_mode_is, cells_mode_is}
 use Rattle.hlaws.proofs.Accepted.{accepts}

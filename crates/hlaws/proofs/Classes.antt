@@ -11,13 +11,14 @@ use Rattle.hmodes.specs.declared.mode.Mode.TheVariants.{InTable, InCaption, InCo
 use Rattle.hmodes.specs.Families.{family_of}
 use Rattle.hadopt.specs.Closes.{is_table_context, is_body_context, is_row_context}
 use Rattle.hmodes.specs.Reset.{open_mode}
-use Rattle.hwrite.specs.declared.content.Content.{Content}
-use Rattle.hwrite.specs.declared.content.Content.TheVariants as content
-use Rattle.hwrite.specs.declared.content.Role.{Role}
-use Rattle.hwrite.specs.declared.content.Role.TheVariants as role
+use Rattle.hplain.specs.declared.content.Content.{Content}
+use Rattle.hplain.specs.declared.content.Content.TheVariants as content
+use Rattle.hplain.specs.declared.content.Role.{Role}
+use Rattle.hplain.specs.declared.content.Role.TheVariants as role
 use Rattle.hlaws.specs.Building.{is_list, is_dl, is_colgroup}
-use Rattle.hwrite.specs.ContentTable.{row}
-use Rattle.hwrite.specs.Plain.{is_a, is_button, is_form, inserts_marker, drops_line_feed}
+use Rattle.hplain.specs.ContentTable.{row}
+use Rattle.hplain.specs.Plain.{is_a, is_button, is_form, drops_line_feed}
+use Rattle.hserialize.specs.Walk.{inserts_marker}
 
 abbrev pub is_p : Tag → Bool
 is_p tag.P = true

@@ -10,12 +10,13 @@ use Rattle.hmodes.specs.declared.mode.Mode.TheVariants.{InBody, InCaption, InCel
 use Rattle.hmodes.specs.declared.kind.Kind.TheVariants.{Comment}
 use Rattle.hmodes.specs.Rules.{rule_of}
 use Rattle.hmodes.specs.Words.{insert_comment}
-use Rattle.hwrite.specs.declared.content.Content.{Content}
-use Rattle.hwrite.specs.declared.content.Content.TheVariants as content
-use Rattle.hwrite.specs.declared.content.Role.{Role}
-use Rattle.hwrite.specs.declared.content.Role.TheVariants as role
-use Rattle.hwrite.specs.ContentTable.{takes_role, texts_in}
-use Rattle.hwrite.specs.Plain.{Inside, is_nested, is_a, is_button, is_form, inserts_marker}
+use Rattle.hplain.specs.declared.content.Content.{Content}
+use Rattle.hplain.specs.declared.content.Content.TheVariants as content
+use Rattle.hplain.specs.declared.content.Role.{Role}
+use Rattle.hplain.specs.declared.content.Role.TheVariants as role
+use Rattle.hplain.specs.ContentTable.{takes_role, texts_in}
+use Rattle.hplain.specs.Plain.{Inside, is_nested, is_a, is_button, is_form}
+use Rattle.hserialize.specs.Walk.{inserts_marker}
 use Rattle.hlaws.specs.Building.{is_flow_mode, fits_mode, fits_current, is_list, is_dl}
 
 -- the content in which a role stands, but that of phrasing elements, which stand in two

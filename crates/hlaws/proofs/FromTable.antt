@@ -10,13 +10,14 @@ use Rattle.hnodes.specs.Forest as forest
 use Rattle.hnodes.specs.Forest.{Forest, none, tree, element, text}
 use Rattle.names.specs.Tags.{tag_named}
 use Rattle.hadopt.specs.Naming.{texts}
-use Rattle.hwrite.specs.declared.content.Content.{Content}
-use Rattle.hwrite.specs.declared.content.Content.TheVariants as content
-use Rattle.hwrite.specs.declared.content.Texts.TheVariants as allowed
-use Rattle.hwrite.specs.ContentTable.{row, takes_role, takes_comments, texts_in}
+use Rattle.hplain.specs.declared.content.Content.{Content}
+use Rattle.hplain.specs.declared.content.Content.TheVariants as content
+use Rattle.hplain.specs.declared.content.Texts.TheVariants as allowed
+use Rattle.hplain.specs.ContentTable.{row, takes_role, takes_comments, texts_in}
 use Rattle.hlaws.specs.Building.{takes_space}
 use Rattle.hlaws.specs.ComesBack.{AreTexts}
-use Rattle.hwrite.specs.Plain.{Inside, inside_element, inside_node, is_nested, are_content, is_plain_node, are_plain_attributes, is_plain_text, is_plain_comment, is_clean, is_empty, is_among_texts, begins_with, begins_with_text, begins_with_line_feed, drops_line_feed}
+use Rattle.hplain.specs.Plain.{Inside, inside_element, inside_node, is_nested, are_content, is_plain_node, are_plain_attributes, is_plain_text, is_plain_comment, is_clean, is_among_texts, begins_with, begins_with_text, begins_with_line_feed, drops_line_feed}
+use Rattle.hserialize.specs.Words.{is_empty}
 use Rattle.hlaws.proofs.TokenLists.{AllOk, IsText, NoNul, not_true}
 use Rattle.hlaws.proofs.Whole.{Good, LfSafe, TextFits}
 

@@ -12,7 +12,7 @@ use Rattle.hmodes.specs.declared.family.Family.{Family}
 use Rattle.hmodes.specs.declared.family.Family.TheVariants as family
 use Rattle.hmodes.specs.Families.{family_of}
 use Rattle.hlaws.specs.Building.{is_list, is_dl}
-use Rattle.hwrite.specs.Plain.{is_a, is_button}
+use Rattle.hplain.specs.Plain.{is_a, is_button}
 use Rattle.hlaws.proofs.Classes.{is_p}
 use Rattle.hlaws.proofs.Whole.{NameLaws}
 

@@ -7,7 +7,7 @@ use Rattle.hmodes.specs.State.{State}
 use Rattle.hlaws.specs.Building as spec
 use Rattle.hlaws.specs.Building.{IsQuiet, Builds, IsBuilt, BeginsWell, HasRoom}
 use Rattle.hlaws.specs.ComesBack.{PlainBuilds}
-use Rattle.hwrite.specs.Plain.{begins_with_line_feed}
+use Rattle.hplain.specs.Plain.{begins_with_line_feed}
 use Rattle.hlaws.proofs.FromTable.{good, lf_safe}
 use Rattle.hlaws.proofs.NamesAsTexts.{text_laws}
 use Rattle.hlaws.proofs.Rules.{state}

@@ -10,11 +10,11 @@ use Rattle.charref.specs.Reference.{Entry, Entities, IsTable, HasCore, longest, 
 use Rattle.charref.specs.Table.{IsOver}
 use Rattle.charref.proofs.Keys.{longest-over}
 use Rattle.charref.proofs.Core.{has_found}
-use Rattle.hwrite.specs.declared.escaping.Escaping.{Escaping}
-use Rattle.hwrite.specs.declared.escaping.Escaping.TheVariants as escaping
-use Rattle.hwrite.specs.declared.escaping.Setting.{Setting}
-use Rattle.hwrite.specs.declared.escaping.Setting.TheVariants as setting
-use Rattle.hwrite.specs.Escaping.{written_char, escapes_quote, escapes_angles}
+use Rattle.hserialize.specs.declared.escaping.Escaping.{Escaping}
+use Rattle.hserialize.specs.declared.escaping.Escaping.TheVariants as escaping
+use Rattle.hserialize.specs.declared.escaping.Setting.{Setting}
+use Rattle.hserialize.specs.declared.escaping.Setting.TheVariants as setting
+use Rattle.hserialize.specs.Escaping.{written_char, escapes_quote, escapes_angles}
 use Rattle.hlaws.proofs.TokensText.{Spells, spells-nil, spells-append, spells_ascii, spells_char, is_no_return, is_clean_char, is_written_ascii, clean_no_return, clean_not_null}
 
 -- THE LONGEST KEY

@@ -20,7 +20,7 @@ use Rattle.htoken.specs.Tokens.{Cut, spans_text, tokens_of, has_refused}
 use Rattle.htoken.proofs.Cutting.{refused-append}
 use Rattle.hmodes.specs.State.{Token, character}
 use Rattle.hparse.specs.Taken.{taken}
-use Rattle.hwrite.specs.declared.escaping.Setting.TheVariants as setting
+use Rattle.hserialize.specs.declared.escaping.Setting.TheVariants as setting
 use Rattle.hlaws.proofs.TokensCore.{IsCoreName, Way, by_name, by_itself, AreWritten, entry_of, longest-core, begins_alphanumeric}
 use Rattle.hlaws.proofs.TokensText.{head_of, tail_of}
 

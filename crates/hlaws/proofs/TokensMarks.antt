@@ -26,7 +26,7 @@ use Rattle.htoken.specs.Data as production
 use Rattle.htoken.specs.Tokens.{has_refused}
 use Rattle.hmodes.specs.State.{start, end, comment}
 use Rattle.hparse.specs.Taken.{taken}
-use Rattle.hwrite.specs.Plain.{begins_with, has_part}
+use Rattle.hplain.specs.Plain.{begins_with, has_part}
 use Rattle.hlaws.proofs.TokensText.{is_clean_char, clean_not_null, head_of, tail_of}
 use Rattle.hlaws.proofs.TokensCuts.{split, Cuts, one, cuts_as}
 use Rattle.hlaws.proofs.TokensTags.{is_good, good_no_end, all-characters, all_over, name_bytes_are, begins_letter, AreAttributes, AreNew, attribute_parts, attribute_codes}

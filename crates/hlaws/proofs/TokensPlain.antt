@@ -19,16 +19,16 @@ use Rattle.hnodes.specs.Forest.{Attribute}
 use Rattle.htoken.specs.Standing.{Standing, standing_after}
 use Rattle.htag.specs.Tag.{is_known}
 use Rattle.hmodes.specs.State.{Token, start, end, comment, character}
-use Rattle.hwrite.specs.declared.content.Content.{Content}
-use Rattle.hwrite.specs.declared.content.Content.TheVariants as content
-use Rattle.hwrite.specs.declared.content.Role.{Role}
-use Rattle.hwrite.specs.declared.content.Role.TheVariants as role
-use Rattle.hwrite.specs.declared.escaping.Escaping.{Escaping}
-use Rattle.hwrite.specs.declared.escaping.Setting.TheVariants as setting
-use Rattle.hwrite.specs.Escaping.{escaped}
-use Rattle.hwrite.specs.ContentTable.{row, takes_role}
-use Rattle.hwrite.specs.Plain.{are_plain_attributes, is_plain_name, is_plain_comment, is_clean, is_name_byte, begins_with, has_part}
-use Rattle.hwrite.specs.Written.{attribute_text, start_tag_text, end_tag_text}
+use Rattle.hplain.specs.declared.content.Content.{Content}
+use Rattle.hplain.specs.declared.content.Content.TheVariants as content
+use Rattle.hplain.specs.declared.content.Role.{Role}
+use Rattle.hplain.specs.declared.content.Role.TheVariants as role
+use Rattle.hserialize.specs.declared.escaping.Escaping.{Escaping}
+use Rattle.hserialize.specs.declared.escaping.Setting.TheVariants as setting
+use Rattle.hserialize.specs.Escaping.{escaped}
+use Rattle.hplain.specs.ContentTable.{row, takes_role}
+use Rattle.hplain.specs.Plain.{are_plain_attributes, is_plain_name, is_plain_comment, is_clean, is_name_byte, begins_with, has_part}
+use Rattle.hserialize.specs.Written.{attribute_text, start_tag_text, end_tag_text}
 use Rattle.hlaws.specs.ComesBack.{AreUtf8}
 use Rattle.hlaws.proofs.TokenLists.{not_true}
 use Rattle.hlaws.proofs.NamesAsTexts.{named_back}

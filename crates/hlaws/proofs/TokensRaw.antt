@@ -17,7 +17,7 @@ use Rattle.htoken.specs.Raw.{is_raw_end, is_end_tag_of, may_end, level, level_fr
 use Rattle.htag.specs.Tag.{ends_name, ends_attribute_name}
 use Rattle.htag.specs.Value.{plain_piece}
 use Rattle.hmodes.specs.State.{end, character}
-use Rattle.hwrite.specs.Plain.{begins_with, has_part}
+use Rattle.hplain.specs.Plain.{begins_with, has_part}
 use Rattle.hlaws.proofs.TokensText.{is_clean_char, clean_not_null, is_written_ascii, head_of, tail_of}
 use Rattle.hlaws.proofs.TokensCuts.{split, Cuts, one, join, cuts_as, cuts_none}
 use Rattle.hlaws.proofs.TokensTags.{is_good}

@@ -9,7 +9,7 @@ use Rattle.charref.specs.Reference.{Entities, IsTable, HasCore, core}
 use Rattle.hnodes.specs.Forest.{Forest, none, tree, element, text, comment}
 use Rattle.hmodes.specs.State.{Token, start, end, character, eof}
 use Rattle.hmodes.specs.State as token
-use Rattle.hwrite.specs.declared.escaping.Escaping.TheVariants.{One}
+use Rattle.hserialize.specs.declared.escaping.Escaping.TheVariants.{One}
 use Rattle.hlaws.specs.ComesBack.{AreRead}
 use Rattle.hlaws.proofs.TokensWhole.{tokens_law}
 

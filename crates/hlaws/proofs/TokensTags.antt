@@ -14,8 +14,8 @@ use Rattle.htag.specs.Value.{IsPiece, plain, plain_piece, pieces_text, AreValue,
 use Rattle.htag.specs.Value as piece
 use Rattle.names.specs.declared.error.ErrorCode.TheVariants.{MissingWhitespaceBetweenAttributes}
 use Rattle.htag.specs.Tag.{Part, attribute_part, value_errors, is_sign, space, quoted, AreParts, parts_text, ends_name, ends_attribute_name, is_known, kept, attributes_after}
-use Rattle.hwrite.specs.declared.escaping.Setting.TheVariants as setting
-use Rattle.hwrite.specs.Plain.{is_name_byte}
+use Rattle.hserialize.specs.declared.escaping.Setting.TheVariants as setting
+use Rattle.hplain.specs.Plain.{is_name_byte}
 use Rattle.hlaws.proofs.TokensText.{is_written_ascii, head_of, tail_of}
 use Rattle.hlaws.proofs.TokensCore.{Way, by_name, by_itself, AreWritten, entry_of}
 use Rattle.hlaws.proofs.TokensCuts.{split, no_characters, a_reference}

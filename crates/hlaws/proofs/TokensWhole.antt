@@ -22,18 +22,19 @@ use Rattle.htoken.specs.Raw.{end_errors, may_end}
 use Rattle.htoken.specs.Tokens as cut
 use Rattle.hadopt.specs.Naming.{texts}
 use Rattle.hmodes.specs.State.{Token, start, end, comment, character, eof}
-use Rattle.hwrite.specs.declared.content.Content.{Content}
-use Rattle.hwrite.specs.declared.content.Content.TheVariants as content
-use Rattle.hwrite.specs.declared.content.Role.{Role}
-use Rattle.hwrite.specs.declared.content.Texts.{Texts}
-use Rattle.hwrite.specs.declared.content.Texts.TheVariants as allowed
-use Rattle.hwrite.specs.declared.escaping.Escaping.{Escaping}
-use Rattle.hwrite.specs.declared.escaping.Setting.TheVariants as setting
-use Rattle.hwrite.specs.Escaping.{escaped, written_char}
-use Rattle.hwrite.specs.ContentTable.{row, takes_role, takes_comments}
-use Rattle.hwrite.specs.Plain.{Inside, inside_element, inside_node, in_context_of, is_form, are_content, are_content_if, is_plain_node, is_plain_text, is_plain_comment, are_plain_attributes, is_among_texts, is_clean, is_empty, begins_with_text, begins_with_line_feed, has_part, is_nested, drops_line_feed}
+use Rattle.hplain.specs.declared.content.Content.{Content}
+use Rattle.hplain.specs.declared.content.Content.TheVariants as content
+use Rattle.hplain.specs.declared.content.Role.{Role}
+use Rattle.hplain.specs.declared.content.Texts.{Texts}
+use Rattle.hplain.specs.declared.content.Texts.TheVariants as allowed
+use Rattle.hserialize.specs.declared.escaping.Escaping.{Escaping}
+use Rattle.hserialize.specs.declared.escaping.Setting.TheVariants as setting
+use Rattle.hserialize.specs.Escaping.{escaped, written_char}
+use Rattle.hplain.specs.ContentTable.{row, takes_role, takes_comments}
+use Rattle.hplain.specs.Plain.{Inside, inside_element, inside_node, in_context_of, is_form, are_content, are_content_if, is_plain_node, is_plain_text, is_plain_comment, are_plain_attributes, is_among_texts, is_clean, begins_with_text, begins_with_line_feed, has_part, is_nested, drops_line_feed}
+use Rattle.hserialize.specs.Words.{is_empty}
 use Rattle.hlaws.specs.PlainTokens.{tokens_of}
-use Rattle.hwrite.specs.Written.{has_no_references, start_tag_text, end_tag_text, element_text, written_among}
+use Rattle.hserialize.specs.Written.{has_no_references, start_tag_text, end_tag_text, element_text, written_among}
 use Rattle.hlaws.specs.ComesBack.{AreTexts, AreRead, PlainTokens, text_of}
 use Rattle.hparse.specs.Taken.{taken}
 use Rattle.hlaws.proofs.TokenLists.{not_true}

@@ -33,12 +33,13 @@ use Rattle.hmodes.specs.State.{Token, start, end, comment, character, doctype, e
 use Rattle.hmodes.specs.Reset.{reset_mode, open_mode}
 use Rattle.hmodes.specs.Step.{Rule, begun, Chain, ends, goes_again, Step, goes, Steps, and}
 use Rattle.hmodes.specs.Step as step
-use Rattle.hwrite.specs.declared.content.Content.{Content}
-use Rattle.hwrite.specs.declared.content.Content.TheVariants as content
-use Rattle.hwrite.specs.declared.content.Role.{Role}
-use Rattle.hwrite.specs.declared.content.Role.TheVariants as role
-use Rattle.hwrite.specs.ContentTable.{row, takes_role, takes_comments, texts_in}
-use Rattle.hwrite.specs.Plain.{Inside, inside_element, content_within, is_nested, is_a, is_button, is_form, inserts_marker, drops_line_feed}
+use Rattle.hplain.specs.declared.content.Content.{Content}
+use Rattle.hplain.specs.declared.content.Content.TheVariants as content
+use Rattle.hplain.specs.declared.content.Role.{Role}
+use Rattle.hplain.specs.declared.content.Role.TheVariants as role
+use Rattle.hplain.specs.ContentTable.{row, takes_role, takes_comments, texts_in}
+use Rattle.hplain.specs.Plain.{Inside, inside_element, content_within, is_nested, is_a, is_button, is_form, drops_line_feed}
+use Rattle.hserialize.specs.Walk.{inserts_marker}
 use Rattle.hlaws.specs.Building.{is_flow_mode, fits_mode, fits_current, closes_p, is_list, is_dl, takes_space, is_character, ActsAs, numbered, under, depth, Thinned, same, kept, lost, EntriesOpen, AllLower, EntriesLower}
 use Rattle.hlaws.specs.PlainTokens.{tokens_of}
 use Rattle.hlaws.proofs.Growing.{graft-new, times-numbered, under-none, under-under, under-new, times-under, text_before-new, text_before-leaf}

@@ -18,10 +18,10 @@ use Rattle.hparse.specs.Taken.{taken}
 use Rattle.hmodes.specs.Erased.{erased}
 use Rattle.hmodes.specs.State.{Token, PlacedToken, State, eof}
 use Rattle.hlaws.specs.Building.{IsQuiet, Builds, BeginsWell, HasRoom, depth}
-use Rattle.hwrite.specs.Plain.{Inside, are_content, is_plain}
+use Rattle.hplain.specs.Plain.{Inside, are_content, is_plain}
 use Rattle.hlaws.specs.PlainTokens.{tokens_of}
-use Rattle.hwrite.specs.Written.{written}
-use Rattle.hwrite.specs.declared.escaping.Escaping.{Escaping}
+use Rattle.hserialize.specs.Written.{written}
+use Rattle.hserialize.specs.declared.escaping.Escaping.{Escaping}
 
 -- names, values, texts and comments are in UTF-8
 abbrev pub AreUtf8 : List (Attribute (List ℕ)) → Type 0

@@ -13,11 +13,11 @@ use Rattle.clap.specs.declared.error.Error.{Error}
 use Rattle.clap.specs.declared.error.kind.ErrorKind.{ErrorKind}
 use Rattle.clap.specs.declared.error.kind.ErrorKind.TheVariants.{OutOfMemory}
 use Rattle.clap.proofs.OnLiterals.{clap_on_literals}
-use Rattle.hrun.specs.Command.{task_named}
+use Rattle.hwrite.specs.Command.{task_named}
 use Rattle.hmain.specs.declared.fault.Fault.TheVariants as fault
 use Rattle.hmain.specs.Fault.{fault_by_kind, fault_of_error}
 use Rattle.hmain.specs.Line.{AreGood, AreNumbers, FaultOf, NumberFault, Numeric, OptionFault, Says, bad_bytes_of, numeric_options, program, task_of, value_of}
-use Rattle.hrun.specs.declared.command.Task.{Task}
+use Rattle.hwrite.specs.declared.command.Task.{Task}
 use Rattle.hmain.specs.declared.fault.Fault.{Fault}
 use Rattle.hmain.specs.declared.said.Line.{Line}
 

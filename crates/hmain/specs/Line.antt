@@ -4,10 +4,10 @@ use Rattle.std.specs.Str.Parse.{digits_value, without_leading_plus}
 use Rattle.clap.specs.Words.{App, IsAmong, IsUnsignedIn, Rule, Text, fault_of, first_of, kind_of, new_app, new_rule, subcommand_of, with_rule, with_subcommand}
 use Rattle.htext.specs.declared.BadBytes.{BadBytes}
 use Rattle.htext.specs.declared.BadBytes.TheVariants.{Refuse, Replace}
-use Rattle.hwrite.specs.declared.escaping.Escaping.{Escaping}
-use Rattle.hwrite.specs.declared.escaping.Escaping.TheVariants.{One, Two}
-use Rattle.hrun.specs.Command.{task_named}
-use Rattle.hrun.specs.declared.command.Task.{Task}
+use Rattle.hserialize.specs.declared.escaping.Escaping.{Escaping}
+use Rattle.hserialize.specs.declared.escaping.Escaping.TheVariants.{One, Two}
+use Rattle.hwrite.specs.Command.{task_named}
+use Rattle.hwrite.specs.declared.command.Task.{Task}
 use Rattle.hmain.specs.declared.commands.Choice.{Choice}
 use Rattle.hmain.specs.declared.commands.Entry.{Entry}
 use Rattle.hmain.specs.declared.commands.Reads.{Reads}

@@ -10,16 +10,16 @@ use Rattle.charref.specs.Reading.{table_of, IsRefusedWith}
 use Rattle.hmarkup.specs.Quirks.{QuirkLine, ReadsQuirks}
 use Rattle.htext.specs.declared.decoder.TheConstants.{MAX_INPUT}
 use Rattle.hbuild.specs.Bounds.{AreLimits, Bounds}
-use Rattle.hrun.specs.declared.command.Task.{Task}
-use Rattle.hwrite.specs.declared.escaping.Escaping.{Escaping}
-use Rattle.hwrite.specs.Output.{WritesText}
-use Rattle.hrun.specs.Calls.{EndsWith}
-use Rattle.hrun.specs.declared.command.Command.{Command}
+use Rattle.hwrite.specs.declared.command.Task.{Task}
+use Rattle.hserialize.specs.declared.escaping.Escaping.{Escaping}
+use Rattle.hserialize.specs.Output.{WritesText}
+use Rattle.hwrite.specs.Calls.{EndsWith}
+use Rattle.hwrite.specs.declared.command.Command.{Command}
 use Rattle.hparse.specs.declared.options.Options.{Options}
 use Rattle.hparse.specs.Parse.{Told as Settings}
 use Rattle.hparse.specs.Parsing.{told_by}
-use Rattle.hrun.specs.Context.{AllowsContext}
-use Rattle.hrun.specs.Running.{RunsTask}
+use Rattle.hwrite.specs.Context.{AllowsContext}
+use Rattle.hwrite.specs.Running.{RunsTask}
 use Rattle.hmain.specs.declared.fault.Fault.{Fault}
 use Rattle.hmain.specs.declared.fault.Fault.TheVariants as fault
 use Rattle.hmain.specs.Ending.{ending_text, status_of}

@@ -1,12 +1,12 @@
 //! How the program ends: its status, and its line on standard error.
 
 ghost use Rattle.std.specs.Prelude.{◌≡◌, ◌∷◌, ◌++◌, [], IfSome, Some, codes, option_map};
-ghost use Rattle.hrun.specs.Calls.{EndsWith, WritesAll};
+ghost use Rattle.hwrite.specs.Calls.{EndsWith, WritesAll};
 ghost use Rattle.hmain.specs.Ending.{ending_text, fault_line, fault_status, refusal_line, status_of};
 ghost use Rattle.names.specs.RefusalText.{detail_of, detail_text, number_of, number_text, refusal_text};
 
 use crate::fault::Fault;
-use hrun::{Target, write_all};
+use hwrite::{Target, write_all};
 use itoa::Buffer;
 use names::Refusal;
 use std::fmt;

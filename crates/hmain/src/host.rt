@@ -9,7 +9,7 @@ use crate::fault::Fault;
 use crate::program::run_program;
 use crate::surroundings::Surroundings;
 use hparse::Source;
-use hrun::{Counted, Target};
+use hwrite::{Counted, Target};
 use names::Keys;
 use std::alloc::Global;
 use std::fs::File;

@@ -3,7 +3,7 @@
 ghost use Rattle.std.specs.Prelude.{◌≡◌, ◌<◌, ◌≤◌, [], true, codes, None, Some, IfOk, IfErr, OnOk, IsSome, MatchResult};
 ghost use Rattle.clap.specs.Words.{fault_of, first_value, found_of, takes};
 ghost use Rattle.clap.specs.Walk.{texts};
-ghost use Rattle.hrun.specs.Command.{task_named};
+ghost use Rattle.hwrite.specs.Command.{task_named};
 ghost use Rattle.hmain.specs.Line.{bad_bytes_of, escaping_of, number_or, program, task_of, value_of, AreGood, FaultOf, IsNumber, IsNumberFault, OptionFault, Says};
 ghost use Rattle.hmain.specs.declared.fault.Fault.TheVariants as fault;
 
@@ -12,9 +12,8 @@ use crate::fault::Fault;
 use crate::said::Line;
 use clap::ArgMatches;
 use hbuild::{MAX_DEPTH, MAX_NODES};
-use hrun::{Command, Task};
+use hwrite::{Command, Escaping, Task};
 use htext::BadBytes;
-use hwrite::Escaping;
 use std::alloc::Global;
 
 /// The most bytes that are fed at a time, and the number where no option gives one.

@@ -16,7 +16,7 @@ use charref::Table;
 use hbuild::Limits;
 use hmarkup::Quirks;
 use hparse::{Options, Source};
-use hrun::{Command, Target, check_context, run};
+use hwrite::{Command, Target, check_context, run};
 use htext::MAX_INPUT;
 use names::Keys;
 use std::alloc::{AllocError, Global};

@@ -1,6 +1,6 @@
 //! What a command line says.
 
-use hrun::Command;
+use hwrite::Command;
 use htext::BadBytes;
 
 /// What the words of a command line say.

@@ -5,7 +5,7 @@ ghost use Rattle.hmain.specs.Line.{asks_version};
 ghost use Rattle.hmain.specs.Program.{WritesVersion};
 
 use crate::fault::Fault;
-use hrun::{Target, write_text};
+use hwrite::{Target, write_text};
 
 /// What `htmlp --version` writes.
 pub const VERSION: &[u8] = b"htmlp 0.1.0\n";

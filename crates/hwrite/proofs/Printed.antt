@@ -1,151 +1,64 @@
--- What a walk prints.
-use Rattle.std.proofs.Common.{◌≡◌, ℕ, zero, suc, ◌+◌, ◌^◌, ◌<◌, ◌≤◌, Bool, true, false, cond, List, [], ◌∷◌, ◌++◌, length, refl, sym, ◌∙◌, ap, subst, arith}
-use Rattle.std.proofs.lemmas.List.{append_assoc, append-nil}
-use Rattle.std.specs.List.{AllByRecursion}
-use Rattle.names.specs.Names.{Texts, text_of}
-use Rattle.hnodes.specs.Forest.{Forest, none, tree, children_of}
-use Rattle.hnodes.specs.Edits.{AreCounted}
-use Rattle.hnodes.specs.Spelled.{spelled, spelled_what}
-use Rattle.hnodes.specs.Spots.{what_of}
-use Rattle.hwrite.specs.Lines.{node_lines, tree_lines, tree_text}
-use Rattle.hnodes.specs.Named.{AreOf, IsLent}
-use Rattle.hwrite.specs.Printing.{one_less, depth_after, IsOpen, lines_of, visit_lines}
-use Rattle.hwrite.specs.Walk.{node_of, goes_in, visits}
-use Rattle.hwrite.specs.declared.walk.Reach.{Reach}
-use Rattle.hwrite.specs.declared.walk.Reach.TheVariants.{Whole}
-use Rattle.hwrite.specs.declared.walk.Visit.{Visit}
-use Rattle.hwrite.specs.declared.walk.Visit.TheVariants.{Enter, Leave}
-use Rattle.names.specs.declared.refusal.Refusal.{Refusal}
-use Rattle.hwrite.specs.Output.{Taken, Adds, Fails}
-use Rattle.hwrite.proofs.Output.{none_added, both_added, then_failed}
-use Rattle.hwrite.proofs.Runs.{run, walked, run-visits}
-use Rattle.hwrite.proofs.Seen.{Seen, seen, lent-visits}
+-- What is printed of an answer.
+use Rattle.std.proofs.Common.{◌≡◌, ◌∙◌, ℕ, List, Option, Bool, None, Some, ap, ap₂, refl, sym, subst, option_map, Ok}
+use Rattle.names.specs.declared.tag.Tag.{Tag}
+use Rattle.names.specs.Names.{AreNames, Texts, text_of}
+use Rattle.names.specs.Sets.{raw_kind}
+use Rattle.names.specs.Spelling.{spelling}
+use Rattle.names.proofs.AllTexts.{spelled as table_spelled}
+use Rattle.hnodes.specs.Forest.{Forest, children_of}
+use Rattle.hnodes.specs.Spelled.{spelled}
+use Rattle.hnodes.specs.Spots.{name_of}
+use Rattle.hprint.specs.Lines.{tree_text, error_lines}
+use Rattle.hserialize.specs.Written.{has_no_references, is_raw_in, written, written_among}
+use Rattle.hserialize.specs.declared.escaping.Escaping.{Escaping}
+use Rattle.hserialize.proofs.KnownNames.{tags-agree}
+use Rattle.hparse.specs.declared.parsed.Parsed.{Parsed}
+use Rattle.hparse.specs.Parse.{Parse, Parses, Subject, Told, root_of}
+use Rattle.hparse.specs.Parsing.{AnswersParse, IsParse}
+use Rattle.hnodes.proofs.Spellings.{questions, spelled-children_of}
+use Rattle.hwrite.proofs.Alike.{spelled-alike}
+use Rattle.hwrite.specs.Prints.{Prints, printed, nodes_text, errors_text, is_plain_in, plain_line, plain_text, written_text}
 
--- only what is open is left, all along
-abbrev Balanced : ℕ → List Visit → Type 0
-Balanced depth [] = Unit {0}
-Balanced depth (v ∷ vs) = IsOpen depth v × Balanced (depth_after v depth) vs
+-- what stands in the root of a parse: each number of a name is read as its text
+abbrev children_spelled : Parsed → Forest (List ℕ)
+children_spelled parsed = spelled (text_of parsed.names) (children_of parsed.root parsed.tree.trees)
 
-balanced : (reach : Reach) (f : Forest ℕ) (depth : ℕ) (more : List Visit) → Balanced depth more → Balanced depth (visits reach f ++ more)
-balanced reach none depth more h = h
-balanced reach (tree b w kids rest) depth more h = (tt, go (goes_in reach w) (balanced reach kids (suc depth) (Leave b ∷ (visits reach rest ++ more))) (omega arith, balanced reach rest depth more h))
-  where
-    go : (u : Bool) → (Balanced (suc depth) (Leave b ∷ (visits reach rest ++ more)) → Balanced (suc depth) (visits reach kids ++ (Leave b ∷ (visits reach rest ++ more)))) → Balanced (suc depth) (Leave b ∷ (visits reach rest ++ more))
-        → Balanced (suc depth) ((cond u (visits reach kids) [] ++ Leave b ∷ visits reach rest) ++ more)
-    go true l r = subst (Balanced (suc depth)) (sym (append_assoc (visits reach kids) (Leave b ∷ visits reach rest) more)) (l r)
-    go false l r = r
+children_are : (subject : Subject) (parsed : Parsed) (parse : Parse) → IsParse subject parsed parse → children_spelled parsed ≡ children_of (root_of subject) parse.trees
+children_are subject parsed parse is =
+    spelled-alike parsed.names (children_of parsed.root parsed.tree.trees) is.names_are ∙ spelled-children_of (spelling parsed.names) parsed.root parsed.tree.trees
+    ∙ ap₂ (λ (n : ℕ) (f : Forest (List ℕ)). children_of n f) is.root is.trees
 
-module _ (texts : ℕ → List ℕ) (f : Forest ℕ) where
-  -- the depth, and what has been printed
-  abbrev Printing : Type 0
-  Printing = ℕ × List ℕ
+pub tree_printed : (told : Told) (subject : Subject) (bytes : List ℕ) (parsed : Parsed) (text : List ℕ) → AnswersParse told subject bytes (Ok parsed)
+    → text ≡ tree_text (children_spelled parsed) → Prints (Parses told subject) (nodes_text subject) bytes (Ok text)
+tree_printed told subject bytes parsed text (parse, is, parses) lines =
+    subst (λ (t : List ℕ). Prints (Parses told subject) (nodes_text subject) bytes (Ok t)) (sym (lines ∙ ap tree_text (children_are subject parsed parse is))) (printed parse parses)
 
-  abbrev pub enters : ℕ → Printing → Printing
-  enters n s = (suc s.0, s.1 ++ lines_of texts s.0 (what_of n f))
+-- a number stands for the same known name by its text and by its spelling, so its texts are raw by both
+raw-alike : (names : Texts) → AreNames names → (name : Option ℕ) → is_raw_in (option_map (text_of names) name) ≡ is_raw_in (option_map (spelling names) name)
+raw-alike names table None = refl
+raw-alike names table (Some id) = ap (λ (t : Tag). has_no_references (raw_kind t)) (sym (tags-agree names table id) ∙ sym ((table_spelled names table).spells.tags id))
 
-  abbrev pub leaves : ℕ → Printing → Printing
-  leaves n s = (one_less s.0, s.1)
+-- the root's name
+name_is : (subject : Subject) (parsed : Parsed) (parse : Parse) → IsParse subject parsed parse
+    → option_map (spelling parsed.names) (name_of parsed.root parsed.tree.trees) ≡ name_of (root_of subject) parse.trees
+name_is subject parsed parse is =
+    sym ((questions (spelling parsed.names)).name parsed.root parsed.tree.trees) ∙ ap₂ (λ (n : ℕ) (f : Forest (List ℕ)). name_of n f) is.root is.trees
 
-  prints : (made root p : ℕ) (g : Forest ℕ) → Seen made f root p g → (depth : ℕ) (out : List ℕ) → walked enters leaves Whole g (depth, out) ≡ (depth, out ++ tree_lines depth (spelled texts g))
-  prints made root p none s depth out = ap (λ (t : List ℕ). (depth, t)) (sym (append-nil out))
-  prints made root p (tree b w kids rest) s depth out =
-      ap (λ o. walked enters leaves Whole rest (leaves b (walked enters leaves Whole kids (suc depth, out ++ lines_of texts depth o)))) s.0.what
-      ∙ ap (λ (q : Printing). walked enters leaves Whole rest (leaves b q)) (prints made root b kids s.1 (suc depth) (out ++ node_lines depth (spelled_what texts w)))
-      ∙ prints made root p rest s.2 depth ((out ++ node_lines depth (spelled_what texts w)) ++ tree_lines (suc depth) (spelled texts kids))
-      ∙ ap (λ (t : List ℕ). (depth, t)) (regrouped (node_lines depth (spelled_what texts w)) (tree_lines (suc depth) (spelled texts kids)) (tree_lines depth (spelled texts rest)))
-    where
-      regrouped : (a k r : List ℕ) → ((out ++ a) ++ k) ++ r ≡ out ++ ((a ++ k) ++ r)
-      regrouped a k r = ap (λ t. t ++ r) (append_assoc out a k) ∙ append_assoc out (a ++ k) r
+pub html_printed : (how : Escaping) (told : Told) (subject : Subject) (bytes : List ℕ) (parsed : Parsed) (text : List ℕ) → AnswersParse told subject bytes (Ok parsed)
+    → text ≡ written how (option_map (text_of parsed.names) (name_of parsed.root parsed.tree.trees)) (children_spelled parsed) → Prints (Parses told subject) (written_text how subject) bytes (Ok text)
+html_printed how told subject bytes parsed text (parse, is, parses) html =
+    let raw = raw-alike parsed.names is.table (name_of parsed.root parsed.tree.trees) ∙ ap is_raw_in (name_is subject parsed parse is) in
+    subst (λ (t : List ℕ). Prints (Parses told subject) (written_text how subject) bytes (Ok t)) (sym (html ∙ ap₂ (written_among how) raw (children_are subject parsed parse is)))
+    (printed parse parses)
 
--- What is printed so far, and the visits that are left.
-pub record IsPrinting (names : Texts) (made : ℕ) (f : Forest ℕ) (root depth : ℕ) (out : List ℕ) (left : List Visit) : Type 0 where
-  pub few : depth + length left < 2 ^ 33
-  pub balanced : Balanced depth left
-  pub lent : AllByRecursion (λ v. IsLent names made f (node_of v)) left
-  pub same : run (enters (text_of names) f) (leaves (text_of names) f) left (depth, out) ≡ (0, tree_text (spelled (text_of names) (children_of root f)))
+pub plain_printed : (told : Told) (subject : Subject) (bytes : List ℕ) (parsed : Parsed) (answer : Bool) (text : List ℕ) → AnswersParse told subject bytes (Ok parsed)
+    → answer ≡ is_plain_in subject (children_spelled parsed) → text ≡ plain_line answer → Prints (Parses told subject) (plain_text subject) bytes (Ok text)
+plain_printed told subject bytes parsed answer text (parse, is, parses) plain line =
+    let same = plain ∙ ap (is_plain_in subject) (children_are subject parsed parse is) in
+    subst (λ (t : List ℕ). Prints (Parses told subject) (plain_text subject) bytes (Ok t)) (sym (line ∙ ap plain_line same))
+    (printed parse parses)
 
-begun : (names : Texts) (made : ℕ) (f : Forest ℕ) (root : ℕ) (out : List ℕ) (left items : List Visit) → AreCounted made f → root < made → AreOf names (children_of root f) → out ≡ [] → left ≡ items
-    → items ≡ visits Whole (children_of root f) → length items < 2 ^ 33 → IsPrinting names made f root 0 out left
-begun names made f root out left items counted h of empty same visited few = record {
-  few = let long : length left ≡ length items = ap length same in omega (arith, few, long);
-  balanced = subst (Balanced 0) (append-nil (visits Whole (children_of root f)) ∙ sym is) (balanced Whole (children_of root f) 0 [] tt);
-  lent = subst (AllByRecursion (λ v. IsLent names made f (node_of v))) (sym is) (lent-visits names made f root Whole counted h of);
-  same = (λ i. run (enters (text_of names) f) (leaves (text_of names) f) (is i) (0, empty i)) ∙ run-visits (enters (text_of names) f) (leaves (text_of names) f) Whole (children_of root f) (0, [])
-      ∙ prints (text_of names) f made root root (children_of root f) (seen made f counted root h) 0 [];
-}
-  where
-    is : left ≡ visits Whole (children_of root f)
-    is = same ∙ visited
-
--- one visit more
-goes_on : (names : Texts) (made : ℕ) (f : Forest ℕ) (root depth depth' : ℕ) (out out' : List ℕ) (v : Visit) (old left : List Visit) → old ≡ v ∷ left → IsPrinting names made f root depth out old
-    → depth' ≡ depth_after v depth → out' ≡ out ++ visit_lines (text_of names) f depth v → IsPrinting names made f root depth' out' left
-goes_on names made f root depth depth' out out' v old left is s d o = go v (subst (IsPrinting names made f root depth out) is s) d o
-  where
-    go : (v : Visit) → IsPrinting names made f root depth out (v ∷ left) → depth' ≡ depth_after v depth → out' ≡ out ++ visit_lines (text_of names) f depth v → IsPrinting names made f root depth' out' left
-    go (Enter n) t e e' = record {
-      few = let long = t.few in omega (arith, long, e);
-      balanced = subst (λ k. Balanced k left) (sym e) t.balanced.1;
-      lent = t.lent.1;
-      same = (λ i. run (enters (text_of names) f) (leaves (text_of names) f) left (e i, e' i)) ∙ t.same;
-    }
-    go (Leave n) t e e' = record {
-      few = let long = t.few in let less = below depth in omega (arith, long, e, less);
-      balanced = subst (λ k. Balanced k left) (sym e) t.balanced.1;
-      lent = t.lent.1;
-      same = (λ i. run (enters (text_of names) f) (leaves (text_of names) f) left (e i, (e' ∙ append-nil out) i)) ∙ t.same;
-    }
-      where
-        below : (k : ℕ) → one_less k ≤ k
-        below zero = omega arith
-        below (suc k) = omega arith
-
--- what the next visit asks for
-pub next_is : (names : Texts) (made : ℕ) (f : Forest ℕ) (root depth : ℕ) (out : List ℕ) (v : Visit) (old left : List Visit) → old ≡ v ∷ left → IsPrinting names made f root depth out old
-    → (depth < 2 ^ 33) × IsOpen depth v × IsLent names made f (node_of v)
-next_is names made f root depth out v old left is s =
-    let t = subst (IsPrinting names made f root depth out) is s in let long = t.few in (omega (arith, long), t.balanced.0, t.lent.0)
-
--- the end
-printed : (names : Texts) (made : ℕ) (f : Forest ℕ) (root depth : ℕ) (out : List ℕ) (left : List Visit) → left ≡ [] → IsPrinting names made f root depth out left → out ≡ tree_text (spelled (text_of names) (children_of root f))
-printed names made f root depth out left is s = ap (λ (q : ℕ × List ℕ). q.1) (subst (IsPrinting names made f root depth out) is s).same
-
--- What was added so far is a beginning of the text.
-pub record IsPutting (names : Texts) (made : ℕ) (f : Forest ℕ) (root depth : ℕ) (old now : Taken) (left : List Visit) : Type 0 where
-  pub done : List ℕ
-  pub added : Adds old now done
-  pub printing : IsPrinting names made f root depth done left
-
-pub begun_putting : (names : Texts) (made : ℕ) (f : Forest ℕ) (root : ℕ) (old : Taken) (left items : List Visit) → AreCounted made f → root < made → AreOf names (children_of root f) → left ≡ items
-    → items ≡ visits Whole (children_of root f) → length items < 2 ^ 33 → IsPutting names made f root 0 old old left
-begun_putting names made f root old left items counted h of same visited few = record {
-  done = [];
-  added = none_added old;
-  printing = begun names made f root [] left items counted h of refl same visited few;
-}
-
-module _ (names : Texts) (made : ℕ) (f : Forest ℕ) (root depth : ℕ) (old now : Taken) (v : Visit) (before left : List Visit) (is : before ≡ v ∷ left) (s : IsPutting names made f root depth old now before) where
-  -- one visit more
-  pub put_more : (depth' : ℕ) (new : Taken) → depth' ≡ depth_after v depth → Adds now new (visit_lines (text_of names) f depth v) → IsPutting names made f root depth' old new left
-  put_more depth' new e h = record {
-    done = s.done ++ visit_lines (text_of names) f depth v;
-    added = both_added old now new s.done (visit_lines (text_of names) f depth v) s.added h;
-    printing = goes_on names made f root depth depth' s.done _ v before left is s.printing e refl;
-  }
-
-  -- one that failed
-  pub put_failed : (new : Taken) {e : Refusal} → Fails e now new (visit_lines (text_of names) f depth v) → Fails e old new (tree_text (spelled (text_of names) (children_of root f)))
-  put_failed new h =
-      let lines = visit_lines (text_of names) f depth v in
-      let t = goes_on names made f root depth (depth_after v depth) s.done (s.done ++ lines) v before left is s.printing refl refl in
-      let (rest, more) = extends left (depth_after v depth) (s.done ++ lines) in
-      subst (Fails _ old new) (sym (append_assoc s.done lines rest) ∙ sym more ∙ ap (λ (q : ℕ × List ℕ). q.1) t.same) (then_failed old now new s.done lines rest s.added h)
-    where
-      extends : (vs : List Visit) (d : ℕ) (out : List ℕ) → (rest : List ℕ) × ((run (enters (text_of names) f) (leaves (text_of names) f) vs (d, out)).1 ≡ out ++ rest)
-      extends [] d out = ([], sym (append-nil out))
-      extends (Enter n ∷ vs) d out = let (rest, is) = extends vs (suc d) (out ++ lines_of (text_of names) d (what_of n f)) in (lines_of (text_of names) d (what_of n f) ++ rest, is ∙ append_assoc out (lines_of (text_of names) d (what_of n f)) rest)
-      extends (Leave n ∷ vs) d out = extends vs (one_less d) out
-
--- the end
-pub all_printed : (names : Texts) (made : ℕ) (f : Forest ℕ) (root depth : ℕ) (old now : Taken) (left : List Visit) → left ≡ [] → IsPutting names made f root depth old now left → Adds old now (tree_text (spelled (text_of names) (children_of root f)))
-all_printed names made f root depth old now left is s = subst (Adds old now) (printed names made f root depth s.done left is s.printing) s.added
+pub errors_printed : (told : Told) (subject : Subject) (bytes : List ℕ) (parsed : Parsed) (text : List ℕ) → AnswersParse told subject bytes (Ok parsed)
+    → text ≡ error_lines parsed.errors.items → Prints (Parses told subject) errors_text bytes (Ok text)
+errors_printed told subject bytes parsed text (parse, is, parses) lines =
+    subst (λ (t : List ℕ). Prints (Parses told subject) errors_text bytes (Ok t)) (sym (lines ∙ ap error_lines is.errors)) (printed parse parses)

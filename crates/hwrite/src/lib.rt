@@ -1,30 +1,35 @@
-//! Trees as text (HTML Standard, 13.3), the table of plain content, and the lines that the program prints.
+//! The one crate that a user of the library depends on: parsing, writing, what comes back, and the program's engine, which reads an
+//! input from a reader and prints to a writer. What stands in crates below is passed on.
 #![tactic(auto)]
 
-mod around;
-pub mod content;
-mod context;
-mod escaped;
-pub mod escaping;
-mod gathered;
-mod in_memory;
-mod lines;
-mod node;
-mod plain;
-mod plain_texts;
-mod rows;
-mod serializer;
-mod sink;
-mod sorted;
-pub mod target;
-mod walk;
+pub mod command;
+pub mod context;
+pub mod counted;
+mod draft;
+pub mod engine;
+mod filling;
+pub mod lines;
+mod quoted;
+mod words;
 
-pub use content::{Content, Role, Texts};
-pub use escaping::Escaping;
-pub use gathered::Gathered;
-pub use in_memory::{error_lines, serialize_to_vec, tree_text};
-pub use lines::{print_errors, print_tree};
-pub use plain::is_plain;
-pub use serializer::serialize;
-pub use sink::{Sink, put, room};
-pub use target::{Target, write_all};
+pub use charref::Table;
+pub use command::{Command, Task};
+pub use context::check_context;
+pub use counted::Counted;
+pub use engine::{parser, run, write_text};
+pub use hbuild::Limits;
+pub use hmarkup::Quirks;
+pub use hnodes::{
+    Ancestors, ChildElements, Children, Descendants, Doctype, Kind, NodeId, Place, Tree,
+};
+pub use hparse::{
+    Options, Parsed, Parser, Source, TokenRun, is_context, parse_reader, read_into, read_tokens,
+    tokens,
+};
+pub use htext::BadBytes;
+pub use htoken::Token;
+pub use hserialize::{Escaping, Target, serialize, serialize_to_vec, write_all};
+pub use hplain::is_plain;
+pub use hprint::{error_lines, print_errors, print_tree, tree_text};
+pub use lines::token_lines;
+pub use names::{Attr, ErrorCode, Keys, NameId, Names, ParseError, Refusal, RefusedName, Tag};

@@ -1,318 +1,40 @@
-//! Trees and errors as they are printed.
+//! Tokens as they are printed.
 
-ghost use Rattle.std.specs.Prelude.{◌≡◌, ◌++◌, ◌<◌, ◌≤◌, ◌^◌, ◌&&◌, ℕ, codes, flat_map, length, map, vec_capacity};
-ghost use Rattle.std.specs.List.{repeat};
-ghost use Rattle.std.specs.String.{string_bytes};
-ghost use Rattle.names.specs.Names.{text_of};
-ghost use Rattle.hnodes.specs.Forest.{children_of, element};
-ghost use Rattle.hnodes.specs.Rows.{attribute_of};
-ghost use Rattle.hnodes.specs.Spots.{what_of};
-ghost use Rattle.hnodes.specs.Spelled.{spelled, spelled_what};
-ghost use Rattle.hwrite.specs.Lent.{pair_of};
-ghost use Rattle.hwrite.specs.Lines.{indented, attribute_line, identifiers, node_lines, error_line, error_lines, tree_text};
-ghost use Rattle.hnodes.specs.Named.{NodeIsOf, AreOf, IsLent};
-ghost use Rattle.hwrite.specs.Output.{Puts, WritesText, taken};
-ghost use Rattle.hwrite.specs.Printing.{IsOpen, attribute_count, depth_after, lines_of, visit_lines};
-ghost use Rattle.hwrite.specs.Plain.{is_empty};
-ghost use Rattle.hwrite.specs.Walk.{node_of};
+ghost use Rattle.std.specs.Prelude.{◌≡◌, [], ℕ, List, IfOk, IfErr};
+ghost use Rattle.htoken.specs.Token.{Tok};
+ghost use Rattle.hparse.specs.TokenRun.{TokensMean};
+ghost use Rattle.hwrite.specs.Draft.{ComesTo, drafted};
+ghost use Rattle.hwrite.specs.TokenLines.{token_lines};
 
-use crate::node::Node;
-use crate::sink::{Sink, put, put_parts, room};
-use crate::sorted::{Entry, in_order, name_text};
-use crate::target::Target;
-use crate::walk::{Reach, Visit, Walk};
-use hnodes::{Doctype, NodeId, Tree};
-use itoa::Buffer;
-use names::{Attr, NameId, Names, ParseError, Refusal};
-use std::alloc::Global;
+use crate::draft::Draft;
+use crate::filling::print_draft;
+use hparse::TokenRun;
+use hserialize::Gathered;
+use names::Refusal;
+use std::alloc::{AllocError, Global};
 
-/// Begins a line at a depth.
-fn begin_line<W: Target>(out: &mut Sink<'_, W>, depth: usize) -> Result<(), Refusal>
-    ensures { Puts (taken W.written W.failed out.old) (taken W.written W.failed out.new) (codes "| " ++ repeat depth (codes "  ")) result }
+/// The lines of the tokens of a run, but for their names.
+fn draft_of(alloc: Global, run: &TokenRun) -> Result<Draft, AllocError>
+    ensures { (tokens : List Tok) → TokensMean run.now.names run.now.tokens.items tokens
+        → IfOk result (λ draft. ComesTo run.now.names (drafted draft) [] (token_lines tokens)) }
 {
-    put(out, b"| ")?;
-    for level in 0..depth {
-        put(out, b"  ")?;
+    let mut draft = Draft::new(alloc);
+    for token in &run.tokens {
+        draft.push(token)?;
     }
-    Ok(())
+    Ok(draft)
 }
 
-/// Writes a line of these parts.
-fn put_line<W: Target>(out: &mut Sink<'_, W>, depth: usize, parts: &[&[u8]]) -> Result<(), Refusal>
-    ensures { Puts (taken W.written W.failed out.old) (taken W.written W.failed out.new) (indented depth (flat_map (λ p. p.now) parts.now)) result }
+/// The tokens of a run as they are printed: a line each, but one line for characters that stand next to each other.
+pub fn token_lines(alloc: Global, run: &TokenRun) -> Result<Vec<u8>, Refusal>
+    requires { (tokens : List Tok) × TokensMean run.now.names run.now.tokens.items tokens }
+    ensures lines { (tokens : List Tok) → TokensMean run.now.names run.now.tokens.items tokens
+        → IfOk result (λ text. text.items ≡ token_lines tokens) }
+    ensures memory { IfErr result (λ refusal. refusal ≡ Refusal.Memory) }
 {
-    begin_line(out, depth)?;
-    put_parts(out, parts)?;
-    put(out, b"\n")
-}
-
-/// Writes the line of an attribute.
-fn put_attribute<W: Target>(
-    out: &mut Sink<'_, W>,
-    depth: usize,
-    name: &str,
-    value: &str,
-) -> Result<(), Refusal>
-    ensures { Puts (taken W.written W.failed out.old) (taken W.written W.failed out.new) (attribute_line depth (name.now, value.now)) result }
-{
-    put_line(
-        out,
-        depth,
-        &[name.as_bytes(), b"=\"", value.as_bytes(), b"\""],
-    )
-}
-
-/// Writes the lines of attributes.
-fn put_attributes<W: Target>(
-    out: &mut Sink<'_, W>,
-    depth: usize,
-    entries: &[Entry<'_>],
-) -> Result<(), Refusal>
-    ensures { Puts (taken W.written W.failed out.old) (taken W.written W.failed out.new) (flat_map (attribute_line depth) (map pair_of entries.now)) result }
-{
-    for entry in entries {
-        put_attribute(out, depth, entry.0, entry.2)?;
-    }
-    Ok(())
-}
-
-/// Writes the lines of an element and its attributes.
-fn put_element<'a, W: Target>(
-    out: &mut Sink<'_, W>,
-    entries: &mut Vec<Entry<'a>>,
-    names: &'a Names,
-    depth: usize,
-    name: NameId,
-    attrs: &'a [Attr],
-) -> Result<(), Refusal>
-    requires deep { depth < 2 ^ 33 }
-    requires room { length attrs.now ≤ vec_capacity entries.old }
-    requires names { NodeIsOf names.now (element name (map attribute_of attrs.now)) }
-    ensures text { Puts (taken W.written W.failed out.old) (taken W.written W.failed out.new)
-        (node_lines depth (spelled_what (text_of names.now) (element name (map attribute_of attrs.now)))) result }
-    ensures room { vec_capacity entries.old ≤ vec_capacity entries.new }
-{
-    put_line(out, depth, &[b"<", name_text(names, name).as_bytes(), b">"])?;
-    in_order(entries, names, attrs);
-    put_attributes(out, depth + 1, entries)
-}
-
-/// Whether a doctype has no identifier.
-fn has_none(public_id: &str, system_id: &str) -> bool
-    ensures { result ≡ (is_empty public_id.now && is_empty system_id.now) }
-{
-    public_id.is_empty() && system_id.is_empty()
-}
-
-/// Writes the line of a doctype.
-fn put_doctype<W: Target>(
-    out: &mut Sink<'_, W>,
-    depth: usize,
-    name: &str,
-    public_id: &str,
-    system_id: &str,
-) -> Result<(), Refusal>
-    ensures { Puts (taken W.written W.failed out.old) (taken W.written W.failed out.new)
-        (indented depth (codes "<!DOCTYPE " ++ name.now ++ identifiers public_id.now system_id.now ++ codes ">")) result }
-{
-    let name = name.as_bytes();
-    if has_none(public_id, system_id) {
-        return put_line(out, depth, &[b"<!DOCTYPE ", name, b">"]);
-    }
-    let (public_id, system_id) = (public_id.as_bytes(), system_id.as_bytes());
-    put_line(
-        out,
-        depth,
-        &[
-            b"<!DOCTYPE ",
-            name,
-            b" \"",
-            public_id,
-            b"\" \"",
-            system_id,
-            b"\">",
-        ],
-    )
-}
-
-/// Writes the line of a doctype with its identifiers.
-fn put_texts<W: Target>(out: &mut Sink<'_, W>, depth: usize, texts: &Doctype) -> Result<(), Refusal>
-    ensures { Puts (taken W.written W.failed out.old) (taken W.written W.failed out.new)
-        (indented depth (codes "<!DOCTYPE " ++ string_bytes texts.now.name
-        ++ identifiers (string_bytes texts.now.public_id) (string_bytes texts.now.system_id) ++ codes ">")) result }
-{
-    put_doctype(out, depth, &texts.name, &texts.public_id, &texts.system_id)
-}
-
-/// Writes a line of words between two marks.
-fn put_words<W: Target>(
-    out: &mut Sink<'_, W>,
-    depth: usize,
-    before: &[u8],
-    words: &str,
-    after: &[u8],
-) -> Result<(), Refusal>
-    ensures { Puts (taken W.written W.failed out.old) (taken W.written W.failed out.new) (indented depth (before.now ++ words.now ++ after.now)) result }
-{
-    put_line(out, depth, &[before, words.as_bytes(), after])
-}
-
-/// Writes the lines of a node.
-fn put_node<'a, W: Target>(
-    out: &mut Sink<'_, W>,
-    entries: &mut Vec<Entry<'a>>,
-    tree: &'a Tree,
-    names: &'a Names,
-    depth: usize,
-    node: NodeId,
-) -> Result<(), Refusal>
-    requires deep { depth < 2 ^ 33 }
-    requires room { attribute_count (what_of node tree.now.trees) ≤ vec_capacity entries.old }
-    requires lent { IsLent names.now tree.now.made tree.now.trees node }
-    ensures text { Puts (taken W.written W.failed out.old) (taken W.written W.failed out.new)
-        (lines_of (text_of names.now) depth (what_of node tree.now.trees)) result }
-    ensures room { vec_capacity entries.old ≤ vec_capacity entries.new }
-{
-    match Node::of(tree, node) {
-        Node::Document => Ok(()),
-        Node::Doctype(texts) => put_texts(out, depth, texts),
-        Node::Element(name, attrs) => put_element(out, entries, names, depth, name, attrs),
-        Node::Comment(data) => put_words(out, depth, b"<!-- ", data, b" -->"),
-        Node::Text(data) => put_words(out, depth, b"\"", data, b"\""),
-    }
-}
-
-/// Writes what a visit prints.
-fn put_visit<'a, W: Target>(
-    out: &mut Sink<'_, W>,
-    entries: &mut Vec<Entry<'a>>,
-    tree: &'a Tree,
-    names: &'a Names,
-    depth: usize,
-    visit: &Visit,
-) -> Result<(), Refusal>
-    requires deep { depth < 2 ^ 33 }
-    requires room { attribute_count (what_of (node_of visit.now) tree.now.trees) ≤ vec_capacity entries.old }
-    requires lent { IsLent names.now tree.now.made tree.now.trees (node_of visit.now) }
-    ensures text { Puts (taken W.written W.failed out.old) (taken W.written W.failed out.new)
-        (visit_lines (text_of names.now) tree.now.trees depth visit.now) result }
-    ensures room { vec_capacity entries.old ≤ vec_capacity entries.new }
-{
-    match visit {
-        Visit::Enter(node) => put_node(out, entries, tree, names, depth, *node),
-        Visit::Leave(_) => Ok(()),
-    }
-}
-
-/// The depth after a visit.
-fn depth_after(visit: &Visit, depth: usize) -> usize
-    requires deep { depth < 2 ^ 33 }
-    requires opened { IsOpen depth visit.now }
-    ensures { result ≡ depth_after visit.now depth }
-{
-    match visit {
-        Visit::Enter(_) => depth + 1,
-        Visit::Leave(_) => depth - 1,
-    }
-}
-
-/// How many attributes a node has.
-fn attribute_count(tree: &Tree, node: NodeId) -> usize
-    requires { node < tree.now.made }
-    ensures { result ≡ attribute_count (what_of node tree.now.trees) }
-{
-    match Node::of(tree, node) {
-        Node::Element(_, attrs) => attrs.len(),
-        _ => 0,
-    }
-}
-
-/// The most attributes that a node has.
-fn most_attributes(tree: &Tree) -> usize
-    ensures { (n : ℕ) → n < tree.now.made → attribute_count (what_of n tree.now.trees) ≤ result }
-{
-    let mut most = 0;
-    for index in 0..tree.made() as usize {
-        if let Some(node) = tree.node(index) {
-            most = most.max(attribute_count(tree, node));
-        }
-    }
-    most
-}
-
-/// Writes the nodes inside a node. Nothing is handed on.
-fn put_nodes<'a, W: Target>(
-    out: &mut Sink<'_, W>,
-    entries: &mut Vec<Entry<'a>>,
-    tree: &'a Tree,
-    names: &'a Names,
-    root: NodeId,
-) -> Result<(), Refusal>
-    requires made { root < tree.now.made }
-    requires room { (n : ℕ) → n < tree.now.made → attribute_count (what_of n tree.now.trees) ≤ vec_capacity entries.old }
-    requires names { AreOf names.now (children_of root tree.now.trees) }
-    ensures { Puts (taken W.written W.failed out.old) (taken W.written W.failed out.new)
-        (tree_text (spelled (text_of names.now) (children_of root tree.now.trees))) result }
-{
-    let mut depth = 0;
-    for visit in Walk::new(tree, root, Reach::Whole) {
-        put_visit(out, entries, tree, names, depth, &visit)?;
-        depth = depth_after(&visit, depth);
-    }
-    Ok(())
-}
-
-/// Prints the nodes inside a node, and flushes: a line each, two spaces deeper than the line of its parent, and a line each for
-/// the attributes of an element. All memory is taken before the first write: `Memory` comes before it, and nothing is written
-/// then. Where a write fails, what was taken before is a beginning of the text, and `Write` is returned; no write follows.
-pub fn print_tree<W: Target>(
-    alloc: Global,
-    tree: &Tree,
-    names: &Names,
-    root: NodeId,
-    target: &mut W,
-) -> Result<(), Refusal>
-    requires made { root < tree.now.made }
-    requires names { AreOf names.now (children_of root tree.now.trees) }
-    ensures { WritesText W.written W.failed (tree_text (spelled (text_of names.now) (children_of root tree.now.trees))) target.old target.new result }
-{
-    let mut entries = Vec::with_capacity(alloc, most_attributes(tree))?;
-    let mut held = room(alloc)?;
-    let mut out = Sink::new(target, &mut held);
-    put_nodes(&mut out, &mut entries, tree, names, root)?;
-    out.finish()
-}
-
-/// Writes the line of an error.
-fn put_error<W: Target>(out: &mut Sink<'_, W>, error: &ParseError) -> Result<(), Refusal>
-    ensures { Puts (taken W.written W.failed out.old) (taken W.written W.failed out.new) (error_line error.now) result }
-{
-    let mut digits = Buffer::new();
-    let at = digits.format(error.at).as_bytes();
-    put_parts(out, &[at, b" ", error.code.text().as_bytes(), b"\n"])
-}
-
-/// Writes the lines of errors. Nothing is handed on.
-fn put_errors<W: Target>(out: &mut Sink<'_, W>, errors: &[ParseError]) -> Result<(), Refusal>
-    ensures { Puts (taken W.written W.failed out.old) (taken W.written W.failed out.new) (error_lines errors.now) result }
-{
-    for error in errors {
-        put_error(out, error)?;
-    }
-    Ok(())
-}
-
-/// Prints errors, a line each, and flushes. `Memory` comes before the first write, and nothing is written then. Where a write
-/// fails, what was taken before is a beginning of the text, and `Write` is returned; no write follows.
-pub fn print_errors<W: Target>(
-    alloc: Global,
-    errors: &[ParseError],
-    target: &mut W,
-) -> Result<(), Refusal>
-    ensures { WritesText W.written W.failed (error_lines errors.now) target.old target.new result }
-{
-    let mut held = room(alloc)?;
-    let mut out = Sink::new(target, &mut held);
-    put_errors(&mut out, errors)?;
-    out.finish()
+    let draft = draft_of(alloc, run)?;
+    let mut text = Gathered::new(alloc);
+    let answer = print_draft(alloc, &draft, &run.names, &mut text);
+    drop(draft);
+    text.into_text(answer)
 }

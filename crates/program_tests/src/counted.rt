@@ -1,7 +1,7 @@
 //! Readers and writers of which one call fails.
 
 use hparse::Source;
-use hrun::{Counted, Target, write_all};
+use hwrite::{Counted, Target, write_all};
 use names::Refusal;
 use std::io;
 use std::io::{Read, Write};

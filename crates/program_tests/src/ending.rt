@@ -3,7 +3,7 @@
 use crate::counted::Faulty;
 use hmain::Fault;
 use hmain::ending::ending;
-use hrun::{Counted, Target};
+use hwrite::{Counted, Target};
 use names::{Refusal, RefusedName, TableFault};
 use std::alloc::Global;
 use std::test::Fail;

@@ -1,5 +1,5 @@
 use Rattle.names.specs.declared.attr.Attr.{Attr}
-use Rattle.hwrite.proofs.Kept.{names_stay}
+use Rattle.hserialize.proofs.Kept.{names_stay}
 use Rattle.cases.proofs.Kept.{element_made, attribute_put}
 use Rattle.cases.proofs.grow.add_line.Goals as goal
 

@@ -1,6 +1,6 @@
 use Rattle.std.specs.Str.{chars}
 use Rattle.hnodes.specs.declared.node.Place.TheVariants.{LastIn}
-use Rattle.hwrite.proofs.Kept.{chars_added}
+use Rattle.hserialize.proofs.Kept.{chars_added}
 use Rattle.cases.proofs.grow.add_text.Goals as goal
 
 pub returns : goal.returns

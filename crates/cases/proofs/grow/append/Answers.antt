@@ -1,4 +1,4 @@
-use Rattle.hwrite.proofs.Kept.{moved_last}
+use Rattle.hserialize.proofs.Kept.{moved_last}
 use Rattle.cases.proofs.grow.append.Goals as goal
 
 pub returns : goal.returns

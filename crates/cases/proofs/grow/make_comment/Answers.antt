@@ -1,6 +1,6 @@
 use Rattle.std.specs.String.{string_bytes}
 use Rattle.hnodes.specs.Forest.{comment}
-use Rattle.hwrite.proofs.Kept.{made}
+use Rattle.hserialize.proofs.Kept.{made}
 use Rattle.cases.proofs.grow.make_comment.Goals as goal
 
 pub returns : goal.returns

@@ -1,7 +1,7 @@
 use Rattle.std.proofs.Common.{ap, drop, ◌∙◌, ◌+◌, ◌++◌}
 use Rattle.std.proofs.lemmas.List.{drop_all}
 use Rattle.names.specs.Names.{text_of}
-use Rattle.hwrite.proofs.Ordered.{attributes-head, attributes-rest}
+use Rattle.hserialize.proofs.Attributes.{attributes-head, attributes-rest}
 use Rattle.hflat.proofs.Words.{all_added, attributes_bytes, next_attribute, two_added}
 use Rattle.hflat.specs.Rows.{ended}
 use Rattle.hflat.proofs.rows.push_attributes.Goals as goal

@@ -1,10 +1,10 @@
 use Rattle.std.proofs.Common.{ℕ, Vec, Global, ap, sym, subst, ◌∙◌}
-use Rattle.hrun.specs.Prints.{unrefused_of}
+use Rattle.hwrite.specs.Prints.{unrefused_of}
 use Rattle.hparse.specs.Parsing.{told_by}
-use Rattle.hrun.specs.Command.{name_of}
-use Rattle.hrun.specs.Counted.{failures_of}
-use Rattle.hrun.specs.Prints.{context_of, prints_of}
-use Rattle.hrun.specs.declared.counted.Counted.{Counted}
+use Rattle.hwrite.specs.Command.{name_of}
+use Rattle.hwrite.specs.Counted.{failures_of}
+use Rattle.hwrite.specs.Prints.{context_of, prints_of}
+use Rattle.hwrite.specs.declared.counted.Counted.{Counted}
 use Rattle.hflat.specs.Exports.{ComesToNone}
 use Rattle.hflat.specs.Input.{left_in}
 use Rattle.hflat.proofs.Texts.{came, gives_none}

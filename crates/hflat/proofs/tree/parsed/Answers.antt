@@ -1,8 +1,8 @@
 use Rattle.std.proofs.Common.{[], subst}
 use Rattle.hparse.specs.Parsing.{IsUnrefused}
 use Rattle.hparse.specs.Parsing.{told_by}
-use Rattle.hrun.specs.Command.{name_of}
-use Rattle.hrun.specs.Context.{subject_in}
+use Rattle.hwrite.specs.Command.{name_of}
+use Rattle.hwrite.specs.Context.{subject_in}
 use Rattle.hflat.specs.Input.{left_in}
 use Rattle.hflat.specs.Trees.{ComesToParse}
 use Rattle.hflat.proofs.Trees.{not_begun, parse_of}

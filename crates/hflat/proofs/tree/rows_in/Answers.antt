@@ -1,5 +1,5 @@
 use Rattle.hparse.specs.Parsing.{told_by}
-use Rattle.hrun.specs.Command.{name_of}
+use Rattle.hwrite.specs.Command.{name_of}
 use Rattle.hflat.proofs.Trees.{has_rows}
 use Rattle.hflat.proofs.tree.rows_in.Goals as goal
 

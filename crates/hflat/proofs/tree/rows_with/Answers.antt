@@ -1,5 +1,5 @@
 use Rattle.hparse.specs.Parsing.{told_by}
-use Rattle.hrun.specs.Command.{name_of}
+use Rattle.hwrite.specs.Command.{name_of}
 use Rattle.hflat.specs.Exports.{unmet_rows}
 use Rattle.hflat.specs.declared.fault.Fault.TheVariants as fault
 use Rattle.hflat.proofs.Exports.{none_for, some_rows}

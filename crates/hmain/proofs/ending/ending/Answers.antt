@@ -1,7 +1,7 @@
 use Rattle.std.proofs.Common.{Ok, sym, subst, IfSome}
-use Rattle.hrun.specs.Calls.{EndsWith}
+use Rattle.hwrite.specs.Calls.{EndsWith}
 use Rattle.hmain.specs.Ending.{ending_text}
-use Rattle.hrun.proofs.CallLemmas.{WritesAll-nil}
+use Rattle.hwrite.proofs.CallLemmas.{WritesAll-nil}
 use Rattle.hmain.proofs.ending.ending.Goals as goal
 
 pub returns-in-Ok-clause-text : goal.returns-in-Ok-clause-text

@@ -1,5 +1,5 @@
 use Rattle.std.proofs.Common.{List, ℕ, ◌++◌, ◌∙◌, ap, ap₂, codes, decimal}
-use Rattle.hrun.proofs.CallLemmas.{WritesAll-stops, WritesAll-then}
+use Rattle.hwrite.proofs.CallLemmas.{WritesAll-stops, WritesAll-then}
 use Rattle.hmain.proofs.ending.write_number.Goals as goal
 
 abbrev spaced : List ℕ → List ℕ

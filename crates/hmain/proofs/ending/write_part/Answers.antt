@@ -1,4 +1,4 @@
-use Rattle.hrun.proofs.CallLemmas.{writes_all}
+use Rattle.hwrite.proofs.CallLemmas.{writes_all}
 use Rattle.hmain.proofs.ending.write_part.Goals as goal
 
 pub returns : goal.returns

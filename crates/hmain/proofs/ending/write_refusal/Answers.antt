@@ -1,5 +1,5 @@
 use Rattle.std.proofs.Common.{[], ◌∷◌, ◌++◌, ◌≡◌, refl, subst, codes}
-use Rattle.hrun.specs.Calls.{WritesAll}
+use Rattle.hwrite.specs.Calls.{WritesAll}
 use Rattle.hmain.specs.Ending.{refusal_line}
 use Rattle.names.specs.RefusalText.{refusal_text}
 use Rattle.names.specs.declared.refusal.Refusal.{Refusal}

@@ -2,7 +2,7 @@
 use Rattle.std.proofs.Common.{ℕ, List, [], ◌∷◌, ◌++◌, ◌≡◌, ◌∙◌, refl, ap, Err, codes, append_assoc, option_map}
 use Rattle.std.specs.Borrow.{Bor}
 use Rattle.names.specs.RefusalText.{detail_of, detail_text, name_of, number_of, number_text}
-use Rattle.hrun.proofs.CallLemmas.{WritesAll-stops, WritesAll-then}
+use Rattle.hwrite.proofs.CallLemmas.{WritesAll-stops, WritesAll-then}
 use Rattle.hmain.proofs.ending.write_refused.Goals as goal
 
 abbrev start : List ℕ

@@ -1,5 +1,5 @@
 use Rattle.std.proofs.Common.{codes, refl}
-use Rattle.hrun.proofs.CallLemmas.{WritesAll-stops, WritesAll-then}
+use Rattle.hwrite.proofs.CallLemmas.{WritesAll-stops, WritesAll-then}
 use Rattle.hmain.proofs.ending.write_word.Goals as goal
 
 pub returns-in_err-write_part : goal.returns-in_err-write_part

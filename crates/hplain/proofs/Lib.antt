@@ -1,0 +1,6 @@
+pub mod Contexts
+pub mod Entering
+pub mod Tested
+pub mod Regions
+pub mod Parts
+pub mod PlainNames

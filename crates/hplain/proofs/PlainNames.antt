@@ -1,0 +1,74 @@
+-- Names and attributes that are plain.
+use Rattle.std.proofs.Common.{◌≡◌, ℕ, ◌+◌, ◌-◌, ◌<◌, ◌≤◌, Bool, true, false, not, List, [], ◌∷◌, length, get_or, take, drop, map, refl, sym, ◌∙◌, ap, arith}
+use Rattle.std.proofs.lemmas.Bool.Decides.{Decides-eqb}
+use Rattle.std.proofs.lemmas.List.{take_all, drop_all}
+use Rattle.std.proofs.lemmas.Slice.Eq.{bytes_eq-Decides}
+use Rattle.std.specs.Prelude.{◌&&◌, ◌||◌, bytes_eq, nat_eq}
+use Rattle.std.specs.List.{list_all, list_any}
+use Rattle.std.specs.Char.{is_ascii_lowercase}
+use Rattle.names.specs.Names.{Texts, AreNames, text_of}
+use Rattle.names.specs.declared.attr.Attr.{Attr}
+use Rattle.names.proofs.KnownTags.{different}
+use Rattle.hnodes.specs.Differing.{names_differ}
+use Rattle.hnodes.specs.Forest.{Attribute}
+use Rattle.hnodes.specs.Named.{AttributesAreOf}
+use Rattle.hnodes.specs.Rows.{attribute_of}
+use Rattle.hnodes.specs.Spelled.{spelled_attribute}
+use Rattle.hplain.specs.Plain.{is_clean, is_name_byte, is_plain_name, are_plain_attributes}
+use Rattle.hplain.specs.Testing.{is_plain_attribute}
+use Rattle.hserialize.proofs.Attributes.{dropped}
+
+-- a name whose first byte is a lower letter
+pub lower_first : (name bytes : List ℕ) (all : Bool) → bytes ≡ name → 1 ≤ length bytes → true ≡ is_ascii_lowercase (get_or bytes 0 0) → all ≡ list_all is_name_byte (take (length bytes - 1) (drop 1 bytes)) → all ≡ is_plain_name name
+lower_first [] bytes all same some lower is = absurd (let none : length bytes ≡ 0 = ap length same in omega (arith, some, none))
+lower_first (b ∷ name) bytes all same some lower is =
+    let low : true ≡ is_ascii_lowercase b = lower ∙ ap (λ t. is_ascii_lowercase (get_or t 0 0)) same in
+    is ∙ ap (λ t. list_all is_name_byte (take (length t - 1) (drop 1 t))) same ∙ ap (list_all is_name_byte) (take_all (length (b ∷ name) - 1) name (omega arith)) ∙ ap (λ u. u && list_all is_name_byte name) low
+
+-- names of a table are compared by their numbers
+same-name : (names : Texts) (i j : ℕ) → AreNames names → i < length names → j < length names → bytes_eq (text_of names i) (text_of names j) ≡ nat_eq j i
+same-name names i j table h h' = go (nat_eq j i) refl
+  where
+    go : (u : Bool) → nat_eq j i ≡ u → bytes_eq (text_of names i) (text_of names j) ≡ u
+    go true e = (bytes_eq-Decides (text_of names i) (text_of names j)).1 (ap (text_of names) (sym ((Decides-eqb j i).0 e)))
+    go false e =
+        different (text_of names i) (text_of names j)
+        (λ same. let one : nat_eq j i ≡ true = (Decides-eqb j i).1 (sym (table.distinct i j h h' same)) in let no : false ≡ true = sym e ∙ one in cc)
+
+has-name : (names : Texts) (i : ℕ) (attrs : List (Attribute ℕ)) → AreNames names → i < length names → AttributesAreOf names attrs
+    → list_any (λ b. nat_eq b.0 i) attrs ≡ list_any (λ b. bytes_eq (text_of names i) b.0) (map (spelled_attribute (text_of names)) attrs)
+has-name names i [] table h of = refl
+has-name names i (a ∷ attrs) table h of = λ k. sym (same-name names i a.0 table h of.0) k || has-name names i attrs table h of.1 k
+
+-- attributes are plain if each is by itself, and their names differ
+pub plain-are : (names : Texts) (attrs : List (Attribute ℕ)) → AreNames names → AttributesAreOf names attrs
+    → (list_all (is_plain_attribute (text_of names)) attrs && names_differ nat_eq attrs) ≡ are_plain_attributes (map (spelled_attribute (text_of names)) attrs)
+plain-are names [] table of = refl
+plain-are names (a ∷ attrs) table of =
+    apart (is_plain_name (text_of names a.0)) (is_clean a.1) (list_all (is_plain_attribute (text_of names)) attrs) (list_any (λ b. nat_eq b.0 a.0) attrs) (names_differ nat_eq attrs)
+    ∙ (λ k. is_plain_name (text_of names a.0) && is_clean a.1 && not (has-name names a.0 attrs table of.0 of.1 k) && plain-are names attrs table of.1 k)
+  where
+    apart : (name clean all same differ : Bool) → (((name && clean) && all) && (not same && differ)) ≡ (name && clean && not same && (all && differ))
+    apart false clean all same differ = refl
+    apart true false all same differ = refl
+    apart true true false true differ = refl
+    apart true true false false differ = refl
+    apart true true true same differ = refl
+
+-- the attributes from one on
+abbrev pub plain_from : Texts → ℕ → List Attr → Bool
+plain_from names i attrs = list_all (is_plain_attribute (text_of names)) (map attribute_of (drop i attrs))
+
+-- are plain if this one is, and they are
+pub one-more : (names : Texts) (attrs : List Attr) (i : ℕ) (x : Attr) → i < length attrs → x ≡ get_or attrs i x
+    → plain_from names i attrs ≡ (is_plain_attribute (text_of names) (attribute_of x) && plain_from names (i + 1) attrs)
+one-more names attrs i x h is = ap (λ (l : List Attr). list_all (is_plain_attribute (text_of names)) (map attribute_of l)) (dropped attrs i x h is)
+
+-- one attribute is tested
+pub tested-one : (names : Texts) (attrs : List Attr) (i : ℕ) (x : Attr) (u : Bool) → i < length attrs → x ≡ get_or attrs i x → plain_from names i attrs ≡ plain_from names 0 attrs
+    → u ≡ is_plain_attribute (text_of names) (attribute_of x) → (u && plain_from names (i + 1) attrs) ≡ plain_from names 0 attrs
+tested-one names attrs i x u h is before test = ap (λ v. v && plain_from names (i + 1) attrs) test ∙ sym (one-more names attrs i x h is) ∙ before
+
+-- none are left
+pub no-more : (names : Texts) (attrs : List Attr) (i : ℕ) → length attrs ≤ i → plain_from names i attrs ≡ plain_from names 0 attrs → true ≡ plain_from names 0 attrs
+no-more names attrs i h before = ap (λ (l : List Attr). list_all (is_plain_attribute (text_of names)) (map attribute_of l)) (sym (drop_all i attrs h)) ∙ before

@@ -1,0 +1,303 @@
+-- A list is content of what it stands in exactly if each of its regions is, and no form stands in a form.
+use Rattle.std.proofs.Common.{◌≡◌, ℕ, ◌<◌, Bool, true, false, not, cond, List, [], ◌∷◌, Some, None, refl, sym, ◌∙◌, ap, subst, option_and_then}
+use Rattle.std.specs.List.{AllByRecursion}
+use Rattle.std.specs.Option.{option_map}
+use Rattle.std.specs.Prelude.{◌&&◌, ◌||◌, Option}
+use Rattle.names.specs.Names.{Texts, AreNames, text_of}
+use Rattle.names.specs.Tags.{tag_of, tag_named}
+use Rattle.names.specs.declared.tag.Tag.{Tag}
+use Rattle.names.specs.declared.tag.Tag.TheVariants as tag
+use Rattle.hnodes.specs.Edits.{AreCounted}
+use Rattle.hnodes.specs.Forest.{What, element, Forest, none, tree, children_of}
+use Rattle.hnodes.specs.Named.{AreOf}
+use Rattle.hnodes.specs.Spelled.{spelled, spelled_what}
+use Rattle.hnodes.specs.Spots.{name_in}
+use Rattle.hplain.specs.ContentTable.{row, takes_role}
+use Rattle.hplain.specs.Plain.{Inside, are_content, are_content_if, are_plain_attributes, begins_with_line_feed, drops_line_feed, in_context, in_context_of, inside_node, is_form, is_nested, is_plain, is_plain_node}
+use Rattle.hserialize.specs.Walk.{inserts_marker}
+use Rattle.hplain.specs.Regions.{are_region_content, begins_region, form_after, have_plain_regions, in_region, makes_form, without_form}
+use Rattle.hplain.specs.Testing.{is_phrasing, tag_at, tag_or_other, texts_at_top, top_content}
+use Rattle.hserialize.specs.Walk.{node_of, visits}
+use Rattle.hplain.specs.declared.content.Content.{Content}
+use Rattle.hplain.specs.declared.content.Content.TheVariants as content
+use Rattle.hserialize.specs.declared.walk.Reach.TheVariants.{Whole}
+use Rattle.hserialize.specs.declared.walk.Visit.{Visit}
+use Rattle.hserialize.specs.declared.walk.Visit.TheVariants.{Enter, Leave}
+use Rattle.hplain.proofs.Entering.{enters_region}
+use Rattle.hserialize.proofs.KnownNames.{tags-agree}
+use Rattle.hserialize.proofs.Runs.{run, walked, run-visits}
+use Rattle.hserialize.proofs.Seen.{Seen, seen, IsRoot, root-visits}
+use Rattle.hplain.proofs.Tested.{is_left, none_left, tells}
+
+-- BY REGIONS
+
+-- where the node is no form
+no_form : (u v : Bool) → v ≡ (v && not (u && false))
+no_form true true = refl
+no_form true false = refl
+no_form false true = refl
+no_form false false = refl
+
+-- an element that stands in none of its name, whether forms are asked for or not
+nested_apart : (i : Inside) (t : Tag) → not (is_nested i t) ≡ (not (is_nested (without_form i) t) && not (i.in_form && is_form t))
+nested_apart i tag.A = no_form i.in_form (not i.in_a)
+nested_apart i tag.Button = no_form i.in_form (not i.in_button)
+nested_apart i tag.Form = go i.in_form
+  where
+    go : (v : Bool) → not v ≡ not (v && true)
+    go true = refl
+    go false = refl
+nested_apart i _ = no_form i.in_form true
+
+-- a node by itself
+node_apart : (i : Inside) (w : What (List ℕ)) (kids rest : Forest (List ℕ)) → is_plain_node i w kids rest ≡ (is_plain_node (without_form i) w kids rest && not (i.in_form && makes_form w))
+node_apart i (element name attrs) kids rest =
+    ap (λ u. takes_role i.content (row (tag_named name)).0 && u && are_plain_attributes attrs && line_feed) (nested_apart i (tag_named name))
+    ∙ moved (takes_role i.content (row (tag_named name)).0) (not (is_nested (without_form i) (tag_named name))) (are_plain_attributes attrs) line_feed (not (i.in_form && is_form (tag_named name)))
+  where
+    line_feed : Bool
+    line_feed = not (drops_line_feed (tag_named name) && begins_with_line_feed kids)
+
+    moved : (a b c d e : Bool) → (a && (b && e) && c && d) ≡ ((a && b && c && d) && e)
+    moved false b c d e = refl
+    moved true false c d e = refl
+    moved true true c d false = go c d
+      where
+        go : (c d : Bool) → false ≡ ((c && d) && false)
+        go true true = refl
+        go true false = refl
+        go false d = refl
+    moved true true true true true = refl
+    moved true true true false true = refl
+    moved true true false d true = refl
+node_apart i w kids rest = no_form i.in_form (is_plain_node i w kids rest)
+
+-- the children of a node that begins a region, and of another
+region_below : (i : Inside) (w : What (List ℕ)) → begins_region w ≡ true → without_form (inside_node w i) ≡ in_region content.Flow
+region_below i (element name attrs) h = enters_region (tag_named name) i h
+region_below i _ h = absurd cc
+
+below_again : (i : Inside) (w : What (List ℕ)) → without_form (inside_node w i) ≡ without_form (inside_node w (without_form i))
+below_again i (element name attrs) = refl
+below_again i _ = refl
+
+form_below : (i : Inside) (w : What (List ℕ)) → (inside_node w i).in_form ≡ (i.in_form || makes_form w)
+form_below i (element name attrs) = refl
+form_below i w = go i.in_form
+  where
+    go : (u : Bool) → u ≡ (u || false)
+    go true = refl
+    go false = refl
+
+sorted : (p d k a r b : Bool) → ((p && d) && (k && a) && (r && b)) ≡ ((p && k && r) && (d && true && a && b))
+sorted false d k a r b = refl
+sorted true false k a r b = go k r
+  where
+    go : (k r : Bool) → false ≡ ((k && r) && false)
+    go true true = refl
+    go true false = refl
+    go false r = refl
+sorted true true false a r b = refl
+sorted true true true false true b = refl
+sorted true true true false false b = refl
+sorted true true true true true b = refl
+sorted true true true true false b = refl
+
+sorted_region : (p d k a r b : Bool) → ((p && d) && (k && a) && (r && b)) ≡ ((p && true && r) && (d && k && a && b))
+sorted_region false d k a r b = refl
+sorted_region true false k a true b = refl
+sorted_region true false k a false b = refl
+sorted_region true true true true true b = refl
+sorted_region true true true true false b = refl
+sorted_region true true true false true b = refl
+sorted_region true true true false false b = refl
+sorted_region true true false a true b = refl
+sorted_region true true false a false b = refl
+
+pub by_regions : (i : Inside) (f : Forest (List ℕ)) → are_content i f ≡ (are_region_content (without_form i) f && have_plain_regions i.in_form f)
+by_regions i none = refl
+by_regions i (tree n w kids rest) =
+    (λ k. node_apart i w kids rest k && by_regions (inside_node w i) kids k && by_regions i rest k)
+    ∙ ap (λ u. (node && apart) && (are_region_content (without_form (inside_node w i)) kids && have_plain_regions u kids) && (are_region_content (without_form i) rest && have_plain_regions i.in_form rest)) (form_below i w)
+    ∙ go (begins_region w) refl
+  where
+    node : Bool
+    node = is_plain_node (without_form i) w kids rest
+
+    apart : Bool
+    apart = not (i.in_form && makes_form w)
+
+    forms : Bool
+    forms = have_plain_regions (i.in_form || makes_form w) kids
+
+    go : (m : Bool) → begins_region w ≡ m
+        → ((node && apart) && (are_region_content (without_form (inside_node w i)) kids && forms) && (are_region_content (without_form i) rest && have_plain_regions i.in_form rest))
+        ≡ ((node && cond m true (are_region_content (without_form (inside_node w (without_form i))) kids) && are_region_content (without_form i) rest)
+        && (apart && cond m (are_region_content (in_region content.Flow) kids) true && forms && have_plain_regions i.in_form rest))
+    go true e =
+        ap (λ j. (node && apart) && (are_region_content j kids && forms) && (are_region_content (without_form i) rest && have_plain_regions i.in_form rest)) (region_below i w e)
+        ∙ sorted_region node apart (are_region_content (in_region content.Flow) kids) forms (are_region_content (without_form i) rest) (have_plain_regions i.in_form rest)
+    go false e =
+        ap (λ j. (node && apart) && (are_region_content j kids && forms) && (are_region_content (without_form i) rest && have_plain_regions i.in_form rest)) (below_again i w)
+        ∙ sorted node apart (are_region_content (without_form (inside_node w (without_form i))) kids) forms (are_region_content (without_form i) rest) (have_plain_regions i.in_form rest)
+
+-- THE WALK THAT FINDS REGIONS
+
+module _ (spelling : ℕ → List ℕ) (tags : (id : ℕ) → tag_of id ≡ tag_named (spelling id)) (f : Forest ℕ) where
+  -- whether a form is around, as long as none stands in a form and the regions are content
+  abbrev pub enters : ℕ → Option Bool → Option Bool
+  enters n s = option_and_then (λ u. form_after spelling f (Enter n) u) s
+
+  abbrev pub leaves : ℕ → Option Bool → Option Bool
+  leaves n s = option_and_then (λ u. form_after spelling f (Leave n) u) s
+
+  lost : (g : Forest ℕ) → walked enters leaves Whole g None ≡ None
+  lost none = refl
+  lost (tree b w kids rest) = ap (λ s. walked enters leaves Whole rest (leaves b s)) (lost kids) ∙ lost rest
+
+  abbrev region : Forest ℕ → Bool
+  region kids = are_region_content (in_region content.Flow) (spelled spelling kids)
+
+  marked_as : (w : What ℕ) → inserts_marker (tag_or_other (name_in w)) ≡ begins_region (spelled_what spelling w)
+  marked_as (element name attrs) = ap inserts_marker (tags name)
+  marked_as _ = refl
+
+  formed_as : (w : What ℕ) → is_form (tag_or_other (name_in w)) ≡ makes_form (spelled_what spelling w)
+  formed_as (element name attrs) = ap is_form (tags name)
+  formed_as _ = refl
+
+  finds : (made root p : ℕ) (g : Forest ℕ) → Seen made f root p g → (u : Bool) → walked enters leaves Whole g (Some u) ≡ cond (have_plain_regions u (spelled spelling g)) (Some u) None
+  finds made root p none s u = refl
+  finds made root p (tree b w kids rest) s u =
+      ap (λ o. walked enters leaves Whole rest (leaves b (walked enters leaves Whole kids o))) first
+      ∙ go (not (u && makes_form (spelled_what spelling w))) (cond (begins_region (spelled_what spelling w)) (region kids) true) (back_again u (makes_form (spelled_what spelling w))) (finds made root b kids s.1) (finds made root p rest s.2 u)
+    where
+      within : Bool
+      within = u || makes_form (spelled_what spelling w)
+
+      named : tag_at b f ≡ tag_or_other (name_in w)
+      named = ap (λ o. tag_or_other (option_and_then name_in o)) s.0.what
+
+      forms : is_form (tag_at b f) ≡ makes_form (spelled_what spelling w)
+      forms = ap is_form named ∙ formed_as w
+
+      step : (x m r : Bool) (o : Option Bool) → cond x None (cond (m && not r) None o) ≡ cond (not x && cond m r true) o None
+      step true m r o = refl
+      step false true true o = refl
+      step false true false o = refl
+      step false false r o = refl
+
+      first : enters b (Some u) ≡ cond (not (u && makes_form (spelled_what spelling w)) && cond (begins_region (spelled_what spelling w)) (region kids) true) (Some within) None
+      first =
+          (λ k. cond (u && forms k) None (cond ((ap inserts_marker named ∙ marked_as w) k && not (region (s.0.kids_are k))) None (Some (u || forms k))))
+          ∙ step (u && makes_form (spelled_what spelling w)) (begins_region (spelled_what spelling w)) (region kids) (Some within)
+
+      back_again : (x v : Bool) → not (x && v) ≡ true → ((x || v) && not v) ≡ x
+      back_again true true h = absurd cc
+      back_again true false h = refl
+      back_again false true h = refl
+      back_again false false h = refl
+
+      after : (k r : Bool) → (within && not (makes_form (spelled_what spelling w))) ≡ u → walked enters leaves Whole rest (Some u) ≡ cond r (Some u) None
+          → walked enters leaves Whole rest (leaves b (cond k (Some within) None)) ≡ cond (k && r) (Some u) None
+      after true r back law = ap (λ v. walked enters leaves Whole rest (Some (within && not v))) forms ∙ ap (λ v. walked enters leaves Whole rest (Some v)) back ∙ law
+      after false r back law = lost rest
+
+      go : (x y : Bool) → (x ≡ true → (within && not (makes_form (spelled_what spelling w))) ≡ u) → ((v : Bool) → walked enters leaves Whole kids (Some v) ≡ cond (have_plain_regions v (spelled spelling kids)) (Some v) None)
+          → walked enters leaves Whole rest (Some u) ≡ cond (have_plain_regions u (spelled spelling rest)) (Some u) None
+          → walked enters leaves Whole rest (leaves b (walked enters leaves Whole kids (cond (x && y) (Some within) None)))
+          ≡ cond (x && y && have_plain_regions within (spelled spelling kids) && have_plain_regions u (spelled spelling rest)) (Some u) None
+      go false y back inner law = ap (λ o. walked enters leaves Whole rest (leaves b o)) (lost kids) ∙ lost rest
+      go true false back inner law = ap (λ o. walked enters leaves Whole rest (leaves b o)) (lost kids) ∙ lost rest
+      go true true back inner law =
+          ap (λ o. walked enters leaves Whole rest (leaves b o)) (inner within) ∙ after (have_plain_regions within (spelled spelling kids)) (have_plain_regions u (spelled spelling rest)) (back refl) law
+
+-- where a list stands at the top
+top_is : (c : Content) (form : Bool) → in_context_of c form ≡ option_map (λ own. record { content = own; texts = texts_at_top own; in_a = false; in_button = false; in_form = form }) (top_content c)
+top_is content.Flow form = refl
+top_is _ form = refl
+
+-- no list at the top is of phrasing elements alone
+abbrev is_other : Option Content → Bool
+is_other None = false
+is_other (Some c) = is_phrasing c
+
+pub top_other : (c top : Content) → Some top ≡ top_content c → is_phrasing top ≡ false
+top_other c top h = ap is_other h ∙ go c
+  where
+    go : (c : Content) → is_other (top_content c) ≡ false
+    go content.Flow = refl
+    go _ = refl
+
+-- a list is plain if its top region is content, and so are the others, and no form stands in a form
+pub plain_is : (context : List ℕ) (t : Tag) (top : Content) (f : Forest (List ℕ)) → in_context_of (row t).1 (is_form t) ≡ in_context context → Some top ≡ top_content (row t).1
+    → (are_region_content (in_region top) f && have_plain_regions (is_form t) f) ≡ is_plain context f
+plain_is context t top f named topmost =
+    sym (by_regions (record { content = top; texts = texts_at_top top; in_a = false; in_button = false; in_form = is_form t }) f)
+    ∙ ap (λ o. are_content_if (option_map (λ own. record { content = own; texts = texts_at_top own; in_a = false; in_button = false; in_form = is_form t }) o) f) topmost
+    ∙ ap (λ o. are_content_if o f) (sym (top_is (row t).1 (is_form t)) ∙ named)
+
+-- what is left of the walk finds whether the list is plain
+pub record IsFinding (names : Texts) (made : ℕ) (f : Forest ℕ) (root : ℕ) (context : List ℕ) (in_form : Bool) (left : List Visit) : Type 0 where
+  pub roots : AllByRecursion (λ v. IsRoot names made f (node_of v)) left
+  pub tags : (id : ℕ) → tag_of id ≡ tag_named (text_of names id)
+  pub same : is_left (run (enters (text_of names) tags f) (leaves (text_of names) tags f) left (Some in_form)) ≡ is_plain context (spelled (text_of names) (children_of root f))
+
+pub begun : (names : Texts) (made : ℕ) (f : Forest ℕ) (root : ℕ) (top : Content) (context : List ℕ) (t : Tag) (in_form : Bool) (left items : List Visit) → AreNames names → AreCounted made f → root < made → AreOf names (children_of root f)
+    → in_context_of (row t).1 (is_form t) ≡ in_context context → Some top ≡ top_content (row t).1 → true ≡ are_region_content (in_region top) (spelled (text_of names) (children_of root f)) → in_form ≡ is_form t
+    → left ≡ items → items ≡ visits Whole (children_of root f) → IsFinding names made f root context in_form left
+begun names made f root top context t in_form left items table counted h of named topmost region begins same visited = record {
+  roots = subst (AllByRecursion (λ v. IsRoot names made f (node_of v))) (sym is) (root-visits names made f root Whole counted h of);
+  tags = tags;
+  same =
+      (λ i. is_left (run (enters (text_of names) tags f) (leaves (text_of names) tags f) (is i) (Some (begins i))))
+      ∙ ap is_left (run-visits (enters (text_of names) tags f) (leaves (text_of names) tags f) Whole (children_of root f) (Some (is_form t)))
+      ∙ ap is_left (finds (text_of names) tags f made root root (children_of root f) (seen made f counted root h) (is_form t))
+      ∙ tells (have_plain_regions (is_form t) (spelled (text_of names) (children_of root f))) (is_form t)
+      ∙ ap (λ u. u && have_plain_regions (is_form t) (spelled (text_of names) (children_of root f))) region
+      ∙ plain_is context t top (spelled (text_of names) (children_of root f)) named topmost;
+}
+  where
+    is : left ≡ visits Whole (children_of root f)
+    is = same ∙ visited
+
+    tags : (id : ℕ) → tag_of id ≡ tag_named (text_of names id)
+    tags id = tags-agree names table id
+
+-- what the next visit asks for
+pub next_is : (names : Texts) (made : ℕ) (f : Forest ℕ) (root : ℕ) (context : List ℕ) (in_form : Bool) (v : Visit) (old left : List Visit) → old ≡ v ∷ left → IsFinding names made f root context in_form old → IsRoot names made f (node_of v)
+next_is names made f root context in_form v old left is s = (subst (IsFinding names made f root context in_form) is s).roots.0
+
+-- one visit more
+steps : (names : Texts) (made : ℕ) (f : Forest ℕ) (root : ℕ) (context : List ℕ) (in_form : Bool) (v : Visit) (left : List Visit) → (s : IsFinding names made f root context in_form (v ∷ left))
+    → is_left (run (enters (text_of names) s.tags f) (leaves (text_of names) s.tags f) left (form_after (text_of names) f v in_form)) ≡ is_plain context (spelled (text_of names) (children_of root f))
+steps names made f root context in_form (Enter n) left s = s.same
+steps names made f root context in_form (Leave n) left s = s.same
+
+pub goes_on : (names : Texts) (made : ℕ) (f : Forest ℕ) (root : ℕ) (context : List ℕ) (in_form in_form' : Bool) (v : Visit) (old left : List Visit) → old ≡ v ∷ left → IsFinding names made f root context in_form old
+    → Some in_form' ≡ form_after (text_of names) f v in_form → IsFinding names made f root context in_form' left
+goes_on names made f root context in_form in_form' v old left is s o =
+    let t : IsFinding names made f root context in_form (v ∷ left) = subst (IsFinding names made f root context in_form) is s in
+    record {
+      roots = t.roots.1;
+      tags = t.tags;
+      same = ap (λ r. is_left (run (enters (text_of names) t.tags f) (leaves (text_of names) t.tags f) left r)) o ∙ steps names made f root context in_form v left t;
+    }
+
+-- a form in a form, or a region that is not content
+pub fails : (names : Texts) (made : ℕ) (f : Forest ℕ) (root : ℕ) (context : List ℕ) (in_form : Bool) (v : Visit) (old left : List Visit) → old ≡ v ∷ left → IsFinding names made f root context in_form old
+    → None ≡ form_after (text_of names) f v in_form → false ≡ is_plain context (spelled (text_of names) (children_of root f))
+fails names made f root context in_form v old left is s o =
+    let t : IsFinding names made f root context in_form (v ∷ left) = subst (IsFinding names made f root context in_form) is s in
+    sym (none_left left (enters (text_of names) t.tags f) (leaves (text_of names) t.tags f) (λ n. refl) (λ n. refl))
+    ∙ ap (λ r. is_left (run (enters (text_of names) t.tags f) (leaves (text_of names) t.tags f) left r)) o ∙ steps names made f root context in_form v left t
+
+-- the end
+pub found : (names : Texts) (made : ℕ) (f : Forest ℕ) (root : ℕ) (context : List ℕ) (in_form : Bool) (left : List Visit) → left ≡ [] → IsFinding names made f root context in_form left
+    → true ≡ is_plain context (spelled (text_of names) (children_of root f))
+found names made f root context in_form left is s = (subst (IsFinding names made f root context in_form) is s).same
+
+-- a top region that is not content
+pub not_plain : (context : List ℕ) (t : Tag) (top : Content) (f : Forest (List ℕ)) → in_context_of (row t).1 (is_form t) ≡ in_context context → Some top ≡ top_content (row t).1
+    → false ≡ are_region_content (in_region top) f → false ≡ is_plain context f
+not_plain context t top f named topmost region = ap (λ u. u && have_plain_regions (is_form t) f) region ∙ plain_is context t top f named topmost

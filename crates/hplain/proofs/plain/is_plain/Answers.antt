@@ -1,0 +1,44 @@
+use Rattle.std.proofs.Common.{◌∙◌, sym, ap}
+use Rattle.names.specs.Names.{text_of}
+use Rattle.hnodes.specs.Forest.{children_of}
+use Rattle.hnodes.specs.Spelled.{spelled}
+use Rattle.hplain.specs.Testing.{top_content}
+use Rattle.hplain.proofs.Regions.{begun, fails, found, goes_on, next_is, not_plain, top_other}
+use Rattle.hplain.proofs.plain.is_plain.Goals as goal
+
+pub is_plain_region-requires-clause-not_phrasing : goal.is_plain_region-requires-clause-not_phrasing
+is_plain_region-requires-clause-not_phrasing c = top_other _ c.in-Some.top (sym c.in-Some.is ∙ c.at_top.ensures ∙ ap (λ r. top_content r.1) c.row.ensures)
+
+pub returns-then-not-is_plain_region : goal.returns-then-not-is_plain_region
+returns-then-not-is_plain_region c =
+    not_plain c.args.context.now c.context_tag-tag.result c.in-Some.top (spelled (text_of c.args.names.now) (children_of c.args.root c.args.tree.now.trees)) c.context_tag-tag.ensures
+    (sym c.in-Some.is ∙ c.at_top.ensures ∙ ap (λ r. top_content r.1) c.row.ensures) (sym c.if-not-is_plain_region.true ∙ c.is_plain_region.ensures)
+
+pub loop-visit-init : goal.loop-visit-init
+loop-visit-init c =
+    begun c.args.names.now c.args.tree.now.made c.args.tree.now.trees c.args.root c.in-Some.top c.args.context.now c.context_tag-tag.result c.is_form-in_form.result _ _ c.requires.table
+    c.new-visit-items.ensures.nodes.counted c.requires.made c.requires.names c.context_tag-tag.ensures (sym c.in-Some.is ∙ c.at_top.ensures ∙ ap (λ r. top_content r.1) c.row.ensures)
+    (sym c.if-not-is_plain_region.false ∙ c.is_plain_region.ensures) c.is_form-in_form.ensures c.into_iter-visit-iterator.ensures.into_iter_gives c.new-visit-items.ensures.visits
+
+pub form_after-requires : goal.form_after-requires
+form_after-requires c =
+    let root = next_is c.args.names.now c.args.tree.now.made c.args.tree.now.trees c.args.root c.args.context.now c.loop-visit.in_form c.in-Some-visit.visit c.loop-visit.visit-iterator c.next.new.self
+    c.in-Some-visit.ensures.steps c.loop-visit.invariant in
+    record {
+      made = root.0;
+      table = c.requires.table;
+      names = root.1;
+    }
+
+pub loop-visit-preserved : goal.loop-visit-preserved
+loop-visit-preserved c =
+    goes_on c.args.names.now c.args.tree.now.made c.args.tree.now.trees c.args.root c.args.context.now c.loop-visit.in_form c.in-Some-form_after.after c.in-Some-visit.visit c.loop-visit.visit-iterator c.next.new.self
+    c.in-Some-visit.ensures.steps c.loop-visit.invariant c.in-Some-form_after.ensures
+
+pub returns-in-None-form_after : goal.returns-in-None-form_after
+returns-in-None-form_after c =
+    fails c.args.names.now c.args.tree.now.made c.args.tree.now.trees c.args.root c.args.context.now c.loop-visit.in_form c.in-Some-visit.visit c.loop-visit.visit-iterator c.next.new.self
+    c.in-Some-visit.ensures.steps c.loop-visit.invariant c.in-None-form_after.ensures
+
+pub returns : goal.returns
+returns c = found c.args.names.now c.args.tree.now.made c.args.tree.now.trees c.args.root c.args.context.now c.loop-visit.in_form c.loop-visit.visit-iterator c.in-None.ensures.steps.0 c.loop-visit.invariant

@@ -1,0 +1,6 @@
+pub mod ContentTable
+pub mod ContentRows
+pub mod Plain
+pub mod PlainRows
+pub mod Testing
+pub mod Regions

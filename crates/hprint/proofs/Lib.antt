@@ -1,0 +1,4 @@
+pub mod Sorting
+pub mod Ordered
+pub mod LineTexts
+pub mod Printed

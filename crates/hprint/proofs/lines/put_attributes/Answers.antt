@@ -1,0 +1,14 @@
+use Rattle.hprint.specs.Entries.{pair_of}
+use Rattle.hprint.specs.Lines.{attribute_line}
+use Rattle.hprint.proofs.LineTexts.{next_items}
+use Rattle.hserialize.proofs.Output.{part_put, part_failed, passed_on}
+use Rattle.hprint.proofs.lines.put_attributes.Goals as goal
+
+pub returns-in_err-put_attribute : goal.returns-in_err-put_attribute
+returns-in_err-put_attribute g c =
+    passed_on _ _ _ _ c.from_residual.ensures.1
+    (part_failed _ _ _ _ _ _ _ c.loop-entry.invariant (next_items (attribute_line c.args.depth) pair_of c.args.entries.now c.loop-entry.entry-index _ c.loop-entry-test.true) c.in_err-put_attribute.ensures)
+
+pub loop-entry-preserved : goal.loop-entry-preserved
+loop-entry-preserved g c =
+    part_put _ _ _ _ _ _ _ c.loop-entry.invariant (next_items (attribute_line c.args.depth) pair_of c.args.entries.now c.loop-entry.entry-index _ c.loop-entry-test.true) c.in_ok-put_attribute.ensures

@@ -1,0 +1,13 @@
+use Rattle.std.proofs.Common.{drop, map}
+use Rattle.std.specs.List.{flat_map}
+use Rattle.hprint.specs.Entries.{pair_of}
+use Rattle.hprint.specs.Lines.{attribute_line}
+use Rattle.hserialize.specs.Output.{taken}
+use Rattle.hserialize.proofs.Output.{HasLeft}
+use Rattle.hprint.proofs.lines.put_attributes.Given as goal
+
+-- the lines that are left
+abbrev pub invariant-loop-entry : goal.invariant-loop-entry
+invariant-loop-entry g l =
+    HasLeft (taken g.W.Target.written g.W.Target.failed l.initial.out) (taken g.W.Target.written g.W.Target.failed l.out) (flat_map (attribute_line l.depth) (map pair_of l.entries))
+    (flat_map (attribute_line l.depth) (map pair_of (drop l.entry-index l.entries)))

@@ -1,0 +1,11 @@
+use Rattle.std.proofs.Common.{◌∙◌, ◌++◌, codes, subst, sym}
+use Rattle.hprint.specs.Lines.{indented}
+use Rattle.hserialize.specs.Output.{Puts, taken}
+use Rattle.hprint.proofs.LineTexts.{doctype_parts}
+use Rattle.hprint.proofs.lines.put_doctype.Goals as goal
+
+pub returns : goal.returns
+returns g c =
+    subst (λ t. Puts (taken g.W.Target.written g.W.Target.failed c.args.out.now) (taken g.W.Target.written g.W.Target.failed c.put_line-2.new.out) t c.put_line-2.result)
+    ((λ i. indented c.args.depth (codes "<!DOCTYPE " ++ (c.as_bytes-name.ensures.value i ++ (codes " \"" ++ (c.as_bytes-public_id.ensures.value i ++ (codes "\" \"" ++ (c.as_bytes-system_id.ensures.value i ++ codes "\">")))))))
+    ∙ doctype_parts c.args.depth c.args.name.now c.args.public_id.now c.args.system_id.now (sym c.has_none.ensures ∙ c.if-has_none.false)) c.put_line-2.ensures

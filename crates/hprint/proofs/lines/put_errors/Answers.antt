@@ -1,0 +1,13 @@
+use Rattle.hprint.specs.Lines.{error_line}
+use Rattle.hprint.proofs.LineTexts.{next_lines}
+use Rattle.hserialize.proofs.Output.{part_put, part_failed, passed_on}
+use Rattle.hprint.proofs.lines.put_errors.Goals as goal
+
+pub returns-in_err-put_error : goal.returns-in_err-put_error
+returns-in_err-put_error g c =
+    passed_on _ _ _ _ c.from_residual.ensures.1
+    (part_failed _ _ _ _ _ _ _ c.loop-error.invariant (next_lines error_line c.args.errors.now c.loop-error.error-index _ c.loop-error-test.true) c.in_err-put_error.ensures)
+
+pub loop-error-preserved : goal.loop-error-preserved
+loop-error-preserved g c =
+    part_put _ _ _ _ _ _ _ c.loop-error.invariant (next_lines error_line c.args.errors.now c.loop-error.error-index _ c.loop-error-test.true) c.in_ok-put_error.ensures

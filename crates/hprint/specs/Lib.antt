@@ -1,0 +1,4 @@
+pub mod Lines
+pub mod LineRows
+pub mod Printing
+pub mod Entries

@@ -1,0 +1,7 @@
+//! Trees and errors as the program prints them.
+#![tactic(auto)]
+
+mod lines;
+mod sorted;
+
+pub use lines::{error_lines, print_errors, print_tree, tree_text};

@@ -1,8 +1,0 @@
-use Rattle.std.proofs.Common.{◌≡◌, ◌++◌}
-use Rattle.std.specs.String.{string_bytes}
-use Rattle.hrun.specs.Quoted.{escaped}
-use Rattle.hrun.proofs.quoted.push_each.Given as goal
-
--- what is written and what is still to come make up the whole text
-abbrev pub invariant-loop-ch : goal.invariant-loop-ch
-invariant-loop-ch l = string_bytes l.text ++ escaped l.ch-iterator.rest.now ≡ string_bytes l.initial.text ++ escaped l.source

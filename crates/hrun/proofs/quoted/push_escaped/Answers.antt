@@ -1,8 +1,0 @@
-use Rattle.std.proofs.Common.{rules}
-use Rattle.hrun.proofs.Escapes.{escaped-plain}
-use Rattle.hrun.proofs.quoted.push_escaped.Goals as goal
-
-pub returns-then-ch-ne92 : goal.returns-then-ch-ne92
-returns-then-ch-ne92 c =
-    let plain = escaped-plain c.args.ch c.if-ch-ge32.true c.if-ch-ne34.true c.if-ch-ne92.true in
-    rw plain (search rules)

@@ -1,0 +1,101 @@
+-- A text as it is written, in runs of characters that are written as they are.
+use Rattle.std.proofs.Common.{◌≡◌, ℕ, ◌+◌, ◌-◌, ◌≤◌, List, [], ◌∷◌, ◌++◌, length, take, drop, refl, sym, ◌∙◌, ap, subst, arith, length-append}
+use Rattle.std.proofs.Math.Seq.{drop-append_seam, take-append_seam}
+use Rattle.std.proofs.lemmas.List.{append_assoc, take_rest}
+use Rattle.std.proofs.lemmas.Str.{chars-nil, chars_past_char, IsUtf8-past_char}
+use Rattle.std.specs.Char.{encode_utf8}
+use Rattle.std.specs.List.{flat_map}
+use Rattle.std.specs.Str.{IsUtf8}
+use Rattle.names.specs.declared.refusal.Refusal.{Refusal}
+use Rattle.hserialize.specs.Escaping.{escaped, written_char}
+use Rattle.hserialize.specs.Output.{Taken, Adds, Fails}
+use Rattle.hserialize.specs.declared.escaping.Escaping.{Escaping}
+use Rattle.hserialize.specs.declared.escaping.Setting.{Setting}
+use Rattle.hserialize.proofs.Output.{HasLeft, none_put, part_put, part_failed}
+
+-- What stands before `done` is written, and so far each character after it is written as it is.
+pub record IsEscaping (how : Escaping) (setting : Setting) (source : List ℕ) (done at : ℕ) (rest : List ℕ) (old now : Taken) : Type 0 where
+  pub before : List ℕ
+  pub run : List ℕ
+  pub parts : source ≡ before ++ (run ++ rest)
+  pub done_is : done ≡ length before
+  pub at_is : at ≡ length before + length run
+  pub utf8 : IsUtf8 rest
+  pub left : HasLeft old now (escaped how setting source) (run ++ escaped how setting rest)
+
+begins : (how : Escaping) (setting : Setting) (source : List ℕ) (old : Taken) → IsUtf8 source → IsEscaping how setting source 0 0 source old old
+begins how setting source old utf8 =
+    record { before = []; run = []; parts = refl; done_is = refl; at_is = refl; utf8 = utf8; left = none_put old (escaped how setting source) }
+
+pub begins_at : (how : Escaping) (setting : Setting) (source : List ℕ) (at : ℕ) (rest : List ℕ) (old : Taken) → at ≡ 0 → rest ≡ source → IsUtf8 source → IsEscaping how setting source 0 at rest old old
+begins_at how setting source at rest old none all utf8 =
+    subst (λ a. IsEscaping how setting source 0 a rest old old) (sym none) (subst (λ r. IsEscaping how setting source 0 0 r old old) (sym all) (begins how setting source old utf8))
+
+module _ (how : Escaping) (setting : Setting) (source : List ℕ) (done at : ℕ) (rest : List ℕ) (old now : Taken) (s : IsEscaping how setting source done at rest old now) where
+  pub run_left : drop done source ≡ s.run ++ rest
+  run_left = (λ i. drop (s.done_is i) (s.parts i)) ∙ drop-append_seam s.before (s.run ++ rest)
+
+  pub run_is : (lent : List ℕ) (end : ℕ) → lent ≡ source → end ≡ at → take (end - done) (drop done lent) ≡ s.run
+  run_is lent end same here = (λ i. take (count i) (drop done (same i))) ∙ ap (take (length s.run)) run_left ∙ take-append_seam s.run rest
+    where
+      count : end - done ≡ length s.run
+      count = omega (arith, s.done_is, s.at_is, here)
+
+  pub in_order : done ≤ at
+  in_order = omega (arith, s.done_is, s.at_is)
+
+  module _ (ch : ℕ) (next : List ℕ) (split : rest ≡ encode_utf8 ch ++ next) where
+    escaped_next : escaped how setting rest ≡ written_char how setting ch ++ escaped how setting next
+    escaped_next = ap (flat_map (written_char how setting)) (chars_past_char rest next ch s.utf8 split)
+
+    next_utf8 : IsUtf8 next
+    next_utf8 = IsUtf8-past_char rest next ch s.utf8 split
+
+    -- one character more that is written as it is
+    pub kept : (later : ℕ) → later ≡ at + length (encode_utf8 ch) → written_char how setting ch ≡ encode_utf8 ch → IsEscaping how setting source done later next old now
+    kept later moved plain = record {
+      before = s.before;
+      run = s.run ++ encode_utf8 ch;
+      parts = s.parts ∙ ap (λ r. s.before ++ (s.run ++ r)) split ∙ ap (λ r. s.before ++ r) (sym (append_assoc s.run (encode_utf8 ch) next));
+      done_is = s.done_is;
+      at_is = let a : length (s.run ++ encode_utf8 ch) ≡ length s.run + length (encode_utf8 ch) = length-append s.run (encode_utf8 ch) in omega (arith, a, s.at_is, moved);
+      utf8 = next_utf8;
+      left = let (put, is, appended) = s.left in
+          (put, is ∙ ap (λ l. put ++ l) (ap (λ l. s.run ++ l) (escaped_next ∙ ap (λ l. l ++ escaped how setting next) plain) ∙ sym (append_assoc s.run (encode_utf8 ch) (escaped how setting next))), appended);
+    }
+
+    -- one that is not, after the run before it
+    module _ (mid : Taken) (part : List ℕ) (is : part ≡ s.run) (first : Adds now mid part) (text : List ℕ) (same : written_char how setting ch ≡ text) where
+      run_put : HasLeft old mid (escaped how setting source) (text ++ escaped how setting next)
+      run_put = part_put old now mid _ _ part _ s.left ((λ i. sym is i ++ escaped_next i) ∙ ap (λ t. part ++ (t ++ escaped how setting next)) same) first
+
+      pub replaced : (new : Taken) (past later : ℕ) → past ≡ at + length (encode_utf8 ch) → later ≡ at + length (encode_utf8 ch) → Adds mid new text → IsEscaping how setting source past later next old new
+      replaced new past later stands moved second = record {
+        before = s.before ++ (s.run ++ encode_utf8 ch);
+        run = [];
+        parts = s.parts ∙ ap (λ r. s.before ++ (s.run ++ r)) split ∙ ap (λ r. s.before ++ r) (sym (append_assoc s.run (encode_utf8 ch) next)) ∙ sym (append_assoc s.before (s.run ++ encode_utf8 ch) next);
+        done_is = omega (arith, place, stands);
+        at_is = omega (arith, place, moved);
+        utf8 = next_utf8;
+        left = part_put old mid new _ _ text _ run_put refl second;
+      }
+        where
+          place : at + length (encode_utf8 ch) ≡ length (s.before ++ (s.run ++ encode_utf8 ch))
+          place =
+              let a : length (s.before ++ (s.run ++ encode_utf8 ch)) ≡ length s.before + (length s.run + length (encode_utf8 ch)) =
+              length-append s.before (s.run ++ encode_utf8 ch) ∙ ap (λ n. length s.before + n) (length-append s.run (encode_utf8 ch)) in
+              omega (arith, a, s.at_is)
+
+      pub reference_failed : (new : Taken) {e : Refusal} → Fails e mid new text → Fails e old new (escaped how setting source)
+      reference_failed new second = part_failed old mid new _ _ text _ run_put refl second
+
+  pub run_failed : (new : Taken) {e : Refusal} (part : List ℕ) → part ≡ s.run → Fails e now new part → Fails e old new (escaped how setting source)
+  run_failed new part is first = part_failed old now new _ _ part _ s.left (ap (λ l. l ++ escaped how setting rest) (sym is)) first
+
+  -- the last run
+  pub last_is : length rest ≡ 0 → (lent : List ℕ) → lent ≡ source → s.run ++ escaped how setting rest ≡ take (length lent - done) (drop done lent)
+  last_is h lent same = go rest h run_left ∙ ap (drop done) (sym same) ∙ sym (take_rest lent done)
+    where
+      go : (r : List ℕ) → length r ≡ 0 → drop done source ≡ s.run ++ r → s.run ++ escaped how setting r ≡ drop done source
+      go [] h is = ap (λ cs. s.run ++ flat_map (written_char how setting) cs) chars-nil ∙ sym is
+      go (b ∷ r) h is = absurd (omega (arith, h))

@@ -1,0 +1,12 @@
+pub mod Moves
+pub mod Sizes
+pub mod Seen
+pub mod Runs
+pub mod KnownNames
+pub mod Attributes
+pub mod Output
+pub mod Finished
+pub mod InMemory
+pub mod Escapes
+pub mod Wrote
+pub mod Kept

@@ -1,0 +1,34 @@
+-- What visits do in their order is what recursion over the trees does.
+use Rattle.std.proofs.Common.{◌≡◌, ℕ, Bool, true, false, cond, List, [], ◌∷◌, ◌++◌, refl, sym, ◌∙◌, ap}
+use Rattle.std.proofs.lemmas.List.{append_assoc, append-nil}
+use Rattle.hnodes.specs.Forest.{Forest, none, tree}
+use Rattle.hserialize.specs.Walk.{goes_in, visits}
+use Rattle.hserialize.specs.declared.walk.Reach.{Reach}
+use Rattle.hserialize.specs.declared.walk.Visit.{Visit}
+use Rattle.hserialize.specs.declared.walk.Visit.TheVariants.{Enter, Leave}
+
+module _ {S : Type 0} (enter leave : ℕ → S → S) where
+  -- what visits do to a state
+  abbrev pub run : List Visit → S → S
+  run [] s = s
+  run (Enter n ∷ vs) s = run vs (enter n s)
+  run (Leave n ∷ vs) s = run vs (leave n s)
+
+  -- and trees
+  abbrev pub walked : (reach : Reach) → Forest ℕ → S → S
+  walked reach none s = s
+  walked reach (tree b w kids rest) s = walked reach rest (leave b (cond (goes_in reach w) (walked reach kids (enter b s)) (enter b s)))
+
+  run-before : (reach : Reach) (f : Forest ℕ) (more : List Visit) (s : S) → run (visits reach f ++ more) s ≡ run more (walked reach f s)
+  run-before reach none more s = refl
+  run-before reach (tree b w kids rest) more s =
+      go (goes_in reach w) (run-before reach kids (Leave b ∷ visits reach rest ++ more) (enter b s))
+      ∙ run-before reach rest more (leave b (cond (goes_in reach w) (walked reach kids (enter b s)) (enter b s)))
+    where
+      go : (u : Bool) → run (visits reach kids ++ (Leave b ∷ visits reach rest ++ more)) (enter b s) ≡ run (Leave b ∷ visits reach rest ++ more) (walked reach kids (enter b s))
+          → run ((cond u (visits reach kids) [] ++ Leave b ∷ visits reach rest) ++ more) (enter b s) ≡ run (visits reach rest ++ more) (leave b (cond u (walked reach kids (enter b s)) (enter b s)))
+      go true h = ap (λ vs. run vs (enter b s)) (append_assoc (visits reach kids) (Leave b ∷ visits reach rest) more) ∙ h
+      go false h = refl
+
+  pub run-visits : (reach : Reach) (f : Forest ℕ) (s : S) → run (visits reach f) s ≡ walked reach f s
+  run-visits reach f s = ap (λ vs. run vs s) (sym (append-nil (visits reach f))) ∙ run-before reach f [] s

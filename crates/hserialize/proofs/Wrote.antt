@@ -1,0 +1,152 @@
+-- What a walk writes.
+use Rattle.std.proofs.Common.{◌≡◌, ℕ, ◌<◌, Bool, true, false, not, cond, List, [], ◌∷◌, ◌++◌, map, Option, Some, None, refl, sym, ◌∙◌, ap, subst, option_and_then}
+use Rattle.std.proofs.lemmas.List.{append_assoc, append-nil}
+use Rattle.std.specs.List.{AllByRecursion}
+use Rattle.std.specs.Option.{option_map}
+use Rattle.names.specs.Names.{Texts, AreNames, text_of}
+use Rattle.names.specs.Sets.{is_void, raw_kind}
+use Rattle.names.specs.Tags.{tag_of, tag_named}
+use Rattle.hnodes.specs.Forest.{What, document, doctype, element, comment, text, Forest, none, tree, children_of}
+use Rattle.hnodes.specs.Edits.{AreCounted}
+use Rattle.hnodes.specs.Spelled.{spelled, spelled_what, spelled_attribute}
+use Rattle.hnodes.specs.Spots.{what_of, name_of, name_in}
+use Rattle.hnodes.specs.Named.{AreOf, IsLent}
+use Rattle.names.specs.declared.refusal.Refusal.{Refusal}
+use Rattle.hserialize.specs.Walk.{node_of, goes_in, visits}
+use Rattle.hserialize.specs.Written.{has_no_references, is_raw_in, start_tag_text, end_tag_text, node_text, written_among, written}
+use Rattle.hserialize.specs.Writing.{holds_raw, stands_raw, opening, closing, opening_of, closing_of, visit_text}
+use Rattle.hserialize.specs.declared.escaping.Escaping.{Escaping}
+use Rattle.hserialize.specs.declared.walk.Reach.TheVariants.{Written}
+use Rattle.hserialize.specs.declared.walk.Visit.{Visit}
+use Rattle.hserialize.specs.declared.walk.Visit.TheVariants.{Enter, Leave}
+use Rattle.hserialize.proofs.KnownNames.{tags-agree}
+use Rattle.hserialize.proofs.Runs.{run, walked, run-visits}
+use Rattle.hserialize.specs.Output.{Taken, Adds, Fails}
+use Rattle.hserialize.proofs.Output.{HasLeft, none_put, part_put, part_failed, all_put}
+use Rattle.hserialize.proofs.Seen.{Seen, IsSeen, seen, lent-visits}
+
+module _ (how : Escaping) (texts : ℕ → List ℕ) (f : Forest ℕ) where
+  abbrev pub enters : ℕ → List ℕ → List ℕ
+  enters n out = out ++ opening_of how texts (stands_raw n f) (what_of n f)
+
+  abbrev pub leaves : ℕ → List ℕ → List ℕ
+  leaves n out = out ++ closing_of texts (what_of n f)
+
+  module _ (tags : (id : ℕ) → tag_of id ≡ tag_named (texts id)) (made root : ℕ) where
+    -- whether an element holds raw texts, by its number and by its text
+    pub raw-same : (o : Option ℕ) → holds_raw o ≡ is_raw_in (option_map texts o)
+    raw-same None = refl
+    raw-same (Some name) = ap (λ t. has_no_references (raw_kind t)) (tags name)
+
+    -- a node and what is inside it, and then those after it
+    node-writes : (p b : ℕ) (w : What ℕ) (kids rest : Forest ℕ) → IsSeen made f root p b w kids rest → (out : List ℕ)
+        → ((out : List ℕ) → walked enters leaves Written kids out ≡ out ++ written_among how (holds_raw (name_of b f)) (spelled texts kids))
+        → leaves b (cond (goes_in Written w) (walked enters leaves Written kids (enters b out)) (enters b out)) ≡ out ++ node_text how (holds_raw (name_of p f)) (spelled_what texts w) (written_among how (is_raw_in (name_in (spelled_what texts w))) (spelled texts kids))
+    node-writes p b w kids rest s out inner =
+        (λ i. cond (goes_in Written w) (walked enters leaves Written kids (out ++ opening_of how texts (begins i) (s.what i))) (out ++ opening_of how texts (begins i) (s.what i)) ++ closing_of texts (s.what i))
+        ∙ go w s.what
+      where
+        raw : Bool
+        raw = holds_raw (name_of p f)
+
+        begins : stands_raw b f ≡ raw
+        begins = ap (λ o. holds_raw (option_and_then (λ q. name_of q f) o)) s.parent
+
+        go : (v : What ℕ) → what_of b f ≡ Some v
+            → cond (goes_in Written v) (walked enters leaves Written kids (out ++ opening how texts raw v)) (out ++ opening how texts raw v) ++ closing texts v ≡ out ++ node_text how raw (spelled_what texts v) (written_among how (is_raw_in (name_in (spelled_what texts v))) (spelled texts kids))
+        go document e = append-nil (out ++ [])
+        go (doctype n x y) e = append-nil (out ++ opening how texts raw (doctype n x y))
+        go (comment t) e = append-nil (out ++ opening how texts raw (comment t))
+        go (text t) e = append-nil (out ++ opening how texts raw (text t))
+        go (element name attrs) e = under (is_void (tag_of name)) ∙ ap (λ u. out ++ (start ++ cond u [] (written_among how (is_raw_in (Some (texts name))) (spelled texts kids) ++ end))) (ap is_void (tags name))
+          where
+            start : List ℕ
+            start = start_tag_text how (texts name) (map (spelled_attribute texts) attrs)
+
+            end : List ℕ
+            end = end_tag_text (texts name)
+
+            own : holds_raw (name_of b f) ≡ is_raw_in (Some (texts name))
+            own = ap (λ o. holds_raw (option_and_then name_in o)) e ∙ raw-same (Some name)
+
+            under : (u : Bool) → cond (not u) (walked enters leaves Written kids (out ++ start)) (out ++ start) ++ cond u [] end ≡ out ++ (start ++ cond u [] (written_among how (is_raw_in (Some (texts name))) (spelled texts kids) ++ end))
+            under true = append_assoc out start []
+            under false =
+                ap (λ t. t ++ end) (inner (out ++ start) ∙ ap (λ r. (out ++ start) ++ written_among how r (spelled texts kids)) own)
+                ∙ append_assoc (out ++ start) (written_among how (is_raw_in (Some (texts name))) (spelled texts kids)) end
+                ∙ append_assoc out start (written_among how (is_raw_in (Some (texts name))) (spelled texts kids) ++ end)
+
+    writes : (p : ℕ) (g : Forest ℕ) → Seen made f root p g → (out : List ℕ) → walked enters leaves Written g out ≡ out ++ written_among how (holds_raw (name_of p f)) (spelled texts g)
+    writes p none s out = sym (append-nil out)
+    writes p (tree b w kids rest) s out =
+        ap (walked enters leaves Written rest) (node-writes p b w kids rest s.0 out (λ o. writes b kids s.1 o))
+        ∙ writes p rest s.2 (out ++ node_text how (holds_raw (name_of p f)) (spelled_what texts w) (written_among how (is_raw_in (name_in (spelled_what texts w))) (spelled texts kids)))
+        ∙ append_assoc out (node_text how (holds_raw (name_of p f)) (spelled_what texts w) (written_among how (is_raw_in (name_in (spelled_what texts w))) (spelled texts kids))) (written_among how (holds_raw (name_of p f)) (spelled texts rest))
+
+-- the text that is to be written
+abbrev pub wanted : Escaping → Texts → Forest ℕ → ℕ → List ℕ
+wanted how names f node = written how (option_map (text_of names) (name_of node f)) (spelled (text_of names) (children_of node f))
+
+-- what these visits write
+abbrev pub visits_text : Escaping → Texts → Forest ℕ → List Visit → List ℕ
+visits_text how names f left = run (enters how (text_of names) f) (leaves how (text_of names) f) left []
+
+run-after : (how : Escaping) (names : Texts) (f : Forest ℕ) (left : List Visit) (out : List ℕ) → run (enters how (text_of names) f) (leaves how (text_of names) f) left out ≡ out ++ visits_text how names f left
+run-after how names f [] out = sym (append-nil out)
+run-after how names f (Enter n ∷ left) out =
+    let here = opening_of how (text_of names) (stands_raw n f) (what_of n f) in
+    run-after how names f left (out ++ here) ∙ append_assoc out here (visits_text how names f left) ∙ ap (λ l. out ++ l) (sym (run-after how names f left here))
+run-after how names f (Leave n ∷ left) out =
+    let here = closing_of (text_of names) (what_of n f) in
+    run-after how names f left (out ++ here) ∙ append_assoc out here (visits_text how names f left) ∙ ap (λ l. out ++ l) (sym (run-after how names f left here))
+
+-- one visit, and those after it
+pub first-visit : (how : Escaping) (names : Texts) (f : Forest ℕ) (v : Visit) (old left : List Visit) → old ≡ v ∷ left → visits_text how names f old ≡ visit_text how (text_of names) f v ++ visits_text how names f left
+first-visit how names f v old left is = ap (visits_text how names f) is ∙ go v
+  where
+    go : (v : Visit) → visits_text how names f (v ∷ left) ≡ visit_text how (text_of names) f v ++ visits_text how names f left
+    go (Enter n) = run-after how names f left (opening_of how (text_of names) (stands_raw n f) (what_of n f))
+    go (Leave n) = run-after how names f left (closing_of (text_of names) (what_of n f))
+
+-- The visits that are left, and what they write.
+pub record IsWriting (how : Escaping) (names : Texts) (made : ℕ) (f : Forest ℕ) (node : ℕ) (old now : Taken) (left : List Visit) : Type 0 where
+  pub lent : AllByRecursion (λ v. IsLent names made f (node_of v)) left
+  pub same : HasLeft old now (wanted how names f node) (visits_text how names f left)
+
+pub begun : (how : Escaping) (names : Texts) (made : ℕ) (f : Forest ℕ) (node : ℕ) (old : Taken) (left items : List Visit) → AreNames names → AreCounted made f → node < made → AreOf names (children_of node f) → left ≡ items
+    → items ≡ visits Written (children_of node f) → IsWriting how names made f node old old left
+begun how names made f node old left items table counted h of same visited = record {
+  lent = subst (AllByRecursion (λ v. IsLent names made f (node_of v))) (sym is) (lent-visits names made f node Written counted h of);
+  same = subst (HasLeft old old (wanted how names f node)) (sym whole) (none_put old (wanted how names f node));
+}
+  where
+    is : left ≡ visits Written (children_of node f)
+    is = same ∙ visited
+
+    tags : (id : ℕ) → tag_of id ≡ tag_named (text_of names id)
+    tags id = tags-agree names table id
+
+    whole : visits_text how names f left ≡ wanted how names f node
+    whole =
+        ap (visits_text how names f) is ∙ run-visits (enters how (text_of names) f) (leaves how (text_of names) f) Written (children_of node f) []
+        ∙ writes how (text_of names) f tags made node node (children_of node f) (seen made f counted node h) [] ∙ ap (λ r. written_among how r (spelled (text_of names) (children_of node f))) (raw-same how (text_of names) f tags made node (name_of node f))
+
+module _ (how : Escaping) (names : Texts) (made : ℕ) (f : Forest ℕ) (node : ℕ) (old now : Taken) (v : Visit) (before left : List Visit) (is : before ≡ v ∷ left) (s : IsWriting how names made f node old now before) where
+  -- what the next visit asks for
+  pub next_is : IsLent names made f (node_of v)
+  next_is = (subst (AllByRecursion (λ v. IsLent names made f (node_of v))) is s.lent).0
+
+  -- one visit more
+  pub goes_on : (new : Taken) → Adds now new (visit_text how (text_of names) f v) → IsWriting how names made f node old new left
+  goes_on new h = record {
+    lent = (subst (AllByRecursion (λ v. IsLent names made f (node_of v))) is s.lent).1;
+    same = part_put old now new _ _ _ _ s.same (first-visit how names f v before left is) h;
+  }
+
+  -- one that failed
+  pub failed : (new : Taken) {e : Refusal} → Fails e now new (visit_text how (text_of names) f v) → Fails e old new (wanted how names f node)
+  failed new h = part_failed old now new _ _ _ _ s.same (first-visit how names f v before left is) h
+
+-- the end
+pub wrote : (how : Escaping) (names : Texts) (made : ℕ) (f : Forest ℕ) (node : ℕ) (old now : Taken) (left : List Visit) → left ≡ [] → IsWriting how names made f node old now left → Adds old now (wanted how names f node)
+wrote how names made f node old now left is s = all_put old now _ _ s.same (ap (visits_text how names f) is)

@@ -1,0 +1,8 @@
+use Rattle.std.proofs.Common.{subst}
+use Rattle.hserialize.specs.Gathered.{gathered, failures_of}
+use Rattle.hserialize.specs.Output.{WritesText}
+use Rattle.hserialize.proofs.InMemory.{all_written}
+use Rattle.hserialize.proofs.gathered.Gathered.into_text.Goals as goal
+
+pub returns-in-Ok : goal.returns-in-Ok
+returns-in-Ok c = λ text old none writes. all_written text old c.args.self none (subst (WritesText gathered failures_of text old c.args.self) c.in-Ok.is writes)

@@ -1,0 +1,38 @@
+use Rattle.std.proofs.Common.{sym, ◌∙◌, ap, ◌∷◌, Option, None, ℕ, ◌≡◌, rules}
+use Rattle.hnodes.specs.Passed.{way_up}
+use Rattle.hserialize.specs.Walk.{after_ends, visits_from}
+use Rattle.hserialize.specs.declared.walk.Reach.TheVariants.{Whole}
+use Rattle.hserialize.specs.declared.walk.Visit.TheVariants.{Leave}
+use Rattle.hserialize.proofs.Moves.{next, climbs, climbs-inside, ends}
+use Rattle.hserialize.proofs.walk.visit_after.Goals as goal
+
+pub returns-in-Some-clause-visits : goal.returns-in-Some-clause-visits
+returns-in-Some-clause-visits c = λ reach.
+    (next c.args.tree.now.made c.args.tree.now.trees c.next.ensures.nodes.counted c.args.root reach c.args.node c.in-Some.next c.requires.made c.requires.inside (sym c.next.ensures.sibling ∙ c.in-Some.is)).0
+
+pub returns-in-Some-clause-inside : goal.returns-in-Some-clause-inside
+returns-in-Some-clause-inside c =
+    (next c.args.tree.now.made c.args.tree.now.trees c.next.ensures.nodes.counted c.args.root Whole c.args.node c.in-Some.next c.requires.made c.requires.inside (sym c.next.ensures.sibling ∙ c.in-Some.is)).1
+
+pub returns-in_err-parent-clause-visits : goal.returns-in_err-parent-clause-visits
+returns-in_err-parent-clause-visits c = λ reach.
+    let ended : None ≡ c.from_residual.result = search (rules, c.from_residual.ensures) in
+    climbs c.args.tree.now.made c.args.tree.now.trees c.next.ensures.nodes.counted c.args.root reach c.args.node c.requires.made c.requires.inside (sym c.next.ensures.sibling ∙ c.in_default.is)
+    ∙ ap (λ (o : Option ℕ). Leave c.args.node ∷ after_ends reach c.args.root (way_up o c.args.tree.now.trees) c.args.tree.now.trees) (sym c.parent.ensures.parent ∙ c.in_err-parent.was)
+    ∙ ap (λ o. Leave c.args.node ∷ visits_from reach c.args.root o c.args.tree.now.trees) ended
+
+pub returns-then-eq-clause-visits : goal.returns-then-eq-clause-visits
+returns-then-eq-clause-visits c = λ reach.
+    climbs c.args.tree.now.made c.args.tree.now.trees c.next.ensures.nodes.counted c.args.root reach c.args.node c.requires.made c.requires.inside (sym c.next.ensures.sibling ∙ c.in_default.is)
+    ∙ ap (λ vs. Leave c.args.node ∷ vs) (ends c.args.tree.now.made c.args.tree.now.trees c.parent.ensures.nodes.counted c.args.root reach c.args.node c.in_ok-parent.parent (sym c.parent.ensures.parent ∙ c.in_ok-parent.was) (search (rules, c.if-eq.true, c.eq.ensures)))
+
+pub returns-clause-visits : goal.returns-clause-visits
+returns-clause-visits c = λ reach.
+    climbs c.args.tree.now.made c.args.tree.now.trees c.next.ensures.nodes.counted c.args.root reach c.args.node c.requires.made c.requires.inside (sym c.next.ensures.sibling ∙ c.in_default.is)
+    ∙ ap (λ (o : Option ℕ). Leave c.args.node ∷ after_ends reach c.args.root (way_up o c.args.tree.now.trees) c.args.tree.now.trees) (sym c.parent.ensures.parent ∙ c.in_ok-parent.was)
+
+pub returns-clause-inside : goal.returns-clause-inside
+returns-clause-inside c = (
+  c.in_ok-parent.ensures.within,
+  climbs-inside c.args.tree.now.made c.args.tree.now.trees c.parent.ensures.nodes.counted c.args.root c.args.node c.in_ok-parent.parent c.requires.made c.requires.inside (sym c.parent.ensures.parent ∙ c.in_ok-parent.was) (search (rules, c.if-eq.false, c.eq.ensures)),
+)

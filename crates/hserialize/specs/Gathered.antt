@@ -1,0 +1,17 @@
+-- A text in memory.
+use Rattle.std.specs.Prelude.{◌≡◌, ℕ, List, Option, Some, Result, MatchResult}
+use Rattle.std.specs.Global.{Vec}
+use Rattle.names.specs.declared.refusal.Refusal.{Refusal}
+use Rattle.names.specs.declared.refusal.Refusal.TheVariants.{Memory}
+use Rattle.hserialize.specs.declared.gathered.Gathered.{Gathered}
+
+-- what was gathered, and how often there was no memory for more
+abbrev pub gathered : Gathered → Option (List ℕ)
+gathered it = Some it.text.items
+
+abbrev pub failures_of : Gathered → ℕ
+failures_of it = it.failures
+
+-- it is this text, or memory ran out
+abbrev pub Holds : Result (Vec ℕ) Refusal → List ℕ → Type 0
+Holds result text = MatchResult result (λ it. it.items ≡ text) (λ refusal. refusal ≡ Memory)

@@ -1,0 +1,10 @@
+pub mod Words
+pub mod Calls
+pub mod Output
+pub mod Gathered
+pub mod Escaping
+pub mod Written
+pub mod WrittenRows
+pub mod Writing
+pub mod Walk
+pub mod Lent

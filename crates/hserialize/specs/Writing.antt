@@ -1,0 +1,49 @@
+-- What a visit of a walk writes. Names are numbers, and texts are theirs.
+use Rattle.std.specs.Prelude.{ℕ, Bool, false, List, [], ◌++◌, Option, Some, None, codes, map, option_and_then, if◌then◌else◌}
+use Rattle.names.specs.Sets.{is_void, raw_kind}
+use Rattle.names.specs.Tags.{tag_of}
+use Rattle.hnodes.specs.Forest.{What, document, doctype, element, comment, text, Forest}
+use Rattle.hnodes.specs.Spelled.{spelled_attribute}
+use Rattle.hnodes.specs.Spots.{parent_of, name_of, what_of}
+use Rattle.hserialize.specs.Escaping.{escaped}
+use Rattle.hserialize.specs.Written.{has_no_references, start_tag_text, end_tag_text}
+use Rattle.hserialize.specs.declared.escaping.Escaping.{Escaping}
+use Rattle.hserialize.specs.declared.escaping.Setting.TheVariants.{Text}
+use Rattle.hserialize.specs.declared.walk.Visit.{Visit}
+use Rattle.hserialize.specs.declared.walk.Visit.TheVariants.{Enter, Leave}
+
+-- whether the texts in an element of this name, or in no element, are written as they are
+abbrev pub holds_raw : Option ℕ → Bool
+holds_raw None = false
+holds_raw (Some name) = has_no_references (raw_kind (tag_of name))
+
+-- the same of what stands beside a node
+abbrev pub stands_raw : ℕ → Forest ℕ → Bool
+stands_raw n f = holds_raw (option_and_then (λ p. name_of p f) (parent_of n f))
+
+module _ (texts : ℕ → List ℕ) where
+  -- where a node ends
+  abbrev pub closing : What ℕ → List ℕ
+  closing (element name attrs) = if is_void (tag_of name) then [] else end_tag_text (texts name)
+  closing _ = []
+
+  abbrev pub closing_of : Option (What ℕ) → List ℕ
+  closing_of None = []
+  closing_of (Some w) = closing w
+
+module _ (escaping : Escaping) (texts : ℕ → List ℕ) where
+  -- and where it begins
+  abbrev pub opening : (raw : Bool) → What ℕ → List ℕ
+  opening raw document = []
+  opening raw (doctype name public_id system_id) = codes "<!DOCTYPE " ++ name ++ codes ">"
+  opening raw (element name attrs) = start_tag_text escaping (texts name) (map (spelled_attribute texts) attrs)
+  opening raw (comment t) = codes "<!--" ++ t ++ codes "-->"
+  opening raw (text t) = if raw then t else escaped escaping Text t
+
+  abbrev pub opening_of : (raw : Bool) → Option (What ℕ) → List ℕ
+  opening_of raw None = []
+  opening_of raw (Some w) = opening raw w
+
+  abbrev pub visit_text : Forest ℕ → Visit → List ℕ
+  visit_text f (Enter n) = opening_of (stands_raw n f) (what_of n f)
+  visit_text f (Leave n) = closing_of texts (what_of n f)

@@ -1,0 +1,48 @@
+//! Texts as they are written (HTML Standard, 13.3, "Escaping a string").
+
+ghost use Rattle.std.specs.Prelude.{◌≡◌, IfSome, None};
+ghost use Rattle.std.specs.Char.{encode_utf8};
+ghost use Rattle.hserialize.specs.Escaping.{escaped, written_char};
+ghost use Rattle.hserialize.specs.Output.{Puts, taken};
+
+use crate::escaping::{Escaping, Setting};
+use crate::sink::{Sink, put};
+use crate::target::Target;
+use names::Refusal;
+
+/// What is written for a character that is not written as it is.
+fn reference(ch: char, escaping: Escaping, setting: Setting) -> Option<&'static str>
+    ensures some { IfSome result (λ text. written_char escaping setting ch ≡ text.now) }
+    ensures none { result ≡ None → written_char escaping setting ch ≡ encode_utf8 ch }
+{
+    match (ch, escaping, setting) {
+        ('&', _, _) => Some("&amp;"),
+        ('\u{A0}', _, _) => Some("&nbsp;"),
+        ('"', _, Setting::Value) => Some("&quot;"),
+        ('<', _, Setting::Text) | ('<', Escaping::Two, _) => Some("&lt;"),
+        ('>', _, Setting::Text) | ('>', Escaping::Two, _) => Some("&gt;"),
+        _ => None,
+    }
+}
+
+/// Writes a text.
+pub(crate) fn put_escaped<W: Target>(
+    out: &mut Sink<'_, W>,
+    source: &str,
+    escaping: Escaping,
+    setting: Setting,
+) -> Result<(), Refusal>
+    ensures { Puts (taken W.written W.failed out.old) (taken W.written W.failed out.new) (escaped escaping setting source.now) result }
+{
+    let bytes = source.as_bytes();
+    // What stands before is written.
+    let mut done = 0;
+    for (at, ch) in source.char_indices() {
+        if let Some(reference) = reference(ch, escaping, setting) {
+            put(out, &bytes[done..at])?;
+            put(out, reference.as_bytes())?;
+            done = at + ch.len_utf8();
+        }
+    }
+    put(out, &bytes[done..])
+}

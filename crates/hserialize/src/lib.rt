@@ -1,0 +1,19 @@
+//! Trees as text (HTML Standard, 13.3), to any target of bytes or in memory, and the walk over a tree that this takes.
+#![tactic(auto)]
+
+mod escaped;
+pub mod escaping;
+pub mod gathered;
+pub mod node;
+mod serializer;
+pub mod sink;
+pub mod target;
+pub mod walk;
+
+pub use escaping::Escaping;
+pub use gathered::Gathered;
+pub use node::{Node, name_text};
+pub use serializer::{serialize, serialize_to_vec};
+pub use sink::{Sink, put, put_parts, room};
+pub use target::{Target, write_all};
+pub use walk::{Reach, Visit, Walk, inserts_marker};

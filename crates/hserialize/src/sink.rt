@@ -1,0 +1,105 @@
+//! Bytes to a target by way of a buffer, part by part.
+
+ghost use Rattle.std.specs.Prelude.{◌≡◌, ◌+◌, ◌≤◌, [], IfOk, OnOk, flat_map, length, vec_capacity};
+ghost use Rattle.hserialize.specs.Output.{Adds, Ends, Puts, taken};
+
+use crate::target::{Target, write_all};
+use names::Refusal;
+use std::alloc::{AllocError, Global};
+
+/// How many bytes are held.
+const ROOM: usize = 65536;
+
+/// A target, and bytes that it is yet to be handed. Their memory is taken once: no write takes any.
+#[derive(Drop)]
+pub struct Sink<'t, W> {
+    target: &'t mut W,
+    held: &'t mut Vec<u8>,
+}
+
+/// The memory of what is held.
+pub fn room(alloc: Global) -> Result<Vec<u8>, AllocError>
+    ensures { IfOk result (λ room. room.items ≡ []) }
+{
+    Vec::with_capacity(alloc, ROOM)
+}
+
+impl<'t, W: Target> Sink<'t, W> {
+    /// Nothing is held yet.
+    pub fn new(target: &'t mut W, held: &'t mut Vec<u8>) -> Sink<'t, W>
+        ensures name { result.target.ghost_name ≡ target.entry.ghost_name }
+        ensures same { result.target.now ≡ target.old }
+        ensures held { result.held.now ≡ held.old }
+    {
+        Sink { target, held }
+    }
+
+    /// Hands over what is held.
+    fn hand_over(&mut self) -> Result<(), Refusal>
+        ensures put { Puts (taken W.written W.failed self.old) (taken W.written W.failed self.new) [] result }
+        ensures none { OnOk result (self.new.held.now.items ≡ []) }
+        ensures room { vec_capacity self.new.held.now ≡ vec_capacity self.old.held.now }
+    {
+        write_all(self.target, self.held)?;
+        self.held.clear();
+        Ok(())
+    }
+
+    /// Hands over what is held, and flushes the target.
+    pub fn finish(&mut self) -> Result<(), Refusal>
+        ensures { Ends (taken W.written W.failed self.old) (taken W.written W.failed self.new) result }
+    {
+        self.hand_over()?;
+        if self.target.flush() {
+            Ok(())
+        } else {
+            Err(Refusal::Write)
+        }
+    }
+}
+
+/// Holds bytes that there is room for.
+#[inline]
+fn hold<W: Target>(out: &mut Sink<'_, W>, bytes: &[u8])
+    requires { length out.old.held.now.items + length bytes.now ≤ vec_capacity out.old.held.now }
+    ensures { Adds (taken W.written W.failed out.old) (taken W.written W.failed out.new) bytes.now }
+{
+    let is_held = out.held.extend_from_slice(bytes).is_ok();
+    prove!(is_held);
+}
+
+/// Writes all of the bytes, for which there is no room beside those that are held.
+#[cold]
+#[inline(never)]
+fn put_past<W: Target>(out: &mut Sink<'_, W>, bytes: &[u8]) -> Result<(), Refusal>
+    ensures { Puts (taken W.written W.failed out.old) (taken W.written W.failed out.new) bytes.now result }
+{
+    out.hand_over()?;
+    if bytes.len() > out.held.capacity() {
+        return write_all(out.target, bytes);
+    }
+    hold(out, bytes);
+    Ok(())
+}
+
+/// Writes all of the bytes.
+#[inline]
+pub fn put<W: Target>(out: &mut Sink<'_, W>, bytes: &[u8]) -> Result<(), Refusal>
+    ensures { Puts (taken W.written W.failed out.old) (taken W.written W.failed out.new) bytes.now result }
+{
+    if bytes.len() > out.held.capacity() - out.held.len() {
+        return put_past(out, bytes);
+    }
+    hold(out, bytes);
+    Ok(())
+}
+
+/// Writes these parts, one after another.
+pub fn put_parts<W: Target>(out: &mut Sink<'_, W>, parts: &[&[u8]]) -> Result<(), Refusal>
+    ensures { Puts (taken W.written W.failed out.old) (taken W.written W.failed out.new) (flat_map (λ p. p.now) parts.now) result }
+{
+    for part in parts {
+        put(out, part)?;
+    }
+    Ok(())
+}

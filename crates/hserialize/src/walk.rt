@@ -1,0 +1,163 @@
+//! Walks over the nodes inside a node, without recursion and without memory.
+
+ghost use Rattle.std.specs.Prelude.{◌≡◌, ◌<◌, ◌∷◌, ◌^◌, ℕ, length, Bool, true, false, not, Some, IfSome, IsTrue};
+ghost use Rattle.hnodes.specs.Edits.{AreNodes};
+ghost use Rattle.hnodes.specs.Forest.{What, children_of};
+ghost use Rattle.hnodes.specs.Passed.{ancestors_of, is_among};
+ghost use Rattle.hserialize.specs.Walk.{goes_in, inserts_marker, visits, visits_from, node_of};
+ghost use Rattle.hnodes.specs.Spots.{what_of};
+ghost use Rattle.hserialize.specs.declared.walk.Visit.TheVariants.{Enter, Leave};
+
+use hnodes::{NodeId, Tree};
+use names::Tag;
+use std::marker::Model;
+
+/// A step of a walk: a node is entered, and left after those inside it.
+#[derive(Clone, Copy)]
+pub enum Visit {
+    Enter(NodeId),
+    Leave(NodeId),
+}
+
+/// Which nodes a walk goes into.
+#[derive(Clone, Copy)]
+pub enum Reach {
+    /// All.
+    Whole,
+    /// Elements that are not void: what stands in a void element, or in a node that is no element, is not written.
+    Written,
+    /// All but elements that insert a marker into the list of active formatting elements.
+    Region,
+}
+
+/// What is left of a walk over the nodes inside one, in tree order.
+#[derive(Drop)]
+pub struct Walk<'a> {
+    tree: &'a Tree,
+    root: NodeId,
+    reach: Reach,
+    next: Option<Visit>,
+}
+
+impl<'a> Model for Walk<'a> {
+    ghost use Rattle.std.specs.Prelude.{List, ◌<◌, IfSome, IsTrue};
+    ghost use Rattle.hnodes.specs.Passed.{ancestors_of, is_among};
+    ghost use Rattle.hserialize.specs.Walk.{visits_from, node_of};
+    ghost use Rattle.hserialize.specs.declared.walk.Visit.{Visit};
+
+    ghost Value = { List Visit };
+
+    ghost view = { λ s. visits_from s.reach s.root s.next s.tree.now.trees };
+
+    ghost invariant = { λ s. IfSome s.next (λ v. (node_of v < s.tree.now.made) × IsTrue (is_among s.root (ancestors_of (node_of v) s.tree.now.trees))) };
+}
+
+impl<'a> Walk<'a> {
+    /// A walk over nodes inside `root`.
+    pub fn new(tree: &'a Tree, root: NodeId, reach: Reach) -> Walk<'a>
+        requires { root < tree.now.made }
+        ensures visits { result ≡ visits reach (children_of root tree.now.trees) }
+        ensures few { length result < 2 ^ 33 }
+        ensures nodes { AreNodes tree.now }
+    {
+        // A walk visits each node twice.
+        prove!(tree.made() > 0);
+        Walk {
+            tree,
+            root,
+            reach,
+            next: first_visit(tree, root),
+        }
+    }
+}
+
+impl<'a> Iterator for Walk<'a> {
+    ghost use Rattle.std.specs.Prelude.{length};
+    ghost use Rattle.std.specs.Iterator.{YieldsFirst, at_most};
+
+    type Item = Visit;
+
+    ghost next_gives = { YieldsFirst (λ s. s) };
+
+    ghost remaining = { λ s. at_most (length s) };
+
+    fn next(&mut self) -> Option<Visit> {
+        let visit = self.next?;
+        self.next = match visit {
+            Visit::Enter(node) => Some(visit_inside(self.tree, self.root, self.reach, node)),
+            Visit::Leave(node) => visit_after(self.tree, self.root, node),
+        };
+        Some(visit)
+    }
+}
+
+/// The first visit inside a node.
+fn first_visit(tree: &Tree, root: NodeId) -> Option<Visit>
+    requires { root < tree.now.made }
+    ensures visits { (reach : Reach) → visits_from reach root result tree.now.trees ≡ visits reach (children_of root tree.now.trees) }
+    ensures inside { IfSome result (λ v. (node_of v < tree.now.made) × IsTrue (is_among root (ancestors_of (node_of v) tree.now.trees))) }
+    ensures nodes { AreNodes tree.now }
+{
+    match tree.first_child(root) {
+        Some(child) => Some(Visit::Enter(child)),
+        None => None,
+    }
+}
+
+/// The visit after a node was entered.
+fn visit_inside(tree: &Tree, root: NodeId, reach: Reach, node: NodeId) -> Visit
+    requires made { node < tree.now.made }
+    requires inside { IsTrue (is_among root (ancestors_of node tree.now.trees)) }
+    ensures visits { visits_from reach root (Some (Enter node)) tree.now.trees ≡ Enter node ∷ visits_from reach root (Some result) tree.now.trees }
+    ensures inside { (node_of result < tree.now.made) × IsTrue (is_among root (ancestors_of (node_of result) tree.now.trees)) }
+{
+    let child = tree.first_child(node);
+    if !goes_in(tree, reach, node) {
+        return Visit::Leave(node);
+    }
+    match child {
+        Some(child) => Visit::Enter(child),
+        None => Visit::Leave(node),
+    }
+}
+
+/// Whether an element of this name inserts a marker into the list of active formatting elements.
+pub fn inserts_marker(tag: Tag) -> bool
+    ensures { result ≡ inserts_marker tag }
+{
+    matches!(
+        tag,
+        Tag::Caption | Tag::Td | Tag::Th | Tag::Object | Tag::Marquee
+    )
+}
+
+/// Whether a walk goes into a node.
+fn goes_in(tree: &Tree, reach: Reach, node: NodeId) -> bool
+    requires { node < tree.now.made }
+    ensures { (w : What ℕ) → what_of node tree.now.trees ≡ Some w → goes_in reach w ≡ result }
+{
+    match (reach, tree.name(node)) {
+        (Reach::Whole, _) => true,
+        (Reach::Written, Some(name)) => !name.tag().is_void(),
+        (Reach::Written, None) => false,
+        (Reach::Region, Some(name)) => !inserts_marker(name.tag()),
+        (Reach::Region, None) => true,
+    }
+}
+
+/// The visit after a node was left; None at the end of the walk.
+fn visit_after(tree: &Tree, root: NodeId, node: NodeId) -> Option<Visit>
+    requires made { node < tree.now.made }
+    requires inside { IsTrue (is_among root (ancestors_of node tree.now.trees)) }
+    ensures visits { (reach : Reach) → visits_from reach root (Some (Leave node)) tree.now.trees ≡ Leave node ∷ visits_from reach root result tree.now.trees }
+    ensures inside { IfSome result (λ v. (node_of v < tree.now.made) × IsTrue (is_among root (ancestors_of (node_of v) tree.now.trees))) }
+{
+    if let Some(next) = tree.next(node) {
+        return Some(Visit::Enter(next));
+    }
+    let parent = tree.parent(node)?;
+    if parent == root {
+        return None;
+    }
+    Some(Visit::Leave(parent))
+}

@@ -1,0 +1,55 @@
+-- Calls one after another.
+use Rattle.std.proofs.Common.{◌≡◌, ℕ, List, [], ◌∷◌, ◌++◌, Option, Result, Ok, Err, refl, sym, ap, subst, ◌∙◌, append_assoc, OnOk, OnErr, IfErr}
+use Rattle.std.specs.Prelude.{◌≢◌, IsErrAnd}
+use Rattle.std.specs.Io.KnownBytes.{Appends}
+use Rattle.std.proofs.KnownBytes.{Appends-nil, Appends-trans}
+use Rattle.names.specs.declared.refusal.Refusal.{Refusal}
+use Rattle.names.specs.declared.refusal.Refusal.TheVariants.{Write}
+use Rattle.hparse.specs.Calls.{counted}
+use Rattle.hwrite.specs.Calls.{WritesAll}
+use Rattle.hserialize.specs.Calls.{counted_by_result}
+use Rattle.hserialize.specs.Output.{AppendsBeginning}
+
+-- the clauses of `write_all` as one fact
+pub writes_all : (old new : Option (List ℕ)) (before after : ℕ) (bytes : List ℕ) (r : Result (Unit {0}) Refusal) → after ≡ counted_by_result before r
+    → OnOk r (Appends old new bytes) → IfErr r (λ refusal. refusal ≡ Write) → OnErr r (AppendsBeginning old new bytes) → WritesAll old before new after bytes r
+writes_all old new before after bytes (Ok _) count all cause beginning = (all, count)
+writes_all old new before after bytes (Err refusal) count all cause beginning = (cause, beginning, count)
+
+not_nil : (xs ys : List ℕ) → xs ≢ [] → xs ++ ys ≢ []
+not_nil [] ys h e = h refl
+not_nil (x ∷ xs) ys h e = cc
+
+beginning_more : (old new : Option (List ℕ)) (bytes more : List ℕ) → AppendsBeginning old new bytes → AppendsBeginning old new (bytes ++ more)
+beginning_more old new bytes more (done, rest, split, left, appended) =
+    (done, rest ++ more, ap (λ l. l ++ more) split ∙ append_assoc done rest more, not_nil rest more left, appended)
+
+beginning_after : (old mid new : Option (List ℕ)) (first bytes : List ℕ) → Appends old mid first → AppendsBeginning mid new bytes → AppendsBeginning old new (first ++ bytes)
+beginning_after old mid new first bytes appended (done, rest, split, left, more) =
+    (first ++ done, rest, ap (λ l. first ++ l) split ∙ sym (append_assoc first done rest), left, Appends-trans old mid new first done appended more)
+
+-- nothing was to be written
+pub WritesAll-nil : (old : Option (List ℕ)) (before : ℕ) → WritesAll old before old before [] (Ok tt)
+WritesAll-nil old before = (Appends-nil old, refl)
+
+then_all : (old mid new : Option (List ℕ)) (before between after : ℕ) (first bytes : List ℕ) (r : Result (Unit {0}) Refusal)
+    → WritesAll old before mid between first (Ok tt) → WritesAll mid between new after bytes r → WritesAll old before new after (first ++ bytes) r
+then_all old mid new before between after first bytes (Ok _) (appended, same) (more, still) = (Appends-trans old mid new first bytes appended more, still ∙ same)
+then_all old mid new before between after first bytes (Err refusal) (appended, same) (cause, beginning, count) =
+    (cause, beginning_after old mid new first bytes appended beginning, count ∙ ap counted same)
+
+-- the first bytes were written, and then come the others
+pub WritesAll-then : (old mid new : Option (List ℕ)) (before between after : ℕ) (first bytes line : List ℕ) (r : Result (Unit {0}) Refusal) → first ++ bytes ≡ line
+    → WritesAll old before mid between first (Ok tt) → WritesAll mid between new after bytes r → WritesAll old before new after line r
+WritesAll-then old mid new before between after first bytes line r whole h k =
+    subst (λ l. WritesAll old before new after l r) whole (then_all old mid new before between after first bytes r h k)
+
+stops : (old new : Option (List ℕ)) (before after : ℕ) (bytes more : List ℕ) (e : Refusal) (r : Result (Unit {0}) Refusal) → IsErrAnd r (λ y. y ≡ e)
+    → WritesAll old before new after bytes (Err e) → WritesAll old before new after (bytes ++ more) r
+stops old new before after bytes more e (Ok _) is h = absurd is
+stops old new before after bytes more e (Err y) is (cause, beginning, count) = (is ∙ cause, beginning_more old new bytes more beginning, count)
+
+-- a call failed, and what was to come after it was not written
+pub WritesAll-stops : (old new : Option (List ℕ)) (before after : ℕ) (bytes more line : List ℕ) (e : Refusal) (r : Result (Unit {0}) Refusal) → bytes ++ more ≡ line
+    → IsErrAnd r (λ y. y ≡ e) → WritesAll old before new after bytes (Err e) → WritesAll old before new after line r
+WritesAll-stops old new before after bytes more line e r whole is h = subst (λ l. WritesAll old before new after l r) whole (stops old new before after bytes more e r is h)

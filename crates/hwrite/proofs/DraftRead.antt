@@ -1,0 +1,62 @@
+-- What a draft comes to that was handed the tokens of a document.
+use Rattle.std.proofs.Common.{◌≡◌, ℕ, List, [], ◌∷◌, refl, sym, subst, Option, Result, Ok, Err, inr}
+use Rattle.names.specs.declared.refusal.Refusal.{Refusal}
+use Rattle.names.specs.Names.{Texts}
+use Rattle.names.specs.Sink.{Hands}
+use Rattle.htext.specs.declared.BadBytes.{BadBytes}
+use Rattle.charref.specs.Reference.{Entities}
+use Rattle.htoken.specs.Token.{Tok, Item, ItemToken, ItemError, gives_item}
+use Rattle.hparse.specs.Answer.{of_document}
+use Rattle.hparse.specs.Fed.{IsUnrefusedText}
+use Rattle.hparse.specs.Input.{tokens_handed}
+use Rattle.hparse.specs.Into.{as_document, begins, ComesInto}
+use Rattle.hparse.specs.Reader.{ReadsInput}
+use Rattle.hparse.specs.TokenRun.{TokensMean}
+use Rattle.hparse.proofs.Refusing.{RefusesForMemory, answers_refused, answers_taken, errors_taken}
+use Rattle.hparse.proofs.Sorting.{in_order}
+use Rattle.hparse.proofs.Turns.{not_read, made}
+use Rattle.hwrite.specs.declared.draft.Draft.{Draft}
+use Rattle.hwrite.specs.Draft.{Drafted, drafted, empty, ComesTo, DraftsToken, PassesError, AnswersDraft, nothing}
+use Rattle.hwrite.specs.TokenLines.{lines_of, token_lines}
+
+-- a step of a draft
+abbrev pub drafts : Draft → Item → Result (Unit {0}) Refusal → Draft → Type 0
+drafts = gives_item PassesError DraftsToken
+
+refuses : RefusesForMemory drafts
+refuses old (ItemToken token) e new h = h
+refuses old (ItemError error) e new h = let never = h.0 in absurd cc
+
+-- all tokens were drafted
+all_drafted : (names : Texts) (s t : Draft) (items : List Item) (tokens : List Tok) (text : List ℕ) → TokensMean names (tokens_handed items) tokens → Hands drafts s items (Ok tt) t
+    → ComesTo names (drafted s) (lines_of tokens) text → ComesTo names (drafted t) [] text
+all_drafted names s t [] [] text means h c = subst (λ (d : Draft). ComesTo names (drafted d) [] text) h.1 c
+all_drafted names s t [] (tok ∷ tokens) text means h c = absurd means
+all_drafted names s t (ItemToken token ∷ items) [] text means h c = absurd means
+all_drafted names s t (ItemToken token ∷ items) (tok ∷ tokens) text means (Ok u, next, given, rest) c =
+    all_drafted names next t items tokens text means.1 rest (given names tok (lines_of tokens) text means.0 c)
+all_drafted names s t (ItemToken token ∷ items) (tok ∷ tokens) text means (Err e, next, given, rest) c = let never = rest.0 in absurd cc
+all_drafted names s t (ItemError error ∷ items) tokens text means (Ok u, next, given, rest) c =
+    all_drafted names next t items tokens text means rest (subst (λ (d : Draft). ComesTo names (drafted d) (lines_of tokens) text) (sym given.1) c)
+all_drafted names s t (ItemError error ∷ items) tokens text means (Err e, next, given, rest) c = let never = rest.0 in absurd cc
+
+-- before any token
+pub none_drafted : (names : Texts) (draft : Draft) (tokens : List Tok) → drafted draft ≡ empty → ComesTo names (drafted draft) (lines_of tokens) (token_lines tokens)
+none_drafted names draft tokens is =
+    subst (λ (d : Drafted). ComesTo names d (lines_of tokens) (token_lines tokens)) (sym is) (record { written = []; fills = nothing; whole = refl })
+
+module _ {R : Type 0} (left : R → Option (List ℕ)) (failed : R → ℕ) (table : Entities) (of : BadBytes) (limit : ℕ) (draft : Draft) (is : drafted draft ≡ empty) (piece : ℕ) (old new : R) where
+  -- what reading a document into a draft comes to
+  pub draft_read : (r : Result (Texts × Draft) Refusal) → ReadsInput left failed (ComesInto drafts (as_document table of limit) draft) (IsUnrefusedText (as_document table of limit)) piece [] old new r
+      → ReadsInput left failed (AnswersDraft table (of_document of limit)) (IsUnrefusedText (as_document table of limit)) piece [] old new r
+  draft_read (Err e) h =
+      not_read left failed (ComesInto drafts (as_document table of limit) draft) (AnswersDraft table (of_document of limit)) (IsUnrefusedText (as_document table of limit))
+      (IsUnrefusedText (as_document table of limit)) (λ bytes u. u) piece [] old new e (λ bytes r. answers_refused drafts table of limit (begins draft) bytes r.0 r.1 refuses e r.2) h
+  draft_read (Ok read) h =
+      made left failed (ComesInto drafts (as_document table of limit) draft) (AnswersDraft table (of_document of limit)) (IsUnrefusedText (as_document table of limit))
+      (IsUnrefusedText (as_document table of limit)) (λ bytes u. u) piece [] old new read (Ok read)
+      (λ bytes t. inr (
+        (t.tokens, in_order (errors_taken drafts table of limit (begins draft) bytes read.0 read.1 t)),
+        answers_taken drafts table of limit (begins draft) bytes read.0 read.1 t,
+        all_drafted read.0 draft read.1 t.handed.items t.tokens (token_lines t.tokens) t.handed.tokens_mean t.handed.hands (none_drafted read.0 draft t.tokens is),
+      )) h

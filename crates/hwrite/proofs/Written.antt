@@ -1,0 +1,102 @@
+-- What a run comes to, from what its reading and its writing do.
+use Rattle.std.proofs.Common.{◌≡◌, ◌⊎◌, inl, inr, true, false, None, Some, MatchResult, ℕ, List, [], ◌++◌, refl, sym, ap, subst, ◌∙◌, append-nil, Option, Result, Ok, Err}
+use Rattle.std.specs.Io.KnownBytes.{Keeps, Appends, IsAtEnd}
+use Rattle.std.proofs.KnownBytes.{Keeps-refl, Appends-kept}
+use Rattle.names.specs.declared.refusal.Refusal.{Refusal}
+use Rattle.names.specs.declared.refusal.Refusal.TheVariants.{Memory, Read, Write, BadContext}
+use Rattle.hparse.specs.Calls.{counted}
+use Rattle.hserialize.specs.Output.{AppendsBeginning, WritesText, no_buffer, text_cut, text_written}
+use Rattle.hparse.specs.declared.parser.Parser.{Parser}
+use Rattle.hparse.specs.Parse.{Told, document, fragment, is_context}
+use Rattle.hparse.specs.Parsing.{HasParsed}
+use Rattle.hparse.specs.Reader.{ReadsInput, reading_ran_out, reading_failed, reading_stopped, read_to_end, Gave}
+use Rattle.hwrite.specs.Running.{WritesNothing, Runs, run_ran_out, read_failed, stopped, refused, write_failed, wrote, RunsIn, context_refused, ran, ReadsIn, not_allowed, allowed, BeginsIn}
+
+module _ {W : Type 0} (written : W → Option (List ℕ)) (failed : W → ℕ) where
+  -- a beginning was written
+  pub cut_short : (text : List ℕ) (old new : W) (e : Refusal) → e ≡ Write → AppendsBeginning (written old) (written new) text → failed new ≡ counted (failed old) → WritesText written failed text old new (Err e)
+  cut_short text old new e why (beginning, rest, whole, some, appended) count = text_cut beginning rest (ap (λ (x : Refusal). Err x) why) whole appended count
+
+  -- all was written, and not handed on
+  pub not_flushed : (text : List ℕ) (old middle new : W) → Appends (written old) (written middle) text → failed middle ≡ failed old → Keeps (written middle) (written new) → failed new ≡ counted (failed middle)
+      → WritesText written failed text old new (Err Write)
+  not_flushed text old middle new appended unfailed kept count =
+      text_cut text [] refl (sym (append-nil text)) (Appends-kept (written old) (written middle) (written new) text appended kept) (count ∙ ap counted unfailed)
+
+  untouched : (target : W) → WritesNothing written failed target target
+  untouched target = record { kept = Keeps-refl (written target); unfailed = refl }
+
+  module _ {S R : Type 0} (left : S → Option (List ℕ)) (reads : S → ℕ) (answers : List ℕ → Result R Refusal → Type 0) (prints : List ℕ → Result (List ℕ) Refusal → Type 0)
+      (unrefused : List ℕ → Type 0) (piece : ℕ) (old new : S) where
+    -- there was nothing to write
+    pub not_read : ((bytes : List ℕ) (e : Refusal) → answers bytes (Err e) → prints bytes (Err e)) → (target : W) (e : Refusal) → ReadsInput left reads answers unrefused piece [] old new (Err e)
+        → Runs left reads written failed prints unrefused piece old new target target (Err e)
+    not_read none target e (reading_ran_out is count) = run_ran_out (let why : e ≡ Memory = cc in ap (λ (x : Refusal). Err x) why) count (untouched target)
+    not_read none target e (reading_failed bytes is un given count) = read_failed bytes (let why : e ≡ Read = cc in ap (λ (x : Refusal). Err x) why) un given count (untouched target)
+    not_read none target e (reading_stopped refusal before last is un gave from few) =
+        let same : refusal ≡ e = cc in
+        stopped refusal before last (ap (λ (x : Refusal). Err x) (sym same)) un gave (λ more. none ((before ++ last) ++ more) refusal (from more)) few (untouched target)
+    not_read none target e (read_to_end bytes un gave end its) = refused e bytes refl un gave end (none bytes e its) (untouched target)
+
+    -- what was read is an answer of some bytes
+    pub an_answer : (run : R) → ReadsInput left reads answers unrefused piece [] old new (Ok run) → (bytes : List ℕ) × answers bytes (Ok run)
+    an_answer run (reading_ran_out is count) = absurd cc
+    an_answer run (reading_failed bytes is un given count) = absurd cc
+    an_answer run (reading_stopped refusal before last is un gave from few) = absurd cc
+    an_answer run (read_to_end bytes un gave end its) = (bytes, its)
+
+    -- the input was read, and its text was written, or a beginning of it
+    text_comes : (target target' : W) (bytes text : List ℕ) (answer : Result (Unit {0}) Refusal) → Gave left reads old new bytes → IsAtEnd (left new) → prints bytes (Ok text)
+        → WritesText written failed text target target' answer → Runs left reads written failed prints unrefused piece old new target target' answer
+    text_comes target target' bytes text answer gave end printed (no_buffer e kept unfailed) = run_ran_out e gave.unfailed (record { kept = kept; unfailed = unfailed })
+    text_comes target target' bytes text answer gave end printed (text_written e appended unfailed) = wrote bytes text e gave end printed appended unfailed
+    text_comes target target' bytes text answer gave end printed (text_cut beginning rest e whole appended failing) =
+        write_failed bytes beginning rest e gave end (subst (λ (t : List ℕ). prints bytes (Ok t)) whole printed) appended failing
+
+    pub comes_to_written : (target target' : W) (run : R) (answer : Result (Unit {0}) Refusal) → ReadsInput left reads answers unrefused piece [] old new (Ok run)
+        → ((bytes : List ℕ) → answers bytes (Ok run) → (text : List ℕ) × prints bytes (Ok text) × WritesText written failed text target target' answer)
+        → Runs left reads written failed prints unrefused piece old new target target' answer
+    comes_to_written target target' run answer (reading_ran_out is count) written_of = absurd cc
+    comes_to_written target target' run answer (reading_failed bytes is un given count) written_of = absurd cc
+    comes_to_written target target' run answer (reading_stopped refusal before last is un gave from few) written_of = absurd cc
+    comes_to_written target target' run answer (read_to_end bytes un gave end its) written_of =
+        let w = written_of bytes its in text_comes target target' bytes w.0 answer gave end w.1 w.2
+
+    pub comes_to_text : (target target' : W) (run : R) (text : List ℕ) (answer : Result (Unit {0}) Refusal) → ReadsInput left reads answers unrefused piece [] old new (Ok run)
+        → ((bytes : List ℕ) → answers bytes (Ok run) → prints bytes (Ok text)) → WritesText written failed text target target' answer
+        → Runs left reads written failed prints unrefused piece old new target target' answer
+    comes_to_text target target' run text answer r printed w = comes_to_written target target' run answer r (λ bytes its. (text, printed bytes its, w))
+
+    -- the same of an input that stands in an element
+    module _ (context : Option (List ℕ)) where
+      pub not_read_in : ((bytes : List ℕ) (e : Refusal) → answers bytes (Err e) → prints bytes (Err e)) → (target : W) (e : Refusal) → ReadsIn left reads context answers unrefused piece old new (Err e)
+          → RunsIn left reads written failed context prints unrefused piece old new target target (Err e)
+      not_read_in none target e (not_allowed not is same) = context_refused not (let why : e ≡ BadContext = cc in ap (λ (x : Refusal). Err x) why) same refl
+      not_read_in none target e (allowed is r) = ran is (not_read none target e r)
+
+      pub an_answer_in : (run : R) → ReadsIn left reads context answers unrefused piece old new (Ok run) → (bytes : List ℕ) × answers bytes (Ok run)
+      an_answer_in run (not_allowed not is same) = absurd cc
+      an_answer_in run (allowed is r) = an_answer run r
+
+      pub comes_to_text_in : (target target' : W) (run : R) (text : List ℕ) (answer : Result (Unit {0}) Refusal) → ReadsIn left reads context answers unrefused piece old new (Ok run)
+          → ((bytes : List ℕ) → answers bytes (Ok run) → prints bytes (Ok text)) → WritesText written failed text target target' answer
+          → RunsIn left reads written failed context prints unrefused piece old new target target' answer
+      comes_to_text_in target target' run text answer (not_allowed not is same) printed w = absurd cc
+      comes_to_text_in target target' run text answer (allowed is r) printed w = ran is (comes_to_text target target' run text answer r printed w)
+
+-- a parse that did not begin
+pub not_begun : {S R : Type 0} (left : S → Option (List ℕ)) (failed : S → ℕ) (answers : List ℕ → Result R Refusal → Type 0) (unrefused : List ℕ → Type 0) (piece : ℕ) (old : S) (told : Told) (context : Option (List ℕ))
+    (e : Refusal) → BeginsIn told context (Err e) → ReadsIn left failed context answers unrefused piece old old (Err e)
+not_begun left failed answers unrefused piece old told context e (inl (is, why)) = allowed is (reading_ran_out (ap (λ (x : Refusal). Err x) why) refl)
+not_begun left failed answers unrefused piece old told context e (inr (not, why)) = not_allowed not (ap (λ (x : Refusal). Err x) why) refl
+
+pub begun_document : (told : Told) (r : Result Parser Refusal) → MatchResult r (λ parser. HasParsed told document parser []) (λ e. e ≡ Memory) → BeginsIn told None r
+begun_document told (Ok parser) h = (tt, h)
+begun_document told (Err e) why = inl (tt, why)
+
+pub begun_fragment : (told : Told) (context : List ℕ) (r : Result Parser Refusal)
+    → MatchResult r (λ parser. (is_context context ≡ true) × HasParsed told (fragment context) parser [])
+    (λ e. ((is_context context ≡ true) × (e ≡ Memory)) ⊎ ((is_context context ≡ false) × (e ≡ BadContext))) → BeginsIn told (Some context) r
+begun_fragment told context (Ok parser) h = h
+begun_fragment told context (Err e) (inl h) = inl h
+begun_fragment told context (Err e) (inr (isnt, why)) = inr ((λ is. absurd cc), why)

@@ -1,6 +1,0 @@
-use Rattle.hwrite.specs.Output.{taken}
-use Rattle.hwrite.proofs.Escapes.{IsEscaping}
-use Rattle.hwrite.proofs.escaped.put_escaped.Given as goal
-
-abbrev pub invariant-loop-at : goal.invariant-loop-at
-invariant-loop-at g l = IsEscaping l.escaping l.setting l.source l.done l.at-iterator.at l.at-iterator.rest.now (taken g.W.Target.written g.W.Target.failed l.initial.out) (taken g.W.Target.written g.W.Target.failed l.out)

@@ -1,0 +1,10 @@
+use Rattle.std.proofs.Common.{drop}
+use Rattle.hserialize.specs.Output.{taken}
+use Rattle.hserialize.proofs.Output.{HasLeft}
+use Rattle.hwrite.specs.Quoted.{escaped}
+use Rattle.hwrite.proofs.filling.put_escaped.Given as goal
+
+-- the bytes that are left
+abbrev pub invariant-loop-byte : goal.invariant-loop-byte
+invariant-loop-byte g l =
+    HasLeft (taken g.W.Target.written g.W.Target.failed l.initial.out) (taken g.W.Target.written g.W.Target.failed l.out) (escaped l.bytes) (escaped (drop l.byte-index l.bytes))

@@ -1,0 +1,9 @@
+use Rattle.std.proofs.Common.{arith}
+use Rattle.std.proofs.lemmas.Grind.{common_steps}
+use Rattle.hwrite.proofs.quoted.push_each.Goals as goal
+
+pub loop-ch-preserved : goal.loop-ch-preserved
+loop-ch-preserved c = grind (arith, common_steps)
+
+pub returns : goal.returns
+returns c = grind (arith, common_steps)

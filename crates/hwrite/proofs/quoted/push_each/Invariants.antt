@@ -1,0 +1,8 @@
+use Rattle.std.proofs.Common.{◌≡◌, ◌++◌}
+use Rattle.std.specs.String.{string_bytes}
+use Rattle.hwrite.specs.Quoted.{escaped}
+use Rattle.hwrite.proofs.quoted.push_each.Given as goal
+
+-- what is written and what is still to come make up the whole text
+abbrev pub invariant-loop-ch : goal.invariant-loop-ch
+invariant-loop-ch l = string_bytes l.text ++ escaped l.ch-iterator.rest.now ≡ string_bytes l.initial.text ++ escaped l.source

@@ -1,0 +1,11 @@
+use Rattle.std.proofs.Common.{◌≡◌, ℕ, List, true, rules, sym, ◌∙◌, subst}
+use Rattle.std.specs.List.{list_all}
+use Rattle.hwrite.specs.Quoted.{is_unescaped}
+use Rattle.hwrite.proofs.Escapes.{escaped-unescaped}
+use Rattle.hwrite.proofs.quoted.push_escaped_text.Goals as goal
+
+pub returns-then-are_unescaped : goal.returns-then-are_unescaped
+returns-then-are_unescaped c =
+    let all = subst (λ (bytes : List ℕ). list_all is_unescaped bytes ≡ true) c.as_bytes.ensures.value (sym c.are_unescaped.ensures ∙ c.if-are_unescaped.true) in
+    let same = escaped-unescaped c.args.source.now all in
+    rw same (search rules)

@@ -1,7 +1,0 @@
-use Rattle.std.proofs.Common.{◌∙◌, ap}
-use Rattle.hwrite.specs.Lines.{in_order}
-use Rattle.hwrite.proofs.Ordered.{ordered}
-use Rattle.hwrite.proofs.sorted.in_order.Goals as goal
-
-pub returns-clause-pairs : goal.returns-clause-pairs
-returns-clause-pairs c = ordered _ _ c.enter.ensures.places c.sort_unstable.ensures.permutation c.sort_unstable.ensures.sorted ∙ ap in_order c.enter.ensures.pairs

@@ -1,0 +1,68 @@
+-- What is printed of an input: the text of its answer.
+use Rattle.std.specs.Prelude.{ℕ, Bool, true, false, List, Option, None, Result, Ok, Err, codes}
+use Rattle.names.specs.declared.error.ParseError.{ParseError}
+use Rattle.names.specs.declared.refusal.Refusal.{Refusal}
+use Rattle.htoken.specs.Token.{Tok}
+use Rattle.hnodes.specs.Forest.{Forest, children_of}
+use Rattle.hnodes.specs.Spots.{name_of}
+use Rattle.hprint.specs.Lines.{tree_text, error_lines}
+use Rattle.hplain.specs.Plain.{is_plain}
+use Rattle.hserialize.specs.Written.{written}
+use Rattle.hserialize.specs.declared.escaping.Escaping.{Escaping}
+use Rattle.hparse.specs.Answer.{Answers}
+use Rattle.hparse.specs.Fed.{IsUnrefusedText}
+use Rattle.hparse.specs.Parsing.{IsUnrefused}
+use Rattle.hparse.specs.Parse.{Parse, Parses, Subject, document, fragment, Told, manner, policy, root_of}
+use Rattle.hwrite.specs.declared.command.Task.{Task}
+use Rattle.hwrite.specs.declared.command.Task.TheVariants as task
+use Rattle.hwrite.specs.Context.{subject_in}
+use Rattle.hwrite.specs.TokenLines.{token_lines}
+
+-- The text of an answer, or the refusal that the answer is.
+pub data Prints {A : Type 0} (answers : List ℕ → Result A Refusal → Type 0) (text_of : A → List ℕ) (bytes : List ℕ) : Result (List ℕ) Refusal → Type 0 where
+  printed : (answer : A) → answers bytes (Ok answer) → Prints answers text_of bytes (Ok (text_of answer))
+  not_printed : (refusal : Refusal) → answers bytes (Err refusal) → Prints answers text_of bytes (Err refusal)
+
+-- the text of tokens, of the tree in a document or below a fragment's root, and of parse errors
+abbrev pub tokens_text : List Tok × List ParseError → List ℕ
+tokens_text answer = token_lines answer.0
+
+abbrev pub nodes_text : Subject → Parse → List ℕ
+nodes_text subject parse = tree_text (children_of (root_of subject) parse.trees)
+
+abbrev pub errors_text : Parse → List ℕ
+errors_text parse = error_lines parse.errors
+
+-- what stands in the root as HTML (13.3); the root's own name says how its texts are written
+abbrev pub written_text : Escaping → Subject → Parse → List ℕ
+written_text escaping subject parse = written escaping (name_of (root_of subject) parse.trees) (children_of (root_of subject) parse.trees)
+
+-- whether the nodes of a fragment are plain in its context; those of a document are not
+abbrev pub is_plain_in : Subject → Forest (List ℕ) → Bool
+is_plain_in document f = false
+is_plain_in (fragment context) f = is_plain context f
+
+abbrev pub plain_line : Bool → List ℕ
+plain_line true = codes "plain\n"
+plain_line false = codes "not plain\n"
+
+abbrev pub plain_text : Subject → Parse → List ℕ
+plain_text subject parse = plain_line (is_plain_in subject (children_of (root_of subject) parse.trees))
+
+-- what a task prints of an input that stands in this element, or is a document, where HTML is escaped so; tokens are those of a document
+abbrev pub prints_of : Escaping → Task → Option (List ℕ) → Told → List ℕ → Result (List ℕ) Refusal → Type 0
+prints_of escaping task.Tokens context told = Prints (Answers told.table (policy told document)) tokens_text
+prints_of escaping task.Tree context told = Prints (Parses told (subject_in context)) (nodes_text (subject_in context))
+prints_of escaping task.Errors context told = Prints (Parses told (subject_in context)) errors_text
+prints_of escaping task.Write context told = Prints (Parses told (subject_in context)) (written_text escaping (subject_in context))
+prints_of escaping task.Plain context told = Prints (Parses told (subject_in context)) (plain_text (subject_in context))
+
+-- nothing of the bytes is refused, whatever follows them
+abbrev pub unrefused_of : Task → Option (List ℕ) → Told → List ℕ → Type 0
+unrefused_of task.Tokens context told = IsUnrefusedText (manner told document)
+unrefused_of other context told = IsUnrefused told (subject_in context)
+
+-- the element in which a task's input stands
+abbrev pub context_of : Task → Option (List ℕ) → Option (List ℕ)
+context_of task.Tokens context = None
+context_of _ context = context

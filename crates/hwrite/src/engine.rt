@@ -1,0 +1,238 @@
+//! An input from a reader, and what is made of it to a writer.
+
+ghost use Rattle.std.specs.Prelude.{◌≡◌, ◌<◌, ◌≤◌, []};
+ghost use Rattle.names.specs.Names.{AreNames, text_of};
+ghost use Rattle.hnodes.specs.Forest.{children_of};
+ghost use Rattle.hnodes.specs.Named.{AreOf};
+ghost use Rattle.hnodes.specs.Spelled.{spelled};
+ghost use Rattle.hparse.specs.Answer.{Answers, of_document};
+ghost use Rattle.hparse.specs.Parse.{Parses};
+ghost use Rattle.hparse.specs.Parsing.{told_by, AnswersParse, IsUnrefused};
+ghost use Rattle.hparse.specs.Fed.{IsUnrefusedText};
+ghost use Rattle.hparse.specs.Into.{as_document};
+ghost use Rattle.hparse.specs.Reader.{ReadsInput};
+ghost use Rattle.hwrite.specs.Command.{name_of};
+ghost use Rattle.hwrite.specs.Context.{subject_in};
+ghost use Rattle.hwrite.specs.Prints.{errors_text, is_plain_in, nodes_text, plain_line, plain_text, tokens_text, written_text, Prints};
+ghost use Rattle.hwrite.specs.Draft.{AnswersDraft};
+ghost use Rattle.hwrite.specs.Running.{BeginsIn, ReadsIn, Runs, RunsIn, RunsTask};
+ghost use Rattle.hserialize.specs.Output.{WritesText};
+
+use crate::command::{Command, Task};
+use crate::draft::Draft;
+use crate::filling::print_draft;
+use hparse::{Options, Parsed, Parser, Source, parse_reader, read_into};
+use hserialize::{Target, serialize, write_all};
+use hplain::is_plain;
+use hprint::{print_errors, print_tree};
+use names::{Names, Refusal};
+use std::alloc::Global;
+
+/// Reads an input, and writes what the command makes of it. A context that is not allowed is refused before anything is read.
+/// Reading stops after the piece that brings a refusal, and goes on to the end otherwise; nothing is written before. The size of
+/// a piece has no influence on what is written.
+pub fn run<S: Source, W: Target>(
+    alloc: Global,
+    command: Command,
+    options: &Options,
+    source: &mut S,
+    target: &mut W,
+) -> Result<(), Refusal>
+    requires piece { 0 < command.piece }
+    ensures { RunsTask S.left S.failed W.written W.failed command.entry.escaping command.entry.task (name_of command.entry.context)
+        (told_by options.now) command.entry.piece
+        source.old source.new target.old target.new result }
+{
+    match command.task {
+        Task::Tokens => run_tokens(alloc, command.piece, options, source, target),
+        Task::Tree => run_tree(alloc, command, options, source, target),
+        Task::Errors => run_errors(alloc, command, options, source, target),
+        Task::Write => run_write(alloc, command, options, source, target),
+        Task::Plain => run_plain(alloc, command, options, source, target),
+    }
+}
+
+// The tokens of a document.
+fn run_tokens<S: Source, W: Target>(
+    alloc: Global,
+    piece: usize,
+    options: &Options,
+    source: &mut S,
+    target: &mut W,
+) -> Result<(), Refusal>
+    requires piece { 0 < piece }
+    ensures { Runs S.left S.failed W.written W.failed
+        (Prints (Answers options.now.table.now (of_document options.now.bad_bytes options.now.limits.input)) tokens_text)
+        (IsUnrefusedText (as_document options.now.table.now options.now.bad_bytes options.now.limits.input)) piece
+        source.old source.new target.old target.new result }
+{
+    let (names, draft) = read_draft(alloc, piece, options, source)?;
+    let answer = print_draft(alloc, &draft, &names, target);
+    drop(names);
+    drop(draft);
+    answer
+}
+
+// The lines of the tokens of a document, and the names that they leave out.
+fn read_draft<S: Source>(
+    alloc: Global,
+    piece: usize,
+    options: &Options,
+    source: &mut S,
+) -> Result<(Names, Draft), Refusal>
+    requires piece { 0 < piece }
+    ensures { ReadsInput S.left S.failed (AnswersDraft options.now.table.now (of_document options.now.bad_bytes options.now.limits.input))
+        (IsUnrefusedText (as_document options.now.table.now options.now.bad_bytes options.now.limits.input)) piece [] source.old source.new result }
+{
+    read_into(alloc, piece, options, Draft::new(alloc), source)
+}
+
+// The tree of a document or a fragment.
+fn run_tree<S: Source, W: Target>(
+    alloc: Global,
+    command: Command,
+    options: &Options,
+    source: &mut S,
+    target: &mut W,
+) -> Result<(), Refusal>
+    requires piece { 0 < command.piece }
+    ensures { RunsIn S.left S.failed W.written W.failed (name_of command.entry.context)
+        (Prints (Parses (told_by options.now) (subject_in (name_of command.entry.context))) (nodes_text (subject_in (name_of command.entry.context))))
+        (IsUnrefused (told_by options.now) (subject_in (name_of command.entry.context)))
+        command.entry.piece source.old source.new target.old target.new result }
+{
+    let parsed = parse(alloc, command, options, source)?;
+    let answer = print_tree(alloc, &parsed.tree, &parsed.names, parsed.root, target);
+    drop(parsed);
+    answer
+}
+
+// The parse errors of a document or a fragment.
+fn run_errors<S: Source, W: Target>(
+    alloc: Global,
+    command: Command,
+    options: &Options,
+    source: &mut S,
+    target: &mut W,
+) -> Result<(), Refusal>
+    requires piece { 0 < command.piece }
+    ensures { RunsIn S.left S.failed W.written W.failed (name_of command.entry.context)
+        (Prints (Parses (told_by options.now) (subject_in (name_of command.entry.context))) errors_text)
+        (IsUnrefused (told_by options.now) (subject_in (name_of command.entry.context)))
+        command.entry.piece source.old source.new target.old target.new result }
+{
+    let parsed = parse(alloc, command, options, source)?;
+    let answer = print_errors(alloc, &parsed.errors, target);
+    drop(parsed);
+    answer
+}
+
+// The tree of a document or a fragment as HTML.
+fn run_write<S: Source, W: Target>(
+    alloc: Global,
+    command: Command,
+    options: &Options,
+    source: &mut S,
+    target: &mut W,
+) -> Result<(), Refusal>
+    requires piece { 0 < command.piece }
+    ensures { RunsIn S.left S.failed W.written W.failed (name_of command.entry.context)
+        (Prints (Parses (told_by options.now) (subject_in (name_of command.entry.context)))
+        (written_text command.entry.escaping (subject_in (name_of command.entry.context))))
+        (IsUnrefused (told_by options.now) (subject_in (name_of command.entry.context)))
+        command.entry.piece source.old source.new target.old target.new result }
+{
+    let parsed = parse(alloc, command, options, source)?;
+    let answer = serialize(
+        alloc,
+        &parsed.tree,
+        &parsed.names,
+        parsed.root,
+        command.escaping,
+        target,
+    );
+    drop(parsed);
+    answer
+}
+
+// Whether a fragment is plain in its context.
+fn run_plain<S: Source, W: Target>(
+    alloc: Global,
+    command: Command,
+    options: &Options,
+    source: &mut S,
+    target: &mut W,
+) -> Result<(), Refusal>
+    requires piece { 0 < command.piece }
+    ensures { RunsIn S.left S.failed W.written W.failed (name_of command.entry.context)
+        (Prints (Parses (told_by options.now) (subject_in (name_of command.entry.context))) (plain_text (subject_in (name_of command.entry.context))))
+        (IsUnrefused (told_by options.now) (subject_in (name_of command.entry.context)))
+        command.entry.piece source.old source.new target.old target.new result }
+{
+    let parsed = parse(alloc, command, options, source)?;
+    let is_plain = is_plain_in(command.context, &parsed);
+    drop(parsed);
+    write_text(target, plain_line(is_plain))
+}
+
+// What is printed of a fragment that is plain, or is not.
+fn plain_line(is_plain: bool) -> &'static [u8]
+    ensures { result.now ≡ plain_line is_plain }
+{
+    if is_plain { b"plain\n" } else { b"not plain\n" }
+}
+
+// Whether what was parsed in an element of this name is plain there. No document is.
+fn is_plain_in(context: Option<&str>, parsed: &Parsed) -> bool
+    requires made { parsed.now.root < parsed.now.tree.made }
+    requires table { AreNames parsed.now.names }
+    requires names { AreOf parsed.now.names (children_of parsed.now.root parsed.now.tree.trees) }
+    ensures { result ≡ is_plain_in (subject_in (name_of context.entry))
+        (spelled (text_of parsed.now.names) (children_of parsed.now.root parsed.now.tree.trees)) }
+{
+    match context {
+        Some(name) => is_plain(&parsed.tree, &parsed.names, parsed.root, name),
+        None => false,
+    }
+}
+
+// Parses a document or a fragment from a reader.
+fn parse<S: Source>(
+    alloc: Global,
+    command: Command,
+    options: &Options,
+    source: &mut S,
+) -> Result<Parsed, Refusal>
+    requires piece { 0 < command.piece }
+    ensures { ReadsIn S.left S.failed (name_of command.entry.context) (AnswersParse (told_by options.now) (subject_in (name_of command.entry.context)))
+        (IsUnrefused (told_by options.now) (subject_in (name_of command.entry.context))) command.entry.piece source.old source.new result }
+{
+    let parser = parser(alloc, command.context, options)?;
+    parse_reader(alloc, parser, command.piece, source)
+}
+
+/// The parser of a document, or of a fragment in an element of this name.
+pub fn parser<'t>(
+    alloc: Global,
+    context: Option<&str>,
+    options: &Options<'t>,
+) -> Result<Parser<'t>, Refusal>
+    ensures { BeginsIn (told_by options.now) (name_of context.entry) result }
+{
+    match context {
+        None => Parser::document(alloc, options),
+        Some(name) => Parser::fragment(alloc, name, options),
+    }
+}
+
+/// Writes a text, and flushes.
+pub fn write_text<W: Target>(target: &mut W, text: &[u8]) -> Result<(), Refusal>
+    ensures { WritesText W.written W.failed text.now target.old target.new result }
+{
+    write_all(target, text)?;
+    if target.flush() {
+        Ok(())
+    } else {
+        Err(Refusal::Write)
+    }
+}
