@@ -66,3 +66,12 @@ module _ (prints : List ℕ → Result (List ℕ) Refusal → Type 0) (context :
   -- with the answer of a call, and what its input is
   pub gives_none : (answer : Result (Unit {0}) Refusal) (input : List ℕ) (e : Refusal) → answer ≡ Err e → bytes ≡ input → Came prints context bytes text answer → ComesToNone prints context input (kept e)
   gives_none answer input e is same_bytes h = subst (λ bs. ComesToNone prints context bs (kept e)) same_bytes (none_came e (subst (Came prints context bytes text) is h))
+
+  text_came : Came prints context bytes text (Ok tt) → prints bytes (Ok text)
+  text_came (came_to_text is its) = its
+  text_came (came_to_none refusal is why) = absurd cc
+  text_came (came_too_long is) = absurd cc
+
+  -- and the text, where there is one
+  pub gives_text : (answer : Result (Unit {0}) Refusal) (input : List ℕ) → answer ≡ Ok tt → bytes ≡ input → Came prints context bytes text answer → prints input (Ok text)
+  gives_text answer input is same_bytes h = subst (λ bs. prints bs (Ok text)) same_bytes (text_came (subst (Came prints context bytes text) is h))

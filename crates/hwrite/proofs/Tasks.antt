@@ -1,35 +1,55 @@
 -- A run of each task.
-use Rattle.std.proofs.Common.{◌≡◌, ℕ, List, Option, Result, subst, sym}
+use Rattle.std.proofs.Common.{◌≡◌, ◌∙◌, ◌⊎◌, inl, inr, ℕ, List, Option, Result, Ok, ap, refl, subst, sym}
 use Rattle.names.specs.declared.refusal.Refusal.{Refusal}
 use Rattle.hparse.specs.Answer.{Answers}
 use Rattle.hparse.specs.Fed.{IsUnrefusedText}
-use Rattle.hparse.specs.Parsing.{IsUnrefused}
+use Rattle.hparse.specs.Parsing.{AnswersParse, IsUnrefused}
 use Rattle.hparse.specs.Parse.{Parses, Told, document, manner, policy}
+use Rattle.hparse.specs.declared.parsed.Parsed.{Parsed}
+use Rattle.hserialize.specs.Output.{WritesText}
+use Rattle.hserialize.specs.declared.escaping.Escaping.{Escaping}
 use Rattle.hwrite.specs.Context.{subject_in}
 use Rattle.hwrite.specs.declared.command.Task.{Task}
-use Rattle.hserialize.specs.declared.escaping.Escaping.{Escaping}
 use Rattle.hwrite.specs.declared.command.Task.TheVariants as task
-use Rattle.hwrite.specs.Prints.{Prints, errors_text, nodes_text, plain_text, tokens_text, written_text}
+use Rattle.hwrite.specs.Prints.{Prints, parse_text, parsed_text, tokens_text}
 use Rattle.hwrite.specs.Running.{Runs, RunsIn, RunsTask, ran}
+use Rattle.hwrite.proofs.Printed.{errors_printed, html_printed, plain_printed, tree_printed}
 
 module _ {S W : Type 0} (left : S → Option (List ℕ)) (reads : S → ℕ) (written : W → Option (List ℕ)) (writes : W → ℕ) (context : Option (List ℕ)) (s : Told) (piece : ℕ)
-    (source source' : S) (target target' : W) (answer : Result (Unit {0}) Refusal) (how : Escaping) (t : Task) where
-  pub as_tokens : t ≡ task.Tokens → Runs left reads written writes (Prints (Answers s.table (policy s document)) tokens_text) (IsUnrefusedText (manner s document)) piece source source' target target' answer
+    (source source' : S) (target target' : W) (answer : Result (Unit {0}) Refusal) (how : Escaping) where
+  pub as_tokens : (t : Task) → t ≡ task.Tokens → Runs left reads written writes (Prints (Answers s.table (policy s document)) tokens_text) (IsUnrefusedText (manner s document)) piece source source' target target' answer
       → RunsTask left reads written writes how t context s piece source source' target target' answer
-  as_tokens is h = subst (λ (x : Task). RunsTask left reads written writes how x context s piece source source' target target' answer) (sym is) (ran tt h)
+  as_tokens t is h = subst (λ (x : Task). RunsTask left reads written writes how x context s piece source source' target target' answer) (sym is) (ran tt h)
 
-  pub as_tree : t ≡ task.Tree → RunsIn left reads written writes context (Prints (Parses s (subject_in context)) (nodes_text (subject_in context))) (IsUnrefused s (subject_in context)) piece source source' target target' answer
-      → RunsTask left reads written writes how t context s piece source source' target target' answer
-  as_tree is h = subst (λ (x : Task). RunsTask left reads written writes how x context s piece source source' target target' answer) (sym is) h
+  -- what a run does that prints of a parse
+  abbrev OfParse : Task → Type 0
+  OfParse t = RunsIn left reads written writes context (Prints (Parses s (subject_in context)) (parse_text how t (subject_in context))) (IsUnrefused s (subject_in context)) piece source source' target target' answer
 
-  pub as_errors : t ≡ task.Errors → RunsIn left reads written writes context (Prints (Parses s (subject_in context)) errors_text) (IsUnrefused s (subject_in context)) piece source source' target target' answer
-      → RunsTask left reads written writes how t context s piece source source' target target' answer
-  as_errors is h = subst (λ (x : Task). RunsTask left reads written writes how x context s piece source source' target target' answer) (sym is) h
+  of_parse : (t u : Task) → t ≡ u → (OfParse u → RunsTask left reads written writes how u context s piece source source' target target' answer)
+      → OfParse t → RunsTask left reads written writes how t context s piece source source' target target' answer
+  of_parse t u is same h =
+      subst (λ (x : Task). RunsTask left reads written writes how x context s piece source source' target target' answer) (sym is)
+      (same (subst (λ (x : Task). OfParse x) is h))
 
-  pub as_html : t ≡ task.Write → RunsIn left reads written writes context (Prints (Parses s (subject_in context)) (written_text how (subject_in context))) (IsUnrefused s (subject_in context)) piece source source' target target' answer
+  pub as_parsed : (t : Task) → (t ≡ task.Tree) ⊎ ((t ≡ task.Errors) ⊎ ((t ≡ task.Write) ⊎ (t ≡ task.Plain))) → OfParse t
       → RunsTask left reads written writes how t context s piece source source' target target' answer
-  as_html is h = subst (λ (x : Task). RunsTask left reads written writes how x context s piece source source' target target' answer) (sym is) h
+  as_parsed t (inl is) = of_parse t task.Tree is (λ h. h)
+  as_parsed t (inr (inl is)) = of_parse t task.Errors is (λ h. h)
+  as_parsed t (inr (inr (inl is))) = of_parse t task.Write is (λ h. h)
+  as_parsed t (inr (inr (inr is))) = of_parse t task.Plain is (λ h. h)
 
-  pub as_plain : t ≡ task.Plain → RunsIn left reads written writes context (Prints (Parses s (subject_in context)) (plain_text (subject_in context))) (IsUnrefused s (subject_in context)) piece source source' target target' answer
-      → RunsTask left reads written writes how t context s piece source source' target target' answer
-  as_plain is h = subst (λ (x : Task). RunsTask left reads written writes how x context s piece source source' target target' answer) (sym is) h
+-- what a task prints of what was parsed is what it prints of the parse
+pub parsed_printed : (how : Escaping) (t : Task) (told : Told) (context : Option (List ℕ)) (bytes : List ℕ) (parsed : Parsed) → AnswersParse told (subject_in context) bytes (Ok parsed)
+    → Prints (Parses told (subject_in context)) (parse_text how t (subject_in context)) bytes (Ok (parsed_text how t context parsed))
+parsed_printed how task.Tokens told context bytes parsed its = tree_printed told (subject_in context) bytes parsed _ its refl
+parsed_printed how task.Tree told context bytes parsed its = tree_printed told (subject_in context) bytes parsed _ its refl
+parsed_printed how task.Errors told context bytes parsed its = errors_printed told (subject_in context) bytes parsed _ its refl
+parsed_printed how task.Write told context bytes parsed its = html_printed how told (subject_in context) bytes parsed _ its refl
+parsed_printed how task.Plain told context bytes parsed its = plain_printed told (subject_in context) bytes parsed _ _ its refl refl
+
+-- a text that was written is what the task prints
+pub shown : {W : Type 0} (written : W → Option (List ℕ)) (failed : W → ℕ) (how : Escaping) (t u : Task) (context : Option (List ℕ)) (parsed : Parsed) (text : List ℕ) (target target' : W) (answer : Result (Unit {0}) Refusal)
+    → t ≡ u → text ≡ parsed_text how u context parsed → WritesText written failed text target target' answer
+    → WritesText written failed (parsed_text how t context parsed) target target' answer
+shown written failed how t u context parsed text target target' answer is same h =
+    subst (λ (x : List ℕ). WritesText written failed x target target' answer) (same ∙ ap (λ (x : Task). parsed_text how x context parsed) (sym is)) h

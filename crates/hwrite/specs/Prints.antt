@@ -1,9 +1,11 @@
 -- What is printed of an input: the text of its answer.
-use Rattle.std.specs.Prelude.{ℕ, Bool, true, false, List, Option, None, Result, Ok, Err, codes}
+use Rattle.std.specs.Prelude.{ℕ, Bool, true, false, List, Option, None, Result, Ok, Err, codes, option_map}
 use Rattle.names.specs.declared.error.ParseError.{ParseError}
+use Rattle.names.specs.Names.{text_of}
 use Rattle.names.specs.declared.refusal.Refusal.{Refusal}
 use Rattle.htoken.specs.Token.{Tok}
 use Rattle.hnodes.specs.Forest.{Forest, children_of}
+use Rattle.hnodes.specs.Spelled.{spelled}
 use Rattle.hnodes.specs.Spots.{name_of}
 use Rattle.hprint.specs.Lines.{tree_text, error_lines}
 use Rattle.hplain.specs.Plain.{is_plain}
@@ -12,6 +14,7 @@ use Rattle.hserialize.specs.declared.escaping.Escaping.{Escaping}
 use Rattle.hparse.specs.Answer.{Answers}
 use Rattle.hparse.specs.Fed.{IsUnrefusedText}
 use Rattle.hparse.specs.Parsing.{IsUnrefused}
+use Rattle.hparse.specs.declared.parsed.Parsed.{Parsed}
 use Rattle.hparse.specs.Parse.{Parse, Parses, Subject, document, fragment, Told, manner, policy, root_of}
 use Rattle.hwrite.specs.declared.command.Task.{Task}
 use Rattle.hwrite.specs.declared.command.Task.TheVariants as task
@@ -49,13 +52,17 @@ plain_line false = codes "not plain\n"
 abbrev pub plain_text : Subject → Parse → List ℕ
 plain_text subject parse = plain_line (is_plain_in subject (children_of (root_of subject) parse.trees))
 
+-- what a task prints of a parse; tokens are printed of none
+abbrev pub parse_text : Escaping → Task → Subject → Parse → List ℕ
+parse_text escaping task.Errors subject = errors_text
+parse_text escaping task.Write subject = written_text escaping subject
+parse_text escaping task.Plain subject = plain_text subject
+parse_text escaping _ subject = nodes_text subject
+
 -- what a task prints of an input that stands in this element, or is a document, where HTML is escaped so; tokens are those of a document
 abbrev pub prints_of : Escaping → Task → Option (List ℕ) → Told → List ℕ → Result (List ℕ) Refusal → Type 0
 prints_of escaping task.Tokens context told = Prints (Answers told.table (policy told document)) tokens_text
-prints_of escaping task.Tree context told = Prints (Parses told (subject_in context)) (nodes_text (subject_in context))
-prints_of escaping task.Errors context told = Prints (Parses told (subject_in context)) errors_text
-prints_of escaping task.Write context told = Prints (Parses told (subject_in context)) (written_text escaping (subject_in context))
-prints_of escaping task.Plain context told = Prints (Parses told (subject_in context)) (plain_text (subject_in context))
+prints_of escaping other context told = Prints (Parses told (subject_in context)) (parse_text escaping other (subject_in context))
 
 -- nothing of the bytes is refused, whatever follows them
 abbrev pub unrefused_of : Task → Option (List ℕ) → Told → List ℕ → Type 0
@@ -66,3 +73,13 @@ unrefused_of other context told = IsUnrefused told (subject_in context)
 abbrev pub context_of : Task → Option (List ℕ) → Option (List ℕ)
 context_of task.Tokens context = None
 context_of _ context = context
+
+-- the same text by the numbers of names: that of what was parsed, in this element or as a document
+abbrev pub nodes_of : Parsed → Forest (List ℕ)
+nodes_of parsed = spelled (text_of parsed.names) (children_of parsed.root parsed.tree.trees)
+
+abbrev pub parsed_text : Escaping → Task → Option (List ℕ) → Parsed → List ℕ
+parsed_text escaping task.Errors context parsed = error_lines parsed.errors.items
+parsed_text escaping task.Write context parsed = written escaping (option_map (text_of parsed.names) (name_of parsed.root parsed.tree.trees)) (nodes_of parsed)
+parsed_text escaping task.Plain context parsed = plain_line (is_plain_in (subject_in context) (nodes_of parsed))
+parsed_text escaping _ context parsed = tree_text (nodes_of parsed)

@@ -13,7 +13,7 @@ ghost use Rattle.hparse.specs.Into.{as_document};
 ghost use Rattle.hparse.specs.Reader.{ReadsInput};
 ghost use Rattle.hwrite.specs.Command.{name_of};
 ghost use Rattle.hwrite.specs.Context.{subject_in};
-ghost use Rattle.hwrite.specs.Prints.{errors_text, is_plain_in, nodes_text, plain_line, plain_text, tokens_text, written_text, Prints};
+ghost use Rattle.hwrite.specs.Prints.{is_plain_in, parse_text, parsed_text, plain_line, tokens_text, Prints};
 ghost use Rattle.hwrite.specs.Draft.{AnswersDraft};
 ghost use Rattle.hwrite.specs.Running.{BeginsIn, ReadsIn, Runs, RunsIn, RunsTask};
 ghost use Rattle.hserialize.specs.Output.{WritesText};
@@ -22,9 +22,9 @@ use crate::command::{Command, Task};
 use crate::draft::Draft;
 use crate::filling::print_draft;
 use hparse::{Options, Parsed, Parser, Source, parse_reader, read_into};
-use hserialize::{Target, serialize, write_all};
 use hplain::is_plain;
 use hprint::{print_errors, print_tree};
+use hserialize::{Target, serialize, write_all};
 use names::{Names, Refusal};
 use std::alloc::Global;
 
@@ -45,10 +45,9 @@ pub fn run<S: Source, W: Target>(
 {
     match command.task {
         Task::Tokens => run_tokens(alloc, command.piece, options, source, target),
-        Task::Tree => run_tree(alloc, command, options, source, target),
-        Task::Errors => run_errors(alloc, command, options, source, target),
-        Task::Write => run_write(alloc, command, options, source, target),
-        Task::Plain => run_plain(alloc, command, options, source, target),
+        Task::Tree | Task::Errors | Task::Write | Task::Plain => {
+            run_parsed(alloc, command, options, source, target)
+        }
     }
 }
 
@@ -87,48 +86,8 @@ fn read_draft<S: Source>(
     read_into(alloc, piece, options, Draft::new(alloc), source)
 }
 
-// The tree of a document or a fragment.
-fn run_tree<S: Source, W: Target>(
-    alloc: Global,
-    command: Command,
-    options: &Options,
-    source: &mut S,
-    target: &mut W,
-) -> Result<(), Refusal>
-    requires piece { 0 < command.piece }
-    ensures { RunsIn S.left S.failed W.written W.failed (name_of command.entry.context)
-        (Prints (Parses (told_by options.now) (subject_in (name_of command.entry.context))) (nodes_text (subject_in (name_of command.entry.context))))
-        (IsUnrefused (told_by options.now) (subject_in (name_of command.entry.context)))
-        command.entry.piece source.old source.new target.old target.new result }
-{
-    let parsed = parse(alloc, command, options, source)?;
-    let answer = print_tree(alloc, &parsed.tree, &parsed.names, parsed.root, target);
-    drop(parsed);
-    answer
-}
-
-// The parse errors of a document or a fragment.
-fn run_errors<S: Source, W: Target>(
-    alloc: Global,
-    command: Command,
-    options: &Options,
-    source: &mut S,
-    target: &mut W,
-) -> Result<(), Refusal>
-    requires piece { 0 < command.piece }
-    ensures { RunsIn S.left S.failed W.written W.failed (name_of command.entry.context)
-        (Prints (Parses (told_by options.now) (subject_in (name_of command.entry.context))) errors_text)
-        (IsUnrefused (told_by options.now) (subject_in (name_of command.entry.context)))
-        command.entry.piece source.old source.new target.old target.new result }
-{
-    let parsed = parse(alloc, command, options, source)?;
-    let answer = print_errors(alloc, &parsed.errors, target);
-    drop(parsed);
-    answer
-}
-
-// The tree of a document or a fragment as HTML.
-fn run_write<S: Source, W: Target>(
+// What the task prints of the tree of a document or a fragment.
+fn run_parsed<S: Source, W: Target>(
     alloc: Global,
     command: Command,
     options: &Options,
@@ -138,41 +97,41 @@ fn run_write<S: Source, W: Target>(
     requires piece { 0 < command.piece }
     ensures { RunsIn S.left S.failed W.written W.failed (name_of command.entry.context)
         (Prints (Parses (told_by options.now) (subject_in (name_of command.entry.context)))
-        (written_text command.entry.escaping (subject_in (name_of command.entry.context))))
+        (parse_text command.entry.escaping command.entry.task (subject_in (name_of command.entry.context))))
         (IsUnrefused (told_by options.now) (subject_in (name_of command.entry.context)))
         command.entry.piece source.old source.new target.old target.new result }
 {
     let parsed = parse(alloc, command, options, source)?;
-    let answer = serialize(
-        alloc,
-        &parsed.tree,
-        &parsed.names,
-        parsed.root,
-        command.escaping,
-        target,
-    );
+    let answer = print_parsed(alloc, command, &parsed, target);
     drop(parsed);
     answer
 }
 
-// Whether a fragment is plain in its context.
-fn run_plain<S: Source, W: Target>(
+// The same of what was parsed.
+fn print_parsed<W: Target>(
     alloc: Global,
     command: Command,
-    options: &Options,
-    source: &mut S,
+    parsed: &Parsed,
     target: &mut W,
 ) -> Result<(), Refusal>
-    requires piece { 0 < command.piece }
-    ensures { RunsIn S.left S.failed W.written W.failed (name_of command.entry.context)
-        (Prints (Parses (told_by options.now) (subject_in (name_of command.entry.context))) (plain_text (subject_in (name_of command.entry.context))))
-        (IsUnrefused (told_by options.now) (subject_in (name_of command.entry.context)))
-        command.entry.piece source.old source.new target.old target.new result }
+    requires made { parsed.now.root < parsed.now.tree.made }
+    requires table { AreNames parsed.now.names }
+    requires names { AreOf parsed.now.names (children_of parsed.now.root parsed.now.tree.trees) }
+    ensures { WritesText W.written W.failed (parsed_text command.entry.escaping command.entry.task (name_of command.entry.context) parsed.now)
+        target.old target.new result }
 {
-    let parsed = parse(alloc, command, options, source)?;
-    let is_plain = is_plain_in(command.context, &parsed);
-    drop(parsed);
-    write_text(target, plain_line(is_plain))
+    let Parsed {
+        tree,
+        names,
+        root,
+        ..
+    } = parsed;
+    match command.task {
+        Task::Errors => print_errors(alloc, &parsed.errors, target),
+        Task::Write => serialize(alloc, tree, names, *root, command.escaping, target),
+        Task::Plain => write_text(target, plain_line(is_plain_in(command.context, parsed))),
+        Task::Tree | Task::Tokens => print_tree(alloc, tree, names, *root, target),
+    }
 }
 
 // What is printed of a fragment that is plain, or is not.

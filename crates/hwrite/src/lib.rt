@@ -26,10 +26,10 @@ pub use hparse::{
     Options, Parsed, Parser, Source, TokenRun, is_context, parse_reader, read_into, read_tokens,
     tokens,
 };
-pub use htext::BadBytes;
-pub use htoken::Token;
-pub use hserialize::{Escaping, Target, serialize, serialize_to_vec, write_all};
 pub use hplain::is_plain;
 pub use hprint::{error_lines, print_errors, print_tree, tree_text};
+pub use hserialize::{Escaping, Target, serialize, serialize_to_vec, write_all};
+pub use htext::BadBytes;
+pub use htoken::Token;
 pub use lines::token_lines;
 pub use names::{Attr, ErrorCode, Keys, NameId, Names, ParseError, Refusal, RefusedName, Tag};

@@ -1,15 +1,17 @@
 //! The edits of a site.
 
-ghost use Rattle.std.specs.Prelude.{◌≡◌, ◌<◌, IfOk, IfSome, IsTrue};
+ghost use Rattle.std.specs.Prelude.{◌≡◌, ◌<◌, IfOk, IfSome, IsTrue, false, nat_eq};
 ghost use Rattle.hadopt.specs.Kept.{Kept};
 ghost use Rattle.hadopt.specs.Naming.{numbers};
+ghost use Rattle.names.specs.Tags.{number_of};
+ghost use Rattle.names.specs.declared.tag.Tag.TheVariants as Tag;
 
 use crate::hand::Hand;
 use crate::kit::Answer;
 use crate::words::{after, group, number, word};
 use hadopt::{Passing, Site};
 use hnodes::NodeId;
-use names::{ErrorCode, NameId, Refusal, Tag};
+use names::{Attr, ErrorCode, NameId, Refusal, Tag};
 
 /// Makes an edit. The adoption agency wants a sound site.
 pub fn change(
@@ -69,9 +71,16 @@ fn insert_element(site: &mut Site, hand: &mut Hand, line: &str, at: u64) -> Resu
 {
     let name = hand.name(line, 2)?;
     let attrs = hand.attrs(after(line, 3))?;
+    add_element(site, name, attrs, at)?;
+    Ok(Answer::Done)
+}
+
+fn add_element(site: &mut Site, name: NameId, attrs: Vec<Attr>, at: u64) -> Result<(), Refusal>
+    ensures { Kept numbers site.old → IfOk result (λ _. Kept numbers site.new) }
+{
     let place = site.place();
     site.insert_element(name, attrs, place, at)?;
-    Ok(Answer::Done)
+    Ok(())
 }
 
 fn insert_formatting(
@@ -87,9 +96,16 @@ fn insert_formatting(
         return Ok(Answer::NotMade);
     }
     let attrs = hand.attrs(after(line, 3))?;
+    add_formatting(site, name, attrs, at)?;
+    Ok(Answer::Done)
+}
+
+fn add_formatting(site: &mut Site, name: NameId, attrs: Vec<Attr>, at: u64) -> Result<(), Refusal>
+    ensures { Kept numbers site.old → nat_eq name (number_of Tag.Table) ≡ false → IfOk result (λ _. Kept numbers site.new) }
+{
     let place = site.place();
     site.insert_formatting(name, attrs, place, at)?;
-    Ok(Answer::Done)
+    Ok(())
 }
 
 /// The open node with so many above it as the line says.
