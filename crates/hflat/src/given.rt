@@ -13,8 +13,8 @@ use charref::Table;
 use hbuild::Limits;
 use hmarkup::Quirks;
 use hparse::Options;
-use hwrite::{Command, Escaping, Task};
 use htext::{BadBytes, MAX_INPUT};
+use hwrite::{Command, Escaping, Task};
 use names::Keys;
 use std::alloc::Global;
 

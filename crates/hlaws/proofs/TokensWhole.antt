@@ -14,7 +14,6 @@ use Rattle.names.specs.Tags.{tag_named}
 use Rattle.charref.specs.Reference.{Entities, IsTable, HasCore}
 use Rattle.hnodes.specs.Forest as forest
 use Rattle.hnodes.specs.Forest.{Attribute, What, Forest, none, tree}
-use Rattle.htext.specs.declared.Bom.TheVariants.{Keep}
 use Rattle.htoken.specs.Token.{Eof}
 use Rattle.htoken.specs.Standing.{Standing, at_start, standing_after}
 use Rattle.htoken.specs.Spans.{has_references}

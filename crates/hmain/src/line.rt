@@ -12,8 +12,8 @@ use crate::fault::Fault;
 use crate::said::Line;
 use clap::ArgMatches;
 use hbuild::{MAX_DEPTH, MAX_NODES};
-use hwrite::{Command, Escaping, Task};
 use htext::BadBytes;
+use hwrite::{Command, Escaping, Task};
 use std::alloc::Global;
 
 /// The most bytes that are fed at a time, and the number where no option gives one.

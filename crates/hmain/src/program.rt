@@ -16,8 +16,8 @@ use charref::Table;
 use hbuild::Limits;
 use hmarkup::Quirks;
 use hparse::{Options, Source};
-use hwrite::{Command, Target, check_context, run};
 use htext::MAX_INPUT;
+use hwrite::{Command, Target, check_context, run};
 use names::Keys;
 use std::alloc::{AllocError, Global};
 

@@ -1,7 +1,7 @@
 //! What a command line says.
 
-use hwrite::Command;
 use htext::BadBytes;
+use hwrite::Command;
 
 /// What the words of a command line say.
 #[derive(Clone, Copy)]
