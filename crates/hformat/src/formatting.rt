@@ -27,6 +27,8 @@ use std::marker::Model;
 #[derive(Drop)]
 pub struct Formatting {
     slots: Slots,
+    /// The keys of the hashes.
+    keys: Keys,
     alloc: Global,
 }
 
@@ -113,7 +115,8 @@ impl Formatting {
         ensures { result ≡ [] }
     {
         Formatting {
-            slots: Slots::new(alloc, keys),
+            slots: Slots::new(alloc),
+            keys,
             alloc,
         }
     }
@@ -126,6 +129,7 @@ impl Formatting {
     {
         let attrs = copy_attrs(self.alloc, attrs)?;
         make_room(&mut self.slots)?;
+        self.slots.hash_if_crowded(self.alloc, self.keys, name)?;
         let hash = find_hash(self.alloc, self.slots.keys, name, &attrs)?;
         let earliest = self.slots.giving_way(self.alloc, hash, name, &attrs)?;
         let numbers = Numbers {
