@@ -288,7 +288,11 @@ impl Formatting {
         if place == 0 {
             return false;
         }
-        self.slots.hide(place - 1);
+        if place < self.slots.items.len() {
+            self.slots.hide(place - 1);
+        } else {
+            self.slots.truncate(place - 1);
+        }
         trim(&mut self.slots);
         true
     }
