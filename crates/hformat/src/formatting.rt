@@ -91,7 +91,9 @@ fn trim(slots: &mut Slots)
     while len > 0 && slots.items[len - 1].is_hole() {
         len -= 1;
     }
-    slots.truncate(len);
+    if len < slots.items.len() {
+        slots.truncate(len);
+    }
 }
 
 /// Where the items have no room for one more, closes the holes and makes room for as many as there are.
