@@ -22,7 +22,7 @@ use std::alloc::{AllocError, Global};
 /// How many equal entries there may be after the last marker.
 const MOST_EQUAL: usize = 3;
 
-/// How many entries of a name are compared one by one with a new one.
+/// How many entries of a name are compared one by one with a new one, and how many attributes each of them may have.
 const FEW: usize = 8;
 
 /// The number of markers, in each list of numbers.
