@@ -1,5 +1,5 @@
 use Rattle.std.proofs.Common.{◌≡◌, ℕ, suc, ◌+◌, ◌<◌, ◌++◌, ◌∷◌, [], List, length, map, take, get_or, set, subst, refl, sym, ◌∙◌, ap, arith}
-use Rattle.std.proofs.lemmas.List.{get_or_read, length-append, length-map, length-take-le, map-append}
+use Rattle.std.proofs.lemmas.List.{length-append, length-map, length-take-le, map-append}
 use Rattle.std.proofs.Math.Seq.{set-append_seam}
 use Rattle.std.proofs.lemmas.Bool.{ne_eqb}
 use Rattle.std.proofs.lemmas.List.Elements.{All-get_or}
@@ -36,14 +36,16 @@ loop-index-preserved c =
     elim c.match-items-index.branch [
       | in-Entry+in_ok-find_hash-in-Entry+in_ok-push-in-Entry w ↦
           let e = w.in-Entry.entry in
-          let stored : IsStored x = subst IsStored (sym (get_or_read items i x c.loop-index-test.true c.index-items-index.is x)) (All-get_or IsStored items i x c.loop-index-test.true c.requires) in
+          let read : x ≡ get_or items i x = c.index-items-index.is in
+          let stored : IsStored x = subst IsStored (sym read) (All-get_or IsStored items i x c.loop-index-test.true c.requires) in
           let named : e.name < nowhere = (subst IsStored w.in-Entry.is stored).1 in
           let number : w.in_ok-find_hash-in-Entry.field-0 ≡ number_by (by_hash keys) (item_of x) =
           w.in_ok-find_hash-in-Entry.ensures ∙ ap (λ attrs. suc (suc (token_hash keys e.name (map attribute_of attrs)))) w.deref.ensures.value
           ∙ rw (ne_eqb e.name nowhere (omega (arith, named))) refl ∙ ap (λ y. number_by (by_hash keys) (item_of y)) (sym w.in-Entry.is)
           in
           w.hashes-is ∙ w.in_ok-push-in-Entry.ensures.ok ∙ pushed w.in_ok-find_hash-in-Entry.field-0 number
-      | in-Marker+in_ok-push-in-Marker w ↦ w.hashes-is ∙ w.in_ok-push-in-Marker.ensures.ok ∙ pushed 0 (ap (λ y. number_by (by_hash keys) (item_of y)) (sym w.in-Marker.is))
+      | in-Marker+in_ok-push-in-Marker w ↦
+          w.hashes-is ∙ w.in_ok-push-in-Marker.ensures.ok ∙ pushed 0 (ap (λ y. number_by (by_hash keys) (item_of y)) (sym w.in-Marker.is))
       | in-Hole+in_ok-push-in-Hole w ↦
           w.hashes-is ∙ w.clear.ensures ∙ ap (λ ns. set ns i none) w.in_ok-push-in-Hole.ensures.ok
           ∙ ap (λ k. set (c.loop-index.hashes ++ 0 ∷ []) k none) (sym (size (by_hash keys) items i c.loop-index.hashes c.loop-index-test.true before))
