@@ -1,6 +1,6 @@
 -- Exchanges of neighbours in a list and what a run of them comes to; an entry that becomes that of another node, and where an entry
 -- stands among the others.
-use Rattle.std.proofs.Common.{◌≡◌, ◌≢◌, ℕ, zero, suc, ◌+◌, ◌-◌, ◌<◌, ◌≤◌, ◌==◌, ◌⊎◌, inl, inr, Bool, true, false, IsTrue, cond, eqb, List, [], ◌∷◌, ◌++◌, Some, is_some, length, get_or, set, take, drop, map, reverse, refl, sym, ◌∙◌, ap, arith, subst}
+use Rattle.std.proofs.Common.{◌≡◌, ◌≢◌, ℕ, zero, suc, ◌+◌, ◌-◌, ◌<◌, ◌≤◌, ◌==◌, ◌⊎◌, inl, inr, Bool, true, false, IsTrue, cond, eqb, List, [], ◌∷◌, ◌++◌, Option, Some, is_some, length, get_or, set, take, drop, map, reverse, refl, sym, ◌∙◌, ap, arith, subst}
 use Rattle.std.specs.Prelude.{max}
 use Rattle.std.specs.List.{All, insert, list_any, position, remove}
 use Rattle.std.proofs.Math.Dec.{eqb-zero-suc}
@@ -96,7 +96,7 @@ module _ (node : ℕ) where
   renamed-name stored.Marker = refl
   renamed-name (stored.Entry e) = refl
 
-  renamed-hash : (keys : DefaultHasher) (x : Stored) → number_by (by_hash keys) (item_of (renamed node x)) ≡ number_by (by_hash keys) (item_of x)
+  renamed-hash : (keys : Option DefaultHasher) (x : Stored) → number_by (by_hash keys) (item_of (renamed node x)) ≡ number_by (by_hash keys) (item_of x)
   renamed-hash keys stored.Hole = refl
   renamed-hash keys stored.Marker = refl
   renamed-hash keys (stored.Entry e) = refl

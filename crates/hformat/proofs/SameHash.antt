@@ -1,5 +1,5 @@
 -- Equal entries have the same hash, and the same number by it.
-use Rattle.std.proofs.Common.{◌≡◌, ◌≢◌, ℕ, suc, ◌<◌, Bool, true, false, cond, ltb, eqb, nat_eq, nat_cmp, Less, IsSorted, IsPermutation, bytes_eq, ◌&&◌, ◌||◌, List, [], ◌∷◌, map, refl, sym, ◌∙◌, ap, arith}
+use Rattle.std.proofs.Common.{◌≡◌, ◌≢◌, ℕ, suc, ◌<◌, Bool, true, false, cond, ltb, eqb, nat_eq, nat_cmp, Less, IsSorted, IsPermutation, bytes_eq, ◌&&◌, ◌||◌, List, [], ◌∷◌, Option, None, Some, map, refl, sym, ◌∙◌, ap, arith}
 use Rattle.std.specs.List.{list_any, dedup, dedup_from, AllByRecursion}
 use Rattle.std.specs.List.Sorted.{IsStrictlySortedBy}
 use Rattle.std.specs.Cmp.{both_ways, nat_cmp_is, unsigned_ties}
@@ -143,25 +143,31 @@ module _ (keys : DefaultHasher) where
       (λ p. any-distinct p (map (hash_of keys) xs) ∙ both_ways (list_any p (map (hash_of keys) xs)) (list_any p (map (hash_of keys) ys)) (any-among p xs ys there) (any-among p ys xs back)
       ∙ sym (any-distinct p (map (hash_of keys) ys)))
 
-  pub same-entry_hash : (new e : EntryOf ℕ) → is_equal nat_eq new e ≡ true → entry_hash keys new ≡ entry_hash keys e
-  same-entry_hash new e equal = go (nat_eq new.name e.name) refl (are_among nat_eq new.attrs e.attrs) refl (are_among nat_eq e.attrs new.attrs) refl equal
+-- entries that are equal have the same name, and the same hash
+module _ (new e : EntryOf ℕ) (equal : is_equal nat_eq new e ≡ true) where
+  same-name : new.name ≡ e.name
+  same-name = go (nat_eq new.name e.name) refl equal
     where
-      go : (u : Bool) → nat_eq new.name e.name ≡ u → (v : Bool) → are_among nat_eq new.attrs e.attrs ≡ v → (w : Bool) → are_among nat_eq e.attrs new.attrs ≡ w → (u && (v && w)) ≡ true
-          → entry_hash keys new ≡ entry_hash keys e
-      go true name true there true back equal = λ i. total keys (eqb-true new.name e.name name i) (same-hashes new.attrs e.attrs there back i)
-      go true name true there false back equal = cc
-      go true name false there w back equal = cc
-      go false name v there w back equal = cc
+      go : (u : Bool) → nat_eq new.name e.name ≡ u → (u && same_attributes nat_eq new.attrs e.attrs) ≡ true → new.name ≡ e.name
+      go true name all = eqb-true new.name e.name name
+      go false name all = cc
+
+  pub same-entry_hash : (keys : Option DefaultHasher) → entry_hash keys new ≡ entry_hash keys e
+  same-entry_hash None = same-name
+  same-entry_hash (Some keys) = go (nat_eq new.name e.name) (are_among nat_eq new.attrs e.attrs) refl (are_among nat_eq e.attrs new.attrs) refl equal
+    where
+      go : (u : Bool) (v : Bool) → are_among nat_eq new.attrs e.attrs ≡ v → (w : Bool) → are_among nat_eq e.attrs new.attrs ≡ w → (u && (v && w)) ≡ true
+          → entry_hash (Some keys) new ≡ entry_hash (Some keys) e
+      go true true there true back all = λ i. total keys (same-name i) (same-hashes keys new.attrs e.attrs there back i)
+      go true true there false back all = cc
+      go true false there w back all = cc
+      go false v there w back all = cc
 
   -- An entry that is equal to one with a name is no hole, and has the number of the same hash.
-  pub same-number : (new e : EntryOf ℕ) → new.name < nowhere → is_equal nat_eq new e ≡ true → suc (by_hash keys e) ≡ suc (suc (entry_hash keys new))
-  same-number new e named equal = go (nat_eq new.name e.name) refl equal
-    where
-      go : (u : Bool) → nat_eq new.name e.name ≡ u → (u && same_attributes nat_eq new.attrs e.attrs) ≡ true → suc (by_hash keys e) ≡ suc (suc (entry_hash keys new))
-      go true name all =
-          let other : e.name ≢ nowhere = omega (arith, eqb-true new.name e.name name) in
-          rw (ne_eqb e.name nowhere other) (ap (λ n. suc (suc n)) (sym (same-entry_hash new e equal)))
-      go false name all = cc
+  pub same-number : (keys : Option DefaultHasher) → new.name < nowhere → suc (by_hash keys e) ≡ suc (suc (entry_hash keys new))
+  same-number keys named =
+      let other : e.name ≢ nowhere = omega (arith, same-name) in
+      rw (ne_eqb e.name nowhere other) (ap (λ n. suc (suc n)) (sym (same-entry_hash keys)))
 
 -- an item that is told to be equal is seen as such an entry
 pub told-equal : (new : EntryOf ℕ) → new.name < nowhere → (x : Stored) → option_map_or (is_equal nat_eq new) (told x) false ≡ option_map_or (is_equal nat_eq new) (as_entry (item_of x)) false

@@ -1,6 +1,6 @@
 -- Numbers by which equal entries find each other: the same at equal entries, in whatever order their attributes are, and rarely the
 -- same at others. `keys` is a hasher that was fed a secret.
-use Rattle.std.specs.Prelude.{ℕ, ◌%◌, ◌^◌, ◌==◌, nat_lt, if◌then◌else◌, List, [], ◌∷◌, map}
+use Rattle.std.specs.Prelude.{ℕ, ◌%◌, ◌^◌, ◌==◌, nat_lt, if◌then◌else◌, List, [], ◌∷◌, Option, Some, None, map}
 use Rattle.std.specs.List.{fold, flat_map}
 use Rattle.std.specs.Hash as fed
 use Rattle.std.specs.Hash.DefaultHasher.{write, finish}
@@ -31,6 +31,10 @@ module _ (keys : DefaultHasher) where
   abbrev pub total : ℕ → List ℕ → ℕ
   total name hashes = finish (fold write (fed_name name) (flat_map fed.u64 hashes)) % 2 ^ 32
 
-  -- the hash of an entry: of its name and of its attributes' hashes, each once and in their order
-  abbrev pub entry_hash : EntryOf ℕ → ℕ
-  entry_hash e = total e.name (distinct (map hash_of e.attrs))
+-- The hash of a token: of its name and of its attributes' hashes, each once and in their order. Without keys it is the name itself.
+abbrev pub token_hash : Option DefaultHasher → ℕ → List (Attribute ℕ) → ℕ
+token_hash None name attrs = name
+token_hash (Some keys) name attrs = total keys name (distinct (map (hash_of keys) attrs))
+
+abbrev pub entry_hash : Option DefaultHasher → EntryOf ℕ → ℕ
+entry_hash keys e = token_hash keys e.name e.attrs

@@ -1,5 +1,5 @@
 -- What is kept of the list of active formatting elements besides its items.
-use Rattle.std.specs.Prelude.{◌≡◌, ℕ, zero, suc, ◌<◌, ◌≤◌, ◌==◌, false, List, length, map, slice_index_or, if◌then◌else◌}
+use Rattle.std.specs.Prelude.{◌≡◌, ℕ, zero, suc, ◌<◌, ◌≤◌, ◌==◌, false, List, Option, length, map, slice_index_or, if◌then◌else◌}
 use Rattle.std.specs.List.{All}
 use Rattle.std.specs.declared.hash.DefaultHasher.{DefaultHasher}
 use Rattle.hformat.specs.Hashes.{entry_hash}
@@ -20,7 +20,7 @@ unless_hole number e = if e.name == nowhere then zero else suc (number e)
 abbrev pub by_name : EntryOf ℕ → ℕ
 by_name = unless_hole (λ e. e.name)
 
-abbrev pub by_hash : DefaultHasher → EntryOf ℕ → ℕ
+abbrev pub by_hash : Option DefaultHasher → EntryOf ℕ → ℕ
 by_hash keys = unless_hole (entry_hash keys)
 
 abbrev pub by_node : EntryOf ℕ → ℕ

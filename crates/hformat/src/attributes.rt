@@ -18,7 +18,7 @@ const FEW: usize = 16;
 pub fn copy_attrs(alloc: Global, attrs: &[Attr]) -> Result<Vec<Attr>, AllocError>
     ensures { IfOk result (λ copies. map attribute_of copies.items ≡ map attribute_of attrs.now) }
 {
-    let mut copies = Vec::new(alloc);
+    let mut copies = Vec::with_capacity(alloc, attrs.len())?;
     for attr in attrs {
         copies.push(attr.copy(alloc)?)?;
     }

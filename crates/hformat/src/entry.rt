@@ -19,22 +19,6 @@ pub struct Entry {
     pub attrs: Vec<Attr>,
 }
 
-impl Entry {
-    /// Whether it was made for an equal token: with the same name, and the same attributes in whatever order.
-    pub(crate) fn is_equal(
-        &self,
-        alloc: Global,
-        name: NameId,
-        attrs: &[Attr],
-    ) -> Result<bool, AllocError>
-        // whatever the new entry's node
-        ensures { IfOk result (λ equal. equal
-            ≡ is_equal nat_eq (record { node = 0; name = name; attrs = map attribute_of attrs.now }) (entry_is self.now)) }
-    {
-        Ok(name == self.name && are_same(alloc, attrs, &self.attrs)?)
-    }
-}
-
 /// A marker or an entry, or the hole that an entry left.
 #[derive(Drop)]
 pub(crate) enum Item {
@@ -64,19 +48,20 @@ impl Item {
         }
     }
 
-    /// Whether it is an entry that was made for an equal token.
+    /// Whether it is an entry that was made for an equal token: with the same name, and the same attributes in whatever order.
     pub(crate) fn is_equal(
         &self,
         alloc: Global,
         name: NameId,
         attrs: &[Attr],
     ) -> Result<bool, AllocError>
+        // whatever the new entry's node
         ensures { IfOk result (λ equal. equal
             ≡ option_map_or (is_equal nat_eq (record { node = 0; name = name; attrs = map attribute_of attrs.now })) (told self.now) false) }
     {
         match self {
             Item::Hole | Item::Marker => Ok(false),
-            Item::Entry(entry) => entry.is_equal(alloc, name, attrs),
+            Item::Entry(entry) => Ok(name == entry.name && are_same(alloc, attrs, &entry.attrs)?),
         }
     }
 

@@ -27,6 +27,8 @@ use std::marker::Model;
 #[derive(Drop)]
 pub struct Formatting {
     slots: Slots,
+    /// The keys of the hashes.
+    keys: Keys,
     alloc: Global,
 }
 
@@ -89,7 +91,9 @@ fn trim(slots: &mut Slots)
     while len > 0 && slots.items[len - 1].is_hole() {
         len -= 1;
     }
-    slots.truncate(len);
+    if len < slots.items.len() {
+        slots.truncate(len);
+    }
 }
 
 /// Where the items have no room for one more, closes the holes and makes room for as many as there are.
@@ -113,7 +117,8 @@ impl Formatting {
         ensures { result ≡ [] }
     {
         Formatting {
-            slots: Slots::new(alloc, keys),
+            slots: Slots::new(alloc),
+            keys,
             alloc,
         }
     }
@@ -126,6 +131,7 @@ impl Formatting {
     {
         let attrs = copy_attrs(self.alloc, attrs)?;
         make_room(&mut self.slots)?;
+        self.slots.hash_if_crowded(self.alloc, self.keys, name)?;
         let hash = find_hash(self.alloc, self.slots.keys, name, &attrs)?;
         let earliest = self.slots.giving_way(self.alloc, hash, name, &attrs)?;
         let numbers = Numbers {
@@ -284,7 +290,11 @@ impl Formatting {
         if place == 0 {
             return false;
         }
-        self.slots.hide(place - 1);
+        if place < self.slots.items.len() {
+            self.slots.hide(place - 1);
+        } else {
+            self.slots.truncate(place - 1);
+        }
         trim(&mut self.slots);
         true
     }

@@ -4,6 +4,7 @@ ghost use Rattle.std.specs.Prelude.{◌≡◌, suc, IfOk, map};
 ghost use Rattle.hnodes.specs.Rows.{attribute_of};
 ghost use Rattle.hformat.specs.Hashes.{entry_hash, distinct, fed_name, hash_of, total};
 
+use hnodes::name_number;
 use names::{Attr, Keys, NameId};
 use std::alloc::{AllocError, Global};
 use std::hash::{BuildHasher, DefaultHasher, Hash, Hasher};
@@ -49,16 +50,20 @@ fn total(keys: Keys, name: NameId, hashes: &[u64]) -> u64
     hasher.finish() % HASHES
 }
 
-/// The number of the hash of an entry with a name and attributes. Equal entries have the same, and few others have it.
+/// The number of the hash of an entry with a name and attributes. Equal entries have the same, and few others have it; without keys all
+/// entries of a name have it.
 pub(crate) fn find_hash(
     alloc: Global,
-    keys: Keys,
+    keys: Option<Keys>,
     name: NameId,
     attrs: &[Attr],
 ) -> Result<usize, AllocError>
     // whatever the entry's node
     ensures { IfOk result (λ n. n ≡ suc (suc (entry_hash keys (record { node = 0; name = name; attrs = map attribute_of attrs.now })))) }
 {
+    let Some(keys) = keys else {
+        return Ok(name_number(name));
+    };
     let hashes = hash_attrs(alloc, keys, attrs)?;
     Ok(total(keys, name, &hashes) as usize + 2)
 }

@@ -1,25 +1,29 @@
 //! The items of the list of active formatting elements, with the holes that entries leave: nothing moves where one is removed.
 
 ghost use Rattle.std.specs.Prelude.{◌≡◌, ◌≢◌, ℕ, suc, ◌+◌, ◌-◌, ◌<◌, ◌≤◌, ◌++◌, ◌∷◌, [], IfOk, IfSome, OnOk, OnErr, IsTrue, is_some, true, false, insert, length, map, nat_eq, not, remove, slice_index_or, slice_set, filter, take, drop};
-ghost use Rattle.std.specs.List.{list_any};
+ghost use Rattle.std.specs.List.{All, list_any};
 ghost use Rattle.std.specs.Option.{option_map_or};
 ghost use Rattle.hnodes.specs.Rows.{attribute_of};
 ghost use Rattle.hformat.specs.Hashes.{entry_hash};
 ghost use Rattle.hchain.specs.Chains.{none};
 ghost use Rattle.hformat.specs.Formatting.{for_node, is_entry, with_room};
 ghost use Rattle.hformat.specs.Items.{IsStored, is_gone, item_of, items_of, live, told, renamed};
-ghost use Rattle.hformat.specs.Listed.{IsListed, by_hash, by_name, by_node, number_by};
+ghost use Rattle.hformat.specs.Listed.{IsListed, by_hash, by_name, by_node, number_by, numbers_by};
 ghost use Rattle.hopen.specs.Nearest.{changed_at, put_before};
 ghost use Rattle.hformat.specs.declared.entry.Item.TheVariants as stored;
 
 use crate::entry::Item;
+use crate::hashes::find_hash;
 use hchain::Chains;
-use hnodes::NodeId;
+use hnodes::{NodeId, name_number};
 use names::{Attr, Keys, NameId};
 use std::alloc::{AllocError, Global};
 
 /// How many equal entries there may be after the last marker.
 const MOST_EQUAL: usize = 3;
+
+/// How many entries of a name are compared one by one with a new one, and how many attributes each of them may have.
+const FEW: usize = 8;
 
 /// The number of markers, in each list of numbers.
 pub(crate) const MARKER: usize = 0;
@@ -46,8 +50,8 @@ pub(crate) struct Slots {
     pub(crate) names: Chains,
     pub(crate) hashes: Chains,
     pub(crate) nodes: Chains,
-    /// The keys of the hashes.
-    pub(crate) keys: Keys,
+    /// The keys of the hashes; `None` while no name has many entries, and then the name is the hash.
+    pub(crate) keys: Option<Keys>,
     /// From this index on there is no hole.
     pub(crate) solid: usize,
 }
@@ -76,7 +80,7 @@ fn push_numbers(
 }
 
 impl Slots {
-    pub(crate) fn new(alloc: Global, keys: Keys) -> Self
+    pub(crate) fn new(alloc: Global) -> Self
         ensures items { result.items.items ≡ [] }
         ensures listed { IsListed result }
     {
@@ -85,9 +89,46 @@ impl Slots {
             names: Chains::new(alloc),
             hashes: Chains::new(alloc),
             nodes: Chains::new(alloc),
-            keys,
+            keys: None,
             solid: 0,
         }
+    }
+
+    /// Whether there are more entries of a name after the last marker than are compared one by one, or such with many attributes.
+    fn is_crowded(&self, name: NameId) -> bool
+        requires { IsListed self.now }
+    {
+        let marker = self.names.last(MARKER);
+        let mut place = self.names.last(name_number(name));
+        for _ in 0..FEW {
+            if place <= marker {
+                return false;
+            }
+            match self.items.get(place - 1) {
+                Some(Item::Entry(entry)) if entry.attrs.len() <= FEW => {}
+                _ => return true,
+            }
+            place = self.names.before(place);
+        }
+        place > marker
+    }
+
+    /// Before an entry of a name comes: if that name has many, hashes the entries from now on. On an error nothing changes.
+    pub(crate) fn hash_if_crowded(
+        &mut self,
+        alloc: Global,
+        keys: Keys,
+        name: NameId,
+    ) -> Result<(), AllocError>
+        requires listed { IsListed self.old }
+        ensures listed { IsListed self.new }
+        ensures items { self.new.items.items ≡ self.old.items.items }
+    {
+        if self.keys.is_none() && self.is_crowded(name) {
+            self.hashes = hash_items(alloc, Some(keys), &self.items)?;
+            self.keys = Some(keys);
+        }
+        Ok(())
     }
 
     /// How many items come after the entry that gives way to a new one: the earliest of the equal entries after the last marker, if
@@ -275,6 +316,27 @@ impl Slots {
         take_holes(&mut self.items, from);
         self.solid = from;
     }
+}
+
+/// The numbers of the hashes of items.
+fn hash_items(alloc: Global, keys: Option<Keys>, items: &[Item]) -> Result<Chains, AllocError>
+    requires { All IsStored items.now }
+    ensures { IfOk result (λ hashes. hashes ≡ numbers_by (by_hash keys) items.now) }
+{
+    let mut hashes = Chains::new(alloc);
+    for index in 0..items.len() {
+        match &items[index] {
+            Item::Entry(entry) => {
+                hashes.push(find_hash(alloc, keys, entry.name, &entry.attrs)?)?;
+            }
+            Item::Marker => hashes.push(MARKER)?,
+            Item::Hole => {
+                hashes.push(MARKER)?;
+                hashes.clear(index);
+            }
+        }
+    }
+    Ok(hashes)
 }
 
 /// Takes the holes from an index on out.

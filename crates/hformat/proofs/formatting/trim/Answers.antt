@@ -20,5 +20,5 @@ loop-len-preserved c =
       same = sym (live-dropped items c.loop-len.len i x (omega arith) (omega arith) c.index.ensures is) ∙ c.loop-len.invariant.same;
     }
 
-pub returns-clause-same : goal.returns-clause-same
-returns-clause-same c = ap (λ xs. live (items_of xs)) c.truncate.ensures.items ∙ c.loop-len.invariant.same
+pub returns-then-len-clause-same : goal.returns-then-len-clause-same
+returns-then-len-clause-same c = ap (λ xs. live (items_of xs)) c.truncate.ensures.items ∙ c.loop-len.invariant.same

@@ -1,5 +1,5 @@
 use Rattle.std.proofs.Common.{◌≡◌, suc, ◌+◌, ◌-◌, ◌<◌, length, reverse, refl, sym, ◌∙◌, ap, arith}
-use Rattle.std.specs.List.{list_any}
+use Rattle.std.specs.List.{list_any, remove}
 use Rattle.std.specs.Option.{is_some}
 use Rattle.hformat.specs.Formatting.{is_entry}
 use Rattle.hformat.specs.Items.{hole, item_of, items_of, live}
@@ -12,8 +12,9 @@ use Rattle.hformat.proofs.ItemLists.{length-items_of}
 use Rattle.hformat.proofs.Listed.{numbers-back, place-le}
 use Rattle.hformat.proofs.Live.{any-live}
 use Rattle.hformat.proofs.LiveEdits.{hide-live, without1-live}
-use Rattle.hopen.proofs.Nearest.{is_some-position, no_words, set_nearest, words}
+use Rattle.hopen.proofs.Nearest.{drop_nearest, is_some-position, no_words, set_nearest, words}
 use Rattle.hformat.proofs.formatting.Formatting.hide.Goals as goal
+use Rattle.hformat.proofs.formatting.Formatting.hide.Goals.{then-place-len, else-place-len}
 
 pub returns-then-place-eq0-clause-there : goal.returns-then-place-eq0-clause-there
 returns-then-place-eq0-clause-there c =
@@ -41,6 +42,14 @@ hide-requires-clause-within c =
     let slots = slots-are items c.self.invariant.stored in
     omega (arith, c.if-place-eq0.false, place-le by_node (suc (suc c.args.node)) (items_of items), length-items_of items)
 
+pub truncate-requires-clause-within : goal.truncate-requires-clause-within
+truncate-requires-clause-within c =
+    let items = c.self.inside.slots.items.items in
+    let place : c.last-place.result ≡ node_place c.args.node (items_of items) =
+    c.last-place.ensures ∙ last-is c.node_number.result c.self.inside.slots.nodes ∙ (λ i. last_of (c.node_number.ensures i) ((ap reverse c.self.invariant.nodes ∙ numbers-back by_node items) i)) in
+    let slots = slots-are items c.self.invariant.stored in
+    omega (arith, c.if-place-eq0.false, place-le by_node (suc (suc c.args.node)) (items_of items), length-items_of items)
+
 pub returns-clause-there : goal.returns-clause-there
 returns-clause-there c =
     let items = c.self.inside.slots.items.items in
@@ -61,6 +70,16 @@ returns-clause-entry c =
     let up = length (items_of items) - node_place c.args.node (items_of items) in
     let i = c.last-place.result - 1 in
     let at : i + suc up ≡ length items = omega (arith, place-le by_node (suc (suc c.args.node)) (items_of items), length-items_of items) in
-    c.trim.ensures.same ∙ ap (λ xs. live (items_of xs)) c.hide.ensures.items ∙ ap live (set_nearest item_of (λ _. hole) items i up stored.Hole stored.Hole at refl)
-    ∙ hide-live up (items_of items) ∙ ap live (sym (words (is_entry c.args.node) (items_of items) up (node-at c.args.node (omega arith) (items_of items) slots (omega arith))).without_is)
+    let gone : live (items_of c.if-place-len.self-inside.slots.items.items) ≡ live (remove (items_of items) up) =
+    elim c.if-place-len.branch [
+      | then-place-len w ↦
+          ap (λ f. live (items_of f.slots.items.items)) w.self-inside-is ∙ ap (λ xs. live (items_of xs)) w.hide.ensures.items
+          ∙ ap live (set_nearest item_of (λ _. hole) items i up stored.Hole stored.Hole at refl) ∙ hide-live up (items_of items)
+      | else-place-len w ↦
+          let last : 0 ≡ up = omega (arith, w.if-place-len.false) in
+          ap (λ f. live (items_of f.slots.items.items)) w.self-inside-is ∙ ap (λ xs. live (items_of xs)) w.truncate.ensures.items
+          ∙ ap live (sym (drop_nearest item_of items i 1 (omega (arith, last, at)))) ∙ ap (λ k. live (remove (items_of items) k)) last
+    ]
+    in
+    c.trim.ensures.same ∙ gone ∙ ap live (sym (words (is_entry c.args.node) (items_of items) up (node-at c.args.node (omega arith) (items_of items) slots (omega arith))).without_is)
     ∙ sym (without1-live c.args.node (items_of items) slots (omega arith)) ∙ ap (without (is_entry c.args.node)) c.self.view_is

@@ -11,7 +11,7 @@ use Rattle.hformat.proofs.formatting.Formatting.push.Goals as goal
 
 pub returns-in-Some-clause-ok : goal.returns-in-Some-clause-ok
 returns-in-Some-clause-ok c =
-    let old = c.make_room.new.slots.items.items in
+    let old = c.hash_if_crowded.new.self.items.items in
     let items = c.put.new.self.items.items in
     let new : EntryOf ℕ = record { node = c.args.node; name = c.args.name; attrs = map attribute_of c.args.attrs.now } in
     let room = rw (c.deref-2.ensures.value, c.in_ok-attrs.ensures, c.in-Some.is) at c.in_ok-earliest.ensures.room in
@@ -24,11 +24,11 @@ returns-in-Some-clause-ok c =
     omega (arith, ap length put, length-items_of items, length-items_of old, within)
     in
     ap (λ xs. live (items_of xs)) c.hide.ensures.items ∙ ap live (set_nearest item_of (λ _. hole) items (c.len.result - 2 - c.in-Some.back) (suc c.in-Some.back) stored.Hole stored.Hole at refl)
-    ∙ ap (λ xs. live (changed_at (suc c.in-Some.back) (λ _. hole) xs)) put ∙ pushed-live new (omega arith) (items_of old) (Some c.in-Some.back) room ∙ ap (pushed nat_eq new) (c.make_room.ensures.same ∙ c.self.view_is)
+    ∙ ap (λ xs. live (changed_at (suc c.in-Some.back) (λ _. hole) xs)) put ∙ pushed-live new (omega arith) (items_of old) (Some c.in-Some.back) room ∙ ap (pushed nat_eq new) (ap (λ xs. live (items_of xs)) c.hash_if_crowded.ensures.items ∙ c.make_room.ensures.same ∙ c.self.view_is)
 
 pub returns-in_default-clause-ok : goal.returns-in_default-clause-ok
 returns-in_default-clause-ok c =
-    let old = c.make_room.new.slots.items.items in
+    let old = c.hash_if_crowded.new.self.items.items in
     let items = c.put.new.self.items.items in
     let new : EntryOf ℕ = record { node = c.args.node; name = c.args.name; attrs = map attribute_of c.args.attrs.now } in
     let room = rw (c.deref-2.ensures.value, c.in_ok-attrs.ensures, c.in_default.is) at c.in_ok-earliest.ensures.room in
@@ -36,4 +36,4 @@ returns-in_default-clause-ok c =
     items_of_last items old (stored.Entry (record { node = c.args.node; name = c.args.name; attrs = c.in_ok-attrs.attrs })) c.in_ok-put.ensures.ok
     ∙ ap (λ attrs. entry (record new { attrs = attrs }) ∷ items_of old) c.in_ok-attrs.ensures
     in
-    ap live put ∙ pushed-live new (omega arith) (items_of old) None room ∙ ap (pushed nat_eq new) (c.make_room.ensures.same ∙ c.self.view_is)
+    ap live put ∙ pushed-live new (omega arith) (items_of old) None room ∙ ap (pushed nat_eq new) (ap (λ xs. live (items_of xs)) c.hash_if_crowded.ensures.items ∙ c.make_room.ensures.same ∙ c.self.view_is)

@@ -29,7 +29,7 @@ loop-place-init c =
     let numbers : reverse hashes ≡ map (number_by (by_hash c.args.self.now.keys)) view = ap reverse c.requires.listed.hashes ∙ numbers-back (by_hash c.args.self.now.keys) items in
     let at : place (by_hash c.args.self.now.keys) c.args.number view ≡ c.last-place.result = sym (c.last-place.ensures ∙ last-is c.args.number hashes ∙ ap (last_of c.args.number) numbers) in
     let up : length (map (number_by (by_hash c.args.self.now.keys)) view) - c.last-place.result ≡ length view - c.last-place.result = ap (λ k. k - c.last-place.result) (length-map view (number_by (by_hash c.args.self.now.keys))) in
-    let skipped = skips (by_hash c.args.self.now.keys) sought c.args.number (λ e equal. same-number c.args.self.now.keys new e named equal ∙ sym c.requires.number) view 0 in
+    let skipped = skips (by_hash c.args.self.now.keys) sought c.args.number (λ e equal. same-number new e equal c.args.self.now.keys named ∙ sym c.requires.number) view 0 in
     record {
       room = omega (arith, place-le (by_hash c.args.self.now.keys) c.args.number view, length-items_of items);
       marked = c.last-marker.ensures ∙ last-is 0 hashes ∙ ap (last_of 0) numbers;
@@ -73,7 +73,7 @@ module _ (c : goal.After-before-place) where
   named = omega arith
 
   law : (e : EntryOf ℕ) → sought e ≡ true → suc ((by_hash c.args.self.now.keys) e) ≡ c.args.number
-  law e equal = same-number c.args.self.now.keys new e named equal ∙ sym c.requires.number
+  law e equal = same-number new e equal c.args.self.now.keys named ∙ sym c.requires.number
 
   stepped : Steps (by_hash c.args.self.now.keys) sought c.args.number law view c.loop-place.place c.before-place.result here
   stepped =
