@@ -1,5 +1,5 @@
 -- A run of characters is put as its characters are, one by one: behind the first one a text stands, so none of the others makes a node.
-use Rattle.std.proofs.Common.{◌≡◌, ℕ, zero, suc, ◌+◌, ◌<◌, ◌≤◌, Bool, true, false, leb, cond, List, [], ◌∷◌, Option, Some, None, is_none, length, refl, sym, ◌∙◌, ap, subst, arith, ◌⊎◌, inl, inr, Ok, Err}
+use Rattle.std.proofs.Common.{◌≡◌, ℕ, zero, suc, ◌+◌, ◌<◌, ◌≤◌, Bool, true, false, leb, cond, List, [], ◌∷◌, Option, Some, None, is_none, length, map, refl, sym, ◌∙◌, ap, subst, arith, ◌⊎◌, inl, inr, Ok, Err}
 use Rattle.std.proofs.lemmas.Bool.{le-leb, leb-true}
 use Rattle.std.proofs.lemmas.List.{nil_from_length}
 use Rattle.std.proofs.lemmas.Str.{chars-nil, encodes-chars}
@@ -14,53 +14,76 @@ use Rattle.hnodes.specs.Forest.{text, tree, none, change_what}
 use Rattle.hnodes.specs.declared.node.Place.{Place}
 use Rattle.hopen.specs.Stack.{OpenNode}
 use Rattle.names.specs.Placed.{placed}
+use Rattle.names.specs.declared.placed.Placed.{Placed}
 use Rattle.names.specs.declared.refusal.Refusal.{Refusal}
 use Rattle.names.specs.declared.refusal.Refusal.TheVariants.{TooManyNodes, Memory}
 use Rattle.hadopt.specs.Gives.{Gives}
 use Rattle.hadopt.specs.Inserts.{put_each}
 use Rattle.hadopt.specs.Made.{AreMade}
 use Rattle.hadopt.proofs.Made.{more}
-use Rattle.hadopt.specs.Site.{Goes, Refused, and_then, SiteOf, trees}
+use Rattle.hadopt.specs.Site.{Outcome, Goes, Refused, and_then, SiteOf, trees}
+
+abbrev pub characters : List Placed → List ℕ
+characters ps = map (λ p. p.ch) ps
+
+characters-placed : (at : ℕ) (cs : List ℕ) → characters (placed at cs) ≡ cs
+characters-placed at [] = refl
+characters-placed at (c ∷ cs) = ap (λ (x : List ℕ). c ∷ x) (characters-placed (at + len_utf8 c) cs)
 
 module _ {N : Type 0} (place : Place) where
+  abbrev joined : List Placed → SiteOf N → Outcome (SiteOf N)
+  joined ps s = Goes (record s { nodes = add_chars (characters ps) place s.nodes })
+
   -- where a text stands before the place
-  each-joins : (at : ℕ) (cs : List ℕ) (s : SiteOf N) (n : ℕ) → IsTextBefore place (trees s) n → put_each (placed at cs) place s ≡ Goes (record s { nodes = add_chars cs place s.nodes })
-  each-joins at [] s n is = refl
-  each-joins at (c ∷ cs) s n is =
+  each-joins : (ps : List Placed) (s : SiteOf N) (n : ℕ) → IsTextBefore place (trees s) n → put_each ps place s ≡ joined ps s
+  each-joins [] s n is = refl
+  each-joins (p ∷ ps) s n is =
       let there = text_before-is place (trees s) n is in
-      let first : add_char c place s.nodes ≡ record s.nodes { trees = change_what n (with_char c) (trees s) } = ap (λ o. char_into c place o s.nodes) there in
-      let still : IsTextBefore place (add_char c place s.nodes).trees n = subst (λ (t : Nodes N). IsTextBefore place t.trees n) (sym first) (text_before-longer place (trees s) n (encode_utf8 c) is) in
-      ap (λ o. and_then (cond (is_none o && leb s.nodes.limit s.nodes.made) (Refused (TooManyNodes at)) (Goes (record s { nodes = add_char c place s.nodes }))) (put_each (placed (at + len_utf8 c) cs) place)) there
-      ∙ each-joins (at + len_utf8 c) cs (record s { nodes = add_char c place s.nodes }) n still
+      let first : add_char p.ch place s.nodes ≡ record s.nodes { trees = change_what n (with_char p.ch) (trees s) } = ap (λ o. char_into p.ch place o s.nodes) there in
+      let still : IsTextBefore place (add_char p.ch place s.nodes).trees n = subst (λ (t : Nodes N). IsTextBefore place t.trees n) (sym first) (text_before-longer place (trees s) n (encode_utf8 p.ch) is) in
+      ap (λ o. and_then (cond (is_none o && leb s.nodes.limit s.nodes.made) (Refused (TooManyNodes p.at)) (Goes (record s { nodes = add_char p.ch place s.nodes }))) (put_each ps place)) there
+      ∙ each-joins ps (record s { nodes = add_char p.ch place s.nodes }) n still
 
   -- where none does, and there is room for a node
-  each-makes : (at c : ℕ) (cs : List ℕ) (s : SiteOf N) → AreNodes s.nodes → IsPlace place s.nodes → text_before place (trees s) ≡ None → leb s.nodes.limit s.nodes.made ≡ false
-      → put_each (placed at (c ∷ cs)) place s ≡ Goes (record s { nodes = add_chars (c ∷ cs) place s.nodes })
-  each-makes at c cs s nodes is none_there room =
+  each-makes : (p : Placed) (ps : List Placed) (s : SiteOf N) → AreNodes s.nodes → IsPlace place s.nodes → text_before place (trees s) ≡ None → leb s.nodes.limit s.nodes.made ≡ false
+      → put_each (p ∷ ps) place s ≡ joined (p ∷ ps) s
+  each-makes p ps s nodes is none_there room =
       let t = s.nodes in
       let absent = not-there t.made t.trees nodes.counted t.made (omega arith) in
-      let begun = graft-made t.made (text (encode_utf8 c)) place t.trees absent in
-      let first : add_char c place t ≡ record t { made = t.made + 1; trees = placed_at place (tree t.made (text (encode_utf8 c)) none none) t.trees } = ap (λ o. char_into c place o t) none_there ∙ (λ i. record t { made = t.made + 1; trees = begun i }) in
-      let still : IsTextBefore place (add_char c place t).trees t.made = subst (λ (u : Nodes N). IsTextBefore place u.trees t.made) (sym first) (placed-text place t (encode_utf8 c) nodes.counted is) in
-      ap (λ v. and_then (cond (is_none (text_before place t.trees) && v) (Refused (TooManyNodes at)) (Goes (record s { nodes = add_char c place t }))) (put_each (placed (at + len_utf8 c) cs) place)) room
-      ∙ ap (λ o. and_then (cond (is_none o && false) (Refused (TooManyNodes at)) (Goes (record s { nodes = add_char c place t }))) (put_each (placed (at + len_utf8 c) cs) place)) none_there
-      ∙ each-joins (at + len_utf8 c) cs (record s { nodes = add_char c place t }) t.made still
+      let begun = graft-made t.made (text (encode_utf8 p.ch)) place t.trees absent in
+      let first : add_char p.ch place t ≡ record t { made = t.made + 1; trees = placed_at place (tree t.made (text (encode_utf8 p.ch)) none none) t.trees } = ap (λ o. char_into p.ch place o t) none_there ∙ (λ i. record t { made = t.made + 1; trees = begun i }) in
+      let still : IsTextBefore place (add_char p.ch place t).trees t.made = subst (λ (u : Nodes N). IsTextBefore place u.trees t.made) (sym first) (placed-text place t (encode_utf8 p.ch) nodes.counted is) in
+      ap (λ v. and_then (cond (is_none (text_before place t.trees) && v) (Refused (TooManyNodes p.at)) (Goes (record s { nodes = add_char p.ch place t }))) (put_each ps place)) room
+      ∙ ap (λ o. and_then (cond (is_none o && false) (Refused (TooManyNodes p.at)) (Goes (record s { nodes = add_char p.ch place t }))) (put_each ps place)) none_there
+      ∙ each-joins ps (record s { nodes = add_char p.ch place t }) t.made still
 
   -- where none does, and there is no room
-  each-refused : (at c : ℕ) (cs : List ℕ) (s : SiteOf N) → text_before place (trees s) ≡ None → leb s.nodes.limit s.nodes.made ≡ true → put_each (placed at (c ∷ cs)) place s ≡ Refused (TooManyNodes at)
-  each-refused at c cs s none_there full =
-      ap (λ v. and_then (cond (is_none (text_before place (trees s)) && v) (Refused (TooManyNodes at)) (Goes (record s { nodes = add_char c place s.nodes }))) (put_each (placed (at + len_utf8 c) cs) place)) full
-      ∙ ap (λ o. and_then (cond (is_none o && true) (Refused (TooManyNodes at)) (Goes (record s { nodes = add_char c place s.nodes }))) (put_each (placed (at + len_utf8 c) cs) place)) none_there
+  each-refused : (p : Placed) (ps : List Placed) (s : SiteOf N) → text_before place (trees s) ≡ None → leb s.nodes.limit s.nodes.made ≡ true → put_each (p ∷ ps) place s ≡ Refused (TooManyNodes p.at)
+  each-refused p ps s none_there full =
+      ap (λ v. and_then (cond (is_none (text_before place (trees s)) && v) (Refused (TooManyNodes p.at)) (Goes (record s { nodes = add_char p.ch place s.nodes }))) (put_each ps place)) full
+      ∙ ap (λ o. and_then (cond (is_none o && true) (Refused (TooManyNodes p.at)) (Goes (record s { nodes = add_char p.ch place s.nodes }))) (put_each ps place)) none_there
 
-  each-put : (at : ℕ) (cs : List ℕ) (s : SiteOf N) → AreNodes s.nodes → IsPlace place s.nodes → (0 < length cs → text_before place (trees s) ≡ None → leb s.nodes.limit s.nodes.made ≡ true → ⊥)
-      → put_each (placed at cs) place s ≡ Goes (record s { nodes = add_chars cs place s.nodes })
-  each-put at [] s nodes is fits = refl
-  each-put at (c ∷ cs) s nodes is fits = go (text_before place (trees s)) refl (leb s.nodes.limit s.nodes.made) refl
+  each-put : (ps : List Placed) (s : SiteOf N) → AreNodes s.nodes → IsPlace place s.nodes → (0 < length (characters ps) → text_before place (trees s) ≡ None → leb s.nodes.limit s.nodes.made ≡ true → ⊥)
+      → put_each ps place s ≡ joined ps s
+  each-put [] s nodes is fits = refl
+  each-put (p ∷ ps) s nodes is fits = go (text_before place (trees s)) refl (leb s.nodes.limit s.nodes.made) refl
     where
-      go : (o : Option ℕ) → text_before place (trees s) ≡ o → (v : Bool) → leb s.nodes.limit s.nodes.made ≡ v → put_each (placed at (c ∷ cs)) place s ≡ Goes (record s { nodes = add_chars (c ∷ cs) place s.nodes })
-      go (Some n) o v f = each-joins at (c ∷ cs) s n (is-text_before place (trees s) n o)
+      go : (o : Option ℕ) → text_before place (trees s) ≡ o → (v : Bool) → leb s.nodes.limit s.nodes.made ≡ v → put_each (p ∷ ps) place s ≡ joined (p ∷ ps) s
+      go (Some n) o v f = each-joins (p ∷ ps) s n (is-text_before place (trees s) n o)
       go None o true f = absurd (fits (omega arith) o f)
-      go None o false f = each-makes at c cs s nodes is o f
+      go None o false f = each-makes p ps s nodes is o f
+
+  -- what is put depends on the characters and on the place of the first alone
+  pub each-same : (p q : Placed) (ps qs : List Placed) (s : SiteOf N) → AreNodes s.nodes → IsPlace place s.nodes → p.at ≡ q.at → characters (p ∷ ps) ≡ characters (q ∷ qs) → put_each (p ∷ ps) place s ≡ put_each (q ∷ qs) place s
+  each-same p q ps qs s nodes is at same = go (text_before place (trees s)) refl (leb s.nodes.limit s.nodes.made) refl
+    where
+      alike : joined (p ∷ ps) s ≡ joined (q ∷ qs) s
+      alike = ap (λ (cs : List ℕ). Goes (record s { nodes = add_chars cs place s.nodes })) same
+
+      go : (o : Option ℕ) → text_before place (trees s) ≡ o → (v : Bool) → leb s.nodes.limit s.nodes.made ≡ v → put_each (p ∷ ps) place s ≡ put_each (q ∷ qs) place s
+      go (Some n) o v f = let there = is-text_before place (trees s) n o in each-joins (p ∷ ps) s n there ∙ alike ∙ sym (each-joins (q ∷ qs) s n there)
+      go None o true f = each-refused p ps s o f ∙ ap (λ (a : ℕ). Refused (TooManyNodes a)) at ∙ sym (each-refused q qs s o f)
+      go None o false f = each-makes p ps s nodes is o f ∙ alike ∙ sym (each-makes q qs s nodes is o f)
 
 -- a text has bytes where it has characters
 bytes-some : (bytes : List ℕ) → 0 < length (chars bytes) → 0 < length bytes
@@ -76,8 +99,9 @@ pub text-gives : (r : Result (Unit {0}) Refusal) (at : ℕ) (bytes : List ℕ) (
     → IfErr r (λ e. (e ≡ TooManyNodes at) ⊎ (e ≡ Memory))
     → Gives r (record s { nodes = new }) (put_each (placed at (chars bytes)) place s)
 text-gives (Ok tt) at bytes place s new utf8 nodes is ok full refused =
-    each-put place at (chars bytes) s nodes is (λ some none_there no_room. let clash = full.1 (bytes-some bytes some, none_there, leb-true s.nodes.limit s.nodes.made no_room) in cc)
-    ∙ ap (λ (t : Nodes ℕ). Goes (record s { nodes = t })) (sym ok)
+    let same = characters-placed at (chars bytes) in
+    each-put place (placed at (chars bytes)) s nodes is (λ some none_there no_room. let clash = full.1 (bytes-some bytes (omega (arith, some, ap length same)), none_there, leb-true s.nodes.limit s.nodes.made no_room) in cc)
+    ∙ ap (λ (cs : List ℕ). Goes (record s { nodes = add_chars cs place s.nodes })) same ∙ ap (λ (t : Nodes ℕ). Goes (record s { nodes = t })) (sym ok)
 text-gives (Err e) at bytes place s new utf8 nodes is ok full (inr memory) = inl memory
 text-gives (Err e) at bytes place s new utf8 nodes is ok full (inl many) =
     let why = full.0 (ap Err many) in
@@ -85,7 +109,7 @@ text-gives (Err e) at bytes place s new utf8 nodes is ok full (inl many) =
   where
     go : (cs : List ℕ) → encode_utf8_all cs ≡ bytes → 0 < length bytes → text_before place (trees s) ≡ None → leb s.nodes.limit s.nodes.made ≡ true → put_each (placed at cs) place s ≡ Refused (TooManyNodes at)
     go [] spelled some none_there no_room = absurd (let none_left : length bytes ≡ 0 = ap length (sym spelled) in omega arith)
-    go (c ∷ cs) spelled some none_there no_room = each-refused place at c cs s none_there no_room
+    go (c ∷ cs) spelled some none_there no_room = each-refused place (record { ch = c; at = at }) (placed (at + len_utf8 c) cs) s none_there no_room
 
 -- no node is lost
 chars-more : (cs : List ℕ) (place : Place) (t : Nodes ℕ) → t.made ≤ (add_chars cs place t).made

@@ -1,5 +1,5 @@
 -- Nodes are made and never taken away: no token leads to fewer.
-use Rattle.std.proofs.Common.{◌≡◌, ℕ, zero, suc, ◌≤◌, Bool, true, false, not, cond, leb, List, [], ◌∷◌, Option, Some, None, subst, length, drop, arith}
+use Rattle.std.proofs.Common.{ℕ, zero, suc, ◌≤◌, Bool, true, false, not, cond, leb, List, [], ◌∷◌, Option, Some, None, subst, length, drop, arith}
 use Rattle.std.specs.Prelude.{◌&&◌, is_none}
 use Rattle.std.specs.Option.{option_map_or}
 use Rattle.names.specs.declared.error.ErrorCode.{ErrorCode}
@@ -20,11 +20,11 @@ use Rattle.hopen.specs.declared.scope.Scope.TheVariants.{Default}
 use Rattle.hformat.specs.Formatting.{EntryOf, entry_of, entry_at, find_entry, without_entry}
 use Rattle.hformat.specs.declared.bookmark.Bookmark.TheVariants.{InPlace}
 use Rattle.hadopt.specs.Adopts.{Turn, Next, Ended, next_turn, Climb, most_turns, climbed_one, climbed, replaced, left, ended_climb, entries_for, adopted_by, popped_with, turned_with, turned, turns, is_unlisted, adopted}
-use Rattle.hadopt.specs.Closes.{is, closed, other_end, popped_to, without_implied}
+use Rattle.hadopt.specs.Closes.{is, closed, other_end, without_implied}
 use Rattle.hadopt.specs.Inserts.{made, added, pushed, inserted, put}
 use Rattle.hadopt.specs.Naming.{Naming}
-use Rattle.hadopt.specs.Places.{place, place_in}
-use Rattle.hadopt.specs.Reconstructs.{renewed, renewed_each, reconstructed, stops_going_back}
+use Rattle.hadopt.specs.Places.{place}
+use Rattle.hadopt.specs.Reconstructs.{renewed, renewed_each, stops_going_back}
 use Rattle.hadopt.specs.Site.{Outcome, Goes, SiteOf, and_then, stack, trees, with_stack, with_items, with_error, error_unless, current_is, from_top, node_of}
 use Rattle.hadopt.specs.Site as site
 use Rattle.hadopt.proofs.Climbing.{OnGoes, goes-then}
@@ -33,7 +33,7 @@ use Rattle.hmodes.specs.Perform.{perform, with_foster, with_control, each_of, fl
 use Rattle.hmodes.specs.Questions.{answer_of}
 use Rattle.hmodes.specs.Rules.{rule_of}
 use Rattle.hmodes.specs.State.{Token, character, State, Flow, Done, Again, Refused, kind_of, flow_then, flow_map, token_name, token_attrs, token_text, token_char, is_self_closing}
-use Rattle.hmodes.specs.Step.{Rule, Chain, ends, refuses, goes_again, Step, drops, goes, begun, finished}
+use Rattle.hmodes.specs.Step.{Chain, ends, refuses, goes_again, Step, drops, goes, begun, finished}
 use Rattle.hmodes.specs.Words.{Do, ◌▸◌, when, unless, choose, fostered, each_pending, insert, insert_named, insert_root, insert_root_named, insert_comment, comment_in_document, comment_in_first, insert_doctype, push_head, reconstruct, close_p, adopt, adopt_listed}
 use Rattle.hmodes.specs.Words as word
 

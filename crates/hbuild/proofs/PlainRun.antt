@@ -1,5 +1,5 @@
 -- Characters that are put as they are, a run or one alone.
-use Rattle.std.proofs.Common.{◌≡◌, ℕ, Bool, true, false, List, [], ◌∷◌, ◌+◌, length, Option, Some, None, Result, Ok, Err, refl, sym, ap, ◌∙◌, arith, subst}
+use Rattle.std.proofs.Common.{◌≡◌, ◌<◌, ℕ, zero, suc, Bool, true, false, List, [], ◌∷◌, ◌+◌, length, Option, Some, None, Result, Ok, Err, refl, sym, ap, ◌∙◌, arith, subst}
 use Rattle.std.specs.List.{list_all}
 use Rattle.std.specs.Prelude.{◌&&◌, ◌==◌, not, is_some}
 use Rattle.std.specs.Result.{result_err}
@@ -7,11 +7,16 @@ use Rattle.std.proofs.lemmas.Bool.{and_parts}
 use Rattle.std.proofs.lemmas.Bool.Decides.{nat_tests}
 use Rattle.names.specs.Placed.{placed}
 use Rattle.htext.specs.Run.{is_plain}
-use Rattle.std.specs.Char.{len_utf8}
+use Rattle.std.specs.Char.{len_utf8, encode_utf8}
+use Rattle.std.specs.List.{repeat}
+use Rattle.std.specs.Str.{chars, IsUtf8}
+use Rattle.std.proofs.lemmas.Str.{IsUtf8-nil, IsUtf8-encode, IsUtf8-append, chars-nil, chars_past_char}
+use Rattle.hnodes.specs.Edits.{AreNodes, IsPlace}
+use Rattle.hadopt.proofs.Putting.{characters, each-same}
 use Rattle.names.specs.Sink.{Hands}
 use Rattle.names.specs.declared.refusal.Refusal.{Refusal}
 use Rattle.hnodes.specs.declared.node.Place.{Place}
-use Rattle.htoken.specs.Run.{run_tokens}
+use Rattle.htoken.specs.Run.{run_tokens, replaced}
 use Rattle.htoken.specs.declared.token.Token.{Token as Given}
 use Rattle.htoken.specs.declared.token.Token.TheVariants.{Char}
 use Rattle.hadopt.specs.Gives.{Gives}
@@ -60,6 +65,43 @@ run_taken b free puts at (c ∷ cs) some plain answer x g =
     let facts = off-of b.state.site.foster b.state.control.drop_lf (puts_in b.state.control.mode b.state.site) puts in
     run_put b free facts.0 facts.1 facts.2 x (record { ch = c; at = at }) (placed (at + len_utf8 c) cs) (some_plain at (c ∷ cs) plain) answer
     (subst (λ (to : Place). Gives answer x (put_each (placed at (c ∷ cs)) to b.state.site)) (place-here b.state.site facts.0) g)
+
+-- .. and so is one of characters that replace bad parts
+pub some_replaced : (count at : ℕ) → AreSome (replaced at count)
+some_replaced zero at = tt
+some_replaced (suc n) at = (refl, some_replaced n (at + 1))
+
+pub bad_taken : (b : Building) → b.refused ≡ None → puts_each b.state ≡ true → (at count : ℕ) → 0 < count → (answer : Result (Unit {0}) Refusal) (x : SiteOf ℕ)
+    → Gives answer x (put_each (replaced at count) (place numbers b.state.site) b.state.site) → Hands TakesToken b (run_tokens (replaced at count)) answer (after_put b x answer)
+bad_taken b free puts at zero some answer x g = absurd (omega (arith, some))
+bad_taken b free puts at (suc n) some answer x g =
+    let facts = off-of b.state.site.foster b.state.control.drop_lf (puts_in b.state.control.mode b.state.site) puts in
+    run_put b free facts.0 facts.1 facts.2 x (record { ch = 0xFFFD; at = at }) (replaced (at + 1) n) (some_replaced (suc n) at) answer
+    (subst (λ (to : Place). Gives answer x (put_each (replaced at (suc n)) to b.state.site)) (place-here b.state.site facts.0) g)
+
+-- as their text is put
+pub bad_bytes : 0xEF ∷ 0xBF ∷ 0xBD ∷ [] ≡ encode_utf8 0xFFFD
+unfolding encode_utf8
+bad_bytes = refl
+
+bad_chars : (n at : ℕ) → IsUtf8 (repeat n (encode_utf8 0xFFFD)) × (chars (repeat n (encode_utf8 0xFFFD)) ≡ characters (replaced at n))
+bad_chars zero at = (IsUtf8-nil, chars-nil)
+bad_chars (suc n) at =
+    let more = bad_chars n (at + 1) in
+    let all = IsUtf8-append (encode_utf8 0xFFFD) (repeat n (encode_utf8 0xFFFD)) (IsUtf8-encode 0xFFFD refl) more.0 in
+    (all, chars_past_char (repeat (suc n) (encode_utf8 0xFFFD)) (repeat n (encode_utf8 0xFFFD)) 0xFFFD all refl ∙ ap (λ (cs : List ℕ). 0xFFFD ∷ cs) more.1)
+
+placed_bad : (n at at' : ℕ) → characters (placed at (characters (replaced at' n))) ≡ characters (replaced at' n)
+placed_bad zero at at' = refl
+placed_bad (suc n) at at' = ap (λ (cs : List ℕ). 0xFFFD ∷ cs) (placed_bad n (at + len_utf8 0xFFFD) (at' + 1))
+
+pub bad_put : (n at : ℕ) (run : List ℕ) (to : Place) (s : SiteOf ℕ) → 0 < n → run ≡ repeat n (encode_utf8 0xFFFD) → AreNodes s.nodes → IsPlace to s.nodes → put_each (placed at (chars run)) to s ≡ put_each (replaced at n) to s
+bad_put zero at run to s some is nodes here = absurd (omega (arith, some))
+bad_put (suc n) at run to s some is nodes here =
+    let rest : List ℕ = characters (replaced (at + 1) n) in
+    ap (λ (cs : List ℕ). put_each (placed at cs) to s) (ap chars is ∙ (bad_chars (suc n) at).1)
+    ∙ each-same to (record { ch = 0xFFFD; at = at }) (record { ch = 0xFFFD; at = at }) (placed (at + len_utf8 0xFFFD) rest) (replaced (at + 1) n) s nodes here refl
+    (ap (λ (cs : List ℕ). 0xFFFD ∷ cs) (placed_bad n (at + len_utf8 0xFFFD) (at + 1)))
 
 -- a character that is put as it is is taken
 pub char_taken : (b : Building) → b.refused ≡ None → puts_each b.state ≡ true → (at c : ℕ) → (c == 0) ≡ false

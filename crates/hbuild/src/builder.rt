@@ -15,7 +15,7 @@ ghost use Rattle.names.specs.Sink.{Hands};
 
 use crate::beginning::{document_rules, fragment_rules};
 use crate::limits::Limits;
-use crate::runs::{put_one, put_run, puts_each};
+use crate::runs::{put_bad, put_one, put_run, puts_each};
 use crate::steps::step;
 use hmarkup::{ErrorSink, Quirks};
 use hmodes::Rules;
@@ -215,6 +215,16 @@ impl<'q> TokenSink for Builder<'q> {
         }
         self.rules.begin();
         let answer = put_run(&mut self.rules, run, at);
+        self.refused = answer.err();
+        answer
+    }
+
+    fn take_bad(&mut self, count: usize, at: u64) -> Result<(), Refusal> {
+        if count == 0 || self.refused.is_some() || !puts_each(&self.rules) {
+            return self.take_bad_by_one(count, at);
+        }
+        self.rules.begin();
+        let answer = put_bad(&mut self.rules, count, at);
         self.refused = answer.err();
         answer
     }

@@ -1,6 +1,6 @@
 //! Characters that are put as they are, one alone or a run.
 
-ghost use Rattle.std.specs.Prelude.{◌≡◌};
+ghost use Rattle.std.specs.Prelude.{◌≡◌, ◌<◌};
 ghost use Rattle.std.specs.Str.{chars};
 ghost use Rattle.names.specs.Placed.{placed};
 ghost use Rattle.hadopt.specs.Gives.{Gives};
@@ -9,6 +9,7 @@ ghost use Rattle.hadopt.specs.Naming.{numbers};
 ghost use Rattle.hadopt.specs.Places.{place};
 ghost use Rattle.hmodes.specs.Perform.{with_site};
 ghost use Rattle.hmodes.specs.States.{state_of};
+ghost use Rattle.htoken.specs.Run.{replaced};
 ghost use Rattle.hbuild.specs.Runs.{puts_each};
 
 use hmodes::{Mode, Rules};
@@ -37,6 +38,19 @@ pub(crate) fn put_run(rules: &mut Rules<'_>, run: &str, at: u64) -> Result<(), R
 {
     let place = rules.site.place();
     rules.site.put_text(run, place, at)
+}
+
+/// Puts the characters that replace so many bad parts at the appropriate place.
+pub(crate) fn put_bad(rules: &mut Rules<'_>, count: usize, at: u64) -> Result<(), Refusal>
+    requires { 0 < count }
+    ensures gives { Gives result rules.new.site (put_each (replaced at count) (place numbers rules.old.site) rules.old.site) }
+    ensures rest { state_of rules.new ≡ with_site rules.new.site (state_of rules.old) }
+{
+    // its clause says that nodes are nodes
+    rules.site.tree().document();
+    let run = "\u{FFFD}".repeat(rules.alloc, count)?;
+    let place = rules.site.place();
+    rules.site.put_text(&run, place, at)
 }
 
 /// Puts a character at the appropriate place.

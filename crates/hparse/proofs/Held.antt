@@ -1,28 +1,32 @@
 -- What a feeding holds after more items, and after the end of the text.
-use Rattle.std.proofs.Common.{◌≡◌, ℕ, ◌+◌, false, length, List, [], ◌∷◌, ◌++◌, sym, refl, ap, ◌∙◌, subst, Result, Ok, Err, append-nil, append_assoc, map}
+use Rattle.std.proofs.Common.{◌≡◌, ◌<◌, arith, ℕ, zero, suc, ◌+◌, true, false, length, List, [], ◌∷◌, ◌++◌, sym, refl, ap, ◌∙◌, subst, Result, Ok, Err, append-nil, append_assoc, map}
 use Rattle.std.specs.Prelude.{is_err, MatchResult}
 use Rattle.std.specs.Bool.{◌==◌}
 use Rattle.std.specs.Char.{len_utf8}
 use Rattle.std.specs.List.Sorted.{IsPermutation}
-use Rattle.std.proofs.lemmas.List.Sorted.{IsPermutation-trans, IsPermutation-sym, IsPermutation-refl, IsPermutation-middle, IsPermutation-to_front}
+use Rattle.std.proofs.lemmas.List.Sorted.{IsPermutation-refl, IsPermutation-append_right, IsPermutation-append_comm}
 use Rattle.names.specs.declared.error.ParseError.{ParseError}
 use Rattle.names.specs.declared.placed.Placed.{Placed}
 use Rattle.names.specs.declared.raw.RawKind.{RawKind}
 use Rattle.names.specs.declared.refusal.Refusal.{Refusal}
 use Rattle.names.specs.Names.{Texts, Grows}
 use Rattle.names.specs.Sink.{Hands}
-use Rattle.names.specs.Placed.{placed}
+use Rattle.names.specs.Placed.{placed, error}
+use Rattle.names.specs.declared.error.ErrorCode.TheVariants.{ReplacedBytes}
 use Rattle.names.proofs.Handing.{grows_not}
-use Rattle.htext.specs.Items.{CharItem, Character, InputError, characters_among, errors_among}
+use Rattle.htext.specs.Items.{CharItem, Character, InputError, characters_among, errors_among, items, bad_each, input_errors}
 use Rattle.htext.specs.Run.{run_items}
 use Rattle.htoken.specs.Standing.{start_kind}
-use Rattle.htoken.specs.Token.{Tok, Event, Reports, Item}
+use Rattle.htoken.specs.declared.token.Token.{Token}
+use Rattle.htoken.specs.Run.{replaced}
+use Rattle.htoken.proofs.Handing.{reports_given}
+use Rattle.htoken.specs.Token.{Tok, Event, Reports, Item, gives_item}
 use Rattle.htoken.specs.Tokens.{IsRefused, AreFront, eof_of, tokens_in, errors_in}
 use Rattle.htoken.specs.Handing.{HandsEvents}
 use Rattle.charref.specs.Reference.{Entities}
 use Rattle.htoken.specs.declared.tokenizer.Tokenizer.{Tokenizer}
 use Rattle.htoken.specs.Tokenizing.{HasTaken, holds, in_run, Takes, take_ran_out, take_refused, take_sink_refused, take_took, Finishes, finish_ran_out, finish_sink_refused, finish_took}
-use Rattle.htoken.proofs.Cutting.{tokens_in-append, errors_in-append}
+use Rattle.htoken.proofs.Cutting.{tokens_in-append, errors_in-append, tokens_in-map, errors_in-map}
 use Rattle.hparse.specs.Input.{Manner, Began, Handed}
 use Rattle.hparse.specs.Intake.{Intake}
 use Rattle.hparse.specs.Holding.{WasFed, HoldsItems, TakesItems, items_ran_out, items_stopped, items_refused, items_taken, Proceeds, EndsText, text_ran_out, text_stopped, text_taken}
@@ -65,12 +69,11 @@ taken_front table start t names text taken (in_run h) more end =
       front_is = ap (λ (x : List Tok). x ++ eof_of end more) st.tokens_are;
     }
 
--- one more error, among what came before
-with_error : (before after : List ParseError) (e : ParseError) → IsPermutation ((before ++ e ∷ []) ++ after) ((before ++ after) ++ e ∷ [])
-with_error before after e =
-    subst (λ (x : List ParseError). IsPermutation x ((before ++ after) ++ e ∷ [])) (sym (append_assoc before (e ∷ []) after))
-    (IsPermutation-trans (before ++ e ∷ after) (e ∷ (before ++ after)) ((before ++ after) ++ e ∷ []) (IsPermutation-middle before e after)
-    (IsPermutation-sym ((before ++ after) ++ e ∷ []) (e ∷ (before ++ after)) (IsPermutation-to_front (before ++ after) e)))
+-- more errors, among what came before
+with_errors : (before after es : List ParseError) → IsPermutation ((before ++ es) ++ after) ((before ++ after) ++ es)
+with_errors before after es =
+    subst (λ (x : List ParseError). IsPermutation x ((before ++ after) ++ es)) (sym (append_assoc before es after))
+    (subst (IsPermutation (before ++ (es ++ after))) (sym (append_assoc before after es)) (IsPermutation-append_right before (es ++ after) (after ++ es) (IsPermutation-append_comm es after)))
 
 -- the characters of what was handed over, what is now, and what comes after
 with_more : (items xs more : List CharItem) → characters_among items ++ (characters_among xs ++ characters_among more) ≡ characters_among (items ++ (xs ++ more))
@@ -112,53 +115,95 @@ module _ {S : Type 0} (gives : S → Item → Result (Unit {0}) Refusal → S �
                 (subst (λ (n : Texts). HasTaken m.table (start_kind m.start) old.tokenizer n (characters_among (items ++ InputError e ∷ [])) h.taken) (sym names_are)
                 (subst (λ (x : List Placed). HasTaken m.table (start_kind m.start) old.tokenizer old.names x h.taken) text_is h.has_taken));
             handed = handed_as gives new.names began new.sink (tokens_in h.taken ++ []) (tokens_in h.taken) (all_errors ++ e ∷ []) (errors_among (items ++ InputError e ∷ []) ++ errors_in h.taken) (Ok tt) (append-nil (tokens_in h.taken))
-                (subst (λ (x : List ParseError). IsPermutation (x ++ errors_in h.taken) (all_errors ++ e ∷ [])) (sym (errors_among-append items (InputError e ∷ []))) (with_error (errors_among items) (errors_in h.taken) e))
+                (subst (λ (x : List ParseError). IsPermutation (x ++ errors_in h.taken) (all_errors ++ e ∷ [])) (sym (errors_among-append items (InputError e ∷ []))) (with_errors (errors_among items) (errors_in h.taken) (e ∷ [])))
                 (after_error (Ok tt) given);
             unstopped = noted;
           };
         })
 
   module _ (grows : Grows old.names new.names) where
-    -- the events after those that were taken
-    after_events : (events : List Event) (answer : Result (Unit {0}) Refusal) → HandsEvents gives new.names old.sink events answer new.sink
-        → Handed gives new.names began (tokens_in (h.taken ++ events)) (errors_among items ++ errors_in (h.taken ++ events)) answer new.sink
-    after_events events answer given =
-        subst (λ (ks : List Tok). Handed gives new.names began ks (errors_among items ++ errors_in (h.taken ++ events)) answer new.sink) (sym (tokens_in-append h.taken events))
+    -- the events after those that were taken, where these errors were handed over before them
+    after_events : (es : List ParseError) (mid : S) → Handed gives old.names began (tokens_in h.taken) ((errors_among items ++ es) ++ errors_in h.taken) (Ok tt) mid
+        → (events : List Event) (answer : Result (Unit {0}) Refusal) → HandsEvents gives new.names mid events answer new.sink
+        → Handed gives new.names began (tokens_in (h.taken ++ events)) ((errors_among items ++ es) ++ errors_in (h.taken ++ events)) answer new.sink
+    after_events es mid told events answer given =
+        let before : List ParseError = errors_among items ++ es in
+        subst (λ (ks : List Tok). Handed gives new.names began ks ((errors_among items ++ es) ++ errors_in (h.taken ++ events)) answer new.sink) (sym (tokens_in-append h.taken events))
         (subst (λ (x : List ParseError). Handed gives new.names began (tokens_in h.taken ++ tokens_in events) x answer new.sink)
-        (append_assoc (errors_among items) (errors_in h.taken) (errors_in events) ∙ ap (λ (x : List ParseError). errors_among items ++ x) (sym (errors_in-append h.taken events)))
-        (handed_more gives old.names new.names grows began old.sink new.sink (tokens_in h.taken) (errors_among items ++ errors_in h.taken) events answer h.handed given))
+        (append_assoc (errors_among items ++ es) (errors_in h.taken) (errors_in events) ∙ ap (λ (x : List ParseError). (errors_among items ++ es) ++ x) (sym (errors_in-append h.taken events)))
+        (handed_more gives old.names new.names grows began mid new.sink (tokens_in h.taken) ((errors_among items ++ es) ++ errors_in h.taken) events answer told given))
 
-    -- characters
-    pub holds_characters : (xs : List CharItem) → errors_among xs ≡ [] → new.unfed ≡ [] → (answer : Result (Unit {0}) Refusal) → new.stopped ≡ is_err answer
-        → Takes gives m.table (start_kind m.start) (characters_among items) (characters_among xs) h.taken new.names old.sink answer new.sink new.tokenizer → TakesItems gives m began items xs answer new
-    holds_characters xs none unfed answer noted (take_ran_out events e handed front) = items_ran_out e
-    holds_characters xs none unfed answer noted (take_refused name at events e handed refused) =
-        items_refused name at (tokens_in (h.taken ++ events)) (errors_among items ++ errors_in (h.taken ++ events)) e (noted ∙ ap is_err e) (after_events events (Ok tt) handed)
+    -- items, the errors of which were handed over first
+    holds_items : (xs : List CharItem) (mid : S) → Handed gives old.names began (tokens_in h.taken) ((errors_among items ++ errors_among xs) ++ errors_in h.taken) (Ok tt) mid
+        → new.unfed ≡ [] → (answer : Result (Unit {0}) Refusal) → new.stopped ≡ is_err answer
+        → Takes gives m.table (start_kind m.start) (characters_among items) (characters_among xs) h.taken new.names mid answer new.sink new.tokenizer → TakesItems gives m began items xs answer new
+    holds_items xs mid told unfed answer noted (take_ran_out events e handed front) = items_ran_out e
+    holds_items xs mid told unfed answer noted (take_refused name at events e handed refused) =
+        items_refused name at (tokens_in (h.taken ++ events)) _ e (noted ∙ ap is_err e) (after_events (errors_among xs) mid told events (Ok tt) handed)
         (λ more end. subst (λ (x : List Placed). IsRefused m.table (start_kind m.start) x end (tokens_in (h.taken ++ events)) name at) (with_more items xs more) (refused (characters_among more) end))
-    holds_characters xs none unfed answer noted (take_sink_refused x events e handed front) =
-        items_stopped x (h.taken ++ events) (errors_among items ++ errors_in (h.taken ++ events)) e (noted ∙ ap is_err e) (after_events events (Err x) handed)
+    holds_items xs mid told unfed answer noted (take_sink_refused x events e handed front) =
+        items_stopped x (h.taken ++ events) _ e (noted ∙ ap is_err e) (after_events (errors_among xs) mid told events (Err x) handed)
         (λ more end. subst (λ (x : List Placed). AreFront m.table (start_kind m.start) x end (h.taken ++ events)) (with_more items xs more) (front (characters_among more) end))
-    holds_characters xs none unfed answer noted (take_took events e handed has) =
+    holds_items xs mid told unfed answer noted (take_took events e handed has) =
         items_taken e (record {
           fed = items ++ xs;
           items_are = all_fed unfed (items ++ xs);
           was_fed = record {
             taken = h.taken ++ events;
             has_taken = subst (λ (x : List Placed). HasTaken m.table (start_kind m.start) new.tokenizer new.names x (h.taken ++ events)) (sym (characters_among-append items xs)) has;
-            handed = subst (λ (x : List ParseError). Handed gives new.names began (tokens_in (h.taken ++ events)) (x ++ errors_in (h.taken ++ events)) (Ok tt) new.sink)
-                (sym (append-nil (errors_among items)) ∙ ap (λ (x : List ParseError). errors_among items ++ x) (sym none) ∙ sym (errors_among-append items xs)) (after_events events (Ok tt) handed);
+            handed = subst (λ (x : List ParseError). Handed gives new.names began (tokens_in (h.taken ++ events)) (x ++ errors_in (h.taken ++ events)) (Ok tt) new.sink) (sym (errors_among-append items xs))
+                (after_events (errors_among xs) mid told events (Ok tt) handed);
             unstopped = noted ∙ ap is_err e;
           };
         })
 
+    -- characters
+    no_errors : (es : List ParseError) → es ≡ [] → Handed gives old.names began (tokens_in h.taken) ((errors_among items ++ es) ++ errors_in h.taken) (Ok tt) old.sink
+    no_errors es none =
+        subst (λ (x : List ParseError). Handed gives old.names began (tokens_in h.taken) (x ++ errors_in h.taken) (Ok tt) old.sink)
+        (sym (append-nil (errors_among items)) ∙ ap (λ (x : List ParseError). errors_among items ++ x) (sym none)) h.handed
+
+    pub holds_characters : (xs : List CharItem) → errors_among xs ≡ [] → new.unfed ≡ [] → (answer : Result (Unit {0}) Refusal) → new.stopped ≡ is_err answer
+        → Takes gives m.table (start_kind m.start) (characters_among items) (characters_among xs) h.taken new.names old.sink answer new.sink new.tokenizer → TakesItems gives m began items xs answer new
+    holds_characters xs none unfed answer noted takes = holds_items xs old.sink (no_errors (errors_among xs) none) unfed answer noted takes
+
     -- the end
+    at_end : (events : List Event) (answer : Result (Unit {0}) Refusal) → HandsEvents gives new.names old.sink events answer new.sink
+        → Handed gives new.names began (tokens_in (h.taken ++ events)) (errors_among items ++ errors_in (h.taken ++ events)) answer new.sink
+    at_end events answer given =
+        subst (λ (x : List ParseError). Handed gives new.names began (tokens_in (h.taken ++ events)) (x ++ errors_in (h.taken ++ events)) answer new.sink) (append-nil (errors_among items))
+        (after_events [] old.sink (no_errors [] refl) events answer given)
+
     pub ends_text : (end : ℕ) (answer : Result (Unit {0}) Refusal)
         → Finishes gives m.table (start_kind m.start) end (characters_among items) h.taken new.names old.sink answer new.sink → EndsText gives m began items end answer new
     ends_text end answer (finish_ran_out events e handed front) = text_ran_out e
     ends_text end answer (finish_sink_refused x events e handed front) =
-        text_stopped x (h.taken ++ events) (errors_among items ++ errors_in (h.taken ++ events)) e (after_events events (Err x) handed) front
+        text_stopped x (h.taken ++ events) (errors_among items ++ errors_in (h.taken ++ events)) e (at_end events (Err x) handed) front
     ends_text end answer (finish_took events e handed t) =
-        text_taken (tokens_in (h.taken ++ events)) (errors_in (h.taken ++ events)) e t (after_events events (Ok tt) handed)
+        text_taken (tokens_in (h.taken ++ events)) (errors_in (h.taken ++ events)) e t (at_end events (Ok tt) handed)
+
+  -- errors that were handed over before any of these characters
+  module _ (es : List ParseError) where
+    told_after : (answer : Result (Unit {0}) Refusal) (mid : S) → HandsEvents gives old.names old.sink (map Reports es) answer mid
+        → Handed gives old.names began (tokens_in h.taken) ((errors_among items ++ es) ++ errors_in h.taken) answer mid
+    told_after answer mid given =
+        handed_as gives old.names began mid _ _ _ _ answer
+        (ap (λ (ks : List Tok). tokens_in h.taken ++ ks) (ap tokens_in (sym (append-nil (map Reports es))) ∙ tokens_in-map es []) ∙ append-nil (tokens_in h.taken))
+        (subst (λ (x : List ParseError). IsPermutation ((errors_among items ++ es) ++ errors_in h.taken) ((errors_among items ++ errors_in h.taken) ++ x)) (sym (ap errors_in (sym (append-nil (map Reports es))) ∙ errors_in-map es []))
+        (with_errors (errors_among items) (errors_in h.taken) es))
+        (handed_more gives old.names old.names (grows_not old.names) began old.sink mid (tokens_in h.taken) (errors_among items ++ errors_in h.taken) (map Reports es) answer h.handed given)
+
+    -- one of them was refused
+    pub stops_telling : (xs : List CharItem) (e : Refusal) → new.names ≡ old.names → new.stopped ≡ true → HandsEvents gives old.names old.sink (map Reports es) (Err e) new.sink → TakesItems gives m began items xs (Err e) new
+    stops_telling xs e names_are noted given =
+        items_stopped e h.taken _ refl noted (subst (λ (n : Texts). Handed gives n began (tokens_in h.taken) ((errors_among items ++ es) ++ errors_in h.taken) (Err e) new.sink) (sym names_are) (told_after (Err e) new.sink given))
+        (λ more end. subst (λ (x : List Placed). AreFront m.table (start_kind m.start) x end h.taken) (with_more items xs more)
+        (taken_front m.table (start_kind m.start) old.tokenizer old.names (characters_among items) h.taken h.has_taken (characters_among xs ++ characters_among more) end))
+
+  -- .. or all were taken, and then characters
+  pub holds_told : Grows old.names new.names → (xs : List CharItem) (mid : S) → HandsEvents gives old.names old.sink (map Reports (errors_among xs)) (Ok tt) mid → new.unfed ≡ [] → (answer : Result (Unit {0}) Refusal) → new.stopped ≡ is_err answer
+      → Takes gives m.table (start_kind m.start) (characters_among items) (characters_among xs) h.taken new.names mid answer new.sink new.tokenizer → TakesItems gives m began items xs answer new
+  holds_told grows xs mid given unfed answer noted takes = holds_items grows xs mid (told_after (errors_among xs) (Ok tt) mid given) unfed answer noted takes
 
 -- A RUN
 
@@ -187,34 +232,35 @@ module _ {S : Type 0} (gives : S → Item → Result (Unit {0}) Refusal → S �
     abbrev RunGives : List CharItem → Type 0
     RunGives run = (m : Manner) (began : Began S) (before : List CharItem) → WasFed gives m began old before → TakesItems gives m began before run answer new
 
-    -- The characters are handed over one by one; all are fed with the last.
-    fed_at_last : (unfed : List CharItem) (p : Placed) (ps : List Placed) → RunGives (unfed ++ map Character (p ∷ ps))
-        → Hands (Proceeds gives) (record old { unfed = unfed }) (map Character (p ∷ ps)) answer new
-    fed_at_last unfed p [] law = (answer, new, last, ended answer)
+    -- The items are handed over one by one; all are fed with the last.
+    fed_at_last : (unfed : List CharItem) (x : CharItem) (xs : List CharItem) → RunGives (unfed ++ x ∷ xs) → Hands (Proceeds gives) (record old { unfed = unfed }) (x ∷ xs) answer new
+    fed_at_last unfed x [] law = (answer, new, last, ended answer)
       where
-        last : Proceeds gives (record old { unfed = unfed }) (Character p) answer new
+        last : Proceeds gives (record old { unfed = unfed }) x answer new
         last m began before h =
-            subst (λ (b : List CharItem). TakesItems gives m began b (Character p ∷ []) answer new) h.items_are
-            (after_unfed m began h.fed unfed (Character p ∷ []) answer new (law m began h.fed (record { taken = h.was_fed.taken; has_taken = h.was_fed.has_taken; handed = h.was_fed.handed; unstopped = h.was_fed.unstopped })))
+            subst (λ (b : List CharItem). TakesItems gives m began b (x ∷ []) answer new) h.items_are
+            (after_unfed m began h.fed unfed (x ∷ []) answer new (law m began h.fed (record { taken = h.was_fed.taken; has_taken = h.was_fed.has_taken; handed = h.was_fed.handed; unstopped = h.was_fed.unstopped })))
 
         ended : (r : Result (Unit {0}) Refusal) → MatchResult r (λ _. (r ≡ Ok tt) × (new ≡ new)) (λ e. (r ≡ Err e) × (new ≡ new))
         ended (Ok tt) = (refl, refl)
         ended (Err e) = (refl, refl)
-    fed_at_last unfed p (q ∷ ps) law =
-        (Ok tt, record old { unfed = unfed ++ Character p ∷ [] }, held, fed_at_last (unfed ++ Character p ∷ []) q ps (subst RunGives (sym (append_assoc unfed (Character p ∷ []) (map Character (q ∷ ps)))) law))
+    fed_at_last unfed x (y ∷ ys) law =
+        (Ok tt, record old { unfed = unfed ++ x ∷ [] }, held, fed_at_last (unfed ++ x ∷ []) y ys (subst RunGives (sym (append_assoc unfed (x ∷ []) (y ∷ ys))) law))
       where
-        held : Proceeds gives (record old { unfed = unfed }) (Character p) (Ok tt) (record old { unfed = unfed ++ Character p ∷ [] })
+        held : Proceeds gives (record old { unfed = unfed }) x (Ok tt) (record old { unfed = unfed ++ x ∷ [] })
         held m began before h =
             items_taken refl (record {
               fed = h.fed;
-              items_are = sym (append_assoc h.fed unfed (Character p ∷ [])) ∙ ap (λ (b : List CharItem). b ++ Character p ∷ []) h.items_are;
+              items_are = sym (append_assoc h.fed unfed (x ∷ [])) ∙ ap (λ (b : List CharItem). b ++ x ∷ []) h.items_are;
               was_fed = record { taken = h.was_fed.taken; has_taken = h.was_fed.has_taken; handed = h.was_fed.handed; unstopped = h.was_fed.unstopped };
             })
 
+    pub all_handed : old.unfed ≡ [] → (x : CharItem) (xs : List CharItem) → RunGives (x ∷ xs) → Hands (Proceeds gives) old (x ∷ xs) answer new
+    all_handed none x xs law = subst (λ (u : List CharItem). Hands (Proceeds gives) (record old { unfed = u }) (x ∷ xs) answer new) (sym none) (fed_at_last [] x xs law)
+
     run_handed : old.unfed ≡ [] → (at : ℕ) (run : List ℕ) → false ≡ (length run == 0) → RunGives (run_items at run) → Hands (Proceeds gives) old (run_items at run) answer new
     run_handed none at [] some law = absurd cc
-    run_handed none at (b ∷ bs) some law =
-        subst (λ (u : List CharItem). Hands (Proceeds gives) (record old { unfed = u }) (run_items at (b ∷ bs)) answer new) (sym none) (fed_at_last [] (record { ch = b; at = at }) (placed (at + len_utf8 b) bs) law)
+    run_handed none at (b ∷ bs) some law = all_handed none (Character (record { ch = b; at = at })) (map Character (placed (at + len_utf8 b) bs)) law
 
     -- as a tokenizer takes it
     pub run_taken : old.unfed ≡ [] → new.unfed ≡ [] → (at : ℕ) (run : List ℕ) → false ≡ (length run == 0) → Grows old.names new.names → new.stopped ≡ is_err answer
@@ -226,3 +272,40 @@ module _ {S : Type 0} (gives : S → Item → Result (Unit {0}) Refusal → S �
         holds_characters gives m began old new before h grows (run_items at run) (no_errors_in_run (placed at run)) none_after answer noted
         (subst (λ (ps : List Placed). Takes gives m.table (start_kind m.start) (characters_among before) ps h.taken new.names old.sink answer new.sink new.tokenizer)
         (sym (characters_of_run (placed at run))) (takes m began before h)))
+
+-- BAD PARTS
+
+characters_of_bad : (n at : ℕ) → characters_among (items (bad_each at n)) ≡ replaced at n
+characters_of_bad zero at = refl
+characters_of_bad (suc n) at = ap (λ (ps : List Placed). record { ch = 0xFFFD; at = at } ∷ ps) (characters_of_bad n (at + 1))
+
+errors_of_bad : (n at : ℕ) → errors_among (items (bad_each at n)) ≡ input_errors (bad_each at n)
+errors_of_bad zero at = refl
+errors_of_bad (suc n) at = ap (λ (es : List ParseError). error ReplacedBytes at ∷ es) (errors_of_bad n (at + 1))
+
+module _ {S : Type 0} (gives : S → ParseError → Result (Unit {0}) Refusal → S → Type 0) (gives_token : S → Token → Result (Unit {0}) Refusal → S → Type 0) (old new : Intake S) (none : old.unfed ≡ []) (at : ℕ) where
+  abbrev to_item : S → Item → Result (Unit {0}) Refusal → S → Type 0
+  to_item = gives_item gives gives_token
+
+  -- an error is refused
+  pub bad_untold : (n : ℕ) (e : Refusal) → 0 < n → new.names ≡ old.names → new.stopped ≡ true → Hands gives old.sink (input_errors (bad_each at n)) (Err e) new.sink
+      → Hands (Proceeds to_item) old (items (bad_each at n)) (Err e) new
+  bad_untold zero e some names_are noted told = absurd (omega (arith, some))
+  bad_untold (suc n) e some names_are noted told =
+      all_handed to_item old new (Err e) none _ _ (λ m began before h.
+      stops_telling to_item m began old new before h (input_errors (bad_each at (suc n))) (items (bad_each at (suc n))) e names_are noted
+      (reports_given gives gives_token old.names (input_errors (bad_each at (suc n))) old.sink new.sink (Err e) told))
+
+  -- all are taken, and then the characters are fed
+  pub bad_fed : (n : ℕ) (mid : S) (answer : Result (Unit {0}) Refusal) → 0 < n → new.unfed ≡ [] → new.names ≡ old.names → new.stopped ≡ is_err answer → Hands gives old.sink (input_errors (bad_each at n)) (Ok tt) mid
+      → ((table : Entities) (start : RawKind) (names : Texts) (text : List Placed) (taken : List Event) → HasTaken table start old.tokenizer names text taken → Takes to_item table start text (replaced at n) taken names mid answer new.sink new.tokenizer)
+      → Hands (Proceeds to_item) old (items (bad_each at n)) answer new
+  bad_fed zero mid answer some all_fed names_are noted told takes = absurd (omega (arith, some))
+  bad_fed (suc n) mid answer some all_fed names_are noted told takes =
+      all_handed to_item old new answer none _ _ (λ m began before h.
+      holds_told to_item m began old new before h (subst (Grows old.names) (sym names_are) (grows_not old.names)) (items (bad_each at (suc n))) mid
+      (subst (λ (es : List ParseError). HandsEvents to_item old.names old.sink (map Reports es) (Ok tt) mid) (sym (errors_of_bad (suc n) at))
+      (reports_given gives gives_token old.names (input_errors (bad_each at (suc n))) old.sink mid (Ok tt) told)) all_fed answer noted
+      (subst (λ (ps : List Placed). Takes to_item m.table (start_kind m.start) (characters_among before) ps h.taken new.names mid answer new.sink new.tokenizer) (sym (characters_of_bad (suc n) at))
+      (subst (λ (t : Texts). Takes to_item m.table (start_kind m.start) (characters_among before) (replaced at (suc n)) h.taken t mid answer new.sink new.tokenizer) (sym names_are)
+      (takes m.table (start_kind m.start) old.names (characters_among before) h.taken h.has_taken))))

@@ -1,16 +1,19 @@
 //! A tokenizer that is fed the text of an input.
 
-ghost use Rattle.std.specs.Prelude.{◌≡◌, List, [], true};
+ghost use Rattle.std.specs.Prelude.{◌≡◌, ◌+◌, ◌≤◌, List, [], true};
 ghost use Rattle.names.specs.Names.{AreNames, Grows};
-ghost use Rattle.htext.specs.Items.{CharItem};
+ghost use Rattle.names.specs.Sink.{Hands};
+ghost use Rattle.htext.specs.declared.decoder.TheConstants.{MAX_INPUT};
+ghost use Rattle.htext.specs.Items.{CharItem, bad_each, input_errors};
 ghost use Rattle.htoken.specs.Token.{gives_item};
 ghost use Rattle.hparse.specs.Holding.{HoldsItems, EndsText, Refuses};
 ghost use Rattle.hparse.specs.Input.{Manner, Began};
 
 use charref::Table;
+use hmarkup::ErrorSink;
 use htext::CharSink;
 use htoken::{Start, TokenSink, Tokenizer};
-use names::{Names, ParseError, Refusal};
+use names::{ErrorCode, Names, ParseError, Refusal};
 use std::alloc::Global;
 use std::marker::Model;
 
@@ -32,6 +35,22 @@ impl<'t, S> Model for Feeding<'t, S> {
     ghost Value = { Intake S };
 
     ghost view = { λ f. record { names = f.names; tokenizer = f.tokenizer; sink = f.sink; stopped = f.stopped; unfed = [] } };
+}
+
+/// Hands over the errors of so many bad parts of one byte each, the first of which is at `at`.
+fn tell_bad<S: ErrorSink>(count: usize, at: u64, sink: &mut S) -> Result<(), Refusal>
+    requires { at + count ≤ MAX_INPUT }
+    ensures { Hands S.gives sink.old (input_errors (bad_each at count)) result sink.new }
+{
+    let mut told = 0;
+    while told < count {
+        sink.take_error(ParseError {
+            code: ErrorCode::ReplacedBytes,
+            at: at + told as u64,
+        })?;
+        told += 1;
+    }
+    Ok(())
 }
 
 impl<'t, S: TokenSink> Feeding<'t, S> {
@@ -132,6 +151,19 @@ impl<'t, S: TokenSink> CharSink for Feeding<'t, S> {
         let answer = self
             .tokenizer
             .feed_text(&mut self.names, run, at, &mut self.sink);
+        self.stopped = answer.is_err();
+        answer
+    }
+
+    fn take_bad(&mut self, count: usize, at: u64) -> Result<(), Refusal> {
+        if count == 0 || !self.tokenizer.takes_bad() {
+            return self.take_bad_by_one(count, at);
+        }
+        if let Err(refusal) = tell_bad(count, at, &mut self.sink) {
+            self.stopped = true;
+            return Err(refusal);
+        }
+        let answer = self.tokenizer.feed_bad(count, at, &mut self.sink);
         self.stopped = answer.is_err();
         answer
     }

@@ -1,5 +1,5 @@
 -- How a front of bytes is read, and the bytes after it.
-use Rattle.std.proofs.Common.{◌≡◌, ℕ, ◌≤◌, ◌+◌, ◌-◌, Bool, true, false, List, [], ◌∷◌, ◌++◌, length, map, take, drop, sym, refl, ap, ◌∙◌, subst, arith, append_assoc, append-nil, None, Some, Result, Ok, Err}
+use Rattle.std.proofs.Common.{◌≡◌, ℕ, zero, suc, ◌<◌, ◌≤◌, ◌+◌, ◌-◌, Bool, true, false, List, [], ◌∷◌, ◌++◌, length, map, take, drop, sym, refl, ap, ◌∙◌, subst, arith, append_assoc, append-nil, None, Some, Result, Ok, Err}
 use Rattle.std.proofs.lemmas.List.{drop_at, take_at, take-append-le, drop-append-le, length-append, length-take-le, take-append-drop, length-drop, drop-drop, take_all}
 use Rattle.std.proofs.lemmas.Str.{IsUtf8-nil}
 use Rattle.std.specs.Str.{chars, IsUtf8}
@@ -12,9 +12,9 @@ use Rattle.htext.specs.declared.BadBytes.{BadBytes}
 use Rattle.htext.specs.declared.BadBytes.TheVariants.{Refuse, Replace}
 use Rattle.htext.specs.declared.reading.Next.{Next}
 use Rattle.htext.specs.declared.reading.Next.TheVariants.{Bad as NextBad, Waits, Refused}
-use Rattle.htext.specs.Next.{next_of}
+use Rattle.htext.specs.Next.{next_of, AreBad, AreReplaced}
 use Rattle.htext.specs.Text.{Policy, Read, Whole, Bad, reads, normalized, ends_in_return, text as text_of, valid_len, front_len, decoded, settled, refusal_of}
-use Rattle.htext.specs.Items.{CharItem, items}
+use Rattle.htext.specs.Items.{CharItem, items, bad_each}
 use Rattle.htext.specs.Decoding.{HasRead, IsReading, IsRefusedFrom, IsUndecided, HandsOn, Feeds, sink_refused, took_all, Stops, by_sink, by_bytes}
 use Rattle.htext.proofs.Valid.{take-take, valid_front, valid_len_le, valid_front_utf8, length-valid_front, valid_len-append}
 use Rattle.htext.proofs.Parts.{reads_at, reads_nil, reads_of_text, reads_after_bad}
@@ -238,6 +238,45 @@ module _ (bom : Bom) (bad : BadBytes) (limit read : ℕ) (after_return : Bool) (
           let none : front_len false bad (limit - read) (drop read all) ≡ 0 = ap (front_len false bad (limit - read)) (sym (append-nil (drop read all))) ∙ stuck_by bad (drop read all) (limit - read) read stuck r is false [] in
           settled_text none
 
+-- BYTES THAT ARE BAD PARTS BY THEMSELVES
+
+module _ (bom : Bom) (bad : BadBytes) (limit : ℕ) (all : List ℕ) where
+  abbrev IsAfter : ℕ → ℕ → Type 0
+  IsAfter read n = IsReading (policy bom bad limit) (read + n) false all × (text_of bom (take (read + n) all) ≡ text_of bom (take read all) ++ bad_each read n)
+
+  after_none : (read : ℕ) → IsReading (policy bom bad limit) read false all → IsAfter read 0
+  after_none read h =
+      let same : read ≡ read + 0 = omega arith in (
+        subst (λ (k : ℕ). IsReading (policy bom bad limit) k false all) same h,
+        ap (λ (k : ℕ). text_of bom (take k all)) (sym same) ∙ sym (append-nil (text_of bom (take read all))),
+      )
+
+  -- one of them, and those after it
+  one_more : (read n : ℕ) (after_return : Bool) → IsReading (policy bom bad limit) read after_return all → AreReplaced bad (drop read all) (limit - read) (suc n)
+      → (IsReading (policy bom bad limit) (read + 1) false all → AreReplaced bad (drop (read + 1) all) (limit - (read + 1)) n → IsAfter (read + 1) n) → IsAfter read (suc n)
+  one_more read n after_return h are more =
+      let w : WhatIsBad bad (drop read all) (limit - read) 1 = record { how = are.how (omega arith); none = are.are_bad.0; is_bad = are.are_bad.1; fits = omega (arith, are.fits) } in
+      let left : drop 1 (drop read all) ≡ drop (read + 1) all = drop-drop 1 read all in
+      let rest = more (bad_reading bom bad limit read after_return all h 1 w) (record {
+        how = λ some. are.how (omega arith);
+        are_bad = subst (AreBad n) left are.are_bad.2;
+        within = omega (arith, are.within, length-drop read all, length-drop (read + 1) all);
+        fits = omega (arith, are.fits);
+      }) in
+      let same : (read + 1) + n ≡ read + suc n = omega arith in (
+        subst (λ (k : ℕ). IsReading (policy bom bad limit) k false all) same rest.0,
+        ap (λ (k : ℕ). text_of bom (take k all)) (sym same) ∙ rest.1 ∙ ap (λ (x : List Read). x ++ bad_each (read + 1) n) (bad_text bom bad limit read after_return all h 1 w)
+            ∙ append_assoc (text_of bom (take read all)) (Bad read ∷ []) (bad_each (read + 1) n),
+      )
+
+  after_more : (n read : ℕ) → IsReading (policy bom bad limit) read false all → AreReplaced bad (drop read all) (limit - read) n → IsAfter read n
+  after_more zero read h are = after_none read h
+  after_more (suc n) read h are = one_more read n false h are (after_more n (read + 1))
+
+  pub after_each : (n read : ℕ) (after_return : Bool) → IsReading (policy bom bad limit) read after_return all → AreReplaced bad (drop read all) (limit - read) n → 0 < n → IsAfter read n
+  after_each zero read after_return h are some = absurd (omega (arith, some))
+  after_each (suc n) read after_return h are some = one_more read n after_return h are (after_more n (read + 1))
+
 -- THE SINK
 
 module _ {S : Type 0} (gives : S → CharItem → Result (Unit {0}) Refusal → S → Type 0) where
@@ -299,6 +338,10 @@ same_next result next bad bad' count bytes xs limit limit' read read' is given a
     ∙ ap (λ (x : ℕ). next_of bad' xs (x - read) read) c
     ∙ ap (λ (x : ℕ). next_of bad' xs (limit' - x) x) d) ∙ sym is ∙ given
 
+pub same_each : (n : ℕ) (bad bad' : BadBytes) (count : ℕ) (bytes xs : List ℕ) (limit limit' read read' : ℕ) → AreReplaced bad (take (length bytes - count) (drop count bytes)) (limit - read) n
+    → bad ≡ bad' → drop count bytes ≡ xs → limit ≡ limit' → read ≡ read' → AreReplaced bad' xs (limit' - read') n
+same_each n bad bad' count bytes xs limit limit' read read' are a b c d = rw (sym a, sym b, sym c, sym d, sym (left_is count bytes)) are
+
 module _ {S : Type 0} (gives : S → CharItem → Result (Unit {0}) Refusal → S → Type 0) (bom : Bom) (bad : BadBytes) (limit read : ℕ) (after_return : Bool) (all : List ℕ) (before : List Read) (old now : S)
     (h : IsReading (policy bom bad limit) read after_return all) (so_far : HandsOn gives before (text_of bom (take read all)) old (Ok tt) now) (text : List ℕ) (is : text ≡ valid_front (limit - read) (drop read all)) (new : S) where
   now_reading : IsReading (policy bom bad limit) (read + length text) (ends_in_return after_return (map Whole (placed read (chars text)))) all
@@ -342,6 +385,19 @@ module _ {S : Type 0} (gives : S → CharItem → Result (Unit {0}) Refusal → 
       pub replaced_stops : (r : Refusal) → Hands gives new (items (Bad (read + length text) ∷ [])) (Err r) last → Stops gives (policy bom bad limit) before all old r last
       replaced_stops r handed_bad =
           sink_stops gives (policy bom bad limit) before (text_of bom (take (read + length text + n) all)) all old r last (goes_on_here bom bad limit _ _ all replaced_reading) (replaced_handed (Err r) handed_bad)
+
+    module _ (n : ℕ) (are : AreReplaced bad (drop (read + length text) all) (limit - (read + length text)) n) (some : 0 < n) (last : S) where
+      pub each_reading : IsReading (policy bom bad limit) (read + length text + n) false all
+      each_reading = (after_each bom bad limit all n _ _ now_reading are some).0
+
+      pub each_handed : (answer : Result (Unit {0}) Refusal) → Hands gives new (items (bad_each (read + length text) n)) answer last → HandsOn gives before (text_of bom (take (read + length text + n) all)) old answer last
+      each_handed answer handed_bad =
+          HandsOn-append gives before (text_of bom (take (read + length text) all)) _ old new answer last (text_handed (Ok tt) handed)
+          (handed_on gives _ _ _ new answer last (after_each bom bad limit all n _ _ now_reading are some).1 handed_bad)
+
+      pub each_stops : (r : Refusal) → Hands gives new (items (bad_each (read + length text) n)) (Err r) last → Stops gives (policy bom bad limit) before all old r last
+      each_stops r handed_bad =
+          sink_stops gives (policy bom bad limit) before (text_of bom (take (read + length text + n) all)) all old r last (goes_on_here bom bad limit _ _ all each_reading) (each_handed (Err r) handed_bad)
 
 -- ONE PIECE MORE
 

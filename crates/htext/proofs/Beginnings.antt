@@ -13,17 +13,17 @@ use Rattle.htext.proofs.Valid.{starts, starts_back}
 in_range : (low high c : ℕ) → low ≤ c → c ≤ high → is_in_range low high c ≡ true
 in_range low high c a b = rw (le-leb low c a, le-leb c high b) refl
 
-from_range : (low high c : ℕ) → is_in_range low high c ≡ true → (low ≤ c) × (c ≤ high)
+pub from_range : (low high c : ℕ) → is_in_range low high c ≡ true → (low ≤ c) × (c ≤ high)
 from_range low high c h = let k = and_parts _ _ h in (leb-true low c k.0, leb-true c high k.1)
 
 -- This byte may stand second, after that first one (Unicode, table 3-7).
-record MayFollow (first byte : ℕ) : Type 0 where
-  least : 128 ≤ byte
-  most : byte ≤ 191
-  after_e0 : first ≡ 0xE0 → 0xA0 ≤ byte
-  after_ed : first ≡ 0xED → byte ≤ 0x9F
-  after_f0 : first ≡ 0xF0 → 0x90 ≤ byte
-  after_f4 : first ≡ 0xF4 → byte ≤ 0x8F
+pub record MayFollow (first byte : ℕ) : Type 0 where
+  pub least : 128 ≤ byte
+  pub most : byte ≤ 191
+  pub after_e0 : first ≡ 0xE0 → 0xA0 ≤ byte
+  pub after_ed : first ≡ 0xED → byte ≤ 0x9F
+  pub after_f0 : first ≡ 0xF0 → 0x90 ≤ byte
+  pub after_f4 : first ≡ 0xF4 → byte ≤ 0x8F
 
 least_by : (a b : Bool) (x y : ℕ) → eqb x 0xE0 ≡ a → eqb x 0xF0 ≡ b → MayFollow x y → cond a 0xA0 (cond b 0x90 0x80) ≤ y
 least_by true b x y e f h = h.after_e0 (eqb-true x 0xE0 e)
@@ -49,7 +49,7 @@ most_back true b x y e f h = (omega arith, λ _. h, λ k. let never : ⊥ = omeg
 most_back false true x y e f h = (omega arith, λ k. absurd (grind (arith, nat_tests)), λ _. h)
 most_back false false x y e f h = (h, λ k. absurd (grind (arith, nat_tests)), λ k. absurd (grind (arith, nat_tests)))
 
-tested_follows : (x y : ℕ) → is_in_range (second_byte_min x) (second_byte_max x) y ≡ true → MayFollow x y
+pub tested_follows : (x y : ℕ) → is_in_range (second_byte_min x) (second_byte_max x) y ≡ true → MayFollow x y
 tested_follows x y h =
     let k = from_range (second_byte_min x) (second_byte_max x) y h in
     let a = least_back (eqb x 0xE0) (eqb x 0xF0) x y refl refl k.0 in
@@ -71,17 +71,17 @@ unfolding utf8_error_len
 three_open x y z a b h d e = rw (in_range 0xC2 0xF4 x a b, follows_tested x y h, in_range 0x80 0xBF z d e) refl
 
 -- the bytes of a character of two, three and four bytes
-two_bytes : (c : ℕ) → 128 ≤ c → c < 2048 → encode_utf8 c ≡ (192 + c / 64) ∷ (128 + c % 64) ∷ []
+pub two_bytes : (c : ℕ) → 128 ≤ c → c < 2048 → encode_utf8 c ≡ (192 + c / 64) ∷ (128 + c % 64) ∷ []
 unfolding encode_utf8
 two_bytes c a b = rw (le-ltb c 128 a, lt-ltb c 2048 b) refl
 
-three_bytes : (c : ℕ) → 2048 ≤ c → c < 65536 → encode_utf8 c ≡ (224 + c / 4096) ∷ (128 + c / 64 % 64) ∷ (128 + c % 64) ∷ []
+pub three_bytes : (c : ℕ) → 2048 ≤ c → c < 65536 → encode_utf8 c ≡ (224 + c / 4096) ∷ (128 + c / 64 % 64) ∷ (128 + c % 64) ∷ []
 unfolding encode_utf8
 three_bytes c a b =
     let d : 128 ≤ c = omega arith in
     rw (le-ltb c 128 d, le-ltb c 2048 a, lt-ltb c 65536 b) refl
 
-four_bytes : (c : ℕ) → 65536 ≤ c → encode_utf8 c ≡ (240 + c / 262144) ∷ (128 + c / 4096 % 64) ∷ (128 + c / 64 % 64) ∷ (128 + c % 64) ∷ []
+pub four_bytes : (c : ℕ) → 65536 ≤ c → encode_utf8 c ≡ (240 + c / 262144) ∷ (128 + c / 4096 % 64) ∷ (128 + c / 64 % 64) ∷ (128 + c % 64) ∷ []
 unfolding encode_utf8
 four_bytes c a =
     let d : 128 ≤ c = omega arith in
@@ -108,7 +108,7 @@ second_of_four c a b = record {
   after_f4 = λ e. omega arith;
 }
 
-below_all : (c : ℕ) → IsScalar c → c < 1114112
+pub below_all : (c : ℕ) → IsScalar c → c < 1114112
 below_all c s = elim (scalar_cases c s) [ inl low ↦ omega arith | inr high ↦ high.1 ]
 
 abbrev IsOpenFront : List ℕ → Type 0

@@ -121,6 +121,17 @@ by_bytes_open (x ∷ xs) more m h g =
 pub error_bounds : (bs : List ℕ) (m : ℕ) → utf8_error_len bs ≡ Some m → (1 ≤ m) × (m ≤ length bs)
 error_bounds bs m h = bounds bs m (sym (is_by_bytes bs) ∙ h)
 
+-- a byte that is a bad part by itself: it begins no character, or the next one can't follow it
+either : (b : Bool) → cond {A = Option ℕ} b (Some 1) (Some 1) ≡ Some 1
+either true = refl
+either false = refl
+
+pub error_first : (x : ℕ) (xs : List ℕ) → is_in_range 0xC2 0xF4 x ≡ false → utf8_error_len (x ∷ xs) ≡ Some 1
+error_first x xs h = is_by_bytes (x ∷ xs) ∙ rw h refl
+
+pub error_second : (x y : ℕ) (ys : List ℕ) → is_in_range (second_byte_min x) (second_byte_max x) y ≡ false → utf8_error_len (x ∷ y ∷ ys) ≡ Some 1
+error_second x y ys h = is_by_bytes (x ∷ y ∷ ys) ∙ rw h (either (is_in_range 0xC2 0xF4 x))
+
 pub error_more : (bs more : List ℕ) (m : ℕ) → utf8_error_len bs ≡ Some m → utf8_error_len (bs ++ more) ≡ Some m
 error_more bs more m h = is_by_bytes (bs ++ more) ∙ by_bytes_more bs more m (sym (is_by_bytes bs) ∙ h)
 

@@ -1,18 +1,19 @@
 -- How items are handed to a sink.
-use Rattle.std.proofs.Common.{◌≡◌, ℕ, ◌+◌, Bool, eqb, List, [], ◌∷◌, ◌++◌, sym, refl, ap, ◌∙◌, subst, Result, Ok, Err, MatchResult, append_assoc, append-nil, map, true, false, length, arith}
+use Rattle.std.proofs.Common.{◌≡◌, ℕ, suc, ◌+◌, ◌-◌, ◌<◌, ◌≤◌, Bool, eqb, List, [], ◌∷◌, ◌++◌, sym, refl, ap, ◌∙◌, subst, Result, Ok, Err, MatchResult, append_assoc, append-nil, map, true, false, length, arith}
 use Rattle.std.proofs.lemmas.List.{length-append, nil_from_length}
 use Rattle.std.proofs.lemmas.Str.{chars_past_char, chars-nil}
 use Rattle.std.specs.Prelude.{⊤}
 use Rattle.std.specs.Str.{chars, IsUtf8}
 use Rattle.std.specs.Char.{encode_utf8, len_utf8}
-use Rattle.names.specs.Placed.{placed}
+use Rattle.names.specs.Placed.{placed, error}
+use Rattle.names.specs.declared.error.ErrorCode.TheVariants.{ReplacedBytes}
 use Rattle.names.proofs.Handing.{Hands-append}
 use Rattle.names.specs.Sink.{Hands, Continues}
 use Rattle.names.specs.declared.refusal.Refusal.{Refusal}
 use Rattle.names.specs.declared.refusal.Refusal.TheVariants.{Memory}
 use Rattle.htext.specs.declared.Bom.{Bom}
-use Rattle.htext.specs.Text.{Policy, Read, Whole, read_as, normalized, refusal_of, decoded, settled}
-use Rattle.htext.specs.Items.{CharItem, items}
+use Rattle.htext.specs.Text.{Policy, Read, Whole, Bad, read_as, normalized, refusal_of, decoded, settled}
+use Rattle.htext.specs.Items.{CharItem, Character, InputError, items, bad_each}
 use Rattle.htext.specs.Decoding.{HandsOn, Feeds, IsRefusedFrom, ran_out, sink_refused, took_all}
 use Rattle.htext.proofs.Texts.{items-append, goes_on}
 
@@ -123,3 +124,33 @@ module _ {S : Type 0} (gives : S → CharItem → Result (Unit {0}) Refusal → 
   hand_all is =
       continues (Ok tt) now
       (subst (λ (x : List ℕ). Hands gives now (items (normalized bom after_return (map Whole (placed at x)))) (Ok tt) now) (sym (ap chars is ∙ chars-nil)) (refl, refl))
+
+-- BAD PARTS OF ONE BYTE EACH
+
+pub next_bad : (at count taken : ℕ) → taken < count → bad_each (at + taken) (count - taken) ≡ Bad (at + taken) ∷ bad_each (at + (taken + 1)) (count - (taken + 1))
+next_bad at count taken less =
+    let more : count - taken ≡ suc (count - (taken + 1)) = omega (arith, less) in
+    let place : at + taken + 1 ≡ at + (taken + 1) = omega arith in
+    ap (bad_each (at + taken)) more ∙ ap (λ (n : ℕ). Bad (at + taken) ∷ bad_each n (count - (taken + 1))) place
+
+pub no_bad : (at count taken : ℕ) → count ≤ taken → bad_each (at + taken) (count - taken) ≡ []
+no_bad at count taken most = let none : count - taken ≡ 0 = omega (arith, most) in ap (bad_each (at + taken)) none
+
+module _ {S : Type 0} (gives : S → CharItem → Result (Unit {0}) Refusal → S → Type 0) (old now : S) (at count taken : ℕ)
+    (takes : Continues gives old (items (bad_each at count)) now (items (bad_each (at + taken) (count - taken)))) where
+  pub bad_goes_on : (mid then : S) → taken < count → gives now (InputError (error ReplacedBytes (at + taken))) (Ok tt) mid → gives mid (Character (record { ch = 0xFFFD; at = at + taken })) (Ok tt) then
+      → Continues gives old (items (bad_each at count)) then (items (bad_each (at + (taken + 1)) (count - (taken + 1))))
+  bad_goes_on mid then less told given = λ answer new h.
+      takes answer new (subst (λ (rs : List Read). Hands gives now (items rs) answer new) (sym (next_bad at count taken less)) (Ok tt, mid, told, (Ok tt, then, given, h)))
+
+  pub bad_untold : (e : Refusal) (new : S) → taken < count → gives now (InputError (error ReplacedBytes (at + taken))) (Err e) new → Hands gives old (items (bad_each at count)) (Err e) new
+  bad_untold e new less told =
+      takes (Err e) new (subst (λ (rs : List Read). Hands gives now (items rs) (Err e) new) (sym (next_bad at count taken less)) (Err e, new, told, (refl, refl)))
+
+  pub bad_ungiven : (mid new : S) (e : Refusal) → taken < count → gives now (InputError (error ReplacedBytes (at + taken))) (Ok tt) mid → gives mid (Character (record { ch = 0xFFFD; at = at + taken })) (Err e) new
+      → Hands gives old (items (bad_each at count)) (Err e) new
+  bad_ungiven mid new e less told given =
+      takes (Err e) new (subst (λ (rs : List Read). Hands gives now (items rs) (Err e) new) (sym (next_bad at count taken less)) (Ok tt, mid, told, (Err e, new, given, (refl, refl))))
+
+  pub bad_taken : count ≤ taken → Hands gives old (items (bad_each at count)) (Ok tt) now
+  bad_taken most = takes (Ok tt) now (subst (λ (rs : List Read). Hands gives now (items rs) (Ok tt) now) (sym (no_bad at count taken most)) (refl, refl))

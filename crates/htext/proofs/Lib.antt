@@ -2,6 +2,7 @@ pub mod Valid
 pub mod Errors
 pub mod Parts
 pub mod Beginnings
+pub mod Alone
 pub mod Fronts
 pub mod Refusals
 pub mod Deciding

@@ -1,5 +1,5 @@
 -- What a sink is handed: the characters of a text, and the errors of the input stream (HTML Standard, 13.2.3.5).
-use Rattle.std.specs.Prelude.{ℕ, Bool, not, ◌&&◌, ◌||◌, ◌==◌, List, [], ◌∷◌, ◌++◌, map}
+use Rattle.std.specs.Prelude.{ℕ, zero, suc, ◌+◌, Bool, not, ◌&&◌, ◌||◌, ◌==◌, List, [], ◌∷◌, ◌++◌, map}
 use Rattle.std.specs.List.{flat_map}
 use Rattle.std.specs.Char.{is_control}
 use Rattle.names.specs.Placed.{is_space, is_noncharacter, error, error_if}
@@ -36,6 +36,11 @@ items_of r = map InputError (errors_of r) ++ Character (character_of r) ∷ []
 
 abbrev pub items : List Read → List CharItem
 items text = flat_map items_of text
+
+-- so many bad parts of one byte each, from this place on
+abbrev pub bad_each : ℕ → ℕ → List Read
+bad_each at zero = []
+bad_each at (suc n) = Bad at ∷ bad_each (at + 1) n
 
 -- the characters among what is handed over, and the errors
 abbrev pub characters_among : List CharItem → List Placed

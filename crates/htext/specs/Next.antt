@@ -1,5 +1,5 @@
 -- What stands at the front of bytes that begin with no character that fits.
-use Rattle.std.specs.Prelude.{ℕ, nat_lt, if◌then◌else◌, List, length, Option, Some, None}
+use Rattle.std.specs.Prelude.{◌≡◌, ◌<◌, ◌≤◌, ℕ, zero, suc, nat_lt, if◌then◌else◌, List, length, drop, Option, Some, None}
 use Rattle.std.specs.Str.Lossy.{utf8_valid_len, utf8_error_len}
 use Rattle.names.specs.declared.refusal.Refusal.TheVariants.{NotUtf8, TooLarge}
 use Rattle.htext.specs.declared.BadBytes.{BadBytes}
@@ -13,6 +13,18 @@ next_part Refuse (Some n) len room at = Refused (NotUtf8 at)
 next_part Refuse None len room at = Waits
 next_part Replace (Some n) len room at = if nat_lt room n then Refused (TooLarge at) else Bad n
 next_part Replace None len room at = if nat_lt room len then Refused (TooLarge at) else Waits
+
+-- each of the first bytes is a bad part by itself, whatever follows
+abbrev pub AreBad : ℕ → List ℕ → Type 0
+AreBad zero bytes = Unit {0}
+AreBad (suc n) bytes = (utf8_valid_len bytes ≡ 0) × (utf8_error_len bytes ≡ Some 1) × AreBad n (drop 1 bytes)
+
+-- so many of them are replaced, one by one
+pub record AreReplaced (bad : BadBytes) (rest : List ℕ) (room n : ℕ) : Type 0 where
+  pub how : 0 < n → bad ≡ Replace
+  pub are_bad : AreBad n rest
+  pub within : n ≤ length rest
+  pub fits : n ≤ room
 
 abbrev pub next_of : BadBytes → List ℕ → ℕ → ℕ → Next
 next_of bad rest room at =

@@ -11,14 +11,14 @@ ghost use Rattle.names.specs.declared.refusal.Refusal.TheVariants.{NotUtf8};
 ghost use Rattle.htext.specs.declared.decoder.TheConstants.{MAX_INPUT};
 ghost use Rattle.htext.specs.declared.BadBytes.TheVariants.{Refuse, Replace};
 ghost use Rattle.htext.specs.Text.{Policy, Whole, Bad, normalized, ends_in_return, text, settled};
-ghost use Rattle.htext.specs.Items.{items};
+ghost use Rattle.htext.specs.Items.{items, bad_each};
 ghost use Rattle.htext.specs.Run.{is_plain, is_plain_byte, run_items, IsPlainFront};
 ghost use Rattle.htext.specs.Decoding.{HasRead, HandsOn, IsReading, IsUndecided, Stops};
-ghost use Rattle.htext.specs.Next.{next_of, next_part};
+ghost use Rattle.htext.specs.Next.{next_of, next_part, AreReplaced};
 
 use crate::character::{hand_char, hand_replaced};
 use crate::decoder::MAX_INPUT;
-use crate::run::{plain_run, wide_run};
+use crate::run::{bad_run, plain_run, wide_run};
 use crate::sink::CharSink;
 use crate::{BadBytes, Bom};
 use names::Refusal;
@@ -72,6 +72,12 @@ impl Reading {
             let text = valid_text(self.fitting(&bytes[count..]), count > 0);
             self.hand_text(text, sink)?;
             count += text.len();
+            let alone = self.bad_alone(&bytes[count..]);
+            if alone > 0 {
+                self.hand_each(alone, sink)?;
+                count += alone;
+                continue;
+            }
             let len = match self.next(&bytes[count..]) {
                 Next::Bad(len) => len,
                 Next::Waits => return Ok(count),
@@ -108,6 +114,16 @@ impl Reading {
     {
         let room = ((self.limit - self.read) as usize).min(bytes.len());
         &bytes[..room]
+    }
+
+    // How many bytes at the front are seen to be bad parts by themselves, which fit: none where bad bytes are refused.
+    fn bad_alone(&self, rest: &[u8]) -> usize
+        ensures { AreReplaced self.now.bad_bytes rest.now (self.now.limit - self.now.read) result }
+    {
+        match self.bad_bytes {
+            BadBytes::Refuse => 0,
+            BadBytes::Replace => bad_run(rest, self.fitting(rest).len()),
+        }
     }
 
     // What stands at the front of bytes that begin with no character that fits.
@@ -155,6 +171,22 @@ impl Reading {
         hand_replaced(self.read, sink)?;
         self.after_return = false;
         self.read += len as u64;
+        Ok(())
+    }
+
+    // Hands over what replaces so many bad parts of one byte each, as the next of the input.
+    fn hand_each<S: CharSink>(&mut self, count: usize, sink: &mut S) -> Result<(), Refusal>
+        requires { self.old.read + count ≤ self.old.limit }
+        ensures handed { Hands S.gives sink.old (items (bad_each self.old.read count)) result sink.new }
+        ensures read { OnOk result (self.new.read ≡ self.old.read + count) }
+        ensures end { OnOk result (self.new.after_return ≡ false) }
+        ensures bom { self.new.bom ≡ self.old.bom }
+        ensures bad { self.new.bad_bytes ≡ self.old.bad_bytes }
+        ensures limit { self.new.limit ≡ self.old.limit }
+    {
+        sink.take_bad(count, self.read)?;
+        self.after_return = false;
+        self.read += count as u64;
         Ok(())
     }
 

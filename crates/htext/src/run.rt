@@ -1,8 +1,10 @@
 //! Runs of plain characters.
 
-ghost use Rattle.std.specs.Prelude.{◌≡◌, ◌≤◌, map, length};
+ghost use Rattle.std.specs.Prelude.{◌≡◌, ◌<◌, ◌≤◌, map, length, Some, MatchBool};
 ghost use Rattle.std.specs.List.{prefix_len};
 ghost use Rattle.std.specs.Simd.Lanes.{mask_l};
+ghost use Rattle.std.specs.Str.Lossy.{utf8_valid_len, utf8_error_len};
+ghost use Rattle.htext.specs.Next.{AreBad};
 ghost use Rattle.htext.specs.Run.{is_plain_byte, is_wide_byte, is_of, is_not_of};
 
 use std::simd::prelude::*;
@@ -39,6 +41,32 @@ pub fn wide_run(bytes: &[u8]) -> usize
     ensures { result ≡ prefix_len is_wide_byte bytes.now }
 {
     run(Kind::Wide, bytes)
+}
+
+/// Counts bytes at the front, at most so many, each of which is a bad part by itself.
+pub(crate) fn bad_run(bytes: &[u8], most: usize) -> usize
+    requires { most ≤ length bytes.now }
+    ensures few { result ≤ most }
+    ensures bad { AreBad result bytes.now }
+{
+    let mut count = 0;
+    while count < most && is_bad_alone(&bytes[count..]) {
+        count += 1;
+    }
+    count
+}
+
+/// Whether the first byte is a bad part by itself, as is seen by the one after it: it begins no character, or that one ends it.
+#[inline(always)]
+fn is_bad_alone(bytes: &[u8]) -> bool
+    requires { 0 < length bytes.now }
+    ensures { MatchBool result ((utf8_valid_len bytes.now ≡ 0) × (utf8_error_len bytes.now ≡ Some 1)) (Unit {0}) }
+{
+    match bytes[0] {
+        0x80..=0xC1 | 0xF5.. => true,
+        0xC2.. if bytes.len() > 1 => bytes[1] < 0x80 || bytes[1] > 0xBF,
+        _ => false,
+    }
 }
 
 #[inline(always)]

@@ -1,6 +1,6 @@
 //! What takes the text of an input.
 
-use names::{ParseError, Refusal};
+use names::{ErrorCode, ParseError, Refusal};
 
 /// Takes the characters of a text, and the errors of the input stream, each right before its character. It may refuse one.
 pub trait CharSink {
@@ -9,7 +9,7 @@ pub trait CharSink {
     ghost use Rattle.names.specs.Sink.{Hands};
     ghost use Rattle.names.specs.declared.refusal.Refusal.{Refusal as Refused};
     ghost use Rattle.htext.specs.declared.decoder.TheConstants.{MAX_INPUT};
-    ghost use Rattle.htext.specs.Items.{CharItem, Character, InputError};
+    ghost use Rattle.htext.specs.Items.{CharItem, Character, InputError, items, bad_each};
     ghost use Rattle.htext.specs.Run.{is_plain, is_plain_byte, run_items};
     ghost use Rattle.std.specs.Str.{chars};
 
@@ -46,6 +46,33 @@ pub trait CharSink {
     {
         for (index, ch) in run.char_indices() {
             self.take_char(ch, at + index as u64)?;
+        }
+        Ok(())
+    }
+
+    /// Takes what replaces so many bad parts of one byte each, the first of which is at `at`. It is the same as taking the error and
+    /// the character of one after another, up to the first that is refused.
+    fn take_bad(&mut self, count: usize, at: u64) -> Result<(), Refusal>
+        requires within { at + count ≤ MAX_INPUT }
+        ensures { Hands gives self.old (items (bad_each at count)) result self.new }
+    {
+        self.take_bad_by_one(count, at)
+    }
+
+    /// The same, one after another.
+    fn take_bad_by_one(&mut self, count: usize, at: u64) -> Result<(), Refusal>
+        requires within { at + count ≤ MAX_INPUT }
+        ensures { Hands gives self.old (items (bad_each at count)) result self.new }
+    {
+        let mut taken = 0;
+        while taken < count {
+            let place = at + taken as u64;
+            self.take_error(ParseError {
+                code: ErrorCode::ReplacedBytes,
+                at: place,
+            })?;
+            self.take_char(char::REPLACEMENT_CHARACTER, place)?;
+            taken += 1;
         }
         Ok(())
     }

@@ -1,8 +1,9 @@
 -- A run of plain characters, taken as a whole.
-use Rattle.std.proofs.Common.{◌≡◌, ◌≤◌, ◌<◌, ℕ, ◌+◌, Bool, true, false, cond, eqb, List, [], ◌∷◌, ◌++◌, length, take, sym, refl, ap, ◌∙◌, subst, arith, drop, Result, Ok, Err, Option, append_assoc, append-nil}
+use Rattle.std.proofs.Common.{◌≡◌, ◌≤◌, ◌<◌, ℕ, zero, suc, ◌+◌, Bool, true, false, cond, eqb, List, [], ◌∷◌, ◌++◌, length, take, sym, refl, ap, ◌∙◌, subst, arith, drop, Result, Ok, Err, Option, append_assoc, append-nil}
 use Rattle.std.proofs.lemmas.Bool.Decides.{nat_tests}
 use Rattle.std.specs.List.{list_all}
-use Rattle.std.specs.Prelude.{slice_index}
+use Rattle.std.specs.Prelude.{slice_index, not, ◌&&◌, ◌||◌, ◌==◌}
+use Rattle.std.proofs.lemmas.Bool.{and_from}
 use Rattle.std.proofs.lemmas.List.{length-take-le}
 use Rattle.std.specs.Char.{len_utf8, encode_utf8}
 use Rattle.std.specs.Str.{chars}
@@ -35,7 +36,7 @@ use Rattle.htoken.specs.Data.{IsDataSpan, character, character_span}
 use Rattle.htoken.specs.Spans.{IsSpanOf, IsRawSpan, raw_character, has_references}
 use Rattle.htoken.specs.Tokens.{tokens_in, eof_of}
 use Rattle.htoken.specs.Handing.{HandsEvents}
-use Rattle.htoken.specs.Run.{run_events}
+use Rattle.htoken.specs.Run.{run_events, replaced, is_text}
 use Rattle.htoken.specs.Tag.{tag_mark}
 use Rattle.htoken.specs.Tokenizing.{after_place, next_from, next_place, less, Stands, Reads, HasTaken, holds, Takes, take_ran_out, take_sink_refused, take_took, IsHeld, IsIn, IsLast, IsBetween, IsInMarkup, IsInMarkedTag}
 use Rattle.htoken.proofs.Cutting.{stands_more}
@@ -45,7 +46,22 @@ use Rattle.htoken.proofs.InTag.{reads_kept}
 use Rattle.htoken.proofs.RawEnds.{other_goes_on}
 use Rattle.htoken.proofs.Scripting.{all_followed}
 
-module _ (c : ℕ) (h : is_plain c ≡ true) where
+-- a character that stands for itself, whatever kind of text it is in
+abbrev pub is_itself : ℕ → Bool
+is_itself c = not (c == 60 || c == 38 || c == 0)
+
+plain_itself : (c : ℕ) → is_plain c ≡ true → is_itself c ≡ true
+plain_itself c h = grind (arith, nat_tests)
+
+pub all_itself : (ps : List Placed) → all is_plain ps ≡ true → all is_itself ps ≡ true
+all_itself [] h = refl
+all_itself (p ∷ ps) h = let k = and_parts (is_plain p.ch) (all is_plain ps) h in and_from _ _ (plain_itself p.ch k.0) (all_itself ps k.1)
+
+pub replaced_itself : (n at : ℕ) → all is_itself (replaced at n) ≡ true
+replaced_itself zero at = refl
+replaced_itself (suc n) at = replaced_itself n (at + 1)
+
+module _ (c : ℕ) (h : is_itself c ≡ true) where
   no_less : eqb c 60 ≡ false
   no_less = grind (arith, nat_tests)
 
@@ -54,6 +70,21 @@ module _ (c : ℕ) (h : is_plain c ≡ true) where
 
   no_null : eqb c 0 ≡ false
   no_null = grind (arith, nat_tests)
+
+-- where they may be fed as a run, text stands that is no script
+pub ready_text : (s : State) (script accepts : Bool) → (is_text s && not script && accepts) ≡ true → (s ≡ state.Text) × (script ≡ false)
+ready_text state.Text false accepts h = (refl, refl)
+ready_text state.Text true accepts h = absurd cc
+ready_text state.Less script accepts h = absurd cc
+ready_text (state.LessSolidus x) script accepts h = absurd cc
+ready_text (state.Declaration x y) script accepts h = absurd cc
+ready_text state.Comment script accepts h = absurd cc
+ready_text state.Doctype script accepts h = absurd cc
+ready_text state.Tag script accepts h = absurd cc
+ready_text state.Reference script accepts h = absurd cc
+ready_text (state.Run x) script accepts h = absurd cc
+ready_text state.RawLess script accepts h = absurd cc
+ready_text (state.RawName x) script accepts h = absurd cc
 
 -- WHERE THE NEXT CHARACTER STANDS
 
@@ -89,6 +120,14 @@ next_last text at n run c cut is =
     sym (ap (λ (x : List Placed). next_place (text ++ x)) (last_char n at run c cut is) ∙ ap next_place (sym (append_assoc text (placed at (chars (take n run))) (record { ch = c; at = at + n } ∷ [])))
     ∙ next_from-append 0 (text ++ placed at (chars (take n run))) (record { ch = c; at = at + n } ∷ []))
 
+next_bad : (n now at : ℕ) → at + suc n ≤ 0xFFFFFFFFFFFFFFFF → next_from now (replaced at (suc n)) ≡ at + suc n
+next_bad zero now at h = omega (arith, h)
+next_bad (suc n) now at h = next_bad n (after_place at) (at + 1) (omega (arith, h)) ∙ omega arith
+
+pub next_replaced : (text : List Placed) (at n : ℕ) → 0 < n → at + n ≤ 0xFFFFFFFFFFFFFFFF → at + n ≡ next_place (text ++ replaced at n)
+next_replaced text at zero some h = absurd (omega (arith, some))
+next_replaced text at (suc n) some h = sym (next_from-append 0 text (replaced at (suc n)) ∙ next_bad n (next_from 0 text) at h)
+
 -- the first character of a run
 pub first_of : (at : ℕ) (run : List ℕ) (c : ℕ) → 0 < length run → c ≡ slice_index run 0 → record { ch = c; at = at } ∷ [] ≡ placed at (take 1 run)
 first_of at [] c h e = absurd (omega (arith, h))
@@ -106,7 +145,7 @@ as_character p some = ap (λ (es : List ParseError). record { text = p ∷ []; t
 as_raw : (p : Placed) → eqb p.ch 0 ≡ false → plain_span p ≡ raw_span p
 as_raw p some = as_character p some ∙ ap (λ (b : Bool). record { text = p ∷ []; tokens = Char (cond b 0xFFFD p.ch) p.at ∷ []; errors = null_errors (p ∷ []) }) (sym some)
 
-module _ (table : Entities) (end : ℕ) (here : Standing) (rest : List Placed) (p : Placed) (plain : is_plain p.ch ≡ true) where
+module _ (table : Entities) (end : ℕ) (here : Standing) (rest : List Placed) (p : Placed) (plain : is_itself p.ch ≡ true) where
   in_raw : IsRawSpan table end here rest (plain_span p)
   in_raw = raw_character p (other_goes_on here p rest (no_less p.ch plain)) (and_no (has_references here.kind) (eqb p.ch 38) (no_sign p.ch plain)) (as_raw p (no_null p.ch plain))
 
@@ -120,12 +159,12 @@ module _ (table : Entities) (end : ℕ) (here : Standing) (rest : List Placed) (
   of_kind kind.Script = in_raw
   of_kind kind.Plaintext = in_raw
 
-run_stands : (table : Entities) (start : RawKind) (end : ℕ) (run front rest : List Placed) (here : Standing) (taken : List Event) → all is_plain run ≡ true → Stands table start end front (run ++ rest) here taken []
+run_stands : (table : Entities) (start : RawKind) (end : ℕ) (run front rest : List Placed) (here : Standing) (taken : List Event) → all is_itself run ≡ true → Stands table start end front (run ++ rest) here taken []
     → Stands table start end (front ++ run) rest (after_characters here run) (taken ++ run_events run) []
 run_stands table start end [] front rest here taken plain s =
     subst (λ (x : List Placed). Stands table start end x rest here (taken ++ []) []) (sym (append-nil front)) (subst (λ (x : List Event). Stands table start end front rest here x []) (sym (append-nil taken)) s)
 run_stands table start end (q ∷ qs) front rest here taken plain s =
-    let k = and_parts (is_plain q.ch) (all is_plain qs) plain in
+    let k = and_parts (is_itself q.ch) (all is_itself qs) plain in
     let one : Stands table start end (front ++ q ∷ []) (qs ++ rest) (record here { front = q ∷ here.front }) (taken ++ Gives (Char q.ch q.at) ∷ []) [] =
     stands_more table start end front (qs ++ rest) here taken (plain_span q) s (of_kind table end here (qs ++ rest) q k.0 here.kind) refl in
     subst (λ (x : List Placed). Stands table start end x rest (after_characters here (q ∷ qs)) (taken ++ run_events (q ∷ qs)) []) (append_assoc front (q ∷ []) qs)
@@ -133,7 +172,7 @@ run_stands table start end (q ∷ qs) front rest here taken plain s =
     (run_stands table start end qs (front ++ q ∷ []) rest (record here { front = q ∷ here.front }) (taken ++ Gives (Char q.ch q.at) ∷ []) k.1 one))
 
 module _ {S : Type 0} (gives : S → Item → Result (Unit {0}) Refusal → S → Type 0) (table : Entities) (start : RawKind) (names : Texts) (text : List Placed) (taken : List Event) (t : Tokenizer) (h : Reads table start t names text [] taken) (run : List Placed) where
-  module _ (in_text : t.state ≡ state.Text) (plain : all is_plain run ≡ true) (new : Tokenizer) (then : new ≡ record t { next = new.next; script = new.script }) (next : new.next ≡ next_place (text ++ run))
+  module _ (in_text : t.state ≡ state.Text) (plain : all is_itself run ≡ true) (new : Tokenizer) (then : new ≡ record t { next = new.next; script = new.script }) (next : new.next ≡ next_place (text ++ run))
       (follows : is_script t.kind ≡ true → FollowsAll t.script run new.script) where
     abbrev here : Standing
     here = after_characters h.here run

@@ -14,6 +14,7 @@ ghost use Rattle.htext.specs.Run.{is_plain, is_plain_byte, IsCut};
 ghost use Rattle.charref.specs.Reference.{Entities};
 ghost use Rattle.hmarkup.specs.Comment.{is_only_data};
 ghost use Rattle.htoken.specs.Raw.{is_script};
+ghost use Rattle.htoken.specs.Run.{replaced, takes_bad};
 ghost use Rattle.htoken.specs.Script.{FollowsAll};
 ghost use Rattle.htoken.specs.Steps.{TakesFront, TakesPart};
 ghost use Rattle.htoken.specs.Token.{Event, gives_item};
@@ -118,6 +119,36 @@ impl<'t> Tokenizer<'t> {
             self.refused = Some(refusal);
         }
         answer
+    }
+
+    /// Whether the characters that replace bad bytes may be fed as a run: nothing is held, and no script is followed.
+    pub fn takes_bad(&self) -> bool
+        ensures { result ≡ takes_bad self.now }
+    {
+        matches!(self.state, State::Text) && !self.is_in_script() && self.refused.is_none()
+    }
+
+    /// Takes the characters that replace so many bad parts of one byte each, the first of which is at `place`. It is the same as
+    /// feeding them one by one.
+    pub fn feed_bad<S: TokenSink>(
+        &mut self,
+        count: usize,
+        place: u64,
+        sink: &mut S,
+    ) -> Result<(), Refusal>
+        requires takes { takes_bad self.old ≡ true }
+        requires some { 0 < count }
+        requires within { place + count ≤ MAX_INPUT }
+        ensures takes { (table : Entities) (start : Kind) (names : Texts) (text : List Character) (taken : List Event)
+            → HasTaken table start self.old names text taken
+            → Takes (gives_item S.gives S.gives_token) table start text (replaced place count) taken names sink.old result sink.new self.new }
+        ensures refused { IfErr result (λ refusal. self.new.refused ≡ Some refusal) }
+    {
+        self.next = place + count as u64;
+        match sink.take_bad(count, place) {
+            Ok(()) => Ok(()),
+            Err(refusal) => self.refuse(refusal),
+        }
     }
 
     /// Takes a run of any plain characters, a part after another.

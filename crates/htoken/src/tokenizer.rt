@@ -175,7 +175,7 @@ impl<'t> Tokenizer<'t> {
     }
 
     /// Refuses every later call.
-    fn refuse(&mut self, refusal: Refusal) -> Result<(), Refusal>
+    pub(crate) fn refuse(&mut self, refusal: Refusal) -> Result<(), Refusal>
         ensures answer { result ≡ Err refusal }
         ensures refused { self.new.refused ≡ Some refusal }
     {
