@@ -1,10 +1,10 @@
 //! What is in a file, counted: the tokens of a document, or the nodes of its tree.
 
 use hmarkup::ErrorSink;
+use htoken::TokenSink;
 use hwrite::{
     Counted, Options, ParseError, Parser, Quirks, Refusal, Table, Token, parse_reader, read_into,
 };
-use htoken::TokenSink;
 use std::alloc::Global;
 use std::fs::File;
 
