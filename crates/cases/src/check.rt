@@ -1,6 +1,6 @@
 //! What is made of a case's input, however it is cut.
 
-ghost use Rattle.std.specs.Prelude.{◌<◌};
+ghost use Rattle.std.specs.Prelude.{◌<◌, ◌≤◌, length};
 
 use crate::case::Case;
 use anyhow::{Result, bail};
@@ -9,9 +9,9 @@ use hbuild::Limits;
 use hmain::Line;
 use hmain::line::line;
 use hmarkup::Quirks;
-use hparse::{Options, Source};
+use hparse::Options;
 use htext::MAX_INPUT;
-use hwrite::{Command, Counted, Target, run};
+use hwrite::{Command, Counted, run};
 use names::{Keys, Refusal};
 use std::alloc::Global;
 use std::io;
@@ -55,7 +55,7 @@ fn comes_in_pieces(
 ) -> Result<bool> {
     for piece in PIECES {
         let command = Command { piece, ..command };
-        if !comes(alloc, case, command, options, case.input.as_slice())? {
+        if !comes(alloc, case, command, options, Parts::cut(&case.input, 0))? {
             return Ok(false);
         }
     }
@@ -67,30 +67,54 @@ fn comes_in_two(alloc: Global, case: &Case, command: Command, options: &Options)
     requires piece { 0 < command.piece }
 {
     for cut in 0..=case.input.len() {
-        let (front, back) = case.input.split_at(cut);
-        if !comes(alloc, case, command, options, front.chain(back))? {
+        if !comes(alloc, case, command, options, Parts::cut(&case.input, cut))? {
             return Ok(false);
         }
     }
     Ok(true)
 }
 
-/// Gives a byte a call, and fails after the last.
+/// An input in two parts, after which a reader ends or fails.
 #[derive(Drop)]
-struct Failing<'a> {
-    rest: &'a [u8],
+struct Parts<'a> {
+    front: &'a [u8],
+    back: &'a [u8],
+    is_failing: bool,
 }
 
-impl<'a> Read for Failing<'a> {
-    fn read(&mut self, buffer: &mut [u8]) -> io::Result<usize> {
-        match (self.rest.split_first(), buffer.first_mut()) {
-            (Some((byte, rest)), Some(place)) => {
-                *place = *byte;
-                self.rest = rest;
-                Ok(1)
-            }
-            _ => Err(io::ErrorKind::Interrupted.into()),
+impl<'a> Parts<'a> {
+    /// The parts before and after a cut.
+    fn cut(input: &'a [u8], cut: usize) -> Parts<'a>
+        requires { cut ≤ length input.now }
+    {
+        let (front, back) = input.split_at(cut);
+        Parts {
+            front,
+            back,
+            is_failing: false,
         }
+    }
+
+    /// All of it, and then a failure.
+    fn failing(input: &'a [u8]) -> Parts<'a> {
+        Parts {
+            front: input,
+            back: b"",
+            is_failing: true,
+        }
+    }
+}
+
+impl<'a> Read for Parts<'a> {
+    fn read(&mut self, buffer: &mut [u8]) -> io::Result<usize> {
+        if self.front.is_empty() {
+            self.front = self.back;
+            self.back = b"";
+        }
+        if self.front.is_empty() && self.is_failing {
+            return Err(io::ErrorKind::Interrupted.into());
+        }
+        self.front.read(buffer)
     }
 }
 
@@ -103,11 +127,11 @@ fn comes_at_once(alloc: Global, case: &Case, command: Command, options: &Options
     let Some((_, front)) = case.input.split_last() else {
         bail!("{}: no last byte", case.id);
     };
-    let mut early = Counted::new(Failing { rest: front });
+    let mut early = Counted::new(Parts::failing(front));
     let mut target = Counted::new(Vec::new(alloc));
     let before = refusal_of(alloc, command, options, &mut early, &mut target);
-    let rest = case.input.as_slice();
-    Ok(before == Some(Refusal::Read) && comes(alloc, case, command, options, Failing { rest })?)
+    let whole = Parts::failing(&case.input);
+    Ok(before == Some(Refusal::Read) && comes(alloc, case, command, options, whole)?)
 }
 
 fn texts<'a>(alloc: Global, words: &'a [String]) -> Result<Vec<&'a str>> {
@@ -133,12 +157,12 @@ fn told(alloc: Global, case: &Case, said: &Line) -> Result<(Table, Quirks, Limit
 }
 
 /// Whether a run over a reader writes what the case says.
-fn comes<R: Read + Drop>(
+fn comes(
     alloc: Global,
     case: &Case,
     command: Command,
     options: &Options,
-    reader: R,
+    reader: Parts,
 ) -> Result<bool>
     requires piece { 0 < command.piece }
 {
@@ -149,12 +173,12 @@ fn comes<R: Read + Drop>(
 }
 
 /// What a run is refused for. Nothing is promised of it here, so that what the contract of a run says is not carried on.
-fn refusal_of<S: Source, W: Target>(
+fn refusal_of(
     alloc: Global,
     command: Command,
     options: &Options,
-    source: &mut S,
-    target: &mut W,
+    source: &mut Counted<Parts>,
+    target: &mut Counted<Vec<u8>>,
 ) -> Option<Refusal>
     requires piece { 0 < command.piece }
 {
