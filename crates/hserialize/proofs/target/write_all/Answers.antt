@@ -1,5 +1,5 @@
 -- One call more: the first bytes of the rest were taken after what was taken before.
-use Rattle.std.proofs.Common.{◌≡◌, ℕ, ◌-◌, List, ◌++◌, length, take, drop, sym, ap, ◌∙◌, append_assoc, take-append-drop}
+use Rattle.std.proofs.Common.{rules, ◌≡◌, ℕ, ◌-◌, List, ◌++◌, length, take, drop, sym, ap, ◌∙◌, append_assoc, take-append-drop}
 use Rattle.std.proofs.lemmas.List.{take_rest}
 use Rattle.std.proofs.KnownBytes.{Appends-trans}
 use Rattle.hserialize.proofs.target.write_all.Goals as goal
@@ -15,3 +15,6 @@ loop-rest-preserved g c =
     let rest = c.loop-rest.rest.now in
     let n = c.in-Some.taken in
     (done ++ take n rest, moves_front _ done rest n split, Appends-trans _ _ _ _ _ appended c.in-Some.ensures.bytes.2, c.in-Some.ensures.count ∙ failed)
+
+pub returns-clause-count : goal.returns-clause-count
+returns-clause-count c = search rules
