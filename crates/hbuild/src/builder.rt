@@ -22,7 +22,7 @@ use hmodes::Rules;
 use hnodes::{NodeId, Tree};
 use htoken::{Token, TokenSink};
 use names::{Keys, NameId, ParseError, Refusal};
-use std::alloc::Global;
+use std::alloc::{AllocError, Global};
 use std::marker::Model;
 
 /// Builds the tree of a document or a fragment from its tokens. After a refusal each further call returns the same refusal and
@@ -121,9 +121,8 @@ impl<'q> Builder<'q> {
             return Err(refusal);
         }
         let Rules { site, .. } = rules;
-        let (tree, mut errors) = site.into_parts();
-        let mut told = told;
-        errors.append(&mut told)?;
+        let (tree, raised) = site.into_parts();
+        let errors = joined(raised, told)?;
         Ok(Built { tree, root, errors })
     }
 
@@ -151,6 +150,21 @@ impl<'q> Builder<'q> {
         }
         answer
     }
+}
+
+/// The first errors and then the second. Only the shorter list is copied.
+fn joined(first: Vec<ParseError>, second: Vec<ParseError>) -> Result<Vec<ParseError>, AllocError>
+    ensures { IfOk result (λ all. all.items ≡ first.entry.items ++ second.entry.items) }
+{
+    let (mut first, mut second) = (first, second);
+    if second.len() <= first.len() {
+        first.append(&mut second)?;
+        return Ok(first);
+    }
+    let count = first.len();
+    second.append(&mut first)?;
+    second.rotate_right(count);
+    Ok(second)
 }
 
 /// The place of a token's first byte.
