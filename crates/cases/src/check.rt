@@ -5,7 +5,7 @@ ghost use Rattle.std.specs.Prelude.{◌<◌, ◌≤◌, length};
 use crate::case::Case;
 use anyhow::{Result, bail};
 use charref::Table;
-use hbuild::Limits;
+use hmodes::Limits;
 use hmain::Line;
 use hmain::line::line;
 use hmarkup::Quirks;

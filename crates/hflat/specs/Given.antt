@@ -10,7 +10,7 @@ use Rattle.hmarkup.specs.Quirks.{ReadsQuirks}
 use Rattle.htext.specs.declared.BadBytes.{BadBytes}
 use Rattle.htext.specs.declared.BadBytes.TheVariants as bad
 use Rattle.htext.specs.declared.decoder.TheConstants.{MAX_INPUT}
-use Rattle.hbuild.specs.Bounds.{AreLimits, Bounds}
+use Rattle.hmodes.specs.Bounds.{AreLimits, Bounds}
 use Rattle.hparse.specs.Parse.{Told}
 use Rattle.hwrite.specs.Command.{name_of}
 use Rattle.hwrite.specs.declared.command.Command.{Command}

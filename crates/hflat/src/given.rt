@@ -10,7 +10,7 @@ ghost use Rattle.hflat.specs.declared.fault.Fault.TheVariants as fault;
 use crate::answer::Given;
 use crate::fault::Fault;
 use charref::Table;
-use hbuild::Limits;
+use hmodes::Limits;
 use hmarkup::Quirks;
 use hparse::Options;
 use htext::{BadBytes, MAX_INPUT};

@@ -6,7 +6,7 @@ use Rattle.charref.specs.Reference.{Entities}
 use Rattle.hmarkup.specs.Quirks.{QuirkLine}
 use Rattle.names.specs.declared.refusal.Refusal.TheVariants.{BadContext, BadLimits}
 use Rattle.htext.specs.declared.decoder.TheConstants.{MAX_INPUT}
-use Rattle.hbuild.specs.Bounds.{AreLimits, Bounds}
+use Rattle.hmodes.specs.Bounds.{AreLimits, Bounds}
 use Rattle.hwrite.specs.Context.{AllowsContext}
 use Rattle.hmain.specs.declared.fault.Fault.{Fault}
 use Rattle.hmain.specs.declared.fault.Fault.TheVariants as fault

@@ -9,7 +9,7 @@ use Rattle.charref.specs.Reference.{Entities, core}
 use Rattle.charref.specs.Reading.{table_of, IsRefusedWith}
 use Rattle.hmarkup.specs.Quirks.{QuirkLine, ReadsQuirks}
 use Rattle.htext.specs.declared.decoder.TheConstants.{MAX_INPUT}
-use Rattle.hbuild.specs.Bounds.{AreLimits, Bounds}
+use Rattle.hmodes.specs.Bounds.{AreLimits, Bounds}
 use Rattle.hwrite.specs.declared.command.Task.{Task}
 use Rattle.hserialize.specs.declared.escaping.Escaping.{Escaping}
 use Rattle.hserialize.specs.Output.{WritesText}

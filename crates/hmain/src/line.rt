@@ -11,7 +11,7 @@ use crate::commands::command_line;
 use crate::fault::Fault;
 use crate::said::Line;
 use clap::ArgMatches;
-use hbuild::{MAX_DEPTH, MAX_NODES};
+use hmodes::{MAX_DEPTH, MAX_NODES};
 use htext::BadBytes;
 use hwrite::{Command, Escaping, Task};
 use std::alloc::Global;

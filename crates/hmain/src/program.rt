@@ -13,7 +13,7 @@ use crate::said::Line;
 use crate::surroundings::Surroundings;
 use crate::version::{asks_version, write_version};
 use charref::Table;
-use hbuild::Limits;
+use hmodes::Limits;
 use hmarkup::Quirks;
 use hparse::{Options, Source};
 use htext::MAX_INPUT;

@@ -24,3 +24,6 @@ pub mod Trial
 pub mod Rows
 pub mod RawFollows
 pub mod OfTable
+pub mod Building
+pub mod Bounds
+pub mod Runs

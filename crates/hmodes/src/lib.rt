@@ -1,10 +1,12 @@
-//! The insertion modes of the tree construction (HTML Standard, 13.2.4.1 and 13.2.6.4).
+//! The tree construction: the insertion modes, and the builder that takes tokens (HTML Standard, 13.2.4.1, 13.2.6 and 13.4).
 #![tactic(auto)]
 
 mod after_body;
 mod asks;
 mod before_head;
+mod beginning;
 mod blocks;
+pub mod builder;
 pub mod control;
 pub mod family;
 mod in_body;
@@ -16,17 +18,21 @@ mod in_table;
 mod initial;
 pub mod kind;
 pub mod laws;
+pub mod limits;
 pub mod mode;
 mod phrases;
 pub mod reset;
 pub mod rule;
 pub mod rules;
+mod runs;
 pub mod step;
+mod steps;
 mod table_body;
 mod table_text;
 mod token;
 mod words;
 
+pub use builder::{Builder, Built};
 pub use control::Control;
 pub use family::Family;
 pub use kind::Kind;
@@ -34,5 +40,6 @@ pub use laws::{
     adopts_once, each_table_agrees, names_are_of_the_table, one_step, open_stands, raw_follows,
     steps_know_no_names,
 };
+pub use limits::{LEAST, Limits, MAX_DEPTH, MAX_NODES};
 pub use mode::Mode;
 pub use rules::{Flow, Rules};

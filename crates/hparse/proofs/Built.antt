@@ -11,7 +11,7 @@ use Rattle.hadopt.specs.Naming.{numbers}
 use Rattle.hadopt.specs.Site.{Goes, Refused}
 use Rattle.hmodes.specs.Step.{Step, Steps, none, and, refused}
 use Rattle.hmodes.specs.Tokens.{token_of, place_of}
-use Rattle.hbuild.specs.Building.{Building, TakesOn, TakesToken, TakesError, Tells, StaysRefused}
+use Rattle.hmodes.specs.Building.{Building, TakesOn, TakesToken, TakesError, Tells, StaysRefused}
 use Rattle.hparse.specs.Input.{tokens_handed, errors_handed}
 use Rattle.hparse.proofs.Numbered.{placed_number}
 

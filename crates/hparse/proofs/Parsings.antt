@@ -4,7 +4,7 @@ use Rattle.std.specs.Prelude.{◌⊎◌, MatchResult}
 use Rattle.names.specs.declared.refusal.Refusal.{Refusal}
 use Rattle.names.specs.declared.refusal.Refusal.TheVariants.{Memory}
 use Rattle.names.specs.Names.{Texts, Grows, AreNames}
-use Rattle.hbuild.specs.Building.{Building}
+use Rattle.hmodes.specs.Building.{Building}
 use Rattle.hparse.specs.declared.parsed.Parsed.{Parsed}
 use Rattle.hparse.specs.declared.parser.Parser.{Parser}
 use Rattle.hparse.specs.declared.reading.Reading.{Reading}

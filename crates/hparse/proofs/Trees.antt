@@ -23,7 +23,7 @@ use Rattle.hmodes.specs.State.{State, PlacedToken}
 use Rattle.hmodes.specs.Step.{Steps}
 use Rattle.hmodes.proofs.Names.{steps_spelled}
 use Rattle.hmodes.proofs.Tables.{table-agrees}
-use Rattle.hbuild.specs.Building.{Building}
+use Rattle.hmodes.specs.Building.{Building}
 use Rattle.hparse.specs.declared.parsed.Parsed.{Parsed}
 use Rattle.hparse.specs.Input.{Began, Handed, reads_in, tokens_handed, errors_handed, IsRefusedFor, by_sink, by_tag, by_bytes, IsTaken}
 use Rattle.hnodes.specs.Named.{AreOf}

@@ -13,7 +13,7 @@ use Rattle.hnodes.specs.Spelled.{spelled}
 use Rattle.hadopt.specs.Naming.{numbers}
 use Rattle.hmodes.specs.Beginning.{document_begins, fragment_begins}
 use Rattle.hmodes.specs.State.{State}
-use Rattle.hbuild.specs.Building.{Building, TakesError, TakesToken}
+use Rattle.hmodes.specs.Building.{Building, TakesError, TakesToken}
 use Rattle.hparse.specs.declared.options.Options.{Options}
 use Rattle.hparse.specs.declared.parsed.Parsed.{Parsed}
 use Rattle.hparse.specs.declared.parser.Parser.{Parser}

@@ -7,7 +7,7 @@ ghost use Rattle.hparse.specs.Parse.{Told};
 ghost use Rattle.hparse.specs.Parsing.{told_by};
 
 use charref::Table;
-use hbuild::Limits;
+use hmodes::Limits;
 use hmarkup::Quirks;
 use htext::BadBytes;
 use names::Keys;

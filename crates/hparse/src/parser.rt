@@ -14,7 +14,7 @@ use crate::parsed::Parsed;
 use crate::reader::read_to_end;
 use crate::reading::Reading;
 use crate::source::Source;
-use hbuild::{Builder, Built};
+use hmodes::{Builder, Built};
 use htoken::Start;
 use names::{Names, Refusal};
 use std::alloc::Global;

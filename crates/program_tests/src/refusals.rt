@@ -1,7 +1,7 @@
 //! Refusals that stay, and errors that are handed out.
 
 use charref::Table;
-use hbuild::{Builder, Limits};
+use hmodes::{Builder, Limits};
 use hmain::line::line;
 use hmarkup::{ErrorSink, Quirks};
 use hparse::{Options, Parser, is_context};

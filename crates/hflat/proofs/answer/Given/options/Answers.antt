@@ -1,5 +1,5 @@
 use Rattle.std.proofs.Common.{ap}
-use Rattle.hbuild.specs.Bounds.{Bounds}
+use Rattle.hmodes.specs.Bounds.{Bounds}
 use Rattle.hflat.proofs.answer.Given.options.Goals as goal
 
 pub returns : goal.returns

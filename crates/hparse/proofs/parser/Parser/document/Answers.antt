@@ -1,5 +1,5 @@
 use Rattle.std.proofs.Common.{refl, ap, sym, subst}
-use Rattle.hbuild.specs.Building.{Building}
+use Rattle.hmodes.specs.Building.{Building}
 use Rattle.hparse.specs.Parse.{document}
 use Rattle.hparse.specs.Parsing.{BeginsIn, a_document, told_by}
 use Rattle.hparse.proofs.parser.Parser.document.Goals as goal

@@ -3,7 +3,7 @@ use Rattle.names.specs.Sets.{raw_kind}
 use Rattle.names.specs.Tags.{tag_named}
 use Rattle.names.specs.declared.raw.RawKind.{RawKind}
 use Rattle.htoken.specs.declared.token.Start.TheVariants as start
-use Rattle.hbuild.specs.Building.{Building}
+use Rattle.hmodes.specs.Building.{Building}
 use Rattle.hparse.specs.Fed.{HasRead}
 use Rattle.hparse.specs.Input.{Began}
 use Rattle.hparse.specs.Parse.{fragment, is_context}

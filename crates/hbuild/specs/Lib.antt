@@ -1,3 +1,0 @@
-pub mod Building
-pub mod Bounds
-pub mod Runs

@@ -1,0 +1,175 @@
+-- Characters of a run, each of which is put where the first one is.
+use Rattle.std.proofs.Common.{◌≡◌, ◌⊎◌, inl, inr, ℕ, Bool, true, false, List, [], ◌∷◌, Option, Some, None, Result, Ok, Err, refl, sym, ◌∙◌, ap, subst}
+use Rattle.std.specs.Prelude.{◌&&◌, ◌==◌, nat_le, is_none, if◌then◌else◌, MatchOption}
+use Rattle.std.specs.List.{AllByRecursion}
+use Rattle.names.specs.Sink.{Hands}
+use Rattle.names.specs.declared.placed.Placed.{Placed}
+use Rattle.names.specs.declared.refusal.Refusal.{Refusal}
+use Rattle.names.specs.declared.refusal.Refusal.TheVariants.{Memory, TooManyNodes}
+use Rattle.htoken.specs.Run.{run_tokens}
+use Rattle.htoken.specs.declared.token.Token.{Token as Given}
+use Rattle.htoken.specs.declared.token.Token.TheVariants as code
+use Rattle.hnodes.specs.Edits.{Nodes, add_char, text_before}
+use Rattle.hnodes.specs.declared.node.Place.{Place}
+use Rattle.hadopt.specs.Gives.{Gives}
+use Rattle.hadopt.specs.Naming.{numbers}
+use Rattle.hadopt.specs.Site.{Outcome, Goes, SiteOf}
+use Rattle.hadopt.specs.Site as site
+use Rattle.hadopt.specs.Inserts as inserts
+use Rattle.hmodes.specs.Perform.{flow_of, with_site}
+use Rattle.hmodes.specs.State.{State, Token, character}
+use Rattle.hmodes.specs.Step.{Rule, Chain, ends, refuses, Step, goes, begun}
+use Rattle.hmodes.specs.Tokens.{token_of, place_of}
+use Rattle.hmodes.specs.Building.{Building, Takes, TakesToken, TakesOn, StaysRefused, Stands, refused_by}
+use Rattle.hmodes.specs.Runs.{puts_in}
+use Rattle.hmodes.proofs.Looping.{stands-after}
+use Rattle.hmodes.proofs.OnePut.{here, rule_puts, puts-nodes, place-here}
+
+-- what an operation goes to, or this state
+abbrev went : SiteOf ℕ → Outcome (SiteOf ℕ) → SiteOf ℕ
+went x (Goes y) = y
+went x (site.Refused r) = x
+
+goes-not : (x : SiteOf ℕ) (r : Refusal) → site.Refused r ≡ Goes x → ⊥
+goes-not x r e = absurd cc
+
+-- the characters are not NUL
+abbrev pub AreSome : List Placed → Type 0
+AreSome ps = AllByRecursion (λ p. (p.ch == 0) ≡ false) ps
+
+-- In a state in which no LF is dropped, nothing is reconstructed or foster parented. What is put makes other nodes, and nothing else.
+module _ (b : Building) (free : b.refused ≡ None) (off : b.state.site.foster ≡ false) (keeps_lf : b.state.control.drop_lf ≡ false) (puts : puts_in b.state.control.mode b.state.site ≡ true) where
+  abbrev begin : State ℕ
+  begin = begun b.state
+
+  abbrev to : Place
+  to = here b.state.site
+
+  abbrev site_with : Nodes ℕ → SiteOf ℕ
+  site_with v = record b.state.site { nodes = v }
+
+  abbrev with_nodes : Nodes ℕ → State ℕ
+  with_nodes v = with_site (site_with v) begin
+
+  abbrev after_put : SiteOf ℕ → Option Refusal → Building
+  after_put x refused = record { state = with_site x begin; root = b.root; told = b.told; refused = refused }
+
+  rule_with : (at c : ℕ) (v : Nodes ℕ) → (c == 0) ≡ false → Rule numbers at (character c) (with_nodes v) ≡ flow_of (with_nodes v) (inserts.put at c to (site_with v))
+  rule_with at c v some =
+      rule_puts at c (with_nodes v) some (puts-nodes b.state.control.mode b.state.site v puts)
+      ∙ ap (λ (p : Place). flow_of (with_nodes v) (inserts.put at c p (site_with v))) (place-here (site_with v) off)
+
+  -- a building whose next token begins in this state
+  record Before (v : Nodes ℕ) (old : Building) : Type 0 where
+    begins : begun old.state ≡ with_nodes v
+    lf : old.state.control.drop_lf ≡ false
+    told : old.told ≡ b.told
+    root : old.root ≡ b.root
+    refused : old.refused ≡ None
+
+  -- what comes of the character by what comes of putting it
+  abbrev StepTo : ℕ → ℕ → Building → Outcome (SiteOf ℕ) → Type 0
+  StepTo at c old (Goes x) = Step numbers at (character c) old.state (Goes (with_site x begin))
+  StepTo at c old (site.Refused r) = Step numbers at (character c) old.state (site.Refused r)
+
+  step_with : (at c : ℕ) (v : Nodes ℕ) (old : Building) → Before v old → (c == 0) ≡ false → (o : Outcome (SiteOf ℕ)) → inserts.put at c to (site_with v) ≡ o → StepTo at c old o
+  step_with at c v old h some (Goes x) e =
+      goes (ap (λ (d : Bool). d && (c == 10)) h.lf)
+      (subst (λ (s : State ℕ). Chain numbers at (character c) s (Goes (with_site x begin))) (sym h.begins) (ends (rule_with at c v some ∙ ap (flow_of (with_nodes v)) e)))
+  step_with at c v old h some (site.Refused r) e =
+      goes (ap (λ (d : Bool). d && (c == 10)) h.lf)
+      (subst (λ (s : State ℕ). Chain numbers at (character c) s (site.Refused r)) (sym h.begins) (refuses (rule_with at c v some ∙ ap (flow_of (with_nodes v)) e)))
+
+  takes : (p : Placed) (old : Building) (answer : Result (Unit {0}) Refusal) (new : Building) → old.refused ≡ None → TakesOn p.at (character p.ch) old answer new → TakesToken old (code.Char p.ch p.at) answer new
+  takes p old answer new none t = subst (λ (r : Option Refusal). MatchOption r (TakesOn p.at (character p.ch) old answer new) (λ q. StaysRefused q old answer new)) (sym none) t
+
+  -- the first character, or each after another
+  took : (p : Placed) (v : Nodes ℕ) (old : Building) → Before v old → (p.ch == 0) ≡ false → (x : SiteOf ℕ) → inserts.put p.at p.ch to (site_with v) ≡ Goes x → TakesToken old (code.Char p.ch p.at) (Ok tt) (after_put x None)
+  took p v old h some x e =
+      takes p old (Ok tt) (after_put x None) h.refused (record { step = step_with p.at p.ch v old h some (Goes x) e; told = sym h.told; root = sym h.root; refused = refl })
+
+  wrong : (p : Placed) (v : Nodes ℕ) (old : Building) → Before v old → (p.ch == 0) ≡ false → (x : SiteOf ℕ) (r : Refusal) → (r ≡ Memory) ⊎ (inserts.put p.at p.ch to (site_with v) ≡ site.Refused r)
+      → TakesToken old (code.Char p.ch p.at) (Err r) (after_put x (Some r))
+  wrong p v old h some x r (inl m) = takes p old (Err r) (after_put x (Some r)) h.refused (record { step = inl m; told = sym h.told; root = sym h.root; refused = refl })
+  wrong p v old h some x r (inr e) =
+      takes p old (Err r) (after_put x (Some r)) h.refused (record { step = inr (step_with p.at p.ch v old h some (site.Refused r) e); told = sym h.told; root = sym h.root; refused = refl })
+
+  -- the state after a character is such a state
+  later : (v : Nodes ℕ) → Before v (after_put (site_with v) None)
+  later v = record { begins = refl; lf = refl; told = refl; root = refl; refused = refl }
+
+  whole : Before b.state.site.nodes b
+  whole = record { begins = refl; lf = keeps_lf; told = refl; root = refl; refused = free }
+
+  -- one character alone
+  pub char_put : (p : Placed) → (p.ch == 0) ≡ false → (answer : Result (Unit {0}) Refusal) (x : SiteOf ℕ) → Gives answer x (inserts.put p.at p.ch to b.state.site)
+      → TakesToken b (code.Char p.ch p.at) answer (after_put x (refused_by answer))
+  char_put p some (Ok u) x e = took p b.state.site.nodes b whole some x e
+  char_put p some (Err r) x e = wrong p b.state.site.nodes b whole some x r e
+
+  -- whether a character is refused: a text is to be made, and there are as many nodes as may be
+  abbrev is_full : Nodes ℕ → Bool
+  is_full v = is_none (text_before to v.trees) && nat_le v.limit v.made
+
+  abbrev Put : Placed → Nodes ℕ → Bool → Outcome (SiteOf ℕ)
+  Put p v full = if full then site.Refused (TooManyNodes p.at) else Goes (site_with (add_char p.ch to v))
+
+  module _ (x : SiteOf ℕ) where
+    abbrev PutRest : List Placed → Nodes ℕ → Type 0
+    PutRest ps w = Hands TakesToken (after_put (site_with w) None) (run_tokens ps) (Ok tt) (after_put x None)
+
+    put_first : (p : Placed) (ps : List Placed) (v : Nodes ℕ) (old : Building) → Before v old → (p.ch == 0) ≡ false → ((w : Nodes ℕ) → inserts.put_each ps to (site_with w) ≡ Goes x → PutRest ps w)
+        → inserts.put_each (p ∷ ps) to (site_with v) ≡ Goes x → Hands TakesToken old (run_tokens (p ∷ ps)) (Ok tt) (after_put x None)
+    put_first p ps v old h some rest e = by_room (is_full v) refl
+      where
+        by_room : (full : Bool) → is_full v ≡ full → Hands TakesToken old (run_tokens (p ∷ ps)) (Ok tt) (after_put x None)
+        by_room true full = absurd (goes-not x (TooManyNodes p.at) (sym (ap (λ (b : Bool). site.and_then (Put p v b) (inserts.put_each ps to)) full) ∙ e))
+        by_room false full =
+            let w : Nodes ℕ = add_char p.ch to v in
+            (Ok tt, after_put (site_with w) None, took p v old h some (site_with w) (ap (Put p v) full), rest w (sym (ap (λ (b : Bool). site.and_then (Put p v b) (inserts.put_each ps to)) full) ∙ e))
+
+    put_rest : (ps : List Placed) → AreSome ps → (v : Nodes ℕ) → inserts.put_each ps to (site_with v) ≡ Goes x → PutRest ps v
+    put_rest [] some v e = (refl, ap (λ (y : SiteOf ℕ). after_put y None) (ap (went (site_with v)) e))
+    put_rest (p ∷ ps) some v e = put_first p ps v (after_put (site_with v) None) (later v) some.0 (put_rest ps some.1) e
+
+    module _ (r : Refusal) where
+      abbrev WrongRest : List Placed → Nodes ℕ → Type 0
+      WrongRest ps w = Hands TakesToken (after_put (site_with w) None) (run_tokens ps) (Err r) (after_put x (Some r))
+
+      wrong_first : (p : Placed) (ps : List Placed) (v : Nodes ℕ) (old : Building) → Before v old → (p.ch == 0) ≡ false → ((w : Nodes ℕ) → inserts.put_each ps to (site_with w) ≡ site.Refused r → WrongRest ps w)
+          → inserts.put_each (p ∷ ps) to (site_with v) ≡ site.Refused r → Hands TakesToken old (run_tokens (p ∷ ps)) (Err r) (after_put x (Some r))
+      wrong_first p ps v old h some rest e = by_room (is_full v) refl
+        where
+          by_room : (full : Bool) → is_full v ≡ full → Hands TakesToken old (run_tokens (p ∷ ps)) (Err r) (after_put x (Some r))
+          by_room true full =
+              let is : inserts.put p.at p.ch to (site_with v) ≡ site.Refused r = ap (Put p v) full ∙ sym (ap (λ (b : Bool). site.and_then (Put p v b) (inserts.put_each ps to)) full) ∙ e in
+              (Err r, after_put x (Some r), wrong p v old h some x r (inr is), (refl, refl))
+          by_room false full =
+              let w : Nodes ℕ = add_char p.ch to v in
+              (Ok tt, after_put (site_with w) None, took p v old h some (site_with w) (ap (Put p v) full), rest w (sym (ap (λ (b : Bool). site.and_then (Put p v b) (inserts.put_each ps to)) full) ∙ e))
+
+      wrong_rest : (ps : List Placed) → AreSome ps → (v : Nodes ℕ) → inserts.put_each ps to (site_with v) ≡ site.Refused r → WrongRest ps v
+      wrong_rest [] some v e = absurd (goes-not (site_with v) r (sym e))
+      wrong_rest (p ∷ ps) some v e = wrong_first p ps v (after_put (site_with v) None) (later v) some.0 (wrong_rest ps some.1) e
+
+    -- the whole run
+    pub run_put : (p : Placed) (ps : List Placed) → AreSome (p ∷ ps) → (answer : Result (Unit {0}) Refusal) → Gives answer x (inserts.put_each (p ∷ ps) to b.state.site)
+        → Hands TakesToken b (run_tokens (p ∷ ps)) answer (after_put x (refused_by answer))
+    run_put p ps some (Ok u) e = put_first p ps b.state.site.nodes b whole some.0 (put_rest ps some.1) e
+    run_put p ps some (Err r) (inl m) = (Err r, after_put x (Some r), wrong p b.state.site.nodes b whole some.0 x r (inl m), (refl, refl))
+    run_put p ps some (Err r) (inr e) = wrong_first r p ps b.state.site.nodes b whole some.0 (wrong_rest r ps some.1) e
+
+-- what comes of a token where nothing was refused before
+pub taken : (at : ℕ) (t : Token ℕ) (old new : Building) (answer : Result (Unit {0}) Refusal) → old.refused ≡ None → Takes at t old answer new → TakesOn at t old answer new
+taken at t old new answer none given = subst (λ (q : Option Refusal). MatchOption q (TakesOn at t old answer new) (λ why. StaysRefused why old answer new)) none given
+
+-- the building after a token, and after tokens
+pub stands-on : (at : ℕ) (t : Token ℕ) (old new : Building) → Stands old.root old.state → TakesOn at t old (Ok tt) new → Stands new.root new.state
+stands-on at t old new s on = subst (λ (r : ℕ). Stands r new.state) (sym on.root) (stands-after old.root at t old.state new.state s on.step)
+
+pub stands-run : (ts : List Given) (old new : Building) → Stands old.root old.state → old.refused ≡ None → Hands TakesToken old ts (Ok tt) new → Stands new.root new.state
+stands-run [] old new s none h = subst (λ (b : Building). Stands b.root b.state) h.1 s
+stands-run (t ∷ ts) old new s none (Err e, mid, given, rest) = let never = rest.0 in absurd cc
+stands-run (t ∷ ts) old new s none (Ok u, mid, given, rest) =
+    let on = taken (place_of t) (token_of t) old mid (Ok u) none given in
+    stands-run ts mid new (stands-on (place_of t) (token_of t) old mid s on) on.refused rest

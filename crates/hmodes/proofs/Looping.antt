@@ -1,0 +1,56 @@
+-- What holds between two rules of a token.
+use Rattle.std.proofs.Common.{◌≡◌, ◌⊎◌, inl, inr, ℕ, suc, ◌<◌, false, Result, Ok, Err, sym, subst}
+use Rattle.std.specs.Result.{IsErrAnd}
+use Rattle.names.specs.declared.refusal.Refusal.{Refusal}
+use Rattle.names.specs.declared.refusal.Refusal.TheVariants.{Memory}
+use Rattle.hadopt.specs.Gives.{Gives}
+use Rattle.hadopt.specs.Naming.{numbers}
+use Rattle.hadopt.specs.Site.{Outcome, Goes}
+use Rattle.hadopt.specs.Site as site
+use Rattle.hmodes.specs.Reached.{after}
+use Rattle.hmodes.specs.State.{Token, State, Done, Again, Refused}
+use Rattle.hmodes.specs.Step.{Rule, Chain, ends, refuses, goes_again, Step, goes, is_dropped, begun, finished}
+use Rattle.hmodes.proofs.Between.{Orderly, numbers-all, reached-orderly, orderly-begins, again-orderly}
+use Rattle.hmodes.proofs.Ends.{left, rule-falls}
+use Rattle.hmodes.specs.Building.{StepGives, ChainGives, HasBegun, Stands}
+use Rattle.hmodes.proofs.Growing.{step-holds}
+
+-- the rules from here on are rules from the beginning
+pub record GoesBy (at : ℕ) (t : Token ℕ) (s : State ℕ) (t' : Token ℕ) (s' : State ℕ) : Type 0 where
+  pub orderly : Orderly numbers s'
+  pub chain : (o : Outcome (State ℕ)) → Chain numbers at t' s' o → Chain numbers at t s o
+
+pub goes-from : (at : ℕ) (t : Token ℕ) (s : State ℕ) → HasBegun s → GoesBy at t s t s
+goes-from at t s h =
+    let o = orderly-begins numbers h.0 (reached-orderly numbers numbers-all h.0 h.1) in
+    record { orderly = subst (Orderly numbers) (sym h.2) o; chain = λ o c. c }
+
+pub goes-on : (at : ℕ) (t : Token ℕ) (s : State ℕ) (t' : Token ℕ) (s' : State ℕ) (u : Token ℕ) (v : State ℕ) → GoesBy at t s t' s' → Rule numbers at t' s' ≡ Again u v → GoesBy at t s u v
+goes-on at t s t' s' u v h rule = record { orderly = again-orderly numbers numbers-all at t' u s' v h.orderly rule; chain = λ o c. h.chain o (goes_again rule c) }
+
+pub goes-lower : (at : ℕ) (t : Token ℕ) (s : State ℕ) (t' : Token ℕ) (s' : State ℕ) (u : Token ℕ) (v : State ℕ) → GoesBy at t s t' s' → Rule numbers at t' s' ≡ Again u v → left numbers at u v < left numbers at t' s'
+goes-lower at t s t' s' u v h rule = rule-falls numbers numbers-all.img at t' u s' v h.orderly.sound rule
+
+pub goes-out : (at : ℕ) (t : Token ℕ) (s : State ℕ) (t' : Token ℕ) (s' v : State ℕ) (r : Result (Unit {0}) Refusal) (new : State ℕ) → GoesBy at t s t' s' → Rule numbers at t' s' ≡ Done v → Gives r new (Goes (finished at t' v)) → ChainGives at t s r new
+goes-out at t s t' s' v (Ok x) new h rule g = h.chain (Goes new) (subst (Chain numbers at t' s') g (ends rule))
+goes-out at t s t' s' v (Err e) new h rule (inl m) = inl m
+goes-out at t s t' s' v (Err e) new h rule (inr m) = cc
+
+pub goes-wrong : (at : ℕ) (t : Token ℕ) (s : State ℕ) (t' : Token ℕ) (s' : State ℕ) (e : Refusal) → GoesBy at t s t' s' → (e ≡ Memory) ⊎ (Rule numbers at t' s' ≡ Refused e) → (e ≡ Memory) ⊎ Chain numbers at t s (site.Refused e)
+goes-wrong at t s t' s' e h (inl m) = inl m
+goes-wrong at t s t' s' e h (inr rule) = inr (h.chain (site.Refused e) (refuses rule))
+
+-- a token from its beginning
+pub step-of : (at : ℕ) (t : Token ℕ) (s : State ℕ) (r : Result (Unit {0}) Refusal) (new : State ℕ) → is_dropped t s ≡ false → ChainGives at t (begun s) r new → StepGives at t s r new
+step-of at t s (Ok x) new e c = goes e c
+step-of at t s (Err x) new e (inl m) = inl m
+step-of at t s (Err x) new e (inr c) = inr (goes e c)
+
+-- what a step leads to
+pub stands-after : (root at : ℕ) (t : Token ℕ) (s new : State ℕ) → Stands root s → Step numbers at t s (Goes new) → Stands root new
+stands-after root at t s new h one = record { reached = after h.reached one; made = step-holds (suc root) numbers at t s new h.made one }
+
+-- what a call hands on that was refused
+pub wrong-chain : (at : ℕ) (t : Token ℕ) (s : State ℕ) (r : Result (Unit {0}) Refusal) (d : Refusal) (new : State ℕ) → IsErrAnd r (λ e. e ≡ d) → (d ≡ Memory) ⊎ Chain numbers at t s (site.Refused d) → ChainGives at t s r new
+wrong-chain at t s (Ok c) d new h k = absurd h
+wrong-chain at t s (Err e) d new h k = subst (λ (y : Refusal). (y ≡ Memory) ⊎ Chain numbers at t s (site.Refused y)) (sym h) k

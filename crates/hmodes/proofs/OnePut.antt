@@ -1,0 +1,74 @@
+-- A character that is put as it is.
+use Rattle.std.proofs.Common.{◌≡◌, ℕ, Bool, true, false, List, [], ◌∷◌, length, refl, ◌∙◌, ap}
+use Rattle.std.specs.Prelude.{◌==◌, if◌then◌else◌}
+use Rattle.std.proofs.lemmas.Bool.{false≢true, eqb-true}
+use Rattle.names.specs.Placed.{is_space}
+use Rattle.hnodes.specs.Edits.{Nodes}
+use Rattle.hnodes.specs.declared.node.Place.{Place}
+use Rattle.hnodes.specs.declared.node.Place.TheVariants.{LastIn}
+use Rattle.hopen.specs.Nearest.{before}
+use Rattle.hopen.specs.Stack.{is_open, current}
+use Rattle.hformat.specs.Formatting.{Item, marker, entry}
+use Rattle.hadopt.specs.Naming.{numbers}
+use Rattle.hadopt.specs.Site.{SiteOf, stack, node_of}
+use Rattle.hadopt.specs.Inserts as inserts
+use Rattle.hadopt.specs.Places.{place}
+use Rattle.hadopt.specs.Reconstructs.{stops_going_back, renewed_each}
+use Rattle.hmodes.specs.Body.{character_in_body}
+use Rattle.hmodes.specs.Perform.{perform, flow_of}
+use Rattle.hmodes.specs.Rules.{rule_of}
+use Rattle.hmodes.specs.State.{State, character, flow_then}
+use Rattle.hmodes.specs.Step.{Rule}
+use Rattle.hmodes.specs.Words.{put}
+use Rattle.hmodes.specs.declared.kind.Kind.TheVariants.{Ws, Char, Nul}
+use Rattle.hmodes.specs.declared.mode.Mode.{Mode}
+use Rattle.hmodes.specs.declared.mode.Mode.TheVariants as mode
+use Rattle.hmodes.specs.Runs.{is_reconstructed, puts_in}
+
+-- the place of a character: the end of the current node
+abbrev pub here : SiteOf ℕ → Place
+here x = LastIn (node_of (current (stack x)))
+
+in_body : (at c : ℕ) (s : State ℕ) → is_reconstructed s.site ≡ true → perform numbers at (character c) character_in_body s ≡ flow_of s (inserts.put at c (place numbers s.site) s.site)
+in_body at c s h =
+    ap (λ (k : ℕ). flow_then (flow_of s (renewed_each numbers at k s.site)) (perform numbers at (character c) put))
+    (eqb-true (length (before (stops_going_back s.site) s.site.items)) 0 h)
+
+module _ (at c : ℕ) (s : State ℕ) where
+  abbrev IsPut : Mode → Bool → Type 0
+  IsPut m space = perform numbers at (character c) (rule_of m (if space then Ws else Char)) s ≡ flow_of s (inserts.put at c (place numbers s.site) s.site)
+
+  is_put : (m : Mode) (space : Bool) → puts_in m s.site ≡ true → IsPut m space
+  is_put mode.Text true h = refl
+  is_put mode.Text false h = refl
+  is_put mode.InBody true h = in_body at c s h
+  is_put mode.InBody false h = in_body at c s h
+  is_put mode.InCaption true h = in_body at c s h
+  is_put mode.InCaption false h = in_body at c s h
+  is_put mode.InCell true h = in_body at c s h
+  is_put mode.InCell false h = in_body at c s h
+  is_put _ space h = absurd (false≢true h)
+
+  pub rule_puts : (c == 0) ≡ false → puts_in s.control.mode s.site ≡ true → Rule numbers at (character c) s ≡ flow_of s (inserts.put at c (place numbers s.site) s.site)
+  rule_puts some h =
+      ap (λ (b : Bool). perform numbers at (character c) (rule_of s.control.mode (if b then Nul else if is_space c then Ws else Char)) s) some
+      ∙ is_put s.control.mode (is_space c) h
+
+-- what is put changes neither the stack nor the list
+before-nodes : (x : SiteOf ℕ) (v : Nodes ℕ) (items : List (Item ℕ)) → before (stops_going_back (record x { nodes = v })) items ≡ before (stops_going_back x) items
+before-nodes x v [] = refl
+before-nodes x v (marker ∷ items) = refl
+before-nodes x v (entry e ∷ items) = ap (λ (r : List (Item ℕ)). if is_open e.node (stack x) then [] else entry e ∷ r) (before-nodes x v items)
+
+reconstructed-nodes : (x : SiteOf ℕ) (v : Nodes ℕ) → is_reconstructed (record x { nodes = v }) ≡ is_reconstructed x
+reconstructed-nodes x v = ap (λ (r : List (Item ℕ)). length r == 0) (before-nodes x v x.items)
+
+pub puts-nodes : (m : Mode) (x : SiteOf ℕ) (v : Nodes ℕ) → puts_in m x ≡ true → puts_in m (record x { nodes = v }) ≡ true
+puts-nodes mode.Text x v h = refl
+puts-nodes mode.InBody x v h = reconstructed-nodes x v ∙ h
+puts-nodes mode.InCaption x v h = reconstructed-nodes x v ∙ h
+puts-nodes mode.InCell x v h = reconstructed-nodes x v ∙ h
+puts-nodes _ x v h = absurd (false≢true h)
+
+pub place-here : (x : SiteOf ℕ) → x.foster ≡ false → place numbers x ≡ here x
+place-here x off = rw off refl

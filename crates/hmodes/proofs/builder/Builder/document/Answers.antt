@@ -1,0 +1,10 @@
+use Rattle.std.proofs.Common.{ℕ, sym, subst, arith}
+use Rattle.hmodes.specs.Reached.{document}
+use Rattle.hmodes.specs.States.{state_of}
+use Rattle.hmodes.specs.Building.{Stands}
+use Rattle.hmodes.proofs.builder.Builder.document.Goals as goal
+
+pub invariant_of-result : goal.invariant_of-result
+invariant_of-result c = λ e.
+    subst (λ (root : ℕ). Stands root (state_of c.in_ok-rules.rules)) (sym c.document-root.ensures.number)
+    (subst (Stands 0) (sym c.in_ok-rules.ensures) (record { reached = document c.args.quirks.now c.args.limits.tree; made = omega arith }))

@@ -1,0 +1,10 @@
+use Rattle.std.proofs.Common.{ℕ, sym, subst, arith}
+use Rattle.hmodes.specs.Reached.{fragment}
+use Rattle.hmodes.specs.States.{state_of}
+use Rattle.hmodes.specs.Building.{Stands}
+use Rattle.hmodes.proofs.builder.Builder.fragment.Goals as goal
+
+pub invariant_of-result : goal.invariant_of-result
+invariant_of-result c = λ e.
+    subst (λ (root : ℕ). Stands root (state_of c.in_ok-begun.begun.0)) (sym c.in_ok-begun.ensures.1)
+    (subst (Stands 1) (sym c.in_ok-begun.ensures.0) (record { reached = fragment c.args.context c.args.limits.tree; made = omega arith }))

@@ -1,0 +1,14 @@
+use Rattle.std.proofs.Common.{◌+◌}
+use Rattle.std.specs.Str.{chars, IsUtf8}
+use Rattle.names.specs.Placed.{placed}
+use Rattle.names.specs.Sink.{Continues}
+use Rattle.htoken.specs.Run.{run_tokens}
+use Rattle.hmodes.specs.Building.{TakesToken}
+use Rattle.hmodes.proofs.builder.Builder.take_one_by_one.Given as goal
+
+-- To take the rest of the run is to take all of it.
+abbrev pub invariant-loop-index : goal.invariant-loop-index
+invariant-loop-index l = record {
+  takes : Continues TakesToken l.fn.self (run_tokens (placed l.fn.at (chars l.run))) l.self (run_tokens (placed (l.fn.at + l.index-iterator.at) (chars l.index-iterator.rest.now)));
+  utf8 : IsUtf8 l.index-iterator.rest.now;
+}

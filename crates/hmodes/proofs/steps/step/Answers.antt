@@ -1,0 +1,20 @@
+use Rattle.std.proofs.Common.{ℕ, sym, ◌∙◌, subst}
+use Rattle.hadopt.specs.Naming.{numbers}
+use Rattle.hadopt.specs.Site.{Goes}
+use Rattle.hmodes.specs.State.{State}
+use Rattle.hmodes.specs.States.{state_of}
+use Rattle.hmodes.specs.Step.{Step, drops}
+use Rattle.hmodes.specs.Tokens.{token_of}
+use Rattle.hmodes.specs.Building.{ChainGives}
+use Rattle.hmodes.proofs.Looping.{step-of}
+use Rattle.hmodes.proofs.steps.step.Goals as goal
+
+pub returns-then-dropped : goal.returns-then-dropped
+returns-then-dropped c =
+    subst (λ (v : State ℕ). Step numbers c.args.at (token_of c.args.token.now) (state_of c.args.rules.now) (Goes v)) (sym c.begin.ensures)
+    (drops (sym c.is_dropped-dropped.ensures ∙ c.if-dropped.true))
+
+pub returns : goal.returns
+returns c =
+    step-of c.args.at (token_of c.args.token.now) (state_of c.args.rules.now) c.by_rules.result (state_of c.by_rules.new.rules) (sym c.is_dropped-dropped.ensures ∙ c.if-dropped.false)
+    (subst (λ (v : State ℕ). ChainGives c.args.at (token_of c.args.token.now) v c.by_rules.result (state_of c.by_rules.new.rules)) c.begin.ensures c.by_rules.ensures)

@@ -1,0 +1,245 @@
+//! The builder of a tree.
+
+ghost use Rattle.std.specs.Prelude.{◌≡◌, ◌+◌, ◌<◌, ◌≤◌, ◌++◌, [], Some, None, true, Err, length, IfErr, IfOk, MatchResult};
+ghost use Rattle.std.specs.Str.{chars};
+ghost use Rattle.names.specs.declared.refusal.Refusal.{Refusal as Refused};
+ghost use Rattle.names.specs.declared.refusal.Refusal.TheVariants.{Memory};
+ghost use Rattle.hadopt.specs.Naming.{numbers};
+ghost use Rattle.hmodes.specs.Beginning.{document_begins, fragment_begins};
+ghost use Rattle.hmodes.specs.Tokens.{token_of, place_of};
+ghost use Rattle.hmodes.specs.Building.{Takes, TakesToken};
+ghost use Rattle.htext.specs.declared.decoder.TheConstants.{MAX_INPUT};
+ghost use Rattle.htoken.specs.Run.{run_tokens};
+ghost use Rattle.names.specs.Placed.{placed};
+ghost use Rattle.names.specs.Sink.{Hands};
+
+use crate::beginning::{document_rules, fragment_rules};
+use crate::limits::Limits;
+use crate::runs::{put_bad, put_one, put_run, puts_each};
+use crate::steps::step;
+use hmarkup::{ErrorSink, Quirks};
+use crate::Rules;
+use hnodes::{NodeId, Tree};
+use htoken::{Token, TokenSink};
+use names::{Keys, NameId, ParseError, Refusal};
+use std::alloc::{AllocError, Global};
+use std::marker::Model;
+
+/// Builds the tree of a document or a fragment from its tokens. After a refusal each further call returns the same refusal and
+/// changes nothing.
+#[derive(Drop)]
+pub struct Builder<'q> {
+    rules: Rules<'q>,
+    root: NodeId,
+    told: Vec<ParseError>,
+    refused: Option<Refusal>,
+}
+
+impl<'q> Model for Builder<'q> {
+    ghost use Rattle.std.specs.Prelude.{◌≡◌, None};
+    ghost use Rattle.std.specs.Coded.{codes};
+    ghost use Rattle.hnodes.specs.Coding.{coded_forest};
+    ghost use Rattle.hmodes.specs.States.{state_of};
+    ghost use Rattle.hmodes.specs.Building.{Building, Stands};
+
+    ghost Value = { Building };
+
+    ghost coded = { Prim.hlevel (codes, coded_forest) };
+
+    ghost view = { λ b. record { state = state_of b.rules; root = b.root; told = b.told.items; refused = b.refused } };
+
+    ghost invariant = { λ b. b.refused ≡ None → Stands b.root (state_of b.rules) };
+}
+
+/// What was built: the tree, the document or a fragment's root element, and the parse errors: those of the rules in the order in
+/// which they were raised, then those that were handed over.
+#[derive(Drop)]
+pub struct Built {
+    pub tree: Tree,
+    pub root: NodeId,
+    pub errors: Vec<ParseError>,
+}
+
+impl<'q> Builder<'q> {
+    /// The builder of a document. An error is `Memory`. No result depends on the keys.
+    pub fn document(
+        alloc: Global,
+        keys: Keys,
+        quirks: &'q Quirks,
+        limits: Limits,
+    ) -> Result<Builder<'q>, Refusal>
+        ensures { MatchResult result
+            (λ b. b ≡ record { state = document_begins quirks.now limits.tree; root = 0; told = []; refused = None }) (λ e. e ≡ Memory) }
+    {
+        let rules = document_rules(alloc, keys, quirks, limits)?;
+        let root = rules.site.tree().document();
+        Ok(Builder {
+            rules,
+            root,
+            told: Vec::new(alloc),
+            refused: None,
+        })
+    }
+
+    /// The builder of a fragment in a context element of this name. An error is `Memory`.
+    pub fn fragment(
+        alloc: Global,
+        keys: Keys,
+        context: NameId,
+        limits: Limits,
+    ) -> Result<Builder<'q>, Refusal>
+        ensures { MatchResult result (λ b. b ≡ record { state = fragment_begins numbers context limits.tree; root = 1; told = []; refused = None })
+            (λ e. e ≡ Memory) }
+    {
+        let begun = fragment_rules(alloc, keys, context, limits)?;
+        Ok(Builder {
+            rules: begun.0,
+            root: begun.1,
+            told: Vec::new(alloc),
+            refused: None,
+        })
+    }
+
+    /// The tree, its root, and the parse errors. A builder that has refused gives the same refusal and no tree, since its tree may
+    /// stand between two edits of a token. Any other error is `Memory`.
+    pub fn finish(self) -> Result<Built, Refusal>
+        ensures tree { IfOk result (λ built. built.tree ≡ self.entry.state.site.nodes) }
+        ensures root { IfOk result (λ built. (built.root ≡ self.entry.root) × (built.root < built.tree.made)) }
+        ensures errors { IfOk result (λ built. built.errors.items ≡ self.entry.state.site.errors ++ self.entry.told) }
+        ensures again { (refusal : Refused) → self.entry.refused ≡ Some refusal → result ≡ Err refusal }
+        ensures memory { self.entry.refused ≡ None → IfErr result (λ refusal. refusal ≡ Memory) }
+    {
+        let Builder {
+            rules,
+            root,
+            told,
+            refused,
+        } = self;
+        if let Some(refusal) = refused {
+            drop(rules);
+            drop(told);
+            return Err(refusal);
+        }
+        let Rules { site, .. } = rules;
+        let (tree, raised) = site.into_parts();
+        let errors = joined(raised, told)?;
+        Ok(Built { tree, root, errors })
+    }
+
+    /// Takes the characters of a run one by one.
+    fn take_one_by_one(&mut self, run: &str, at: u64) -> Result<(), Refusal>
+        requires { at + length run.now ≤ MAX_INPUT }
+        ensures { Hands TakesToken self.old (run_tokens (placed at (chars run.now))) result self.new }
+    {
+        for (index, ch) in run.char_indices() {
+            self.take_text(ch, at + index as u64)?;
+        }
+        Ok(())
+    }
+
+    /// Takes a token, whose first byte is at this place.
+    fn take(&mut self, token: &mut Token, at: u64) -> Result<(), Refusal>
+        ensures { Takes at (token_of token.old) self.old result self.new }
+    {
+        if let Some(refusal) = self.refused {
+            return Err(refusal);
+        }
+        let answer = step(&mut self.rules, token, at);
+        if let Err(refusal) = answer {
+            self.refused = Some(refusal);
+        }
+        answer
+    }
+}
+
+/// The first errors and then the second. Only the shorter list is copied.
+fn joined(first: Vec<ParseError>, second: Vec<ParseError>) -> Result<Vec<ParseError>, AllocError>
+    ensures { IfOk result (λ all. all.items ≡ first.entry.items ++ second.entry.items) }
+{
+    let (mut first, mut second) = (first, second);
+    if second.len() <= first.len() {
+        first.append(&mut second)?;
+        return Ok(first);
+    }
+    let count = first.len();
+    second.append(&mut first)?;
+    second.rotate_right(count);
+    Ok(second)
+}
+
+/// The place of a token's first byte.
+fn place(token: &Token) -> u64
+    ensures { result ≡ place_of token.now }
+{
+    match token {
+        Token::Doctype { at, .. }
+        | Token::Start { at, .. }
+        | Token::End { at, .. }
+        | Token::Comment { at, .. }
+        | Token::Char { at, .. }
+        | Token::Eof { at } => *at,
+    }
+}
+
+impl<'q> ErrorSink for Builder<'q> {
+    ghost use Rattle.hmodes.specs.Building.{TakesError};
+
+    ghost gives = { TakesError };
+
+    fn take_error(&mut self, error: ParseError) -> Result<(), Refusal> {
+        if let Some(refusal) = self.refused {
+            return Err(refusal);
+        }
+        if self.told.push(error).is_err() {
+            self.refused = Some(Refusal::Memory);
+            return Err(Refusal::Memory);
+        }
+        Ok(())
+    }
+}
+
+impl<'q> TokenSink for Builder<'q> {
+    ghost use Rattle.hmodes.specs.Building.{TakesToken};
+
+    ghost gives_token = { TakesToken };
+
+    fn take_token(&mut self, token: Token) -> Result<(), Refusal> {
+        let mut token = token;
+        let at = place(&token);
+        self.take(&mut token, at)
+    }
+
+    fn take_text(&mut self, ch: char, at: u64) -> Result<(), Refusal> {
+        if ch == '\0' || self.refused.is_some() || !puts_each(&self.rules) {
+            let mut token = Token::Char { ch, at };
+            return self.take(&mut token, at);
+        }
+        self.rules.begin();
+        let answer = put_one(&mut self.rules, ch, at);
+        self.refused = answer.err();
+        answer
+    }
+
+    fn take_run(&mut self, run: &str, at: u64) -> Result<(), Refusal> {
+        if run.is_empty() {
+            return Ok(());
+        }
+        if self.refused.is_some() || !puts_each(&self.rules) {
+            return self.take_one_by_one(run, at);
+        }
+        self.rules.begin();
+        let answer = put_run(&mut self.rules, run, at);
+        self.refused = answer.err();
+        answer
+    }
+
+    fn take_bad(&mut self, count: usize, at: u64) -> Result<(), Refusal> {
+        if count == 0 || self.refused.is_some() || !puts_each(&self.rules) {
+            return self.take_bad_by_one(count, at);
+        }
+        self.rules.begin();
+        let answer = put_bad(&mut self.rules, count, at);
+        self.refused = answer.err();
+        answer
+    }
+}
