@@ -8,10 +8,10 @@ ghost use Rattle.hmodes.specs.Beginning.{control_in, form_of, document_begins, f
 ghost use Rattle.hmodes.specs.States.{state_of};
 
 use crate::limits::Limits;
-use hadopt::Site;
-use hmarkup::Quirks;
 use crate::reset::context_mode;
 use crate::{Control, Mode, Rules};
+use hadopt::Site;
+use hmarkup::Quirks;
 use hnodes::NodeId;
 use names::{Keys, NameId, Refusal, Tag};
 use std::alloc::{AllocError, Global};

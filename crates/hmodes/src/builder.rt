@@ -13,12 +13,12 @@ ghost use Rattle.htoken.specs.Run.{run_tokens};
 ghost use Rattle.names.specs.Placed.{placed};
 ghost use Rattle.names.specs.Sink.{Hands};
 
+use crate::Rules;
 use crate::beginning::{document_rules, fragment_rules};
 use crate::limits::Limits;
 use crate::runs::{put_bad, put_one, put_run, puts_each};
 use crate::steps::step;
 use hmarkup::{ErrorSink, Quirks};
-use crate::Rules;
 use hnodes::{NodeId, Tree};
 use htoken::{Token, TokenSink};
 use names::{Keys, NameId, ParseError, Refusal};
