@@ -2,7 +2,7 @@
 use Rattle.std.specs.Prelude.{ℕ, []}
 use Rattle.std.specs.Option.{option_map_or}
 use Rattle.hmodes.specs.State.{State}
-use Rattle.hmodes.specs.declared.rules.Rules.{Rules}
+use Rattle.hmodes.specs.declared.tree_construction.TreeConstruction.{TreeConstruction}
 
-abbrev pub state_of : Rules → State ℕ
+abbrev pub state_of : TreeConstruction → State ℕ
 state_of r = record { site = r.site; control = r.control; context = r.context; quirks_list = option_map_or (λ list. list.now) r.quirks_list [] }

@@ -14,11 +14,11 @@ ghost use Rattle.hmodes.specs.declared.mode.Mode.TheVariants.{Text, InBody, Afte
 use crate::family::Family;
 use crate::kind::Kind;
 use crate::mode::Mode;
-use crate::rules::{Flow, Rules};
+use crate::tree_construction::{Flow, TreeConstruction};
 use htoken::Token;
 use names::Refusal;
 
-impl<'q> Rules<'q> {
+impl<'q> TreeConstruction<'q> {
     /// The "text" insertion mode.
     pub(crate) fn text(&mut self, kind: Kind, token: &mut Token, at: u64) -> Result<Flow, Refusal>
         ensures { FlowGives result (token_of token.new) (state_of self.new) (perform numbers at (token_of token.old) (text kind) (state_of self.old)) }

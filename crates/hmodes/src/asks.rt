@@ -8,11 +8,11 @@ ghost use Rattle.hmodes.specs.State.{eof};
 ghost use Rattle.hmodes.specs.States.{state_of};
 ghost use Rattle.hmodes.specs.Words.{second_is_body, current_is_form, has_form_in_scope};
 
-use crate::rules::Rules;
+use crate::tree_construction::TreeConstruction;
 use hnodes::NodeId;
 use names::Tag;
 
-impl<'q> Rules<'q> {
+impl<'q> TreeConstruction<'q> {
     /// The current node; the document where no node is open.
     pub(crate) fn current_node(&self) -> NodeId
         ensures { result ≡ current_node self.now.site }

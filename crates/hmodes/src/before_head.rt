@@ -14,11 +14,11 @@ ghost use Rattle.hmodes.specs.declared.mode.Mode.TheVariants.{InHead};
 use crate::family::Family;
 use crate::kind::Kind;
 use crate::mode::Mode;
-use crate::rules::{Flow, Rules};
+use crate::tree_construction::{Flow, TreeConstruction};
 use htoken::Token;
 use names::{Refusal, Tag};
 
-impl<'q> Rules<'q> {
+impl<'q> TreeConstruction<'q> {
     /// The "before html" insertion mode.
     pub(crate) fn before_html(
         &mut self,

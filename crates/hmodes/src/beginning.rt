@@ -9,7 +9,7 @@ ghost use Rattle.hmodes.specs.States.{state_of};
 
 use crate::limits::Limits;
 use crate::reset::context_mode;
-use crate::{Control, Mode, Rules};
+use crate::{Control, Mode, TreeConstruction};
 use hadopt::Site;
 use hmarkup::Quirks;
 use hnodes::NodeId;
@@ -38,10 +38,10 @@ pub(crate) fn document_rules<'q>(
     keys: Keys,
     quirks: &'q Quirks,
     limits: Limits,
-) -> Result<Rules<'q>, AllocError>
+) -> Result<TreeConstruction<'q>, AllocError>
     ensures { IfOk result (λ r. state_of r ≡ document_begins quirks.now limits.tree) }
 {
-    Ok(Rules {
+    Ok(TreeConstruction {
         site: Site::new(alloc, keys, limits.nodes(), limits.depth())?,
         control: control_in(alloc, Mode::Initial, None),
         context: None,
@@ -76,12 +76,12 @@ pub(crate) fn fragment_rules<'q>(
     keys: Keys,
     context: NameId,
     limits: Limits,
-) -> Result<(Rules<'q>, NodeId), Refusal>
+) -> Result<(TreeConstruction<'q>, NodeId), Refusal>
     ensures { MatchResult result (λ r. (state_of r.0 ≡ fragment_begins numbers context limits.tree) × (r.1 ≡ 1)) (λ e. e ≡ Memory) }
 {
     let (site, root) = fragment_site(alloc, keys, limits)?;
     let form = form_pointer(&site, context);
-    let rules = Rules {
+    let rules = TreeConstruction {
         site,
         control: control_in(alloc, context_mode(context.tag()), form),
         context: Some(context),

@@ -16,14 +16,14 @@ ghost use Rattle.hmodes.specs.Words.{◌▸◌, when, unless, choose, error, ins
 ghost use Rattle.hmodes.specs.declared.mode.Mode.TheVariants.{InBody};
 
 use crate::mode::Mode;
-use crate::rules::{Flow, Rules, done};
 use crate::token::token_name;
+use crate::tree_construction::{Flow, TreeConstruction, done};
 use hadopt::Passing;
 use hopen::{Group, Scope};
 use htoken::Token;
 use names::{NameId, Refusal, Tag};
 
-impl<'q> Rules<'q> {
+impl<'q> TreeConstruction<'q> {
     /// The start tag of a block or a p.
     pub(crate) fn block(&mut self, token: &mut Token, at: u64) -> Result<Flow, Refusal>
         ensures { FlowGives result (token_of token.new) (state_of self.new) (perform numbers at (token_of token.old) (block) (state_of self.old)) }

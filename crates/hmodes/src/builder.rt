@@ -13,11 +13,11 @@ ghost use Rattle.htoken.specs.Run.{run_tokens};
 ghost use Rattle.names.specs.Placed.{placed};
 ghost use Rattle.names.specs.Sink.{Hands};
 
-use crate::Rules;
+use crate::TreeConstruction;
 use crate::beginning::{document_rules, fragment_rules};
 use crate::limits::Limits;
 use crate::runs::{put_bad, put_one, put_run, puts_each};
-use crate::steps::step;
+use crate::step::step;
 use hmarkup::{ErrorSink, Quirks};
 use hnodes::{NodeId, Tree};
 use htoken::{Token, TokenSink};
@@ -29,7 +29,7 @@ use std::marker::Model;
 /// changes nothing.
 #[derive(Drop)]
 pub struct Builder<'q> {
-    rules: Rules<'q>,
+    rules: TreeConstruction<'q>,
     root: NodeId,
     told: Vec<ParseError>,
     refused: Option<Refusal>,
@@ -120,7 +120,7 @@ impl<'q> Builder<'q> {
             drop(told);
             return Err(refusal);
         }
-        let Rules { site, .. } = rules;
+        let TreeConstruction { site, .. } = rules;
         let (tree, raised) = site.into_parts();
         let errors = joined(raised, told)?;
         Ok(Built { tree, root, errors })

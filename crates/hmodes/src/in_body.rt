@@ -17,13 +17,13 @@ ghost use Rattle.hmodes.specs.declared.mode.Mode.TheVariants.{InBody, AfterBody}
 use crate::family::Family;
 use crate::kind::Kind;
 use crate::mode::Mode;
-use crate::rules::{Flow, Rules, done};
 use crate::token::{token_char, token_name};
+use crate::tree_construction::{Flow, TreeConstruction, done};
 use hopen::Scope;
 use htoken::Token;
 use names::{Refusal, Tag};
 
-impl<'q> Rules<'q> {
+impl<'q> TreeConstruction<'q> {
     /// The "in body" insertion mode.
     pub(crate) fn in_body(
         &mut self,

@@ -15,13 +15,13 @@ ghost use Rattle.hmodes.specs.declared.mode.Mode.TheVariants.{InTable};
 use crate::family::Family;
 use crate::kind::Kind;
 use crate::mode::Mode;
-use crate::rules::{Flow, Rules};
+use crate::tree_construction::{Flow, TreeConstruction};
 use hadopt::Passing;
 use hopen::Scope;
 use htoken::Token;
 use names::{Refusal, Tag};
 
-impl<'q> Rules<'q> {
+impl<'q> TreeConstruction<'q> {
     /// The "in caption" insertion mode.
     pub(crate) fn in_caption(
         &mut self,

@@ -17,14 +17,14 @@ ghost use Rattle.hmodes.specs.declared.mode.Mode.TheVariants.{InCell, InRow};
 use crate::family::Family;
 use crate::kind::Kind;
 use crate::mode::Mode;
-use crate::rules::{Flow, Rules};
 use crate::token::token_name;
+use crate::tree_construction::{Flow, TreeConstruction};
 use hadopt::Passing;
 use hopen::{Group, Scope};
 use htoken::Token;
 use names::Refusal;
 
-impl<'q> Rules<'q> {
+impl<'q> TreeConstruction<'q> {
     /// The "in cell" insertion mode.
     pub(crate) fn in_cell(
         &mut self,

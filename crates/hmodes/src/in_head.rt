@@ -15,12 +15,12 @@ ghost use Rattle.hmodes.specs.declared.mode.Mode.TheVariants.{InHead, InHeadNosc
 use crate::family::Family;
 use crate::kind::Kind;
 use crate::mode::Mode;
-use crate::rules::{Flow, Rules, done};
+use crate::tree_construction::{Flow, TreeConstruction, done};
 use hopen::Open;
 use htoken::Token;
 use names::{Refusal, Tag};
 
-impl<'q> Rules<'q> {
+impl<'q> TreeConstruction<'q> {
     /// The "in head" insertion mode.
     pub(crate) fn in_head(
         &mut self,

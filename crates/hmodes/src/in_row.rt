@@ -17,14 +17,14 @@ ghost use Rattle.hmodes.specs.declared.mode.Mode.TheVariants.{InRow, InCell};
 use crate::family::Family;
 use crate::kind::Kind;
 use crate::mode::Mode;
-use crate::rules::{Flow, Rules, done};
 use crate::token::token_name;
+use crate::tree_construction::{Flow, TreeConstruction, done};
 use hadopt::Passing;
 use hopen::Scope;
 use htoken::Token;
 use names::{Refusal, Tag};
 
-impl<'q> Rules<'q> {
+impl<'q> TreeConstruction<'q> {
     /// The "in row" insertion mode.
     pub(crate) fn in_row(&mut self, kind: Kind, token: &mut Token, at: u64) -> Result<Flow, Refusal>
         requires { Kept numbers self.old.site }

@@ -18,14 +18,14 @@ ghost use Rattle.hmodes.specs.declared.mode.Mode.TheVariants.{InTable, InTableTe
 use crate::family::Family;
 use crate::kind::Kind;
 use crate::mode::Mode;
-use crate::rules::{Flow, Rules, done};
 use crate::token::is_hidden;
+use crate::tree_construction::{Flow, TreeConstruction, done};
 use hadopt::Passing;
 use hopen::Scope;
 use htoken::Token;
 use names::{Refusal, Tag};
 
-impl<'q> Rules<'q> {
+impl<'q> TreeConstruction<'q> {
     /// The "in table" insertion mode.
     pub(crate) fn in_table(
         &mut self,

@@ -18,7 +18,7 @@ ghost use Rattle.hmodes.specs.declared.mode.Mode.TheVariants.{Initial, BeforeHtm
 
 use crate::kind::Kind;
 use crate::mode::Mode;
-use crate::rules::{Flow, Rules};
+use crate::tree_construction::{Flow, TreeConstruction};
 use hnodes::Doctype;
 use htoken::Token;
 use names::Refusal;
@@ -89,7 +89,7 @@ fn take_doctype(alloc: Global, token: &mut Token) -> Doctype
     }
 }
 
-impl<'q> Rules<'q> {
+impl<'q> TreeConstruction<'q> {
     /// The "initial" insertion mode.
     pub(crate) fn initial(
         &mut self,

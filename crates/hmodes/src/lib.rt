@@ -23,13 +23,12 @@ pub mod mode;
 mod phrases;
 pub mod reset;
 pub mod rule;
-pub mod rules;
 mod runs;
 pub mod step;
-mod steps;
 mod table_body;
 mod table_text;
 mod token;
+pub mod tree_construction;
 mod words;
 
 pub use builder::{Builder, Built};
@@ -42,4 +41,4 @@ pub use laws::{
 };
 pub use limits::{LEAST, Limits, MAX_DEPTH, MAX_NODES};
 pub use mode::Mode;
-pub use rules::{Flow, Rules};
+pub use tree_construction::{Flow, TreeConstruction};

@@ -17,15 +17,15 @@ ghost use Rattle.hmodes.specs.Words.{◌▸◌, when, unless, choose, error, aga
 ghost use Rattle.hmodes.specs.declared.mode.Mode.TheVariants.{InBody, InTable};
 
 use crate::mode::Mode;
-use crate::rules::{Flow, Rules, done};
 use crate::token::{rename, take_attrs, token_name};
+use crate::tree_construction::{Flow, TreeConstruction, done};
 use hadopt::Passing;
 use hnodes::NodeId;
 use hopen::Scope;
 use htoken::Token;
 use names::{NameId, Refusal, Tag};
 
-impl<'q> Rules<'q> {
+impl<'q> TreeConstruction<'q> {
     /// An element for a start tag, which is also a formatting element.
     pub(crate) fn insert_formatting(&mut self, token: &mut Token, at: u64) -> Result<(), Refusal>
         ensures { StateGives result (state_of self.new) (perform numbers at (token_of token.old) (insert ▸ push_to_list) (state_of self.old)) }

@@ -9,7 +9,7 @@ ghost use Rattle.hmodes.specs.declared.mode.Mode.TheVariants.{InBody};
 ghost use Rattle.hmodes.specs.Reset.{open_mode, context_mode, root_mode, reset_mode};
 
 use crate::mode::Mode;
-use crate::rules::Rules;
+use crate::tree_construction::TreeConstruction;
 use hopen::Group;
 use names::Tag;
 
@@ -44,7 +44,7 @@ pub fn context_mode(tag: Tag) -> Mode
     }
 }
 
-impl<'q> Rules<'q> {
+impl<'q> TreeConstruction<'q> {
     /// The mode that fits the open nodes: going up from the current one, the first that decides.
     pub(crate) fn reset_mode(&self) -> Mode
         ensures { result ≡ reset_mode numbers self.now.context (stack self.now.site) }

@@ -11,11 +11,11 @@ ghost use Rattle.hmodes.specs.Tokens.{token_of};
 
 use crate::kind::Kind;
 use crate::mode::Mode;
-use crate::rules::{Flow, Rules};
+use crate::tree_construction::{Flow, TreeConstruction};
 use htoken::Token;
 use names::Refusal;
 
-impl<'q> Rules<'q> {
+impl<'q> TreeConstruction<'q> {
     /// One rule for a token: of the mode that holds.
     pub fn rule(&mut self, token: &mut Token, at: u64) -> Result<Flow, Refusal>
         requires kept { Kept numbers self.old.site }

@@ -12,12 +12,12 @@ ghost use Rattle.hmodes.specs.States.{state_of};
 ghost use Rattle.htoken.specs.Run.{replaced};
 ghost use Rattle.hmodes.specs.Runs.{puts_each};
 
-use crate::{Mode, Rules};
+use crate::{Mode, TreeConstruction};
 use names::Refusal;
 
 /// Whether a character other than NUL is put at the appropriate place as it is, and so is each of a run: nothing is dropped,
 /// reconstructed or foster parented.
-pub(crate) fn puts_each(rules: &Rules<'_>) -> bool
+pub(crate) fn puts_each(rules: &TreeConstruction<'_>) -> bool
     ensures { result ≡ puts_each (state_of rules.now) }
 {
     let control = &rules.control;
@@ -32,7 +32,7 @@ pub(crate) fn puts_each(rules: &Rules<'_>) -> bool
 }
 
 /// Puts the characters of a run at the appropriate place.
-pub(crate) fn put_run(rules: &mut Rules<'_>, run: &str, at: u64) -> Result<(), Refusal>
+pub(crate) fn put_run(rules: &mut TreeConstruction<'_>, run: &str, at: u64) -> Result<(), Refusal>
     ensures gives { Gives result rules.new.site (put_each (placed at (chars run.now)) (place numbers rules.old.site) rules.old.site) }
     ensures rest { state_of rules.new ≡ with_site rules.new.site (state_of rules.old) }
 {
@@ -41,7 +41,11 @@ pub(crate) fn put_run(rules: &mut Rules<'_>, run: &str, at: u64) -> Result<(), R
 }
 
 /// Puts the characters that replace so many bad parts at the appropriate place.
-pub(crate) fn put_bad(rules: &mut Rules<'_>, count: usize, at: u64) -> Result<(), Refusal>
+pub(crate) fn put_bad(
+    rules: &mut TreeConstruction<'_>,
+    count: usize,
+    at: u64,
+) -> Result<(), Refusal>
     requires { 0 < count }
     ensures gives { Gives result rules.new.site (put_each (replaced at count) (place numbers rules.old.site) rules.old.site) }
     ensures rest { state_of rules.new ≡ with_site rules.new.site (state_of rules.old) }
@@ -54,7 +58,7 @@ pub(crate) fn put_bad(rules: &mut Rules<'_>, count: usize, at: u64) -> Result<()
 }
 
 /// Puts a character at the appropriate place.
-pub(crate) fn put_one(rules: &mut Rules<'_>, ch: char, at: u64) -> Result<(), Refusal>
+pub(crate) fn put_one(rules: &mut TreeConstruction<'_>, ch: char, at: u64) -> Result<(), Refusal>
     ensures gives { Gives result rules.new.site (put at ch (place numbers rules.old.site) rules.old.site) }
     ensures rest { state_of rules.new ≡ with_site rules.new.site (state_of rules.old) }
 {

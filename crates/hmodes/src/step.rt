@@ -1,18 +1,21 @@
-//! How a token begins and ends (HTML Standard, 13.2.6).
+//! A token: how it begins, the rules that it goes by, and how it ends (HTML Standard, 13.2.6).
 
 ghost use Rattle.std.specs.Prelude.{◌≡◌, ℕ};
 ghost use Rattle.hadopt.specs.Gives.{Gives};
+ghost use Rattle.hadopt.specs.Naming.{numbers};
 ghost use Rattle.hadopt.specs.Site.{Goes};
 ghost use Rattle.hmodes.specs.State.{Token as TokenOf, is_self_closing};
 ghost use Rattle.hmodes.specs.Step.{is_dropped, begun, finished};
+ghost use Rattle.hmodes.specs.Building.{HasBegun, ChainGives, StepGives};
+ghost use Rattle.hmodes.specs.Reached.{Reached};
 ghost use Rattle.hmodes.specs.States.{state_of};
 ghost use Rattle.hmodes.specs.Tokens.{token_of};
 
-use crate::rules::Rules;
+use crate::tree_construction::{Flow, TreeConstruction};
 use htoken::Token;
 use names::{ErrorCode, Refusal};
 
-impl<'q> Rules<'q> {
+impl<'q> TreeConstruction<'q> {
     /// Whether a token is the LF that is to be dropped.
     pub fn is_dropped(&self, token: &Token) -> bool
         ensures { result ≡ is_dropped (token_of token.now) (state_of self.now) }
@@ -48,4 +51,35 @@ pub fn is_self_closing(token: &Token) -> bool
     ensures { result ≡ is_self_closing (token_of token.now) }
 {
     matches!(token, Token::Start { closing: true, .. })
+}
+
+/// A token: ignored if it is the LF that is to be dropped, and otherwise by the rules.
+pub(crate) fn step(
+    rules: &mut TreeConstruction<'_>,
+    token: &mut Token,
+    at: u64,
+) -> Result<(), Refusal>
+    requires { Reached numbers (state_of rules.old) }
+    ensures { StepGives at (token_of token.old) (state_of rules.old) result (state_of rules.new) }
+{
+    let dropped = rules.is_dropped(token);
+    rules.begin();
+    if dropped {
+        return Ok(());
+    }
+    by_rules(rules, token, at)
+}
+
+/// By the rules of the mode that holds, as long as one has the token go again.
+fn by_rules(rules: &mut TreeConstruction<'_>, token: &mut Token, at: u64) -> Result<(), Refusal>
+    requires { HasBegun (state_of rules.old) }
+    ensures { ChainGives at (token_of token.old) (state_of rules.old) result (state_of rules.new) }
+{
+    loop {
+        let closing = is_self_closing(token);
+        match rules.rule(token, at)? {
+            Flow::Done => return rules.end(closing, at),
+            Flow::Again => {}
+        }
+    }
 }

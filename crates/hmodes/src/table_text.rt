@@ -16,8 +16,8 @@ ghost use Rattle.hmodes.specs.Words.{Char, ◌▸◌, choose, each_pending, agai
 
 use crate::kind::Kind;
 use crate::mode::Mode;
-use crate::rules::{Flow, Rules};
 use crate::token::token_char;
+use crate::tree_construction::{Flow, TreeConstruction};
 use htoken::Token;
 use names::{Placed, Refusal};
 use std::mem;
@@ -29,7 +29,7 @@ fn are_ws(pending: &[Placed]) -> bool
     pending.iter().all(|c| c.ch.is_ascii_whitespace())
 }
 
-impl<'q> Rules<'q> {
+impl<'q> TreeConstruction<'q> {
     /// The "in table text" insertion mode.
     pub(crate) fn in_table_text(
         &mut self,

@@ -16,14 +16,14 @@ ghost use Rattle.hmodes.specs.declared.mode.Mode.TheVariants.{InBody};
 ghost use Rattle.hmodes.specs.Words.{error, insert, insert_root, insert_comment, comment_in_document, comment_in_first, put, unless, current_is_name, pop_to_name, implied_except_name, ◌▸◌};
 
 use crate::mode::Mode;
-use crate::rules::{Flow, Rules, done};
 use crate::token::{take_attrs, take_text, token_char, token_name};
+use crate::tree_construction::{Flow, TreeConstruction, done};
 use hadopt::Passing;
 use hopen::Scope;
 use htoken::Token;
 use names::{NameId, Refusal, Tag};
 
-impl<'q> Rules<'q> {
+impl<'q> TreeConstruction<'q> {
     /// One more parse error, by the rules of a mode.
     pub(crate) fn error(&mut self, mode: Mode, at: u64) -> Result<(), Refusal>
         ensures done { StateGives result (state_of self.new) (performed at (error mode) (state_of self.old)) }

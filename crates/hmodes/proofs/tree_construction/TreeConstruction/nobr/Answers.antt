@@ -12,7 +12,7 @@ use Rattle.hmodes.specs.Tokens.{token_of}
 use Rattle.hmodes.specs.Words.{Do, ◌▸◌, when, has_in, error, adopt, reconstruct, insert, push_to_list}
 use Rattle.hmodes.specs.declared.mode.Mode.TheVariants.{InBody}
 use Rattle.hmodes.proofs.Flowing.{goes-on, refused-as, refused-then, err-flow}
-use Rattle.hmodes.proofs.rules.Rules.nobr.Goals as goal
+use Rattle.hmodes.proofs.tree_construction.TreeConstruction.nobr.Goals as goal
 
 abbrev closes : Do
 closes = when (has_in Default Nobr) (error InBody ▸ adopt ▸ reconstruct)

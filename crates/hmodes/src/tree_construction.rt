@@ -22,7 +22,7 @@ pub enum Flow {
 
 /// The state of the tree construction.
 #[derive(Drop)]
-pub struct Rules<'q> {
+pub struct TreeConstruction<'q> {
     pub site: Site,
     pub control: Control,
     /// A fragment's context.

@@ -6,7 +6,7 @@ use Rattle.hmodes.specs.State.{character}
 use Rattle.hmodes.specs.States.{state_of}
 use Rattle.hmodes.specs.Table.{other_in_table}
 use Rattle.hmodes.specs.Words.{Char}
-use Rattle.hmodes.proofs.rules.Rules.foster_each.Given as goal
+use Rattle.hmodes.proofs.tree_construction.TreeConstruction.foster_each.Given as goal
 
 abbrev pub invariant-loop-c : goal.invariant-loop-c
 invariant-loop-c l = record {

@@ -5,7 +5,7 @@ use Rattle.hmodes.specs.Perform.{perform, each_of}
 use Rattle.hmodes.specs.State.{character}
 use Rattle.hmodes.specs.States.{state_of}
 use Rattle.hmodes.specs.Words.{put}
-use Rattle.hmodes.proofs.rules.Rules.put_each.Given as goal
+use Rattle.hmodes.proofs.tree_construction.TreeConstruction.put_each.Given as goal
 
 abbrev pub invariant-loop-c : goal.invariant-loop-c
 invariant-loop-c l = record {

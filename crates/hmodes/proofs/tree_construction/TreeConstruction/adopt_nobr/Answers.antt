@@ -8,7 +8,7 @@ use Rattle.hmodes.specs.Words.{◌▸◌, error, adopt, reconstruct}
 use Rattle.hmodes.specs.declared.mode.Mode.TheVariants.{InBody}
 use Rattle.hmodes.proofs.Flowing.{on-site, goes-on, refused-then, refused-as, err-state}
 use Rattle.hmodes.specs.Perform.{perform}
-use Rattle.hmodes.proofs.rules.Rules.adopt_nobr.Goals as goal
+use Rattle.hmodes.proofs.tree_construction.TreeConstruction.adopt_nobr.Goals as goal
 
 pub returns-in_err-run_adoption : goal.returns-in_err-run_adoption
 returns-in_err-run_adoption c =

@@ -11,7 +11,7 @@ use Rattle.hmodes.specs.Tokens.{token_of}
 use Rattle.hmodes.specs.Words.{Do, ◌▸◌, when, name_is_listed, error, adopt_listed}
 use Rattle.hmodes.specs.declared.mode.Mode.TheVariants.{InBody}
 use Rattle.hmodes.proofs.Flowing.{goes-on, refused-then, err-flow}
-use Rattle.hmodes.proofs.rules.Rules.anchor.Goals as goal
+use Rattle.hmodes.proofs.tree_construction.TreeConstruction.anchor.Goals as goal
 
 abbrev closes : Do
 closes = when name_is_listed (error InBody ▸ adopt_listed)

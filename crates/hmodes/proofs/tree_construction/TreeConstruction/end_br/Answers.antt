@@ -6,7 +6,7 @@ use Rattle.hmodes.specs.States.{state_of}
 use Rattle.hmodes.specs.Words.{◌▸◌, error, reconstruct, insert_named, pop}
 use Rattle.hmodes.specs.declared.mode.Mode.TheVariants.{InBody}
 use Rattle.hmodes.proofs.Flowing.{goes-on}
-use Rattle.hmodes.proofs.rules.Rules.end_br.Goals as goal
+use Rattle.hmodes.proofs.tree_construction.TreeConstruction.end_br.Goals as goal
 
 pub returns : goal.returns
 returns c = λ t.

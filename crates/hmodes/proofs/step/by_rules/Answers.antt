@@ -8,7 +8,7 @@ use Rattle.hmodes.specs.Tokens.{token_of}
 use Rattle.hmodes.specs.declared.rules.Flow.{Flow as Answer}
 use Rattle.hmodes.proofs.Between.{orderly-kept, orderly-head}
 use Rattle.hmodes.proofs.Looping.{goes-from, goes-on, goes-lower, goes-out, goes-wrong, wrong-chain}
-use Rattle.hmodes.proofs.steps.by_rules.Goals as goal
+use Rattle.hmodes.proofs.step.by_rules.Goals as goal
 
 pub loop-rules-init : goal.loop-rules-init
 loop-rules-init c = goes-from c.args.at (token_of c.args.token.now) (state_of c.args.rules.now) c.requires

@@ -7,7 +7,7 @@ use Rattle.hmodes.specs.Step.{Step, drops}
 use Rattle.hmodes.specs.Tokens.{token_of}
 use Rattle.hmodes.specs.Building.{ChainGives}
 use Rattle.hmodes.proofs.Looping.{step-of}
-use Rattle.hmodes.proofs.steps.step.Goals as goal
+use Rattle.hmodes.proofs.step.step.Goals as goal
 
 pub returns-then-dropped : goal.returns-then-dropped
 returns-then-dropped c =

@@ -3,7 +3,7 @@ use Rattle.hmodes.specs.States.{state_of}
 use Rattle.hmodes.specs.Tokens.{token_of}
 use Rattle.hmodes.proofs.Ends.{left}
 use Rattle.hmodes.proofs.Looping.{GoesBy}
-use Rattle.hmodes.proofs.steps.by_rules.Given as goal
+use Rattle.hmodes.proofs.step.by_rules.Given as goal
 
 abbrev pub invariant-loop-rules : goal.invariant-loop-rules
 invariant-loop-rules l = GoesBy l.at (token_of l.initial.token) (state_of l.initial.rules) (token_of l.token) (state_of l.rules)

@@ -9,7 +9,7 @@ use Rattle.hmodes.specs.State.{State, Flow, character}
 use Rattle.hmodes.specs.States.{state_of}
 use Rattle.hmodes.specs.Table.{other_in_table}
 use Rattle.hmodes.specs.Words.{Char, put}
-use Rattle.hmodes.proofs.rules.Rules.put_pending.Goals as goal
+use Rattle.hmodes.proofs.tree_construction.TreeConstruction.put_pending.Goals as goal
 
 -- what comes of the characters
 abbrev comes : List Placed → State ℕ → Flow ℕ

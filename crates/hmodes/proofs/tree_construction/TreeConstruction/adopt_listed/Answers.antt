@@ -4,7 +4,7 @@ use Rattle.hmodes.specs.States.{state_of}
 use Rattle.hmodes.specs.Words.{error, adopt_listed}
 use Rattle.hmodes.specs.declared.mode.Mode.TheVariants.{InBody}
 use Rattle.hmodes.proofs.Flowing.{goes-on, refused-as, err-state, listed-refused, listed-done}
-use Rattle.hmodes.proofs.rules.Rules.adopt_listed.Goals as goal
+use Rattle.hmodes.proofs.tree_construction.TreeConstruction.adopt_listed.Goals as goal
 
 pub returns-in_err-adopt : goal.returns-in_err-adopt
 returns-in_err-adopt c =

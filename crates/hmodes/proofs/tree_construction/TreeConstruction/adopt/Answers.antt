@@ -3,7 +3,7 @@ use Rattle.hmodes.specs.Flows.{StateGives, performed_for}
 use Rattle.hmodes.specs.States.{state_of}
 use Rattle.hmodes.specs.Tokens.{token_of}
 use Rattle.hmodes.specs.Words.{adopt}
-use Rattle.hmodes.proofs.rules.Rules.adopt.Goals as goal
+use Rattle.hmodes.proofs.tree_construction.TreeConstruction.adopt.Goals as goal
 
 pub returns : goal.returns
 returns c =

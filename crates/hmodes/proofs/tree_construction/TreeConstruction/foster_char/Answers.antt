@@ -6,7 +6,7 @@ use Rattle.hmodes.specs.Body.{character_in_body}
 use Rattle.hmodes.specs.Perform.{perform, with_foster, with_site}
 use Rattle.hmodes.specs.State.{character, State, Flow, Done, flow_map}
 use Rattle.hmodes.specs.States.{state_of}
-use Rattle.hmodes.proofs.rules.Rules.foster_char.Goals as goal
+use Rattle.hmodes.proofs.tree_construction.TreeConstruction.foster_char.Goals as goal
 
 pub returns : goal.returns
 returns c =

@@ -3,8 +3,8 @@ use Rattle.std.specs.List.{position_or_len}
 use Rattle.hadopt.specs.Site.{stack}
 use Rattle.hmodes.specs.declared.mode.Mode.TheVariants.{InBody}
 use Rattle.hmodes.proofs.Resetting.{decided, tells, reset-told, reset-root, place-told, place-none}
-use Rattle.hmodes.proofs.rules.Rules.reset_mode.Goals.{in_default-via-in-Some+else-up-below_first, in_default-via-in_default}
-use Rattle.hmodes.proofs.rules.Rules.reset_mode.Goals as goal
+use Rattle.hmodes.proofs.tree_construction.TreeConstruction.reset_mode.Goals.{in_default-via-in-Some+else-up-below_first, in_default-via-in_default}
+use Rattle.hmodes.proofs.tree_construction.TreeConstruction.reset_mode.Goals as goal
 
 pub returns-in-Some : goal.returns-in-Some
 returns-in-Some c =
