@@ -3,7 +3,8 @@ use Rattle.std.proofs.Common.{◌≡◌, ℕ, ◌<◌, Bool, true, false, List, 
 use Rattle.std.proofs.lemmas.List.{take-append-drop, get_or_past}
 use Rattle.std.proofs.lemmas.Option.{slice_get_within, get_or_from_slice_get}
 use Rattle.std.proofs.lemmas.Slice.Eq.{bytes_eq-Decides}
-use Rattle.std.specs.Prelude.{bytes_eq, slice_get}
+use Rattle.std.specs.List.{list_any}
+use Rattle.std.specs.Prelude.{bytes_eq, slice_get, ◌||◌}
 use Rattle.names.specs.declared.tag.Tag.{Tag}
 use Rattle.names.specs.declared.tag.Tag.TheVariants.{Other}
 use Rattle.names.specs.Tags.{tag_text, tags, tag_of, tag_named, tag_among, type_name}
@@ -39,3 +40,18 @@ tag_of-named names id text h at =
     named_at tags others id text (subst AreDistinct e h.distinct)
     (subst (λ (x : Texts). id < length x) e (slice_get_within names id text at))
     (subst (λ (x : Texts). text_of x id ≡ text) e (get_or_from_slice_get names id text [] at))
+
+no_first : (b r : Bool) → (b || r) ≡ false → r ≡ false
+no_first true r e = cc
+no_first false r e = e
+
+-- a text that is none of the tags' texts names no tag
+pub none_named : (ts : List Tag) (others : Texts) (text : List ℕ) → list_any (bytes_eq text) (map tag_text ts ++ others) ≡ false → tag_among ts text ≡ Other
+none_named [] others text e = refl
+none_named (t ∷ ts) others text e = go (none_named ts others text (no_first _ _ e)) (bytes_eq (tag_text t) text) refl where
+  go : tag_among ts text ≡ Other → (b : Bool) → bytes_eq (tag_text t) text ≡ b → tag_among (t ∷ ts) text ≡ Other
+  go later true is =
+      let there : bytes_eq text (tag_text t) ≡ true = (bytes_eq-Decides text (tag_text t)).1 (sym ((bytes_eq-Decides (tag_text t) text).0 is)) in
+      let clash : true ≡ false = sym (ap (λ (b : Bool). b || list_any (bytes_eq text) (map tag_text ts ++ others)) there) ∙ e in
+      cc
+  go later false is = ap (λ (b : Bool). cond b t (tag_among ts text)) is ∙ later

@@ -70,6 +70,16 @@ impl Tag {
     {
         NameId { index: self as u32 }
     }
+
+    /// The known name of a text, or `Tag::Other`.
+    pub fn named(text: &str) -> Tag
+        ensures { result ≡ tag_named text.now }
+    {
+        match known_number(text) {
+            Some(index) => NameId { index }.tag(),
+            None => Tag::Other,
+        }
+    }
 }
 
 /// How many slots there are for the numbers that were found last.
@@ -129,6 +139,13 @@ impl Names {
             others: IndexSet::with_hasher(alloc, keys),
             recent: [0; SLOTS],
         })
+    }
+
+    /// Its texts are distinct, the known ones first.
+    pub fn are_names(&self)
+        ensures { AreNames self.now }
+    {
+        let _others = &self.others;
     }
 
     /// The number of a text. A new text is added to the table, which has room for 2³² texts; beyond that it is out of memory.
