@@ -1,4 +1,4 @@
-use Rattle.std.proofs.Common.{◌≡◌, false, eqb, ◌+◌, ◌++◌, ◌∷◌, [], ℕ, List, ap, ◌∙◌, subst, take, arith}
+use Rattle.std.proofs.Common.{rules, ◌≡◌, false, eqb, ◌+◌, ◌++◌, ◌∷◌, [], ℕ, List, ap, ◌∙◌, subst, take, arith}
 use Rattle.std.specs.Prelude.{slice_index}
 use Rattle.std.proofs.lemmas.Bool.Decides.{nat_tests}
 use Rattle.std.proofs.lemmas.Result.{err_from_is_err_and}
@@ -29,3 +29,6 @@ returns-clause-takes c = λ body h.
     let ch = c.from-ch.ensures ∙ ap (λ (bs : List ℕ). slice_index bs count) c.as_bytes.ensures.value in
     more_taken c.args.table.now c.take_char.new.names body c.args.at count 1 run c.requires.plain c.in_ok-count.ensures.few c.take_char.new.self c.take_char.new.errors.items
     (subst (λ (x : List Placed). IsInTag c.args.table.now c.take_char.new.names c.take_char.new.self (front ++ x) [] c.take_char.new.errors.items) (one_at (c.args.at + count) count run c.from-ch.result (omega (arith, c.in_ok-count.ensures.few, c.if-count-run.false)) ch) took)
+
+pub returns-clause-few : goal.returns-clause-few
+returns-clause-few c = search rules

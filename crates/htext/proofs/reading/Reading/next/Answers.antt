@@ -1,4 +1,4 @@
-use Rattle.std.proofs.Common.{List, ℕ, ◌-◌, sym, ap, ◌∙◌}
+use Rattle.std.proofs.Common.{rules, List, ℕ, ◌-◌, sym, ap, ◌∙◌}
 use Rattle.htext.specs.Next.{next_of}
 use Rattle.htext.proofs.Deciding.{nothing_next, text_next}
 use Rattle.htext.proofs.reading.Reading.next.Goals as goal
@@ -11,3 +11,6 @@ returns-in-Ok-empty c =
 
 pub returns-in-Ok : goal.returns-in-Ok
 returns-in-Ok c = sym (text_next _ c.args.rest.now _ _ c.in-Ok.ensures.cases.1 (λ e. c.in-Ok.not-empty (c.in-Ok.ensures.cases.0 ∙ e)))
+
+pub returns-in-Err-2 : goal.returns-in-Err-2
+returns-in-Err-2 c = search rules

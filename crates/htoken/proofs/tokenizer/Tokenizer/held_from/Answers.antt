@@ -1,4 +1,4 @@
-use Rattle.std.proofs.Common.{ap, subst}
+use Rattle.std.proofs.Common.{rules, ap, subst}
 use Rattle.htoken.specs.HeldFrom.{HoldsFrom, from_of}
 use Rattle.htoken.proofs.Holding.{holds_from}
 use Rattle.htoken.proofs.tokenizer.Tokenizer.held_from.Goals as goal
@@ -35,3 +35,6 @@ returns-in-RawLess-clause-holds c = λ table start names text taken h. subst (Ho
 
 pub returns-in-RawName-clause-holds : goal.returns-in-RawName-clause-holds
 returns-in-RawName-clause-holds c = λ table start names text taken h. subst (HoldsFrom table start text taken) (ap (λ s. from_of s c.args.self.now) c.in-RawName.is) (holds_from table start c.args.self.now names text taken h)
+
+pub returns-in-Text-clause-from : goal.returns-in-Text-clause-from
+returns-in-Text-clause-from c = search rules

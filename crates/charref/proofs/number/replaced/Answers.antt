@@ -1,0 +1,5 @@
+use Rattle.std.proofs.Common.{rules}
+use Rattle.charref.proofs.number.replaced.Goals as goal
+
+pub returns-in-128 : goal.returns-in-128
+returns-in-128 c = search rules

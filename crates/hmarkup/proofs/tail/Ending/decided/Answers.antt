@@ -1,0 +1,5 @@
+use Rattle.std.proofs.Common.{rules}
+use Rattle.hmarkup.proofs.tail.Ending.decided.Goals as goal
+
+pub returns-in-Dashes : goal.returns-in-Dashes
+returns-in-Dashes c = search rules

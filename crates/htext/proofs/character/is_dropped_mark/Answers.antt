@@ -1,0 +1,5 @@
+use Rattle.std.proofs.Common.{rules}
+use Rattle.htext.proofs.character.is_dropped_mark.Goals as goal
+
+pub returns-in-Keep : goal.returns-in-Keep
+returns-in-Keep c = search rules

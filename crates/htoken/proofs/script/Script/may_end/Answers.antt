@@ -1,0 +1,5 @@
+use Rattle.std.proofs.Common.{rules}
+use Rattle.htoken.proofs.script.Script.may_end.Goals as goal
+
+pub returns-in-DoubleEscaped : goal.returns-in-DoubleEscaped
+returns-in-DoubleEscaped c = search rules

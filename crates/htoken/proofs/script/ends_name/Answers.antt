@@ -1,0 +1,5 @@
+use Rattle.std.proofs.Common.{rules}
+use Rattle.htoken.proofs.script.ends_name.Goals as goal
+
+pub returns-else-ch-eq47 : goal.returns-else-ch-eq47
+returns-else-ch-eq47 c = search rules

@@ -1,0 +1,5 @@
+use Rattle.std.proofs.Common.{rules}
+use Rattle.htoken.proofs.token.Start.kind.Goals as goal
+
+pub returns-in-Context : goal.returns-in-Context
+returns-in-Context c = search rules
