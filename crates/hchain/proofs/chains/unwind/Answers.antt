@@ -1,4 +1,5 @@
 use Rattle.std.proofs.Common.{◌≡◌, ℕ, ◌-◌, ◌<◌, length, get_or, subst, arith}
+use Rattle.std.proofs.lemmas.Grind.{common_steps}
 use Rattle.std.proofs.lemmas.List.{get_or_default}
 use Rattle.hchain.specs.declared.chains.Link.{Link}
 use Rattle.hchain.proofs.Chained.{ChainedTo, is_chained-to, less-none, less-some}
@@ -38,3 +39,6 @@ returns c =
     let is : c.loop-end.end ≡ c.args.from = omega arith in
     let to : ChainedTo c.loop-end.last links c.args.from = subst (λ (m : ℕ). ChainedTo c.loop-end.last links m) is c.loop-end.invariant.chained in
     is_chained-to c.loop-end.last links c.args.from c.requires.within (λ some. omega (arith, c.requires.chained.wide (omega arith))) to
+
+pub loop-end-init : goal.loop-end-init
+loop-end-init c = grind (arith, common_steps)

@@ -1,4 +1,4 @@
-use Rattle.std.proofs.Common.{◌≡◌, ℕ, suc, ◌+◌, ◌==◌, Bool, map, sym, ◌∙◌, ap, arith}
+use Rattle.std.proofs.Common.{◌≡◌, ℕ, suc, ◌+◌, ◌==◌, Bool, map, sym, ◌∙◌, ap, arith, rules}
 use Rattle.std.proofs.lemmas.List.{length-map, get_or-map}
 use Rattle.hopen.specs.Stack.{OpenNode}
 use Rattle.hopen.specs.Kept.{opened_by}
@@ -16,3 +16,6 @@ returns-then-found-clause-done c =
     let hit = place-hit named (map opened_by items) (opened_by r) i (omega (arith, length-map items opened_by)) (ap named (get_or-map opened_by items i r (opened_by r) (omega arith)) ∙ sym c.eq-found.ensures ∙ c.if-found.true) in
     let place : place_in named (map opened_by items) (i + 1) ≡ suc i = ap (place_in named (map opened_by items)) next ∙ hit in
     λ _. omega arith
+
+pub returns-then-of_name-index-clause-done : goal.returns-then-of_name-index-clause-done
+returns-then-of_name-index-clause-done c = search rules

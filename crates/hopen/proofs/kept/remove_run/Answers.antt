@@ -1,4 +1,5 @@
-use Rattle.std.proofs.Common.{◌≡◌, ◌∙◌, sym, ap, subst, map, rules, length, drop}
+use Rattle.std.proofs.Common.{◌≡◌, ◌∙◌, sym, ap, subst, map, arith, rules, length, drop}
+use Rattle.std.proofs.lemmas.Grind.{common_steps}
 use Rattle.std.specs.List.{remove_range}
 use Rattle.hopen.specs.Kept.{AreIn, Stands, opened_by}
 use Rattle.hopen.proofs.Standing.{numbers-left}
@@ -21,3 +22,6 @@ returns-clause-items c =
 pub returns-clause-stands : goal.returns-clause-stands
 returns-clause-stands c =
     subst (Stands c.rewind.new.last) (sym (written_back c.rewind.new.items _ _ _ c.rewind.ensures.same c.deref_mut.ensures.value c.deref_mut.ensures.len)) c.rewind.ensures.stands
+
+pub rewind-requires-clause-stands : goal.rewind-requires-clause-stands
+rewind-requires-clause-stands c = grind (arith, common_steps)

@@ -1,4 +1,4 @@
-use Rattle.std.proofs.Common.{sym, ap, ◌∙◌}
+use Rattle.std.proofs.Common.{rules, sym, ap, ◌∙◌}
 use Rattle.hadopt.specs.Site.{Goes}
 use Rattle.hadopt.proofs.Keeps.{adopted-gives, adopted-pops}
 use Rattle.hadopt.proofs.site.Site.adopt.Goals as goal
@@ -10,3 +10,6 @@ returns-then-is_unlisted-clause-done c = adopted-pops c.args.at c.args.name c.ar
 -- src/adopting.rt:260:5
 pub returns-clause-done : goal.returns-clause-done
 returns-clause-done c = adopted-gives c.args.at c.args.name c.args.self.now c.take_turns.new.self c.take_turns.result (sym (c.is_unlisted.ensures c.args.at) ∙ c.if-is_unlisted.false) c.take_turns.ensures.done
+
+pub returns-clause-few : goal.returns-clause-few
+returns-clause-few c = search rules
