@@ -7,9 +7,11 @@ ghost use Rattle.hadopt.specs.Naming.{numbers};
 ghost use Rattle.hmodes.specs.Beginning.{control_in, form_of, document_begins, fragment_begins, fragment_site};
 ghost use Rattle.hmodes.specs.States.{state_of};
 
+use crate::control::Control;
 use crate::limits::Limits;
+use crate::mode::Mode;
 use crate::reset::context_mode;
-use crate::{Control, Mode, TreeConstruction};
+use crate::tree_construction::TreeConstruction;
 use hadopt::Site;
 use hmarkup::Quirks;
 use hnodes::NodeId;

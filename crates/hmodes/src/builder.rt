@@ -13,11 +13,11 @@ ghost use Rattle.htoken.specs.Run.{run_tokens};
 ghost use Rattle.names.specs.Placed.{placed};
 ghost use Rattle.names.specs.Sink.{Hands};
 
-use crate::TreeConstruction;
 use crate::beginning::{document_rules, fragment_rules};
 use crate::limits::Limits;
 use crate::runs::{put_bad, put_one, put_run, puts_each};
 use crate::step::step;
+use crate::tree_construction::TreeConstruction;
 use hmarkup::{ErrorSink, Quirks};
 use hnodes::{NodeId, Tree};
 use htoken::{Token, TokenSink};
@@ -153,10 +153,12 @@ impl<'q> Builder<'q> {
 }
 
 /// The first errors and then the second. Only the shorter list is copied.
-fn joined(first: Vec<ParseError>, second: Vec<ParseError>) -> Result<Vec<ParseError>, AllocError>
-    ensures { IfOk result (λ all. all.items ≡ first.entry.items ++ second.entry.items) }
+fn joined(
+    mut first: Vec<ParseError>,
+    mut second: Vec<ParseError>,
+) -> Result<Vec<ParseError>, AllocError>
+    ensures { IfOk result (λ all. all.items ≡ first.items ++ second.items) }
 {
-    let (mut first, mut second) = (first, second);
     if second.len() <= first.len() {
         first.append(&mut second)?;
         return Ok(first);

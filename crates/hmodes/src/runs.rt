@@ -12,7 +12,8 @@ ghost use Rattle.hmodes.specs.States.{state_of};
 ghost use Rattle.htoken.specs.Run.{replaced};
 ghost use Rattle.hmodes.specs.Runs.{puts_each};
 
-use crate::{Mode, TreeConstruction};
+use crate::mode::Mode;
+use crate::tree_construction::TreeConstruction;
 use names::Refusal;
 
 /// Whether a character other than NUL is put at the appropriate place as it is, and so is each of a run: nothing is dropped,

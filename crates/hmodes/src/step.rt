@@ -17,7 +17,7 @@ use names::{ErrorCode, Refusal};
 
 impl<'q> TreeConstruction<'q> {
     /// Whether a token is the LF that is to be dropped.
-    pub fn is_dropped(&self, token: &Token) -> bool
+    fn is_dropped(&self, token: &Token) -> bool
         ensures { result ≡ is_dropped (token_of token.now) (state_of self.now) }
     {
         match token {
@@ -27,7 +27,7 @@ impl<'q> TreeConstruction<'q> {
     }
 
     /// A token begins.
-    pub fn begin(&mut self)
+    pub(crate) fn begin(&mut self)
         ensures { state_of self.new ≡ begun (state_of self.old) }
     {
         self.control.drop_lf = false;
@@ -35,7 +35,7 @@ impl<'q> TreeConstruction<'q> {
     }
 
     /// A token ends: a self-closing start tag that no rule acknowledged is a parse error.
-    pub fn end(&mut self, closing: bool, at: u64) -> Result<(), Refusal>
+    fn end(&mut self, closing: bool, at: u64) -> Result<(), Refusal>
         ensures { (token : TokenOf ℕ) → is_self_closing token ≡ closing → Gives result (state_of self.new) (Goes (finished at token (state_of self.old))) }
     {
         if closing && !self.control.acknowledged {
@@ -47,7 +47,7 @@ impl<'q> TreeConstruction<'q> {
 }
 
 /// Whether a token is a self-closing start tag.
-pub fn is_self_closing(token: &Token) -> bool
+fn is_self_closing(token: &Token) -> bool
     ensures { result ≡ is_self_closing (token_of token.now) }
 {
     matches!(token, Token::Start { closing: true, .. })

@@ -5,7 +5,7 @@ use Rattle.hmodes.specs.Flows.{FlowGives}
 use Rattle.hmodes.specs.Step.{Rule}
 use Rattle.hmodes.specs.States.{state_of}
 use Rattle.hmodes.specs.Tokens.{token_of}
-use Rattle.hmodes.specs.declared.rules.Flow.{Flow as Answer}
+use Rattle.hmodes.specs.declared.tree_construction.Flow.{Flow as Answer}
 use Rattle.hmodes.proofs.Between.{orderly-kept, orderly-head}
 use Rattle.hmodes.proofs.Looping.{goes-from, goes-on, goes-lower, goes-out, goes-wrong, wrong-chain}
 use Rattle.hmodes.proofs.step.by_rules.Goals as goal
