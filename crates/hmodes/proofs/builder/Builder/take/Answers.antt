@@ -9,5 +9,5 @@ use Rattle.hmodes.proofs.builder.Builder.take.Goals as goal
 
 pub invariant_of-self-in_default-answer : goal.invariant_of-self-in_default-answer
 invariant_of-self-in_default-answer c = λ none.
-    stands-after c.self.inside.root c.args.at (token_of c.args.token.now) (state_of c.self.inside.rules) (state_of c.step-answer.new.rules) (c.self.invariant none)
-    (subst (λ (r : Result (Unit {0}) Refusal). StepGives c.args.at (token_of c.args.token.now) (state_of c.self.inside.rules) r (state_of c.step-answer.new.rules)) c.in_default-answer.is c.step-answer.ensures)
+    stands-after c.self.inside.root c.args.at (token_of c.args.token.now) (state_of c.self.inside.state) (state_of c.step-answer.new.self) (c.self.invariant none)
+    (subst (λ (r : Result (Unit {0}) Refusal). StepGives c.args.at (token_of c.args.token.now) (state_of c.self.inside.state) r (state_of c.step-answer.new.self)) c.in_default-answer.is c.step-answer.ensures)
