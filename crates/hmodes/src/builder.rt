@@ -202,8 +202,7 @@ impl<'q> TokenSink for Builder<'q> {
 
     ghost gives_token = { TakesToken };
 
-    fn take_token(&mut self, token: Token) -> Result<(), Refusal> {
-        let mut token = token;
+    fn take_token(&mut self, mut token: Token) -> Result<(), Refusal> {
         let at = place(&token);
         self.take(&mut token, at)
     }
