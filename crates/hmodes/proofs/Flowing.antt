@@ -15,7 +15,7 @@ use Rattle.hmodes.specs.Flows.{FlowGives, StateGives, performed_for}
 use Rattle.hmodes.specs.Perform.{perform, flow_of, with_site, forgotten}
 use Rattle.hmodes.specs.State.{Token, State, Flow, Done, Refused, flow_then}
 use Rattle.hmodes.specs.Words.{Do, ◌▸◌, adopt_listed}
-use Rattle.hmodes.specs.declared.rules.Flow.{Flow as Answer}
+use Rattle.hmodes.specs.declared.tree_construction.Flow.{Flow as Answer}
 
 -- an operation on the site
 pub on-site : {A : Type 0} (r : Result A Refusal) (new : SiteOf ℕ) (s : State ℕ) (o : Outcome (SiteOf ℕ)) → Gives r new o → StateGives r (with_site new s) (flow_of s o)

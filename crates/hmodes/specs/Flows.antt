@@ -6,8 +6,8 @@ use Rattle.hadopt.specs.Naming.{numbers}
 use Rattle.hmodes.specs.Perform.{perform}
 use Rattle.hmodes.specs.State.{Token, end, eof, State, Flow, Done, Again, Refused}
 use Rattle.hmodes.specs.Words.{Do}
-use Rattle.hmodes.specs.declared.rules.Flow.{Flow as Answer}
-use Rattle.hmodes.specs.declared.rules.Flow.TheVariants as answer
+use Rattle.hmodes.specs.declared.tree_construction.Flow.{Flow as Answer}
+use Rattle.hmodes.specs.declared.tree_construction.Flow.TheVariants as answer
 
 -- The call that answers this, and leaves this token and this state, does what the rule says; or memory ran out.
 abbrev pub FlowGives : Result Answer Refusal → Token ℕ → State ℕ → Flow ℕ → Type 0

@@ -7,9 +7,11 @@ ghost use Rattle.hadopt.specs.Naming.{numbers};
 ghost use Rattle.hmodes.specs.Beginning.{control_in, form_of, document_begins, fragment_begins, fragment_site};
 ghost use Rattle.hmodes.specs.States.{state_of};
 
+use crate::control::Control;
 use crate::limits::Limits;
+use crate::mode::Mode;
 use crate::reset::context_mode;
-use crate::{Control, Mode, TreeConstruction};
+use crate::tree_construction::TreeConstruction;
 use hadopt::Site;
 use hmarkup::Quirks;
 use hnodes::NodeId;
@@ -32,24 +34,6 @@ fn control_in(alloc: Global, mode: Mode, form: Option<NodeId>) -> Control
     }
 }
 
-/// A document begins.
-pub(crate) fn document_rules<'q>(
-    alloc: Global,
-    keys: Keys,
-    quirks: &'q Quirks,
-    limits: Limits,
-) -> Result<TreeConstruction<'q>, AllocError>
-    ensures { IfOk result (λ r. state_of r ≡ document_begins quirks.now limits.tree) }
-{
-    Ok(TreeConstruction {
-        site: Site::new(alloc, keys, limits.nodes(), limits.depth())?,
-        control: control_in(alloc, Mode::Initial, None),
-        context: None,
-        quirks_list: Some(quirks),
-        alloc,
-    })
-}
-
 /// The tree in which a fragment begins, and its root element, which is open.
 fn fragment_site(alloc: Global, keys: Keys, limits: Limits) -> Result<(Site, NodeId), Refusal>
     ensures { MatchResult result (λ r. (r.0 ≡ fragment_site numbers limits.tree) × (r.1 ≡ 1)) (λ e. e ≡ Memory) }
@@ -70,23 +54,43 @@ fn form_pointer(site: &Site, context: NameId) -> Option<NodeId>
     }
 }
 
-/// A fragment begins in a context element of a name, in the mode that a reset gives there; and its root element.
-pub(crate) fn fragment_rules<'q>(
-    alloc: Global,
-    keys: Keys,
-    context: NameId,
-    limits: Limits,
-) -> Result<(TreeConstruction<'q>, NodeId), Refusal>
-    ensures { MatchResult result (λ r. (state_of r.0 ≡ fragment_begins numbers context limits.tree) × (r.1 ≡ 1)) (λ e. e ≡ Memory) }
-{
-    let (site, root) = fragment_site(alloc, keys, limits)?;
-    let form = form_pointer(&site, context);
-    let rules = TreeConstruction {
-        site,
-        control: control_in(alloc, context_mode(context.tag()), form),
-        context: Some(context),
-        quirks_list: None,
-        alloc,
-    };
-    Ok((rules, root))
+impl<'q> TreeConstruction<'q> {
+    /// A document begins.
+    pub(crate) fn document(
+        alloc: Global,
+        keys: Keys,
+        quirks: &'q Quirks,
+        limits: Limits,
+    ) -> Result<TreeConstruction<'q>, AllocError>
+        ensures { IfOk result (λ r. state_of r ≡ document_begins quirks.now limits.tree) }
+    {
+        Ok(TreeConstruction {
+            site: Site::new(alloc, keys, limits.nodes(), limits.depth())?,
+            control: control_in(alloc, Mode::Initial, None),
+            context: None,
+            quirks_list: Some(quirks),
+            alloc,
+        })
+    }
+
+    /// A fragment begins in a context element of a name, in the mode that a reset gives there; and its root element.
+    pub(crate) fn fragment(
+        alloc: Global,
+        keys: Keys,
+        context: NameId,
+        limits: Limits,
+    ) -> Result<(TreeConstruction<'q>, NodeId), Refusal>
+        ensures { MatchResult result (λ r. (state_of r.0 ≡ fragment_begins numbers context limits.tree) × (r.1 ≡ 1)) (λ e. e ≡ Memory) }
+    {
+        let (site, root) = fragment_site(alloc, keys, limits)?;
+        let form = form_pointer(&site, context);
+        let state = TreeConstruction {
+            site,
+            control: control_in(alloc, context_mode(context.tag()), form),
+            context: Some(context),
+            quirks_list: None,
+            alloc,
+        };
+        Ok((state, root))
+    }
 }

@@ -13,11 +13,8 @@ ghost use Rattle.htoken.specs.Run.{run_tokens};
 ghost use Rattle.names.specs.Placed.{placed};
 ghost use Rattle.names.specs.Sink.{Hands};
 
-use crate::TreeConstruction;
-use crate::beginning::{document_rules, fragment_rules};
 use crate::limits::Limits;
-use crate::runs::{put_bad, put_one, put_run, puts_each};
-use crate::step::step;
+use crate::tree_construction::TreeConstruction;
 use hmarkup::{ErrorSink, Quirks};
 use hnodes::{NodeId, Tree};
 use htoken::{Token, TokenSink};
@@ -29,7 +26,7 @@ use std::marker::Model;
 /// changes nothing.
 #[derive(Drop)]
 pub struct Builder<'q> {
-    rules: TreeConstruction<'q>,
+    state: TreeConstruction<'q>,
     root: NodeId,
     told: Vec<ParseError>,
     refused: Option<Refusal>,
@@ -46,9 +43,9 @@ impl<'q> Model for Builder<'q> {
 
     ghost coded = { Prim.hlevel (codes, coded_forest) };
 
-    ghost view = { λ b. record { state = state_of b.rules; root = b.root; told = b.told.items; refused = b.refused } };
+    ghost view = { λ b. record { state = state_of b.state; root = b.root; told = b.told.items; refused = b.refused } };
 
-    ghost invariant = { λ b. b.refused ≡ None → Stands b.root (state_of b.rules) };
+    ghost invariant = { λ b. b.refused ≡ None → Stands b.root (state_of b.state) };
 }
 
 /// What was built: the tree, the document or a fragment's root element, and the parse errors: those of the rules in the order in
@@ -71,10 +68,10 @@ impl<'q> Builder<'q> {
         ensures { MatchResult result
             (λ b. b ≡ record { state = document_begins quirks.now limits.tree; root = 0; told = []; refused = None }) (λ e. e ≡ Memory) }
     {
-        let rules = document_rules(alloc, keys, quirks, limits)?;
-        let root = rules.site.tree().document();
+        let state = TreeConstruction::document(alloc, keys, quirks, limits)?;
+        let root = state.site.tree().document();
         Ok(Builder {
-            rules,
+            state,
             root,
             told: Vec::new(alloc),
             refused: None,
@@ -91,10 +88,10 @@ impl<'q> Builder<'q> {
         ensures { MatchResult result (λ b. b ≡ record { state = fragment_begins numbers context limits.tree; root = 1; told = []; refused = None })
             (λ e. e ≡ Memory) }
     {
-        let begun = fragment_rules(alloc, keys, context, limits)?;
+        let (state, root) = TreeConstruction::fragment(alloc, keys, context, limits)?;
         Ok(Builder {
-            rules: begun.0,
-            root: begun.1,
+            state,
+            root,
             told: Vec::new(alloc),
             refused: None,
         })
@@ -110,17 +107,17 @@ impl<'q> Builder<'q> {
         ensures memory { self.entry.refused ≡ None → IfErr result (λ refusal. refusal ≡ Memory) }
     {
         let Builder {
-            rules,
+            state,
             root,
             told,
             refused,
         } = self;
         if let Some(refusal) = refused {
-            drop(rules);
+            drop(state);
             drop(told);
             return Err(refusal);
         }
-        let TreeConstruction { site, .. } = rules;
+        let TreeConstruction { site, .. } = state;
         let (tree, raised) = site.into_parts();
         let errors = joined(raised, told)?;
         Ok(Built { tree, root, errors })
@@ -144,7 +141,7 @@ impl<'q> Builder<'q> {
         if let Some(refusal) = self.refused {
             return Err(refusal);
         }
-        let answer = step(&mut self.rules, token, at);
+        let answer = self.state.step(token, at);
         if let Err(refusal) = answer {
             self.refused = Some(refusal);
         }
@@ -153,10 +150,12 @@ impl<'q> Builder<'q> {
 }
 
 /// The first errors and then the second. Only the shorter list is copied.
-fn joined(first: Vec<ParseError>, second: Vec<ParseError>) -> Result<Vec<ParseError>, AllocError>
-    ensures { IfOk result (λ all. all.items ≡ first.entry.items ++ second.entry.items) }
+fn joined(
+    mut first: Vec<ParseError>,
+    mut second: Vec<ParseError>,
+) -> Result<Vec<ParseError>, AllocError>
+    ensures { IfOk result (λ all. all.items ≡ first.items ++ second.items) }
 {
-    let (mut first, mut second) = (first, second);
     if second.len() <= first.len() {
         first.append(&mut second)?;
         return Ok(first);
@@ -203,19 +202,18 @@ impl<'q> TokenSink for Builder<'q> {
 
     ghost gives_token = { TakesToken };
 
-    fn take_token(&mut self, token: Token) -> Result<(), Refusal> {
-        let mut token = token;
+    fn take_token(&mut self, mut token: Token) -> Result<(), Refusal> {
         let at = place(&token);
         self.take(&mut token, at)
     }
 
     fn take_text(&mut self, ch: char, at: u64) -> Result<(), Refusal> {
-        if ch == '\0' || self.refused.is_some() || !puts_each(&self.rules) {
+        if ch == '\0' || self.refused.is_some() || !self.state.puts_each() {
             let mut token = Token::Char { ch, at };
             return self.take(&mut token, at);
         }
-        self.rules.begin();
-        let answer = put_one(&mut self.rules, ch, at);
+        self.state.begin();
+        let answer = self.state.put_one(ch, at);
         self.refused = answer.err();
         answer
     }
@@ -224,21 +222,21 @@ impl<'q> TokenSink for Builder<'q> {
         if run.is_empty() {
             return Ok(());
         }
-        if self.refused.is_some() || !puts_each(&self.rules) {
+        if self.refused.is_some() || !self.state.puts_each() {
             return self.take_one_by_one(run, at);
         }
-        self.rules.begin();
-        let answer = put_run(&mut self.rules, run, at);
+        self.state.begin();
+        let answer = self.state.put_run(run, at);
         self.refused = answer.err();
         answer
     }
 
     fn take_bad(&mut self, count: usize, at: u64) -> Result<(), Refusal> {
-        if count == 0 || self.refused.is_some() || !puts_each(&self.rules) {
+        if count == 0 || self.refused.is_some() || !self.state.puts_each() {
             return self.take_bad_by_one(count, at);
         }
-        self.rules.begin();
-        let answer = put_bad(&mut self.rules, count, at);
+        self.state.begin();
+        let answer = self.state.put_bad(count, at);
         self.refused = answer.err();
         answer
     }

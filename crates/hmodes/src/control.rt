@@ -7,19 +7,19 @@ use std::marker::Model;
 
 /// The mode, the pointers, the flags, and the pending table characters.
 #[derive(Drop)]
-pub struct Control {
-    pub mode: Mode,
-    pub saved: Mode,
+pub(crate) struct Control {
+    pub(crate) mode: Mode,
+    pub(crate) saved: Mode,
     /// The head element pointer.
-    pub head: Option<NodeId>,
+    pub(crate) head: Option<NodeId>,
     /// The form element pointer; the document stands for a context, which is never open.
-    pub form: Option<NodeId>,
-    pub quirks: bool,
-    pub pending: Vec<Placed>,
+    pub(crate) form: Option<NodeId>,
+    pub(crate) quirks: bool,
+    pub(crate) pending: Vec<Placed>,
     /// Whether the next token is ignored if it is a LF.
-    pub drop_lf: bool,
+    pub(crate) drop_lf: bool,
     /// Whether the solidus of this token was acknowledged.
-    pub acknowledged: bool,
+    pub(crate) acknowledged: bool,
 }
 
 impl Model for Control {

@@ -30,7 +30,7 @@ fn open_mode(tag: Tag) -> Option<Mode>
 }
 
 /// The mode that a context decides on.
-pub fn context_mode(tag: Tag) -> Mode
+pub(crate) fn context_mode(tag: Tag) -> Mode
     ensures { result ≡ context_mode tag }
 {
     match tag {

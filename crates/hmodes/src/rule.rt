@@ -17,7 +17,7 @@ use names::Refusal;
 
 impl<'q> TreeConstruction<'q> {
     /// One rule for a token: of the mode that holds.
-    pub fn rule(&mut self, token: &mut Token, at: u64) -> Result<Flow, Refusal>
+    pub(crate) fn rule(&mut self, token: &mut Token, at: u64) -> Result<Flow, Refusal>
         requires kept { Kept numbers self.old.site }
         requires head { self.old.control.mode ≡ AfterHead → IfSome self.old.control.head (λ k. (0 < k) × (k < self.old.site.nodes.made)) }
         ensures { FlowGives result (token_of token.new) (state_of self.new) (Rule numbers at (token_of token.old) (state_of self.old)) }

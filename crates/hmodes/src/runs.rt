@@ -12,56 +12,55 @@ ghost use Rattle.hmodes.specs.States.{state_of};
 ghost use Rattle.htoken.specs.Run.{replaced};
 ghost use Rattle.hmodes.specs.Runs.{puts_each};
 
-use crate::{Mode, TreeConstruction};
+use crate::mode::Mode;
+use crate::tree_construction::TreeConstruction;
 use names::Refusal;
 
-/// Whether a character other than NUL is put at the appropriate place as it is, and so is each of a run: nothing is dropped,
-/// reconstructed or foster parented.
-pub(crate) fn puts_each(rules: &TreeConstruction<'_>) -> bool
-    ensures { result ≡ puts_each (state_of rules.now) }
-{
-    let control = &rules.control;
-    if rules.site.fosters() || control.drop_lf {
-        return false;
+impl<'q> TreeConstruction<'q> {
+    /// Whether a character other than NUL is put at the appropriate place as it is, and so is each of a run: nothing is dropped,
+    /// reconstructed or foster parented.
+    pub(crate) fn puts_each(&self) -> bool
+        ensures { result ≡ puts_each (state_of self.now) }
+    {
+        let control = &self.control;
+        if self.site.fosters() || control.drop_lf {
+            return false;
+        }
+        match control.mode {
+            Mode::Text => true,
+            Mode::InBody | Mode::InCaption | Mode::InCell => self.site.is_reconstructed(),
+            _ => false,
+        }
     }
-    match control.mode {
-        Mode::Text => true,
-        Mode::InBody | Mode::InCaption | Mode::InCell => rules.site.is_reconstructed(),
-        _ => false,
+
+    /// Puts the characters of a run at the appropriate place.
+    pub(crate) fn put_run(&mut self, run: &str, at: u64) -> Result<(), Refusal>
+        ensures gives { Gives result self.new.site (put_each (placed at (chars run.now)) (place numbers self.old.site) self.old.site) }
+        ensures rest { state_of self.new ≡ with_site self.new.site (state_of self.old) }
+    {
+        let place = self.site.place();
+        self.site.put_text(run, place, at)
     }
-}
 
-/// Puts the characters of a run at the appropriate place.
-pub(crate) fn put_run(rules: &mut TreeConstruction<'_>, run: &str, at: u64) -> Result<(), Refusal>
-    ensures gives { Gives result rules.new.site (put_each (placed at (chars run.now)) (place numbers rules.old.site) rules.old.site) }
-    ensures rest { state_of rules.new ≡ with_site rules.new.site (state_of rules.old) }
-{
-    let place = rules.site.place();
-    rules.site.put_text(run, place, at)
-}
+    /// Puts the characters that replace so many bad parts at the appropriate place.
+    pub(crate) fn put_bad(&mut self, count: usize, at: u64) -> Result<(), Refusal>
+        requires { 0 < count }
+        ensures gives { Gives result self.new.site (put_each (replaced at count) (place numbers self.old.site) self.old.site) }
+        ensures rest { state_of self.new ≡ with_site self.new.site (state_of self.old) }
+    {
+        // its clause says that nodes are nodes
+        self.site.tree().document();
+        let run = "\u{FFFD}".repeat(self.alloc, count)?;
+        let place = self.site.place();
+        self.site.put_text(&run, place, at)
+    }
 
-/// Puts the characters that replace so many bad parts at the appropriate place.
-pub(crate) fn put_bad(
-    rules: &mut TreeConstruction<'_>,
-    count: usize,
-    at: u64,
-) -> Result<(), Refusal>
-    requires { 0 < count }
-    ensures gives { Gives result rules.new.site (put_each (replaced at count) (place numbers rules.old.site) rules.old.site) }
-    ensures rest { state_of rules.new ≡ with_site rules.new.site (state_of rules.old) }
-{
-    // its clause says that nodes are nodes
-    rules.site.tree().document();
-    let run = "\u{FFFD}".repeat(rules.alloc, count)?;
-    let place = rules.site.place();
-    rules.site.put_text(&run, place, at)
-}
-
-/// Puts a character at the appropriate place.
-pub(crate) fn put_one(rules: &mut TreeConstruction<'_>, ch: char, at: u64) -> Result<(), Refusal>
-    ensures gives { Gives result rules.new.site (put at ch (place numbers rules.old.site) rules.old.site) }
-    ensures rest { state_of rules.new ≡ with_site rules.new.site (state_of rules.old) }
-{
-    let place = rules.site.place();
-    rules.site.put(ch, place, at)
+    /// Puts a character at the appropriate place.
+    pub(crate) fn put_one(&mut self, ch: char, at: u64) -> Result<(), Refusal>
+        ensures gives { Gives result self.new.site (put at ch (place numbers self.old.site) self.old.site) }
+        ensures rest { state_of self.new ≡ with_site self.new.site (state_of self.old) }
+    {
+        let place = self.site.place();
+        self.site.put(ch, place, at)
+    }
 }

@@ -16,8 +16,35 @@ use htoken::Token;
 use names::{ErrorCode, Refusal};
 
 impl<'q> TreeConstruction<'q> {
+    /// A token: ignored if it is the LF that is to be dropped, and otherwise by the rules.
+    pub(crate) fn step(&mut self, token: &mut Token, at: u64) -> Result<(), Refusal>
+        requires { Reached numbers (state_of self.old) }
+        ensures { StepGives at (token_of token.old) (state_of self.old) result (state_of self.new) }
+    {
+        let dropped = self.is_dropped(token);
+        self.begin();
+        if dropped {
+            return Ok(());
+        }
+        self.by_rules(token, at)
+    }
+
+    /// By the rules of the mode that holds, as long as one has the token go again.
+    fn by_rules(&mut self, token: &mut Token, at: u64) -> Result<(), Refusal>
+        requires { HasBegun (state_of self.old) }
+        ensures { ChainGives at (token_of token.old) (state_of self.old) result (state_of self.new) }
+    {
+        loop {
+            let closing = is_self_closing(token);
+            match self.rule(token, at)? {
+                Flow::Done => return self.end(closing, at),
+                Flow::Again => {}
+            }
+        }
+    }
+
     /// Whether a token is the LF that is to be dropped.
-    pub fn is_dropped(&self, token: &Token) -> bool
+    fn is_dropped(&self, token: &Token) -> bool
         ensures { result ≡ is_dropped (token_of token.now) (state_of self.now) }
     {
         match token {
@@ -27,7 +54,7 @@ impl<'q> TreeConstruction<'q> {
     }
 
     /// A token begins.
-    pub fn begin(&mut self)
+    pub(crate) fn begin(&mut self)
         ensures { state_of self.new ≡ begun (state_of self.old) }
     {
         self.control.drop_lf = false;
@@ -35,7 +62,7 @@ impl<'q> TreeConstruction<'q> {
     }
 
     /// A token ends: a self-closing start tag that no rule acknowledged is a parse error.
-    pub fn end(&mut self, closing: bool, at: u64) -> Result<(), Refusal>
+    fn end(&mut self, closing: bool, at: u64) -> Result<(), Refusal>
         ensures { (token : TokenOf ℕ) → is_self_closing token ≡ closing → Gives result (state_of self.new) (Goes (finished at token (state_of self.old))) }
     {
         if closing && !self.control.acknowledged {
@@ -47,39 +74,8 @@ impl<'q> TreeConstruction<'q> {
 }
 
 /// Whether a token is a self-closing start tag.
-pub fn is_self_closing(token: &Token) -> bool
+fn is_self_closing(token: &Token) -> bool
     ensures { result ≡ is_self_closing (token_of token.now) }
 {
     matches!(token, Token::Start { closing: true, .. })
-}
-
-/// A token: ignored if it is the LF that is to be dropped, and otherwise by the rules.
-pub(crate) fn step(
-    rules: &mut TreeConstruction<'_>,
-    token: &mut Token,
-    at: u64,
-) -> Result<(), Refusal>
-    requires { Reached numbers (state_of rules.old) }
-    ensures { StepGives at (token_of token.old) (state_of rules.old) result (state_of rules.new) }
-{
-    let dropped = rules.is_dropped(token);
-    rules.begin();
-    if dropped {
-        return Ok(());
-    }
-    by_rules(rules, token, at)
-}
-
-/// By the rules of the mode that holds, as long as one has the token go again.
-fn by_rules(rules: &mut TreeConstruction<'_>, token: &mut Token, at: u64) -> Result<(), Refusal>
-    requires { HasBegun (state_of rules.old) }
-    ensures { ChainGives at (token_of token.old) (state_of rules.old) result (state_of rules.new) }
-{
-    loop {
-        let closing = is_self_closing(token);
-        match rules.rule(token, at)? {
-            Flow::Done => return rules.end(closing, at),
-            Flow::Again => {}
-        }
-    }
 }

@@ -15,21 +15,21 @@ use std::alloc::Global;
 
 /// What comes of a rule: it ends, or the token goes again.
 #[derive(Clone, Copy)]
-pub enum Flow {
+pub(crate) enum Flow {
     Done,
     Again,
 }
 
 /// The state of the tree construction.
 #[derive(Drop)]
-pub struct TreeConstruction<'q> {
-    pub site: Site,
-    pub control: Control,
+pub(crate) struct TreeConstruction<'q> {
+    pub(crate) site: Site,
+    pub(crate) control: Control,
     /// A fragment's context.
-    pub context: Option<NameId>,
+    pub(crate) context: Option<NameId>,
     /// The quirks list; a fragment has none.
-    pub quirks_list: Option<&'q Quirks>,
-    pub alloc: Global,
+    pub(crate) quirks_list: Option<&'q Quirks>,
+    pub(crate) alloc: Global,
 }
 
 /// A rule ends with its last step.

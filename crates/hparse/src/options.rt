@@ -7,8 +7,8 @@ ghost use Rattle.hparse.specs.Parse.{Told};
 ghost use Rattle.hparse.specs.Parsing.{told_by};
 
 use charref::Table;
-use hmodes::Limits;
 use hmarkup::Quirks;
+use hmodes::Limits;
 use htext::BadBytes;
 use names::Keys;
 

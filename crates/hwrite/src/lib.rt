@@ -17,8 +17,8 @@ pub use command::{Command, Task};
 pub use context::check_context;
 pub use counted::Counted;
 pub use engine::{parser, run, write_text};
-pub use hmodes::Limits;
 pub use hmarkup::Quirks;
+pub use hmodes::Limits;
 pub use hnodes::{
     Ancestors, ChildElements, Children, Descendants, Doctype, Kind, NodeId, Place, Tree,
 };

@@ -1,9 +1,9 @@
 //! Refusals that stay, and errors that are handed out.
 
 use charref::Table;
-use hmodes::{Builder, Limits};
 use hmain::line::line;
 use hmarkup::{ErrorSink, Quirks};
+use hmodes::{Builder, Limits};
 use hparse::{Options, Parser, is_context};
 use htoken::{Token, TokenSink};
 use names::{ErrorCode, Keys, Names, ParseError, Refusal, RefusedName};

@@ -1,4 +1,4 @@
-use Rattle.std.proofs.Common.{ap, subst}
+use Rattle.std.proofs.Common.{ap, subst, rules}
 use Rattle.hparse.specs.Input.{Comes}
 use Rattle.hparse.specs.Parse.{manner}
 use Rattle.hparse.specs.Parsing.{builds, AnswersParse, IsUnrefused}
@@ -20,3 +20,9 @@ returns-in-Ok-clause-reads g c = λ told subject fed h.
     made g.R.Source.left g.R.Source.failed (λ bytes. Comes builds (manner told subject) h.began bytes feeding.names feeding.sink) (AnswersParse told subject) (IsUnrefusedBy (manner told subject) h.began) (IsUnrefused told subject) (λ bytes u. unrefused told subject fed c.args.parser h bytes u) c.args.piece fed c.args.source.now c.read_to_end-answer.new.source
     tt c.built_of.result (λ bytes t. built_answers told subject fed c.args.parser h c.read_to_end-answer.new.reading c.settle.new.self.names c.settle.ensures.grows c.settle.ensures.are c.built_of.result built bytes t)
     (c.in-Ok.ensures (manner told subject) h.began fed h.has_read)
+
+pub returns-in-Ok-clause-again : goal.returns-in-Ok-clause-again
+returns-in-Ok-clause-again g c = search rules
+
+pub returns-in-Err-clause-again : goal.returns-in-Err-clause-again
+returns-in-Err-clause-again g c = search rules

@@ -6,5 +6,5 @@ use Rattle.hmodes.proofs.builder.Builder.fragment.Goals as goal
 
 pub invariant_of-result : goal.invariant_of-result
 invariant_of-result c = λ e.
-    subst (λ (root : ℕ). Stands root (state_of c.in_ok-begun.begun.0)) (sym c.in_ok-begun.ensures.1)
-    (subst (Stands 1) (sym c.in_ok-begun.ensures.0) (record { reached = fragment c.args.context c.args.limits.tree; made = omega arith }))
+    subst (λ (root : ℕ). Stands root (state_of c.in_ok-state.state)) (sym c.in_ok-state.ensures.1)
+    (subst (Stands 1) (sym c.in_ok-state.ensures.0) (record { reached = fragment c.args.context c.args.limits.tree; made = omega arith }))

@@ -22,11 +22,11 @@ pub returns : goal.returns
 returns c =
     let b : Building = c.args.self.now in
     let answer = c.put_run-answer.result in
-    let x : SiteOf ℕ = c.put_run-answer.new.rules.site in
+    let x : SiteOf ℕ = c.put_run-answer.new.self.site in
     let free : b.refused ≡ None = free-of b _ c.is_some.result c.self.view_is c.is_some.ensures c.if-is_some.false in
     let puts : puts_each b.state ≡ true = puts-of b _ c.puts_each.result c.self.view_is c.puts_each.ensures c.if-not-puts_each.false in
     subst (λ (o : Building). Hands TakesToken b (run_tokens (placed c.args.at (chars c.args.run.now))) answer o)
-    (sym (left_is b _ (state_of c.begin.new.self) (state_of c.put_run-answer.new.rules) x c.err-self-inside.result answer c.self-2.view_is c.begin.ensures c.put_run-answer.ensures.rest c.err-self-inside.ensures.value))
+    (sym (left_is b _ (state_of c.begin.new.self) (state_of c.put_run-answer.new.self) x c.err-self-inside.result answer c.self-2.view_is c.begin.ensures c.put_run-answer.ensures.rest c.err-self-inside.ensures.value))
     (run_taken b free puts c.args.at (chars c.args.run.now) (has_characters c.args.run.now c.utf8.run c.if-is_empty.ensures) c.requires.plain answer x
     (gives-of b _ (state_of c.begin.new.self) x answer (λ (y : SiteOf ℕ). put_each (placed c.args.at (chars c.args.run.now)) (place numbers y) y) c.self-2.view_is c.begin.ensures c.put_run-answer.ensures.gives))
 

@@ -15,11 +15,11 @@ pub returns : goal.returns
 returns c =
     let b : Building = c.args.self.now in
     let answer = c.put_one-answer.result in
-    let x : SiteOf ℕ = c.put_one-answer.new.rules.site in
+    let x : SiteOf ℕ = c.put_one-answer.new.self.site in
     let free : b.refused ≡ None = free-of b _ c.is_some.result c.self.view_is c.is_some.ensures c.if-is_some.false in
     let puts : puts_each b.state ≡ true = puts-of b _ c.puts_each.result c.self.view_is c.puts_each.ensures c.if-not-puts_each.false in
     subst (λ (o : Building). Takes c.args.at (character c.args.ch) b answer o)
-    (sym (left_is b _ (state_of c.begin.new.self) (state_of c.put_one-answer.new.rules) x c.err-self-inside.result answer c.self-2.view_is c.begin.ensures c.put_one-answer.ensures.rest c.err-self-inside.ensures.value))
+    (sym (left_is b _ (state_of c.begin.new.self) (state_of c.put_one-answer.new.self) x c.err-self-inside.result answer c.self-2.view_is c.begin.ensures c.put_one-answer.ensures.rest c.err-self-inside.ensures.value))
     (char_taken b free puts c.args.at c.args.ch (ne_eqb c.args.ch 0 c.if-ch-eq0.false) answer x
     (gives-of b _ (state_of c.begin.new.self) x answer (λ (y : SiteOf ℕ). put c.args.at c.args.ch (place numbers y) y) c.self-2.view_is c.begin.ensures c.put_one-answer.ensures.gives))
 

@@ -1,3 +1,4 @@
+use Rattle.std.proofs.Common.{rules}
 use Rattle.hparse.proofs.Parsings.{feeds_on, feeds_refused}
 use Rattle.hparse.specs.Parse.{manner}
 use Rattle.hparse.proofs.parser.Parser.feed.Goals as goal
@@ -9,3 +10,9 @@ returns-in-Ok-clause-feeds c = λ told subject bytes h.
 pub returns-in-Err-clause-feeds : goal.returns-in-Err-clause-feeds
 returns-in-Err-clause-feeds c = λ told subject bytes h.
     feeds_refused told subject bytes c.args.self.now h c.feed.new.self c.settle.new.self.names c.settle.ensures.grows c.settle.ensures.are c.in-Err.refusal c.args.piece.now _ (c.in-Err.ensures (manner told subject) h.began bytes h.has_read)
+
+pub returns-in-Ok-clause-again : goal.returns-in-Ok-clause-again
+returns-in-Ok-clause-again c = search rules
+
+pub returns-in-Err-clause-again : goal.returns-in-Err-clause-again
+returns-in-Err-clause-again c = search rules

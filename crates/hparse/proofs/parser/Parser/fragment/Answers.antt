@@ -27,3 +27,6 @@ returns c =
         has_read = subst (λ (k : RawKind). HasRead builds (record { table = c.args.options.now.table.now; start = start.Context k; bad = c.args.options.now.bad_bytes; limit = c.args.options.now.limits.input }) began c.new.result []) kind c.new.ensures;
       },
     )
+
+pub returns-then-not-is_context : goal.returns-then-not-is_context
+returns-then-not-is_context c = search rules

@@ -8,11 +8,11 @@ use Rattle.hadopt.specs.Gives.{Gives}
 use Rattle.hadopt.specs.Inserts.{put_each}
 use Rattle.hadopt.specs.Site.{Outcome, SiteOf}
 use Rattle.hmodes.proofs.PlainRun.{bad_bytes, bad_put}
-use Rattle.hmodes.proofs.runs.put_bad.Goals as goal
+use Rattle.hmodes.proofs.tree_construction.TreeConstruction.put_bad.Goals as goal
 
 pub returns-clause-gives : goal.returns-clause-gives
 returns-clause-gives c =
-    let site = c.args.rules.now.site in
+    let site = c.args.self.now.site in
     let is : c.deref.result.now ≡ repeat c.args.count (encode_utf8 0xFFFD) = c.deref.ensures ∙ c.in_ok-run.ensures.bytes ∙ ap (repeat c.args.count) bad_bytes in
     let same = bad_put c.args.count c.args.at c.deref.result.now c.place-place.result site c.requires is (subst AreNodes c.tree.ensures c.document.ensures.nodes) c.place-place.ensures.within in
     subst (λ (p : Place). Gives c.put_text.result c.put_text.new.self (put_each (replaced c.args.at c.args.count) p site)) c.place-place.ensures.place

@@ -1,0 +1,5 @@
+use Rattle.std.proofs.Common.{rules}
+use Rattle.hmodes.proofs.tree_construction.TreeConstruction.in_table_body.Goals as goal
+
+pub returns-in-Start-Cell : goal.returns-in-Start-Cell
+returns-in-Start-Cell c = search rules
