@@ -16,7 +16,7 @@ pub struct Case {
     pub told: Told,
 }
 
-/// What a case is told beside its words: the table of references, the quirks list and the input limit, if they are not the
+/// What a case has besides its words: the table of references, the quirks list and the input limit, if they are not the
 /// program's own, and whether the refusal comes with the last byte.
 #[derive(Drop)]
 pub struct Told {

@@ -5,11 +5,11 @@ ghost use Rattle.std.specs.Prelude.{◌<◌, ◌≤◌, length};
 use crate::case::Case;
 use anyhow::{Result, bail};
 use charref::Table;
-use hmain::Line;
-use hmain::line::line;
 use hmarkup::Quirks;
 use hmodes::Limits;
 use hparse::Options;
+use hprogram::Line;
+use hprogram::line::line;
 use htext::MAX_INPUT;
 use hwrite::{Command, Counted, run};
 use names::{Keys, Refusal};
@@ -20,7 +20,7 @@ use std::io::Read;
 /// The sizes of the pieces that the input is read in.
 const PIECES: [usize; 5] = [1, 2, 3, 7, 65_536];
 
-/// Whether the input comes to the case's text or refusal, read in pieces of each size, from a reader that gives it in two parts, cut
+/// Whether the input gives the case's text or refusal, read in pieces of each size, from a reader that gives it in two parts, cut
 /// at each byte, and, if the case says so, with its last byte.
 pub fn check(alloc: Global, case: &Case) -> Result<bool> {
     let words = texts(alloc, &case.words)?;
@@ -46,7 +46,7 @@ pub fn check(alloc: Global, case: &Case) -> Result<bool> {
     )
 }
 
-/// Whether the input comes to it in pieces of each size.
+/// Whether the input gives it in pieces of each size.
 fn comes_in_pieces(
     alloc: Global,
     case: &Case,
@@ -62,7 +62,7 @@ fn comes_in_pieces(
     Ok(true)
 }
 
-/// Whether the input comes to it cut in two at each byte.
+/// Whether the input gives it cut in two at each byte.
 fn comes_in_two(alloc: Global, case: &Case, command: Command, options: &Options) -> Result<bool>
     requires piece { 0 < command.piece }
 {

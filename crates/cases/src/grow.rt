@@ -17,7 +17,7 @@ pub struct Grown {
 }
 
 /// What a line of a tree's text says.
-enum Line<'a> {
+enum TreeLine<'a> {
     Element(&'a str),
     Attribute(&'a str, &'a str),
     Text(&'a str),
@@ -69,7 +69,7 @@ fn add_line(
         bail!("no parent");
     }
     match read_line(words)? {
-        Line::Element(name) => {
+        TreeLine::Element(name) => {
             let name = names.intern(alloc, name)?;
             let Ok(element) = tree.create_element(name, Vec::new(alloc), 0) else {
                 bail!("no element");
@@ -77,18 +77,18 @@ fn add_line(
             append(tree, element, parent)?;
             open.push(element)?;
         }
-        Line::Attribute(name, value) => {
+        TreeLine::Attribute(name, value) => {
             let name = names.intern(alloc, name)?;
             let value = String::from_str(alloc, value)?;
             let Ok(()) = tree.add_attr(parent, Attr { name, value }) else {
                 bail!("no attribute");
             };
         }
-        Line::Text(text) => {
+        TreeLine::Text(text) => {
             add_text(alloc, tree, text, parent)?;
             open.push(last_child(tree, parent)?)?;
         }
-        Line::Comment(data) => {
+        TreeLine::Comment(data) => {
             let comment = make_comment(alloc, tree, data)?;
             append(tree, comment, parent)?;
             open.push(comment)?;
@@ -98,21 +98,21 @@ fn add_line(
 }
 
 /// The meaning of a line, without the spaces before it.
-fn read_line(words: &str) -> Result<Line> {
+fn read_line(words: &str) -> Result<TreeLine> {
     if let Some(rest) = words.strip_prefix("<!-- ") {
         let data = rest.strip_suffix(" -->").context("an open comment")?;
-        return Ok(Line::Comment(data));
+        return Ok(TreeLine::Comment(data));
     }
     if let Some(rest) = words.strip_prefix('<') {
         let name = rest.strip_suffix('>').context("an open element")?;
-        return Ok(Line::Element(name));
+        return Ok(TreeLine::Element(name));
     }
     let front = words.strip_suffix('"').context("a line of no node")?;
     if let Some(text) = front.strip_prefix('"') {
-        return Ok(Line::Text(text));
+        return Ok(TreeLine::Text(text));
     }
     let (name, value) = front.split_once("=\"").context("a line of no node")?;
-    Ok(Line::Attribute(name, value))
+    Ok(TreeLine::Attribute(name, value))
 }
 
 /// Makes a comment, loose.

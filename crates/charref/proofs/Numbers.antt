@@ -10,7 +10,7 @@ use Rattle.names.specs.Placed.{begins, stops, all, is_empty, is_digit, is_alphan
 use Rattle.charref.specs.declared.number.Base.{Base}
 use Rattle.charref.specs.declared.number.Base.TheVariants.{Decimal, Hexadecimal}
 use Rattle.charref.specs.declared.reference.Characters.TheVariants.{One}
-use Rattle.charref.specs.declared.state.State.TheVariants.{NumberSign, HexadecimalSign, Number}
+use Rattle.charref.specs.declared.reference_state.ReferenceState.TheVariants.{NumberSign, HexadecimalSign, Number}
 use Rattle.charref.specs.Reference.{Entities, is_hex_digit, digit_value, number_from, begins_number, numbered, number_fault, is_semicolon_if_any, IsReference, decimal, hexadecimal, no_digits, alone}
 use Rattle.charref.specs.Number.{is_digit_of, radix}
 use Rattle.charref.specs.Held.{IsSign, number_sign, small_x, capital_x, IsHeld, after_sign, after_x, in_number}

@@ -8,8 +8,8 @@ use Rattle.names.specs.declared.placed.Placed.{Placed}
 use Rattle.names.specs.Placed.{characters, all, is_empty, is_alphanumeric}
 use Rattle.charref.specs.declared.number.Base.{Base}
 use Rattle.charref.specs.declared.number.Base.TheVariants.{Decimal, Hexadecimal}
-use Rattle.charref.specs.declared.state.State.{State}
-use Rattle.charref.specs.declared.state.State.TheVariants.{NumberSign, Number}
+use Rattle.charref.specs.declared.reference_state.ReferenceState.{ReferenceState}
+use Rattle.charref.specs.declared.reference_state.ReferenceState.TheVariants.{NumberSign, Number}
 use Rattle.charref.specs.declared.walk.Walk.{Walk}
 use Rattle.charref.specs.Reference.{Entry, Entities, IsTable, longest, named, named_piece}
 use Rattle.charref.specs.Table.{GoesOn}
@@ -95,7 +95,7 @@ open_name table amp [] is_table is run goes = open_before table amp [] (at_once 
     open_held (after_sign text sign) = open_sign table amp Decimal text is sign
 open_name table amp (q ∷ qs) is_table is run goes = open_key table amp q qs is_table is (and_parts _ _ run).0 (goes refl)
 
-open_held : (table : Entities) (amp : Placed) (state : State) (text : List Placed) → IsTable table → amp.ch ≡ 38 → IsHeld table false state text → IsOpen table amp text
+open_held : (table : Entities) (amp : Placed) (state : ReferenceState) (text : List Placed) → IsTable table → amp.ch ≡ 38 → IsHeld table false state text → IsOpen table amp text
 open_held table amp _ _ is_table is (in_name search text read run goes) = open_name table amp text is_table is run (goes refl)
 open_held table amp _ _ is_table is (after_sign text sign) = open_sign table amp Decimal text is sign
 open_held table amp _ _ is_table is (after_x text sign) = open_sign table amp Hexadecimal text is sign

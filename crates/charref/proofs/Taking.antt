@@ -4,8 +4,8 @@ use Rattle.names.specs.declared.placed.Placed.{Placed}
 use Rattle.names.specs.Placed.{all, is_alphanumeric}
 use Rattle.charref.specs.declared.number.Base.TheVariants.{Decimal, Hexadecimal}
 use Rattle.charref.specs.declared.search.Search.{Search}
-use Rattle.charref.specs.declared.state.State.{State}
-use Rattle.charref.specs.declared.state.State.TheVariants.{Name, NumberSign, HexadecimalSign}
+use Rattle.charref.specs.declared.reference_state.ReferenceState.{ReferenceState}
+use Rattle.charref.specs.declared.reference_state.ReferenceState.TheVariants.{Name, NumberSign, HexadecimalSign}
 use Rattle.charref.specs.declared.walk.Walk.{Walk}
 use Rattle.charref.specs.Reference.{Entities}
 use Rattle.charref.specs.Table.{HasRead}
@@ -22,7 +22,7 @@ pub held_x : (table : Entities) (in_value : Bool) (text : List Placed) → IsHel
 held_x table in_value _ (after_x text is) = is
 
 -- by the walk's own table, in the state that it is in
-pub own : (walk : Walk) (table : Entities) (in_value : Bool) (text : List Placed) (state : State) → HasTaken walk table in_value text → walk.state ≡ state → IsHeld walk.table.now walk.in_value state text
+pub own : (walk : Walk) (table : Entities) (in_value : Bool) (text : List Placed) (state : ReferenceState) → HasTaken walk table in_value text → walk.state ≡ state → IsHeld walk.table.now walk.in_value state text
 own walk table in_value text state taken is =
     subst (λ s. IsHeld walk.table.now walk.in_value s text) is (subst (λ b. IsHeld walk.table.now b walk.state text) (sym taken.in_value_is) (subst (λ t. IsHeld t in_value walk.state text) (sym taken.table_is) taken.held))
 

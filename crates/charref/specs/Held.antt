@@ -5,28 +5,28 @@ use Rattle.names.specs.Placed.{characters, begins, is_empty, all, is_alphanumeri
 use Rattle.charref.specs.declared.number.Base.{Base}
 use Rattle.charref.specs.declared.number.Base.TheVariants.{Decimal, Hexadecimal}
 use Rattle.charref.specs.declared.search.Search.{Search}
-use Rattle.charref.specs.declared.state.State.{State}
-use Rattle.charref.specs.declared.state.State.TheVariants.{Name, NumberSign, HexadecimalSign, Number}
+use Rattle.charref.specs.declared.reference_state.ReferenceState.{ReferenceState}
+use Rattle.charref.specs.declared.reference_state.ReferenceState.TheVariants.{Name, NumberSign, HexadecimalSign, Number}
 use Rattle.charref.specs.Reference.{Entities, number_from}
 use Rattle.charref.specs.Number.{is_digit_of, radix}
 use Rattle.charref.specs.Table.{GoesOn, HasRead, is_search_within}
 
 -- whether a state's search stays within a table with this many entries, and its number within what is stored
-abbrev pub is_within : State → ℕ → Bool
+abbrev pub is_within : ReferenceState → ℕ → Bool
 is_within (Name search) count = is_search_within search count
 is_within NumberSign count = true
 is_within HexadecimalSign count = true
 is_within (Number base value) count = nat_le value 0x110000
 
 -- whether digits of a number have been read
-abbrev pub is_number : State → Bool
+abbrev pub is_number : ReferenceState → Bool
 is_number (Name search) = false
 is_number NumberSign = false
 is_number HexadecimalSign = false
 is_number (Number base value) = true
 
 -- what of the text taken may be read again: nothing of a number, which is a reference whatever follows (13.2.5.78, 13.2.5.79)
-abbrev pub kept : State → List Placed → List Placed
+abbrev pub kept : ReferenceState → List Placed → List Placed
 kept state text = if is_number state then [] else text
 
 -- the bytes of a key that begins with `&` and this text
@@ -40,7 +40,7 @@ pub data IsSign : Base → List Placed → Type 0 where
   capital_x : (p q : Placed) → p.ch ≡ 35 → q.ch ≡ 88 → IsSign Hexadecimal (p ∷ q ∷ [])
 
 -- The text is what a walk in this state has taken. In a value, a whole key waits for the next character.
-pub data IsHeld (table : Entities) (in_value : Bool) : State → List Placed → Type 0 where
+pub data IsHeld (table : Entities) (in_value : Bool) : ReferenceState → List Placed → Type 0 where
   in_name : (search : Search) (text : List Placed) → HasRead search table (key_bytes text) → all is_alphanumeric text ≡ true
       → (in_value ≡ false → is_empty text ≡ false → GoesOn table (key_bytes text)) → IsHeld table in_value (Name search) text
   after_sign : (text : List Placed) → IsSign Decimal text → IsHeld table in_value NumberSign text

@@ -3,7 +3,7 @@
 ghost use Rattle.std.specs.Prelude.{◌≡◌, true, length};
 ghost use Rattle.charref.specs.Held.{is_within};
 
-use crate::state::State;
+use crate::reference_state::ReferenceState;
 use crate::table::Table;
 
 /// Reads a character reference, one character at a time (HTML Standard, 13.2.5.72 to 13.2.5.80): a name of the table, a
@@ -13,6 +13,6 @@ use crate::table::Table;
 pub struct Walk<'t> {
     pub(crate) table: &'t Table,
     pub(crate) in_value: bool,
-    pub(crate) state: State,
+    pub(crate) state: ReferenceState,
     ghost within: { is_within state (length table.now) ≡ true },
 }

@@ -15,8 +15,8 @@ use crate::last::{Last, is_kept};
 use crate::next::Next;
 use crate::number::{Base, TOO_GREAT, number_fault, numbered};
 use crate::reference::{Characters, Reference};
+use crate::reference_state::ReferenceState;
 use crate::search::Search;
-use crate::state::State;
 use crate::table::Table;
 use crate::walk::Walk;
 use names::ErrorCode;
@@ -30,7 +30,7 @@ impl<'t> Walk<'t> {
         Walk {
             table,
             in_value,
-            state: State::Name(Search::after_ampersand(&table.entities)),
+            state: ReferenceState::Name(Search::after_ampersand(&table.entities)),
         }
     }
 
@@ -55,7 +55,7 @@ impl<'t> Walk<'t> {
     pub fn is_number(&self) -> bool
         ensures { result ≡ is_number self.now.state }
     {
-        matches!(self.state, State::Number(_, _))
+        matches!(self.state, ReferenceState::Number(_, _))
     }
 
     fn step(&self, ch: char) -> Next<'t>
@@ -65,10 +65,10 @@ impl<'t> Walk<'t> {
         ensures number { is_number self.now.state ≡ true → StaysNumber result }
     {
         match self.state {
-            State::Name(search) => after_name(self.table, self.in_value, search, ch),
-            State::NumberSign => after_sign(ch),
-            State::HexadecimalSign => after_x(ch),
-            State::Number(base, value) => after_digits(base, value, ch),
+            ReferenceState::Name(search) => after_name(self.table, self.in_value, search, ch),
+            ReferenceState::NumberSign => after_sign(ch),
+            ReferenceState::HexadecimalSign => after_x(ch),
+            ReferenceState::Number(base, value) => after_digits(base, value, ch),
         }
     }
 
@@ -79,18 +79,18 @@ impl<'t> Walk<'t> {
         ensures number { is_number self.now.state ≡ true → result.left ≡ 0 }
     {
         match self.state {
-            State::Name(search) => name_at_end(self.table, self.in_value, search),
-            State::NumberSign => as_text(
+            ReferenceState::Name(search) => name_at_end(self.table, self.in_value, search),
+            ReferenceState::NumberSign => as_text(
                 1,
                 Some(ErrorCode::AbsenceOfDigitsInNumericCharacterReference),
                 false,
             ),
-            State::HexadecimalSign => as_text(
+            ReferenceState::HexadecimalSign => as_text(
                 2,
                 Some(ErrorCode::AbsenceOfDigitsInNumericCharacterReference),
                 false,
             ),
-            State::Number(_, value) => number(value, 0, true),
+            ReferenceState::Number(_, value) => number(value, 0, true),
         }
     }
 }
@@ -179,10 +179,10 @@ fn after_sign<'t>(ch: char) -> Next<'t>
         → p.ch ≡ ch → NextIs table in_value (text ++ p ∷ []) result }
 {
     if ch == 'x' || ch == 'X' {
-        return Next::Goes(State::HexadecimalSign);
+        return Next::Goes(ReferenceState::HexadecimalSign);
     }
     match Base::Decimal.digit(ch) {
-        Some(digit) => Next::Goes(State::Number(Base::Decimal, digit)),
+        Some(digit) => Next::Goes(ReferenceState::Number(Base::Decimal, digit)),
         None => Next::Ended(as_text(
             2,
             Some(ErrorCode::AbsenceOfDigitsInNumericCharacterReference),
@@ -198,7 +198,7 @@ fn after_x<'t>(ch: char) -> Next<'t>
         → p.ch ≡ ch → NextIs table in_value (text ++ p ∷ []) result }
 {
     match Base::Hexadecimal.digit(ch) {
-        Some(digit) => Next::Goes(State::Number(Base::Hexadecimal, digit)),
+        Some(digit) => Next::Goes(ReferenceState::Number(Base::Hexadecimal, digit)),
         None => Next::Ended(as_text(
             3,
             Some(ErrorCode::AbsenceOfDigitsInNumericCharacterReference),
@@ -212,11 +212,11 @@ fn after_digits<'t>(base: Base, value: u32, ch: char) -> Next<'t>
     requires { value ≤ TOO_GREAT }
     ensures within { (count : ℕ) → is_next_within result count ≡ true }
     ensures next { (table : Entities) (in_value : Bool) (text : List Placed) (p : Placed)
-        → IsHeld table in_value (State.Number base value) text → p.ch ≡ ch → NextIs table in_value (text ++ p ∷ []) result }
+        → IsHeld table in_value (ReferenceState.Number base value) text → p.ch ≡ ch → NextIs table in_value (text ++ p ∷ []) result }
     ensures number { StaysNumber result }
 {
     match base.digit(ch) {
-        Some(digit) => Next::Goes(State::Number(base, base.more(value, digit))),
+        Some(digit) => Next::Goes(ReferenceState::Number(base, base.more(value, digit))),
         None if ch == ';' => Next::Ended(number(value, 0, false)),
         None => Next::Ended(number(value, 1, true)),
     }
@@ -229,7 +229,7 @@ fn after_ampersand<'t>(ch: char) -> Next<'t>
         → NextIs table in_value (p ∷ []) result }
 {
     if ch == '#' {
-        Next::Goes(State::NumberSign)
+        Next::Goes(ReferenceState::NumberSign)
     } else {
         Next::Ended(as_text(1, None, false))
     }
@@ -275,10 +275,10 @@ fn after_name<'t>(table: &'t Table, in_value: bool, search: Search, ch: char) ->
         return Next::Ended(decided(table, in_value, search.best, search.depth, last));
     };
     if next.goes_on(&table.entities) {
-        return Next::Goes(State::Name(next));
+        return Next::Goes(ReferenceState::Name(next));
     }
     if waits(in_value, last, next, &table.entities) {
-        return Next::Goes(State::Name(next));
+        return Next::Goes(ReferenceState::Name(next));
     }
     Next::Ended(decided(table, in_value, next.best, search.depth, last))
 }

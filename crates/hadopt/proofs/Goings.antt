@@ -19,7 +19,7 @@ all-further test [] i x is = cc
 all-further test (y ∷ up) zero x is = let same : y ≡ x = cc in rw (same) refl
 all-further test (y ∷ up) (suc i) x is = let e : suc i + 1 ≡ suc (i + 1) = omega arith in rw (e) (all-further test up i x is)
 
--- whether going back stops at the item with so many after it
+-- whether going back stops at the item with this many after it
 abbrev pub stops_at : SiteOf ℕ → ℕ → List (Item ℕ) → Bool
 stops_at s back items = option_map_or (λ e. is_open e.node (stack s)) (entry_at back items) true
 

@@ -22,7 +22,7 @@ abbrev pub without_entries : List (OpenNode ℕ) → List (Item ℕ) → List (I
 without_entries [] items = items
 without_entries (x ∷ way) items = without_entries way (without_entry x.node items)
 
--- the nodes on the way that come after so many open ones
+-- the nodes on the way that come after this many open ones
 abbrev pub way_after : (formatting below : ℕ) → SiteOf ℕ → List (OpenNode ℕ)
 way_after formatting below s = before (is_node formatting) (drop below (stack s))
 
@@ -32,7 +32,7 @@ way_left formatting below s =
     let way = way_after formatting below s in
     with_stack (remove_range (stack s) below (below + length way)) (with_items (without_entries way s.items) s)
 
--- on the way up, after so many nodes of it: those of the open nodes that are left are the topmost ones, and no entry on the way
+-- on the way up, after this many nodes of it: those of the open nodes that are left are the topmost ones, and no entry on the way
 -- is kept any more
 pub record IsHalfway (formatting block at : ℕ) (c : Climb ℕ) (left : ℕ) (outcome : Outcome (Climb ℕ)) : Type 0 where
   pub passed : ℕ

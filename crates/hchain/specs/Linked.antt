@@ -16,15 +16,15 @@ numbers_of links = map number_of links
 abbrev pub befores_of : List Link → List ℕ
 befores_of links = map before_of links
 
--- whether a number is of a group, where there are so many groups
+-- whether a number is of a group, where there are this many groups
 abbrev pub is_in : (width group : ℕ) → ℕ → Bool
 is_in width group n = not (n == none) && n % width == group
 
--- .. of the group of a number
+-- the same of the group of a number
 abbrev pub group_of : (width number : ℕ) → ℕ → Bool
 group_of width number = is_in width (number % width)
 
--- a place, if it is one, comes after an index, among so many numbers, and what is sought stands there
+-- a place, if it is one, comes after an index, among this many numbers, and what is sought stands there
 abbrev pub StandsAfter : (ℕ → Bool) → (count : ℕ) → (numbers : List ℕ) → (index place : ℕ) → Type 0
 StandsAfter sought count numbers index place =
     0 < place → (index + 1 < place) × (place ≤ count) × IsTrue (sought (slice_index numbers (place - 1)))
@@ -48,7 +48,7 @@ pub record IsChained (last : List ℕ) (links : List Link) : Type 0 where
   pub says : Says last (numbers_of links)
   pub kept : Keep (length last) (numbers_of links) (befores_of links)
 
--- .. and the places are numbers of 32 bits
+-- the same, and the places are numbers of 32 bits
 pub record AreChains (last : List ℕ) (links : List Link) : Type 0 where
   pub chained : IsChained last links
   pub fits : length links < 2 ^ 32

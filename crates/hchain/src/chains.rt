@@ -22,7 +22,7 @@ pub(crate) struct Link {
 /// A list of numbers.
 ///
 /// Numbers that leave the same remainder are a group, and there are more groups than numbers. A question walks the
-/// group of a number; an edit of one place mends what keeps it. A number takes 16 bytes, and a group 4.
+/// group of a number; an edit of one place updates what keeps it. A number takes 16 bytes, and a group 4.
 #[derive(Debug, Drop)]
 pub struct Chains {
     pub(crate) links: Vec<Link>,
@@ -221,7 +221,7 @@ impl Chains {
         Ok(())
     }
 
-    /// Leaves so many numbers.
+    /// Keeps the first `len` numbers.
     pub fn truncate(&mut self, len: usize)
         requires { len ≤ length self.old }
         ensures { self.new ≡ take len self.old }

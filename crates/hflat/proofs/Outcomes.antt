@@ -5,9 +5,9 @@ use Rattle.names.specs.declared.refusal.Refusal.{Refusal}
 use Rattle.names.specs.declared.refusal.Refusal.TheVariants.{Memory}
 use Rattle.charref.specs.Reading.{table_of, IsRefusedWith}
 use Rattle.hflat.specs.Given.{table_told}
-use Rattle.hflat.specs.declared.fault.Fault.{Fault}
+use Rattle.hflat.specs.declared.fault.CallFault.{CallFault}
 
-pub fails : {T : Type 0} (r : Result T Fault) (f : Fault) (P : T → Type 0) (Q : Fault → Type 0) → IsErrAnd r (λ g. g ≡ f) → Q f → MatchResult r P Q
+pub fails : {T : Type 0} (r : Result T CallFault) (f : CallFault) (P : T → Type 0) (Q : CallFault → Type 0) → IsErrAnd r (λ g. g ≡ f) → Q f → MatchResult r P Q
 fails (Ok x) f P Q is h = absurd is
 fails (Err g) f P Q is h = subst Q (sym is) h
 

@@ -11,31 +11,31 @@ use Rattle.hnodes.specs.Spelled.{spelled, spelled_what}
 use Rattle.hnodes.specs.Spots.{first_or, kind_in}
 use Rattle.hnodes.proofs.Spellings.{spelled-children_of}
 use Rattle.hparse.specs.declared.parsed.Parsed.{Parsed}
-use Rattle.hparse.specs.Parse.{Parse, Parses, Subject, Told, root_of}
+use Rattle.hparse.specs.Parse.{Parse, Parses, ParseCase, ParseOptions, root_of}
 use Rattle.hparse.specs.Parsing.{AnswersParse, IsParse}
 use Rattle.hparse.specs.Reader.{ReadsInput, reading_ran_out, reading_failed, reading_stopped, read_to_end}
-use Rattle.hwrite.specs.Context.{AllowsContext, subject_in}
+use Rattle.hwrite.specs.Context.{AllowsContext, case_in}
 use Rattle.hwrite.proofs.Alike.{spelled-alike}
 use Rattle.hflat.specs.Exports.{ComesToNone, none_for_memory, none_in_context, none_of_bytes}
 use Rattle.hflat.specs.Rows.{kind_number, link_to, rows_of, words_of}
 use Rattle.hflat.specs.Trees.{ComesToParse, HasRows}
 use Rattle.hflat.specs.declared.rows.Rows.{Rows}
 
-module _ {S : Type 0} (left : S → List ℕ) (told : Told) (context : Option (List ℕ)) (unrefused : List ℕ → Type 0) (piece : ℕ) (source source' : S) where
-  answered : (bytes : List ℕ) (answer : Result Parsed Refusal) → left source ≡ bytes → AnswersParse told (subject_in context) bytes answer → ComesToParse told context (left source) answer
-  answered bytes (Ok parsed) is its = subst (λ bs. AnswersParse told (subject_in context) bs (Ok parsed)) (sym is) its
-  answered bytes (Err refusal) is its = none_of_bytes (subst (λ bs. Parses told (subject_in context) bs (Err refusal)) (sym is) its)
+module _ {S : Type 0} (left : S → List ℕ) (opts : ParseOptions) (context : Option (List ℕ)) (unrefused : List ℕ → Type 0) (piece : ℕ) (source source' : S) where
+  answered : (bytes : List ℕ) (answer : Result Parsed Refusal) → left source ≡ bytes → AnswersParse opts (case_in context) bytes answer → ComesToParse opts context (left source) answer
+  answered bytes (Ok parsed) is its = subst (λ bs. AnswersParse opts (case_in context) bs (Ok parsed)) (sym is) its
+  answered bytes (Err refusal) is its = none_of_bytes (subst (λ bs. Parses opts (case_in context) bs (Err refusal)) (sym is) its)
 
-  failing : (answer : Result Parsed Refusal) (refusal : Refusal) → answer ≡ Err refusal → ComesToNone (Parses told (subject_in context)) context (left source) refusal
-      → ComesToParse told context (left source) answer
-  failing answer refusal is why = subst (ComesToParse told context (left source)) (sym is) why
+  failing : (answer : Result Parsed Refusal) (refusal : Refusal) → answer ≡ Err refusal → ComesToNone (Parses opts (case_in context)) context (left source) refusal
+      → ComesToParse opts context (left source) answer
+  failing answer refusal is why = subst (ComesToParse opts context (left source)) (sym is) why
 
-  pub parse_of : (answer : Result Parsed Refusal) → ReadsInput (λ s. Some (left s)) (λ s. 0) (AnswersParse told (subject_in context)) unrefused piece [] source source' answer
-      → ComesToParse told context (left source) answer
+  pub parse_of : (answer : Result Parsed Refusal) → ReadsInput (λ s. Some (left s)) (λ s. 0) (AnswersParse opts (case_in context)) unrefused piece [] source source' answer
+      → ComesToParse opts context (left source) answer
   parse_of answer (reading_ran_out is unread) = failing answer Memory is (none_for_memory refl)
   parse_of answer (reading_failed bytes is un gave counted) = absurd cc
   parse_of answer (reading_stopped refusal before last is un gave from short) =
-      failing answer refusal is (none_of_bytes (subst (λ bs. Parses told (subject_in context) bs (Err refusal)) (sym gave.given) (from (left source'))))
+      failing answer refusal is (none_of_bytes (subst (λ bs. Parses opts (case_in context) bs (Err refusal)) (sym gave.given) (from (left source'))))
   parse_of answer (read_to_end bytes un gave end its) = answered bytes answer (gave.given ∙ ap (λ r. bytes ++ r) end ∙ append-nil bytes) its
 
 module _ {N M : Type 0} (g : N → M) where
@@ -62,25 +62,25 @@ module _ {N M : Type 0} (g : N → M) where
         next = link_to (same_first rest i);
       } ∷ (same_rows n kids i ++ same_rows p rest i))
 
-children_are : (subject : Subject) (parsed : Parsed) (parse : Parse) → IsParse subject parsed parse
-    → spelled (text_of parsed.names) (children_of parsed.root parsed.tree.trees) ≡ children_of (root_of subject) parse.trees
-children_are subject parsed parse is =
+children_are : (parse_case : ParseCase) (parsed : Parsed) (parse : Parse) → IsParse parse_case parsed parse
+    → spelled (text_of parsed.names) (children_of parsed.root parsed.tree.trees) ≡ children_of (root_of parse_case) parse.trees
+children_are parse_case parsed parse is =
     spelled-alike parsed.names (children_of parsed.root parsed.tree.trees) is.names_are ∙ spelled-children_of (spelling parsed.names) parsed.root parsed.tree.trees
     ∙ ap₂ (λ (n : ℕ) (f : Forest (List ℕ)). children_of n f) is.root is.trees
 
-pub has_rows : (told : Told) (context : Option (List ℕ)) (bytes : List ℕ) (parsed : Parsed) (rows : Rows) → AnswersParse told (subject_in context) bytes (Ok parsed)
+pub has_rows : (opts : ParseOptions) (context : Option (List ℕ)) (bytes : List ℕ) (parsed : Parsed) (rows : Rows) → AnswersParse opts (case_in context) bytes (Ok parsed)
     → rows.nodes.items ≡ rows_of parsed.root (children_of parsed.root parsed.tree.trees)
-    → rows.words.items ≡ words_of (spelled (text_of parsed.names) (children_of parsed.root parsed.tree.trees)) → HasRows told context bytes rows
-has_rows told context bytes parsed rows (parse, is, its) same_nodes same_words = record {
+    → rows.words.items ≡ words_of (spelled (text_of parsed.names) (children_of parsed.root parsed.tree.trees)) → HasRows opts context bytes rows
+has_rows opts context bytes parsed rows (parse, is, its) same_nodes same_words = record {
   parse = parse;
   parses = its;
   rows_are = same_nodes ∙ sym (same_rows (text_of parsed.names) parsed.root (children_of parsed.root parsed.tree.trees))
-      ∙ ap₂ (λ (p : ℕ) (f : Forest (List ℕ)). rows_of p f) is.root (children_are (subject_in context) parsed parse is);
-  words_are = same_words ∙ ap words_of (children_are (subject_in context) parsed parse is);
+      ∙ ap₂ (λ (p : ℕ) (f : Forest (List ℕ)). rows_of p f) is.root (children_are (case_in context) parsed parse is);
+  words_are = same_words ∙ ap words_of (children_are (case_in context) parsed parse is);
 }
 
-pub not_begun : (told : Told) (context : Option (List ℕ)) (bytes : List ℕ) (r : Result Parsed Refusal) (e : Refusal) → IsErrAnd r (λ g. g ≡ e)
-    → (AllowsContext context × (e ≡ Memory)) ⊎ ((AllowsContext context → ⊥) × (e ≡ BadContext)) → ComesToParse told context bytes r
-not_begun told context bytes (Ok parsed) e is why = absurd is
-not_begun told context bytes (Err g) e is (inl (allowed, memory)) = none_for_memory (is ∙ memory)
-not_begun told context bytes (Err g) e is (inr (not_allowed, refuses)) = none_in_context not_allowed (is ∙ refuses)
+pub not_begun : (opts : ParseOptions) (context : Option (List ℕ)) (bytes : List ℕ) (r : Result Parsed Refusal) (e : Refusal) → IsErrAnd r (λ g. g ≡ e)
+    → (AllowsContext context × (e ≡ Memory)) ⊎ ((AllowsContext context → ⊥) × (e ≡ BadContext)) → ComesToParse opts context bytes r
+not_begun opts context bytes (Ok parsed) e is why = absurd is
+not_begun opts context bytes (Err g) e is (inl (allowed, memory)) = none_for_memory (is ∙ memory)
+not_begun opts context bytes (Err g) e is (inr (not_allowed, refuses)) = none_in_context not_allowed (is ∙ refuses)

@@ -6,8 +6,8 @@ use Rattle.names.specs.declared.refusal.Refusal.{Refusal}
 use Rattle.names.specs.declared.refusal.Refusal.TheVariants as refusal
 use Rattle.names.specs.declared.refusal.TableFault.{TableFault}
 use Rattle.names.specs.declared.refusal.TableFault.TheVariants as cause
-use Rattle.hflat.specs.declared.fault.Fault.{Fault}
-use Rattle.hflat.specs.declared.fault.Fault.TheVariants as fault
+use Rattle.hflat.specs.declared.fault.CallFault.{CallFault}
+use Rattle.hflat.specs.declared.fault.CallFault.TheVariants as fault
 
 abbrev pub refusal_number : Refusal → ℕ
 refusal_number (refusal.NotUtf8 at) = 1
@@ -46,19 +46,19 @@ cause_number cause.Key = 3
 cause_number cause.Codepoints = 4
 cause_number cause.Characters = 5
 
-abbrev pub status_of : Fault → ℕ
+abbrev pub status_of : CallFault → ℕ
 status_of (fault.Refused why) = refusal_number why
 status_of fault.NotText = 14
 status_of fault.BadNumber = 15
 
 -- the number of the element or of the cause that it names
-abbrev pub detail_of : Fault → ℕ
+abbrev pub detail_of : CallFault → ℕ
 detail_of (fault.Refused (refusal.OutOfProfile name at)) = element_number name
 detail_of (fault.Refused (refusal.BadTable why)) = cause_number why
 detail_of _ = 0
 
 -- its byte or its line
-abbrev pub at_of : Fault → ℕ
+abbrev pub at_of : CallFault → ℕ
 at_of (fault.Refused (refusal.NotUtf8 at)) = at
 at_of (fault.Refused (refusal.OutOfProfile name at)) = at
 at_of (fault.Refused (refusal.TooLarge at)) = at

@@ -1,4 +1,4 @@
--- What is told beside the input: the meaning of what a caller hands in, and why it is not accepted.
+-- The options of a call: the meaning of what a caller hands in, and why it is not accepted.
 use Rattle.std.specs.Prelude.{◌≡◌, ◌<◌, ◌≤◌, ◌==◌, if◌then◌else◌, ℕ, List, length, [], ◌∷◌, Option, None, Some, Result, Ok, Err}
 use Rattle.std.specs.Str.{IsUtf8}
 use Rattle.names.specs.declared.refusal.Refusal.{Refusal}
@@ -11,7 +11,7 @@ use Rattle.htext.specs.declared.BadBytes.{BadBytes}
 use Rattle.htext.specs.declared.BadBytes.TheVariants as bad
 use Rattle.htext.specs.declared.decoder.TheConstants.{MAX_INPUT}
 use Rattle.hmodes.specs.Bounds.{AreLimits, Bounds}
-use Rattle.hparse.specs.Parse.{Told}
+use Rattle.hparse.specs.Parse.{ParseOptions}
 use Rattle.hwrite.specs.Command.{name_of}
 use Rattle.hwrite.specs.declared.command.Command.{Command}
 use Rattle.hwrite.specs.declared.command.Task.{Task}
@@ -20,8 +20,8 @@ use Rattle.hserialize.specs.declared.escaping.Escaping.{Escaping}
 use Rattle.hserialize.specs.declared.escaping.Escaping.TheVariants.{One, Two}
 use Rattle.hflat.specs.declared.answer.Given.{Given}
 use Rattle.hflat.specs.declared.given.Lists.{Lists}
-use Rattle.hflat.specs.declared.fault.Fault.{Fault}
-use Rattle.hflat.specs.declared.fault.Fault.TheVariants as fault
+use Rattle.hflat.specs.declared.fault.CallFault.{CallFault}
+use Rattle.hflat.specs.declared.fault.CallFault.TheVariants as fault
 
 abbrev pub task_told : ℕ → Option Task
 task_told number =
@@ -43,7 +43,7 @@ context_told (b ∷ bs) = Some (b ∷ bs)
 abbrev pub table_told : List ℕ → Result Entities TableFault
 table_told bytes = if length bytes == 0 then Ok core else table_of bytes
 
--- so many bytes may be fed at a time
+-- this many bytes may be fed at a time
 abbrev pub IsPiece : ℕ → Type 0
 IsPiece piece = (0 < piece) × (piece ≤ 65536)
 
@@ -52,16 +52,16 @@ abbrev pub bounds_told : Given → Bounds
 bounds_told given = record { input = MAX_INPUT; tree = record { nodes = given.nodes; depth = given.open } }
 
 -- What is told, where all of it is accepted.
-pub record Tells (given : Given) (told : Told) : Type 0 where
-  pub table : table_told given.entities.now ≡ Ok told.table
-  pub quirks : ReadsQuirks given.quirks.now (Ok told.quirks)
-  pub bad_bytes : bad_told given.bad_bytes ≡ Some told.bad
-  pub input_limit : told.input ≡ (bounds_told given).input
-  pub limits : told.limits ≡ (bounds_told given).tree
+pub record Tells (given : Given) (opts : ParseOptions) : Type 0 where
+  pub table : table_told given.entities.now ≡ Ok opts.table
+  pub quirks : ReadsQuirks given.quirks.now (Ok opts.quirks)
+  pub bad_bytes : bad_told given.bad_bytes ≡ Some opts.bad
+  pub input_limit : opts.input ≡ (bounds_told given).input
+  pub limits : opts.limits ≡ (bounds_told given).tree
   pub in_range : AreLimits (bounds_told given)
 
 -- Something that is told is not accepted, for this reason.
-pub data Unmet (given : Given) (why : Fault) : Type 0 where
+pub data Unmet (given : Given) (why : CallFault) : Type 0 where
   no_escaping : escaping_told given.escaping ≡ None → why ≡ fault.BadNumber → Unmet given why
   no_bad_bytes : bad_told given.bad_bytes ≡ None → why ≡ fault.BadNumber → Unmet given why
   no_piece : (IsPiece given.piece → ⊥) → why ≡ fault.BadNumber → Unmet given why
@@ -89,6 +89,6 @@ pub record IsCommand (number : ℕ) (given : Given) (command : Command) : Type 0
   pub is_piece : IsPiece command.piece
 
 -- There is none, for this reason.
-pub data NoCommand (number : ℕ) (given : Given) (why : Fault) : Type 0 where
+pub data NoCommand (number : ℕ) (given : Given) (why : CallFault) : Type 0 where
   no_task : task_told number ≡ None → why ≡ fault.BadNumber → NoCommand number given why
   unmet : Unmet given why → NoCommand number given why

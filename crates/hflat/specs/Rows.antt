@@ -24,7 +24,7 @@ words_in (element name attrs) = ended name ++ flat_map attribute_words attrs
 words_in (comment t) = ended t
 words_in (text t) = ended t
 
--- .. with what ends them
+-- the same with what ends them
 abbrev pub node_words : What (List ℕ) → List ℕ
 node_words w = words_in w ++ 254 ∷ []
 

@@ -1,6 +1,6 @@
 //! What crosses between C and the library.
 
-/// What is told beside the input. A context or a list that is empty is not told: a document, the core table of character references,
+/// The options of a call. A context or a list that is empty is none: a document, the core table of character references,
 /// no quirks by a list.
 #[repr(C)]
 #[derive(Clone, Copy)]

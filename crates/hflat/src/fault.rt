@@ -2,13 +2,13 @@
 
 ghost use Rattle.std.specs.Prelude.{◌≡◌};
 ghost use Rattle.hflat.specs.Faults.{at_of, cause_number, detail_of, element_number, refusal_number, status_of};
-ghost use Rattle.hflat.specs.declared.fault.Fault.TheVariants as fault;
+ghost use Rattle.hflat.specs.declared.fault.CallFault.TheVariants as fault;
 
 use names::{Refusal, RefusedName, TableFault};
 
 /// Why a call gives nothing.
 #[derive(Clone, Copy, Debug, PartialEq, Eq)]
-pub enum Fault {
+pub enum CallFault {
     /// The library refuses the input, a list, the context or a limit.
     Refused(Refusal),
     /// The name of the context or a list is not UTF-8.
@@ -17,23 +17,23 @@ pub enum Fault {
     BadNumber,
 }
 
-impl From<Refusal> for Fault {
+impl From<Refusal> for CallFault {
     ghost from_gives = { λ refusal f. f ≡ fault.Refused refusal };
 
-    fn from(refusal: Refusal) -> Fault {
-        Fault::Refused(refusal)
+    fn from(refusal: Refusal) -> CallFault {
+        CallFault::Refused(refusal)
     }
 }
 
-impl Fault {
+impl CallFault {
     /// Its number.
     pub(crate) fn status(self) -> u32
         ensures { result ≡ status_of self }
     {
         match self {
-            Fault::Refused(refusal) => refusal_number(refusal),
-            Fault::NotText => 14,
-            Fault::BadNumber => 15,
+            CallFault::Refused(refusal) => refusal_number(refusal),
+            CallFault::NotText => 14,
+            CallFault::BadNumber => 15,
         }
     }
 
@@ -42,8 +42,8 @@ impl Fault {
         ensures { result ≡ detail_of self }
     {
         match self {
-            Fault::Refused(Refusal::OutOfProfile { name, .. }) => element_number(name),
-            Fault::Refused(Refusal::BadTable { cause }) => cause_number(cause),
+            CallFault::Refused(Refusal::OutOfProfile { name, .. }) => element_number(name),
+            CallFault::Refused(Refusal::BadTable { cause }) => cause_number(cause),
             _ => 0,
         }
     }
@@ -53,14 +53,14 @@ impl Fault {
         ensures { result ≡ at_of self }
     {
         match self {
-            Fault::Refused(
+            CallFault::Refused(
                 Refusal::NotUtf8 { at }
                 | Refusal::OutOfProfile { at, .. }
                 | Refusal::TooLarge { at }
                 | Refusal::TooManyNodes { at }
                 | Refusal::TooDeep { at },
             ) => at,
-            Fault::Refused(Refusal::BadQuirks { line }) => line,
+            CallFault::Refused(Refusal::BadQuirks { line }) => line,
             _ => 0,
         }
     }

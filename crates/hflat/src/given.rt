@@ -1,14 +1,14 @@
-//! What is told beside the input.
+//! The options of a call.
 
 ghost use Rattle.std.specs.Prelude.{◌≡◌, ◌<◌, ◌≤◌, MatchResult, IfOk, Some, None, Ok};
 ghost use Rattle.hmarkup.specs.Quirks.{ReadsQuirks};
-ghost use Rattle.hparse.specs.Parsing.{told_by};
+ghost use Rattle.hparse.specs.Parsing.{options_of};
 ghost use Rattle.hwrite.specs.Command.{name_of};
 ghost use Rattle.hflat.specs.Given.{bad_told, context_told, escaping_told, table_told, task_told, HasLimits, HasLists, IsCommand, IsPiece, NoCommand, Tells, Unmet};
-ghost use Rattle.hflat.specs.declared.fault.Fault.TheVariants as fault;
+ghost use Rattle.hflat.specs.declared.fault.CallFault.TheVariants as fault;
 
 use crate::answer::Given;
-use crate::fault::Fault;
+use crate::fault::CallFault;
 use charref::Table;
 use hmarkup::Quirks;
 use hmodes::Limits;
@@ -66,28 +66,28 @@ pub(crate) struct Lists {
 
 impl<'a> Given<'a> {
     /// How `Write` escapes.
-    pub(crate) fn escaping(&self) -> Result<Escaping, Fault>
+    pub(crate) fn escaping(&self) -> Result<Escaping, CallFault>
         ensures { MatchResult result (λ how. escaping_told self.now.escaping ≡ Some how) (Unmet self.now) }
     {
         match escaping_of(self.escaping) {
             Some(escaping) => Ok(escaping),
-            None => Err(Fault::BadNumber),
+            None => Err(CallFault::BadNumber),
         }
     }
 
     /// How many bytes are fed at a time.
-    pub(crate) fn piece(&self) -> Result<usize, Fault>
+    pub(crate) fn piece(&self) -> Result<usize, CallFault>
         ensures { MatchResult result (λ piece. (piece ≡ self.now.piece) × IsPiece piece) (Unmet self.now) }
     {
         if 0 < self.piece && self.piece <= MOST_PIECE {
             Ok(self.piece as usize)
         } else {
-            Err(Fault::BadNumber)
+            Err(CallFault::BadNumber)
         }
     }
 
     /// The name of the element in which the input stands, if it is a fragment.
-    pub(crate) fn context(&self) -> Result<Option<&'a str>, Fault>
+    pub(crate) fn context(&self) -> Result<Option<&'a str>, CallFault>
         ensures { MatchResult result (λ name. name_of name ≡ context_told self.now.context.now) (Unmet self.now) }
     {
         if self.context.is_empty() {
@@ -95,12 +95,12 @@ impl<'a> Given<'a> {
         }
         match str::from_utf8(self.context) {
             Ok(name) => Ok(Some(name)),
-            Err(_) => Err(Fault::NotText),
+            Err(_) => Err(CallFault::NotText),
         }
     }
 
     /// The table of character references.
-    fn table(&self, alloc: Global) -> Result<Table, Fault>
+    fn table(&self, alloc: Global) -> Result<Table, CallFault>
         ensures { MatchResult result (λ table. table_told self.now.entities.now ≡ Ok table) (Unmet self.now) }
     {
         if self.entities.is_empty() {
@@ -108,27 +108,27 @@ impl<'a> Given<'a> {
         }
         match str::from_utf8(self.entities) {
             Ok(text) => Ok(Table::read(alloc, text)?),
-            Err(_) => Err(Fault::NotText),
+            Err(_) => Err(CallFault::NotText),
         }
     }
 
     /// The quirks list.
-    fn quirks(&self, alloc: Global) -> Result<Quirks, Fault>
+    fn quirks(&self, alloc: Global) -> Result<Quirks, CallFault>
         ensures { MatchResult result (λ quirks. ReadsQuirks self.now.quirks.now (Ok quirks)) (Unmet self.now) }
     {
         match str::from_utf8(self.quirks) {
             Ok(text) => Ok(Quirks::read(alloc, text)?),
-            Err(_) => Err(Fault::NotText),
+            Err(_) => Err(CallFault::NotText),
         }
     }
 
     /// The command that is told, with the task of this number.
-    pub(crate) fn command(&self, number: u32) -> Result<Command<'a>, Fault>
+    pub(crate) fn command(&self, number: u32) -> Result<Command<'a>, CallFault>
         ensures says { MatchResult result (IsCommand number self.now) (NoCommand number self.now) }
         ensures piece { IfOk result (λ command. 0 < command.piece) }
     {
         let Some(task) = task_of(number) else {
-            return Err(Fault::BadNumber);
+            return Err(CallFault::BadNumber);
         };
         Ok(Command {
             task,
@@ -139,7 +139,7 @@ impl<'a> Given<'a> {
     }
 
     /// The lists that are told.
-    pub(crate) fn lists(&self, alloc: Global) -> Result<Lists, Fault>
+    pub(crate) fn lists(&self, alloc: Global) -> Result<Lists, CallFault>
         ensures { MatchResult result (HasLists self.now) (Unmet self.now) }
     {
         let table = self.table(alloc)?;
@@ -148,17 +148,17 @@ impl<'a> Given<'a> {
     }
 
     /// What becomes of bytes that are not UTF-8.
-    pub(crate) fn bad_bytes(&self) -> Result<BadBytes, Fault>
+    pub(crate) fn bad_bytes(&self) -> Result<BadBytes, CallFault>
         ensures { MatchResult result (λ bad. bad_told self.now.bad_bytes ≡ Some bad) (Unmet self.now) }
     {
         match bad_bytes_of(self.bad_bytes) {
             Some(bad_bytes) => Ok(bad_bytes),
-            None => Err(Fault::BadNumber),
+            None => Err(CallFault::BadNumber),
         }
     }
 
     /// How large a tree may become.
-    pub(crate) fn limits(&self) -> Result<Limits, Fault>
+    pub(crate) fn limits(&self) -> Result<Limits, CallFault>
         ensures { MatchResult result (HasLimits self.now) (Unmet self.now) }
     {
         Ok(Limits::new(MAX_INPUT, self.nodes, self.open)?)
@@ -179,7 +179,7 @@ impl<'a> Given<'a> {
         requires lists { HasLists self.now lists.now }
         requires bad_bytes { bad_told self.now.bad_bytes ≡ Some bad_bytes }
         requires limits { HasLimits self.now limits }
-        ensures { Tells self.now (told_by result) }
+        ensures { Tells self.now (options_of result) }
     {
         Options {
             table: &lists.table,

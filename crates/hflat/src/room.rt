@@ -4,13 +4,13 @@ ghost use Rattle.std.specs.Prelude.{◌≡◌, ◌≤◌, ◌&&◌, true, length
 ghost use Rattle.hflat.specs.Room.{fault_answer, put_over, room_answer};
 
 use crate::answer::{Answer, NodeRow};
-use crate::fault::Fault;
+use crate::fault::CallFault;
 
 /// The status where something does not fit.
 const TOO_SHORT: u32 = 13;
 
 /// The answer where nothing is written.
-pub(crate) fn fault_answer(fault: Fault) -> Answer
+pub(crate) fn fault_answer(fault: CallFault) -> Answer
     ensures { result ≡ fault_answer fault }
 {
     Answer {
@@ -22,7 +22,7 @@ pub(crate) fn fault_answer(fault: Fault) -> Answer
     }
 }
 
-/// The answer to so many bytes and nodes, which fit or do not.
+/// The answer to this many bytes and nodes, which fit or do not.
 fn room_answer(fits: bool, length: usize, nodes: usize) -> Answer
     ensures { result ≡ room_answer fits length nodes }
 {

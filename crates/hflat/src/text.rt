@@ -1,7 +1,7 @@
 //! The text of a task.
 
 ghost use Rattle.std.specs.Prelude.{◌≡◌, ◌<◌, ◌≤◌, ℕ, MatchResult, Ok, Err};
-ghost use Rattle.hparse.specs.Parsing.{told_by};
+ghost use Rattle.hparse.specs.Parsing.{options_of};
 ghost use Rattle.hwrite.specs.Command.{name_of};
 ghost use Rattle.hwrite.specs.Prints.{context_of, prints_of};
 ghost use Rattle.hflat.specs.Exports.{ComesToNone, GivesNone, GivesText};
@@ -9,7 +9,7 @@ ghost use Rattle.hflat.specs.Faults.{kept};
 ghost use Rattle.hflat.specs.Given.{HasLists, IsCommand};
 
 use crate::answer::Given;
-use crate::fault::Fault;
+use crate::fault::CallFault;
 use crate::given::Lists;
 use crate::input::Input;
 use hparse::Options;
@@ -23,7 +23,7 @@ pub(crate) fn text_of(
     number: u32,
     input: &[u8],
     given: &Given,
-) -> Result<Vec<u8>, Fault>
+) -> Result<Vec<u8>, CallFault>
     ensures { MatchResult result (λ text. GivesText number input.now given.now text.items) (GivesNone number input.now given.now) }
 {
     let command = given.command(number)?;
@@ -40,7 +40,7 @@ fn text_with(
     input: &[u8],
     given: &Given,
     lists: &Lists,
-) -> Result<Vec<u8>, Fault>
+) -> Result<Vec<u8>, CallFault>
     requires lists { HasLists given.now lists.now }
     requires piece { 0 < command.piece }
     ensures { (number : ℕ) → IsCommand number given.now command.entry
@@ -61,8 +61,8 @@ fn text_in(
 ) -> Result<Vec<u8>, Refusal>
     requires piece { 0 < command.piece }
     ensures { MatchResult result
-        (λ text. prints_of command.entry.escaping command.entry.task (name_of command.entry.context) (told_by options.now) (input.now) (Ok text.items))
-        (ComesToNone (prints_of command.entry.escaping command.entry.task (name_of command.entry.context) (told_by options.now))
+        (λ text. prints_of command.entry.escaping command.entry.task (name_of command.entry.context) (options_of options.now) (input.now) (Ok text.items))
+        (ComesToNone (prints_of command.entry.escaping command.entry.task (name_of command.entry.context) (options_of options.now))
         (context_of command.entry.task (name_of command.entry.context)) (input.now)) }
 {
     let mut source = Input::new(input);

@@ -1,14 +1,14 @@
 //! The rows of a tree.
 
 ghost use Rattle.std.specs.Prelude.{◌≡◌, ◌<◌, ◌≤◌, MatchResult};
-ghost use Rattle.hparse.specs.Parsing.{told_by};
+ghost use Rattle.hparse.specs.Parsing.{options_of};
 ghost use Rattle.hwrite.specs.Command.{name_of};
 ghost use Rattle.hflat.specs.Exports.{GivesNoRows, GivesRows};
 ghost use Rattle.hflat.specs.Given.{HasLists, context_told};
 ghost use Rattle.hflat.specs.Trees.{ComesToParse, ComesToRows};
 
 use crate::answer::Given;
-use crate::fault::Fault;
+use crate::fault::CallFault;
 use crate::given::Lists;
 use crate::input::Input;
 use crate::rows::{Rows, rows_inside};
@@ -18,7 +18,7 @@ use names::Refusal;
 use std::alloc::Global;
 
 /// The rows and the words of the tree of an input.
-pub(crate) fn rows_of(alloc: Global, input: &[u8], given: &Given) -> Result<Rows, Fault>
+pub(crate) fn rows_of(alloc: Global, input: &[u8], given: &Given) -> Result<Rows, CallFault>
     ensures { MatchResult result (λ rows. GivesRows input.now given.now rows.nodes.items rows.words.items) (GivesNoRows input.now given.now) }
 {
     let context = given.context()?;
@@ -37,7 +37,7 @@ fn rows_with(
     input: &[u8],
     given: &Given,
     lists: &Lists,
-) -> Result<Rows, Fault>
+) -> Result<Rows, CallFault>
     requires context { name_of context ≡ context_told given.now.context.now }
     requires piece { 0 < piece }
     requires lists { HasLists given.now lists.now }
@@ -58,7 +58,7 @@ fn rows_in(
     options: &Options,
 ) -> Result<Rows, Refusal>
     requires piece { 0 < piece }
-    ensures { ComesToRows (told_by options.now) (name_of context.entry) (input.now) result }
+    ensures { ComesToRows (options_of options.now) (name_of context.entry) (input.now) result }
 {
     let parsed = parsed(alloc, context, piece, input, options)?;
     let rows = rows_inside(alloc, &parsed.tree, &parsed.names, parsed.root);
@@ -75,7 +75,7 @@ fn parsed(
     options: &Options,
 ) -> Result<Parsed, Refusal>
     requires piece { 0 < piece }
-    ensures { ComesToParse (told_by options.now) (name_of context.entry) (input.now) result }
+    ensures { ComesToParse (options_of options.now) (name_of context.entry) (input.now) result }
 {
     let parser = parser(alloc, context, options)?;
     let mut source = Input::new(input);

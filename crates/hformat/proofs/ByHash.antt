@@ -11,7 +11,7 @@ use Rattle.hformat.specs.Formatting.{EntryOf, Item, marker, entry, as_entry, aft
 use Rattle.hformat.specs.Listed.{number_by}
 use Rattle.hformat.proofs.Earliest.{farthest}
 use Rattle.hformat.specs.Items.{item_of, items_of}
-use Rattle.hformat.specs.declared.entry.Item.{Item as Stored}
+use Rattle.hformat.specs.declared.entry.Slot.{Slot as Stored}
 use Rattle.hformat.proofs.ItemLists.{length-items_of}
 use Rattle.hopen.proofs.Nearest.{drop_nearest}
 use Rattle.hformat.proofs.Listed.{number as numbered, numbers-back, numbers-seen, place, place-le}

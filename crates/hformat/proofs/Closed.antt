@@ -10,8 +10,8 @@ use Rattle.hchain.specs.Chains.{none}
 use Rattle.hformat.specs.Formatting.{EntryOf}
 use Rattle.hformat.specs.Items.{IsStored, entry_is, is_gone, item_of, nowhere}
 use Rattle.hformat.specs.Listed.{IsListed, by_hash, by_name, by_node, number_by, numbers_by, unless_hole}
-use Rattle.hformat.specs.declared.entry.Item.{Item as Stored}
-use Rattle.hformat.specs.declared.entry.Item.TheVariants as stored
+use Rattle.hformat.specs.declared.entry.Slot.{Slot as Stored}
+use Rattle.hformat.specs.declared.entry.Slot.TheVariants as stored
 use Rattle.hformat.specs.declared.slots.Slots.{Slots}
 use Rattle.hformat.proofs.Moved.{NoHoleFrom}
 

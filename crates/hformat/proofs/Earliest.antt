@@ -6,7 +6,7 @@ use Rattle.std.proofs.lemmas.Bool.{le-leb, lt-leb}
 use Rattle.hformat.specs.Formatting.{EntryOf, Item, marker, entry, after_marker, without_earliest, most_equal, is_equal, with_room}
 
 module _ {N : Type 0} (sought : EntryOf N → Bool) where
-  -- the farthest entry that is sought, where so many items come after the first of them; if none is, what was found before
+  -- the farthest entry that is sought, where this many items come after the first of them; if none is, what was found before
   abbrev pub farthest : ℕ → Option ℕ → List (EntryOf N) → Option ℕ
   farthest up found [] = found
   farthest up found (e ∷ es) = farthest (suc up) (if sought e then Some up else found) es
@@ -64,7 +64,7 @@ module _ {N : Type 0} (sought : EntryOf N → Bool) where
       go true true any rest = farther (farthest 1 (Some 0) (after_marker items)) (farthest-some 1 (Some 0) (after_marker items) any) rest
       go false w any rest = farther (farthest 1 None (after_marker items)) refl rest
 
--- the list without what gives way to a new entry, where so many are equal to it
+-- the list without what gives way to a new entry, where this many are equal to it
 module _ {N : Type 0} (same : N → N → Bool) (new : EntryOf N) (items : List (Item N)) (equal : ℕ) (count : equal ≡ length (filter (is_equal same new) (after_marker items))) where
   pub room-made : most_equal ≤ equal → option_map_or (remove items) (farthest (is_equal same new) 0 None (after_marker items)) items ≡ with_room same new items
   room-made many = rw (le-leb most_equal (length (filter (is_equal same new) (after_marker items))) (omega arith)) (removed (is_equal same new) items)

@@ -11,8 +11,8 @@ use Rattle.hformat.specs.Holes.{nth_live}
 use Rattle.hformat.specs.Items.{AreSlots, IsSlot, IsStored, hole, is_gone, is_hole, item_of, items_of, live, nowhere, told}
 use Rattle.hformat.specs.Listed.{by_node, number_by, unless_hole}
 use Rattle.hopen.specs.Nearest.{changed_at}
-use Rattle.hformat.specs.declared.entry.Item.{Item as Stored}
-use Rattle.hformat.specs.declared.entry.Item.TheVariants as stored
+use Rattle.hformat.specs.declared.entry.Slot.{Slot as Stored}
+use Rattle.hformat.specs.declared.entry.Slot.TheVariants as stored
 use Rattle.hformat.proofs.ByHash.{last-at, number-at}
 use Rattle.hformat.proofs.ItemLists.{along_last, items_of_more, length-items_of}
 use Rattle.hformat.proofs.Live.{AllSolid, nth-none, nth-real, nth-within}
@@ -227,7 +227,7 @@ solid-end items solid k all there h = solid-from k (items_of items) at
         let is : i + suc j ≡ length items = omega (arith, length-items_of items) in
         ap is_hole (get_nearest item_of items i j stored.Hole hole is) ∙ gone-is (get_or items i stored.Hole) (all i stored.Hole low) ∙ there i (omega arith) low stored.Hole
 
--- an index that was found for an item with so many after it
+-- an index that was found for an item with this many after it
 none-map : {X Y : Type 0} (f : X → Y) (o : Option X) → option_map f o ≡ None → o ≡ None
 none-map f None is = refl
 none-map f (Some x) is = cc

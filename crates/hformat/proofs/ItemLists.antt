@@ -1,7 +1,7 @@
 -- What a vector of items says, from its last item on.
 use Rattle.std.proofs.Common.{◌≡◌, ℕ, suc, ◌+◌, ltb, get_or, false, Option, Some, None, is_some, IsTrue, List, [], ◌∷◌, ◌++◌, map, reverse, length, ap, sym, ◌∙◌, subst}
 use Rattle.std.proofs.lemmas.List.{reverse-append, reverse-reverse, length-reverse, length-map}
-use Rattle.hformat.specs.declared.entry.Item.{Item as Stored}
+use Rattle.hformat.specs.declared.entry.Slot.{Slot as Stored}
 use Rattle.std.specs.List.{list_any, position, position_or_len, find, slice_get}
 use Rattle.std.proofs.lemmas.List.Folds.{find_at}
 use Rattle.std.proofs.lemmas.Option.{cond_some}
@@ -34,7 +34,7 @@ not_missing node items there none =
     let never : is_some (position (is_entry node) (items_of items)) ≡ false = ap is_some none in
     cc
 
--- and is the item that so many come after
+-- and is the item that this many come after
 pub found_at : (node : ℕ) (items : List Stored) (back i : ℕ) (x : Stored) → position (is_entry node) (items_of items) ≡ Some back → i + suc back ≡ length items → x ≡ get_or items i x
     → ◌≡◌ {A = Option (Item ℕ)} (Some (item_of x)) (find (is_entry node) (items_of items))
 found_at node items back i x found at is =

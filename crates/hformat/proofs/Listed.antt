@@ -10,7 +10,7 @@ use Rattle.hopen.specs.Nearest.{without}
 use Rattle.hformat.specs.Formatting.{EntryOf, Item, marker, entry, as_entry, cleared, find_entry}
 use Rattle.hformat.specs.Items.{item_of, items_of, nowhere}
 use Rattle.hformat.specs.Listed.{by_name, number_by, unless_hole}
-use Rattle.hformat.specs.declared.entry.Item.{Item as Stored}
+use Rattle.hformat.specs.declared.entry.Slot.{Slot as Stored}
 use Rattle.hopen.proofs.Nearest.{reverse-map, drop_nearest}
 use Rattle.hformat.proofs.Chained.{last_of}
 use Rattle.hformat.proofs.ItemLists.{length-items_of}

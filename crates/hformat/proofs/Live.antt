@@ -170,7 +170,7 @@ nth-solid (suc k) n [] s below within = absurd (omega arith)
 nth-solid (suc k) zero (x ∷ xs) s below within = rw s.0 refl
 nth-solid (suc k) (suc n) (x ∷ xs) s below within = rw s.0 (ap (option_map suc) (nth-solid k n xs s.1 (omega arith) (omega arith)))
 
--- a walk past so many items, of which some are no holes
+-- a walk past this many items, of which some are no holes
 walked : (up : ℕ) (o : Option ℕ) → option_map suc (option_map (λ k. up + k) o) ≡ option_map (λ k. suc up + k) o
 walked up None = refl
 walked up (Some k) = let more : suc (up + k) ≡ suc up + k = omega arith in ap (λ m. Some m) more

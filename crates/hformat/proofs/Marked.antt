@@ -8,8 +8,8 @@ use Rattle.hformat.specs.Items.{AreSlots, IsStored, item_of, items_of, live, now
 use Rattle.hformat.specs.Listed.{by_node}
 use Rattle.hopen.specs.Nearest.{put_before, without}
 use Rattle.hformat.specs.declared.bookmark.Bookmark.TheVariants.{After}
-use Rattle.hformat.specs.declared.entry.Item.{Item as Stored}
-use Rattle.hformat.specs.declared.entry.Item.TheVariants as stored
+use Rattle.hformat.specs.declared.entry.Slot.{Slot as Stored}
+use Rattle.hformat.specs.declared.entry.Slot.TheVariants as stored
 use Rattle.hformat.proofs.Holes.{node-at, node-some, node_place, place-told, slots-are}
 use Rattle.hformat.proofs.ItemLists.{found_at, length-items_of}
 use Rattle.hformat.proofs.Listed.{place-le}

@@ -14,8 +14,8 @@ use Rattle.std.specs.declared.hash.DefaultHasher.{DefaultHasher}
 use Rattle.hformat.specs.Listed.{IsListed, by_hash, by_name, by_node, number_by, numbers_by}
 use Rattle.hopen.specs.Nearest.{changed_at, put_before}
 use Rattle.hopen.specs.Places.{last_place}
-use Rattle.hformat.specs.declared.entry.Item.{Item as Stored}
-use Rattle.hformat.specs.declared.entry.Item.TheVariants as stored
+use Rattle.hformat.specs.declared.entry.Slot.{Slot as Stored}
+use Rattle.hformat.specs.declared.entry.Slot.TheVariants as stored
 use Rattle.hformat.specs.declared.slots.Slots.{Slots}
 use Rattle.hformat.proofs.Chained.{last-is}
 use Rattle.hformat.proofs.ItemLists.{not_missing}

@@ -18,8 +18,8 @@ use Rattle.hformat.specs.Hashes.{entry_hash, distinct, hash_of, put_in, total}
 use Rattle.hformat.specs.Formatting.{EntryOf, are_among, as_entry, is_equal, same_attribute, same_attributes}
 use Rattle.hformat.specs.Items.{item_of, nowhere, told}
 use Rattle.hformat.specs.Listed.{by_hash}
-use Rattle.hformat.specs.declared.entry.Item.{Item as Stored}
-use Rattle.hformat.specs.declared.entry.Item.TheVariants as stored
+use Rattle.hformat.specs.declared.entry.Slot.{Slot as Stored}
+use Rattle.hformat.specs.declared.entry.Slot.TheVariants as stored
 
 -- numbers that ascend, with one more
 abbrev AllAbove : ℕ → List ℕ → Type 0

@@ -8,12 +8,12 @@ use Rattle.hchain.specs.Chains.{none}
 use Rattle.hformat.specs.Formatting.{EntryOf}
 use Rattle.hformat.specs.Items.{IsStored, is_gone, item_of}
 use Rattle.hformat.specs.Listed.{IsListed, by_hash, by_name, by_node, number_by, numbers_by, unless_hole}
-use Rattle.hformat.specs.declared.entry.Item.{Item as Stored}
-use Rattle.hformat.specs.declared.entry.Item.TheVariants as stored
+use Rattle.hformat.specs.declared.entry.Slot.{Slot as Stored}
+use Rattle.hformat.specs.declared.entry.Slot.TheVariants as stored
 use Rattle.hformat.specs.declared.slots.Slots.{Slots}
 
 module _ (old new : Slots) (listed : IsListed old) (n : ℕ) where
-  -- so many items are left
+  -- this many items are left
   pub listed-take : new.keys ≡ old.keys → n ≤ length old.items.items → new.items.items ≡ take n old.items.items
       → new.names ≡ take n old.names → new.hashes ≡ take n old.hashes → new.nodes ≡ take n old.nodes → new.solid ≡ min old.solid n → IsListed new
   listed-take keys h items names hashes nodes least =

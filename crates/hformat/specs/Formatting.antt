@@ -25,7 +25,7 @@ module _ {N : Type 0} where
   entries (marker ∷ items) = entries items
   entries (entry e ∷ items) = e ∷ entries items
 
-  -- an item where it is an entry, and the entry that has so many items after it
+  -- an item where it is an entry, and the entry that has this many items after it
   abbrev pub as_entry : Item N → Option (EntryOf N)
   as_entry marker = None
   as_entry (entry e) = Some e

@@ -3,7 +3,7 @@ use Rattle.std.specs.Prelude.{ℕ, zero, suc, List, [], ◌∷◌, Option, Some,
 use Rattle.hformat.specs.Formatting.{Item}
 use Rattle.hformat.specs.Items.{is_hole}
 
--- the index of the item that so many come after
+-- the index of the item that this many come after
 abbrev pub nth_live : ℕ → List (Item ℕ) → Option ℕ
 nth_live n [] = None
 nth_live zero (x ∷ xs) = if is_hole x then option_map suc (nth_live zero xs) else Some 0

@@ -3,8 +3,8 @@ use Rattle.std.specs.Prelude.{◌≡◌, ℕ, ◌<◌, ◌⊎◌, ◌==◌, Bool
 use Rattle.hnodes.specs.Rows.{attribute_of}
 use Rattle.hformat.specs.Formatting.{EntryOf, Item, marker, entry}
 use Rattle.hformat.specs.declared.entry.Entry.{Entry}
-use Rattle.hformat.specs.declared.entry.Item.{Item as Stored}
-use Rattle.hformat.specs.declared.entry.Item.TheVariants as stored
+use Rattle.hformat.specs.declared.entry.Slot.{Slot as Stored}
+use Rattle.hformat.specs.declared.entry.Slot.TheVariants as stored
 
 abbrev pub entry_is : Entry → EntryOf ℕ
 entry_is e = record { node = e.node; name = e.name; attrs = map attribute_of e.attrs.items }

@@ -5,7 +5,7 @@ use Rattle.std.specs.declared.hash.DefaultHasher.{DefaultHasher}
 use Rattle.hformat.specs.Hashes.{entry_hash}
 use Rattle.hformat.specs.Formatting.{EntryOf, Item, marker, entry}
 use Rattle.hformat.specs.Items.{IsStored, is_gone, item_of, nowhere}
-use Rattle.hformat.specs.declared.entry.Item.{Item as Stored}
+use Rattle.hformat.specs.declared.entry.Slot.{Slot as Stored}
 use Rattle.hformat.specs.declared.slots.Slots.{Slots}
 
 -- the number of an item by one of its entry: markers have the first, and holes the next

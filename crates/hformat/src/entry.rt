@@ -21,20 +21,20 @@ pub struct Entry {
 
 /// A marker or an entry, or the hole that an entry left.
 #[derive(Drop)]
-pub(crate) enum Item {
+pub(crate) enum Slot {
     Hole,
     Marker,
     Entry(Entry),
 }
 
-impl Item {
+impl Slot {
     /// The entry, if it is one.
     pub(crate) fn entry(&self) -> Option<&Entry>
         ensures { option_map (λ e. entry_is e.now) result ≡ told self.now }
     {
         match self {
-            Item::Hole | Item::Marker => None,
-            Item::Entry(entry) => Some(entry),
+            Slot::Hole | Slot::Marker => None,
+            Slot::Entry(entry) => Some(entry),
         }
     }
 
@@ -43,8 +43,8 @@ impl Item {
         ensures { result ≡ is_gone self.now }
     {
         match self {
-            Item::Hole => true,
-            Item::Marker | Item::Entry(_) => false,
+            Slot::Hole => true,
+            Slot::Marker | Slot::Entry(_) => false,
         }
     }
 
@@ -60,8 +60,8 @@ impl Item {
             ≡ option_map_or (is_equal nat_eq (record { node = 0; name = name; attrs = map attribute_of attrs.now })) (told self.now) false) }
     {
         match self {
-            Item::Hole | Item::Marker => Ok(false),
-            Item::Entry(entry) => Ok(name == entry.name && are_same(alloc, attrs, &entry.attrs)?),
+            Slot::Hole | Slot::Marker => Ok(false),
+            Slot::Entry(entry) => Ok(name == entry.name && are_same(alloc, attrs, &entry.attrs)?),
         }
     }
 
@@ -69,7 +69,7 @@ impl Item {
     pub(crate) fn set_node(&mut self, node: NodeId)
         ensures { self.new ≡ renamed node self.old }
     {
-        if let Item::Entry(entry) = self {
+        if let Slot::Entry(entry) = self {
             entry.node = node;
         }
     }

@@ -12,7 +12,7 @@ ghost use Rattle.hformat.specs.Holes.{nth_live};
 
 use crate::attributes::copy_attrs;
 use crate::bookmark::Bookmark;
-use crate::entry::{Entry, Item};
+use crate::entry::{Entry, Slot};
 use crate::hashes::find_hash;
 use crate::slots::{MARKER, Numbers, Slots, node_number};
 use hnodes::{NodeId, name_number};
@@ -50,7 +50,7 @@ impl Model for Formatting {
 }
 
 /// The index of the item with `back` items after it, holes not counted, among the first items.
-fn walk(items: &[Item], end: usize, back: usize) -> Option<usize>
+fn walk(items: &[Slot], end: usize, back: usize) -> Option<usize>
     requires within { end ≤ length items.now }
     requires stored { All IsStored items.now }
     ensures { result ≡ option_map (λ up. end - 1 - up) (nth_live back (items_of (take end items.now))) }
@@ -140,7 +140,7 @@ impl Formatting {
             node: node_number(node),
         };
         self.slots
-            .put(Item::Entry(Entry { node, name, attrs }), numbers)?;
+            .put(Slot::Entry(Entry { node, name, attrs }), numbers)?;
         if let Some(back) = earliest {
             let index = self.slots.items.len() - 2 - back;
             self.slots.hide(index);
@@ -159,7 +159,7 @@ impl Formatting {
             hash: MARKER,
             node: MARKER,
         };
-        self.slots.put(Item::Marker, numbers)?;
+        self.slots.put(Slot::Marker, numbers)?;
         Ok(())
     }
 

@@ -10,9 +10,9 @@ ghost use Rattle.hformat.specs.Formatting.{for_node, is_entry, with_room};
 ghost use Rattle.hformat.specs.Items.{IsStored, is_gone, item_of, items_of, live, told, renamed};
 ghost use Rattle.hformat.specs.Listed.{IsListed, by_hash, by_name, by_node, number_by, numbers_by};
 ghost use Rattle.hopen.specs.Nearest.{changed_at, put_before};
-ghost use Rattle.hformat.specs.declared.entry.Item.TheVariants as stored;
+ghost use Rattle.hformat.specs.declared.entry.Slot.TheVariants as stored;
 
-use crate::entry::Item;
+use crate::entry::Slot;
 use crate::hashes::find_hash;
 use hchain::Chains;
 use hnodes::{NodeId, name_number};
@@ -46,7 +46,7 @@ pub(crate) struct Numbers {
 /// Items, and where each of their numbers stands last.
 #[derive(Drop)]
 pub(crate) struct Slots {
-    pub(crate) items: Vec<Item>,
+    pub(crate) items: Vec<Slot>,
     pub(crate) names: Chains,
     pub(crate) hashes: Chains,
     pub(crate) nodes: Chains,
@@ -56,7 +56,7 @@ pub(crate) struct Slots {
     pub(crate) solid: usize,
 }
 
-/// Adds the numbers of the hash and of the node of an item that comes after so many. On an error nothing changes.
+/// Adds the numbers of the hash and of the node of an item that comes after this many. On an error nothing changes.
 fn push_numbers(
     hashes: &mut Chains,
     nodes: &mut Chains,
@@ -105,7 +105,7 @@ impl Slots {
                 return false;
             }
             match self.items.get(place - 1) {
-                Some(Item::Entry(entry)) if entry.attrs.len() <= FEW => {}
+                Some(Slot::Entry(entry)) if entry.attrs.len() <= FEW => {}
                 _ => return true,
             }
             place = self.names.before(place);
@@ -161,7 +161,7 @@ impl Slots {
     }
 
     /// Adds an item at the end. On an error no item changes.
-    pub(crate) fn put(&mut self, item: Item, numbers: Numbers) -> Result<(), AllocError>
+    pub(crate) fn put(&mut self, item: Slot, numbers: Numbers) -> Result<(), AllocError>
         requires listed { IsListed self.old }
         requires stored { IsStored item }
         requires there { is_gone item ≡ false }
@@ -185,7 +185,7 @@ impl Slots {
         Ok(())
     }
 
-    /// Leaves so many items.
+    /// Keeps the first `len` items.
     pub(crate) fn truncate(&mut self, len: usize)
         requires listed { IsListed self.old }
         requires within { len ≤ length self.old.items.items }
@@ -209,7 +209,7 @@ impl Slots {
         self.names.clear(index);
         self.hashes.clear(index);
         self.nodes.clear(index);
-        self.items[index] = Item::Hole;
+        self.items[index] = Slot::Hole;
         self.solid = self.solid.max(index + 1);
     }
 
@@ -319,18 +319,18 @@ impl Slots {
 }
 
 /// The numbers of the hashes of items.
-fn hash_items(alloc: Global, keys: Option<Keys>, items: &[Item]) -> Result<Chains, AllocError>
+fn hash_items(alloc: Global, keys: Option<Keys>, items: &[Slot]) -> Result<Chains, AllocError>
     requires { All IsStored items.now }
     ensures { IfOk result (λ hashes. hashes ≡ numbers_by (by_hash keys) items.now) }
 {
     let mut hashes = Chains::new(alloc);
     for index in 0..items.len() {
         match &items[index] {
-            Item::Entry(entry) => {
+            Slot::Entry(entry) => {
                 hashes.push(find_hash(alloc, keys, entry.name, &entry.attrs)?)?;
             }
-            Item::Marker => hashes.push(MARKER)?,
-            Item::Hole => {
+            Slot::Marker => hashes.push(MARKER)?,
+            Slot::Hole => {
                 hashes.push(MARKER)?;
                 hashes.clear(index);
             }
@@ -340,7 +340,7 @@ fn hash_items(alloc: Global, keys: Option<Keys>, items: &[Item]) -> Result<Chain
 }
 
 /// Takes the holes from an index on out.
-fn take_holes(items: &mut Vec<Item>, from: usize)
+fn take_holes(items: &mut Vec<Slot>, from: usize)
     requires { from ≤ length items.old.items }
     ensures { items.new.items ≡ take from items.old.items ++ filter (λ i. not (is_gone i)) (drop from items.old.items) }
 {

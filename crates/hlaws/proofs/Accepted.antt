@@ -19,7 +19,7 @@ use Rattle.hmodes.specs.Beginning.{fragment_begins}
 use Rattle.hmodes.specs.State.{State}
 use Rattle.hmodes.specs.Step.{Steps}
 use Rattle.hparse.specs.Input.{reads_in, text_in}
-use Rattle.hparse.specs.Parse.{Told, fragment, manner, policy, Parse, Parses, accepted}
+use Rattle.hparse.specs.Parse.{ParseOptions, fragment, manner, policy, Parse, Parses, accepted}
 use Rattle.hparse.specs.Taken.{placed}
 use Rattle.hlaws.specs.ComesBack.{text_of}
 use Rattle.hlaws.proofs.OneInput.{all-read}
@@ -36,20 +36,20 @@ accepted-bytes how bytes utf8 within = by how.bad
 front-is : (how : Policy) (bytes : List ℕ) → refusal_of how bytes ≡ None → take (read_len how bytes) bytes ≡ bytes
 front-is how bytes e = ap (λ (n : ℕ). take n bytes) (all-read how bytes e) ∙ take-length bytes
 
-pub record IsAccepted (told : Told) (context bytes : List ℕ) (state : State (List ℕ)) : Type 0 where
+pub record IsAccepted (opts : ParseOptions) (context bytes : List ℕ) (state : State (List ℕ)) : Type 0 where
   pub parse : Parse
-  pub parses : Parses told (fragment context) bytes (Ok parse)
+  pub parses : Parses opts (fragment context) bytes (Ok parse)
   pub trees : parse.trees ≡ state.site.nodes.trees
 
-pub accepts : (told : Told) (context bytes : List ℕ) (toks : List Tok) (errors : List ParseError) (state : State (List ℕ)) → IsUtf8 bytes → length bytes ≤ told.input
-    → Tokens told.table (raw_kind (tag_named context)) (text_of bytes) (length bytes) toks errors → Steps texts (map placed toks) (fragment_begins texts context told.limits) (Goes state)
-    → IsAccepted told context bytes state
-accepts told context bytes toks errors state utf8 within read steps =
-    let how = policy told (fragment context) in
+pub accepts : (opts : ParseOptions) (context bytes : List ℕ) (toks : List Tok) (errors : List ParseError) (state : State (List ℕ)) → IsUtf8 bytes → length bytes ≤ opts.input
+    → Tokens opts.table (raw_kind (tag_named context)) (text_of bytes) (length bytes) toks errors → Steps texts (map placed toks) (fragment_begins texts context opts.limits) (Goes state)
+    → IsAccepted opts context bytes state
+accepts opts context bytes toks errors state utf8 within read steps =
+    let how = policy opts (fragment context) in
     let none : refusal_of how bytes ≡ None = accepted-bytes how bytes utf8 within in
-    let all = input_errors (reads_in (manner told (fragment context)) bytes) ++ (errors ++ state.site.errors) in
-    let same : text_of bytes ≡ text_in (manner told (fragment context)) bytes = ap text_of (sym (front-is how bytes none)) in
-    let taken = subst (λ (t : List Placed). Tokens told.table (raw_kind (tag_named context)) t (length bytes) toks errors) same read in
+    let all = input_errors (reads_in (manner opts (fragment context)) bytes) ++ (errors ++ state.site.errors) in
+    let same : text_of bytes ≡ text_in (manner opts (fragment context)) bytes = ap text_of (sym (front-is how bytes none)) in
+    let taken = subst (λ (t : List Placed). Tokens opts.table (raw_kind (tag_named context)) t (length bytes) toks errors) same read in
     record {
       parse = record { trees = state.site.nodes.trees; errors = in_order all };
       parses = accepted errors (in_order all) state (record { tokens = toks; read = taken; steps = steps }) (order-permutes all) (order-sorted all) none;

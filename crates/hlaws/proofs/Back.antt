@@ -17,7 +17,7 @@ use Rattle.hmodes.specs.Erased.{erased, node}
 use Rattle.hmodes.specs.Reset.{context_mode}
 use Rattle.hmodes.specs.Rules.{rule_of}
 use Rattle.hmodes.specs.Perform.{perform}
-use Rattle.hmodes.specs.declared.kind.Kind.TheVariants.{Eof}
+use Rattle.hmodes.specs.declared.token_kind.TokenKind.TheVariants.{Eof}
 use Rattle.hmodes.specs.State.{PlacedToken, State, eof, Done}
 use Rattle.hmodes.specs.Step.{Rule, begun, Chain, ends, Step, goes, Steps, and}
 use Rattle.hmodes.specs.Step as step
@@ -27,7 +27,7 @@ use Rattle.hplain.specs.declared.content.Texts.TheVariants as allowed
 use Rattle.hserialize.specs.declared.escaping.Escaping.{Escaping}
 use Rattle.hlaws.specs.Building.{IsQuiet, Builds, fits_mode, fits_current, is_flow_mode, numbered}
 use Rattle.hlaws.specs.ComesBack.{AreTexts, AreRead, Fits, Gives, PlainTokens, PlainComesBack}
-use Rattle.hparse.specs.Parse.{Told, is_context}
+use Rattle.hparse.specs.Parse.{ParseOptions, is_context}
 use Rattle.hparse.specs.Taken.{placed, taken}
 use Rattle.hplain.specs.ContentTable.{row, texts_in}
 use Rattle.hplain.specs.Plain.{Inside, are_content, are_content_if, in_context_of, is_form}
@@ -85,10 +85,10 @@ flow_ends InCaption h = refl
 flow_ends InCell h = refl
 flow_ends _ h = absurd (false≢true h)
 
-module _ (told : Told) (escaping : Escaping) (context : List ℕ) (allowed_here : is_context context ≡ true) (l : Forest (List ℕ)) (utf8 : AreTexts l) (fits : Fits told (written escaping (Some context) l) l)
-    (read : AreRead told.table (raw_kind (tag_named context)) (written escaping (Some context) l) (tokens_of texts l ++ eof ∷ [])) where
+module _ (opts : ParseOptions) (escaping : Escaping) (context : List ℕ) (allowed_here : is_context context ≡ true) (l : Forest (List ℕ)) (utf8 : AreTexts l) (fits : Fits opts (written escaping (Some context) l) l)
+    (read : AreRead opts.table (raw_kind (tag_named context)) (written escaping (Some context) l) (tokens_of texts l ++ eof ∷ [])) where
   abbrev start_state : State (List ℕ)
-  start_state = fragment_begins texts context told.limits
+  start_state = fragment_begins texts context opts.limits
 
   abbrev mode : Mode
   mode = context_mode (tag_named context)
@@ -120,7 +120,7 @@ module _ (told : Told) (escaping : Escaping) (context : List ℕ) (allowed_here 
   at_end at acted opened m = ap (λ r. perform texts at eof r (begun acted)) (eof_rule acted.control.mode m) ∙ rw opened refl
 
   from_inside : (inside : Inside) → fits_mode inside.content mode ≡ true → fits_current inside.content inside.texts (tag_named (tag_text tag.Html)) ≡ true → (inside.texts ≡ texts_in inside.content) ⊎ (inside.texts ≡ allowed.None)
-      → inside.in_form ≡ is_form (tag_named context) → ends_body mode ≡ true → are_content inside l ≡ true → Gives told context (written escaping (Some context) l) l
+      → inside.in_form ≡ is_form (tag_named context) → ends_body mode ≡ true → are_content inside l ≡ true → Gives opts context (written escaping (Some context) l) l
   unfolding begins
   from_inside inside m cur t form ending plain =
       let q = begins inside m cur t form in
@@ -135,14 +135,14 @@ module _ (told : Told) (escaping : Escaping) (context : List ℕ) (allowed_here 
       let whole : Steps texts (p.front ++ record { token = eof; at = e.at } ∷ []) start_state (Goes (begun b.acted)) = after b.steps (and ending_step step.none) in
       let listed : map placed read.toks ≡ p.front ++ record { token = eof; at = e.at } ∷ [] = p.is ∙ ap (λ ts. p.front ++ ts) (e.is ∙ ap (λ ts. record { token = eof; at = e.at } ∷ ts) (ended e.others e.rest)) in
       let steps = subst (λ (ts : List (PlacedToken (List ℕ))). Steps texts ts start_state (Goes (begun b.acted))) (sym listed) whole in
-      let done = accepts told context (written escaping (Some context) l) read.toks read.errors (begun b.acted) read.utf8 fits.input read.read steps in
+      let done = accepts opts context (written escaping (Some context) l) read.toks read.errors (begun b.acted) read.utf8 fits.input read.read steps in
       let built = ap (λ f. erased (children_of 1 f)) b.built.trees_are ∙ ap erased (join-none (numbered 2 l)) ∙ erased-numbered 2 l in
       record { allowed = allowed_here; parse = done.parse; parses = done.parses; children = ap (λ f. erased (children_of 1 f)) done.trees ∙ built }
 
-  comes : (k : Content) → (row (tag_named context)).1 ≡ k → are_content_if (in_context_of k (is_form (tag_named context))) l ≡ true → Gives told context (written escaping (Some context) l) l
+  comes : (k : Content) → (row (tag_named context)).1 ≡ k → are_content_if (in_context_of k (is_form (tag_named context))) l ≡ true → Gives opts context (written escaping (Some context) l) l
   comes k e h = go k (ap (λ c. mode_ok c mode) (sym e) ∙ context_ok (tag_named context)) h
     where
-      go : (k : Content) → mode_ok k mode ≡ true → are_content_if (in_context_of k (is_form (tag_named context))) l ≡ true → Gives told context (written escaping (Some context) l) l
+      go : (k : Content) → mode_ok k mode ≡ true → are_content_if (in_context_of k (is_form (tag_named context))) l ≡ true → Gives opts context (written escaping (Some context) l) l
       go content.Flow m h = from_inside _ m refl (inl refl) refl (flow_ends mode m) h
       go content.Phrasing m h = from_inside _ m refl (inl refl) refl (flow_ends mode m) h
       go content.Around m h = from_inside _ m refl (inl refl) refl (flow_ends mode m) h
@@ -159,5 +159,5 @@ module _ (told : Told) (escaping : Escaping) (context : List ℕ) (allowed_here 
 
 -- the law of the whole from the law of tokens
 pub comes_back : PlainTokens → PlainComesBack
-comes_back tokens told escaping context l is_table core utf8 plain fits =
-    comes told escaping context (context_taken context l plain) l utf8 fits (tokens told.table escaping context l is_table core utf8 plain) (row (tag_named context)).1 refl plain
+comes_back tokens opts escaping context l is_table core utf8 plain fits =
+    comes opts escaping context (context_taken context l plain) l utf8 fits (tokens opts.table escaping context l is_table core utf8 plain) (row (tag_named context)).1 refl plain

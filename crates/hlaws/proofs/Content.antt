@@ -7,7 +7,7 @@ use Rattle.names.specs.declared.tag.Tag.TheVariants as tag
 use Rattle.names.specs.Sets.{is_heading, stops_scope}
 use Rattle.hmodes.specs.declared.mode.Mode.{Mode}
 use Rattle.hmodes.specs.declared.mode.Mode.TheVariants.{InBody, InCaption, InCell, InTable, InTableBody, InRow, InColumnGroup}
-use Rattle.hmodes.specs.declared.kind.Kind.TheVariants.{Comment}
+use Rattle.hmodes.specs.declared.token_kind.TokenKind.TheVariants.{Comment}
 use Rattle.hmodes.specs.Rules.{rule_of}
 use Rattle.hmodes.specs.Words.{insert_comment}
 use Rattle.hplain.specs.declared.content.Content.{Content}

@@ -12,9 +12,9 @@ use Rattle.htext.specs.Text.{Policy, decoded, read_len, refusal_of}
 use Rattle.charref.specs.Reference.{Entities}
 use Rattle.htoken.specs.Token.{Tok}
 use Rattle.htoken.specs.Tokens.{Tokens}
-use Rattle.hcut.specs.SomeCut.{HasAnswer, gives, refuses}
-use Rattle.hcut.proofs.OneCut.{one_list_of_tokens, no_tokens_of_refused, one_refusal}
-use Rattle.hcut.proofs.SomeCut.{some_answer}
+use Rattle.hlaws.specs.SomeCut.{HasAnswer, gives, refuses}
+use Rattle.hlaws.proofs.OneCut.{one_list_of_tokens, no_tokens_of_refused, one_refusal}
+use Rattle.hlaws.proofs.SomeCut.{some_answer}
 use Rattle.hparse.specs.Answer.{Answers, read_text, refused_text, refused_bytes, accepted}
 use Rattle.hlaws.specs.OneAnswer.{ExactlyOne, OneAnswer}
 use Rattle.hlaws.proofs.OneInput.{all-read, one-some, never-both, one-list}

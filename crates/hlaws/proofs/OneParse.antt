@@ -23,13 +23,13 @@ use Rattle.hmodes.specs.Step.{Step, Steps, none, and, refused}
 use Rattle.hmodes.proofs.Between.{texts-all, reached-orderly}
 use Rattle.hmodes.proofs.Ends.{some-step}
 use Rattle.hmodes.proofs.Single.{step-one}
-use Rattle.hcut.specs.SomeCut.{HasAnswer, gives, refuses}
-use Rattle.hcut.proofs.Fronts.{one_front, one_front_of_refused}
-use Rattle.hcut.proofs.OneCut.{one_list_of_tokens, no_tokens_of_refused, one_refusal}
-use Rattle.hcut.proofs.SomeCut.{some_answer}
+use Rattle.hlaws.specs.SomeCut.{HasAnswer, gives, refuses}
+use Rattle.hlaws.proofs.Fronts.{one_front, one_front_of_refused}
+use Rattle.hlaws.proofs.OneCut.{one_list_of_tokens, no_tokens_of_refused, one_refusal}
+use Rattle.hlaws.proofs.SomeCut.{some_answer}
 use Rattle.hparse.specs.Answer.{error_cmp}
 use Rattle.hparse.specs.Input.{reads_in, text_in}
-use Rattle.hparse.specs.Parse.{Told, Subject, document, fragment, Parse, Parses, manner, policy, start_of, begins, refused_token, refused_tag, refused_bytes, accepted}
+use Rattle.hparse.specs.Parse.{ParseOptions, ParseCase, document, fragment, Parse, Parses, manner, policy, start_of, begins, refused_token, refused_tag, refused_bytes, accepted}
 use Rattle.hparse.specs.Taken.{placed}
 use Rattle.hlaws.specs.OneAnswer.{ExactlyOne, OneParse}
 use Rattle.hlaws.proofs.OneInput.{all-read, one-some, never-both, one-list}
@@ -61,30 +61,30 @@ some-steps (t ∷ ts) s h = by (some-step texts texts-all.img t.at t.token s (re
     by (Goes u, first) rest = let others = rest u first in (others.0, and first others.1)
     by (Refused r, first) rest = (Refused r, refused first)
 
-reached-first : (told : Told) (subject : Subject) → Reached texts (begins told subject)
-reached-first told document = reached.document told.quirks told.limits
-reached-first told (fragment context) = reached.fragment context told.limits
+reached-first : (opts : ParseOptions) (parse_case : ParseCase) → Reached texts (begins opts parse_case)
+reached-first opts document = reached.document opts.quirks opts.limits
+reached-first opts (fragment context) = reached.fragment context opts.limits
 
 -- tokens and nothing else as what a sink was handed
 given : (ts : List Tok) → tokens_in (map Gives ts) ≡ ts
 given [] = refl
 given (t ∷ ts) = ap (λ (x : List Tok). t ∷ x) (given ts)
 
-module _ (told : Told) (subject : Subject) (bytes : List ℕ) where
+module _ (opts : ParseOptions) (parse_case : ParseCase) (bytes : List ℕ) where
   abbrev kind : RawKind
-  kind = start_kind (start_of subject)
+  kind = start_kind (start_of parse_case)
 
   abbrev text : List Placed
-  text = text_in (manner told subject) bytes
+  text = text_in (manner opts parse_case) bytes
 
   abbrev end : ℕ
-  end = read_len (policy told subject) bytes
+  end = read_len (policy opts parse_case) bytes
 
   abbrev Leads : List Tok → Outcome (State (List ℕ)) → Type 0
-  Leads tokens o = Steps texts (map placed tokens) (begins told subject) o
+  Leads tokens o = Steps texts (map placed tokens) (begins opts parse_case) o
 
   one-result : (tokens : List Tok) (o o' : Outcome (State (List ℕ))) → Leads tokens o → Leads tokens o' → o ≡ o'
-  one-result tokens o o' = steps-one (map placed tokens) (begins told subject) o o'
+  one-result tokens o o' = steps-one (map placed tokens) (begins opts parse_case) o o'
 
   never-both-ways : (tokens : List Tok) (r : Refusal) (state : State (List ℕ)) → Leads tokens (Refused r) → Leads tokens (Goes state) → ⊥
   never-both-ways tokens r state h k = let clash = one-result tokens (Refused r) (Goes state) h k in cc
@@ -92,30 +92,30 @@ module _ (told : Told) (subject : Subject) (bytes : List ℕ) where
   -- what a front of tokens is refused for they are refused for
   refused-whole : (tokens front others : List Tok) (r : Refusal) → tokens ≡ front ++ others → Leads front (Refused r) → Leads tokens (Refused r)
   refused-whole tokens front others r are h =
-      subst (λ (ts : List (PlacedToken (List ℕ))). Steps texts ts (begins told subject) (Refused r)) (sym (ap (map placed) are ∙ map-append placed front others))
-      (refused-more (map placed front) (map placed others) (begins told subject) r h)
+      subst (λ (ts : List (PlacedToken (List ℕ))). Steps texts ts (begins opts parse_case) (Refused r)) (sym (ap (map placed) are ∙ map-append placed front others))
+      (refused-more (map placed front) (map placed others) (begins opts parse_case) r h)
 
   led : (tokens tokens' : List Tok) (o : Outcome (State (List ℕ))) → tokens ≡ tokens' → Leads tokens o → Leads tokens' o
   led tokens tokens' o same h = subst (λ (ts : List Tok). Leads ts o) same h
 
-  at-end : {tokens : List Tok} {errors : List ParseError} → refusal_of (policy told subject) bytes ≡ None → Tokens told.table kind text (length bytes) tokens errors → Tokens told.table kind text end tokens errors
-  at-end {tokens} {errors} whole read = subst (λ (n : ℕ). Tokens told.table kind text n tokens errors) (sym (all-read (policy told subject) bytes whole)) read
+  at-end : {tokens : List Tok} {errors : List ParseError} → refusal_of (policy opts parse_case) bytes ≡ None → Tokens opts.table kind text (length bytes) tokens errors → Tokens opts.table kind text end tokens errors
+  at-end {tokens} {errors} whole read = subst (λ (n : ℕ). Tokens opts.table kind text n tokens errors) (sym (all-read (policy opts parse_case) bytes whole)) read
 
   -- the text is refused for a start tag
-  module _ (tokens : List Tok) (name : RefusedName) (at : ℕ) (out : IsRefused told.table kind text end tokens name at) where
+  module _ (tokens : List Tok) (name : RefusedName) (at : ℕ) (out : IsRefused opts.table kind text end tokens name at) where
     data OfRefused (x : Result Parse Refusal) : Type 0 where
       by_rules : (r : Refusal) → Leads tokens (Refused r) → x ≡ Err r → OfRefused x
       by_tag : (state : State (List ℕ)) → Leads tokens (Goes state) → x ≡ Err (OutOfProfile name at) → OfRefused x
 
-    of-refused : (x : Result Parse Refusal) → Parses told subject bytes x → OfRefused x
+    of-refused : (x : Result Parse Refusal) → Parses opts parse_case bytes x → OfRefused x
     of-refused x (refused_token r events front steps) =
-        let k = one_front_of_refused told.table kind text end at name tokens events out front in
+        let k = one_front_of_refused opts.table kind text end at name tokens events out front in
         by_rules r (refused-whole tokens (tokens_in events) k.0 r k.1 steps) refl
     of-refused x (refused_tag name' at' tokens' state out' steps) =
-        let same = one_refusal told.table kind text end at' at name' name tokens' tokens out' out in
+        let same = one_refusal opts.table kind text end at' at name' name tokens' tokens out' out in
         by_tag state (led tokens' tokens (Goes state) same.2 steps) (ap (λ (n : RefusedName). Err (OutOfProfile n at')) same.0 ∙ ap (λ (n : ℕ). Err (OutOfProfile name n)) same.1)
-    of-refused x (refused_bytes r errors state builds e) = absurd (no_tokens_of_refused told.table kind text end at name builds.tokens tokens errors builds.read out)
-    of-refused x (accepted errors sorted state builds p s whole) = absurd (no_tokens_of_refused told.table kind text end at name builds.tokens tokens errors (at-end whole builds.read) out)
+    of-refused x (refused_bytes r errors state builds e) = absurd (no_tokens_of_refused opts.table kind text end at name builds.tokens tokens errors builds.read out)
+    of-refused x (accepted errors sorted state builds p s whole) = absurd (no_tokens_of_refused opts.table kind text end at name builds.tokens tokens errors (at-end whole builds.read) out)
 
     one-of-refused : (x y : Result Parse Refusal) → OfRefused x → OfRefused y → x ≡ y
     one-of-refused x y (by_rules r h e) (by_rules r' k f) =
@@ -126,13 +126,13 @@ module _ (told : Told) (subject : Subject) (bytes : List ℕ) where
     one-of-refused x y (by_tag state h e) (by_rules r k f) = absurd (never-both-ways tokens r state k h)
     one-of-refused x y (by_tag state h e) (by_tag state' k f) = e ∙ sym f
 
-    only-refused : (x : Result Parse Refusal) → Parses told subject bytes x → ExactlyOne (Parses told subject bytes)
+    only-refused : (x : Result Parse Refusal) → Parses opts parse_case bytes x → ExactlyOne (Parses opts parse_case bytes)
     only-refused x h = record { one = x; is = h; other = λ y k. one-of-refused y x (of-refused y k) (of-refused x h) }
 
-    exactly-refused : (o : Outcome (State (List ℕ))) × Leads tokens o → ExactlyOne (Parses told subject bytes)
+    exactly-refused : (o : Outcome (State (List ℕ))) × Leads tokens o → ExactlyOne (Parses opts parse_case bytes)
     exactly-refused (Goes state, steps) = only-refused (Err (OutOfProfile name at)) (refused_tag name at tokens state out steps)
     exactly-refused (Refused r, steps) =
-        let front : AreFront told.table kind text end (map Gives tokens) = record {
+        let front : AreFront opts.table kind text end (map Gives tokens) = record {
           spans = out.spans;
           rest = out.rest;
           others = eof_of end out.rest;
@@ -144,26 +144,26 @@ module _ (told : Told) (subject : Subject) (bytes : List ℕ) where
         only-refused (Err r) (refused_token r (map Gives tokens) front (led tokens (tokens_in (map Gives tokens)) (Refused r) (sym (given tokens)) steps))
 
   -- the text has tokens
-  module _ (tokens : List Tok) (errors : List ParseError) (read : Tokens told.table kind text end tokens errors) where
+  module _ (tokens : List Tok) (errors : List ParseError) (read : Tokens opts.table kind text end tokens errors) where
     abbrev all_errors : List ParseError → State (List ℕ) → List ParseError
-    all_errors es state = input_errors (reads_in (manner told subject) bytes) ++ (es ++ state.site.errors)
+    all_errors es state = input_errors (reads_in (manner opts parse_case) bytes) ++ (es ++ state.site.errors)
 
     data OfTokens (x : Result Parse Refusal) : Type 0 where
       by_rules : (r : Refusal) → Leads tokens (Refused r) → x ≡ Err r → OfTokens x
-      by_bytes : (r : Refusal) (state : State (List ℕ)) → Leads tokens (Goes state) → refusal_of (policy told subject) bytes ≡ Some r → x ≡ Err r → OfTokens x
+      by_bytes : (r : Refusal) (state : State (List ℕ)) → Leads tokens (Goes state) → refusal_of (policy opts parse_case) bytes ≡ Some r → x ≡ Err r → OfTokens x
       whole : (state : State (List ℕ)) (es sorted : List ParseError) → Leads tokens (Goes state) → IsPermutation errors es → IsPermutation (all_errors es state) sorted → IsSorted error_cmp sorted
-          → refusal_of (policy told subject) bytes ≡ None → x ≡ Ok (record { trees = state.site.nodes.trees; errors = sorted }) → OfTokens x
+          → refusal_of (policy opts parse_case) bytes ≡ None → x ≡ Ok (record { trees = state.site.nodes.trees; errors = sorted }) → OfTokens x
 
-    of-tokens : (x : Result Parse Refusal) → Parses told subject bytes x → OfTokens x
+    of-tokens : (x : Result Parse Refusal) → Parses opts parse_case bytes x → OfTokens x
     of-tokens x (refused_token r events front steps) =
-        let k = one_front told.table kind text end tokens errors events read front in
+        let k = one_front opts.table kind text end tokens errors events read front in
         by_rules r (refused-whole tokens (tokens_in events) k.0 r k.1 steps) refl
-    of-tokens x (refused_tag name at tokens' state out steps) = absurd (no_tokens_of_refused told.table kind text end at name tokens tokens' errors read out)
+    of-tokens x (refused_tag name at tokens' state out steps) = absurd (no_tokens_of_refused opts.table kind text end at name tokens tokens' errors read out)
     of-tokens x (refused_bytes r es state builds e) =
-        let same = one_list_of_tokens told.table kind text end builds.tokens tokens es errors builds.read read in
+        let same = one_list_of_tokens opts.table kind text end builds.tokens tokens es errors builds.read read in
         by_bytes r state (led builds.tokens tokens (Goes state) same.0 builds.steps) e refl
     of-tokens x (accepted es sorted state builds p s e) =
-        let same = one_list_of_tokens told.table kind text end tokens builds.tokens errors es read (at-end e builds.read) in
+        let same = one_list_of_tokens opts.table kind text end tokens builds.tokens errors es read (at-end e builds.read) in
         whole state es sorted (led builds.tokens tokens (Goes state) (sym same.0) builds.steps) same.1 p s e refl
 
     one-tree : (state state' : State (List ℕ)) (es es' sorted sorted' : List ParseError) → state ≡ state' → IsPermutation errors es → IsPermutation errors es' → IsPermutation (all_errors es state) sorted → IsPermutation (all_errors es' state') sorted'
@@ -171,7 +171,7 @@ module _ (told : Told) (subject : Subject) (bytes : List ℕ) where
     one-tree state state' es es' sorted sorted' same q q' p p' s s' =
         let between : IsPermutation es es' = IsPermutation-trans es errors es' (IsPermutation-sym errors es q) q' in
         let moved : IsPermutation (all_errors es state) (all_errors es' state) =
-        IsPermutation-append_right (input_errors (reads_in (manner told subject) bytes)) (es ++ state.site.errors) (es' ++ state.site.errors) (IsPermutation-append_left state.site.errors es es' between) in
+        IsPermutation-append_right (input_errors (reads_in (manner opts parse_case) bytes)) (es ++ state.site.errors) (es' ++ state.site.errors) (IsPermutation-append_left state.site.errors es es' between) in
         let lists : sorted ≡ sorted' = one-list (all_errors es state) (all_errors es' state) sorted sorted' moved p (subst (λ (u : State (List ℕ)). IsPermutation (all_errors es' u) sorted') (sym same) p') s s' in
         cc
 
@@ -183,21 +183,21 @@ module _ (told : Told) (subject : Subject) (bytes : List ℕ) where
     one-of-tokens x y (by_rules r h e) (by_bytes r' state k b f) = absurd (never-both-ways tokens r state h k)
     one-of-tokens x y (by_rules r h e) (whole state es sorted k q p s b f) = absurd (never-both-ways tokens r state h k)
     one-of-tokens x y (by_bytes r state h b e) (by_rules r' k f) = absurd (never-both-ways tokens r' state k h)
-    one-of-tokens x y (by_bytes r state h b e) (by_bytes r' state' k b' f) = e ∙ ap (λ (q : Refusal). Err q) (one-some r r' (refusal_of (policy told subject) bytes) b b') ∙ sym f
-    one-of-tokens x y (by_bytes r state h b e) (whole state' es sorted k q p s b' f) = absurd (never-both r (refusal_of (policy told subject) bytes) b b')
+    one-of-tokens x y (by_bytes r state h b e) (by_bytes r' state' k b' f) = e ∙ ap (λ (q : Refusal). Err q) (one-some r r' (refusal_of (policy opts parse_case) bytes) b b') ∙ sym f
+    one-of-tokens x y (by_bytes r state h b e) (whole state' es sorted k q p s b' f) = absurd (never-both r (refusal_of (policy opts parse_case) bytes) b b')
     one-of-tokens x y (whole state es sorted h q p s b e) (by_rules r k f) = absurd (never-both-ways tokens r state k h)
-    one-of-tokens x y (whole state es sorted h q p s b e) (by_bytes r state' k b' f) = absurd (never-both r (refusal_of (policy told subject) bytes) b' b)
+    one-of-tokens x y (whole state es sorted h q p s b e) (by_bytes r state' k b' f) = absurd (never-both r (refusal_of (policy opts parse_case) bytes) b' b)
     one-of-tokens x y (whole state es sorted h q p s b e) (whole state' es' sorted' k q' p' s' b' f) =
         let same = one-result tokens (Goes state) (Goes state') h k in
         let states : state ≡ state' = cc in
         e ∙ ap (λ (t : Parse). Ok t) (one-tree state state' es es' sorted sorted' states q q' p p' s s') ∙ sym f
 
-    only-tokens : (x : Result Parse Refusal) → Parses told subject bytes x → ExactlyOne (Parses told subject bytes)
+    only-tokens : (x : Result Parse Refusal) → Parses opts parse_case bytes x → ExactlyOne (Parses opts parse_case bytes)
     only-tokens x h = record { one = x; is = h; other = λ y k. one-of-tokens y x (of-tokens y k) (of-tokens x h) }
 
-    exactly-tokens : (o : Outcome (State (List ℕ))) × Leads tokens o → ExactlyOne (Parses told subject bytes)
+    exactly-tokens : (o : Outcome (State (List ℕ))) × Leads tokens o → ExactlyOne (Parses opts parse_case bytes)
     exactly-tokens (Refused r, steps) =
-        let front : AreFront told.table kind text end (map Gives tokens) = record {
+        let front : AreFront opts.table kind text end (map Gives tokens) = record {
           spans = read.spans;
           rest = [];
           others = [];
@@ -207,19 +207,19 @@ module _ (told : Told) (subject : Subject) (bytes : List ℕ) where
           front_is = append-nil (tokens_in (map Gives tokens)) ∙ given tokens ∙ read.tokens_are;
         } in
         only-tokens (Err r) (refused_token r (map Gives tokens) front (led tokens (tokens_in (map Gives tokens)) (Refused r) (sym (given tokens)) steps))
-    exactly-tokens (Goes state, steps) = by (refusal_of (policy told subject) bytes) refl
+    exactly-tokens (Goes state, steps) = by (refusal_of (policy opts parse_case) bytes) refl
       where
-        by : (r : Option Refusal) → refusal_of (policy told subject) bytes ≡ r → ExactlyOne (Parses told subject bytes)
+        by : (r : Option Refusal) → refusal_of (policy opts parse_case) bytes ≡ r → ExactlyOne (Parses opts parse_case bytes)
         by (Some r) e = only-tokens (Err r) (refused_bytes r errors state (record { tokens = tokens; read = read; steps = steps }) e)
         by None e =
             let all = all_errors errors state in
-            let end_read = subst (λ (n : ℕ). Tokens told.table kind text n tokens errors) (all-read (policy told subject) bytes e) read in
+            let end_read = subst (λ (n : ℕ). Tokens opts.table kind text n tokens errors) (all-read (policy opts parse_case) bytes e) read in
             only-tokens (Ok (record { trees = state.site.nodes.trees; errors = in_order all }))
             (accepted errors (in_order all) state (record { tokens = tokens; read = end_read; steps = steps }) (order-permutes all) (order-sorted all) e)
 
-  exactly-one : HasAnswer told.table kind text end → ExactlyOne (Parses told subject bytes)
-  exactly-one (refuses tokens name at out) = exactly-refused tokens name at out (some-steps (map placed tokens) (begins told subject) (reached-first told subject))
-  exactly-one (gives tokens errors read) = exactly-tokens tokens errors read (some-steps (map placed tokens) (begins told subject) (reached-first told subject))
+  exactly-one : HasAnswer opts.table kind text end → ExactlyOne (Parses opts parse_case bytes)
+  exactly-one (refuses tokens name at out) = exactly-refused tokens name at out (some-steps (map placed tokens) (begins opts parse_case) (reached-first opts parse_case))
+  exactly-one (gives tokens errors read) = exactly-tokens tokens errors read (some-steps (map placed tokens) (begins opts parse_case) (reached-first opts parse_case))
 
 pub one-parse : OneParse
-one-parse told subject bytes is_table = exactly-one told subject bytes (some_answer told.table (start_kind (start_of subject)) (text_in (manner told subject) bytes) (read_len (policy told subject) bytes) is_table)
+one-parse opts parse_case bytes is_table = exactly-one opts parse_case bytes (some_answer opts.table (start_kind (start_of parse_case)) (text_in (manner opts parse_case) bytes) (read_len (policy opts parse_case) bytes) is_table)

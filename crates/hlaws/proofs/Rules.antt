@@ -26,8 +26,8 @@ use Rattle.hmodes.specs.declared.family.Family.{Family}
 use Rattle.hmodes.specs.declared.family.Family.TheVariants as family
 use Rattle.hmodes.specs.declared.mode.Mode.{Mode}
 use Rattle.hmodes.specs.declared.mode.Mode.TheVariants.{InBody, InCaption, InCell, Text, InTable, InTableText, InTableBody, InRow, InColumnGroup}
-use Rattle.hmodes.specs.declared.kind.Kind.{Kind}
-use Rattle.hmodes.specs.declared.kind.Kind.TheVariants.{Nul, Ws, Char, Comment, Start, End}
+use Rattle.hmodes.specs.declared.token_kind.TokenKind.{TokenKind}
+use Rattle.hmodes.specs.declared.token_kind.TokenKind.TheVariants.{Nul, Ws, Char, Comment, Start, End}
 use Rattle.hmodes.specs.Words.{Do, put}
 use Rattle.hmodes.specs.Programs.{void, raw}
 use Rattle.hmodes.specs.Families.{family_of}
@@ -42,7 +42,7 @@ use Rattle.hlaws.proofs.Classes.{is_p}
 use Rattle.hlaws.proofs.Growing.{graft-new, what-new, text_before-new}
 
 -- all modes in which flow content stands have one rule for a kind of tokens
-abbrev pub IsFlowRule : Kind → Do → Type 0
+abbrev pub IsFlowRule : TokenKind → Do → Type 0
 IsFlowRule k r = (rule_of InBody k ≡ r) × (rule_of InCaption k ≡ r) × (rule_of InCell k ≡ r)
 
 -- the rule in body
@@ -52,14 +52,14 @@ by_start w = rule_of InBody (Start w)
 abbrev pub by_end : Family → Do
 by_end w = rule_of InBody (End w)
 
-flow_rule : (m : Mode) (k : Kind) (r : Do) → is_flow_mode m ≡ true → IsFlowRule k r → rule_of m k ≡ r
+flow_rule : (m : Mode) (k : TokenKind) (r : Do) → is_flow_mode m ≡ true → IsFlowRule k r → rule_of m k ≡ r
 flow_rule InBody k r m h = h.0
 flow_rule InCaption k r m h = h.1
 flow_rule InCell k r m h = h.2
 flow_rule _ k r m h = absurd (false≢true m)
 
 -- the kinds of tokens that are no characters
-abbrev pub is_other : Kind → Bool
+abbrev pub is_other : TokenKind → Bool
 is_other Nul = false
 is_other Ws = false
 is_other Char = false
@@ -105,11 +105,11 @@ module _ {N : Type 0} (n : Naming N) (laws : Laws n) (z : State N) where
   none_lost at made f stack (entry e ∷ items) c o = rw o.0 refl
 
   -- a rule of a mode
-  by_mode : (at : ℕ) (t : Token N) (mode : Mode) (k : Kind) (s s' : State N) → s.control.mode ≡ mode → kind_of n t ≡ k → perform n at t (rule_of mode k) s ≡ Done s' → Rule n at t s ≡ Done s'
+  by_mode : (at : ℕ) (t : Token N) (mode : Mode) (k : TokenKind) (s s' : State N) → s.control.mode ≡ mode → kind_of n t ≡ k → perform n at t (rule_of mode k) s ≡ Done s' → Rule n at t s ≡ Done s'
   by_mode at t mode k s s' m fam p = (λ i. perform n at t (rule_of (m i) (fam i)) s) ∙ p
 
   -- the rule of all modes of flow
-  in_flow : (at : ℕ) (t : Token N) (k : Kind) (r : Do) (s s' : State N) → is_flow_mode s.control.mode ≡ true → IsFlowRule k r → kind_of n t ≡ k → perform n at t r s ≡ Done s' → Rule n at t s ≡ Done s'
+  in_flow : (at : ℕ) (t : Token N) (k : TokenKind) (r : Do) (s s' : State N) → is_flow_mode s.control.mode ≡ true → IsFlowRule k r → kind_of n t ≡ k → perform n at t r s ≡ Done s' → Rule n at t s ≡ Done s'
   in_flow at t k r s s' m h fam p = ap (λ j. perform n at t (rule_of s.control.mode j) s) fam ∙ ap (λ q. perform n at t q s) (flow_rule s.control.mode k r m h) ∙ p
 
   module _ (at made : ℕ) (f : Forest N) (d : OpenNode N) (up : List (OpenNode N)) (items : List (Item N)) (c : Control) where
@@ -379,7 +379,7 @@ module _ {N : Type 0} (n : Naming N) (laws : Laws n) (z : State N) where
         ∙ ap (λ u. Done (state z made (under d.node (tree k (text u) none none) g) (d ∷ up) items c)) (append_assoc t (encode_utf8 p.ch) (encode_utf8_all (map (λ p. p.ch) ps)))
 
     -- what a token does that is no character: the white space goes in, and the token goes again
-    other_rule : (k : Kind) → is_other k ≡ true → rule_of InTableText k ≡ rule_of InTableText Comment
+    other_rule : (k : TokenKind) → is_other k ≡ true → rule_of InTableText k ≡ rule_of InTableText Comment
     other_rule Comment h = refl
     other_rule (Start x) h = refl
     other_rule (End x) h = refl

@@ -22,7 +22,7 @@ use Rattle.hadopt.specs.Closes.{is, is_table_context, is_body_context, is_row_co
 use Rattle.hadopt.specs.Places.{is_fostering}
 use Rattle.hmodes.specs.declared.family.Family.{Family}
 use Rattle.hmodes.specs.declared.family.Family.TheVariants as family
-use Rattle.hmodes.specs.declared.kind.Kind.TheVariants.{Start, End}
+use Rattle.hmodes.specs.declared.token_kind.TokenKind.TheVariants.{Start, End}
 use Rattle.hmodes.specs.declared.mode.Mode.{Mode}
 use Rattle.hmodes.specs.declared.mode.Mode.TheVariants.{InCaption, InCell, Text, InTable, InTableText, InTableBody, InRow, InColumnGroup}
 use Rattle.hmodes.specs.Families.{family_of}

@@ -13,7 +13,7 @@ use Rattle.names.specs.Tags.{tag_named}
 use Rattle.htoken.specs.Token.{Tok}
 use Rattle.htoken.specs.Tokens.{Tokens}
 use Rattle.hadopt.specs.Naming.{texts}
-use Rattle.hparse.specs.Parse.{Told, fragment, is_context, root_of, Parse, Parses}
+use Rattle.hparse.specs.Parse.{ParseOptions, fragment, is_context, root_of, Parse, Parses}
 use Rattle.hparse.specs.Taken.{taken}
 use Rattle.hmodes.specs.Erased.{erased}
 use Rattle.hmodes.specs.State.{Token, PlacedToken, State, eof}
@@ -59,21 +59,21 @@ PlainBuilds = (inside : Inside) (l : Forest (List ℕ)) (s : State (List ℕ)) (
     → are_content inside l ≡ true
     → BeginsWell texts l q.current.node s → HasRoom texts l s → map (λ t. t.token) ts ≡ tokens_of texts l → Builds texts l q.current.node ts s
 
--- the list as it is written fits the limits: beside its nodes there are the document and the root, which is open
-pub record Fits (told : Told) (bytes : List ℕ) (l : Forest (List ℕ)) : Type 0 where
-  pub input : length bytes ≤ told.input
-  pub nodes : size l + 2 ≤ told.limits.nodes
-  pub open_nodes : depth l + 1 ≤ told.limits.depth
+-- the list as it is written fits the limits: besides its nodes there are the document and the root, which is open
+pub record Fits (opts : ParseOptions) (bytes : List ℕ) (l : Forest (List ℕ)) : Type 0 where
+  pub input : length bytes ≤ opts.input
+  pub nodes : size l + 2 ≤ opts.limits.nodes
+  pub open_nodes : depth l + 1 ≤ opts.limits.depth
 
 -- A parser takes fragments in this context, and accepts these bytes as one: the root's children are the list.
-pub record Gives (told : Told) (context bytes : List ℕ) (l : Forest (List ℕ)) : Type 0 where
+pub record Gives (opts : ParseOptions) (context bytes : List ℕ) (l : Forest (List ℕ)) : Type 0 where
   pub allowed : is_context context ≡ true
   pub parse : Parse
-  pub parses : Parses told (fragment context) bytes (Ok parse)
+  pub parses : Parses opts (fragment context) bytes (Ok parse)
   pub children : erased (children_of (root_of (fragment context)) parse.trees) ≡ erased l
 
 -- Each plain list comes back when what is written of it is parsed.
 abbrev pub PlainComesBack : Type 0
-PlainComesBack = (told : Told) (escaping : Escaping) (context : List ℕ) (l : Forest (List ℕ)) → IsTable told.table → HasCore told.table → AreTexts l
+PlainComesBack = (opts : ParseOptions) (escaping : Escaping) (context : List ℕ) (l : Forest (List ℕ)) → IsTable opts.table → HasCore opts.table → AreTexts l
     → is_plain context l ≡ true
-    → Fits told (written escaping (Some context) l) l → Gives told context (written escaping (Some context) l) l
+    → Fits opts (written escaping (Some context) l) l → Gives opts context (written escaping (Some context) l) l

@@ -3,7 +3,7 @@ use Rattle.std.specs.Prelude.{◌≡◌, ℕ, List}
 use Rattle.htext.specs.Text.{Policy}
 use Rattle.charref.specs.Reference.{Entities, IsTable}
 use Rattle.hparse.specs.Answer.{Answers}
-use Rattle.hparse.specs.Parse.{Told, Subject, Parses}
+use Rattle.hparse.specs.Parse.{ParseOptions, ParseCase, Parses}
 
 -- one of these stands, and no other
 pub record ExactlyOne {A : Type 0} (P : A → Type 0) : Type 0 where
@@ -17,4 +17,4 @@ OneAnswer = (table : Entities) (how : Policy) (bytes : List ℕ) → IsTable tab
 
 -- The bytes of a document or of a fragment have one tree and one list of errors in their order, or are refused for one reason.
 abbrev pub OneParse : Type 0
-OneParse = (told : Told) (subject : Subject) (bytes : List ℕ) → IsTable told.table → ExactlyOne (Parses told subject bytes)
+OneParse = (opts : ParseOptions) (parse_case : ParseCase) (bytes : List ℕ) → IsTable opts.table → ExactlyOne (Parses opts parse_case bytes)

@@ -25,7 +25,7 @@ pub fn one_answer()
     ensures { OneAnswer }
 {}
 
-/// The bytes of a document or of a fragment come to exactly one parse: a tree and the errors in their order, or what they are
+/// The bytes of a document or of a fragment are parsed in exactly one way: a tree and the errors in their order, or what they are
 /// refused for, with the place.
 pub fn one_parse()
     ensures { OneParse }

@@ -7,8 +7,8 @@ use Rattle.names.specs.Placed.{characters, is_quote}
 use Rattle.hmarkup.specs.declared.comment.CommentKind.{CommentKind}
 use Rattle.hmarkup.specs.declared.comment.CommentKind.TheVariants.{Comment, Bogus}
 use Rattle.hmarkup.specs.declared.keyword.Letters.{Letters}
-use Rattle.hmarkup.specs.declared.phase.Phase.{Phase}
-use Rattle.hmarkup.specs.declared.phase.Phase.TheVariants as phase
+use Rattle.hmarkup.specs.declared.doctype_state.DoctypeState.{DoctypeState}
+use Rattle.hmarkup.specs.declared.doctype_state.DoctypeState.TheVariants as phase
 use Rattle.hmarkup.specs.declared.tail.Ending.{Ending}
 use Rattle.hmarkup.specs.declared.tail.Ending.TheVariants.{Plain, Dash, Dashes, Bang}
 use Rattle.hmarkup.specs.Comment.{errors_here, IsComment}
@@ -87,7 +87,7 @@ no_quote mark h = quote_is mark h (λ n. eqb 62 n ≡ false) refl refl
 no_letter : (letters : Letters) → letters.read < 6 → eqb 62 (next_letter letters) ≡ false
 no_letter letters fits = let far = next_is_letter letters fits in ne_eqb 62 (next_letter letters) (λ e. absurd (omega (arith, e)))
 
-ends_doctype : (phase : Phase) (known : Found) (at : ℕ) → Fits phase known → (step phase (record { ch = 62; at = at })).next ≡ None
+ends_doctype : (phase : DoctypeState) (known : Found) (at : ℕ) → Fits phase known → (step phase (record { ch = 62; at = at })).next ≡ None
 ends_doctype (phase.BeforeName spaced) known at fits = refl
 ends_doctype phase.Name known at fits = refl
 ends_doctype phase.AfterName known at fits = refl

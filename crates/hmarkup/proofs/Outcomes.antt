@@ -5,9 +5,9 @@ use Rattle.names.specs.declared.placed.Placed.{Placed}
 use Rattle.names.specs.declared.refusal.Refusal.{Refusal}
 use Rattle.names.specs.declared.refusal.Refusal.TheVariants.{Memory}
 use Rattle.names.specs.Sink.{Hands}
-use Rattle.hmarkup.specs.declared.phase.Phase.{Phase}
-use Rattle.hmarkup.specs.declared.phase.Phase.TheVariants as phase
-use Rattle.hmarkup.specs.declared.phase.Step.{Step}
+use Rattle.hmarkup.specs.declared.doctype_state.DoctypeState.{DoctypeState}
+use Rattle.hmarkup.specs.declared.doctype_state.DoctypeState.TheVariants as phase
+use Rattle.hmarkup.specs.declared.doctype_state.Step.{Step}
 use Rattle.hmarkup.specs.Walk.{Takes, ran_out, sink_refused, goes_on, ended, Ends, BeginsSpans}
 use Rattle.hmarkup.specs.Doctype.{Found, IsDoctype, force}
 use Rattle.hmarkup.specs.DoctypeSteps.{step, step_errors, found_by, fault_errors, end_fault, found_at_end}
@@ -26,7 +26,7 @@ module _ {S : Type 0} (gives : S → ParseError → Result (Unit {0}) Refusal �
     pub take_ran_out : (walk : Reading) (found : Found) → Hands gives old (step_errors s p) (Ok tt) new → Takes gives HasReadDoctype IsDoctype text errs p old (Err Memory) walk found new
     take_ran_out walk found given = ran_out (step_errors s p) refl given begins_so
 
-    pub take_goes_on : (next : Phase) (found : Found) → Hands gives old (step_errors s p) (Ok tt) new → s.next ≡ Some next → found ≡ found_by s p w.found
+    pub take_goes_on : (next : DoctypeState) (found : Found) → Hands gives old (step_errors s p) (Ok tt) new → s.next ≡ Some next → found ≡ found_by s p w.found
         → Takes gives HasReadDoctype IsDoctype text errs p old (Ok false) (record { phase = next; found = found }) found new
     take_goes_on next found given is f =
         goes_on (step_errors s p) refl given
@@ -43,7 +43,7 @@ module _ {S : Type 0} (gives : S → ParseError → Result (Unit {0}) Refusal �
         (read_whole w text errs p h (ap (λ (x : Step). x.next) (sym s_is) ∙ is) end rest)))
 
   -- the end of input
-  forced_at : (phase : Phase) (end : ℕ) (fault : ParseError) → end_fault phase end ≡ Some fault → (known : Found) → found_at_end phase known ≡ force known
+  forced_at : (phase : DoctypeState) (end : ℕ) (fault : ParseError) → end_fault phase end ≡ Some fault → (known : Found) → found_at_end phase known ≡ force known
   forced_at (phase.BeforeName spaced) end fault e known = refl
   forced_at phase.Name end fault e known = refl
   forced_at phase.AfterName end fault e known = refl
@@ -54,7 +54,7 @@ module _ {S : Type 0} (gives : S → ParseError → Result (Unit {0}) Refusal �
   forced_at phase.AfterSystem end fault e known = refl
   forced_at phase.Skipped end fault e known = absurd cc
 
-  as_it_was : (phase : Phase) (end : ℕ) → end_fault phase end ≡ None → (known : Found) → found_at_end phase known ≡ known
+  as_it_was : (phase : DoctypeState) (end : ℕ) → end_fault phase end ≡ None → (known : Found) → found_at_end phase known ≡ known
   as_it_was (phase.BeforeName spaced) end e known = absurd cc
   as_it_was phase.Name end e known = absurd cc
   as_it_was phase.AfterName end e known = absurd cc

@@ -10,8 +10,8 @@ use Rattle.names.specs.Placed.{spells_in_any_case, is_quote, error, null_errors,
 use Rattle.hmarkup.specs.declared.keyword.Identifier.{Identifier}
 use Rattle.hmarkup.specs.declared.keyword.Identifier.TheVariants.{Public, System}
 use Rattle.hmarkup.specs.declared.keyword.Letters.{Letters}
-use Rattle.hmarkup.specs.declared.phase.Phase.{Phase}
-use Rattle.hmarkup.specs.declared.phase.Phase.TheVariants as phase
+use Rattle.hmarkup.specs.declared.doctype_state.DoctypeState.{DoctypeState}
+use Rattle.hmarkup.specs.declared.doctype_state.DoctypeState.TheVariants as phase
 use Rattle.hmarkup.specs.Doctype.{Found, IsEnd, cut_off, force, named, IsInside, quoted, abrupt, unclosed, AfterSystemIdentifier, system_ends, system_skips, AfterPublicIdentifier, public_ends, public_skips, second, Follows, AfterKeyword, identifier, missing, keyword_skips, keyword_cut_off, AfterName, name_ends, name_skips, names_identifier, FollowsName, AfterOpening, begins_name, nameless, unfinished}
 use Rattle.hmarkup.specs.DoctypeSteps.{first_letter, before_name, in_name, begins_keyword, after_name, goes_on_with, in_keyword, after_keyword, follows, in_quotes, after_public, after_system, in_skipped, step, step_errors, found_by, fault_errors, end_fault, found_at_end, letters_after}
 use Rattle.hmarkup.specs.DoctypeWalk.{GoesOn, Fits, identifier_of, IsInKeyword, whole, fails}
@@ -26,7 +26,7 @@ use Rattle.hmarkup.proofs.Quoting.{from_inside, to_inside, from_after_keyword, t
 
 module _ (known : Found) (end : ℕ) (rest : List Placed) (p : Placed) (ps : List Placed) (found : Found) where
   -- what a character leaves of a doctype
-  pub from_phase : (phase : Phase) (errors : List ParseError) → Fits phase known → GoesOn phase known end rest (p ∷ ps) found errors → Stepped (step phase p) known end rest p ps found errors
+  pub from_phase : (phase : DoctypeState) (errors : List ParseError) → Fits phase known → GoesOn phase known end rest (p ∷ ps) found errors → Stepped (step phase p) known end rest p ps found errors
   from_phase (phase.BeforeName spaced) errors fits h = from_before known end rest p ps found errors spaced _ _ refl refl h
   from_phase phase.Name errors fits h = from_name known end rest p ps found errors _ _ refl refl fits h
   from_phase phase.AfterName errors fits h = from_after_name known end rest p ps found errors _ _ refl refl h
@@ -38,7 +38,7 @@ module _ (known : Found) (end : ℕ) (rest : List Placed) (p : Placed) (ps : Lis
   from_phase phase.Skipped errors fits h = from_skipped known end rest p ps found errors _ refl h
 
   -- .. and back
-  pub to_phase : (phase : Phase) (later : List ParseError) → Fits phase known → Goes (step phase p).next (found_by (step phase p) p known) end rest ps found later
+  pub to_phase : (phase : DoctypeState) (later : List ParseError) → Fits phase known → Goes (step phase p).next (found_by (step phase p) p known) end rest ps found later
       → GoesOn phase known end rest (p ∷ ps) found (step_errors (step phase p) p ++ later)
   to_phase (phase.BeforeName spaced) later fits h = to_before known end rest p ps found later spaced _ _ refl refl h
   to_phase phase.Name later fits h = to_name known end rest p ps found later _ _ refl refl fits h
@@ -51,7 +51,7 @@ module _ (known : Found) (end : ℕ) (rest : List Placed) (p : Placed) (ps : Lis
   to_phase phase.Skipped later fits h = to_skipped known end rest p ps found later _ refl h
 
 -- a name or an identifier stays begun
-abbrev pub FitsNext : Option Phase → Found → Type 0
+abbrev pub FitsNext : Option DoctypeState → Found → Type 0
 FitsNext None known = Unit {0}
 FitsNext (Some phase) known = Fits phase known
 
@@ -126,7 +126,7 @@ module _ (known : Found) (p : Placed) where
   fits_skipped true = tt
   fits_skipped false = tt
 
-  pub fits_next : (phase : Phase) → Fits phase known → FitsNext (step phase p).next (found_by (step phase p) p known)
+  pub fits_next : (phase : DoctypeState) → Fits phase known → FitsNext (step phase p).next (found_by (step phase p) p known)
   fits_next (phase.BeforeName spaced) fits = fits_before spaced _ _
   fits_next phase.Name fits = fits_name _ _
   fits_next phase.AfterName fits = fits_after_name _ _ _ (first_left p.ch)
@@ -138,7 +138,7 @@ module _ (known : Found) (p : Placed) where
   fits_next phase.Skipped fits = fits_skipped _
 
 -- the end of input: each phase, from its production
-abbrev pub AtEnd : Phase → Found → ℕ → List Placed → Found → List ParseError → Type 0
+abbrev pub AtEnd : DoctypeState → Found → ℕ → List Placed → Found → List ParseError → Type 0
 AtEnd phase known end rest found errors = (rest ≡ []) × (found ≡ found_at_end phase known) × (errors ≡ fault_errors (end_fault phase end))
 
 module _ (known : Found) (end : ℕ) (rest : List Placed) (found : Found) (errors : List ParseError) where
@@ -194,7 +194,7 @@ name_at_end known end rest found errors begun [] after later t f e =
     let k = after_name_at_end (named [] known) end rest found later (at_once (λ spaced. AfterName (named [] known)) false end rest found later [] at_end refl) in
     (k.0, k.1 ∙ ap force (named_not known begun), e ∙ k.2)
 
-pub end_of : (phase : Phase) (known : Found) (end : ℕ) (rest : List Placed) (found : Found) (errors : List ParseError) → Fits phase known → GoesOn phase known end rest [] found errors → AtEnd phase known end rest found errors
+pub end_of : (phase : DoctypeState) (known : Found) (end : ℕ) (rest : List Placed) (found : Found) (errors : List ParseError) → Fits phase known → GoesOn phase known end rest [] found errors → AtEnd phase known end rest found errors
 end_of (phase.BeforeName spaced) known end rest found errors fits h = opening_at_end known end rest found errors spaced (at_once (AfterOpening known) spaced end rest found errors [] h refl)
 end_of phase.Name known end rest found errors fits h = name_at_end known end rest found errors fits h.name h.after h.later h.text_is h.follows h.errors_are
 end_of phase.AfterName known end rest found errors fits h = after_name_at_end known end rest found errors (at_once (λ spaced. AfterName known) false end rest found errors [] h refl)
@@ -209,7 +209,7 @@ end_of phase.Skipped known end rest found errors fits h = skipped_at_end known e
 cut_off_here : (known : Found) (end : ℕ) → IsEnd known end [] [] (force known) (error EofInDoctype end ∷ [])
 cut_off_here known end = cut_off refl refl refl refl
 
-pub ends_in : (phase : Phase) (known : Found) (end : ℕ) → Fits phase known → GoesOn phase known end [] [] (found_at_end phase known) (fault_errors (end_fault phase end))
+pub ends_in : (phase : DoctypeState) (known : Found) (end : ℕ) → Fits phase known → GoesOn phase known end [] [] (found_at_end phase known) (fault_errors (end_fault phase end))
 ends_in (phase.BeforeName spaced) known end fits = with_none (AfterOpening known) spaced end [] _ _ [] (unfinished refl refl refl refl)
 ends_in phase.Name known end fits = record {
   name = [];

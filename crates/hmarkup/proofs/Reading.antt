@@ -3,9 +3,9 @@ use Rattle.std.proofs.Common.{◌≡◌, ℕ, false, List, [], ◌∷◌, ◌++�
 use Rattle.std.proofs.lemmas.List.{append_cancel_left}
 use Rattle.names.specs.declared.error.ParseError.{ParseError}
 use Rattle.names.specs.declared.placed.Placed.{Placed}
-use Rattle.hmarkup.specs.declared.phase.Phase.{Phase}
-use Rattle.hmarkup.specs.declared.phase.Phase.TheVariants as phase
-use Rattle.hmarkup.specs.declared.phase.Step.{Step}
+use Rattle.hmarkup.specs.declared.doctype_state.DoctypeState.{DoctypeState}
+use Rattle.hmarkup.specs.declared.doctype_state.DoctypeState.TheVariants as phase
+use Rattle.hmarkup.specs.declared.doctype_state.Step.{Step}
 use Rattle.hmarkup.specs.Walk.{Begins, BeginsSpans, IsOpen, IsOneSpan}
 use Rattle.hmarkup.specs.Doctype.{Found, nothing, IsDoctype}
 use Rattle.hmarkup.specs.DoctypeSteps.{step, step_errors, found_by, fault_errors, end_fault, found_at_end}
@@ -22,7 +22,7 @@ read_nothing = record {
 }
 
 -- a doctype begins with the text and goes on there
-record Past (text : List Placed) (errors : List ParseError) (next : Option Phase) (known : Found) (end : ℕ) (after rest span : List Placed) (found : Found) (all : List ParseError) : Type 0 where
+record Past (text : List Placed) (errors : List ParseError) (next : Option DoctypeState) (known : Found) (end : ℕ) (after rest span : List Placed) (found : Found) (all : List ParseError) : Type 0 where
   begins : Begins text after rest span errors all
   goes : Goes next known end rest begins.more found begins.later
 
@@ -68,19 +68,19 @@ module _ (w : Reading) (text : List Placed) (errs : List ParseError) (p : Placed
       past_of end after rest span found all g.begins.more g.begins.later g.begins.span_is g.begins.after_is g.begins.all_are g.goes_on
 
   -- the doctype goes on, or has ended
-  pub read_more : (next : Phase) → its.next ≡ Some next → HasReadDoctype (record { phase = next; found = found_by its p w.found }) (text ++ p ∷ []) now
+  pub read_more : (next : DoctypeState) → its.next ≡ Some next → HasReadDoctype (record { phase = next; found = found_by its p w.found }) (text ++ p ∷ []) now
   read_more next is = record {
-    fits = subst (λ (x : Option Phase). FitsNext x (found_by its p w.found)) is (fits_next w.found p w.phase h.fits);
-    goes_on = λ end rest more found later g. on_from end rest more found later (subst (λ (x : Option Phase). Goes x (found_by its p w.found) end rest more found later) (sym is) g);
+    fits = subst (λ (x : Option DoctypeState). FitsNext x (found_by its p w.found)) is (fits_next w.found p w.phase h.fits);
+    goes_on = λ end rest more found later g. on_from end rest more found later (subst (λ (x : Option DoctypeState). Goes x (found_by its p w.found) end rest more found later) (sym is) g);
     no_other = λ end after rest span found all d e. let k = past end after rest span found all d e in
-        record { begins = k.begins; goes_on = subst (λ (x : Option Phase). Goes x (found_by its p w.found) end rest k.begins.more found k.begins.later) is k.goes };
+        record { begins = k.begins; goes_on = subst (λ (x : Option DoctypeState). Goes x (found_by its p w.found) end rest k.begins.more found k.begins.later) is k.goes };
   }
 
   pub read_whole : its.next ≡ None → (end : ℕ) (rest : List Placed) → IsDoctype end rest (text ++ p ∷ []) (found_by its p w.found) now
   read_whole is end rest =
       subst (λ (x : List Placed). IsDoctype end rest x (found_by its p w.found) now) (append-nil (text ++ p ∷ []))
       (subst (λ (x : List ParseError). IsDoctype end rest ((text ++ p ∷ []) ++ []) (found_by its p w.found) x) (append-nil now)
-      (on_from end rest [] (found_by its p w.found) [] (subst (λ (x : Option Phase). Goes x (found_by its p w.found) end rest [] (found_by its p w.found) []) (sym is) (refl, refl, refl))))
+      (on_from end rest [] (found_by its p w.found) [] (subst (λ (x : Option DoctypeState). Goes x (found_by its p w.found) end rest [] (found_by its p w.found) []) (sym is) (refl, refl, refl))))
 
   pub begins_past : BeginsSpans IsDoctype (text ++ p ∷ []) now
   begins_past end after rest span found all d e = (past end after rest span found all d e).begins
@@ -105,14 +105,14 @@ doctype_open w text errs h end rest found errors d =
 abbrev Same : List Placed → List Placed → List Placed → List Placed → Found → Found → List ParseError → List ParseError → Type 0
 Same text text' rest rest' found found' errors errors' = (text ≡ text') × (rest ≡ rest') × (found ≡ found') × (errors ≡ errors')
 
-same_goes : (next : Option Phase) (known : Found) (end : ℕ) (rest rest' : List Placed) (ps qs : List Placed) (found found' : Found) (later later' : List ParseError) → FitsNext next known
-    → ((phase : Phase) → Fits phase known → GoesOn phase known end rest ps found later → GoesOn phase known end rest' qs found' later' → Same ps qs rest rest' found found' later later')
+same_goes : (next : Option DoctypeState) (known : Found) (end : ℕ) (rest rest' : List Placed) (ps qs : List Placed) (found found' : Found) (later later' : List ParseError) → FitsNext next known
+    → ((phase : DoctypeState) → Fits phase known → GoesOn phase known end rest ps found later → GoesOn phase known end rest' qs found' later' → Same ps qs rest rest' found found' later later')
     → ps ++ rest ≡ qs ++ rest' → Goes next known end rest ps found later → Goes next known end rest' qs found' later' → Same ps qs rest rest' found found' later later'
 same_goes None known end rest rest' ps qs found found' later later' fits one e (t, f, l) (t', f', l') =
     (t ∙ sym t', sym (ap (λ (x : List Placed). x ++ rest) t) ∙ e ∙ ap (λ (x : List Placed). x ++ rest') t', f ∙ sym f', l ∙ sym l')
 same_goes (Some phase) known end rest rest' ps qs found found' later later' fits one e g g' = one phase fits g g'
 
-one_from : (text text' : List Placed) (phase : Phase) (known : Found) (end : ℕ) (rest rest' : List Placed) (found found' : Found) (errors errors' : List ParseError) → Fits phase known
+one_from : (text text' : List Placed) (phase : DoctypeState) (known : Found) (end : ℕ) (rest rest' : List Placed) (found found' : Found) (errors errors' : List ParseError) → Fits phase known
     → text ++ rest ≡ text' ++ rest' → GoesOn phase known end rest text found errors → GoesOn phase known end rest' text' found' errors' → Same text text' rest rest' found found' errors errors'
 one_from [] [] phase known end rest rest' found found' errors errors' fits e g g' =
     let k = end_of phase known end rest found errors fits g in

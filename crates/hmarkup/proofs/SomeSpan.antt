@@ -7,7 +7,7 @@ use Rattle.names.specs.declared.placed.Placed.{Placed}
 use Rattle.names.specs.Placed.{without_null}
 use Rattle.hmarkup.specs.declared.comment.CommentKind.{CommentKind}
 use Rattle.hmarkup.specs.declared.comment.CommentKind.TheVariants.{Comment, Bogus}
-use Rattle.hmarkup.specs.declared.phase.Phase.{Phase}
+use Rattle.hmarkup.specs.declared.doctype_state.DoctypeState.{DoctypeState}
 use Rattle.hmarkup.specs.declared.tail.Ending.{Ending}
 use Rattle.hmarkup.specs.declared.tail.Ending.TheVariants.{Plain, Dash, Dashes, Bang}
 use Rattle.hmarkup.specs.Doctype.{IsDoctype}
@@ -47,7 +47,7 @@ module _ {V : Type 0} (Spans : ℕ → List Placed → List Placed → V → Lis
 module _ (end : ℕ) where
   abbrev pub doctype_by : (w : Reading) (text : List Placed) (errs : List ParseError) (p : Placed) (ps : List Placed) → HasReadDoctype w text errs
       → ((w' : Reading) (errs' : List ParseError) → HasReadDoctype w' (text ++ p ∷ []) errs' → HasSpan IsDoctype end ((text ++ p ∷ []) ++ ps))
-      → (goes : Option Phase) → (step w.phase p).next ≡ goes → HasSpan IsDoctype end (text ++ p ∷ ps)
+      → (goes : Option DoctypeState) → (step w.phase p).next ≡ goes → HasSpan IsDoctype end (text ++ p ∷ ps)
   doctype_by w text errs p ps h from None is = ends_now IsDoctype end text p ps _ _ (read_whole w text errs p h is end ps)
   doctype_by w text errs p ps h from (Some phase) is =
       ends_later IsDoctype end text p ps (from (record { phase = phase; found = found_by (step w.phase p) p w.found }) _ (read_more w text errs p h phase is))

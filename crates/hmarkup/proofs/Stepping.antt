@@ -4,15 +4,15 @@ use Rattle.names.specs.declared.error.ParseError.{ParseError}
 use Rattle.names.specs.declared.error.ErrorCode.{ErrorCode}
 use Rattle.names.specs.declared.placed.Placed.{Placed}
 use Rattle.names.specs.Placed.{is_space, is_greater, is_quote, error, error_if, null_errors}
-use Rattle.hmarkup.specs.declared.phase.Phase.{Phase}
-use Rattle.hmarkup.specs.declared.phase.Step.{Step}
+use Rattle.hmarkup.specs.declared.doctype_state.DoctypeState.{DoctypeState}
+use Rattle.hmarkup.specs.declared.doctype_state.Step.{Step}
 use Rattle.hmarkup.specs.Doctype.{Found, Stands}
 use Rattle.hmarkup.specs.DoctypeSteps.{found_by, step_errors, fault_errors}
 use Rattle.hmarkup.specs.DoctypeWalk.{GoesOn}
 use Rattle.hmarkup.proofs.Characters.{space_not_null, greater_not_null, quote_not_null, no_null_error}
 
 -- what stands after the character: the rest of the doctype, or nothing
-abbrev pub Goes : Option Phase → Found → Stands
+abbrev pub Goes : Option DoctypeState → Found → Stands
 Goes None known end rest text found errors = (text ≡ []) × (found ≡ known) × (errors ≡ [])
 Goes (Some phase) known end rest text found errors = GoesOn phase known end rest text found errors
 

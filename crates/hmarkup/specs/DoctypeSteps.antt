@@ -9,11 +9,11 @@ use Rattle.names.specs.Placed.{is_space, is_greater, is_quote, error, null_error
 use Rattle.hmarkup.specs.declared.keyword.Identifier.{Identifier}
 use Rattle.hmarkup.specs.declared.keyword.Identifier.TheVariants.{Public, System}
 use Rattle.hmarkup.specs.declared.keyword.Letters.{Letters}
-use Rattle.hmarkup.specs.declared.phase.Phase.{Phase}
-use Rattle.hmarkup.specs.declared.phase.Phase.TheVariants as phase
-use Rattle.hmarkup.specs.declared.phase.Keeps.{Keeps}
-use Rattle.hmarkup.specs.declared.phase.Keeps.TheVariants as keeps
-use Rattle.hmarkup.specs.declared.phase.Step.{Step}
+use Rattle.hmarkup.specs.declared.doctype_state.DoctypeState.{DoctypeState}
+use Rattle.hmarkup.specs.declared.doctype_state.DoctypeState.TheVariants as phase
+use Rattle.hmarkup.specs.declared.doctype_state.Keeps.{Keeps}
+use Rattle.hmarkup.specs.declared.doctype_state.Keeps.TheVariants as keeps
+use Rattle.hmarkup.specs.declared.doctype_state.Step.{Step}
 use Rattle.hmarkup.specs.Doctype.{Found, keyword, named, identified, force, no_space_after_keyword, no_identifier, no_quote, abrupt_identifier}
 
 -- keywords, letter for letter: each has six
@@ -30,7 +30,7 @@ abbrev pub letters_after : Letters → Option Letters
 letters_after letters = if nat_lt letters.read 5 then Some (record { which = letters.which; read = letters.read + 1 }) else None
 
 -- the forms of a step
-abbrev pub goes_to : Phase → Step
+abbrev pub goes_to : DoctypeState → Step
 goes_to next = record { fault = None; keeps = keeps.Nothing; forces = false; next = Some next }
 
 abbrev pub ends : Step
@@ -42,7 +42,7 @@ refuses code at = record { fault = Some (error code at); keeps = keeps.Nothing; 
 abbrev pub skips : ErrorCode → ℕ → Bool → Step
 skips code at forced = record { fault = Some (error code at); keeps = keeps.Nothing; forces = forced; next = Some phase.Skipped }
 
-abbrev pub faulty : Keeps → Bool → ErrorCode → ℕ → Phase → Step
+abbrev pub faulty : Keeps → Bool → ErrorCode → ℕ → DoctypeState → Step
 faulty kept spaced code at next = record { fault = if spaced then None else Some (error code at); keeps = kept; forces = false; next = Some next }
 
 -- The step of each phase, by the character's class.
@@ -82,7 +82,7 @@ after_keyword which spaced space greater quote ch at =
     else (if quote then faulty (keeps.Quote which) spaced (no_space_after_keyword which) at (phase.Quoted which ch)
     else skips (no_quote which) at true))
 
-abbrev pub follows : Identifier → Phase
+abbrev pub follows : Identifier → DoctypeState
 follows Public = phase.AfterPublic false
 follows System = phase.AfterSystem
 
@@ -108,7 +108,7 @@ after_system space greater at =
 abbrev pub in_skipped : Bool → Step
 in_skipped greater = if greater then ends else goes_to phase.Skipped
 
-abbrev pub step : Phase → Placed → Step
+abbrev pub step : DoctypeState → Placed → Step
 step (phase.BeforeName spaced) p = before_name spaced (is_space p.ch) (is_greater p.ch) p.at
 step phase.Name p = in_name (is_space p.ch) (is_greater p.ch)
 step phase.AfterName p = after_name (is_space p.ch) (is_greater p.ch) (first_letter p.ch) p.at
@@ -138,11 +138,11 @@ abbrev pub step_errors : Step → Placed → List ParseError
 step_errors step p = fault_errors step.fault ++ null_errors (p ∷ [])
 
 -- what the input's end does: its error, and the contents after it
-abbrev pub end_fault : Phase → ℕ → Option ParseError
+abbrev pub end_fault : DoctypeState → ℕ → Option ParseError
 end_fault (phase.Keyword letters first) end = Some (error InvalidCharacterSequenceAfterDoctypeName first)
 end_fault phase.Skipped end = None
 end_fault _ end = Some (error EofInDoctype end)
 
-abbrev pub found_at_end : Phase → Found → Found
+abbrev pub found_at_end : DoctypeState → Found → Found
 found_at_end phase.Skipped known = known
 found_at_end _ known = force known

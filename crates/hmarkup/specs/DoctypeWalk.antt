@@ -7,8 +7,8 @@ use Rattle.names.specs.Placed.{lowered, spells_in_any_case, is_quote, error}
 use Rattle.hmarkup.specs.declared.keyword.Identifier.{Identifier}
 use Rattle.hmarkup.specs.declared.keyword.Identifier.TheVariants.{Public, System}
 use Rattle.hmarkup.specs.declared.keyword.Letters.{Letters}
-use Rattle.hmarkup.specs.declared.phase.Phase.{Phase}
-use Rattle.hmarkup.specs.declared.phase.Phase.TheVariants as phase
+use Rattle.hmarkup.specs.declared.doctype_state.DoctypeState.{DoctypeState}
+use Rattle.hmarkup.specs.declared.doctype_state.DoctypeState.TheVariants as phase
 use Rattle.hmarkup.specs.Doctype.{Found, keyword, Stands, force, AfterSpace, IsSkipped, IsInside, AfterSystemIdentifier, AfterPublicIdentifier, Follows, AfterKeyword, FollowsKeyword, AfterName, IsName, AfterOpening, IsDoctype}
 use Rattle.hmarkup.specs.Walk.{Begins}
 
@@ -19,7 +19,7 @@ text_of (Some text) = Some (string_bytes text)
 
 -- a walk as contracts see it
 pub record Reading : Type 0 where
-  pub phase : Phase
+  pub phase : DoctypeState
   pub found : Found
 
 -- the letters of the keyword that are still to come
@@ -36,7 +36,7 @@ pub data IsInKeyword (letters : Letters) (first : ℕ) (known : Found) (end : �
       → errors ≡ error InvalidCharacterSequenceAfterDoctypeName first ∷ later → IsInKeyword letters first known end rest text found errors
 
 -- how a doctype goes on in each phase; `known` is what was found before
-abbrev pub GoesOn : Phase → Found → Stands
+abbrev pub GoesOn : DoctypeState → Found → Stands
 GoesOn (phase.BeforeName spaced) known = AfterSpace (AfterOpening known) spaced
 GoesOn phase.Name known = IsName known
 GoesOn phase.AfterName known = AfterSpace (λ spaced. AfterName known) false
@@ -52,7 +52,7 @@ identifier_of Public known = known.public
 identifier_of System known = known.system
 
 -- in a name or an identifier, that part is present; of a keyword a letter is still to come
-abbrev pub Fits : Phase → Found → Type 0
+abbrev pub Fits : DoctypeState → Found → Type 0
 Fits phase.Name known = is_some known.name ≡ true
 Fits (phase.Keyword letters first) known = letters.read < 6
 Fits (phase.Quoted which mark) known = (is_quote mark ≡ true) × (is_some (identifier_of which known) ≡ true)

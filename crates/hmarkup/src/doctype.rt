@@ -11,8 +11,8 @@ ghost use Rattle.hmarkup.specs.DoctypeSteps.{fault_errors, kept, found_by};
 ghost use Rattle.hmarkup.specs.DoctypeWalk.{Reading, HasReadDoctype, text_of};
 ghost use Rattle.hmarkup.specs.Walk.{BeginsSpans, IsOpen, ClosedBy, HasSpan, IsOneSpan, Takes, Ends};
 
+use crate::doctype_state::{DoctypeState, Keeps, Step};
 use crate::keyword::Identifier;
-use crate::phase::{Keeps, Phase, Step};
 use crate::sink::ErrorSink;
 use crate::taking::{push, tell};
 use names::{ErrorCode, ParseError, Refusal};
@@ -42,7 +42,7 @@ impl Model for Doctype {
 /// the text. After an `Ok(true)` only `into_doctype` may be called; after an `Err` the walk is of no further use.
 #[derive(Drop)]
 pub struct DoctypeWalk {
-    phase: Phase,
+    phase: DoctypeState,
     found: Doctype,
     alloc: Global,
 }
@@ -143,7 +143,7 @@ impl DoctypeWalk {
         ensures { HasReadDoctype result [] [] }
     {
         DoctypeWalk {
-            phase: Phase::BeforeName(false),
+            phase: DoctypeState::BeforeName(false),
             found: Doctype {
                 name: None,
                 public_id: None,

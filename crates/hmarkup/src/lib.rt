@@ -4,8 +4,8 @@
 
 pub mod comment;
 pub mod doctype;
+mod doctype_state;
 mod keyword;
-mod phase;
 pub mod quirks;
 pub mod sink;
 mod tail;

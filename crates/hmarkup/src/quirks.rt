@@ -40,12 +40,12 @@ impl QuirkKind {
 
 /// A line of the list.
 #[derive(Drop)]
-struct Line {
+struct QuirksLine {
     kind: QuirkKind,
     text: String,
 }
 
-impl Model for Line {
+impl Model for QuirksLine {
     ghost use Rattle.std.specs.Prelude.{string_bytes};
     ghost use Rattle.hmarkup.specs.Quirks.{QuirkLine};
 
@@ -58,7 +58,7 @@ impl Model for Line {
 /// space, and a text of one or more bytes from 20 to 7E (hexadecimal). The last LF may be missing.
 #[derive(Drop)]
 pub struct Quirks {
-    lines: Vec<Line>,
+    lines: Vec<QuirksLine>,
 }
 
 impl Model for Quirks {
@@ -112,15 +112,15 @@ fn read_line(line: &str) -> Option<(QuirkKind, &str)>
     Some((kind, text))
 }
 
-impl Line {
+impl QuirksLine {
     /// The line with this text, without its LF, if it has one of the four forms.
-    fn read(alloc: Global, line: &str) -> Result<Option<Line>, AllocError>
+    fn read(alloc: Global, line: &str) -> Result<Option<QuirksLine>, AllocError>
         ensures { IfOk result (λ found. MatchOption found (IsNoQuirkLine line.now) (λ quirk. IsQuirkLine line.now quirk)) }
     {
         match read_line(line) {
             Some((kind, text)) => {
                 let text = String::from_str(alloc, text)?;
-                Ok(Some(Line { kind, text }))
+                Ok(Some(QuirksLine { kind, text }))
             }
             None => Ok(None),
         }
@@ -164,7 +164,7 @@ fn begins(id: Option<&str>, text: &str) -> bool
 }
 
 /// The refusal of the line after these.
-fn bad_line(lines: &[Line]) -> Refusal
+fn bad_line(lines: &[QuirksLine]) -> Refusal
     ensures { result ≡ Refusal.BadQuirks (length lines.now + 1) }
 {
     Refusal::BadQuirks {
@@ -181,7 +181,7 @@ impl Quirks {
         let mut rest = text;
         while !rest.is_empty() {
             let (line, after) = first_line(rest);
-            match Line::read(alloc, line)? {
+            match QuirksLine::read(alloc, line)? {
                 Some(line) => lines.push(line)?,
                 None => return Err(bad_line(&lines)),
             }

@@ -16,7 +16,7 @@ use Rattle.hmodes.specs.declared.mode.Mode.TheVariants.{AfterHead}
 use Rattle.hmodes.specs.Beginning.{Limits, document_begins, fragment_begins}
 use Rattle.hmodes.specs.Reached.{Reached, document, fragment, after}
 use Rattle.hmodes.specs.State.{Token, State, Flow, Done, Again, Refused, is_self_closing, kind_of}
-use Rattle.hmodes.specs.Words.{Kind}
+use Rattle.hmodes.specs.Words.{TokenKind}
 use Rattle.hmodes.specs.Step.{Rule, Chain, Step, ends, refuses, goes_again, drops, goes, begun, finished}
 use Rattle.hmodes.proofs.Down.{Sound, FlowHolds, Any, cap, rule-down}
 use Rattle.hmodes.proofs.Facts.{reset-found}
@@ -87,7 +87,7 @@ module _ {N : Type 0} (n : Naming N) where
       go false = o
 
   module _ (tells : Tells n) where
-    together : (f : Flow N) (l : Kind × ℕ) → FlowWell n f → FlowFacts f → FlowHolds n tells.img (Some l) Any false f → FlowOrderly f
+    together : (f : Flow N) (l : TokenKind × ℕ) → FlowWell n f → FlowFacts f → FlowHolds n tells.img (Some l) Any false f → FlowOrderly f
     together (Done s) l w f h = record { well = w; head = f; sound = h.sound }
     together (Again t s) l w f h = record { well = w; head = f; sound = h.0 }
     together (Refused r) l w f h = tt

@@ -11,7 +11,7 @@ use Rattle.hadopt.specs.Site as site
 use Rattle.hmodes.specs.declared.mode.Mode.{Mode}
 use Rattle.hmodes.specs.declared.mode.Mode.TheVariants.{Initial, BeforeHtml, BeforeHead, InHead, InHeadNoscript, AfterHead, InBody, Text, InTable, InTableText, InColumnGroup, InTableBody, InRow, AfterBody, AfterAfterBody}
 use Rattle.hmodes.specs.declared.family.Family.TheVariants as family
-use Rattle.hmodes.specs.Words.{Kind, Nul, Ws, Char, Start, End, Do, ◌▸◌, when, unless, choose, fostered, each_pending, again, again_as, to, save_mode, to_saved, reset, insert, insert_named, insert_root, insert_root_named, insert_comment, comment_in_document, comment_in_first, insert_doctype, put, push_head, reconstruct, adopt, adopt_listed}
+use Rattle.hmodes.specs.Words.{TokenKind, Nul, Ws, Char, Start, End, Do, ◌▸◌, when, unless, choose, fostered, each_pending, again, again_as, to, save_mode, to_saved, reset, insert, insert_named, insert_root, insert_root_named, insert_comment, comment_in_document, comment_in_first, insert_doctype, put, push_head, reconstruct, adopt, adopt_listed}
 use Rattle.hmodes.specs.State.{Token, doctype, start, end, comment, character, eof, Control, State, Flow, Done, Again, Refused, flow_then, flow_map, kind_of, renamed}
 use Rattle.hmodes.specs.Questions.{answer_of}
 use Rattle.hmodes.specs.Perform.{perform, with_foster, with_control, each_of, flow_of}
@@ -56,7 +56,7 @@ abbrev for_html : Mode → ℕ
 for_html AfterBody = 1
 for_html m = usual m
 
-abbrev rank : Kind → Mode → ℕ
+abbrev rank : TokenKind → Mode → ℕ
 rank (Start family.Image) m = 15 + usual m
 rank (Start family.Cell) m = for_cell m
 rank (Start family.Row) m = for_row m
@@ -65,27 +65,27 @@ rank (End family.Html) m = for_html m
 rank _ m = usual m
 
 -- where a table's start tag closes the open table
-abbrev pub is_tabular : Kind → Mode → Bool
+abbrev pub is_tabular : TokenKind → Mode → Bool
 is_tabular (Start family.Table) InTable = true
 is_tabular (Start family.Table) InColumnGroup = true
 is_tabular (Start family.Table) InTableBody = true
 is_tabular (Start family.Table) InRow = true
 is_tabular _ _ = false
 
-abbrev pub is_char : Kind → Bool
+abbrev pub is_char : TokenKind → Bool
 is_char Nul = true
 is_char Ws = true
 is_char Char = true
 is_char _ = false
 
 -- characters end in table text, and from the modes of text all others go back
-abbrev pub level : Kind → Mode → ℕ
+abbrev pub level : TokenKind → Mode → ℕ
 level k Text = 40
 level k InTableText = if is_char k then 0 else 40
 level k m = if is_tabular k m then 30 else rank k m
 
 -- below what a rule goes on: that table's start tag, by what its rule does
-abbrev pub cap : Kind → Mode → ℕ
+abbrev pub cap : TokenKind → Mode → ℕ
 cap k m = if is_tabular k m then 40 else level k m
 
 -- what is known of a mode: which one it is, or that it is not one of the two of text
@@ -116,17 +116,17 @@ mode_after w reset = Plain
 mode_after w _ = w
 
 -- whether a token of this kind goes on below this level
-abbrev lower : Kind → ℕ → Known → Bool
+abbrev lower : TokenKind → ℕ → Known → Bool
 lower k r (At m) = ltb (level k m) r
 lower k r Plain = ltb 30 r
 lower k r Any = false
 
-abbrev is_start : Kind → Bool
+abbrev is_start : TokenKind → Bool
 is_start (Start f) = true
 is_start _ = false
 
 -- whether a program has a token of this kind go again below this level alone, or not at all; and keeps that what is saved is plain
-abbrev goes_down : Option (Kind × ℕ) → Known → Bool → Do → Bool
+abbrev goes_down : Option (TokenKind × ℕ) → Known → Bool → Do → Bool
 goes_down l w b (p ▸ q) = goes_down l w b p && goes_down l (mode_after w p) (leaves b p) q
 goes_down l w b (when question p) = goes_down l w b p
 goes_down l w b (unless question p) = goes_down l w b p
@@ -142,10 +142,10 @@ goes_down l w b save_mode = is_plain w
 goes_down l w b to_saved = b
 goes_down l w b _ = true
 
-abbrev falls : Mode → Kind → Bool
+abbrev falls : Mode → TokenKind → Bool
 falls m k = goes_down (Some (k, cap k m)) (At m) (is_texty m) (rule_of m k)
 
-falls-rule : (m : Mode) (k : Kind) → falls m k ≡ true
+falls-rule : (m : Mode) (k : TokenKind) → falls m k ≡ true
 falls-rule = in-each falls refl
 
 -- what is known is so
@@ -194,40 +194,40 @@ weaker w v b x c f g h = record { mode = f h.mode; saved = λ e. h.saved (g e); 
 wider : (b : Bool) (p : Do) → b ≡ true → leaves b p ≡ true
 wider b p e = rw e (leaves-true p)
 
-pub level-plain : (k : Kind) (m : Mode) → is_texty m ≡ false → leb (level k m) 30 ≡ true
+pub level-plain : (k : TokenKind) (m : Mode) → is_texty m ≡ false → leb (level k m) 30 ≡ true
 level-plain k m = other (is_texty m) (leb (level k m) 30) (in-each (λ m k. is_texty m || leb (level k m) 30) refl m k)
 
 module _ {N : Type 0} (n : Naming N) (tells : n.tag (n.known tag.Img) ≡ tag.Img) where
-  abbrev pub Lower : Option (Kind × ℕ) → Token N → State N → Type 0
+  abbrev pub Lower : Option (TokenKind × ℕ) → Token N → State N → Type 0
   Lower (Some l) t s = level (kind_of n t) s.control.mode < l.1
   Lower None t s = ⊥
 
-  abbrev pub FlowHolds : Option (Kind × ℕ) → Known → Bool → Flow N → Type 0
+  abbrev pub FlowHolds : Option (TokenKind × ℕ) → Known → Bool → Flow N → Type 0
   FlowHolds l w b (Done s) = Holds w b s.control
   FlowHolds l w b (Again t s) = Sound s.control × Lower l t s
   FlowHolds l w b (Refused r) = Unit {0}
 
-  abbrev IsOf : Option (Kind × ℕ) → Token N → Type 0
+  abbrev IsOf : Option (TokenKind × ℕ) → Token N → Type 0
   IsOf (Some l) t = kind_of n t ≡ l.0
   IsOf None t = Unit {0}
 
-  flow-weaker : (l : Option (Kind × ℕ)) (w v : Known) (b x : Bool) (f : Flow N) → ((m : Mode) → IsKnown v m → IsKnown w m) → (b ≡ true → x ≡ true) → FlowHolds l v x f → FlowHolds l w b f
+  flow-weaker : (l : Option (TokenKind × ℕ)) (w v : Known) (b x : Bool) (f : Flow N) → ((m : Mode) → IsKnown v m → IsKnown w m) → (b ≡ true → x ≡ true) → FlowHolds l v x f → FlowHolds l w b f
   flow-weaker l w v b x (Done s) g k h = weaker w v b x s.control (g s.control.mode) k h
   flow-weaker l w v b x (Again t s) g k h = h
   flow-weaker l w v b x (Refused r) g k h = tt
 
-  holds-then : (l : Option (Kind × ℕ)) (w v : Known) (b x : Bool) (f : Flow N) (g : State N → Flow N) → FlowHolds l w b f → ((s : State N) → Holds w b s.control → FlowHolds l v x (g s)) → FlowHolds l v x (flow_then f g)
+  holds-then : (l : Option (TokenKind × ℕ)) (w v : Known) (b x : Bool) (f : Flow N) (g : State N → Flow N) → FlowHolds l w b f → ((s : State N) → Holds w b s.control → FlowHolds l v x (g s)) → FlowHolds l v x (flow_then f g)
   holds-then l w v b x (Done s) g h k = k s h
   holds-then l w v b x (Again t s) g h k = h
   holds-then l w v b x (Refused r) g h k = tt
 
-  holds-map : (l : Option (Kind × ℕ)) (w : Known) (b v : Bool) (f : Flow N) → FlowHolds l w b f → FlowHolds l w b (flow_map (with_foster v) f)
+  holds-map : (l : Option (TokenKind × ℕ)) (w : Known) (b v : Bool) (f : Flow N) → FlowHolds l w b f → FlowHolds l w b (flow_map (with_foster v) f)
   holds-map l w b v (Done s) h = h
   holds-map (Some l) w b v (Again t s) h = h
   holds-map None w b v (Again t s) h = h
   holds-map l w b v (Refused r) h = tt
 
-  holds-each : (l : Option (Kind × ℕ)) (b : Bool) (f : Placed → State N → Flow N) → ((c : Placed) (s : State N) → Holds Any b s.control → FlowHolds None Any b (f c s)) → (cs : List Placed) (s : State N) → Holds Any b s.control → FlowHolds l Any b (each_of f cs s)
+  holds-each : (l : Option (TokenKind × ℕ)) (b : Bool) (f : Placed → State N → Flow N) → ((c : Placed) (s : State N) → Holds Any b s.control → FlowHolds None Any b (f c s)) → (cs : List Placed) (s : State N) → Holds Any b s.control → FlowHolds l Any b (each_of f cs s)
   holds-each l b f k [] s h = h
   holds-each l b f k (c ∷ cs) s h = go (f c s) (k c s h) (holds-each l b f k cs)
     where
@@ -236,29 +236,29 @@ module _ {N : Type 0} (n : Naming N) (tells : n.tag (n.known tag.Img) ≡ tag.Im
       go (Again t u) m more = absurd m.1
       go (Refused r) m more = tt
 
-  holds-site : (l : Option (Kind × ℕ)) (w : Known) (b : Bool) (s : State N) (o : Outcome (SiteOf N)) → Holds w b s.control → FlowHolds l w b (flow_of s o)
+  holds-site : (l : Option (TokenKind × ℕ)) (w : Known) (b : Bool) (s : State N) (o : Outcome (SiteOf N)) → Holds w b s.control → FlowHolds l w b (flow_of s o)
   holds-site l w b s (Goes x) h = h
   holds-site l w b s (site.Refused r) h = tt
 
-  lower-is : (k : Kind) (r : ℕ) (w : Known) (m : Mode) → lower k r w ≡ true → IsKnown w m → level k m < r
+  lower-is : (k : TokenKind) (r : ℕ) (w : Known) (m : Mode) → lower k r w ≡ true → IsKnown w m → level k m < r
   lower-is k r (At x) m e h = rw h (ltb-true (level k x) r e)
   lower-is k r Plain m e h = omega (arith, leb-true (level k m) 30 (level-plain k m h), ltb-true 30 r e)
   lower-is k r Any m e h = never e
 
-  renamed-kind : (t : Token N) (k : Kind) → kind_of n t ≡ k → is_start k ≡ true → kind_of n (renamed (n.known tag.Img) t) ≡ Start family.Area
+  renamed-kind : (t : Token N) (k : TokenKind) → kind_of n t ≡ k → is_start k ≡ true → kind_of n (renamed (n.known tag.Img) t) ≡ Start family.Area
   renamed-kind (start x attrs closing) k e i = rw tells refl
-  renamed-kind (end x) k e i = let clash = subst (λ (j : Kind). is_start j ≡ true) (sym e) i in cc
-  renamed-kind (doctype a b c d) k e i = let clash = subst (λ (j : Kind). is_start j ≡ true) (sym e) i in cc
-  renamed-kind (comment a) k e i = let clash = subst (λ (j : Kind). is_start j ≡ true) (sym e) i in cc
-  renamed-kind eof k e i = let clash = subst (λ (j : Kind). is_start j ≡ true) (sym e) i in cc
-  renamed-kind (character c) k e i = not-start (c == 0) (is_space c) (subst (λ (j : Kind). is_start j ≡ true) (sym e) i)
+  renamed-kind (end x) k e i = let clash = subst (λ (j : TokenKind). is_start j ≡ true) (sym e) i in cc
+  renamed-kind (doctype a b c d) k e i = let clash = subst (λ (j : TokenKind). is_start j ≡ true) (sym e) i in cc
+  renamed-kind (comment a) k e i = let clash = subst (λ (j : TokenKind). is_start j ≡ true) (sym e) i in cc
+  renamed-kind eof k e i = let clash = subst (λ (j : TokenKind). is_start j ≡ true) (sym e) i in cc
+  renamed-kind (character c) k e i = not-start (c == 0) (is_space c) (subst (λ (j : TokenKind). is_start j ≡ true) (sym e) i)
     where
       not-start : (u v : Bool) → is_start (cond u Nul (cond v Ws Char)) ≡ true → kind_of n (renamed (n.known tag.Img) (character c)) ≡ Start family.Area
       not-start true v e = cc
       not-start false true e = cc
       not-start false false e = cc
 
-  perform-down : (l : Option (Kind × ℕ)) (w : Known) (b : Bool) (p : Do) → goes_down l w b p ≡ true → (at : ℕ) (t : Token N) → IsOf l t → (s : State N) → Holds w b s.control → FlowHolds l (mode_after w p) (leaves b p) (perform n at t p s)
+  perform-down : (l : Option (TokenKind × ℕ)) (w : Known) (b : Bool) (p : Do) → goes_down l w b p ≡ true → (at : ℕ) (t : Token N) → IsOf l t → (s : State N) → Holds w b s.control → FlowHolds l (mode_after w p) (leaves b p) (perform n at t p s)
   perform-down l w b (p ▸ q) calm at t o s h =
       let parts = both (goes_down l w b p) (goes_down l (mode_after w p) (leaves b p) q) calm in
       holds-then l (mode_after w p) (mode_after (mode_after w p) q) (leaves b p) (leaves (leaves b p) q) (perform n at t p s) (perform n at t q) (perform-down l w b p parts.0 at t o s h) (λ u m. perform-down l (mode_after w p) (leaves b p) q parts.1 at t o u m)

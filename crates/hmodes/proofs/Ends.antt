@@ -14,7 +14,7 @@ use Rattle.hadopt.specs.Site as site
 use Rattle.hmodes.specs.declared.mode.Mode.{Mode}
 use Rattle.hmodes.specs.declared.mode.Mode.TheVariants.{Text, InTable, InTableText, InColumnGroup, InTableBody, InRow}
 use Rattle.hmodes.specs.declared.family.Family.TheVariants as family
-use Rattle.hmodes.specs.Words.{Kind, Nul, Ws, Char, Start, ◌▸◌, pop_to, reset, again}
+use Rattle.hmodes.specs.Words.{TokenKind, Nul, Ws, Char, Start, ◌▸◌, pop_to, reset, again}
 use Rattle.hmodes.specs.State.{Token, State, Flow, Done, Again, Refused, kind_of}
 use Rattle.hmodes.specs.Perform.{perform, with_site}
 use Rattle.hmodes.specs.Rules.{rule_of, code_of}
@@ -29,21 +29,21 @@ abbrev extra : Mode → ℕ
 extra InColumnGroup = 1
 extra _ = 0
 
--- how high a token stands in a mode that is not of text, under so many open nodes
-abbrev weight : Kind → Mode → ℕ → ℕ
+-- how high a token stands in a mode that is not of text, under this many open nodes
+abbrev weight : TokenKind → Mode → ℕ → ℕ
 weight k m count = 1 + (if is_tabular k m then 30 + (count + count) + extra m else level k m)
 
-tabular-level : (k : Kind) (m : Mode) → is_tabular k m ≡ true → level k m ≡ 30
+tabular-level : (k : TokenKind) (m : Mode) → is_tabular k m ≡ true → level k m ≡ 30
 tabular-level k m e = eqb-true (level k m) 30 (other (not (is_tabular k m)) (level k m == 30) (in-each (λ m k. not (is_tabular k m) || (level k m == 30)) refl m k) (ap not e))
 
 -- the start tag of a table, in the modes that it closes
-data Tabular : Kind → Mode → Type 0 where
+data Tabular : TokenKind → Mode → Type 0 where
   table : Tabular (Start family.Table) InTable
   body : Tabular (Start family.Table) InTableBody
   row : Tabular (Start family.Table) InRow
   column : Tabular (Start family.Table) InColumnGroup
 
-is-tabular : (k : Kind) (m : Mode) → is_tabular k m ≡ true → Tabular k m
+is-tabular : (k : TokenKind) (m : Mode) → is_tabular k m ≡ true → Tabular k m
 is-tabular (Start family.Table) InTable e = table
 is-tabular (Start family.Table) InTableBody e = body
 is-tabular (Start family.Table) InRow e = row
@@ -56,10 +56,10 @@ tabular-weight c = omega arith
 extra-most : (m : Mode) → extra m ≤ 1
 extra-most m = leb-true (extra m) 1 (each-mode (λ m. leb (extra m) 1) refl m)
 
-cap-most : (k : Kind) (m : Mode) → cap k m ≤ 40
+cap-most : (k : TokenKind) (m : Mode) → cap k m ≤ 40
 cap-most k m = leb-true (cap k m) 40 (in-each (λ m k. leb (cap k m) 40) refl m k)
 
-weight-most : (k : Kind) (m : Mode) (count : ℕ) → is_texty m ≡ false → weight k m count ≤ 32 + (count + count)
+weight-most : (k : TokenKind) (m : Mode) (count : ℕ) → is_texty m ≡ false → weight k m count ≤ 32 + (count + count)
 weight-most k m count e = go (is_tabular k m)
   where
     go : (v : Bool) → 1 + cond v (30 + (count + count) + extra m) (level k m) ≤ 32 + (count + count)
@@ -67,7 +67,7 @@ weight-most k m count e = go (is_tabular k m)
     go false = omega (arith, leb-true (level k m) 30 (level-plain k m e))
 
 -- no character goes again in table text
-waits : (k : Kind) → is_char k ≡ true → may_again (in_table_text k) ≡ false
+waits : (k : TokenKind) → is_char k ≡ true → may_again (in_table_text k) ≡ false
 waits Nul e = refl
 waits Ws e = refl
 waits Char e = refl
@@ -152,15 +152,15 @@ module _ {N : Type 0} (n : Naming N) where
       scoped : in_scope (stops n.tag scope.Table) (is n tag.Table) (stack s.site) ≡ in_scope (stops n.tag scope.Table) (is n tag.Table) (stack s.site)
       scoped = refl
 
-      closing : (k : Kind) (m : Mode) → kind_of n t ≡ k → s.control.mode ≡ m
+      closing : (k : TokenKind) (m : Mode) → kind_of n t ≡ k → s.control.mode ≡ m
           → weight k m (length (stack s.site)) ≡ 31 + (length (stack s.site) + length (stack s.site)) → perform n at t (in_table (Start family.Table)) s ≡ Again t' s'
           → weight_of t' s' < weight_of t s
       closing k m e is weighs rule =
           let same : weight_of t s ≡ 31 + (length (stack s.site) + length (stack s.site)) =
-          ap (λ (x : Kind). weight x s.control.mode (length (stack s.site))) e ∙ ap (λ (x : Mode). weight k x (length (stack s.site))) is ∙ weighs in
+          ap (λ (x : TokenKind). weight x s.control.mode (length (stack s.site))) e ∙ ap (λ (x : Mode). weight k x (length (stack s.site))) is ∙ weighs in
           subst (λ (x : ℕ). weight_of t' s' < x) (sym same) (closes at t t' s s' plain _ scoped rule)
 
-      go : (k : Kind) (m : Mode) → kind_of n t ≡ k → s.control.mode ≡ m → Tabular k m → perform n at t (rule_of m k) s ≡ Again t' s' → weight_of t' s' < weight_of t s
+      go : (k : TokenKind) (m : Mode) → kind_of n t ≡ k → s.control.mode ≡ m → Tabular k m → perform n at t (rule_of m k) s ≡ Again t' s' → weight_of t' s' < weight_of t s
       go k m e is table rule = closing k m e is (tabular-weight (length (stack s.site))) rule
       go k m e is body rule = closing k m e is (tabular-weight (length (stack s.site))) rule
       go k m e is row rule = closing k m e is (tabular-weight (length (stack s.site))) rule
@@ -170,7 +170,7 @@ module _ {N : Type 0} (n : Naming N) where
       → Rule n at t s ≡ Again t' s' → weight_of t' s' < weight_of t s
   plain-falls at t t' s s' plain plain' low rule = go (is_tabular (kind_of n t) s.control.mode) refl low
     where
-      k' : Kind
+      k' : TokenKind
       k' = kind_of n t'
 
       m' : Mode
@@ -185,7 +185,7 @@ module _ {N : Type 0} (n : Naming N) where
       go false e l = rw e (among (is_tabular k' m') refl l)
       go true e l = tabular-falls at t t' s s' plain' e rule
 
-  abbrev rule_cap : Token N → State N → Option (Kind × ℕ)
+  abbrev rule_cap : Token N → State N → Option (TokenKind × ℕ)
   rule_cap t s = Some (kind_of n t, cap (kind_of n t) s.control.mode)
 
   module _ (tells : n.tag (n.known tag.Img) ≡ tag.Img) where

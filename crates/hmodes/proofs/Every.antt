@@ -7,7 +7,7 @@ use Rattle.hmodes.specs.declared.family.Family.{Family}
 use Rattle.hmodes.specs.declared.family.Family.TheVariants as family
 use Rattle.hmodes.specs.declared.mode.Mode.{Mode}
 use Rattle.hmodes.specs.declared.mode.Mode.TheVariants.{Initial, BeforeHtml, BeforeHead, InHead, InHeadNoscript, AfterHead, InBody, Text, InTable, InTableText, InCaption, InColumnGroup, InTableBody, InRow, InCell, AfterBody, AfterAfterBody}
-use Rattle.hmodes.specs.Words.{Kind, Nul, Ws, Char, Comment, Doctype, Start, End, Eof}
+use Rattle.hmodes.specs.Words.{TokenKind, Nul, Ws, Char, Comment, Doctype, Start, End, Eof}
 
 pub never : {A : Type 0} → false ≡ true → A
 never e = absurd (false≢true e)
@@ -85,16 +85,16 @@ each-family f all family.Cell = at-family f 40 all
 each-family f all family.Template = at-family f 41 all
 each-family f all family.Other = at-family f 42 all
 
-abbrev singles : List Kind
+abbrev singles : List TokenKind
 singles = Nul ∷ Ws ∷ Char ∷ Comment ∷ Doctype ∷ []
 
-abbrev pub all_kinds : (Kind → Bool) → Bool
+abbrev pub all_kinds : (TokenKind → Bool) → Bool
 all_kinds f = (f Eof && list_all f singles) && (all_families (λ x. f (Start x)) && all_families (λ x. f (End x)))
 
-at-single : (f : Kind → Bool) (k : ℕ) → (f Eof && list_all f singles) ≡ true → f (get_or singles k Eof) ≡ true
+at-single : (f : TokenKind → Bool) (k : ℕ) → (f Eof && list_all f singles) ≡ true → f (get_or singles k Eof) ≡ true
 at-single f k all = let parts = both (f Eof) (list_all f singles) all in at f Eof parts.0 singles k parts.1
 
-pub each-kind : (f : Kind → Bool) → all_kinds f ≡ true → (k : Kind) → f k ≡ true
+pub each-kind : (f : TokenKind → Bool) → all_kinds f ≡ true → (k : TokenKind) → f k ≡ true
 each-kind f all = go parts.0 tags.0 tags.1
   where
     parts : ((f Eof && list_all f singles) ≡ true) × ((all_families (λ x. f (Start x)) && all_families (λ x. f (End x))) ≡ true)
@@ -103,7 +103,7 @@ each-kind f all = go parts.0 tags.0 tags.1
     tags : (all_families (λ x. f (Start x)) ≡ true) × (all_families (λ x. f (End x)) ≡ true)
     tags = both (all_families (λ x. f (Start x))) (all_families (λ x. f (End x))) parts.1
 
-    go : (f Eof && list_all f singles) ≡ true → all_families (λ x. f (Start x)) ≡ true → all_families (λ x. f (End x)) ≡ true → (k : Kind) → f k ≡ true
+    go : (f Eof && list_all f singles) ≡ true → all_families (λ x. f (Start x)) ≡ true → all_families (λ x. f (End x)) ≡ true → (k : TokenKind) → f k ≡ true
     go one starts ends (Start x) = each-family (λ x. f (Start x)) starts x
     go one starts ends (End x) = each-family (λ x. f (End x)) ends x
     go one starts ends Nul = at-single f 0 one
@@ -142,8 +142,8 @@ each-mode f all InCell = at-mode f 14 all
 each-mode f all AfterBody = at-mode f 15 all
 each-mode f all AfterAfterBody = at-mode f 16 all
 
-abbrev pub of_each : (Mode → Kind → Bool) → Bool
+abbrev pub of_each : (Mode → TokenKind → Bool) → Bool
 of_each f = all_modes (λ m. all_kinds (f m))
 
-pub in-each : (f : Mode → Kind → Bool) → of_each f ≡ true → (m : Mode) (k : Kind) → f m k ≡ true
+pub in-each : (f : Mode → TokenKind → Bool) → of_each f ≡ true → (m : Mode) (k : TokenKind) → f m k ≡ true
 in-each f all m k = each-kind (f m) (each-mode (λ m. all_kinds (f m)) all m) k

@@ -10,7 +10,7 @@ use Rattle.hadopt.specs.Site.{Outcome, Goes, SiteOf, stack, trees}
 use Rattle.hadopt.specs.Site as site
 use Rattle.hmodes.specs.declared.mode.Mode.{Mode}
 use Rattle.hmodes.specs.declared.mode.Mode.TheVariants.{BeforeHead, InHead, InHeadNoscript, AfterHead, InBody, Text, InTableText}
-use Rattle.hmodes.specs.Words.{Kind, Do, ◌▸◌, when, unless, choose, fostered, each_pending, again, again_as, to, save_mode, to_saved, reset, insert, insert_named, insert_root, insert_root_named, insert_comment, comment_in_document, comment_in_first, insert_doctype, put, push_head, reconstruct, adopt, adopt_listed}
+use Rattle.hmodes.specs.Words.{TokenKind, Do, ◌▸◌, when, unless, choose, fostered, each_pending, again, again_as, to, save_mode, to_saved, reset, insert, insert_named, insert_root, insert_root_named, insert_comment, comment_in_document, comment_in_first, insert_doctype, put, push_head, reconstruct, adopt, adopt_listed}
 use Rattle.hmodes.specs.State.{Token, character, Control, State, Flow, Done, Again, Refused, flow_then, flow_map}
 use Rattle.hmodes.specs.Reset.{open_mode, context_mode, root_mode, reset_mode}
 use Rattle.hmodes.specs.Questions.{answer_of}
@@ -52,7 +52,7 @@ abbrev pub is_led : Mode → Bool
 is_led BeforeHead = true
 is_led m = is_early m
 
-pub lates-rule : (m : Mode) (k : Kind) → (is_led m || lates (is_texty m) (rule_of m k)) ≡ true
+pub lates-rule : (m : Mode) (k : TokenKind) → (is_led m || lates (is_texty m) (rule_of m k)) ≡ true
 lates-rule = in-each (λ m k. is_led m || lates (is_texty m) (rule_of m k)) refl
 
 pub leaves-true : (p : Do) → leaves true p ≡ true

@@ -38,7 +38,7 @@ use Rattle.hmodes.specs.Words.{Do, ◌▸◌, when, unless, choose, fostered, ea
 use Rattle.hmodes.specs.Words as word
 
 module _ {N : Type 0} (k : ℕ) where
-  -- at least so many nodes were made
+  -- at least this many nodes were made
   abbrev pub Holds : SiteOf N → Type 0
   Holds s = k ≤ s.nodes.made
 

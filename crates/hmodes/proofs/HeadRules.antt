@@ -23,7 +23,7 @@ use Rattle.hadopt.proofs.Turning.{erred}
 use Rattle.hadopt.proofs.Inserting.{inserted-well, place-fits}
 use Rattle.hmodes.specs.declared.mode.Mode.TheVariants.{BeforeHead, InHead, InHeadNoscript, AfterHead, InBody, Text}
 use Rattle.hmodes.specs.declared.family.Family.TheVariants as family
-use Rattle.hmodes.specs.Words.{Kind, Nul, Ws, Char, Comment, Doctype, Start, End, Eof, Do, ◌▸◌, nothing, again, error, to, save_mode, to_saved, head_pointer, insert, insert_named, insert_comment, put, pop, push_head, remove_head, add_missing_to_first}
+use Rattle.hmodes.specs.Words.{TokenKind, Nul, Ws, Char, Comment, Doctype, Start, End, Eof, Do, ◌▸◌, nothing, again, error, to, save_mode, to_saved, head_pointer, insert, insert_named, insert_comment, put, pop, push_head, remove_head, add_missing_to_first}
 use Rattle.hmodes.specs.State.{Token, State, Flow, Done, Again, Refused, flow_then, token_name, token_attrs, token_text, token_char}
 use Rattle.hmodes.specs.Programs.{void, raw, html_again}
 use Rattle.hmodes.specs.Rules.{code_of}
@@ -56,7 +56,7 @@ quiet-tame _ e = never e
 
 -- what holds of the programs of a mode's rules holds of each rule
 module _ (P : Do → Type 0) (quietly : (p : Do) → quiet p ≡ true → P p) where
-  in-head-cases : P void → P raw → P (insert ▸ to InHeadNoscript) → P (pop ▸ to AfterHead) → P head_ends → (k : Kind) → P (in_head k)
+  in-head-cases : P void → P raw → P (insert ▸ to InHeadNoscript) → P (pop ▸ to AfterHead) → P head_ends → (k : TokenKind) → P (in_head k)
   in-head-cases v r noscript close end Ws = quietly put refl
   in-head-cases v r noscript close end Comment = quietly insert_comment refl
   in-head-cases v r noscript close end Doctype = quietly (error InHead) refl
@@ -76,7 +76,7 @@ module _ (P : Do → Type 0) (quietly : (p : Do) → quiet p ≡ true → P p) w
   in-head-cases v r noscript close end (End _) = quietly (error InHead) refl
   in-head-cases v r noscript close end _ = end
 
-  noscript-cases : P void → P raw → P (pop ▸ to InHead) → P noscript_ends → (k : Kind) → P (in_head_noscript k)
+  noscript-cases : P void → P raw → P (pop ▸ to InHead) → P noscript_ends → (k : TokenKind) → P (in_head_noscript k)
   noscript-cases v r close end Doctype = quietly (error InHeadNoscript) refl
   noscript-cases v r close end (Start family.Html) = quietly html_again refl
   noscript-cases v r close end (End family.Noscript) = close
@@ -91,7 +91,7 @@ module _ (P : Do → Type 0) (quietly : (p : Do) → quiet p ≡ true → P p) w
   noscript-cases v r close end (End _) = quietly (error InHeadNoscript) refl
   noscript-cases v r close end _ = end
 
-  text-cases : P (error Text ▸ pop ▸ to_saved ▸ again) → P (pop ▸ to_saved) → (k : Kind) → P (text k)
+  text-cases : P (error Text ▸ pop ▸ to_saved ▸ again) → P (pop ▸ to_saved) → (k : TokenKind) → P (text k)
   text-cases unended end Nul = quietly put refl
   text-cases unended end Ws = quietly put refl
   text-cases unended end Char = quietly put refl
@@ -99,7 +99,7 @@ module _ (P : Do → Type 0) (quietly : (p : Do) → quiet p ≡ true → P p) w
   text-cases unended end (End _) = end
   text-cases unended end _ = quietly (error Text) refl
 
-  after-head-cases : P (insert ▸ to InBody) → P (late void) → P (late raw) → P body_unwritten → (k : Kind) → P (after_head k)
+  after-head-cases : P (insert ▸ to InBody) → P (late void) → P (late raw) → P body_unwritten → (k : TokenKind) → P (after_head k)
   after-head-cases body v r unwritten Ws = quietly put refl
   after-head-cases body v r unwritten Comment = quietly insert_comment refl
   after-head-cases body v r unwritten Doctype = quietly (error AfterHead) refl
@@ -118,7 +118,7 @@ module _ (P : Do → Type 0) (quietly : (p : Do) → quiet p ≡ true → P p) w
   after-head-cases body v r unwritten (End _) = quietly (error AfterHead) refl
   after-head-cases body v r unwritten _ = unwritten
 
-  before-head-cases : P (insert ▸ head_pointer ▸ to InHead) → P head_unwritten → (k : Kind) → P (before_head k)
+  before-head-cases : P (insert ▸ head_pointer ▸ to InHead) → P head_unwritten → (k : TokenKind) → P (before_head k)
   before-head-cases head unwritten Ws = quietly nothing refl
   before-head-cases head unwritten Comment = quietly insert_comment refl
   before-head-cases head unwritten Doctype = quietly (error BeforeHead) refl
@@ -193,17 +193,17 @@ module _ {N : Type 0} (n : Naming N) (tells : TellsTables n) (at : ℕ) (t : Tok
   by-quiet p e s w f = quiet-flow n s (perform n at t p s) w (perform-quiet p e s w) f
 
   -- by the rules of the head
-  pub in-head-rule : (k : Kind) (s : State N) → s.control.mode ≡ InHead → Well n s.site → IsAt s.control.head (stack s.site) → HeadFacts s → FlowFacts (perform n at t (in_head k) s)
+  pub in-head-rule : (k : TokenKind) (s : State N) → s.control.mode ≡ InHead → Well n s.site → IsAt s.control.head (stack s.site) → HeadFacts s → FlowFacts (perform n at t (in_head k) s)
   in-head-rule k s is w o f =
       in-head-cases (λ p. FlowFacts (perform n at t p s)) (λ p e. by-quiet p e s w f) (quiet-flow n s (perform n at t void s) w (void-quiet s w) f) (raw-facts s w (rw is o))
       (noscript-facts s w o) (pop-out s.control.head s.site w o) (pop-out s.control.head s.site w o) k
 
-  pub noscript-rule : (k : Kind) (s : State N) → s.control.mode ≡ InHeadNoscript → Well n s.site → IsAt s.control.head (drop 1 (stack s.site)) → HeadFacts s → FlowFacts (perform n at t (in_head_noscript k) s)
+  pub noscript-rule : (k : TokenKind) (s : State N) → s.control.mode ≡ InHeadNoscript → Well n s.site → IsAt s.control.head (drop 1 (stack s.site)) → HeadFacts s → FlowFacts (perform n at t (in_head_noscript k) s)
   noscript-rule k s is w o f =
       noscript-cases (λ p. FlowFacts (perform n at t p s)) (λ p e. by-quiet p e s w f) (quiet-flow n s (perform n at t void s) w (void-quiet s w) f) (raw-facts s w (rw is o)) o o k
 
   -- text whose saved mode is one of the head's
-  pub text-rule : (k : Kind) (s : State N) → s.control.mode ≡ Text → Well n s.site → Facts s.control.saved s.control.saved s.control.head (drop 1 (stack s.site)) (trees s.site) → HeadFacts s → FlowFacts (perform n at t (text k) s)
+  pub text-rule : (k : TokenKind) (s : State N) → s.control.mode ≡ Text → Well n s.site → Facts s.control.saved s.control.saved s.control.head (drop 1 (stack s.site)) (trees s.site) → HeadFacts s → FlowFacts (perform n at t (text k) s)
   text-rule k s is w o f = text-cases (λ p. FlowFacts (perform n at t p s)) (λ p e. by-quiet p e s w f) o o k
 
   -- the head, where it is set, on top of the open nodes
@@ -264,9 +264,9 @@ module _ {N : Type 0} (n : Naming N) (tells : TellsTables n) (at : ℕ) (t : Tok
             let there : 0 < deep h 0 (trees x) = rw e (o h j).0.0 in
             omega (arith, (deep-there x.nodes.made (trees x) a.counted h 0 there).0)
 
-    pub after-head-rule : (k : Kind) → HeadFacts s → FlowFacts (perform n at t (after_head k) s)
+    pub after-head-rule : (k : TokenKind) → HeadFacts s → FlowFacts (perform n at t (after_head k) s)
     after-head-rule k f =
         after-head-cases (λ p. FlowFacts (perform n at t p s)) (λ p e. by-quiet p e s w f) (body-facts s w) late-void late-raw (unwritten-facts s w) k
 
-  pub before-head-rule : (k : Kind) (s : State N) → Well n s.site → HeadFacts s → FlowFacts (perform n at t (before_head k) s)
+  pub before-head-rule : (k : TokenKind) (s : State N) → Well n s.site → HeadFacts s → FlowFacts (perform n at t (before_head k) s)
   before-head-rule k s w f = before-head-cases (λ p. FlowFacts (perform n at t p s)) (λ p e. by-quiet p e s w f) (head-facts s w) (head-unwritten-facts s w) k

@@ -20,7 +20,7 @@ use Rattle.hmodes.specs.Rules.{rule_of}
 use Rattle.hmodes.specs.State.{State, character, flow_then}
 use Rattle.hmodes.specs.Step.{Rule}
 use Rattle.hmodes.specs.Words.{put}
-use Rattle.hmodes.specs.declared.kind.Kind.TheVariants.{Ws, Char, Nul}
+use Rattle.hmodes.specs.declared.token_kind.TokenKind.TheVariants.{Ws, Char, Nul}
 use Rattle.hmodes.specs.declared.mode.Mode.{Mode}
 use Rattle.hmodes.specs.declared.mode.Mode.TheVariants as mode
 use Rattle.hmodes.specs.Runs.{is_reconstructed, puts_in}

@@ -33,7 +33,7 @@ use Rattle.hmodes.specs.declared.mode.Mode.{Mode}
 use Rattle.hmodes.specs.declared.mode.Mode.TheVariants.{AfterHead}
 use Rattle.hmodes.specs.declared.family.Family.TheVariants as family
 use Rattle.hmodes.specs.Families.{family_of}
-use Rattle.hmodes.specs.Words.{Kind, Nul, Ws, Char, Start, Do, ◌▸◌, when, unless, choose, fostered, each_pending, error, insert, insert_named, insert_root, insert_root_named, insert_comment, comment_in_document, comment_in_first, insert_doctype, put, add_missing_to_first, add_missing_to_second, pop, pop_to, pop_to_name, pop_to_group, implied, implied_except, implied_except_name, clear_to_table, clear_to_body, clear_to_row, push_head, remove_head, remove_form, reconstruct, push_to_list, marker, clear_to_marker, close_p, adopt, adopt_listed, other_end}
+use Rattle.hmodes.specs.Words.{TokenKind, Nul, Ws, Char, Start, Do, ◌▸◌, when, unless, choose, fostered, each_pending, error, insert, insert_named, insert_root, insert_root_named, insert_comment, comment_in_document, comment_in_first, insert_doctype, put, add_missing_to_first, add_missing_to_second, pop, pop_to, pop_to_name, pop_to_group, implied, implied_except, implied_except_name, clear_to_table, clear_to_body, clear_to_row, push_head, remove_head, remove_form, reconstruct, push_to_list, marker, clear_to_marker, close_p, adopt, adopt_listed, other_end}
 use Rattle.hmodes.specs.State.{Token, character, start, end, doctype, comment, eof, State, Flow, Done, Again, Refused, kind_of, flow_then, flow_map, token_name, token_attrs, token_text, token_char}
 use Rattle.hmodes.specs.Questions.{answer_of}
 use Rattle.hmodes.specs.Doctypes.{doctype_node}
@@ -56,7 +56,7 @@ tame v push_to_list = v
 tame v _ = true
 
 -- the tags that are listed
-abbrev may_list : Kind → Bool
+abbrev may_list : TokenKind → Bool
 may_list (Start family.A) = true
 may_list (Start family.Formatting) = true
 may_list (Start family.Nobr) = true
@@ -186,7 +186,7 @@ module _ {N : Type 0} (n : Naming N) where
     perform-well v p calm at t name s h = h
 
 -- what is late in the head
-abbrev is_late : Kind → Bool
+abbrev is_late : TokenKind → Bool
 is_late (Start family.Base) = true
 is_late (Start family.Link) = true
 is_late (Start family.Noframes) = true
@@ -196,11 +196,11 @@ is_late (Start family.Title) = true
 is_late _ = false
 
 -- whether a rule opens the head again
-abbrev opens_head : Mode → Kind → Bool
+abbrev opens_head : Mode → TokenKind → Bool
 opens_head AfterHead k = is_late k
 opens_head _ k = false
 
-tame-rule : (m : Mode) (k : Kind) → (opens_head m k || tame (may_list k) (rule_of m k)) ≡ true
+tame-rule : (m : Mode) (k : TokenKind) → (opens_head m k || tame (may_list k) (rule_of m k)) ≡ true
 tame-rule = in-each (λ m k. opens_head m k || tame (may_list k) (rule_of m k)) refl
 
 -- none of them is for a table
@@ -248,7 +248,7 @@ module _ {N : Type 0} (n : Naming N) (tells : TellsTables n) where
       (λ u m. perform-well n tells false (p ▸ remove_head) (rw calm refl) at t (λ e. cc) u m)
 
   -- what is late is late by name
-  late-rule : (k : Kind) → is_late k ≡ true → (at : ℕ) (t : Token N) (s : State N) → HeadOut s → Well n s.site → FlowWell n (perform n at t (after_head k) s)
+  late-rule : (k : TokenKind) → is_late k ≡ true → (at : ℕ) (t : Token N) (s : State N) → HeadOut s → Well n s.site → FlowWell n (perform n at t (after_head k) s)
   late-rule (Start family.Base) e = late-well (in_head (Start family.Base)) refl
   late-rule (Start family.Link) e = late-well (in_head (Start family.Link)) refl
   late-rule (Start family.Noframes) e = late-well (in_head (Start family.Noframes)) refl

@@ -24,7 +24,7 @@ abbrev pub StepGives : ℕ → Token ℕ → State ℕ → Result (Unit {0}) Ref
 StepGives at t old (Ok _) new = Step numbers at t old (Goes new)
 StepGives at t old (Err e) new = (e ≡ Memory) ⊎ Step numbers at t old (site.Refused e)
 
--- .. of the rules of a token that has begun
+-- the same of the rules of a token that has begun
 abbrev pub ChainGives : ℕ → Token ℕ → State ℕ → Result (Unit {0}) Refusal → State ℕ → Type 0
 ChainGives at t old (Ok _) new = Chain numbers at t old (Goes new)
 ChainGives at t old (Err e) new = (e ≡ Memory) ⊎ Chain numbers at t old (site.Refused e)

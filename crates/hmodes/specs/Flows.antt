@@ -15,7 +15,7 @@ FlowGives (Ok answer.Done) t new flow = flow ≡ Done new
 FlowGives (Ok answer.Again) t new flow = flow ≡ Again t new
 FlowGives (Err e) t new flow = (e ≡ Memory) ⊎ (flow ≡ Refused e)
 
--- the same of a part of a rule, which does not have the token go again
+-- the same of a part of a rule, which does not reprocess the token
 abbrev pub StateGives : {A : Type 0} → Result A Refusal → State ℕ → Flow ℕ → Type 0
 StateGives (Ok _) new flow = flow ≡ Done new
 StateGives (Err e) new flow = (e ≡ Memory) ⊎ (flow ≡ Refused e)
@@ -24,6 +24,6 @@ StateGives (Err e) new flow = (e ≡ Memory) ⊎ (flow ≡ Refused e)
 abbrev pub performed : ℕ → Do → State ℕ → Flow ℕ
 performed at program s = perform numbers at eof program s
 
--- .. that looks at its name alone
+-- one that looks at its name alone
 abbrev pub performed_for : ℕ → ℕ → Do → State ℕ → Flow ℕ
 performed_for name at program s = perform numbers at (end name) program s

@@ -29,14 +29,14 @@ is_ended _ = false
 abbrev pub IsLimit : Refusal → Type 0
 IsLimit r = (at : ℕ) × ((r ≡ TooManyNodes at) ⊎ (r ≡ TooDeep at))
 
--- A program that begins in the one state comes to the other, and inserts the token's element there.
+-- A program that begins in the one state reaches the other, and inserts the token's element there.
 pub data Inserts {N : Type 0} (n : Naming N) (at : ℕ) (t : Token N) : Do → State N → State N → Type 0 where
   at_once : {s : State N} → Inserts n at t insert s s
   in_first : {p q : Do} {s v : State N} → Inserts n at t p s v → Inserts n at t (p ▸ q) s v
   in_second : {p q : Do} {s u v : State N} → perform n at t p s ≡ Done u → Inserts n at t q u v → Inserts n at t (p ▸ q) s v
   in_fostered : {p : Do} {s v : State N} → Inserts n at t p (with_foster true s) v → Inserts n at t (fostered p) s v
 
--- .. and so do the rules that the token goes by
+-- the rules that the token goes by do so too
 pub data RulesInsert {N : Type 0} (n : Naming N) (at : ℕ) (t : Token N) : State N → State N → Type 0 where
   by_rule : {s v : State N} → Inserts n at t (rule_of s.control.mode (kind_of n t)) s v → RulesInsert n at t s v
   by_next : {s u v : State N} → Rule n at t s ≡ Again t u → RulesInsert n at t u v → RulesInsert n at t s v
@@ -53,7 +53,7 @@ module _ {N : Type 0} (n : Naming N) (at : ℕ) (name : N) (attrs : List (Attrib
     pub current_is : current (stack s'.site) ≡ current (stack after)
     pub mode_is : s'.control.mode ≡ Text
 
-  -- .. or a limit was reached
+  -- the same, or a limit was reached
   abbrev pub ComesToText : Outcome (State N) → Type 0
   ComesToText (Goes s') = IsInText s'
   ComesToText (site.Refused r) = IsLimit r

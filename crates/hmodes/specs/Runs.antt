@@ -19,6 +19,6 @@ puts_in InCaption x = is_reconstructed x
 puts_in InCell x = is_reconstructed x
 puts_in _ x = false
 
--- .. and goes to the current node, where no LF is dropped before it
+-- the same, and it goes to the current node, where no LF is dropped before it
 abbrev pub puts_each : State ℕ → Bool
 puts_each s = not s.site.foster && not s.control.drop_lf && puts_in s.control.mode s.site

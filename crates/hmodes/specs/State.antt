@@ -10,7 +10,7 @@ use Rattle.hadopt.specs.Naming.{Naming}
 use Rattle.hadopt.specs.Site.{SiteOf}
 use Rattle.hmodes.specs.declared.mode.Mode.{Mode}
 use Rattle.hmodes.specs.Families.{family_of}
-use Rattle.hmodes.specs.Words.{Kind, Nul, Ws, Char, Comment, Doctype, Start, End, Eof}
+use Rattle.hmodes.specs.Words.{TokenKind, Nul, Ws, Char, Comment, Doctype, Start, End, Eof}
 
 -- a token; its texts are their bytes in UTF-8
 pub data Token (N : Type 0) : Type 0 where
@@ -21,12 +21,12 @@ pub data Token (N : Type 0) : Type 0 where
   character : ℕ → Token N
   eof : Token N
 
--- .. with the place of its first byte
+-- a token with the place of its first byte
 pub record PlacedToken (N : Type 0) : Type 0 where
   pub token : Token N
   pub at : ℕ
 
--- the state beside the site
+-- the state other than the site
 pub record Control : Type 0 where
   pub mode : Mode
   pub saved : Mode
@@ -43,7 +43,7 @@ pub record State (N : Type 0) : Type 0 where
   pub context : Option N  -- a fragment's context
   pub quirks_list : List QuirkLine
 
--- What comes of a rule: it ends, or the token goes again, maybe under another name, or it is refused.
+-- What comes of a rule: it ends, or the token is reprocessed, maybe under another name, or it is refused.
 pub data Flow (N : Type 0) : Type 0 where
   Done : State N → Flow N
   Again : Token N → State N → Flow N
@@ -83,7 +83,7 @@ module _ {N : Type 0} where
   renamed name (start x attrs closing) = start name attrs closing
   renamed name t = t
 
-abbrev pub character_kind : ℕ → Kind
+abbrev pub character_kind : ℕ → TokenKind
 character_kind c = if c == 0 then Nul else if is_space c then Ws else Char
 
 module _ {N : Type 0} (n : Naming N) where
@@ -93,7 +93,7 @@ module _ {N : Type 0} (n : Naming N) where
   token_name (end x) = x
   token_name t = n.known Html
 
-  abbrev pub kind_of : Token N → Kind
+  abbrev pub kind_of : Token N → TokenKind
   kind_of (doctype name public_id system_id forced) = Doctype
   kind_of (start x attrs closing) = Start (family_of (n.tag x))
   kind_of (end x) = End (family_of (n.tag x))

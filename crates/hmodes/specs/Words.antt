@@ -2,8 +2,8 @@
 use Rattle.hopen.specs.declared.scope.Scope.{Scope}
 use Rattle.hopen.specs.declared.scope.Group.{Group}
 use Rattle.names.specs.declared.tag.Tag.{Tag}
-pub use Rattle.hmodes.specs.declared.kind.Kind.{Kind}
-pub use Rattle.hmodes.specs.declared.kind.Kind.TheVariants.{Nul, Ws, Char, Comment, Doctype, Start, End, Eof}
+pub use Rattle.hmodes.specs.declared.token_kind.TokenKind.{TokenKind}
+pub use Rattle.hmodes.specs.declared.token_kind.TokenKind.TheVariants.{Nul, Ws, Char, Comment, Doctype, Start, End, Eof}
 use Rattle.hmodes.specs.declared.mode.Mode.{Mode}
 
 -- a question
@@ -31,7 +31,7 @@ pub data Test : Type 0 where
 infixr 5 ◌▸◌
 -- what is done with a token
 pub data Do : Type 0 where
-  -- one after another; a rule that has the token go again does not go on
+  -- one after another; a rule that reprocesses the token does not go on
   nothing : Do
   ◌▸◌ : Do → Do → Do
   when : Test → Do → Do

@@ -12,21 +12,26 @@ ghost use Rattle.hmodes.specs.Words.{◌▸◌, choose, again, error, to, to_sav
 ghost use Rattle.hmodes.specs.declared.mode.Mode.TheVariants.{Text, InBody, AfterBody, AfterAfterBody};
 
 use crate::family::Family;
-use crate::kind::Kind;
 use crate::mode::Mode;
+use crate::token_kind::TokenKind;
 use crate::tree_construction::{Flow, TreeConstruction};
 use htoken::Token;
 use names::Refusal;
 
 impl<'q> TreeConstruction<'q> {
     /// The "text" insertion mode.
-    pub(crate) fn text(&mut self, kind: Kind, token: &mut Token, at: u64) -> Result<Flow, Refusal>
+    pub(crate) fn text(
+        &mut self,
+        kind: TokenKind,
+        token: &mut Token,
+        at: u64,
+    ) -> Result<Flow, Refusal>
         ensures { FlowGives result (token_of token.new) (state_of self.new) (perform numbers at (token_of token.old) (text kind) (state_of self.old)) }
     {
         match kind {
-            Kind::Nul | Kind::Ws | Kind::Char => self.put(token, at),
-            Kind::Eof => self.text_unended(at),
-            Kind::End(_) => self.text_ends(),
+            TokenKind::Nul | TokenKind::Ws | TokenKind::Char => self.put(token, at),
+            TokenKind::Eof => self.text_unended(at),
+            TokenKind::End(_) => self.text_ends(),
             _ => self.ignore(Mode::Text, at),
         }
     }
@@ -54,19 +59,19 @@ impl<'q> TreeConstruction<'q> {
     /// The "after body" insertion mode.
     pub(crate) fn after_body(
         &mut self,
-        kind: Kind,
+        kind: TokenKind,
         token: &mut Token,
         at: u64,
     ) -> Result<Flow, Refusal>
         ensures { FlowGives result (token_of token.new) (state_of self.new) (perform numbers at (token_of token.old) (after_body kind) (state_of self.old)) }
     {
         match kind {
-            Kind::Ws => self.character_in_body(token, at),
-            Kind::Comment => self.comment_in_first(token, at),
-            Kind::Doctype => self.ignore(Mode::AfterBody, at),
-            Kind::Start(Family::Html) => self.html_again(token, at),
-            Kind::End(Family::Html) => self.document_ends(at),
-            Kind::Eof => Ok(Flow::Done),
+            TokenKind::Ws => self.character_in_body(token, at),
+            TokenKind::Comment => self.comment_in_first(token, at),
+            TokenKind::Doctype => self.ignore(Mode::AfterBody, at),
+            TokenKind::Start(Family::Html) => self.html_again(token, at),
+            TokenKind::End(Family::Html) => self.document_ends(at),
+            TokenKind::Eof => Ok(Flow::Done),
             _ => self.back_to_body(Mode::AfterBody, at),
         }
     }
@@ -95,7 +100,7 @@ impl<'q> TreeConstruction<'q> {
     /// The "after after body" insertion mode.
     pub(crate) fn after_after_body(
         &mut self,
-        kind: Kind,
+        kind: TokenKind,
         token: &mut Token,
         at: u64,
     ) -> Result<Flow, Refusal>
@@ -103,11 +108,11 @@ impl<'q> TreeConstruction<'q> {
             (perform numbers at (token_of token.old) (after_after_body kind) (state_of self.old)) }
     {
         match kind {
-            Kind::Comment => self.comment_in_document(token, at),
-            Kind::Doctype => self.ignore(Mode::InBody, at),
-            Kind::Ws => self.character_in_body(token, at),
-            Kind::Start(Family::Html) => self.html_again(token, at),
-            Kind::Eof => Ok(Flow::Done),
+            TokenKind::Comment => self.comment_in_document(token, at),
+            TokenKind::Doctype => self.ignore(Mode::InBody, at),
+            TokenKind::Ws => self.character_in_body(token, at),
+            TokenKind::Start(Family::Html) => self.html_again(token, at),
+            TokenKind::Eof => Ok(Flow::Done),
             _ => self.back_to_body(Mode::AfterAfterBody, at),
         }
     }

@@ -12,8 +12,8 @@ ghost use Rattle.hmodes.specs.Words.{Start, ◌▸◌, to, insert, head_pointer}
 ghost use Rattle.hmodes.specs.declared.mode.Mode.TheVariants.{InHead};
 
 use crate::family::Family;
-use crate::kind::Kind;
 use crate::mode::Mode;
+use crate::token_kind::TokenKind;
 use crate::tree_construction::{Flow, TreeConstruction};
 use htoken::Token;
 use names::{Refusal, Tag};
@@ -22,24 +22,24 @@ impl<'q> TreeConstruction<'q> {
     /// The "before html" insertion mode.
     pub(crate) fn before_html(
         &mut self,
-        kind: Kind,
+        kind: TokenKind,
         token: &mut Token,
         at: u64,
     ) -> Result<Flow, Refusal>
         ensures { FlowGives result (token_of token.new) (state_of self.new) (perform numbers at (token_of token.old) (before_html kind) (state_of self.old)) }
     {
         match kind {
-            Kind::Comment => self.comment_in_document(token, at),
-            Kind::Ws => Ok(Flow::Done),
-            Kind::Start(Family::Html) => {
+            TokenKind::Comment => self.comment_in_document(token, at),
+            TokenKind::Ws => Ok(Flow::Done),
+            TokenKind::Start(Family::Html) => {
                 self.insert_root(token, at)?;
                 self.control.mode = Mode::BeforeHead;
                 Ok(Flow::Done)
             }
-            Kind::End(Family::Head | Family::Body | Family::Html | Family::Br) => {
+            TokenKind::End(Family::Head | Family::Body | Family::Html | Family::Br) => {
                 self.html_unwritten(at)
             }
-            Kind::Doctype | Kind::End(_) => self.ignore(Mode::BeforeHtml, at),
+            TokenKind::Doctype | TokenKind::End(_) => self.ignore(Mode::BeforeHtml, at),
             _ => self.html_unwritten(at),
         }
     }
@@ -56,21 +56,21 @@ impl<'q> TreeConstruction<'q> {
     /// The "before head" insertion mode.
     pub(crate) fn before_head(
         &mut self,
-        kind: Kind,
+        kind: TokenKind,
         token: &mut Token,
         at: u64,
     ) -> Result<Flow, Refusal>
         ensures { FlowGives result (token_of token.new) (state_of self.new) (perform numbers at (token_of token.old) (before_head kind) (state_of self.old)) }
     {
         match kind {
-            Kind::Ws => Ok(Flow::Done),
-            Kind::Comment => self.insert_comment(token, at),
-            Kind::Start(Family::Html) => self.html_again(token, at),
-            Kind::Start(Family::Head) => self.head(token, at),
-            Kind::End(Family::Head | Family::Body | Family::Html | Family::Br) => {
+            TokenKind::Ws => Ok(Flow::Done),
+            TokenKind::Comment => self.insert_comment(token, at),
+            TokenKind::Start(Family::Html) => self.html_again(token, at),
+            TokenKind::Start(Family::Head) => self.head(token, at),
+            TokenKind::End(Family::Head | Family::Body | Family::Html | Family::Br) => {
                 self.head_unwritten(at)
             }
-            Kind::Doctype | Kind::End(_) => self.ignore(Mode::BeforeHead, at),
+            TokenKind::Doctype | TokenKind::End(_) => self.ignore(Mode::BeforeHead, at),
             _ => self.head_unwritten(at),
         }
     }

@@ -18,7 +18,7 @@ use hnodes::NodeId;
 use names::{Keys, NameId, Refusal, Tag};
 use std::alloc::{AllocError, Global};
 
-/// The state beside the tree in a mode.
+/// The state other than the tree, in a mode.
 fn control_in(alloc: Global, mode: Mode, form: Option<NodeId>) -> Control
     ensures { result ≡ control_in mode form }
 {

@@ -15,9 +15,9 @@ ghost use Rattle.hmodes.specs.Words.{Start, End, ◌▸◌, when, choose, error,
 ghost use Rattle.hmodes.specs.declared.mode.Mode.TheVariants.{InBody, AfterBody};
 
 use crate::family::Family;
-use crate::kind::Kind;
 use crate::mode::Mode;
 use crate::token::{token_char, token_name};
+use crate::token_kind::TokenKind;
 use crate::tree_construction::{Flow, TreeConstruction, done};
 use hopen::Scope;
 use htoken::Token;
@@ -27,7 +27,7 @@ impl<'q> TreeConstruction<'q> {
     /// The "in body" insertion mode.
     pub(crate) fn in_body(
         &mut self,
-        kind: Kind,
+        kind: TokenKind,
         token: &mut Token,
         at: u64,
     ) -> Result<Flow, Refusal>
@@ -35,12 +35,12 @@ impl<'q> TreeConstruction<'q> {
         ensures { FlowGives result (token_of token.new) (state_of self.new) (perform numbers at (token_of token.old) (in_body kind) (state_of self.old)) }
     {
         match kind {
-            Kind::Nul | Kind::Doctype => self.ignore(Mode::InBody, at),
-            Kind::Ws | Kind::Char => self.character_in_body(token, at),
-            Kind::Comment => self.insert_comment(token, at),
-            Kind::Start(family) => self.start_in_body(family, token, at),
-            Kind::End(family) => self.end_in_body(family, token, at),
-            Kind::Eof => self.end_in_open(at),
+            TokenKind::Nul | TokenKind::Doctype => self.ignore(Mode::InBody, at),
+            TokenKind::Ws | TokenKind::Char => self.character_in_body(token, at),
+            TokenKind::Comment => self.insert_comment(token, at),
+            TokenKind::Start(family) => self.start_in_body(family, token, at),
+            TokenKind::End(family) => self.end_in_body(family, token, at),
+            TokenKind::Eof => self.end_in_open(at),
         }
     }
 
@@ -57,7 +57,7 @@ impl<'q> TreeConstruction<'q> {
             | Family::Noframes
             | Family::Script
             | Family::Style
-            | Family::Title => self.in_head(Kind::Start(family), token, at),
+            | Family::Title => self.in_head(TokenKind::Start(family), token, at),
             Family::Body => self.body_again(token, at),
             Family::Block | Family::P | Family::Plaintext => self.block(token, at),
             Family::Heading => self.heading(token, at),

@@ -13,8 +13,8 @@ ghost use Rattle.hmodes.specs.Words.{◌▸◌, nothing, again, to, pop};
 ghost use Rattle.hmodes.specs.declared.mode.Mode.TheVariants.{InTable};
 
 use crate::family::Family;
-use crate::kind::Kind;
 use crate::mode::Mode;
+use crate::token_kind::TokenKind;
 use crate::tree_construction::{Flow, TreeConstruction};
 use hadopt::Passing;
 use hopen::Scope;
@@ -25,7 +25,7 @@ impl<'q> TreeConstruction<'q> {
     /// The "in caption" insertion mode.
     pub(crate) fn in_caption(
         &mut self,
-        kind: Kind,
+        kind: TokenKind,
         token: &mut Token,
         at: u64,
     ) -> Result<Flow, Refusal>
@@ -33,8 +33,8 @@ impl<'q> TreeConstruction<'q> {
         ensures { FlowGives result (token_of token.new) (state_of self.new) (perform numbers at (token_of token.old) (in_caption kind) (state_of self.old)) }
     {
         match kind {
-            Kind::End(Family::Caption) => self.end_caption(at),
-            Kind::Start(
+            TokenKind::End(Family::Caption) => self.end_caption(at),
+            TokenKind::Start(
                 Family::Caption
                 | Family::Col
                 | Family::Colgroup
@@ -42,8 +42,8 @@ impl<'q> TreeConstruction<'q> {
                 | Family::Cell
                 | Family::Row,
             )
-            | Kind::End(Family::Table) => self.caption_ends(at),
-            Kind::End(
+            | TokenKind::End(Family::Table) => self.caption_ends(at),
+            TokenKind::End(
                 Family::Body
                 | Family::Col
                 | Family::Colgroup
@@ -89,7 +89,7 @@ impl<'q> TreeConstruction<'q> {
     /// The "in column group" insertion mode.
     pub(crate) fn in_column_group(
         &mut self,
-        kind: Kind,
+        kind: TokenKind,
         token: &mut Token,
         at: u64,
     ) -> Result<Flow, Refusal>
@@ -97,15 +97,15 @@ impl<'q> TreeConstruction<'q> {
             (perform numbers at (token_of token.old) (in_column_group kind) (state_of self.old)) }
     {
         match kind {
-            Kind::Ws => self.put(token, at),
-            Kind::Comment => self.insert_comment(token, at),
-            Kind::Start(Family::Html) => self.html_again(token, at),
-            Kind::Start(Family::Col) => self.param(token, at),
-            Kind::End(Family::Colgroup) => self.pop_and_go(Mode::InTable),
-            Kind::Doctype | Kind::End(Family::Col | Family::Template) => {
+            TokenKind::Ws => self.put(token, at),
+            TokenKind::Comment => self.insert_comment(token, at),
+            TokenKind::Start(Family::Html) => self.html_again(token, at),
+            TokenKind::Start(Family::Col) => self.param(token, at),
+            TokenKind::End(Family::Colgroup) => self.pop_and_go(Mode::InTable),
+            TokenKind::Doctype | TokenKind::End(Family::Col | Family::Template) => {
                 self.ignore(Mode::InColumnGroup, at)
             }
-            Kind::Eof => self.end_in_open(at),
+            TokenKind::Eof => self.end_in_open(at),
             _ => self.column_group_ends(),
         }
     }

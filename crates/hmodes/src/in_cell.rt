@@ -15,9 +15,9 @@ ghost use Rattle.hmodes.specs.Words.{◌▸◌, unless, choose, error, again, to
 ghost use Rattle.hmodes.specs.declared.mode.Mode.TheVariants.{InCell, InRow};
 
 use crate::family::Family;
-use crate::kind::Kind;
 use crate::mode::Mode;
 use crate::token::token_name;
+use crate::token_kind::TokenKind;
 use crate::tree_construction::{Flow, TreeConstruction};
 use hadopt::Passing;
 use hopen::{Group, Scope};
@@ -28,7 +28,7 @@ impl<'q> TreeConstruction<'q> {
     /// The "in cell" insertion mode.
     pub(crate) fn in_cell(
         &mut self,
-        kind: Kind,
+        kind: TokenKind,
         token: &mut Token,
         at: u64,
     ) -> Result<Flow, Refusal>
@@ -36,8 +36,8 @@ impl<'q> TreeConstruction<'q> {
         ensures { FlowGives result (token_of token.new) (state_of self.new) (perform numbers at (token_of token.old) (in_cell kind) (state_of self.old)) }
     {
         match kind {
-            Kind::End(Family::Cell) => self.end_cell(token, at),
-            Kind::Start(
+            TokenKind::End(Family::Cell) => self.end_cell(token, at),
+            TokenKind::Start(
                 Family::Caption
                 | Family::Col
                 | Family::Colgroup
@@ -45,10 +45,10 @@ impl<'q> TreeConstruction<'q> {
                 | Family::Cell
                 | Family::Row,
             ) => self.cell_ends(at),
-            Kind::End(
+            TokenKind::End(
                 Family::Body | Family::Caption | Family::Col | Family::Colgroup | Family::Html,
             ) => self.ignore(Mode::InCell, at),
-            Kind::End(Family::Table | Family::Section | Family::Row) => self.cell_ends_in(
+            TokenKind::End(Family::Table | Family::Section | Family::Row) => self.cell_ends_in(
                 token, at,
             ),
             _ => self.in_body(kind, token, at),

@@ -13,8 +13,8 @@ ghost use Rattle.hmodes.specs.Words.{◌▸◌, error, to, insert, pop, push_hea
 ghost use Rattle.hmodes.specs.declared.mode.Mode.TheVariants.{InHead, InHeadNoscript, AfterHead, InBody};
 
 use crate::family::Family;
-use crate::kind::Kind;
 use crate::mode::Mode;
+use crate::token_kind::TokenKind;
 use crate::tree_construction::{Flow, TreeConstruction, done};
 use hopen::Open;
 use htoken::Token;
@@ -24,24 +24,28 @@ impl<'q> TreeConstruction<'q> {
     /// The "in head" insertion mode.
     pub(crate) fn in_head(
         &mut self,
-        kind: Kind,
+        kind: TokenKind,
         token: &mut Token,
         at: u64,
     ) -> Result<Flow, Refusal>
         ensures { FlowGives result (token_of token.new) (state_of self.new) (perform numbers at (token_of token.old) (in_head kind) (state_of self.old)) }
     {
         match kind {
-            Kind::Ws => self.put(token, at),
-            Kind::Comment => self.insert_comment(token, at),
-            Kind::Start(Family::Html) => self.html_again(token, at),
-            Kind::Start(Family::Base | Family::Link) => done(self.void(token, at)),
-            Kind::Start(Family::Title | Family::Noframes | Family::Style | Family::Script) => {
+            TokenKind::Ws => self.put(token, at),
+            TokenKind::Comment => self.insert_comment(token, at),
+            TokenKind::Start(Family::Html) => self.html_again(token, at),
+            TokenKind::Start(Family::Base | Family::Link) => done(self.void(token, at)),
+            TokenKind::Start(Family::Title | Family::Noframes | Family::Style | Family::Script) => {
                 done(self.raw(token, at))
             }
-            Kind::Start(Family::Noscript) => self.insert_and_go(Mode::InHeadNoscript, token, at),
-            Kind::End(Family::Head) => self.pop_and_go(Mode::AfterHead),
-            Kind::End(Family::Body | Family::Html | Family::Br) => self.head_ends(),
-            Kind::Doctype | Kind::Start(Family::Head) | Kind::End(_) => {
+            TokenKind::Start(Family::Noscript) => self.insert_and_go(
+                Mode::InHeadNoscript,
+                token,
+                at,
+            ),
+            TokenKind::End(Family::Head) => self.pop_and_go(Mode::AfterHead),
+            TokenKind::End(Family::Body | Family::Html | Family::Br) => self.head_ends(),
+            TokenKind::Doctype | TokenKind::Start(Family::Head) | TokenKind::End(_) => {
                 self.ignore(Mode::InHead, at)
             }
             _ => self.head_ends(),
@@ -83,7 +87,7 @@ impl<'q> TreeConstruction<'q> {
     /// The "in head noscript" insertion mode.
     pub(crate) fn in_head_noscript(
         &mut self,
-        kind: Kind,
+        kind: TokenKind,
         token: &mut Token,
         at: u64,
     ) -> Result<Flow, Refusal>
@@ -91,15 +95,16 @@ impl<'q> TreeConstruction<'q> {
             (perform numbers at (token_of token.old) (in_head_noscript kind) (state_of self.old)) }
     {
         match kind {
-            Kind::Start(Family::Html) => self.html_again(token, at),
-            Kind::End(Family::Noscript) => self.pop_and_go(Mode::InHead),
-            Kind::Ws => self.put(token, at),
-            Kind::Comment => self.insert_comment(token, at),
-            Kind::Start(Family::Link) => done(self.void(token, at)),
-            Kind::Start(Family::Noframes | Family::Style) => done(self.raw(token, at)),
-            Kind::End(Family::Br) => self.noscript_ends(at),
-            Kind::Doctype | Kind::Start(Family::Head | Family::Noscript) | Kind::End(_) =>
-                self.ignore(Mode::InHeadNoscript, at),
+            TokenKind::Start(Family::Html) => self.html_again(token, at),
+            TokenKind::End(Family::Noscript) => self.pop_and_go(Mode::InHead),
+            TokenKind::Ws => self.put(token, at),
+            TokenKind::Comment => self.insert_comment(token, at),
+            TokenKind::Start(Family::Link) => done(self.void(token, at)),
+            TokenKind::Start(Family::Noframes | Family::Style) => done(self.raw(token, at)),
+            TokenKind::End(Family::Br) => self.noscript_ends(at),
+            TokenKind::Doctype
+            | TokenKind::Start(Family::Head | Family::Noscript)
+            | TokenKind::End(_) => self.ignore(Mode::InHeadNoscript, at),
             _ => self.noscript_ends(at),
         }
     }
@@ -117,7 +122,7 @@ impl<'q> TreeConstruction<'q> {
     /// The "after head" insertion mode.
     pub(crate) fn after_head(
         &mut self,
-        kind: Kind,
+        kind: TokenKind,
         token: &mut Token,
         at: u64,
     ) -> Result<Flow, Refusal>
@@ -125,16 +130,16 @@ impl<'q> TreeConstruction<'q> {
         ensures { FlowGives result (token_of token.new) (state_of self.new) (perform numbers at (token_of token.old) (after_head kind) (state_of self.old)) }
     {
         match kind {
-            Kind::Ws => self.put(token, at),
-            Kind::Comment => self.insert_comment(token, at),
-            Kind::Start(Family::Html) => self.html_again(token, at),
-            Kind::Start(Family::Body) => self.insert_and_go(Mode::InBody, token, at),
-            Kind::Start(Family::Base | Family::Link) => self.late_void(token, at),
-            Kind::Start(Family::Noframes | Family::Script | Family::Style | Family::Title) => {
+            TokenKind::Ws => self.put(token, at),
+            TokenKind::Comment => self.insert_comment(token, at),
+            TokenKind::Start(Family::Html) => self.html_again(token, at),
+            TokenKind::Start(Family::Body) => self.insert_and_go(Mode::InBody, token, at),
+            TokenKind::Start(Family::Base | Family::Link) => self.late_void(token, at),
+            TokenKind::Start(Family::Noframes | Family::Script | Family::Style | Family::Title) => {
                 self.late_raw(token, at)
             }
-            Kind::End(Family::Body | Family::Html | Family::Br) => self.body_unwritten(at),
-            Kind::Doctype | Kind::Start(Family::Head) | Kind::End(_) => {
+            TokenKind::End(Family::Body | Family::Html | Family::Br) => self.body_unwritten(at),
+            TokenKind::Doctype | TokenKind::Start(Family::Head) | TokenKind::End(_) => {
                 self.ignore(Mode::AfterHead, at)
             }
             _ => self.body_unwritten(at),

@@ -15,9 +15,9 @@ ghost use Rattle.hmodes.specs.Words.{◌▸◌, nothing, when, choose, error, ag
 ghost use Rattle.hmodes.specs.declared.mode.Mode.TheVariants.{InRow, InCell};
 
 use crate::family::Family;
-use crate::kind::Kind;
 use crate::mode::Mode;
 use crate::token::token_name;
+use crate::token_kind::TokenKind;
 use crate::tree_construction::{Flow, TreeConstruction, done};
 use hadopt::Passing;
 use hopen::Scope;
@@ -26,19 +26,24 @@ use names::{Refusal, Tag};
 
 impl<'q> TreeConstruction<'q> {
     /// The "in row" insertion mode.
-    pub(crate) fn in_row(&mut self, kind: Kind, token: &mut Token, at: u64) -> Result<Flow, Refusal>
+    pub(crate) fn in_row(
+        &mut self,
+        kind: TokenKind,
+        token: &mut Token,
+        at: u64,
+    ) -> Result<Flow, Refusal>
         requires { Kept numbers self.old.site }
         ensures { FlowGives result (token_of token.new) (state_of self.new) (perform numbers at (token_of token.old) (in_row kind) (state_of self.old)) }
     {
         match kind {
-            Kind::Start(Family::Cell) => self.cell(token, at),
-            Kind::End(Family::Row) => self.end_row(at),
-            Kind::Start(
+            TokenKind::Start(Family::Cell) => self.cell(token, at),
+            TokenKind::End(Family::Row) => self.end_row(at),
+            TokenKind::Start(
                 Family::Caption | Family::Col | Family::Colgroup | Family::Section | Family::Row,
             )
-            | Kind::End(Family::Table) => self.row_ends(at),
-            Kind::End(Family::Section) => self.end_section_in_row(token, at),
-            Kind::End(
+            | TokenKind::End(Family::Table) => self.row_ends(at),
+            TokenKind::End(Family::Section) => self.end_section_in_row(token, at),
+            TokenKind::End(
                 Family::Body
                 | Family::Caption
                 | Family::Col

@@ -16,9 +16,9 @@ ghost use Rattle.hmodes.specs.Words.{Start, End, ◌▸◌, when, unless, choose
 ghost use Rattle.hmodes.specs.declared.mode.Mode.TheVariants.{InTable, InTableText, InTableBody, InCaption, InColumnGroup};
 
 use crate::family::Family;
-use crate::kind::Kind;
 use crate::mode::Mode;
 use crate::token::is_hidden;
+use crate::token_kind::TokenKind;
 use crate::tree_construction::{Flow, TreeConstruction, done};
 use hadopt::Passing;
 use hopen::Scope;
@@ -29,7 +29,7 @@ impl<'q> TreeConstruction<'q> {
     /// The "in table" insertion mode.
     pub(crate) fn in_table(
         &mut self,
-        kind: Kind,
+        kind: TokenKind,
         token: &mut Token,
         at: u64,
     ) -> Result<Flow, Refusal>
@@ -37,12 +37,14 @@ impl<'q> TreeConstruction<'q> {
         ensures { FlowGives result (token_of token.new) (state_of self.new) (perform numbers at (token_of token.old) (in_table kind) (state_of self.old)) }
     {
         match kind {
-            Kind::Nul | Kind::Ws | Kind::Char => self.character_in_table(kind, token, at),
-            Kind::Comment => self.insert_comment(token, at),
-            Kind::Doctype => self.ignore(Mode::InTable, at),
-            Kind::Start(family) => self.start_in_table(family, token, at),
-            Kind::End(family) => self.end_in_table(family, token, at),
-            Kind::Eof => self.end_in_open(at),
+            TokenKind::Nul | TokenKind::Ws | TokenKind::Char => self.character_in_table(
+                kind, token, at,
+            ),
+            TokenKind::Comment => self.insert_comment(token, at),
+            TokenKind::Doctype => self.ignore(Mode::InTable, at),
+            TokenKind::Start(family) => self.start_in_table(family, token, at),
+            TokenKind::End(family) => self.end_in_table(family, token, at),
+            TokenKind::Eof => self.end_in_open(at),
         }
     }
 
@@ -64,10 +66,10 @@ impl<'q> TreeConstruction<'q> {
             Family::Section => self.insert_in_table(Mode::InTableBody, token, at),
             Family::Cell | Family::Row => self.row_unwritten(at),
             Family::Table => self.table_again(at),
-            Family::Style | Family::Script => self.in_head(Kind::Start(family), token, at),
+            Family::Style | Family::Script => self.in_head(TokenKind::Start(family), token, at),
             Family::Input => self.input_in_table(token, at),
             Family::Form => self.form_in_table(token, at),
-            _ => self.other_in_table(Kind::Start(family), token, at),
+            _ => self.other_in_table(TokenKind::Start(family), token, at),
         }
     }
 
@@ -88,14 +90,14 @@ impl<'q> TreeConstruction<'q> {
             | Family::Cell
             | Family::Row
             | Family::Template => self.ignore(Mode::InTable, at),
-            _ => self.other_in_table(Kind::End(family), token, at),
+            _ => self.other_in_table(TokenKind::End(family), token, at),
         }
     }
 
     /// Anything else in a table: by the rules of the body, with foster parenting on.
     pub(crate) fn other_in_table(
         &mut self,
-        kind: Kind,
+        kind: TokenKind,
         token: &mut Token,
         at: u64,
     ) -> Result<Flow, Refusal>
@@ -113,7 +115,7 @@ impl<'q> TreeConstruction<'q> {
     /// A character in a table.
     pub(crate) fn character_in_table(
         &mut self,
-        kind: Kind,
+        kind: TokenKind,
         token: &mut Token,
         at: u64,
     ) -> Result<Flow, Refusal>
@@ -210,7 +212,7 @@ impl<'q> TreeConstruction<'q> {
             (perform numbers at (token_of token.old) (in_table (Start family.Input)) (state_of self.old)) }
     {
         if !is_hidden(token) {
-            return self.other_in_table(Kind::Start(Family::Input), token, at);
+            return self.other_in_table(TokenKind::Start(Family::Input), token, at);
         }
         self.error(Mode::InTable, at)?;
         done(self.void(token, at))

@@ -16,8 +16,8 @@ ghost use Rattle.hmodes.specs.Tokens.{token_of};
 ghost use Rattle.hmodes.specs.Words.{◌▸◌, unless, again, error, to, go_quirks, judge_quirks, insert_doctype, doctype_conforms};
 ghost use Rattle.hmodes.specs.declared.mode.Mode.TheVariants.{Initial, BeforeHtml};
 
-use crate::kind::Kind;
 use crate::mode::Mode;
+use crate::token_kind::TokenKind;
 use crate::tree_construction::{Flow, TreeConstruction};
 use hnodes::Doctype;
 use htoken::Token;
@@ -93,16 +93,16 @@ impl<'q> TreeConstruction<'q> {
     /// The "initial" insertion mode.
     pub(crate) fn initial(
         &mut self,
-        kind: Kind,
+        kind: TokenKind,
         token: &mut Token,
         at: u64,
     ) -> Result<Flow, Refusal>
         ensures { FlowGives result (token_of token.new) (state_of self.new) (perform numbers at (token_of token.old) (initial kind) (state_of self.old)) }
     {
         match kind {
-            Kind::Ws => Ok(Flow::Done),
-            Kind::Comment => self.comment_in_document(token, at),
-            Kind::Doctype => self.doctype(token, at),
+            TokenKind::Ws => Ok(Flow::Done),
+            TokenKind::Comment => self.comment_in_document(token, at),
+            TokenKind::Doctype => self.doctype(token, at),
             _ => self.no_doctype(at),
         }
     }

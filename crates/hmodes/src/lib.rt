@@ -16,7 +16,6 @@ mod in_head;
 mod in_row;
 mod in_table;
 mod initial;
-mod kind;
 mod laws;
 mod limits;
 mod mode;
@@ -28,6 +27,7 @@ mod step;
 mod table_body;
 mod table_text;
 mod token;
+mod token_kind;
 mod tree_construction;
 mod words;
 

@@ -231,7 +231,7 @@ impl<'q> TreeConstruction<'q> {
         done(self.void(token, at))
     }
 
-    /// The start tag image, which goes again as img.
+    /// The start tag image, which is reprocessed as img.
     pub(crate) fn image(&mut self, token: &mut Token, at: u64) -> Result<Flow, Refusal>
         ensures { FlowGives result (token_of token.new) (state_of self.new)
             (perform numbers at (token_of token.old) (error InBody ▸ again_as tag.Img) (state_of self.old)) }

@@ -57,7 +57,7 @@ impl<'q> TreeConstruction<'q> {
         }
     }
 
-    /// The mode that the open node with so many below it decides on.
+    /// The mode that the open node with this many below it decides on.
     fn mode_at(&self, up: usize) -> Option<Mode>
         ensures { result ≡ option_and_then (λ x. open_mode (tag_of x.name)) (slice_get (stack self.now.site) up) }
     {

@@ -9,8 +9,8 @@ ghost use Rattle.hmodes.specs.States.{state_of};
 ghost use Rattle.hmodes.specs.declared.mode.Mode.TheVariants.{AfterHead};
 ghost use Rattle.hmodes.specs.Tokens.{token_of};
 
-use crate::kind::Kind;
 use crate::mode::Mode;
+use crate::token_kind::TokenKind;
 use crate::tree_construction::{Flow, TreeConstruction};
 use htoken::Token;
 use names::Refusal;
@@ -22,7 +22,7 @@ impl<'q> TreeConstruction<'q> {
         requires head { self.old.control.mode ≡ AfterHead → IfSome self.old.control.head (λ k. (0 < k) × (k < self.old.site.nodes.made)) }
         ensures { FlowGives result (token_of token.new) (state_of self.new) (Rule numbers at (token_of token.old) (state_of self.old)) }
     {
-        let kind = Kind::of(token);
+        let kind = TokenKind::of(token);
         match self.control.mode {
             Mode::Initial => self.initial(kind, token, at),
             Mode::BeforeHtml => self.before_html(kind, token, at),

@@ -42,7 +42,7 @@ impl<'q> TreeConstruction<'q> {
         self.site.put_text(run, place, at)
     }
 
-    /// Puts the characters that replace so many bad parts at the appropriate place.
+    /// Puts the characters that replace this many bad parts at the appropriate place.
     pub(crate) fn put_bad(&mut self, count: usize, at: u64) -> Result<(), Refusal>
         requires { 0 < count }
         ensures gives { Gives result self.new.site (put_each (replaced at count) (place numbers self.old.site) self.old.site) }

@@ -29,7 +29,7 @@ impl<'q> TreeConstruction<'q> {
         self.by_rules(token, at)
     }
 
-    /// By the rules of the mode that holds, as long as one has the token go again.
+    /// By the rules of the mode that holds, as long as one reprocesses the token.
     fn by_rules(&mut self, token: &mut Token, at: u64) -> Result<(), Refusal>
         requires { HasBegun (state_of self.old) }
         ensures { ChainGives at (token_of token.old) (state_of self.old) result (state_of self.new) }

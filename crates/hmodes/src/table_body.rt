@@ -15,9 +15,9 @@ ghost use Rattle.hmodes.specs.Words.{◌▸◌, choose, error, again, to, insert
 ghost use Rattle.hmodes.specs.declared.mode.Mode.TheVariants.{InTableBody, InRow};
 
 use crate::family::Family;
-use crate::kind::Kind;
 use crate::mode::Mode;
 use crate::token::token_name;
+use crate::token_kind::TokenKind;
 use crate::tree_construction::{Flow, TreeConstruction};
 use hadopt::Passing;
 use hopen::{Group, Scope};
@@ -28,7 +28,7 @@ impl<'q> TreeConstruction<'q> {
     /// The "in table body" insertion mode.
     pub(crate) fn in_table_body(
         &mut self,
-        kind: Kind,
+        kind: TokenKind,
         token: &mut Token,
         at: u64,
     ) -> Result<Flow, Refusal>
@@ -36,12 +36,12 @@ impl<'q> TreeConstruction<'q> {
         ensures { FlowGives result (token_of token.new) (state_of self.new) (perform numbers at (token_of token.old) (in_table_body kind) (state_of self.old)) }
     {
         match kind {
-            Kind::Start(Family::Row) => self.row(token, at),
-            Kind::Start(Family::Cell) => self.row_unwritten_in_body(at),
-            Kind::End(Family::Section) => self.end_section(token, at),
-            Kind::Start(Family::Caption | Family::Col | Family::Colgroup | Family::Section)
-            | Kind::End(Family::Table) => self.section_ends(at),
-            Kind::End(
+            TokenKind::Start(Family::Row) => self.row(token, at),
+            TokenKind::Start(Family::Cell) => self.row_unwritten_in_body(at),
+            TokenKind::End(Family::Section) => self.end_section(token, at),
+            TokenKind::Start(Family::Caption | Family::Col | Family::Colgroup | Family::Section)
+            | TokenKind::End(Family::Table) => self.section_ends(at),
+            TokenKind::End(
                 Family::Body
                 | Family::Caption
                 | Family::Col

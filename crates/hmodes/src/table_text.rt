@@ -14,9 +14,9 @@ ghost use Rattle.hmodes.specs.Perform.{each_of, with_control};
 ghost use Rattle.hmodes.specs.State.{character};
 ghost use Rattle.hmodes.specs.Words.{Char, ◌▸◌, choose, each_pending, again, to_saved, put, pend, pending_is_ws};
 
-use crate::kind::Kind;
 use crate::mode::Mode;
 use crate::token::token_char;
+use crate::token_kind::TokenKind;
 use crate::tree_construction::{Flow, TreeConstruction};
 use htoken::Token;
 use names::{Placed, Refusal};
@@ -33,15 +33,15 @@ impl<'q> TreeConstruction<'q> {
     /// The "in table text" insertion mode.
     pub(crate) fn in_table_text(
         &mut self,
-        kind: Kind,
+        kind: TokenKind,
         token: &mut Token,
         at: u64,
     ) -> Result<Flow, Refusal>
         ensures { FlowGives result (token_of token.new) (state_of self.new) (perform numbers at (token_of token.old) (in_table_text kind) (state_of self.old)) }
     {
         match kind {
-            Kind::Nul => self.ignore(Mode::InTableText, at),
-            Kind::Ws | Kind::Char => self.pend(token, at),
+            TokenKind::Nul => self.ignore(Mode::InTableText, at),
+            TokenKind::Ws | TokenKind::Char => self.pend(token, at),
             _ => self.pending_ends(),
         }
     }

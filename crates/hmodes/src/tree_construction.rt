@@ -13,7 +13,7 @@ use hopen::Scope;
 use names::{ErrorCode, NameId, Refusal, Tag};
 use std::alloc::Global;
 
-/// What comes of a rule: it ends, or the token goes again.
+/// What comes of a rule: it ends, or the token is reprocessed.
 #[derive(Clone, Copy)]
 pub(crate) enum Flow {
     Done,

@@ -6,8 +6,8 @@ use Rattle.hnodes.specs.Edits.{with_text, with_attribute}
 use Rattle.hnodes.specs.Links.{Row}
 use Rattle.hnodes.specs.Rows.{content_is, row_of, look_in, IsChanged, IsUnchanged}
 use Rattle.hnodes.specs.declared.node.Node.{Node}
-use Rattle.hnodes.specs.declared.node.Content.{Content}
-use Rattle.hnodes.specs.declared.node.Content.TheVariants as content
+use Rattle.hnodes.specs.declared.node.NodeData.{NodeData}
+use Rattle.hnodes.specs.declared.node.NodeData.TheVariants as content
 use Rattle.names.specs.declared.attr.Attr.{Attr}
 use Rattle.hnodes.proofs.Rows.{changed}
 
@@ -20,7 +20,7 @@ unchanged xs j k x y same h e r = let w : IsChanged k (λ m. m) xs (set xs j y) 
     go true (Some m) = refl
     go false o = refl
 
-pub not_text : (more : List ℕ) (w : Content) → ((a : String Global) → w ≡ content.Text a → ⊥) → content_is w ≡ with_text more (content_is w)
+pub not_text : (more : List ℕ) (w : NodeData) → ((a : String Global) → w ≡ content.Text a → ⊥) → content_is w ≡ with_text more (content_is w)
 not_text more content.Document h = refl
 not_text more (content.Doctype d) h = refl
 not_text more (content.Element a b) h = refl
@@ -28,7 +28,7 @@ not_text more (content.Wide a b) h = refl
 not_text more (content.Comment a) h = refl
 not_text more (content.Text a) h = absurd (h a refl)
 
-pub not_element : (a : Attribute ℕ) (w : Content) → ((n : ℕ) (b : Vec Attr Global) → w ≡ content.Element n b → ⊥) → ((n : ℕ) (b : Box (List (Attribute ℕ)) Global) → w ≡ content.Wide n b → ⊥) → content_is w ≡ with_attribute a (content_is w)
+pub not_element : (a : Attribute ℕ) (w : NodeData) → ((n : ℕ) (b : Vec Attr Global) → w ≡ content.Element n b → ⊥) → ((n : ℕ) (b : Box (List (Attribute ℕ)) Global) → w ≡ content.Wide n b → ⊥) → content_is w ≡ with_attribute a (content_is w)
 not_element a content.Document h i = refl
 not_element a (content.Doctype d) h i = refl
 not_element a (content.Element n b) h i = absurd (h n b refl)

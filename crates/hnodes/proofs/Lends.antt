@@ -14,8 +14,8 @@ use Rattle.hnodes.proofs.Within.{one-of, once-of, there as is_there, links-among
 use Rattle.hnodes.proofs.Rows.{row_seen}
 use Rattle.hnodes.proofs.Opened.{Opened, opened}
 use Rattle.hnodes.specs.declared.node.Node.{Node}
-use Rattle.hnodes.specs.declared.node.Content.{Content}
-use Rattle.hnodes.specs.declared.node.Content.TheVariants as content
+use Rattle.hnodes.specs.declared.node.NodeData.{NodeData}
+use Rattle.hnodes.specs.declared.node.NodeData.TheVariants as content
 use Rattle.hnodes.specs.declared.node.Doctype.{Doctype as DoctypeOf}
 use Rattle.names.specs.declared.attr.Attr.{Attr}
 use Rattle.hnodes.specs.declared.tree.Tree.TheInside.{Inside}
@@ -91,7 +91,7 @@ near t v n k x e s h same g = record {
     around = links-among look v.trees n one (once-of (length t.nodes.items) look v.trees o.stands) o.stands.rows
 
 -- what is not of a kind answers nothing
-pub no_name : (w : Content) → ((a : ℕ) (b : Vec Attr Global) → w ≡ content.Element a b → ⊥) → ((a : ℕ) (b : Box (List (Attribute ℕ)) Global) → w ≡ content.Wide a b → ⊥) → None ≡ name_in (content_is w)
+pub no_name : (w : NodeData) → ((a : ℕ) (b : Vec Attr Global) → w ≡ content.Element a b → ⊥) → ((a : ℕ) (b : Box (List (Attribute ℕ)) Global) → w ≡ content.Wide a b → ⊥) → None ≡ name_in (content_is w)
 no_name content.Document h i = refl
 no_name (content.Doctype d) h i = refl
 no_name (content.Element a b) h i = absurd (h a b refl)
@@ -99,7 +99,7 @@ no_name (content.Wide a b) h i = absurd (i a b refl)
 no_name (content.Comment t) h i = refl
 no_name (content.Text t) h i = refl
 
-pub no_attributes : (w : Content) → ((a : ℕ) (b : Vec Attr Global) → w ≡ content.Element a b → ⊥) → ((a : ℕ) (b : Box (List (Attribute ℕ)) Global) → w ≡ content.Wide a b → ⊥) → None ≡ attributes_in (content_is w)
+pub no_attributes : (w : NodeData) → ((a : ℕ) (b : Vec Attr Global) → w ≡ content.Element a b → ⊥) → ((a : ℕ) (b : Box (List (Attribute ℕ)) Global) → w ≡ content.Wide a b → ⊥) → None ≡ attributes_in (content_is w)
 no_attributes content.Document h i = refl
 no_attributes (content.Doctype d) h i = refl
 no_attributes (content.Element a b) h i = absurd (h a b refl)
@@ -107,7 +107,7 @@ no_attributes (content.Wide a b) h i = absurd (i a b refl)
 no_attributes (content.Comment t) h i = refl
 no_attributes (content.Text t) h i = refl
 
-pub no_text : (w : Content) → ((a : String Global) → w ≡ content.Comment a → ⊥) → ((a : String Global) → w ≡ content.Text a → ⊥) → None ≡ text_in (content_is w)
+pub no_text : (w : NodeData) → ((a : String Global) → w ≡ content.Comment a → ⊥) → ((a : String Global) → w ≡ content.Text a → ⊥) → None ≡ text_in (content_is w)
 no_text content.Document h i = refl
 no_text (content.Doctype d) h i = refl
 no_text (content.Element a b) h i = refl
@@ -115,7 +115,7 @@ no_text (content.Wide a b) h i = refl
 no_text (content.Comment a) h i = absurd (h a refl)
 no_text (content.Text a) h i = absurd (i a refl)
 
-pub no_characters : (w : Content) → ((a : String Global) → w ≡ content.Text a → ⊥) → [] ≡ own_text (content_is w)
+pub no_characters : (w : NodeData) → ((a : String Global) → w ≡ content.Text a → ⊥) → [] ≡ own_text (content_is w)
 no_characters content.Document i = refl
 no_characters (content.Doctype d) i = refl
 no_characters (content.Element a b) i = refl
@@ -123,7 +123,7 @@ no_characters (content.Wide a b) i = refl
 no_characters (content.Comment a) i = refl
 no_characters (content.Text a) i = absurd (i a refl)
 
-pub no_doctype : (w : Content) → ((a : Box DoctypeOf Global) → w ≡ content.Doctype a → ⊥) → None ≡ doctype_in (content_is w)
+pub no_doctype : (w : NodeData) → ((a : Box DoctypeOf Global) → w ≡ content.Doctype a → ⊥) → None ≡ doctype_in (content_is w)
 no_doctype content.Document h = refl
 no_doctype (content.Doctype d) h = absurd (h d refl)
 no_doctype (content.Element a b) h = refl

@@ -94,11 +94,11 @@ module _ {N : Type 0} where
   loose zero look = []
   loose (suc k) look = loose k look ++ (if is_loose (look k) then k ∷ [] else [])
 
-  -- all that is seen of so many nodes
+  -- all that is seen of this many nodes
   abbrev pub whole : ℕ → Look N → Forest N
   whole count look = seen_each count look (loose count look)
 
-  -- a forest stands in what is seen of so many nodes, and holds each of them once
+  -- a forest stands in what is seen of this many nodes, and holds each of them once
   pub record StandsIn (count : ℕ) (look : Look N) (f : Forest N) : Type 0 where
     pub rows : Loose look f
     pub loose_ones : roots f ≡ loose count look

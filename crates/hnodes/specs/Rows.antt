@@ -5,8 +5,8 @@ use Rattle.hnodes.specs.Links.{Row, Look, at_row}
 use Rattle.names.specs.declared.attr.Attr.{Attr}
 use Rattle.hnodes.specs.declared.node.Doctype.{Doctype as DoctypeOf}
 use Rattle.hnodes.specs.declared.node.Node.{Node}
-use Rattle.hnodes.specs.declared.node.Content.{Content}
-use Rattle.hnodes.specs.declared.node.Content.TheVariants as content
+use Rattle.hnodes.specs.declared.node.NodeData.{NodeData}
+use Rattle.hnodes.specs.declared.node.NodeData.TheVariants as content
 
 abbrev pub attribute_of : Attr → Attribute ℕ
 attribute_of a = (a.name, string_bytes a.value)
@@ -14,7 +14,7 @@ attribute_of a = (a.name, string_bytes a.value)
 abbrev pub doctype_texts : DoctypeOf → List ℕ × List ℕ × List ℕ
 doctype_texts d = (string_bytes d.name, string_bytes d.public_id, string_bytes d.system_id)
 
-abbrev pub content_is : Content → What ℕ
+abbrev pub content_is : NodeData → What ℕ
 content_is content.Document = document
 content_is (content.Doctype d) = doctype (string_bytes d.value.name) (string_bytes d.value.public_id) (string_bytes d.value.system_id)
 content_is (content.Element name attrs) = element name (map attribute_of attrs.items)
@@ -43,6 +43,6 @@ IsUnchanged old new = IsSeenAs (λ look n. look n) old new
 abbrev pub IsChanged : ℕ → (Row ℕ → Row ℕ) → (old new : List Node) → Type 0
 IsChanged k f old new = IsSeenAs (at_row k f) old new
 
--- a link is to one of so many nodes, or there is none
+-- a link is to one of this many nodes, or there is none
 abbrev pub IsWithin : ℕ → Option ℕ → Type 0
 IsWithin count link = (k : ℕ) → link ≡ Some k → k < count

@@ -4,38 +4,44 @@ ghost use Rattle.std.specs.Prelude.{◌≡◌, ◌<◌, ◌≤◌, length};
 ghost use Rattle.hnodes.specs.Links.{with_next, with_previous, with_first, with_last, with_place, after_link, before_link, detached, hooked, parent_in, previous_in, next_in};
 ghost use Rattle.hnodes.specs.Rows.{IsChanged, IsSeenAs, IsWithin, look_in};
 
-use crate::node::{Link, Node, NodeId};
+use crate::node::{Node, NodeId, NodeLink};
 
-fn set_next(nodes: &mut Vec<Node>, at: NodeId, to: Link)
+fn set_next(nodes: &mut Vec<Node>, at: NodeId, to: NodeLink)
     requires { at < length nodes.old.items }
     ensures { IsChanged at (with_next to) nodes.old.items nodes.new.items }
 {
     nodes[at.number as usize].next = to;
 }
 
-fn set_previous(nodes: &mut Vec<Node>, at: NodeId, to: Link)
+fn set_previous(nodes: &mut Vec<Node>, at: NodeId, to: NodeLink)
     requires { at < length nodes.old.items }
     ensures { IsChanged at (with_previous to) nodes.old.items nodes.new.items }
 {
     nodes[at.number as usize].previous = to;
 }
 
-fn set_first(nodes: &mut Vec<Node>, at: NodeId, to: Link)
+fn set_first(nodes: &mut Vec<Node>, at: NodeId, to: NodeLink)
     requires { at < length nodes.old.items }
     ensures { IsChanged at (with_first to) nodes.old.items nodes.new.items }
 {
     nodes[at.number as usize].first = to;
 }
 
-fn set_last(nodes: &mut Vec<Node>, at: NodeId, to: Link)
+fn set_last(nodes: &mut Vec<Node>, at: NodeId, to: NodeLink)
     requires { at < length nodes.old.items }
     ensures { IsChanged at (with_last to) nodes.old.items nodes.new.items }
 {
     nodes[at.number as usize].last = to;
 }
 
-/// Sets the parent of a node, and the siblings beside it.
-fn set_place(nodes: &mut Vec<Node>, at: NodeId, parent: Link, previous: Link, next: Link)
+/// Sets the parent of a node, and its two siblings.
+fn set_place(
+    nodes: &mut Vec<Node>,
+    at: NodeId,
+    parent: NodeLink,
+    previous: NodeLink,
+    next: NodeLink,
+)
     requires { at < length nodes.old.items }
     ensures { IsChanged at (with_place parent previous next) nodes.old.items nodes.new.items }
 {
@@ -46,7 +52,7 @@ fn set_place(nodes: &mut Vec<Node>, at: NodeId, parent: Link, previous: Link, ne
 }
 
 /// Sets what comes after a sibling, or first below a parent.
-fn link_after(nodes: &mut Vec<Node>, parent: NodeId, before: Link, to: Link)
+fn link_after(nodes: &mut Vec<Node>, parent: NodeId, before: NodeLink, to: NodeLink)
     requires parent_in { parent < length nodes.old.items }
     requires before_in { IsWithin (length nodes.old.items) before }
     ensures { IsSeenAs (after_link parent before to) nodes.old.items nodes.new.items }
@@ -58,7 +64,7 @@ fn link_after(nodes: &mut Vec<Node>, parent: NodeId, before: Link, to: Link)
 }
 
 /// Sets what comes before a sibling, or last below a parent.
-fn link_before(nodes: &mut Vec<Node>, parent: NodeId, after: Link, to: Link)
+fn link_before(nodes: &mut Vec<Node>, parent: NodeId, after: NodeLink, to: NodeLink)
     requires parent_in { parent < length nodes.old.items }
     requires after_in { IsWithin (length nodes.old.items) after }
     ensures { IsSeenAs (before_link parent after to) nodes.old.items nodes.new.items }
@@ -82,13 +88,19 @@ pub(crate) fn detach(nodes: &mut Vec<Node>, child: NodeId)
     if let Some(parent) = parent.get() {
         link_after(nodes, parent, previous, next);
         link_before(nodes, parent, next, previous);
-        let none = Link::none();
+        let none = NodeLink::none();
         set_place(nodes, child, none, none, none);
     }
 }
 
 /// Puts a loose node below a parent, between two siblings.
-pub(crate) fn hook(nodes: &mut Vec<Node>, child: NodeId, parent: NodeId, previous: Link, next: Link)
+pub(crate) fn hook(
+    nodes: &mut Vec<Node>,
+    child: NodeId,
+    parent: NodeId,
+    previous: NodeLink,
+    next: NodeLink,
+)
     requires child_in { child < length nodes.old.items }
     requires parent_in { parent < length nodes.old.items }
     requires previous_in { IsWithin (length nodes.old.items) previous }
@@ -96,7 +108,7 @@ pub(crate) fn hook(nodes: &mut Vec<Node>, child: NodeId, parent: NodeId, previou
     requires few { length nodes.old.items ≤ u32.MAX }
     ensures { IsSeenAs (hooked child parent previous next) nodes.old.items nodes.new.items }
 {
-    link_after(nodes, parent, previous, Link::to(child));
-    link_before(nodes, parent, next, Link::to(child));
-    set_place(nodes, child, Link::to(parent), previous, next);
+    link_after(nodes, parent, previous, NodeLink::to(child));
+    link_before(nodes, parent, next, NodeLink::to(child));
+    set_place(nodes, child, NodeLink::to(parent), previous, next);
 }

@@ -68,7 +68,7 @@ const FEW: usize = 16;
 
 /// What a node is.
 #[derive(Drop)]
-pub(crate) enum Content {
+pub(crate) enum NodeData {
     Document,
     Doctype(Box<Doctype>),
     Element(NameId, Vec<Attr>),
@@ -80,12 +80,12 @@ pub(crate) enum Content {
 
 /// A link to a node, or none, in four bytes.
 #[derive(Clone, Copy)]
-pub(crate) struct Link {
+pub(crate) struct NodeLink {
     /// 0 for none; one more than the number of the node.
     raw: u32,
 }
 
-impl Model for Link {
+impl Model for NodeLink {
     ghost use Rattle.std.specs.Prelude.{ℕ, Option};
     ghost use Rattle.hnodes.specs.Raw.{link_of, raw_of, raw_back};
 
@@ -98,12 +98,12 @@ impl Model for Link {
     ghost inverse_ok = { λ a h. λ i. record { raw = raw_back a.raw i } };
 }
 
-impl Link {
+impl NodeLink {
     /// No link.
     pub(crate) fn none() -> Self
         ensures { result ≡ None }
     {
-        Link { raw: 0 }
+        NodeLink { raw: 0 }
     }
 
     /// A link to a node.
@@ -111,7 +111,7 @@ impl Link {
         requires { node < u32.MAX }
         ensures { result ≡ Some node }
     {
-        Link {
+        NodeLink {
             raw: node.number + 1,
         }
     }
@@ -132,28 +132,28 @@ impl Link {
 /// A node and its neighbours.
 #[derive(Drop)]
 pub(crate) struct Node {
-    pub(crate) content: Content,
-    pub(crate) parent: Link,
-    pub(crate) first: Link,
-    pub(crate) last: Link,
-    pub(crate) previous: Link,
-    pub(crate) next: Link,
+    pub(crate) content: NodeData,
+    pub(crate) parent: NodeLink,
+    pub(crate) first: NodeLink,
+    pub(crate) last: NodeLink,
+    pub(crate) previous: NodeLink,
+    pub(crate) next: NodeLink,
 }
 
 const _: () = prove!(std::mem::size_of::<Node>() == 56);
 
 impl Node {
     /// A loose node without children.
-    pub(crate) fn loose(content: Content) -> Self
+    pub(crate) fn loose(content: NodeData) -> Self
         ensures { row_of result ≡ alone (content_is content) }
     {
         Node {
             content,
-            parent: Link::none(),
-            first: Link::none(),
-            last: Link::none(),
-            previous: Link::none(),
-            next: Link::none(),
+            parent: NodeLink::none(),
+            first: NodeLink::none(),
+            last: NodeLink::none(),
+            previous: NodeLink::none(),
+            next: NodeLink::none(),
         }
     }
 }
@@ -165,7 +165,7 @@ pub(crate) fn push_char(nodes: &mut Vec<Node>, at: NodeId, c: char) -> Result<()
     ensures err { OnErr result (IsUnchanged nodes.old.items nodes.new.items) }
     ensures memory { IfErr result (λ e. e ≡ Refusal.Memory) }
 {
-    if let Content::Text(text) = &mut nodes[at.number as usize].content {
+    if let NodeData::Text(text) = &mut nodes[at.number as usize].content {
         text.push(c)?;
     }
     Ok(())
@@ -178,7 +178,7 @@ pub(crate) fn push_text(nodes: &mut Vec<Node>, at: NodeId, more: &str) -> Result
     ensures err { OnErr result (IsUnchanged nodes.old.items nodes.new.items) }
     ensures memory { IfErr result (λ e. e ≡ Refusal.Memory) }
 {
-    if let Content::Text(text) = &mut nodes[at.number as usize].content {
+    if let NodeData::Text(text) = &mut nodes[at.number as usize].content {
         text.push_str(more)?;
     }
     Ok(())
@@ -192,18 +192,18 @@ pub(crate) fn push_attr(nodes: &mut Vec<Node>, at: NodeId, attr: Attr) -> Result
     ensures memory { IfErr result (λ e. e ≡ Refusal.Memory) }
 {
     match &mut nodes[at.number as usize].content {
-        Content::Element(_, attrs) => attrs.push(attr)?,
-        Content::Wide(_, indexed) => indexed.push(attr)?,
+        NodeData::Element(_, attrs) => attrs.push(attr)?,
+        NodeData::Wide(_, indexed) => indexed.push(attr)?,
         _ => {}
     }
     Ok(())
 }
 
 /// An element with these attributes.
-pub(crate) fn element(name: NameId, attrs: Vec<Attr>, alloc: Global) -> Result<Content, AllocError>
+pub(crate) fn element(name: NameId, attrs: Vec<Attr>, alloc: Global) -> Result<NodeData, AllocError>
     ensures { IfOk result (λ content. content_is content ≡ element name (map attribute_of attrs.items)) }
 {
-    let mut content = Content::Element(name, attrs);
+    let mut content = NodeData::Element(name, attrs);
     widen_content(&mut content, alloc)?;
     Ok(content)
 }
@@ -229,10 +229,10 @@ fn take_indexed(attrs: &mut Vec<Attr>, alloc: Global) -> Result<Box<Indexed>, Al
 }
 
 /// Makes an element with more than a few attributes wide.
-fn widen_content(content: &mut Content, alloc: Global) -> Result<(), AllocError>
+fn widen_content(content: &mut NodeData, alloc: Global) -> Result<(), AllocError>
     ensures { content_is content.new ≡ content_is content.old }
 {
-    let Content::Element(name, attrs) = content else {
+    let NodeData::Element(name, attrs) = content else {
         return Ok(());
     };
     if attrs.len() <= FEW {
@@ -240,16 +240,16 @@ fn widen_content(content: &mut Content, alloc: Global) -> Result<(), AllocError>
     }
     let name = *name;
     let indexed = take_indexed(attrs, alloc)?;
-    *content = Content::Wide(name, indexed);
+    *content = NodeData::Wide(name, indexed);
     Ok(())
 }
 
 /// The same, and takes all their names into the index.
-fn index_content(content: &mut Content, alloc: Global) -> Result<(), AllocError>
+fn index_content(content: &mut NodeData, alloc: Global) -> Result<(), AllocError>
     ensures { content_is content.new ≡ content_is content.old }
 {
     widen_content(content, alloc)?;
-    if let Content::Wide(_, indexed) = content {
+    if let NodeData::Wide(_, indexed) = content {
         indexed.index()?;
     }
     Ok(())

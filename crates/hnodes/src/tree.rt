@@ -19,13 +19,14 @@ ghost use Rattle.std.specs.Str.{chars};
 use crate::attributes::{few_differ, has_name};
 use crate::links::{detach, hook};
 use crate::node::{
-    self, Content, Doctype, Kind, Link, Node, NodeId, Place, push_attr, push_char, push_text, widen,
+    self, Doctype, Kind, Node, NodeData, NodeId, NodeLink, Place, push_attr, push_char, push_text,
+    widen,
 };
 use names::{Attr, NameId, Refusal, Tag};
 use std::alloc::{AllocError, Global};
 use std::marker::Model;
 
-/// The tree of a document, and the loose nodes: those that were made and are not in it yet. Each node takes 56 bytes, beside what
+/// The tree of a document, and the loose nodes: those that were made and are not in it yet. Each node takes 56 bytes, besides what
 /// its texts and attributes hold. Making a node and moving one take amortized constant time. No call recurses, nor does the
 /// drop, and the moves and the questions allocate nothing.
 ///
@@ -61,7 +62,7 @@ impl Tree {
         ensures { IfOk result (λ t. t ≡ record { limit = limit; made = 1; trees = tree 0 document none none }) }
     {
         let mut nodes = Vec::new(alloc);
-        nodes.push(Node::loose(Content::Document))?;
+        nodes.push(Node::loose(NodeData::Document))?;
         Ok(Tree {
             nodes,
             limit,
@@ -130,7 +131,7 @@ impl Tree {
         ensures { Makes (comment (string_bytes text)) at self.old self.new result }
     {
         self.room(at)?;
-        self.add(Content::Comment(text))
+        self.add(NodeData::Comment(text))
     }
 
     /// Makes a doctype, loose.
@@ -139,7 +140,7 @@ impl Tree {
     {
         self.room(at)?;
         let texts = Box::new(self.alloc, texts)?;
-        self.add(Content::Doctype(texts))
+        self.add(NodeData::Doctype(texts))
     }
 
     /// Makes a text of one character, loose.
@@ -149,7 +150,7 @@ impl Tree {
         self.room(at)?;
         let mut text = String::new(self.alloc);
         text.push(c)?;
-        self.add(Content::Text(text))
+        self.add(NodeData::Text(text))
     }
 
     /// Makes a text, loose.
@@ -158,7 +159,7 @@ impl Tree {
     {
         self.room(at)?;
         let run = String::from_str(self.alloc, run)?;
-        self.add(Content::Text(run))
+        self.add(NodeData::Text(run))
     }
 
     /// Refuses where no further node may be made.
@@ -172,7 +173,7 @@ impl Tree {
     }
 
     /// Makes a node, loose.
-    fn add(&mut self, content: Content) -> Result<NodeId, Refusal>
+    fn add(&mut self, content: NodeData) -> Result<NodeId, Refusal>
         requires { self.old.made < self.old.limit }
         ensures ok { OnOk result (self.new ≡ make (content_is content) self.old) }
         ensures number { IfOk result (λ n. (n ≡ self.old.made) × (0 < n)) }
@@ -199,7 +200,7 @@ impl Tree {
         prove!(self.nodes.len() <= self.limit as usize);
         detach(&mut self.nodes, child);
         let last = self.nodes[parent.number as usize].last;
-        hook(&mut self.nodes, child, parent, last, Link::none());
+        hook(&mut self.nodes, child, parent, last, NodeLink::none());
     }
 
     /// Moves a node from where it stands to right before another, which has a parent.
@@ -217,7 +218,13 @@ impl Tree {
         let node = &self.nodes[sibling.number as usize];
         let (parent, previous) = (node.parent, node.previous);
         if let Some(parent) = parent.get() {
-            hook(&mut self.nodes, child, parent, previous, Link::to(sibling));
+            hook(
+                &mut self.nodes,
+                child,
+                parent,
+                previous,
+                NodeLink::to(sibling),
+            );
         }
     }
 
@@ -384,8 +391,8 @@ impl Tree {
         ensures { result ≡ is_present nat_eq name (attributes_of at self.now.trees) }
     {
         match &self.nodes[at.number as usize].content {
-            Content::Element(_, attrs) => has_name(attrs, name),
-            Content::Wide(_, indexed) => indexed.has(name),
+            NodeData::Element(_, attrs) => has_name(attrs, name),
+            NodeData::Wide(_, indexed) => indexed.has(name),
             _ => false,
         }
     }
@@ -462,12 +469,12 @@ impl Tree {
         ensures { Some result ≡ kind_of at self.now.trees }
     {
         match &self.nodes[at.number as usize].content {
-            Content::Document => Kind::Document,
-            Content::Doctype(_) => Kind::Doctype,
-            Content::Element(_, _) => Kind::Element,
-            Content::Wide(_, _) => Kind::Element,
-            Content::Comment(_) => Kind::Comment,
-            Content::Text(_) => Kind::Text,
+            NodeData::Document => Kind::Document,
+            NodeData::Doctype(_) => Kind::Doctype,
+            NodeData::Element(_, _) => Kind::Element,
+            NodeData::Wide(_, _) => Kind::Element,
+            NodeData::Comment(_) => Kind::Comment,
+            NodeData::Text(_) => Kind::Text,
         }
     }
 
@@ -477,8 +484,8 @@ impl Tree {
         ensures { result ≡ name_of at self.now.trees }
     {
         match &self.nodes[at.number as usize].content {
-            Content::Element(name, _) => Some(*name),
-            Content::Wide(name, _) => Some(*name),
+            NodeData::Element(name, _) => Some(*name),
+            NodeData::Wide(name, _) => Some(*name),
             _ => None,
         }
     }
@@ -489,8 +496,8 @@ impl Tree {
         ensures { option_map (λ attrs. map attribute_of attrs.now) result ≡ attributes_of at self.now.trees }
     {
         match &self.nodes[at.number as usize].content {
-            Content::Element(_, attrs) => Some(attrs),
-            Content::Wide(_, indexed) => Some(indexed.attrs()),
+            NodeData::Element(_, attrs) => Some(attrs),
+            NodeData::Wide(_, indexed) => Some(indexed.attrs()),
             _ => None,
         }
     }
@@ -501,8 +508,8 @@ impl Tree {
         ensures { result ≡ option_map_or (names_differ nat_eq) (attributes_of at self.now.trees) true }
     {
         match &self.nodes[at.number as usize].content {
-            Content::Element(_, attrs) => few_differ(attrs),
-            Content::Wide(_, indexed) => indexed.differ(),
+            NodeData::Element(_, attrs) => few_differ(attrs),
+            NodeData::Wide(_, indexed) => indexed.differ(),
             _ => true,
         }
     }
@@ -537,8 +544,8 @@ impl Tree {
         ensures { option_map (λ text. text.now) result ≡ text_of at self.now.trees }
     {
         match &self.nodes[at.number as usize].content {
-            Content::Text(text) => Some(text),
-            Content::Comment(text) => Some(text),
+            NodeData::Text(text) => Some(text),
+            NodeData::Comment(text) => Some(text),
             _ => None,
         }
     }
@@ -549,7 +556,7 @@ impl Tree {
         ensures { Some result.now ≡ option_map own_text_of (what_of at self.now.trees) }
     {
         match &self.nodes[at.number as usize].content {
-            Content::Text(text) => text,
+            NodeData::Text(text) => text,
             _ => "",
         }
     }
@@ -560,7 +567,7 @@ impl Tree {
         ensures { option_map (λ texts. doctype_texts texts.now) result ≡ doctype_of at self.now.trees }
     {
         match &self.nodes[at.number as usize].content {
-            Content::Doctype(texts) => Some(texts),
+            NodeData::Doctype(texts) => Some(texts),
             _ => None,
         }
     }

@@ -8,7 +8,7 @@ use Rattle.hopen.specs.Places.{last_place}
 use Rattle.hopen.specs.Exchanged.{exchanged, place_in, IsDropped, IsMended, IsRenewed}
 use Rattle.hopen.proofs.Places.{last_place-le}
 
--- the places among the first so many members
+-- the places among the first this many members
 module _ {Y : Type 0} (sought : Y → Bool) (ys : List Y) (d : Y) where
   pub place-step : (n : ℕ) → n < length ys → place_in sought ys (suc n) ≡ cond (sought (get_or ys n d)) (suc n) (place_in sought ys n)
   place-step n h =

@@ -269,7 +269,7 @@ module _ (from to : ℕ) (new : OpenNode ℕ) (ys : List (OpenNode ℕ)) where
   pub done-more : (sought : OpenNode ℕ → Bool) (end more : ℕ) → IsDone to sought ys end → end ≤ more → more ≤ length ys → IsDone to sought ys more
   done-more sought end more done h w = λ some. let far = done some in omega (arith, place-mono sought ys new end more h w)
 
--- the first so many of a vector of items
+-- the first this many of a vector of items
 pub stack-place : (items : List Item) (sought : OpenNode ℕ → Bool) (n : ℕ) → last_place sought (stack_of (take n items)) ≡ place_in sought (map opened_by items) n
 stack-place items sought n = ap (λ l. last_place sought (reverse l)) (sym (take-map opened_by n items))
 

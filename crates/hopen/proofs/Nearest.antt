@@ -9,7 +9,7 @@ use Rattle.hopen.proofs.Images.{position-map}
 use Rattle.hopen.specs.Nearest.{before, after, without, changed, put_before, changed_at}
 
 module _ {Y : Type 0} (sought : Y → Bool) where
-  -- the words where the nearest that is sought has so many before it
+  -- the words where the nearest that is sought has this many before it
   pub record Words (ys : List Y) (up : ℕ) : Type 0 where
     pub before_is : before sought ys ≡ take up ys
     pub after_is : after sought ys ≡ drop (suc up) ys
@@ -149,25 +149,25 @@ module _ {X Y : Type 0} (f : X → Y) where
   pub slice_get_nearest : (items : List X) (i up : ℕ) (d : X) → i + suc up ≡ length items → slice_get (reverse (map f items)) up ≡ Some (f (get_or items i d))
   slice_get_nearest items i up d h = slice_get-get_or (reverse (map f items)) up (f d) (omega (arith, length_nearest items)) ∙ ap (λ y. Some y) (get_nearest items i up d (f d) h)
 
-  -- a write, where so many are nearer
+  -- a write, where this many are nearer
   pub set_nearest : (g : Y → Y) (items : List X) (i up : ℕ) (d y : X) → i + suc up ≡ length items → f y ≡ g (f (get_or items i d)) → reverse (map f (set items i y)) ≡ changed_at up g (reverse (map f items))
   set_nearest g items i up d y h e =
       ap (λ l. reverse (map f l)) (set_split items i y (omega arith)) ∙ reverse_around (take i items) (drop (suc i) items) y
       ∙ rw (e, ← get_nearest items i up d (f d) h, ← take_nearest items (suc i) up (omega arith), ← drop_nearest items i (suc up) (omega arith)) (sym (changed_at-split g (reverse (map f items)) up (f d) (omega (arith, length_nearest items))))
 
-  -- a member leaves, where so many are nearer
+  -- a member leaves, where this many are nearer
   pub cut_nearest : (items : List X) (i up : ℕ) → i + suc up ≡ length items → reverse (map f (remove items i)) ≡ remove (reverse (map f items)) up
   cut_nearest items i up h =
       reverse_split (take i items) (drop (suc i) items)
       ∙ rw (← take_nearest items (suc i) up (omega arith), ← drop_nearest items i (suc up) h) refl
 
-  -- a run of members leaves, where so many are nearer
+  -- a run of members leaves, where this many are nearer
   pub remove_run_nearest : (items : List X) (from to up count : ℕ) → from + count ≡ to → to + up ≡ length items → reverse (map f (remove_range items from to)) ≡ remove_range (reverse (map f items)) up (up + count)
   remove_run_nearest items from to up count h k =
       reverse_split (take from items) (drop to items)
       ∙ rw (← take_nearest items to up k, ← drop_nearest items from (up + count) (omega arith)) refl
 
-  -- edits of a vector at the nearest that is sought, which has so many nearer than it
+  -- edits of a vector at the nearest that is sought, which has this many nearer than it
   module _ (sought : Y → Bool) where
     pub remove_nearest : (items : List X) (i up : ℕ) → position sought (reverse (map f items)) ≡ Some up → i + suc up ≡ length items → reverse (map f (remove items i)) ≡ without sought (reverse (map f items))
     remove_nearest items i up s h = cut_nearest items i up h ∙ sym ((words sought (reverse (map f items)) up s).without_is)

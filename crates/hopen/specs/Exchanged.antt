@@ -17,7 +17,7 @@ module _ {Y : Type 0} where
   abbrev pub exchanged : (from to : ℕ) → Y → List Y → List Y
   exchanged from to new ys = insert (remove ys from) to new
 
-  -- the place of the nearest that is sought among the first so many
+  -- the place of the nearest that is sought among the first this many
   abbrev pub place_in : (Y → Bool) → List Y → ℕ → ℕ
   place_in sought ys n = last_place sought (reverse (take n ys))
 
@@ -63,7 +63,7 @@ pub record IsRenewed (to nearest old new : ℕ) : Type 0 where
   pub above : old ≤ suc to → new ≡ nearest
   pub below : suc to < old → new ≡ old
 
--- .. and of the sets
+-- the same of the sets
 abbrev pub AreRenewed : (to : ℕ) → (nearest old new : SetPlaces) → Type 0
 AreRenewed to nearest old new = (set : NameSet) → IsRenewed to (set_place set nearest) (set_place set old) (set_place set new)
 
@@ -79,7 +79,7 @@ pub record IsLowered (from end old new : ℕ) : Type 0 where
 abbrev pub AreLowered : (from end : ℕ) → (old new : List ℕ) → Type 0
 AreLowered from end old new = (k : ℕ) → IsLowered from end (get_or old k 0) (get_or new k 0)
 
--- so many nodes have one that is sought below the window, or none is below it at all
+-- this many nodes have one that is sought below the window, or none is below it at all
 abbrev pub IsDone : (to : ℕ) → (OpenNode ℕ → Bool) → List (OpenNode ℕ) → (end : ℕ) → Type 0
 IsDone to sought ys end = (suc to < last_place sought (reverse ys)) → suc to < place_in sought ys end
 

@@ -28,7 +28,7 @@ module _ {X : Type 0} where
   put_before sought new [] = []
   put_before sought new (x ∷ rest) = if sought x then new ∷ x ∷ rest else x ∷ put_before sought new rest
 
-  -- the member that has so many before it becomes f of it
+  -- the member that has this many before it becomes f of it
   abbrev pub changed_at : ℕ → (X → X) → List X → List X
   changed_at n f [] = []
   changed_at zero f (x ∷ rest) = f x ∷ rest

@@ -78,7 +78,7 @@ fn end_of_name(last: &LastPlaces, items: &[Item], window: Window, name: NameId) 
     index
 }
 
-/// An index below a window from which on no node has the name of the nearest node that has it in the window.
+/// An index past a window: from it on, no node's nearest node of the same name lies inside the window.
 fn end_of_names(last: &LastPlaces, items: &[Item], window: Window) -> usize
     requires stands { Stands last.now items.now }
     requires places { length items.now < 2 ^ 32 }
@@ -293,7 +293,7 @@ pub(crate) fn exchange(last: &mut LastPlaces, items: &mut [Item], window: Window
     move_up(items, window, Open { node, name });
 }
 
-/// The same for any node that leaves, where all nodes below are mended.
+/// The same for any node that leaves, where all nodes below are updated.
 pub(crate) fn exchange_any(
     last: &mut LastPlaces,
     items: &mut Vec<Item>,

@@ -243,7 +243,7 @@ pub(crate) fn pop(last: &mut LastPlaces, items: &mut Vec<Item>) -> Option<Open>
     Some(item.opened)
 }
 
-/// Removes the items from an index up to another one, which stays, and mends the places below them.
+/// Removes the items from an index up to another one, which stays, and updates the places below them.
 pub(crate) fn remove_run(last: &mut LastPlaces, items: &mut Vec<Item>, from: usize, to: usize)
     requires stands { Stands last.old items.old.items }
     requires order { from ≤ to }
@@ -263,7 +263,7 @@ pub(crate) fn remove_run(last: &mut LastPlaces, items: &mut Vec<Item>, from: usi
     rewind(last, items, from);
 }
 
-/// Puts another item in the place of one, and mends the places below it.
+/// Puts another item in the place of one, and updates the places below it.
 pub(crate) fn replace(last: &mut LastPlaces, items: &mut [Item], index: usize, item: Item)
     requires stands { Stands last.old items.old }
     requires within { index < length items.old }
@@ -278,7 +278,7 @@ pub(crate) fn replace(last: &mut LastPlaces, items: &mut [Item], index: usize, i
     rewind(last, items, index);
 }
 
-/// Inserts an item at an index, and mends the places below it.
+/// Inserts an item at an index, and updates the places below it.
 pub(crate) fn insert(last: &mut LastPlaces, items: &mut Vec<Item>, index: usize, item: Item)
     requires stands { Stands last.old items.old.items }
     requires within { index ≤ length items.old.items }

@@ -126,25 +126,25 @@ module _ {S : Type 0} (gives : S → Item → Result (Unit {0}) Refusal → S �
     after_events : (es : List ParseError) (mid : S) → Handed gives old.names began (tokens_in h.taken) ((errors_among items ++ es) ++ errors_in h.taken) (Ok tt) mid
         → (events : List Event) (answer : Result (Unit {0}) Refusal) → HandsEvents gives new.names mid events answer new.sink
         → Handed gives new.names began (tokens_in (h.taken ++ events)) ((errors_among items ++ es) ++ errors_in (h.taken ++ events)) answer new.sink
-    after_events es mid told events answer given =
+    after_events es mid opts events answer given =
         let before : List ParseError = errors_among items ++ es in
         subst (λ (ks : List Tok). Handed gives new.names began ks ((errors_among items ++ es) ++ errors_in (h.taken ++ events)) answer new.sink) (sym (tokens_in-append h.taken events))
         (subst (λ (x : List ParseError). Handed gives new.names began (tokens_in h.taken ++ tokens_in events) x answer new.sink)
         (append_assoc (errors_among items ++ es) (errors_in h.taken) (errors_in events) ∙ ap (λ (x : List ParseError). (errors_among items ++ es) ++ x) (sym (errors_in-append h.taken events)))
-        (handed_more gives old.names new.names grows began mid new.sink (tokens_in h.taken) ((errors_among items ++ es) ++ errors_in h.taken) events answer told given))
+        (handed_more gives old.names new.names grows began mid new.sink (tokens_in h.taken) ((errors_among items ++ es) ++ errors_in h.taken) events answer opts given))
 
     -- items, the errors of which were handed over first
     holds_items : (xs : List CharItem) (mid : S) → Handed gives old.names began (tokens_in h.taken) ((errors_among items ++ errors_among xs) ++ errors_in h.taken) (Ok tt) mid
         → new.unfed ≡ [] → (answer : Result (Unit {0}) Refusal) → new.stopped ≡ is_err answer
         → Takes gives m.table (start_kind m.start) (characters_among items) (characters_among xs) h.taken new.names mid answer new.sink new.tokenizer → TakesItems gives m began items xs answer new
-    holds_items xs mid told unfed answer noted (take_ran_out events e handed front) = items_ran_out e
-    holds_items xs mid told unfed answer noted (take_refused name at events e handed refused) =
-        items_refused name at (tokens_in (h.taken ++ events)) _ e (noted ∙ ap is_err e) (after_events (errors_among xs) mid told events (Ok tt) handed)
+    holds_items xs mid opts unfed answer noted (take_ran_out events e handed front) = items_ran_out e
+    holds_items xs mid opts unfed answer noted (take_refused name at events e handed refused) =
+        items_refused name at (tokens_in (h.taken ++ events)) _ e (noted ∙ ap is_err e) (after_events (errors_among xs) mid opts events (Ok tt) handed)
         (λ more end. subst (λ (x : List Placed). IsRefused m.table (start_kind m.start) x end (tokens_in (h.taken ++ events)) name at) (with_more items xs more) (refused (characters_among more) end))
-    holds_items xs mid told unfed answer noted (take_sink_refused x events e handed front) =
-        items_stopped x (h.taken ++ events) _ e (noted ∙ ap is_err e) (after_events (errors_among xs) mid told events (Err x) handed)
+    holds_items xs mid opts unfed answer noted (take_sink_refused x events e handed front) =
+        items_stopped x (h.taken ++ events) _ e (noted ∙ ap is_err e) (after_events (errors_among xs) mid opts events (Err x) handed)
         (λ more end. subst (λ (x : List Placed). AreFront m.table (start_kind m.start) x end (h.taken ++ events)) (with_more items xs more) (front (characters_among more) end))
-    holds_items xs mid told unfed answer noted (take_took events e handed has) =
+    holds_items xs mid opts unfed answer noted (take_took events e handed has) =
         items_taken e (record {
           fed = items ++ xs;
           items_are = all_fed unfed (items ++ xs);
@@ -152,7 +152,7 @@ module _ {S : Type 0} (gives : S → Item → Result (Unit {0}) Refusal → S �
             taken = h.taken ++ events;
             has_taken = subst (λ (x : List Placed). HasTaken m.table (start_kind m.start) new.tokenizer new.names x (h.taken ++ events)) (sym (characters_among-append items xs)) has;
             handed = subst (λ (x : List ParseError). Handed gives new.names began (tokens_in (h.taken ++ events)) (x ++ errors_in (h.taken ++ events)) (Ok tt) new.sink) (sym (errors_among-append items xs))
-                (after_events (errors_among xs) mid told events (Ok tt) handed);
+                (after_events (errors_among xs) mid opts events (Ok tt) handed);
             unstopped = noted ∙ ap is_err e;
           };
         })
@@ -290,22 +290,22 @@ module _ {S : Type 0} (gives : S → ParseError → Result (Unit {0}) Refusal �
   -- an error is refused
   pub bad_untold : (n : ℕ) (e : Refusal) → 0 < n → new.names ≡ old.names → new.stopped ≡ true → Hands gives old.sink (input_errors (bad_each at n)) (Err e) new.sink
       → Hands (Proceeds to_item) old (items (bad_each at n)) (Err e) new
-  bad_untold zero e some names_are noted told = absurd (omega (arith, some))
-  bad_untold (suc n) e some names_are noted told =
+  bad_untold zero e some names_are noted opts = absurd (omega (arith, some))
+  bad_untold (suc n) e some names_are noted opts =
       all_handed to_item old new (Err e) none _ _ (λ m began before h.
       stops_telling to_item m began old new before h (input_errors (bad_each at (suc n))) (items (bad_each at (suc n))) e names_are noted
-      (reports_given gives gives_token old.names (input_errors (bad_each at (suc n))) old.sink new.sink (Err e) told))
+      (reports_given gives gives_token old.names (input_errors (bad_each at (suc n))) old.sink new.sink (Err e) opts))
 
   -- all are taken, and then the characters are fed
   pub bad_fed : (n : ℕ) (mid : S) (answer : Result (Unit {0}) Refusal) → 0 < n → new.unfed ≡ [] → new.names ≡ old.names → new.stopped ≡ is_err answer → Hands gives old.sink (input_errors (bad_each at n)) (Ok tt) mid
       → ((table : Entities) (start : RawKind) (names : Texts) (text : List Placed) (taken : List Event) → HasTaken table start old.tokenizer names text taken → Takes to_item table start text (replaced at n) taken names mid answer new.sink new.tokenizer)
       → Hands (Proceeds to_item) old (items (bad_each at n)) answer new
-  bad_fed zero mid answer some all_fed names_are noted told takes = absurd (omega (arith, some))
-  bad_fed (suc n) mid answer some all_fed names_are noted told takes =
+  bad_fed zero mid answer some all_fed names_are noted opts takes = absurd (omega (arith, some))
+  bad_fed (suc n) mid answer some all_fed names_are noted opts takes =
       all_handed to_item old new answer none _ _ (λ m began before h.
       holds_told to_item m began old new before h (subst (Grows old.names) (sym names_are) (grows_not old.names)) (items (bad_each at (suc n))) mid
       (subst (λ (es : List ParseError). HandsEvents to_item old.names old.sink (map Reports es) (Ok tt) mid) (sym (errors_of_bad (suc n) at))
-      (reports_given gives gives_token old.names (input_errors (bad_each at (suc n))) old.sink mid (Ok tt) told)) all_fed answer noted
+      (reports_given gives gives_token old.names (input_errors (bad_each at (suc n))) old.sink mid (Ok tt) opts)) all_fed answer noted
       (subst (λ (ps : List Placed). Takes to_item m.table (start_kind m.start) (characters_among before) ps h.taken new.names mid answer new.sink new.tokenizer) (sym (characters_of_bad (suc n) at))
       (subst (λ (t : Texts). Takes to_item m.table (start_kind m.start) (characters_among before) (replaced at (suc n)) h.taken t mid answer new.sink new.tokenizer) (sym names_are)
       (takes m.table (start_kind m.start) old.names (characters_among before) h.taken h.has_taken))))

@@ -28,7 +28,7 @@ use Rattle.hparse.specs.declared.parsed.Parsed.{Parsed}
 use Rattle.hparse.specs.Input.{Began, Handed, reads_in, tokens_handed, errors_handed, IsRefusedFor, by_sink, by_tag, by_bytes, IsTaken}
 use Rattle.hnodes.specs.Named.{AreOf}
 use Rattle.hmodes.specs.OfTable.{TokensAreOf}
-use Rattle.hparse.specs.Parse.{Subject, document, fragment, Told, Parses, refused_token, refused_tag, refused_bytes, accepted, begins, manner, root_of}
+use Rattle.hparse.specs.Parse.{ParseCase, document, fragment, ParseOptions, Parses, refused_token, refused_tag, refused_bytes, accepted, begins, manner, root_of}
 use Rattle.hparse.specs.Parsing.{builds, BeginsIn, a_document, a_fragment, IsBuilt, AnswersParse}
 use Rattle.hparse.specs.Taken.{placed}
 use Rattle.hparse.specs.TokenRun.{TokensMean}
@@ -39,35 +39,35 @@ use Rattle.hmodes.proofs.OfTable.{document-of, fragment-of}
 use Rattle.hparse.proofs.Numbered.{placed_number, tokens_spelled, fragment_spelled}
 
 -- the names in what tokens lead to from there are of the table
-trees_of_table : (told : Told) (first later : Texts) (subject : Subject) (s s' : State ℕ) (ts : List (PlacedToken ℕ)) → Grows first later → AreNames later → BeginsIn told first subject s → TokensAreOf later ts
+trees_of_table : (opts : ParseOptions) (first later : Texts) (parse_case : ParseCase) (s s' : State ℕ) (ts : List (PlacedToken ℕ)) → Grows first later → AreNames later → BeginsIn opts first parse_case s → TokensAreOf later ts
     → Steps numbers ts s (Goes s') → AreOf later s'.site.nodes.trees
-trees_of_table told first later document _ s' ts grows are a_document of steps = document-of later are told.quirks told.limits ts s' of steps
-trees_of_table told first later (fragment _) _ s' ts grows are (a_fragment context id is) of steps = fragment-of later are id told.limits ts s' (within later id context (text_kept first later id context grows is)) of steps
+trees_of_table opts first later document _ s' ts grows are a_document of steps = document-of later are opts.quirks opts.limits ts s' of steps
+trees_of_table opts first later (fragment _) _ s' ts grows are (a_fragment context id is) of steps = fragment-of later are id opts.limits ts s' (within later id context (text_kept first later id context grows is)) of steps
 
 -- the state in which a parse begins
-begins_spelled : (told : Told) (first later : Texts) (subject : Subject) (s : State ℕ) → Grows first later → AreNames later → BeginsIn told first subject s → spelled_state (spelling later) s ≡ begins told subject
-begins_spelled told first later document _ grows are a_document = refl
-begins_spelled told first later (fragment _) _ grows are (a_fragment context id is) = fragment_spelled later are id context told.limits (text_kept first later id context grows is)
+begins_spelled : (opts : ParseOptions) (first later : Texts) (parse_case : ParseCase) (s : State ℕ) → Grows first later → AreNames later → BeginsIn opts first parse_case s → spelled_state (spelling later) s ≡ begins opts parse_case
+begins_spelled opts first later document _ grows are a_document = refl
+begins_spelled opts first later (fragment _) _ grows are (a_fragment context id is) = fragment_spelled later are id context opts.limits (text_kept first later id context grows is)
 
-module _ (told : Told) (subject : Subject) (began : Began Building) (bytes : List ℕ) (names : Texts) (now : Building)
-    (unrefused : began.sink.refused ≡ None) (begins_in : BeginsIn told began.names subject began.sink.state) (later : Texts) (grows : Grows names later) (are : AreNames later) where
+module _ (opts : ParseOptions) (parse_case : ParseCase) (began : Began Building) (bytes : List ℕ) (names : Texts) (now : Building)
+    (unrefused : began.sink.refused ≡ None) (begins_in : BeginsIn opts began.names parse_case began.sink.state) (later : Texts) (grows : Grows names later) (are : AreNames later) where
   abbrev spell : ℕ → List ℕ
   spell = spelling later
 
   -- what comes of tokens comes of what they stand for
   in_texts : Grows began.names names → (ts : List Given) (tokens : List Tok) (o : Outcome (State ℕ)) → TokensMean names ts tokens → Steps numbers (map placed_number ts) began.sink.state o
-      → Steps texts (map placed tokens) (begins told subject) (outcome_map (spelled_state spell) o)
+      → Steps texts (map placed tokens) (begins opts parse_case) (outcome_map (spelled_state spell) o)
   in_texts grew ts tokens o mean steps =
-      subst (λ (s : State (List ℕ)). Steps texts (map placed tokens) s (outcome_map (spelled_state spell) o)) (begins_spelled told began.names later subject began.sink.state (grows_on began.names names later grew grows) are begins_in)
+      subst (λ (s : State (List ℕ)). Steps texts (map placed tokens) s (outcome_map (spelled_state spell) o)) (begins_spelled opts began.names later parse_case began.sink.state (grows_on began.names names later grew grows) are begins_in)
       (subst (λ (ps : List (PlacedToken (List ℕ))). Steps texts ps (spelled_state spell began.sink.state) (outcome_map (spelled_state spell) o)) (tokens_spelled later are ts tokens (tokens_kept names later grows ts tokens mean))
       ((steps_spelled numbers texts spell (table-agrees later are)).steps (map placed_number ts) began.sink.state o steps))
 
   -- .. where all of them were handed over
-  gone : (tokens : List Tok) (errors : List ParseError) → Handed builds names began tokens errors (Ok tt) now → Steps texts (map placed tokens) (begins told subject) (Goes (spelled_state spell now.state))
+  gone : (tokens : List Tok) (errors : List ParseError) → Handed builds names began tokens errors (Ok tt) now → Steps texts (map placed tokens) (begins opts parse_case) (Goes (spelled_state spell now.state))
   gone tokens errors h = in_texts h.grows (tokens_handed h.items) tokens (Goes now.state) h.tokens_mean (became began.sink now h.items unrefused h.hands).steps
 
   -- a refusal, but for want of memory
-  pub parses_refused : (e : Refusal) → IsRefusedFor builds (manner told subject) began bytes names now e → (e ≡ Memory) ⊎ Parses told subject bytes (Err e)
+  pub parses_refused : (e : Refusal) → IsRefusedFor builds (manner opts parse_case) began bytes names now e → (e ≡ Memory) ⊎ Parses opts parse_case bytes (Err e)
   parses_refused e (by_sink refusal events errors h front) = elim (refused_by_rules began.sink now h.items e unrefused h.hands) [
     | inl why ↦ inl why
     | inr steps ↦ inr (refused_token e events front (in_texts h.grows (tokens_handed h.items) (tokens_in events) (Refused e) h.tokens_mean steps))
@@ -75,9 +75,9 @@ module _ (told : Told) (subject : Subject) (began : Began Building) (bytes : Lis
   parses_refused e (by_tag name at tokens errors h refused) = inr (refused_tag name at tokens (spelled_state spell now.state) refused (gone tokens errors h))
   parses_refused e (by_bytes refusal tokens errors handed h read is) = inr (refused_bytes e errors (spelled_state spell now.state) (record { tokens = tokens; read = read; steps = gone tokens handed h }) is)
 
-  module _ (none_told : began.sink.told ≡ []) (root_is : began.sink.root ≡ root_of subject) where
+  module _ (none_told : began.sink.told ≡ []) (root_is : began.sink.root ≡ root_of parse_case) where
     -- what was built
-    pub parses_taken : (parsed : Parsed) → IsTaken builds (manner told subject) began bytes names now → IsBuilt later now parsed → AnswersParse told subject bytes (Ok parsed)
+    pub parses_taken : (parsed : Parsed) → IsTaken builds (manner opts parse_case) began bytes names now → IsBuilt later now parsed → AnswersParse opts parse_case bytes (Ok parsed)
     parses_taken parsed t r = (
       record { trees = spelled spell now.state.site.nodes.trees; errors = parsed.errors.items },
       record {
@@ -91,14 +91,14 @@ module _ (told : Told) (subject : Subject) (began : Began Building) (bytes : Lis
       accepted t.errors parsed.errors.items (spelled_state spell now.state) (record { tokens = t.tokens; read = t.read; steps = gone t.tokens (given ++ t.errors) t.handed }) order r.sorted t.whole,
     ) where
       given : List ParseError
-      given = input_errors (reads_in (manner told subject) bytes)
+      given = input_errors (reads_in (manner opts parse_case) bytes)
 
       b : Became began.sink now t.handed.items
       b = became began.sink now t.handed.items unrefused t.handed.hands
 
       of_table : AreOf later now.state.site.nodes.trees
       of_table =
-          trees_of_table told began.names later subject began.sink.state now.state (map placed_number (tokens_handed t.handed.items)) (grows_on began.names names later t.handed.grows grows) are begins_in
+          trees_of_table opts began.names later parse_case began.sink.state now.state (map placed_number (tokens_handed t.handed.items)) (grows_on began.names names later t.handed.grows grows) are begins_in
           (tokens_of_table later (tokens_handed t.handed.items) t.tokens (tokens_kept names later grows (tokens_handed t.handed.items) t.tokens t.handed.tokens_mean)) b.steps
 
       told_is : now.told ≡ errors_handed t.handed.items

@@ -46,7 +46,7 @@ module _ {S : Type 0} (gives : S → Item → Result (Unit {0}) Refusal → S �
         → ((more : List ℕ) → IsRefusedFor gives m began (bytes ++ more) new.feeding.names new.feeding.sink refusal) → FeedsPiece bytes answer new
     piece_read : answer ≡ Ok tt → HasRead new bytes → FeedsPiece bytes answer new
 
-  -- What the end of the input does, after these bytes: memory ran out, or it is what they come to.
+  -- What the end of the input does, after these bytes: memory ran out, or it is what they give.
   pub data EndsInput (bytes : List ℕ) (answer : Result (Unit {0}) Refusal) (new : Reading S) : Type 0 where
     input_ran_out : answer ≡ Err Memory → EndsInput bytes answer new
     input_comes : Comes gives m began bytes new.feeding.names new.feeding.sink answer → EndsInput bytes answer new

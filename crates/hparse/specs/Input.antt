@@ -1,4 +1,4 @@
--- What reading an input comes to, for a sink of the tokens and errors of its text. `gives` says what a step of the sink does.
+-- What reading an input gives, for a sink of the tokens and errors of its text. `gives` says what a step of the sink does.
 use Rattle.std.specs.Prelude.{◌≡◌, ℕ, List, [], ◌∷◌, ◌++◌, length, map, None, Some, Result, Ok, Err}
 use Rattle.std.specs.List.Sorted.{IsPermutation}
 use Rattle.names.specs.declared.error.ParseError.{ParseError}
@@ -101,7 +101,7 @@ module _ {S : Type 0} (gives : S → Item → Result (Unit {0}) Refusal → S �
     pub handed : Handed gives names began tokens (input_errors (reads_in m bytes) ++ errors) (Ok tt) now
     pub whole : refusal_of (how_of m) bytes ≡ None
 
-  -- What it comes to: it is refused, or taken.
+  -- What it gives: it is refused, or taken.
   abbrev pub Comes : Result (Unit {0}) Refusal → Type 0
   Comes (Ok done) = IsTaken
   Comes (Err refusal) = IsRefusedFor refusal

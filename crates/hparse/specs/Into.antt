@@ -17,7 +17,7 @@ as_document table bad limit = record { table = table; start = Document; bad = ba
 abbrev pub begins : {S : Type 0} → S → Began S
 begins sink = record { names = known; sink = sink }
 
--- What an input comes to in a sink: the sink took all that it gives, and here are the names of its tokens and the sink; or it is
+-- What an input gives in a sink: the sink took all that it gives, and here are the names of its tokens and the sink; or it is
 -- refused, where the sink was handed what comes before.
 abbrev pub ComesInto : {S : Type 0} → (S → Item → Result (Unit {0}) Refusal → S → Type 0) → Manner → S → List ℕ → Result (Texts × S) Refusal → Type 0
 ComesInto gives m sink bytes (Ok read) = IsTaken gives m (begins sink) bytes read.0 read.1

@@ -1,4 +1,4 @@
--- What parsing the bytes of a document or of a fragment comes to: a tree and parse errors, or what they are refused for.
+-- What parsing the bytes of a document or of a fragment gives: a tree and parse errors, or what they are refused for.
 use Rattle.std.specs.Prelude.{◌≡◌, ℕ, Bool, false, not, ◌&&◌, ◌||◌, ◌==◌, nat_le, bytes_eq, codes, List, [], ◌∷◌, ◌++◌, length, map, None, Some, Result, Ok, Err}
 use Rattle.std.specs.List.{list_all}
 use Rattle.std.specs.List.Sorted.{IsPermutation, IsSorted}
@@ -29,37 +29,37 @@ use Rattle.hparse.specs.Input.{Manner, how_of, reads_in, text_in}
 use Rattle.hparse.specs.Taken.{placed}
 
 -- what is parsed: a document, or a fragment in the context of an element of this name (13.4)
-pub data Subject : Type 0 where
-  document : Subject
-  fragment : (context : List ℕ) → Subject
+pub data ParseCase : Type 0 where
+  document : ParseCase
+  fragment : (context : List ℕ) → ParseCase
 
--- what a parse is told beside the bytes: the references, the quirks list, what becomes of bad bytes, the most bytes, and how
+-- the options of a parse: the references, the quirks list, what becomes of bad bytes, the most bytes, and how
 -- large the tree may become
-pub record Told : Type 0 where
+pub record ParseOptions : Type 0 where
   pub table : Entities
   pub quirks : List QuirkLine
   pub bad : BadBytes
   pub input : ℕ
   pub limits : Limits
 
-abbrev pub start_of : Subject → Start
+abbrev pub start_of : ParseCase → Start
 start_of document = start.Document
 start_of (fragment context) = start.Context (raw_kind (tag_named context))
 
-abbrev pub manner : Told → Subject → Manner
-manner told subject = record { table = told.table; start = start_of subject; bad = told.bad; limit = told.input }
+abbrev pub manner : ParseOptions → ParseCase → Manner
+manner opts parse_case = record { table = opts.table; start = start_of parse_case; bad = opts.bad; limit = opts.input }
 
 -- how its bytes are read
-abbrev pub policy : Told → Subject → Policy
-policy told subject = how_of (manner told subject)
+abbrev pub policy : ParseOptions → ParseCase → Policy
+policy opts parse_case = how_of (manner opts parse_case)
 
 -- the state in which it begins
-abbrev pub begins : Told → Subject → State (List ℕ)
-begins told document = document_begins told.quirks told.limits
-begins told (fragment context) = fragment_begins texts context told.limits
+abbrev pub begins : ParseOptions → ParseCase → State (List ℕ)
+begins opts document = document_begins opts.quirks opts.limits
+begins opts (fragment context) = fragment_begins texts context opts.limits
 
 -- the document, or a fragment's root element
-abbrev pub root_of : Subject → ℕ
+abbrev pub root_of : ParseCase → ℕ
 root_of document = 0
 root_of (fragment context) = 1
 
@@ -68,30 +68,30 @@ pub record Parse : Type 0 where
   pub trees : Forest (List ℕ)
   pub errors : List ParseError
 
-module _ (told : Told) (subject : Subject) (bytes : List ℕ) where
+module _ (opts : ParseOptions) (parse_case : ParseCase) (bytes : List ℕ) where
   -- The tokens of what is read of the bytes lead the rules to this state, and the text raises these errors.
   pub record Builds (end : ℕ) (errors : List ParseError) (state : State (List ℕ)) : Type 0 where
     pub tokens : List Tok
-    pub read : Tokens told.table (start_kind (start_of subject)) (text_in (manner told subject) bytes) end tokens errors
-    pub steps : Steps texts (map placed tokens) (begins told subject) (Goes state)
+    pub read : Tokens opts.table (start_kind (start_of parse_case)) (text_in (manner opts parse_case) bytes) end tokens errors
+    pub steps : Steps texts (map placed tokens) (begins opts parse_case) (Goes state)
 
-  -- What the bytes come to.
+  -- What the bytes are parsed as.
   pub data Parses : Result Parse Refusal → Type 0 where
     -- the rules refuse one of its tokens
     refused_token : (refusal : Refusal) (events : List Event)
-        → AreFront told.table (start_kind (start_of subject)) (text_in (manner told subject) bytes) (read_len (policy told subject) bytes) events
-        → Steps texts (map placed (tokens_in events)) (begins told subject) (Refused refusal) → Parses (Err refusal)
+        → AreFront opts.table (start_kind (start_of parse_case)) (text_in (manner opts parse_case) bytes) (read_len (policy opts parse_case) bytes) events
+        → Steps texts (map placed (tokens_in events)) (begins opts parse_case) (Refused refusal) → Parses (Err refusal)
     -- it has a start tag that is left out of the profile, and the rules take the tokens before that
     refused_tag : (name : RefusedName) (at : ℕ) (tokens : List Tok) (state : State (List ℕ))
-        → IsRefused told.table (start_kind (start_of subject)) (text_in (manner told subject) bytes) (read_len (policy told subject) bytes) tokens name at
-        → Steps texts (map placed tokens) (begins told subject) (Goes state) → Parses (Err (OutOfProfile name at))
+        → IsRefused opts.table (start_kind (start_of parse_case)) (text_in (manner opts parse_case) bytes) (read_len (policy opts parse_case) bytes) tokens name at
+        → Steps texts (map placed tokens) (begins opts parse_case) (Goes state) → Parses (Err (OutOfProfile name at))
     -- the rules take all of its tokens, but bytes follow it
-    refused_bytes : (refusal : Refusal) (errors : List ParseError) (state : State (List ℕ)) → Builds (read_len (policy told subject) bytes) errors state
-        → refusal_of (policy told subject) bytes ≡ Some refusal → Parses (Err refusal)
+    refused_bytes : (refusal : Refusal) (errors : List ParseError) (state : State (List ℕ)) → Builds (read_len (policy opts parse_case) bytes) errors state
+        → refusal_of (policy opts parse_case) bytes ≡ Some refusal → Parses (Err refusal)
     -- it is all of the bytes: the errors are those of the input stream, of the tokens and of the rules, as often as they are raised
     accepted : (errors sorted : List ParseError) (state : State (List ℕ)) → Builds (length bytes) errors state
-        → IsPermutation (input_errors (reads_in (manner told subject) bytes) ++ (errors ++ state.site.errors)) sorted → IsSorted error_cmp sorted
-        → refusal_of (policy told subject) bytes ≡ None → Parses (Ok (record { trees = state.site.nodes.trees; errors = sorted }))
+        → IsPermutation (input_errors (reads_in (manner opts parse_case) bytes) ++ (errors ++ state.site.errors)) sorted → IsSorted error_cmp sorted
+        → refusal_of (policy opts parse_case) bytes ≡ None → Parses (Ok (record { trees = state.site.nodes.trees; errors = sorted }))
 
 -- a lower letter, and a byte of a context's name after its first: a lower letter, a digit, `-`, `_` or `:`
 abbrev pub is_lower : ℕ → Bool

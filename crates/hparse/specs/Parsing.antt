@@ -21,11 +21,11 @@ use Rattle.hparse.specs.Answer.{error_cmp}
 use Rattle.hparse.specs.Fed.{HasRead}
 use Rattle.hparse.specs.Input.{Began}
 use Rattle.hnodes.specs.Named.{AreOf}
-use Rattle.hparse.specs.Parse.{Subject, document, fragment, Told, Parse, Parses, manner, root_of}
+use Rattle.hparse.specs.Parse.{ParseCase, document, fragment, ParseOptions, Parse, Parses, manner, root_of}
 
 -- what options tell
-abbrev pub told_by : Options → Told
-told_by options = record {
+abbrev pub options_of : Options → ParseOptions
+options_of options = record {
   table = options.table.now;
   quirks = options.quirks.now;
   bad = options.bad_bytes;
@@ -38,30 +38,30 @@ abbrev pub builds : Building → Item → Result (Unit {0}) Refusal → Building
 builds = gives_item TakesError TakesToken
 
 -- the state in which a parse begins, where names are numbers of this table
-pub data BeginsIn (told : Told) (names : Texts) : Subject → State ℕ → Type 0 where
-  a_document : BeginsIn told names document (document_begins told.quirks told.limits)
-  a_fragment : (context : List ℕ) (id : ℕ) → slice_get names id ≡ Some context → BeginsIn told names (fragment context) (fragment_begins numbers id told.limits)
+pub data BeginsIn (opts : ParseOptions) (names : Texts) : ParseCase → State ℕ → Type 0 where
+  a_document : BeginsIn opts names document (document_begins opts.quirks opts.limits)
+  a_fragment : (context : List ℕ) (id : ℕ) → slice_get names id ≡ Some context → BeginsIn opts names (fragment context) (fragment_begins numbers id opts.limits)
 
 -- The parser was fed these bytes, in any pieces, and has refused nothing.
-pub record HasParsed (told : Told) (subject : Subject) (parser : Parser) (bytes : List ℕ) : Type 0 where
+pub record HasParsed (opts : ParseOptions) (parse_case : ParseCase) (parser : Parser) (bytes : List ℕ) : Type 0 where
   pub accepts : parser.refused ≡ None
   pub began : Began Building
   pub unrefused : began.sink.refused ≡ None
   pub none_told : began.sink.told ≡ []
-  pub root_is : began.sink.root ≡ root_of subject
-  pub begins : BeginsIn told began.names subject began.sink.state
-  pub has_read : HasRead builds (manner told subject) began parser.reading bytes
+  pub root_is : began.sink.root ≡ root_of parse_case
+  pub begins : BeginsIn opts began.names parse_case began.sink.state
+  pub has_read : HasRead builds (manner opts parse_case) began parser.reading bytes
 
 -- nothing of the bytes is refused, whatever follows them: a parser that was fed them has refused nothing
-abbrev pub IsUnrefused : Told → Subject → List ℕ → Type 0
-IsUnrefused told subject bytes = (parser : Parser) × HasParsed told subject parser bytes
+abbrev pub IsUnrefused : ParseOptions → ParseCase → List ℕ → Type 0
+IsUnrefused opts parse_case bytes = (parser : Parser) × HasParsed opts parse_case parser bytes
 
 -- What feeding the last piece of these bytes does: memory ran out, or they are refused, whatever comes after, or they have been read.
-pub data FeedsParser (told : Told) (subject : Subject) (bytes : List ℕ) (answer : Result (Unit {0}) Refusal) (new : Parser) : Type 0 where
-  feed_ran_out : answer ≡ Err Memory → FeedsParser told subject bytes answer new
-  feed_refused : (refusal : Refusal) → answer ≡ Err refusal → ((more : List ℕ) → Parses told subject (bytes ++ more) (Err refusal))
-      → FeedsParser told subject bytes answer new
-  feed_read : answer ≡ Ok tt → HasParsed told subject new bytes → FeedsParser told subject bytes answer new
+pub data FeedsParser (opts : ParseOptions) (parse_case : ParseCase) (bytes : List ℕ) (answer : Result (Unit {0}) Refusal) (new : Parser) : Type 0 where
+  feed_ran_out : answer ≡ Err Memory → FeedsParser opts parse_case bytes answer new
+  feed_refused : (refusal : Refusal) → answer ≡ Err refusal → ((more : List ℕ) → Parses opts parse_case (bytes ++ more) (Err refusal))
+      → FeedsParser opts parse_case bytes answer new
+  feed_read : answer ≡ Ok tt → HasParsed opts parse_case new bytes → FeedsParser opts parse_case bytes answer new
 
 -- What was parsed has this tree and root, and these errors in their order.
 pub record IsMadeOf (names : Texts) (tree : Nodes ℕ) (root : ℕ) (errors : List ParseError) (parsed : Parsed) : Type 0 where
@@ -78,20 +78,20 @@ IsBuilt names built = IsMadeOf names built.state.site.nodes built.root (built.st
 
 -- What was parsed is this: the same tree, in which the names inside the root are numbers of its table, the same root and the same
 -- errors. The texts of the table are distinct, the known ones first.
-pub record IsParse (subject : Subject) (parsed : Parsed) (parse : Parse) : Type 0 where
+pub record IsParse (parse_case : ParseCase) (parsed : Parsed) (parse : Parse) : Type 0 where
   pub table : AreNames parsed.names
   pub trees : spelled (spelling parsed.names) parsed.tree.trees ≡ parse.trees
   pub made : parsed.root < parsed.tree.made
   pub names_are : AreOf parsed.names (children_of parsed.root parsed.tree.trees)
-  pub root : parsed.root ≡ root_of subject
+  pub root : parsed.root ≡ root_of parse_case
   pub errors : parsed.errors.items ≡ parse.errors
 
--- It is what the bytes come to.
-abbrev pub AnswersParse : Told → Subject → List ℕ → Result Parsed Refusal → Type 0
-AnswersParse told subject bytes (Ok parsed) = (parse : Parse) × IsParse subject parsed parse × Parses told subject bytes (Ok parse)
-AnswersParse told subject bytes (Err refusal) = Parses told subject bytes (Err refusal)
+-- It is what the bytes are parsed as.
+abbrev pub AnswersParse : ParseOptions → ParseCase → List ℕ → Result Parsed Refusal → Type 0
+AnswersParse opts parse_case bytes (Ok parsed) = (parse : Parse) × IsParse parse_case parsed parse × Parses opts parse_case bytes (Ok parse)
+AnswersParse opts parse_case bytes (Err refusal) = Parses opts parse_case bytes (Err refusal)
 
--- .. unless memory ran out
-pub data ShowsParse (told : Told) (subject : Subject) (bytes : List ℕ) (result : Result Parsed Refusal) : Type 0 where
-  parse_ran_out : result ≡ Err Memory → ShowsParse told subject bytes result
-  parse_answered : AnswersParse told subject bytes result → ShowsParse told subject bytes result
+-- the same, unless memory ran out
+pub data ShowsParse (opts : ParseOptions) (parse_case : ParseCase) (bytes : List ℕ) (result : Result Parsed Refusal) : Type 0 where
+  parse_ran_out : result ≡ Err Memory → ShowsParse opts parse_case bytes result
+  parse_answered : AnswersParse opts parse_case bytes result → ShowsParse opts parse_case bytes result

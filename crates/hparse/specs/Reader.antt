@@ -16,7 +16,7 @@ pub record Gave {S : Type 0} (left : S → Option (List ℕ)) (failed : S → �
 abbrev pub IsRefusedFrom : {R : Type 0} → (List ℕ → Result R Refusal → Type 0) → List ℕ → Refusal → Type 0
 IsRefusedFrom answers bytes refusal = (more : List ℕ) → answers (bytes ++ more) (Err refusal)
 
--- What reading an input to its end does, in pieces of at most so many bytes, after the bytes that were fed before.
+-- What reading an input to its end does, in pieces of at most this many bytes, after the bytes that were fed before.
 pub data ReadsInput {S R : Type 0} (left : S → Option (List ℕ)) (failed : S → ℕ) (answers : List ℕ → Result R Refusal → Type 0)
     (unrefused : List ℕ → Type 0) (piece : ℕ) (fed : List ℕ) (old new : S) (answer : Result R Refusal) : Type 0 where
   -- memory ran out

@@ -23,7 +23,7 @@ pub data Shows (table : Entities) (how : Policy) (bytes : List ℕ) (result : Re
   accepts : (run : TokenRun) (tokens : List Tok) → result ≡ Ok run → TokensMean run.names run.tokens.items tokens
       → Answers table how bytes (Ok (tokens, run.errors.items)) → Shows table how bytes result
 
--- .. or what a run is where memory did not
+-- what a run is where memory did not run out
 abbrev pub AnswersRun : Entities → Policy → List ℕ → Result TokenRun Refusal → Type 0
 AnswersRun table how bytes (Ok run) = (tokens : List Tok) × TokensMean run.names run.tokens.items tokens
     × Answers table how bytes (Ok (tokens, run.errors.items))

@@ -37,7 +37,7 @@ impl<'t, S> Model for Feeding<'t, S> {
     ghost view = { λ f. record { names = f.names; tokenizer = f.tokenizer; sink = f.sink; stopped = f.stopped; unfed = [] } };
 }
 
-/// Hands over the errors of so many bad parts of one byte each, the first of which is at `at`.
+/// Hands over the errors of this many bad parts of one byte each, the first of which is at `at`.
 fn tell_bad<S: ErrorSink>(count: usize, at: u64, sink: &mut S) -> Result<(), Refusal>
     requires { at + count ≤ MAX_INPUT }
     ensures { Hands S.gives sink.old (input_errors (bad_each at count)) result sink.new }

@@ -1,10 +1,10 @@
-//! What a parse is told beside its input.
+//! The options of a parse.
 
 ghost use Rattle.std.specs.Prelude.{◌≡◌};
 ghost use Rattle.htext.specs.declared.BadBytes.TheVariants as bad;
 ghost use Rattle.htext.specs.declared.decoder.TheConstants.{MAX_INPUT};
-ghost use Rattle.hparse.specs.Parse.{Told};
-ghost use Rattle.hparse.specs.Parsing.{told_by};
+ghost use Rattle.hparse.specs.Parse.{ParseOptions};
+ghost use Rattle.hparse.specs.Parsing.{options_of};
 
 use charref::Table;
 use hmarkup::Quirks;
@@ -27,7 +27,7 @@ pub struct Options<'t> {
 impl<'t> Options<'t> {
     /// Bad bytes are refused; the greatest limits, and fixed keys: for input that is not trusted, set `keys` to [`Keys::new`] of random bytes.
     pub fn new(table: &'t Table, quirks: &'t Quirks) -> Options<'t>
-        ensures { told_by result ≡ record {
+        ensures { options_of result ≡ record {
           table = table.now;
           quirks = quirks.now;
           bad = bad.Refuse;

@@ -3,9 +3,9 @@
 ghost use Rattle.std.specs.Prelude.{◌≡◌, ◌<◌, ◌⊎◌, ℕ, List, [], ◌++◌, None, Some, true, false, Err, IfErr, MatchResult};
 ghost use Rattle.names.specs.declared.refusal.Refusal.{Refusal as Refused};
 ghost use Rattle.names.specs.declared.refusal.Refusal.TheVariants.{BadContext, Memory};
-ghost use Rattle.hparse.specs.Parse.{Subject, Told, document, fragment, is_context};
+ghost use Rattle.hparse.specs.Parse.{ParseCase, ParseOptions, document, fragment, is_context};
 ghost use Rattle.hparse.specs.Reader.{ReadsInput};
-ghost use Rattle.hparse.specs.Parsing.{AnswersParse, FeedsParser, HasParsed, IsBuilt, IsMadeOf, IsUnrefused, ShowsParse, told_by};
+ghost use Rattle.hparse.specs.Parsing.{AnswersParse, FeedsParser, HasParsed, IsBuilt, IsMadeOf, IsUnrefused, ShowsParse, options_of};
 
 use crate::context::is_context;
 use crate::errors::sort_errors;
@@ -30,7 +30,7 @@ pub struct Parser<'t> {
 impl<'t> Parser<'t> {
     /// The parser of a document. An error is `Memory`.
     pub fn document(alloc: Global, options: &Options<'t>) -> Result<Parser<'t>, Refusal>
-        ensures { MatchResult result (λ parser. HasParsed (told_by options.now) document parser []) (λ refusal. refusal ≡ Memory) }
+        ensures { MatchResult result (λ parser. HasParsed (options_of options.now) document parser []) (λ refusal. refusal ≡ Memory) }
     {
         let names = Names::with_keys(alloc, options.keys)?;
         let builder = Builder::document(alloc, options.keys, options.quirks, options.limits)?;
@@ -49,7 +49,7 @@ impl<'t> Parser<'t> {
         context: &str,
         options: &Options<'t>,
     ) -> Result<Parser<'t>, Refusal>
-        ensures { MatchResult result (λ parser. (is_context context.now ≡ true) × HasParsed (told_by options.now) (fragment context.now) parser [])
+        ensures { MatchResult result (λ parser. (is_context context.now ≡ true) × HasParsed (options_of options.now) (fragment context.now) parser [])
             (λ refusal. ((is_context context.now ≡ true) × (refusal ≡ Memory)) ⊎ ((is_context context.now ≡ false) × (refusal ≡ BadContext))) }
     {
         if !is_context(context) {
@@ -68,8 +68,8 @@ impl<'t> Parser<'t> {
 
     /// Parses the next piece. What the bytes so far are refused for, whatever comes after them, may be told here.
     pub fn feed(&mut self, piece: &[u8]) -> Result<(), Refusal>
-        ensures feeds { (told : Told) (subject : Subject) (bytes : List ℕ) → HasParsed told subject self.old bytes
-            → FeedsParser told subject (bytes ++ piece.now) result self.new }
+        ensures feeds { (opts : ParseOptions) (parse_case : ParseCase) (bytes : List ℕ) → HasParsed opts parse_case self.old bytes
+            → FeedsParser opts parse_case (bytes ++ piece.now) result self.new }
 
         // After a refusal every later call returns the same one.
         ensures refused { IfErr result (λ refusal. self.new.refused ≡ Some refusal) }
@@ -90,7 +90,7 @@ impl<'t> Parser<'t> {
 
     /// The answer, where the input has ended.
     pub fn finish(self) -> Result<Parsed, Refusal>
-        ensures shows { (told : Told) (subject : Subject) (bytes : List ℕ) → HasParsed told subject self.entry bytes → ShowsParse told subject bytes result }
+        ensures shows { (opts : ParseOptions) (parse_case : ParseCase) (bytes : List ℕ) → HasParsed opts parse_case self.entry bytes → ShowsParse opts parse_case bytes result }
         ensures again { (refusal : Refused) → self.entry.refused ≡ Some refusal → result ≡ Err refusal }
     {
         let Parser {
@@ -123,8 +123,8 @@ pub fn parse_reader<R: Source>(
     source: &mut R,
 ) -> Result<Parsed, Refusal>
     requires { 0 < piece }
-    ensures reads { (told : Told) (subject : Subject) (fed : List ℕ) → HasParsed told subject parser.entry fed
-        → ReadsInput R.left R.failed (AnswersParse told subject) (IsUnrefused told subject) piece fed source.old source.new result }
+    ensures reads { (opts : ParseOptions) (parse_case : ParseCase) (fed : List ℕ) → HasParsed opts parse_case parser.entry fed
+        → ReadsInput R.left R.failed (AnswersParse opts parse_case) (IsUnrefused opts parse_case) piece fed source.old source.new result }
 
     // After a refusal of the parser nothing is read.
     ensures again { (refusal : Refused) → parser.entry.refused ≡ Some refusal → (result ≡ Err refusal) × (source.new ≡ source.old) }

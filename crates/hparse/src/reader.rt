@@ -80,6 +80,6 @@ pub(crate) fn read_to_end<S: TokenSink, R: Source>(
             Some(count) => reading.feed(&buffer[..count])?,
         }
     }
-    // No input comes to this: a piece has at least one byte, and what is too long is refused long before the last turn.
+    // No input leads here: a piece has at least one byte, and what is too long is refused long before the last turn.
     Err(Refusal::TooLarge { at: u64::MAX })
 }

@@ -82,7 +82,7 @@ form_in_object = refl
 button_beside_button : is_plain (codes "div") (el (codes "button") none (el (codes "button") none none)) ≡ true
 button_beside_button = refl
 
--- texts and comments beside each other
+-- texts and comments next to each other
 text_in_cell : is_plain (codes "td") (tx (codes "x") none) ≡ true
 text_in_cell = refl
 

@@ -25,7 +25,7 @@ pub enum Role {
     Nowhere,
 }
 
-/// What the children of an element are, beside comments.
+/// What the children of an element are, besides comments.
 #[derive(Clone, Copy)]
 pub enum Content {
     /// What may stand around the element.

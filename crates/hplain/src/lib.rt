@@ -3,8 +3,8 @@
 
 mod around;
 pub mod content;
-mod context;
 mod plain;
+mod plain_contexts;
 mod plain_texts;
 mod rows;
 

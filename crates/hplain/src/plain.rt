@@ -15,11 +15,11 @@ ghost use Rattle.hserialize.specs.Walk.{node_of};
 
 use crate::around::{Around, Standing};
 use crate::content::Content;
-use crate::context::context_tag;
+use crate::plain_contexts::context_tag;
 use crate::plain_texts::{all_plain_attributes, begins_with, is_plain_comment, is_plain_text};
 use crate::rows::row;
 use hnodes::{Kind, NodeId, Tree};
-use hserialize::{Node, Reach, Visit, Walk, inserts_marker};
+use hserialize::{NodeView, Reach, TreeWalk, Visit, inserts_marker};
 use names::{Attr, NameId, Names, Tag};
 
 /// The known name of an element; `Tag::Other` for another node.
@@ -63,8 +63,8 @@ fn begins_with_line_feed(tree: &Tree, node: Option<NodeId>) -> bool
     let Some(node) = node else {
         return false;
     };
-    match Node::of(tree, node) {
-        Node::Text(text) => begins_with(text, "\n"),
+    match NodeView::of(tree, node) {
+        NodeView::Text(text) => begins_with(text, "\n"),
         _ => false,
     }
 }
@@ -116,13 +116,15 @@ fn is_plain_node(tree: &Tree, names: &Names, standing: Standing, node: NodeId) -
     requires lent { IsLent names.now tree.now.made tree.now.trees node }
     ensures { result ≡ is_plain_at (text_of names.now) (inside_is standing) node tree.now.trees }
 {
-    match Node::of(tree, node) {
-        Node::Element(name, attrs) => is_plain_element(tree, names, standing, node, name, attrs),
-        Node::Text(text) => {
+    match NodeView::of(tree, node) {
+        NodeView::Element(name, attrs) => is_plain_element(
+            tree, names, standing, node, name, attrs,
+        ),
+        NodeView::Text(text) => {
             is_plain_text(standing.texts, text) && !is_text(tree, tree.next(node))
         }
-        Node::Comment(data) => standing.content.takes_comments() && is_plain_comment(data),
-        Node::Document | Node::Doctype(_) => false,
+        NodeView::Comment(data) => standing.content.takes_comments() && is_plain_comment(data),
+        NodeView::Document | NodeView::Doctype(_) => false,
     }
 }
 
@@ -161,7 +163,7 @@ fn is_plain_region(tree: &Tree, names: &Names, root: NodeId, top: Content) -> bo
     ensures { result ≡ are_region_content (in_region top) (spelled (text_of names.now) (children_of root tree.now.trees)) }
 {
     let mut around = Around::alone();
-    for visit in Walk::new(tree, root, Reach::Region) {
+    for visit in TreeWalk::new(tree, root, Reach::Region) {
         match after_visit(tree, names, root, top, around, visit) {
             Some(after) => around = after,
             None => return false,
@@ -216,7 +218,7 @@ pub fn is_plain(tree: &Tree, names: &Names, root: NodeId, context: &str) -> bool
         return false;
     }
     let mut in_form = is_form(tag);
-    for visit in Walk::new(tree, root, Reach::Whole) {
+    for visit in TreeWalk::new(tree, root, Reach::Whole) {
         match form_after(tree, names, in_form, visit) {
             Some(after) => in_form = after,
             None => return false,

@@ -17,10 +17,10 @@ ghost use Rattle.hprint.specs.Printing.{IsOpen, attribute_count, depth_after, li
 ghost use Rattle.hserialize.specs.Words.{is_empty};
 ghost use Rattle.hserialize.specs.Walk.{node_of};
 
-use crate::sorted::{Entry, in_order};
+use crate::sorted::{NamedAttr, in_order};
 use hnodes::{Doctype, NodeId, Tree};
 use hserialize::{
-    Gathered, Node, Reach, Sink, Target, Visit, Walk, name_text, put, put_parts, room,
+    Gathered, NodeView, Reach, Sink, Target, TreeWalk, Visit, name_text, put, put_parts, room,
 };
 use itoa::Buffer;
 use names::{Attr, NameId, Names, ParseError, Refusal};
@@ -66,7 +66,7 @@ fn put_attribute<W: Target>(
 fn put_attributes<W: Target>(
     out: &mut Sink<'_, W>,
     depth: usize,
-    entries: &[Entry<'_>],
+    entries: &[NamedAttr<'_>],
 ) -> Result<(), Refusal>
     ensures { Puts (taken W.written W.failed out.old) (taken W.written W.failed out.new) (flat_map (attribute_line depth) (map pair_of entries.now)) result }
 {
@@ -79,7 +79,7 @@ fn put_attributes<W: Target>(
 /// Writes the lines of an element and its attributes.
 fn put_element<'a, W: Target>(
     out: &mut Sink<'_, W>,
-    entries: &mut Vec<Entry<'a>>,
+    entries: &mut Vec<NamedAttr<'a>>,
     names: &'a Names,
     depth: usize,
     name: NameId,
@@ -160,7 +160,7 @@ fn put_words<W: Target>(
 /// Writes the lines of a node.
 fn put_node<'a, W: Target>(
     out: &mut Sink<'_, W>,
-    entries: &mut Vec<Entry<'a>>,
+    entries: &mut Vec<NamedAttr<'a>>,
     tree: &'a Tree,
     names: &'a Names,
     depth: usize,
@@ -173,19 +173,19 @@ fn put_node<'a, W: Target>(
         (lines_of (text_of names.now) depth (what_of node tree.now.trees)) result }
     ensures room { vec_capacity entries.old ≤ vec_capacity entries.new }
 {
-    match Node::of(tree, node) {
-        Node::Document => Ok(()),
-        Node::Doctype(texts) => put_texts(out, depth, texts),
-        Node::Element(name, attrs) => put_element(out, entries, names, depth, name, attrs),
-        Node::Comment(data) => put_words(out, depth, b"<!-- ", data, b" -->"),
-        Node::Text(data) => put_words(out, depth, b"\"", data, b"\""),
+    match NodeView::of(tree, node) {
+        NodeView::Document => Ok(()),
+        NodeView::Doctype(texts) => put_texts(out, depth, texts),
+        NodeView::Element(name, attrs) => put_element(out, entries, names, depth, name, attrs),
+        NodeView::Comment(data) => put_words(out, depth, b"<!-- ", data, b" -->"),
+        NodeView::Text(data) => put_words(out, depth, b"\"", data, b"\""),
     }
 }
 
 /// Writes what a visit prints.
 fn put_visit<'a, W: Target>(
     out: &mut Sink<'_, W>,
-    entries: &mut Vec<Entry<'a>>,
+    entries: &mut Vec<NamedAttr<'a>>,
     tree: &'a Tree,
     names: &'a Names,
     depth: usize,
@@ -221,8 +221,8 @@ fn attribute_count(tree: &Tree, node: NodeId) -> usize
     requires { node < tree.now.made }
     ensures { result ≡ attribute_count (what_of node tree.now.trees) }
 {
-    match Node::of(tree, node) {
-        Node::Element(_, attrs) => attrs.len(),
+    match NodeView::of(tree, node) {
+        NodeView::Element(_, attrs) => attrs.len(),
         _ => 0,
     }
 }
@@ -243,7 +243,7 @@ fn most_attributes(tree: &Tree) -> usize
 /// Writes the nodes inside a node. Nothing is handed on.
 fn put_nodes<'a, W: Target>(
     out: &mut Sink<'_, W>,
-    entries: &mut Vec<Entry<'a>>,
+    entries: &mut Vec<NamedAttr<'a>>,
     tree: &'a Tree,
     names: &'a Names,
     root: NodeId,
@@ -255,7 +255,7 @@ fn put_nodes<'a, W: Target>(
         (tree_text (spelled (text_of names.now) (children_of root tree.now.trees))) result }
 {
     let mut depth = 0;
-    for visit in Walk::new(tree, root, Reach::Whole) {
+    for visit in TreeWalk::new(tree, root, Reach::Whole) {
         put_visit(out, entries, tree, names, depth, &visit)?;
         depth = depth_after(&visit, depth);
     }

@@ -12,10 +12,10 @@ use hserialize::name_text;
 use names::{Attr, Names};
 
 /// An attribute: the text of its name, its place among those of its element, and its value.
-pub(crate) type Entry<'a> = (&'a str, usize, &'a str);
+pub(crate) type NamedAttr<'a> = (&'a str, usize, &'a str);
 
 /// Adds an entry, where there is room.
-fn add<'a>(entries: &mut Vec<Entry<'a>>, added: Entry<'a>)
+fn add<'a>(entries: &mut Vec<NamedAttr<'a>>, added: NamedAttr<'a>)
     requires { length entries.old.items < vec_capacity entries.old }
     ensures items { entries.new.items ≡ entries.old.items ++ added.entry ∷ [] }
     ensures room { vec_capacity entries.old ≤ vec_capacity entries.new }
@@ -25,7 +25,7 @@ fn add<'a>(entries: &mut Vec<Entry<'a>>, added: Entry<'a>)
 }
 
 /// Makes these the attributes, as they stand.
-fn enter<'a>(entries: &mut Vec<Entry<'a>>, names: &'a Names, attrs: &'a [Attr])
+fn enter<'a>(entries: &mut Vec<NamedAttr<'a>>, names: &'a Names, attrs: &'a [Attr])
     requires room { length attrs.now ≤ vec_capacity entries.old }
     requires names { AttributesAreOf names.now (map attribute_of attrs.now) }
     ensures pairs { map pair_of entries.new.items ≡ map (spelled_attribute (text_of names.now)) (map attribute_of attrs.now) }
@@ -40,7 +40,7 @@ fn enter<'a>(entries: &mut Vec<Entry<'a>>, names: &'a Names, attrs: &'a [Attr])
 }
 
 /// Makes these the attributes in the order of the names' bytes; those of one name stay as they stand. No memory is taken.
-pub(crate) fn in_order<'a>(entries: &mut Vec<Entry<'a>>, names: &'a Names, attrs: &'a [Attr])
+pub(crate) fn in_order<'a>(entries: &mut Vec<NamedAttr<'a>>, names: &'a Names, attrs: &'a [Attr])
     requires room { length attrs.now ≤ vec_capacity entries.old }
     requires names { AttributesAreOf names.now (map attribute_of attrs.now) }
     ensures pairs { map pair_of entries.new.items ≡ in_order (map (spelled_attribute (text_of names.now)) (map attribute_of attrs.now)) }

@@ -7,7 +7,7 @@ use Rattle.std.specs.Io.KnownBytes.{Appends}
 use Rattle.std.proofs.KnownBytes.{Appends-nil, Appends-trans}
 use Rattle.hnodes.specs.Forest.{What}
 use Rattle.hserialize.specs.Lent.{what_is}
-use Rattle.hserialize.specs.declared.node.Node.{Node}
+use Rattle.hserialize.specs.declared.node_view.NodeView.{NodeView}
 use Rattle.names.specs.declared.refusal.Refusal.{Refusal}
 use Rattle.names.specs.declared.refusal.Refusal.TheVariants.{Write}
 use Rattle.hserialize.specs.Calls.{counted, counted_by_result}
@@ -119,6 +119,6 @@ pub next_part : (parts : List (Bor (List ℕ))) (i : ℕ) (d : Bor (List ℕ)) �
 next_part parts i d h = ap all_parts (drop-cons parts i d h ∙ (λ k. get_or parts i d ∷ drop (sym (add-one i) k) parts))
 
 -- what was put for what a node is was put for the node
-pub put_for : (old new : Taken) (bytes : Option (What ℕ) → List ℕ) (r : Result (Unit {0}) Refusal) (at n : Node) (o : Option (What ℕ)) → at ≡ n → Some (what_is at) ≡ o → Puts old new (bytes (Some (what_is n))) r
+pub put_for : (old new : Taken) (bytes : Option (What ℕ) → List ℕ) (r : Result (Unit {0}) Refusal) (at n : NodeView) (o : Option (What ℕ)) → at ≡ n → Some (what_is at) ≡ o → Puts old new (bytes (Some (what_is n))) r
     → Puts old new (bytes o) r
 put_for old new bytes r at n o is of put = subst (λ w. Puts old new (bytes w) r) (sym (ap (λ m. Some (what_is m)) is) ∙ of) put

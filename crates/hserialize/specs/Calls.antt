@@ -11,12 +11,12 @@ abbrev pub counted_by : {A : Type 0} → ℕ → Option A → ℕ
 counted_by failures (Some _) = failures
 counted_by failures None = counted failures
 
--- .. after one that returns whether it succeeded
+-- the same after one that returns whether it succeeded
 abbrev pub counted_unless : ℕ → Bool → ℕ
 counted_unless failures true = failures
 counted_unless failures false = counted failures
 
--- .. after calls that end with the first that fails
+-- the same after calls that end with the first that fails
 abbrev pub counted_by_result : {A E : Type 0} → ℕ → Result A E → ℕ
 counted_by_result failures (Ok _) = failures
 counted_by_result failures (Err _) = counted failures

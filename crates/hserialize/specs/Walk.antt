@@ -46,13 +46,13 @@ abbrev pub visits_inside : (reach : Reach) → Option (Spot ℕ) → List Visit
 visits_inside reach None = []
 visits_inside reach (Some s) = if goes_in reach s.what then visits reach s.children else []
 
--- what is left of a walk inside node root that has come to the end of a node, of the one that this is inside of, and so on
+-- what is left of a walk inside node root that has reached the end of a node, of the one that this is inside of, and so on
 abbrev pub after_ends : (reach : Reach) → (root : ℕ) → List ℕ → Forest ℕ → List Visit
 after_ends reach root [] f = []
 after_ends reach root (n ∷ up) f =
     if eqb n root then [] else Leave n ∷ visits reach (trees_after (spot_of n f)) ++ after_ends reach root up f
 
--- what is left of one that has come to a visit
+-- what is left of one that has reached a visit
 abbrev pub visits_from : (reach : Reach) → (root : ℕ) → Option Visit → Forest ℕ → List Visit
 visits_from reach root None f = []
 visits_from reach root (Some (Enter n)) f = Enter n ∷ visits_inside reach (spot_of n f) ++ after_ends reach root (way_up (Some n) f) f

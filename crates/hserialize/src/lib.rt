@@ -4,7 +4,7 @@
 mod escaped;
 pub mod escaping;
 pub mod gathered;
-pub mod node;
+pub mod node_view;
 mod serializer;
 pub mod sink;
 pub mod target;
@@ -12,8 +12,8 @@ pub mod walk;
 
 pub use escaping::Escaping;
 pub use gathered::Gathered;
-pub use node::{Node, name_text};
+pub use node_view::{NodeView, name_text};
 pub use serializer::{serialize, serialize_to_vec};
 pub use sink::{Sink, put, put_parts, room};
 pub use target::{Target, write_all};
-pub use walk::{Reach, Visit, Walk, inserts_marker};
+pub use walk::{Reach, TreeWalk, Visit, inserts_marker};

@@ -19,10 +19,10 @@ ghost use Rattle.hserialize.specs.declared.escaping.Setting.TheVariants.{Text};
 use crate::escaped::put_escaped;
 use crate::escaping::{Escaping, Setting};
 use crate::gathered::Gathered;
-use crate::node::{Node, name_text};
+use crate::node_view::{NodeView, name_text};
 use crate::sink::{Sink, put, put_parts, room};
 use crate::target::Target;
-use crate::walk::{Reach, Visit, Walk};
+use crate::walk::{Reach, TreeWalk, Visit};
 use hnodes::{NodeId, Tree};
 use names::{Attr, NameId, Names, RawKind, Refusal};
 use std::alloc::Global;
@@ -109,7 +109,7 @@ fn holds_raw(name: Option<NameId>) -> bool
     }
 }
 
-/// The same of texts beside a node.
+/// The same of texts next to a node.
 fn stands_raw(tree: &Tree, node: NodeId) -> bool
     requires { node < tree.now.made }
     ensures { result ≡ stands_raw node tree.now.trees }
@@ -133,12 +133,12 @@ fn put_opening<W: Target>(
         (opening_of escaping (text_of names.now) (stands_raw node tree.now.trees) (what_of node tree.now.trees))
         result }
 {
-    match Node::of(tree, node) {
-        Node::Document => Ok(()),
-        Node::Doctype(texts) => put_doctype(out, &texts.name),
-        Node::Element(name, attrs) => put_start_tag(out, escaping, names, name, attrs),
-        Node::Comment(data) => put_comment(out, data),
-        Node::Text(data) => put_text(out, escaping, data, stands_raw(tree, node)),
+    match NodeView::of(tree, node) {
+        NodeView::Document => Ok(()),
+        NodeView::Doctype(texts) => put_doctype(out, &texts.name),
+        NodeView::Element(name, attrs) => put_start_tag(out, escaping, names, name, attrs),
+        NodeView::Comment(data) => put_comment(out, data),
+        NodeView::Text(data) => put_text(out, escaping, data, stands_raw(tree, node)),
     }
 }
 
@@ -152,8 +152,11 @@ fn put_closing<W: Target>(
     requires { IsLent names.now tree.now.made tree.now.trees node }
     ensures { Puts (taken W.written W.failed out.old) (taken W.written W.failed out.new) (closing_of (text_of names.now) (what_of node tree.now.trees)) result }
 {
-    match Node::of(tree, node) {
-        Node::Element(name, _) if !name.tag().is_void() => put_end_tag(out, name_text(names, name)),
+    match NodeView::of(tree, node) {
+        NodeView::Element(name, _) if !name.tag().is_void() => put_end_tag(
+            out,
+            name_text(names, name),
+        ),
         _ => Ok(()),
     }
 }
@@ -190,7 +193,7 @@ fn put_children<W: Target>(
         (written escaping (option_map (text_of names.now) (name_of node tree.now.trees))
         (spelled (text_of names.now) (children_of node tree.now.trees))) result }
 {
-    for visit in Walk::new(tree, node, Reach::Written) {
+    for visit in TreeWalk::new(tree, node, Reach::Written) {
         put_visit(out, escaping, tree, names, visit)?;
     }
     Ok(())

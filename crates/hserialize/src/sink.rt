@@ -68,7 +68,7 @@ fn hold<W: Target>(out: &mut Sink<'_, W>, bytes: &[u8])
     prove!(is_held);
 }
 
-/// Writes all of the bytes, for which there is no room beside those that are held.
+/// Writes all of the bytes, for which there is no room with those that are held.
 #[cold]
 #[inline(never)]
 fn put_past<W: Target>(out: &mut Sink<'_, W>, bytes: &[u8]) -> Result<(), Refusal>

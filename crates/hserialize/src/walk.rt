@@ -32,14 +32,14 @@ pub enum Reach {
 
 /// What is left of a walk over the nodes inside one, in tree order.
 #[derive(Drop)]
-pub struct Walk<'a> {
+pub struct TreeWalk<'a> {
     tree: &'a Tree,
     root: NodeId,
     reach: Reach,
     next: Option<Visit>,
 }
 
-impl<'a> Model for Walk<'a> {
+impl<'a> Model for TreeWalk<'a> {
     ghost use Rattle.std.specs.Prelude.{List, ◌<◌, IfSome, IsTrue};
     ghost use Rattle.hnodes.specs.Passed.{ancestors_of, is_among};
     ghost use Rattle.hserialize.specs.Walk.{visits_from, node_of};
@@ -52,9 +52,9 @@ impl<'a> Model for Walk<'a> {
     ghost invariant = { λ s. IfSome s.next (λ v. (node_of v < s.tree.now.made) × IsTrue (is_among s.root (ancestors_of (node_of v) s.tree.now.trees))) };
 }
 
-impl<'a> Walk<'a> {
+impl<'a> TreeWalk<'a> {
     /// A walk over nodes inside `root`.
-    pub fn new(tree: &'a Tree, root: NodeId, reach: Reach) -> Walk<'a>
+    pub fn new(tree: &'a Tree, root: NodeId, reach: Reach) -> TreeWalk<'a>
         requires { root < tree.now.made }
         ensures visits { result ≡ visits reach (children_of root tree.now.trees) }
         ensures few { length result < 2 ^ 33 }
@@ -62,7 +62,7 @@ impl<'a> Walk<'a> {
     {
         // A walk visits each node twice.
         prove!(tree.made() > 0);
-        Walk {
+        TreeWalk {
             tree,
             root,
             reach,
@@ -71,7 +71,7 @@ impl<'a> Walk<'a> {
     }
 }
 
-impl<'a> Iterator for Walk<'a> {
+impl<'a> Iterator for TreeWalk<'a> {
     ghost use Rattle.std.specs.Prelude.{length};
     ghost use Rattle.std.specs.Iterator.{YieldsFirst, at_most};
 

@@ -7,8 +7,8 @@ use Rattle.names.specs.Names.{Texts}
 use Rattle.names.specs.Placed.{begins, stops, all, past, place, is_space, is_equals, null_errors}
 use Rattle.hmarkup.proofs.Marks.{and_parts}
 use Rattle.charref.specs.Reference.{Entities}
-use Rattle.htag.specs.declared.phase.Phase.{Phase}
-use Rattle.htag.specs.declared.phase.Phase.TheVariants as phase
+use Rattle.htag.specs.declared.tag_state.TagState.{TagState}
+use Rattle.htag.specs.declared.tag_state.TagState.TheVariants as phase
 use Rattle.htag.specs.declared.walk.TagWalk.{TagWalk}
 use Rattle.htag.specs.Tag.{Part, IsPart, AreParts, parts_text, errors_after, tag_errors, ends_name, ends_attribute_name, attribute_name_errors, attribute_part, repeated}
 use Rattle.htag.specs.TagWalk.{names_after, HasPhase, IsPast, IsInTag}
@@ -21,8 +21,8 @@ use Rattle.htag.proofs.Phases.{space_part, errors_then}
 space_step : (table : Entities) (names : Texts) (walk : TagWalk) (body : List Placed) (s : Placed) (ahead : List Placed) (errors : List ParseError) → walk.phase ≡ phase.BeforeAttribute → is_space s.ch ≡ true
     → IsInTag table names walk body (s ∷ ahead) errors → IsInTag table names walk (body ++ s ∷ []) ahead errors
 space_step table names walk body s ahead errors before is h =
-    let nothing = subst (λ (x : Phase). HasPhase x table walk h.parts h.held h.own) before h.has_phase in
-    let gone = subst (λ (x : Phase). IsPast x (begins ends_name (parts_text h.parts ++ (h.held ++ s ∷ ahead)))) before h.past in
+    let nothing = subst (λ (x : TagState). HasPhase x table walk h.parts h.held h.own) before h.has_phase in
+    let gone = subst (λ (x : TagState). IsPast x (begins ends_name (parts_text h.parts ++ (h.held ++ s ∷ ahead)))) before h.past in
     record {
       name = h.name;
       parts = h.parts ++ space_part s ∷ [];
@@ -37,9 +37,9 @@ space_step table names walk body s ahead errors before is h =
       errors_are = h.errors_are ∙ ap (λ (x : List ParseError). tag_errors h.name h.parts ++ x) nothing.1
           ∙ ap (λ (x : List ParseError). (null_errors h.name ++ x) ++ []) (sym (append-nil (errors_after [] h.parts)) ∙ sym (errors-snoc [] h.parts (space_part s)));
       has_attributes = holds_plain names walk walk h.parts (space_part s) refl refl refl refl h.has_attributes;
-      past = subst (λ (x : Phase). IsPast x (begins ends_name (parts_text (h.parts ++ space_part s ∷ []) ++ ahead))) (sym before)
+      past = subst (λ (x : TagState). IsPast x (begins ends_name (parts_text (h.parts ++ space_part s ∷ []) ++ ahead))) (sym before)
           (ap (λ (x : List Placed). begins ends_name (x ++ ahead)) (parts_text-snoc h.parts (space_part s)) ∙ ap (begins ends_name) (append_assoc (parts_text h.parts) (s ∷ []) ahead) ∙ ap (λ (x : List Placed). begins ends_name (parts_text h.parts ++ (x ++ s ∷ ahead))) (sym nothing.0) ∙ gone);
-      has_phase = subst (λ (x : Phase). HasPhase x table walk (h.parts ++ space_part s ∷ []) [] []) (sym before) (refl, refl);
+      has_phase = subst (λ (x : TagState). HasPhase x table walk (h.parts ++ space_part s ∷ []) [] []) (sym before) (refl, refl);
     }
 
 pub spaces_follow : (spaces : List Placed) (table : Entities) (names : Texts) (walk : TagWalk) (body : List Placed) (p : Placed) (errors : List ParseError) → walk.phase ≡ phase.BeforeAttribute → all is_space spaces ≡ true
@@ -78,9 +78,9 @@ module _ (table : Entities) (names : Texts) (walk : TagWalk) (body : List Placed
             (ap (λ (x : List Placed). begins is_equals (past is_space x)) rest ∙ ap (begins is_equals) (past-space n.sign p more n.is_sign no_space) ∙ no_equals) refl);
         errors_are = errors_then table names walk body p errors h part [] later (append-nil (attribute_name_errors n.name) ∙ sym n.own_is ∙ sym (append-nil h.own)) (ended.1 ∙ ap (λ (x : List ParseError). x ++ repeated (names_after [] h.parts) part.attribute) (sym (append-nil errors)));
         has_attributes = ended.0;
-        past = subst (λ (x : Phase). IsPast x (begins ends_name (parts_text (h.parts ++ part ∷ []) ++ (n.sign ++ p ∷ [])))) (sym ends.phase_is)
+        past = subst (λ (x : TagState). IsPast x (begins ends_name (parts_text (h.parts ++ part ∷ []) ++ (n.sign ++ p ∷ [])))) (sym ends.phase_is)
             (ap (λ (x : List Placed). begins ends_name (x ++ (n.sign ++ p ∷ []))) (parts_text-snoc h.parts part) ∙ ap (begins ends_name) (append_assoc (parts_text h.parts) part.text (n.sign ++ p ∷ []) ∙ ap (λ (x : List Placed). parts_text h.parts ++ x) text) ∙ gone);
-        has_phase = subst (λ (x : Phase). HasPhase x table new (h.parts ++ part ∷ []) [] []) (sym ends.phase_is) (refl, refl);
+        has_phase = subst (λ (x : TagState). HasPhase x table new (h.parts ++ part ∷ []) [] []) (sym ends.phase_is) (refl, refl);
       } in
       subst (λ (x : List Placed). IsInTag table after new x (p ∷ []) later)
       (append_assoc h.name (parts_text h.parts ++ n.name) n.sign ∙ ap (λ (x : List Placed). h.name ++ x) (append_assoc (parts_text h.parts) n.name n.sign ∙ ap (λ (x : List Placed). parts_text h.parts ++ x) (sym n.held_is)) ∙ sym h.body_is)

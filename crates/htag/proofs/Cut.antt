@@ -7,8 +7,8 @@ use Rattle.names.specs.Names.{Texts}
 use Rattle.names.specs.Placed.{begins, stops, all, past, place, is_space, is_equals, is_quote, null_errors}
 use Rattle.hmarkup.proofs.Marks.{and_parts}
 use Rattle.charref.specs.Reference.{Entities}
-use Rattle.htag.specs.declared.phase.Phase.{Phase}
-use Rattle.htag.specs.declared.phase.Phase.TheVariants as phase
+use Rattle.htag.specs.declared.tag_state.TagState.{TagState}
+use Rattle.htag.specs.declared.tag_state.TagState.TheVariants as phase
 use Rattle.htag.specs.declared.walk.TagWalk.{TagWalk}
 use Rattle.htag.specs.Value.{pieces_text, value_bytes}
 use Rattle.htag.specs.ValueWalk.{EndsValue}
@@ -41,11 +41,11 @@ only_spaces [] h = refl
 only_spaces (p ∷ ps) h = let parts = and_parts (is_space p.ch) (all is_space ps) h in let e : is_space p.ch ≡ true = parts.0 in rw e (only_spaces ps parts.1)
 
 module _ (table : Entities) (names : Texts) (walk : TagWalk) (body : List Placed) (errors : List ParseError) (h : IsInTag table names walk body [] errors) where
-  holds_at_end : (ph : Phase) → walk.phase ≡ ph → HasPhase ph table walk h.parts h.held h.own
-  holds_at_end ph e = subst (λ (x : Phase). HasPhase x table walk h.parts h.held h.own) e h.has_phase
+  holds_at_end : (ph : TagState) → walk.phase ≡ ph → HasPhase ph table walk h.parts h.held h.own
+  holds_at_end ph e = subst (λ (x : TagState). HasPhase x table walk h.parts h.held h.own) e h.has_phase
 
-  past_at_end : (ph : Phase) → walk.phase ≡ ph → IsPast ph (begins ends_name (parts_text h.parts ++ (h.held ++ [])))
-  past_at_end ph e = subst (λ (x : Phase). IsPast x (begins ends_name (parts_text h.parts ++ (h.held ++ [])))) e h.past
+  past_at_end : (ph : TagState) → walk.phase ≡ ph → IsPast ph (begins ends_name (parts_text h.parts ++ (h.held ++ [])))
+  past_at_end ph e = subst (λ (x : TagState). IsPast x (begins ends_name (parts_text h.parts ++ (h.held ++ [])))) e h.past
 
   begins-stops : (xs : List Placed) → begins ends_name xs ≡ true → stops ends_name xs ≡ true
   begins-stops [] e = refl

@@ -9,7 +9,7 @@ use Rattle.names.specs.Placed.{characters, lowered, all, is_digit, is_alphanumer
 use Rattle.hmarkup.proofs.Marks.{and_parts, and_both}
 use Rattle.charref.specs.declared.number.Base.{Base}
 use Rattle.charref.specs.declared.number.Base.TheVariants.{Decimal, Hexadecimal}
-use Rattle.charref.specs.declared.state.State.{State}
+use Rattle.charref.specs.declared.reference_state.ReferenceState.{ReferenceState}
 use Rattle.charref.specs.Number.{is_digit_of}
 use Rattle.charref.specs.Held.{IsHeld, IsSign}
 use Rattle.charref.specs.Reference.{Entities, Piece, IsReference, IsTable, is_hex_digit, is_key, is_key_name, is_empty_list, is_semicolon_if_any}
@@ -34,7 +34,7 @@ quiet_sign _ _ (IsSign.small_x p q e f) = rw (e, f) refl
 quiet_sign _ _ (IsSign.capital_x p q e f) = rw (e, f) refl
 
 -- what a walk through a reference was handed
-pub quiet_held : (table : Entities) (in_value : Bool) (state : State) (text : List Placed) → IsHeld table in_value state text → all is_quiet text ≡ true
+pub quiet_held : (table : Entities) (in_value : Bool) (state : ReferenceState) (text : List Placed) → IsHeld table in_value state text → all is_quiet text ≡ true
 quiet_held table in_value _ _ (IsHeld.in_name search text read run goes) = quiet_run text run
 quiet_held table in_value _ _ (IsHeld.after_sign text sign) = quiet_sign Decimal text sign
 quiet_held table in_value _ _ (IsHeld.after_x text sign) = quiet_sign Hexadecimal text sign

@@ -11,8 +11,8 @@ use Rattle.names.specs.Placed.{begins, all, place, is_equals, error_if, name_byt
 use Rattle.hmarkup.proofs.Parts.{name_bytes-append}
 use Rattle.charref.specs.Reference.{Entities}
 use Rattle.charref.proofs.Naming.{all-append}
-use Rattle.htag.specs.declared.phase.Phase.{Phase}
-use Rattle.htag.specs.declared.phase.Phase.TheVariants as phase
+use Rattle.htag.specs.declared.tag_state.TagState.{TagState}
+use Rattle.htag.specs.declared.tag_state.TagState.TheVariants as phase
 use Rattle.htag.specs.declared.walk.TagWalk.{TagWalk}
 use Rattle.htag.specs.ValueWalk.{IsInValue}
 use Rattle.htag.specs.Tag.{AreParts, parts_text, tag_errors, ends_name, ends_attribute_name, ends_unquoted, attribute_name_errors, name_errors_here}
@@ -29,11 +29,11 @@ module _ (table : Entities) (names : Texts) (walk : TagWalk) (body fed : List Pl
   abbrev pub Past : Bool
   Past = begins ends_name (parts_text h.parts ++ (h.held ++ fed))
 
-  pub past_is : (ph : Phase) → walk.phase ≡ ph → IsPast ph Past
-  past_is ph e = subst (λ (x : Phase). IsPast x Past) e h.past
+  pub past_is : (ph : TagState) → walk.phase ≡ ph → IsPast ph Past
+  past_is ph e = subst (λ (x : TagState). IsPast x Past) e h.past
 
-  pub held_in : (ph : Phase) → walk.phase ≡ ph → HasPhase ph table walk h.parts h.held h.own
-  held_in ph e = subst (λ (x : Phase). HasPhase x table walk h.parts h.held h.own) e h.has_phase
+  pub held_in : (ph : TagState) → walk.phase ≡ ph → HasPhase ph table walk h.parts h.held h.own
+  held_in ph e = subst (λ (x : TagState). HasPhase x table walk h.parts h.held h.own) e h.has_phase
 
   pub body_more : body ++ fed ≡ h.name ++ (parts_text h.parts ++ (h.held ++ fed))
   body_more = ap (λ (x : List Placed). x ++ fed) h.body_is ∙ append_assoc h.name (parts_text h.parts ++ h.held) fed ∙ ap (λ (x : List Placed). h.name ++ x) (append_assoc (parts_text h.parts) h.held fed)
@@ -77,8 +77,8 @@ module _ (table : Entities) (names : Texts) (walk : TagWalk) (body fed : List Pl
       let n = held_in phase.AttributeName in_name in
       let then : new.phase ≡ phase.AttributeName = same ∙ in_name in
       let e : List ParseError = flat_map name_errors_here fed in
-      goes_on new e later later_is keeps.name_is keeps.seen_is keeps.attrs_are keeps.any_is (λ c x. subst (λ (y : Phase). IsPast y c) (sym then) x) (past_is phase.AttributeName in_name)
-      (subst (λ (x : Phase). HasPhase x table new h.parts (h.held ++ fed) (h.own ++ e)) (sym then) (record {
+      goes_on new e later later_is keeps.name_is keeps.seen_is keeps.attrs_are keeps.any_is (λ c x. subst (λ (y : TagState). IsPast y c) (sym then) x) (past_is phase.AttributeName in_name)
+      (subst (λ (x : TagState). HasPhase x table new h.parts (h.held ++ fed) (h.own ++ e)) (sym then) (record {
         has_name = record {
           first = begins-more _ h.held fed n.has_name.first;
           runs = runs_more h.held n.has_name.first n.has_name.runs stay;
@@ -101,8 +101,8 @@ module _ (table : Entities) (names : Texts) (walk : TagWalk) (body fed : List Pl
     quoted_goes_on mark before takes others =
         let q = held_in (phase.Quoted mark) before in
         let next : new.phase ≡ phase.Quoted mark = same ∙ before in
-        goes_on new more later later_is keeps.name_is keeps.seen_is keeps.attrs_are keeps.any_is (λ b e. subst (λ (x : Phase). IsPast x b) (sym next) e) (past_is (phase.Quoted mark) before)
-        (subst (λ (x : Phase). HasPhase x table new h.parts (h.held ++ fed) (h.own ++ more)) (sym next) (record {
+        goes_on new more later later_is keeps.name_is keeps.seen_is keeps.attrs_are keeps.any_is (λ b e. subst (λ (x : TagState). IsPast x b) (sym next) e) (past_is (phase.Quoted mark) before)
+        (subst (λ (x : TagState). HasPhase x table new h.parts (h.held ++ fed) (h.own ++ more)) (sym next) (record {
           name = q.name;
           sign = q.sign;
           quote = q.quote;
@@ -123,8 +123,8 @@ module _ (table : Entities) (names : Texts) (walk : TagWalk) (body fed : List Pl
     unquoted_goes_on before takes stay =
         let n = held_in phase.Unquoted before in
         let next : new.phase ≡ phase.Unquoted = same ∙ before in
-        goes_on new more later later_is keeps.name_is keeps.seen_is keeps.attrs_are keeps.any_is (λ b x. subst (λ (y : Phase). IsPast y b) (sym next) x) (past_is phase.Unquoted before)
-        (subst (λ (x : Phase). HasPhase x table new h.parts (h.held ++ fed) (h.own ++ more)) (sym next) (record {
+        goes_on new more later later_is keeps.name_is keeps.seen_is keeps.attrs_are keeps.any_is (λ b x. subst (λ (y : TagState). IsPast y b) (sym next) x) (past_is phase.Unquoted before)
+        (subst (λ (x : TagState). HasPhase x table new h.parts (h.held ++ fed) (h.own ++ more)) (sym next) (record {
           name = n.name;
           sign = n.sign;
           text = n.text ++ fed;

@@ -13,9 +13,9 @@ use Rattle.names.specs.Placed.{characters, all, placed, name_bytes, null_errors,
 use Rattle.htext.specs.Run.{is_plain_byte}
 use Rattle.htext.proofs.Runs.{plain_bytes, placed_part}
 use Rattle.charref.specs.Reference.{Entities}
-use Rattle.htag.specs.declared.phase.Phase.TheVariants as phase
-use Rattle.htag.specs.declared.reading.Reading.{Reading}
-use Rattle.htag.specs.declared.reading.Reading.TheVariants as reading
+use Rattle.htag.specs.declared.tag_state.TagState.TheVariants as phase
+use Rattle.htag.specs.declared.pending.Pending.{Pending}
+use Rattle.htag.specs.declared.pending.Pending.TheVariants as reading
 use Rattle.htag.specs.declared.value.ValueWalk.{ValueWalk}
 use Rattle.htag.specs.declared.walk.TagWalk.{TagWalk}
 use Rattle.htag.specs.Value.{pieces_text, value_bytes}
@@ -120,7 +120,7 @@ value_run table quoted test plain even old new at run such nothing same adds tex
     let quiet : all test fed ≡ true = placed_all test at run such in
     let sign = λ (c : ℕ) (k : test c ≡ true). no_sign c (plain c k) in
     let null = λ (c : ℕ) (k : test c ≡ true). no_null c (plain c k) in
-    let none = subst (λ (x : Reading). HasHeld x table old h.pieces h.held) nothing h.has_held in
+    let none = subst (λ (x : Pending). HasHeld x table old h.pieces h.held) nothing h.has_held in
     let bytes : value_bytes (plain_pieces fed) ≡ run = alone_bytes test sign null fed quiet ∙ plain_run_bytes at run (all_weaker test is_plain_byte plain run such) in
     record {
       pieces = h.pieces ++ plain_pieces fed;
@@ -129,7 +129,7 @@ value_run table quoted test plain even old new at run such nothing same adds tex
           ∙ sym (pieces_text-append h.pieces (plain_pieces fed)) ∙ sym (append-nil (pieces_text (h.pieces ++ plain_pieces fed)));
       begins_value = begins_alone table test sign fed h.pieces [] quiet (subst (λ (x : List Placed). Begins table h.pieces x) (sym (append-nil fed)) (subst (λ (x : List Placed). Begins table h.pieces (x ++ fed)) none.0 h.begins_value));
       errors_are = ap (λ (x : List ParseError). x ++ []) h.errors_are ∙ ap (λ (x : List ParseError). pieces_errors quoted h.pieces ++ x) (sym (alone_errors test sign null quoted even fed quiet)) ∙ sym (pieces_errors-append quoted h.pieces (plain_pieces fed));
-      has_held = subst (λ (x : Reading). HasHeld x table new (h.pieces ++ plain_pieces fed) []) (sym (same ∙ nothing)) (
+      has_held = subst (λ (x : Pending). HasHeld x table new (h.pieces ++ plain_pieces fed) []) (sym (same ∙ nothing)) (
         refl,
         adds ∙ ap (λ (x : List ℕ). x ++ run) none.1 ∙ ap (λ (x : List ℕ). value_bytes h.pieces ++ x) (sym bytes) ∙ sym (value_bytes-append h.pieces (plain_pieces fed)),
       );

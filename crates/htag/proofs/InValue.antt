@@ -15,13 +15,13 @@ use Rattle.charref.specs.declared.reference.Reference.{Reference}
 use Rattle.charref.specs.declared.walk.Walk.{Walk}
 use Rattle.charref.specs.Pieces.{IsRead, characters_of, errors_of}
 use Rattle.charref.specs.Reference.{Entities, Piece, IsReference, IsTable, ampersand}
-use Rattle.charref.specs.declared.state.State.{State as WalkState}
+use Rattle.charref.specs.declared.reference_state.ReferenceState.{ReferenceState as WalkState}
 use Rattle.charref.specs.Held.{is_number, kept}
 use Rattle.charref.specs.Walk.{HasTaken, LeavesLast}
 use Rattle.charref.proofs.Keeping.{kept_all, kept_nothing, is_other, drop-kept, drop-kept-end}
 use Rattle.charref.proofs.Naming.{all-append}
-use Rattle.htag.specs.declared.reading.Reading.{Reading}
-use Rattle.htag.specs.declared.reading.Reading.TheVariants as reading
+use Rattle.htag.specs.declared.pending.Pending.{Pending}
+use Rattle.htag.specs.declared.pending.Pending.TheVariants as reading
 use Rattle.htag.specs.declared.value.ValueWalk.{ValueWalk}
 use Rattle.htag.specs.Value.{IsPiece, AreValue, pieces_text, plain_piece, value_bytes}
 use Rattle.htag.specs.ValueWalk.{Begins, InReference, InRun, HasHeld, IsInValue, IsWholeValue, pieces_errors, plain_pieces, told, TellsReference}
@@ -94,7 +94,7 @@ module _ (pieces : List Piece) (piece : Piece) (back : List Placed) (quiet : all
       text_is = text_is ∙ sym resolved_text ∙ sym (append-nil (pieces_text all_pieces));
       begins_value = begins_plain table back (pieces ++ piece ∷ []) next quiet (begins_piece table pieces piece (back ++ next) b is_piece);
       errors_are = ap (λ (x : List ParseError). x ++ piece.errors) own_is ∙ sym (resolved_errors quoted even);
-      has_held = subst (λ (x : Reading). HasHeld x table new all_pieces []) (sym nothing) (refl, bytes ∙ sym resolved_bytes);
+      has_held = subst (λ (x : Pending). HasHeld x table new all_pieces []) (sym nothing) (refl, bytes ∙ sym resolved_bytes);
     }
 
     resolve_end : Begins table pieces (piece.text ++ back) → IsPiece table true back piece → IsWholeValue table quoted new text (own ++ piece.errors)
@@ -119,8 +119,8 @@ told_then_given found old mid errors later count bytes t e =
 -- A CHARACTER MORE
 
 module _ (table : Entities) (quoted : Bool) (old new : ValueWalk) (p : Placed) (text : List Placed) (own : List ParseError) (h : IsInValue table quoted old text (p ∷ []) own) where
-  held_in : (r : Reading) → old.reading ≡ r → HasHeld r table old h.pieces h.held
-  held_in r e = subst (λ (x : Reading). HasHeld x table old h.pieces h.held) e h.has_held
+  held_in : (r : Pending) → old.reading ≡ r → HasHeld r table old h.pieces h.held
+  held_in r e = subst (λ (x : Pending). HasHeld x table old h.pieces h.held) e h.has_held
 
   -- where nothing is held
   module _ (nothing : old.reading ≡ reading.Nothing) where
@@ -138,7 +138,7 @@ module _ (table : Entities) (quoted : Bool) (old new : ValueWalk) (p : Placed) (
       text_is = text_so_far ∙ sym (pieces_text-one h.pieces (plain_piece p)) ∙ sym (append-nil (pieces_text (h.pieces ++ plain_piece p ∷ [])));
       begins_value = begins_piece table h.pieces (plain_piece p) [] begins_here (λ rest. IsPiece.plain p plain refl);
       errors_are = ap (λ (x : List ParseError). x ++ pieces_errors quoted (plain_piece p ∷ [])) h.errors_are ∙ sym (pieces_errors-append quoted h.pieces (plain_piece p ∷ []));
-      has_held = subst (λ (x : Reading). HasHeld x table new (h.pieces ++ plain_piece p ∷ []) []) (sym (same ∙ nothing)) (
+      has_held = subst (λ (x : Pending). HasHeld x table new (h.pieces ++ plain_piece p ∷ []) []) (sym (same ∙ nothing)) (
         refl,
         bytes ∙ ap (λ (x : List ℕ). x ++ encode_utf8 (without_null p.ch)) (held_in reading.Nothing nothing).1
             ∙ ap (λ (x : List ℕ). value_bytes h.pieces ++ x) (sym (append-nil (encode_utf8 (without_null p.ch)))) ∙ sym (value_bytes-one h.pieces (plain_piece p)),
@@ -152,7 +152,7 @@ module _ (table : Entities) (quoted : Bool) (old new : ValueWalk) (p : Placed) (
       text_is = text_so_far;
       begins_value = begins_here;
       errors_are = append-nil own ∙ h.errors_are;
-      has_held = subst (λ (x : Reading). HasHeld x table new h.pieces (p ∷ [])) (sym next) (record {
+      has_held = subst (λ (x : Pending). HasHeld x table new h.pieces (p ∷ [])) (sym next) (record {
         amp = p;
         taken = [];
         held_is = refl;
@@ -185,7 +185,7 @@ module _ (table : Entities) (quoted : Bool) (old new : ValueWalk) (p : Placed) (
           text_is = text_more;
           begins_value = begins_more;
           errors_are = append-nil own ∙ h.errors_are;
-          has_held = subst (λ (x : Reading). HasHeld x table new h.pieces (h.held ++ p ∷ [])) (sym next) (record {
+          has_held = subst (λ (x : Pending). HasHeld x table new h.pieces (h.held ++ p ∷ [])) (sym next) (record {
             amp = r.amp;
             taken = r.taken ++ p ∷ [];
             held_is = ap (λ (x : List Placed). x ++ p ∷ []) r.held_is;
@@ -292,7 +292,7 @@ module _ (table : Entities) (quoted : Bool) (old new : ValueWalk) (p : Placed) (
             text_is = text_more;
             begins_value = begins_more;
             errors_are = ap (λ (x : List ParseError). own ++ x) (untold found old.place r.nothing) ∙ append-nil own ∙ h.errors_are;
-            has_held = subst (λ (x : Reading). HasHeld x table new h.pieces (h.held ++ p ∷ [])) (sym next) (record {
+            has_held = subst (λ (x : Pending). HasHeld x table new h.pieces (h.held ++ p ∷ [])) (sym next) (record {
               amp = held_here.amp;
               run = all_taken;
               held_is = ap (λ (x : List Placed). x ++ p ∷ []) held_here.held_is;
@@ -344,7 +344,7 @@ module _ (table : Entities) (quoted : Bool) (old new : ValueWalk) (p : Placed) (
           text_is = text_more;
           begins_value = begins_more;
           errors_are = append-nil own ∙ h.errors_are;
-          has_held = subst (λ (x : Reading). HasHeld x table new h.pieces (h.held ++ p ∷ [])) (sym (same ∙ before)) (record {
+          has_held = subst (λ (x : Pending). HasHeld x table new h.pieces (h.held ++ p ∷ [])) (sym (same ∙ before)) (record {
             amp = r.amp;
             run = r.run ++ p ∷ [];
             held_is = ap (λ (x : List Placed). x ++ p ∷ []) r.held_is;
@@ -384,8 +384,8 @@ module _ (table : Entities) (quoted : Bool) (old new : ValueWalk) (p : Placed) (
 -- THE END
 
 module _ (table : Entities) (quoted : Bool) (old new : ValueWalk) (text : List Placed) (own : List ParseError) (h : IsInValue table quoted old text [] own) where
-  holds_at_end : (r : Reading) → old.reading ≡ r → HasHeld r table old h.pieces h.held
-  holds_at_end r e = subst (λ (x : Reading). HasHeld x table old h.pieces h.held) e h.has_held
+  holds_at_end : (r : Pending) → old.reading ≡ r → HasHeld r table old h.pieces h.held
+  holds_at_end r e = subst (λ (x : Pending). HasHeld x table old h.pieces h.held) e h.has_held
 
   begins_end : Begins table h.pieces h.held
   begins_end = subst (Begins table h.pieces) (append-nil h.held) h.begins_value

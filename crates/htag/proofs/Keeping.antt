@@ -5,15 +5,15 @@ use Rattle.names.specs.declared.placed.Placed.{Placed}
 use Rattle.names.specs.Names.{Texts, Grows}
 use Rattle.names.specs.Placed.{begins}
 use Rattle.charref.specs.Reference.{Entities}
-use Rattle.htag.specs.declared.phase.Phase.{Phase}
-use Rattle.htag.specs.declared.phase.Phase.TheVariants as phase
+use Rattle.htag.specs.declared.tag_state.TagState.{TagState}
+use Rattle.htag.specs.declared.tag_state.TagState.TheVariants as phase
 use Rattle.htag.specs.declared.walk.TagWalk.{TagWalk}
 use Rattle.htag.specs.Tag.{Part, parts_text, attributes_after, ends_name}
 use Rattle.htag.specs.TagWalk.{names_after, HasAttributes, IsPast, IsInTag}
 use Rattle.htag.proofs.Parts.{begins-more}
 use Rattle.htag.proofs.Naming.{numbers_kept, attrs_kept}
 
-past_more : (ph : Phase) (a b : Bool) → (a ≡ true → b ≡ true) → IsPast ph a → IsPast ph b
+past_more : (ph : TagState) (a b : Bool) → (a ≡ true → b ≡ true) → IsPast ph a → IsPast ph b
 past_more phase.Name a b f h = tt
 past_more phase.BeforeAttribute a b f h = f h
 past_more phase.Solidus a b f h = f h

@@ -12,8 +12,8 @@ use Rattle.hmarkup.proofs.Parts.{name_bytes-append}
 use Rattle.charref.specs.Reference.{Entities}
 use Rattle.charref.proofs.Naming.{all-append}
 use Rattle.htag.specs.declared.kind.TagKind.{TagKind}
-use Rattle.htag.specs.declared.phase.Phase.{Phase}
-use Rattle.htag.specs.declared.phase.Phase.TheVariants as phase
+use Rattle.htag.specs.declared.tag_state.TagState.{TagState}
+use Rattle.htag.specs.declared.tag_state.TagState.TheVariants as phase
 use Rattle.htag.specs.declared.walk.TagWalk.{TagWalk}
 use Rattle.htag.specs.Tag.{Part, parts_text, tag_errors, ends_name}
 use Rattle.htag.specs.TagWalk.{HasAttributes, HasPhase, IsPast, IsInTag}
@@ -36,8 +36,8 @@ begun_in_tag kind walk b table names letters first are named = record {
   are_parts = λ end more. tt;
   errors_are = sym (no_null letters are) ∙ sym (append-nil (null_errors letters)) ∙ sym (append-nil (null_errors letters ++ []));
   has_attributes = record { numbers = []; seen = b.seen; named = tt; attributes = subst (λ (x : List Attr). AttrsMean names x []) (sym b.none) tt; any = b.not_any };
-  past = subst (λ (x : Phase). IsPast x false) (sym b.in_name) tt;
-  has_phase = subst (λ (x : Phase). HasPhase x table walk [] [] []) (sym b.in_name) (refl, refl, refl);
+  past = subst (λ (x : TagState). IsPast x false) (sym b.in_name) tt;
+  has_phase = subst (λ (x : TagState). HasPhase x table walk [] [] []) (sym b.in_name) (refl, refl, refl);
 } where
   letters_pass : (xs : List Placed) → all is_letter xs ≡ true → all (λ c. not (ends_name c)) xs ≡ true
   letters_pass [] h = refl
@@ -57,7 +57,7 @@ begun_in_tag kind walk b table names letters first are named = record {
 
 module _ (table : Entities) (names : Texts) (walk : TagWalk) (body fed : List Placed) (errors : List ParseError) (h : IsInTag table names walk body fed errors) (in_name : walk.phase ≡ phase.Name) where
   nothing : (h.parts ≡ []) × (h.held ≡ []) × (h.own ≡ [])
-  nothing = subst (λ (x : Phase). HasPhase x table walk h.parts h.held h.own) in_name h.has_phase
+  nothing = subst (λ (x : TagState). HasPhase x table walk h.parts h.held h.own) in_name h.has_phase
 
   whole : body ≡ h.name
   whole = h.body_is ∙ ap (λ (x : List Part). h.name ++ (parts_text x ++ h.held)) nothing.0 ∙ ap (λ (x : List Placed). h.name ++ x) nothing.1 ∙ append-nil h.name
@@ -80,8 +80,8 @@ module _ (table : Entities) (names : Texts) (walk : TagWalk) (body fed : List Pl
     are_parts = λ end more. tt;
     errors_are = later_is ∙ ap (λ (x : List ParseError). x ++ null_errors fed) plain ∙ sym (null_errors-append h.name fed) ∙ sym (append-nil (null_errors (h.name ++ fed))) ∙ sym (append-nil (null_errors (h.name ++ fed) ++ []));
     has_attributes = subst (HasAttributes names new) nothing.0 (holds_same names walk new h.parts seen attrs any h.has_attributes);
-    past = subst (λ (x : Phase). IsPast x false) (sym (same ∙ in_name)) tt;
-    has_phase = subst (λ (x : Phase). HasPhase x table new [] [] []) (sym (same ∙ in_name)) (refl, refl, refl);
+    past = subst (λ (x : TagState). IsPast x false) (sym (same ∙ in_name)) tt;
+    has_phase = subst (λ (x : TagState). HasPhase x table new [] [] []) (sym (same ∙ in_name)) (refl, refl, refl);
   }
 
   -- it ends before white space, `/` or `>`
@@ -98,6 +98,6 @@ module _ (table : Entities) (names : Texts) (walk : TagWalk) (body fed : List Pl
     are_parts = λ end more. tt;
     errors_are = plain ∙ sym (append-nil (null_errors h.name)) ∙ sym (append-nil (null_errors h.name ++ []));
     has_attributes = subst (HasAttributes names new) nothing.0 (holds_same names walk new h.parts seen attrs any h.has_attributes);
-    past = subst (λ (x : Phase). IsPast x (begins ends_name fed)) (sym next) ends;
-    has_phase = subst (λ (x : Phase). HasPhase x table new [] [] []) (sym next) (refl, refl);
+    past = subst (λ (x : TagState). IsPast x (begins ends_name fed)) (sym next) ends;
+    has_phase = subst (λ (x : TagState). HasPhase x table new [] [] []) (sym next) (refl, refl);
   }

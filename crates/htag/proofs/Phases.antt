@@ -9,8 +9,8 @@ use Rattle.names.specs.Names.{Texts}
 use Rattle.names.specs.Placed.{characters, begins, place, is_space, is_equals, is_greater, error, error_if, null_errors, without_null}
 use Rattle.hmarkup.proofs.Marks.{and_both}
 use Rattle.charref.specs.Reference.{Entities}
-use Rattle.htag.specs.declared.phase.Phase.{Phase}
-use Rattle.htag.specs.declared.phase.Phase.TheVariants as phase
+use Rattle.htag.specs.declared.tag_state.TagState.{TagState}
+use Rattle.htag.specs.declared.tag_state.TagState.TheVariants as phase
 use Rattle.htag.specs.declared.walk.TagWalk.{TagWalk}
 use Rattle.htag.specs.Tag.{Part, IsPart, AreParts, parts_text, errors_after, tag_errors, tag_close, ends_name, ends_attribute_name, attribute_name_errors, name_errors_here, attribute_part, repeated}
 use Rattle.htag.specs.TagWalk.{names_after, HasAttributes, HasName, InName, HasPhase, IsPast, IsInTag, IsWholeTag}
@@ -52,9 +52,9 @@ module _ (table : Entities) (names : Texts) (walk : TagWalk) (body : List Placed
     are_parts = λ end more. AreParts-snoc table end h.parts part (p ∷ more) (subst (λ (x : List Placed). AreParts table end h.parts (x ++ (p ∷ more))) (sym text) (h.are_parts end more)) (is end more);
     errors_are = errors_then part e later own later_is;
     has_attributes = has;
-    past = subst (λ (x : Phase). IsPast x (begins ends_name (parts_text (h.parts ++ part ∷ []) ++ p ∷ []))) (sym before)
+    past = subst (λ (x : TagState). IsPast x (begins ends_name (parts_text (h.parts ++ part ∷ []) ++ p ∷ []))) (sym before)
         (ap (λ (x : List Placed). begins ends_name (x ++ p ∷ [])) (parts_text-snoc h.parts part ∙ ap (λ (x : List Placed). parts_text h.parts ++ x) text) ∙ ap (begins ends_name) (append_assoc (parts_text h.parts) h.held (p ∷ [])) ∙ gone);
-    has_phase = subst (λ (x : Phase). HasPhase x table new (h.parts ++ part ∷ []) [] []) (sym before) (refl, refl);
+    has_phase = subst (λ (x : TagState). HasPhase x table new (h.parts ++ part ∷ []) [] []) (sym before) (refl, refl);
   }
 
   -- an attribute has ended before the character
@@ -109,23 +109,23 @@ module _ (table : Entities) (names : Texts) (walk : TagWalk) (body : List Placed
       are_parts = λ end more. AreParts-snoc table end h.parts (space_part p) more (subst (λ (x : List Placed). AreParts table end h.parts (x ++ (p ∷ more))) nothing.0 (h.are_parts end more)) (IsPart.space p is refl);
       errors_are = errors_then (space_part p) [] errors (sym (append-nil h.own ∙ nothing.1)) (sym (append-nil (errors ++ []) ∙ append-nil errors));
       has_attributes = holds_plain names walk walk h.parts (space_part p) refl refl refl refl h.has_attributes;
-      past = subst (λ (x : Phase). IsPast x (begins ends_name (parts_text (h.parts ++ space_part p ∷ []) ++ []))) (sym before)
+      past = subst (λ (x : TagState). IsPast x (begins ends_name (parts_text (h.parts ++ space_part p ∷ []) ++ []))) (sym before)
           (ap (begins ends_name) (append-nil (parts_text (h.parts ++ space_part p ∷ [])) ∙ parts_text-snoc h.parts (space_part p)) ∙ ap (λ (x : List Placed). begins ends_name (parts_text h.parts ++ (x ++ p ∷ []))) (sym nothing.0) ∙ gone);
-      has_phase = subst (λ (x : Phase). HasPhase x table walk (h.parts ++ space_part p ∷ []) [] []) (sym before) (refl, refl);
+      has_phase = subst (λ (x : TagState). HasPhase x table walk (h.parts ++ space_part p ∷ []) [] []) (sym before) (refl, refl);
     }
 
     -- `/`
     pub solidus_follows : (new : TagWalk) → new.name ≡ walk.name → new.seen ≡ walk.seen → new.attrs ≡ walk.attrs → new.any ≡ walk.any → new.phase ≡ phase.Solidus → p.ch ≡ 47 → IsInTag table names new (body ++ p ∷ []) [] errors
     solidus_follows new named seen attrs any then is =
-        goes_on table names walk body (p ∷ []) errors h new [] errors (sym (append-nil errors)) named seen attrs any (λ b e. subst (λ (x : Phase). IsPast x b) (sym then) e) gone
-        (subst (λ (x : Phase). HasPhase x table new h.parts (h.held ++ p ∷ []) (h.own ++ [])) (sym then) (p, is, ap (λ (x : List Placed). x ++ p ∷ []) nothing.0, append-nil h.own ∙ nothing.1))
+        goes_on table names walk body (p ∷ []) errors h new [] errors (sym (append-nil errors)) named seen attrs any (λ b e. subst (λ (x : TagState). IsPast x b) (sym then) e) gone
+        (subst (λ (x : TagState). HasPhase x table new h.parts (h.held ++ p ∷ []) (h.own ++ [])) (sym then) (p, is, ap (λ (x : List Placed). x ++ p ∷ []) nothing.0, append-nil h.own ∙ nothing.1))
 
     -- an attribute
     pub attribute_begins : (new : TagWalk) (later : List ParseError) → BeginsAttribute walk p errors new later → ends_name p.ch ≡ false → IsInTag table names new (body ++ p ∷ []) [] later
     attribute_begins new later b stays =
         let e : List ParseError = error_if (is_equals p.ch) UnexpectedEqualsSignBeforeAttributeName p.at ++ name_errors_here p in
-        goes_on table names walk body (p ∷ []) errors h new e later b.later_is b.keeps.name_is b.keeps.seen_is b.keeps.attrs_are b.keeps.any_is (λ c x. subst (λ (y : Phase). IsPast y c) (sym b.phase_is) x) gone
-        (subst (λ (x : Phase). HasPhase x table new h.parts (h.held ++ p ∷ []) (h.own ++ e)) (sym b.phase_is)
+        goes_on table names walk body (p ∷ []) errors h new e later b.later_is b.keeps.name_is b.keeps.seen_is b.keeps.attrs_are b.keeps.any_is (λ c x. subst (λ (y : TagState). IsPast y c) (sym b.phase_is) x) gone
+        (subst (λ (x : TagState). HasPhase x table new h.parts (h.held ++ p ∷ []) (h.own ++ e)) (sym b.phase_is)
         (subst (λ (x : List Placed). InName new x (h.own ++ e)) (ap (λ (x : List Placed). x ++ p ∷ []) (sym nothing.0)) (record {
           has_name = record { first = ap not stays; runs = refl; is = b.attribute_is ∙ sym (append-nil _); at_is = sym b.place_is };
           no_value = b.value_is;

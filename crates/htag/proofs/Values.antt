@@ -8,10 +8,10 @@ use Rattle.names.specs.Names.{Texts}
 use Rattle.names.specs.Placed.{begins, stops, all, is_space, is_equals, is_greater, is_quote, error, error_if}
 use Rattle.hmarkup.proofs.Marks.{and_parts, and_both}
 use Rattle.charref.specs.Reference.{Entities}
-use Rattle.htag.specs.declared.phase.Phase.{Phase}
-use Rattle.htag.specs.declared.phase.Phase.TheVariants as phase
+use Rattle.htag.specs.declared.tag_state.TagState.{TagState}
+use Rattle.htag.specs.declared.tag_state.TagState.TheVariants as phase
 use Rattle.htag.specs.declared.walk.TagWalk.{TagWalk}
-use Rattle.htag.specs.declared.reading.Reading.{Reading}
+use Rattle.htag.specs.declared.pending.Pending.{Pending}
 use Rattle.htag.specs.declared.value.ValueWalk.{ValueWalk}
 use Rattle.htag.specs.Value.{pieces_text, value_bytes}
 use Rattle.htag.specs.ValueWalk.{HasHeld, IsInValue, TakesInValue, EndsValue, pieces_errors}
@@ -60,7 +60,7 @@ begun_value table quoted value n = record {
   text_is = refl;
   begins_value = record { value = λ more rest are is. are };
   errors_are = none quoted;
-  has_held = subst (λ (x : Reading). HasHeld x table value [] []) (sym n.nothing) (refl, n.empty);
+  has_held = subst (λ (x : Pending). HasHeld x table value [] []) (sym n.nothing) (refl, n.empty);
 } where
   none : (b : Bool) → [] ≡ pieces_errors b []
   none true = refl
@@ -69,10 +69,10 @@ begun_value table quoted value n = record {
 module _ (table : Entities) (names : Texts) (walk : TagWalk) (body : List Placed) (p : Placed) (errors : List ParseError) (h : IsInTag table names walk body (p ∷ []) errors) where
   -- the same attribute in another phase
   module _ (new : TagWalk) (named : new.name ≡ walk.name) (seen : new.seen ≡ walk.seen) (attrs : new.attrs ≡ walk.attrs) (any : new.any ≡ walk.any) (attribute : new.attribute ≡ walk.attribute) (at : new.place ≡ walk.place) (value : new.value ≡ walk.value) where
-    moves : (ph : Phase) → new.phase ≡ ph → ((b : Bool) → b ≡ true → IsPast ph b) → Past table names walk body (p ∷ []) errors h ≡ true → HasPhase ph table new h.parts (h.held ++ p ∷ []) h.own → IsInTag table names new (body ++ p ∷ []) [] errors
+    moves : (ph : TagState) → new.phase ≡ ph → ((b : Bool) → b ≡ true → IsPast ph b) → Past table names walk body (p ∷ []) errors h ≡ true → HasPhase ph table new h.parts (h.held ++ p ∷ []) h.own → IsInTag table names new (body ++ p ∷ []) [] errors
     moves ph then gone past_it has =
-        goes_on table names walk body (p ∷ []) errors h new [] errors (sym (append-nil errors)) named seen attrs any (λ b e. subst (λ (x : Phase). IsPast x b) (sym then) (gone b e)) past_it
-        (subst (λ (x : List ParseError). HasPhase new.phase table new h.parts (h.held ++ p ∷ []) x) (sym (append-nil h.own)) (subst (λ (x : Phase). HasPhase x table new h.parts (h.held ++ p ∷ []) h.own) (sym then) has))
+        goes_on table names walk body (p ∷ []) errors h new [] errors (sym (append-nil errors)) named seen attrs any (λ b e. subst (λ (x : TagState). IsPast x b) (sym then) (gone b e)) past_it
+        (subst (λ (x : List ParseError). HasPhase new.phase table new h.parts (h.held ++ p ∷ []) x) (sym (append-nil h.own)) (subst (λ (x : TagState). HasPhase x table new h.parts (h.held ++ p ∷ []) h.own) (sym then) has))
 
     pub space_after_name : walk.phase ≡ phase.AttributeName → new.phase ≡ phase.AfterAttributeName → is_space p.ch ≡ true → ends_attribute_name p.ch ≡ true → IsInTag table names new (body ++ p ∷ []) [] errors
     space_after_name before then is stop =
@@ -170,8 +170,8 @@ module _ (table : Entities) (names : Texts) (walk : TagWalk) (body : List Placed
       → walk.phase ≡ phase.Quoted mark → new.phase ≡ phase.AfterQuoted → p.ch ≡ mark → IsInTag table names new (body ++ p ∷ []) [] later
   quote_closes mark new later keeps attribute at v before next is =
       let q = held_in table names walk body (p ∷ []) errors h (phase.Quoted mark) before in
-      goes_on table names walk body (p ∷ []) errors h new v.more later v.later_is keeps.name_is keeps.seen_is keeps.attrs_are keeps.any_is (λ b e. subst (λ (x : Phase). IsPast x b) (sym next) e) (past_is table names walk body (p ∷ []) errors h (phase.Quoted mark) before)
-      (subst (λ (x : Phase). HasPhase x table new h.parts (h.held ++ p ∷ []) (h.own ++ v.more)) (sym next) (record {
+      goes_on table names walk body (p ∷ []) errors h new v.more later v.later_is keeps.name_is keeps.seen_is keeps.attrs_are keeps.any_is (λ b e. subst (λ (x : TagState). IsPast x b) (sym next) e) (past_is table names walk body (p ∷ []) errors h (phase.Quoted mark) before)
+      (subst (λ (x : TagState). HasPhase x table new h.parts (h.held ++ p ∷ []) (h.own ++ v.more)) (sym next) (record {
         mark = mark;
         name = q.name;
         sign = q.sign;
@@ -226,8 +226,8 @@ module _ (table : Entities) (names : Texts) (walk : TagWalk) (body : List Placed
       → walk.phase ≡ phase.BeforeValue → new.phase ≡ phase.Unquoted → not (ends_unquoted p.ch || is_quote p.ch) ≡ true → not (ends_unquoted p.ch) ≡ true → IsInTag table names new (body ++ p ∷ []) [] later
   unquoted_begins new later keeps attribute at v before next first stays =
       let n = held_in table names walk body (p ∷ []) errors h phase.BeforeValue before in
-      goes_on table names walk body (p ∷ []) errors h new v.more later v.later_is keeps.name_is keeps.seen_is keeps.attrs_are keeps.any_is (λ b x. subst (λ (y : Phase). IsPast y b) (sym next) x) (past_is table names walk body (p ∷ []) errors h phase.BeforeValue before)
-      (subst (λ (x : Phase). HasPhase x table new h.parts (h.held ++ p ∷ []) (h.own ++ v.more)) (sym next) (record {
+      goes_on table names walk body (p ∷ []) errors h new v.more later v.later_is keeps.name_is keeps.seen_is keeps.attrs_are keeps.any_is (λ b x. subst (λ (y : TagState). IsPast y b) (sym next) x) (past_is table names walk body (p ∷ []) errors h phase.BeforeValue before)
+      (subst (λ (x : TagState). HasPhase x table new h.parts (h.held ++ p ∷ []) (h.own ++ v.more)) (sym next) (record {
         name = n.name;
         sign = n.sign;
         text = p ∷ [];

@@ -14,7 +14,7 @@ use Rattle.htag.specs.TagWalk.{IsInTag}
 abbrev pub is_word_byte : ℕ → Bool
 is_word_byte byte = (nat_le 97 byte && nat_le byte 122) || (nat_le 48 byte && nat_le byte 58) || byte == 45 || byte == 46 || byte == 95
 
--- The tag goes on with so many bytes of the run, which changes neither names nor errors.
+-- The tag goes on with this many bytes of the run, which changes neither names nor errors.
 pub record TakesPart (old : TagWalk) (run : List ℕ) (count : ℕ) (new : TagWalk) : Type 0 where
   pub few : count ≤ length run
   pub kind_is : new.kind ≡ old.kind

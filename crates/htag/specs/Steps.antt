@@ -8,7 +8,7 @@ use Rattle.names.specs.declared.placed.Placed.{Placed}
 use Rattle.names.specs.Names.{Texts}
 use Rattle.names.specs.Placed.{is_equals, error_if, without_null}
 use Rattle.htag.specs.declared.kind.TagKind.{TagKind}
-use Rattle.htag.specs.declared.phase.Phase.TheVariants as phase
+use Rattle.htag.specs.declared.tag_state.TagState.TheVariants as phase
 use Rattle.htag.specs.declared.walk.TagWalk.{TagWalk}
 use Rattle.htag.specs.Seen.{HasSeen}
 use Rattle.htag.specs.Tag.{Attribute, Part, repeated, name_errors_here}

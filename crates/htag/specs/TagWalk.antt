@@ -8,11 +8,11 @@ use Rattle.names.specs.declared.refusal.Refusal.TheVariants.{Memory}
 use Rattle.names.specs.Names.{Texts}
 use Rattle.names.specs.Placed.{characters, begins, all, RunsTo, place, is_letter, is_space, is_quote, name_bytes}
 use Rattle.charref.specs.Reference.{Entities}
-use Rattle.htag.specs.declared.phase.Phase.{Phase}
-use Rattle.htag.specs.declared.phase.Phase.TheVariants as phase
+use Rattle.htag.specs.declared.tag_state.TagState.{TagState}
+use Rattle.htag.specs.declared.tag_state.TagState.TheVariants as phase
 use Rattle.htag.specs.declared.walk.TagWalk.{TagWalk}
 use Rattle.htag.specs.Attributes.{AttrsMean}
-use Rattle.htag.specs.declared.reading.Reading.TheVariants as reading
+use Rattle.htag.specs.declared.pending.Pending.TheVariants as reading
 use Rattle.htag.specs.declared.value.ValueWalk.{ValueWalk}
 use Rattle.htag.specs.ValueWalk.{IsInValue, IsWholeValue}
 use Rattle.htag.specs.Seen.{HasSeen}
@@ -120,7 +120,7 @@ pub record PastQuotes (table : Entities) (walk : TagWalk) (held : List Placed) (
   pub own_is : own ≡ attribute_name_errors name ++ raised
 
 -- what is held of a part in a phase, and its errors
-abbrev pub HasPhase : Phase → Entities → TagWalk → List Part → List Placed → List ParseError → Type 0
+abbrev pub HasPhase : TagState → Entities → TagWalk → List Part → List Placed → List ParseError → Type 0
 HasPhase phase.Name table walk parts held own = (parts ≡ []) × (held ≡ []) × (own ≡ [])
 HasPhase phase.BeforeAttribute table walk parts held own = (held ≡ []) × (own ≡ [])
 HasPhase phase.Solidus table walk parts held own = (s : Placed) × (s.ch ≡ 47) × (held ≡ s ∷ []) × (own ≡ [])
@@ -132,7 +132,7 @@ HasPhase phase.Unquoted table walk parts held own = InUnquoted table walk held o
 HasPhase phase.AfterQuoted table walk parts held own = PastQuotes table walk held own
 
 -- past the tag's name a character that ends it stands
-abbrev pub IsPast : Phase → Bool → Type 0
+abbrev pub IsPast : TagState → Bool → Type 0
 IsPast phase.Name ended = Unit {0}
 IsPast other ended = ended ≡ true
 
@@ -175,7 +175,7 @@ WholeOrNot false table names walk body errors = IsInTag table names walk body []
 abbrev pub TakesInTag : Entities → Texts → List Placed → Result Bool Refusal → TagWalk → List ParseError → Type 0
 TakesInTag table names body answer walk errors = MatchResult answer (λ ended. WholeOrNot ended table names walk body errors) (λ e. e ≡ Memory)
 
--- .. where this text came before.
+-- The same where this text came before.
 abbrev pub StepsInTag : Entities → Texts → Texts → TagWalk → Placed → List ParseError → Result Bool Refusal → TagWalk → List ParseError → Type 0
 StepsInTag table before after old p errors answer new later = (body : List Placed) → IsInTag table before old body (p ∷ []) errors
     → TakesInTag table after (body ++ p ∷ []) answer new later

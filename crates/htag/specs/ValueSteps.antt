@@ -15,7 +15,7 @@ pub record AddsPlain (quoted : Bool) (old : ValueWalk) (p : Placed) (errors : Li
   pub bytes : string_bytes new.text ≡ string_bytes old.text ++ encode_utf8 (without_null p.ch)
   pub later_is : later ≡ errors ++ pieces_errors quoted (plain_piece p ∷ [])
 
--- The last characters held are added, so many.
+-- The last characters held are added, this many.
 pub record GivesBack (count : ℕ) (old new : ValueWalk) : Type 0 where
   pub reading_is : new.reading ≡ old.reading
   pub bytes : string_bytes new.text ≡ string_bytes old.text ++ encode_utf8_all (drop (length old.held.items - count) old.held.items)

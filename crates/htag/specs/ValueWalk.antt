@@ -11,8 +11,8 @@ use Rattle.charref.specs.Held.{kept}
 use Rattle.charref.specs.Pieces.{characters_of}
 use Rattle.charref.specs.Reference.{Entities, Piece, IsReference, IsTable, ampersand}
 use Rattle.charref.specs.Walk.{HasTaken}
-use Rattle.htag.specs.declared.reading.Reading.{Reading}
-use Rattle.htag.specs.declared.reading.Reading.TheVariants as reading
+use Rattle.htag.specs.declared.pending.Pending.{Pending}
+use Rattle.htag.specs.declared.pending.Pending.TheVariants as reading
 use Rattle.htag.specs.declared.value.ValueWalk.{ValueWalk}
 use Rattle.htag.specs.Tag.{value_errors, unquoted_errors}
 use Rattle.htag.specs.Value.{AreValue, pieces_text, plain_piece, value_bytes}
@@ -55,7 +55,7 @@ pub record InRun (table : Entities) (walk : ValueWalk) (pieces : List Piece) (he
   pub bytes : string_bytes walk.text ≡ value_bytes pieces ++ encode_utf8_all (38 ∷ characters run)
 
 -- what is held of a piece that is not known yet
-abbrev pub HasHeld : Reading → Entities → ValueWalk → List Piece → List Placed → Type 0
+abbrev pub HasHeld : Pending → Entities → ValueWalk → List Piece → List Placed → Type 0
 HasHeld reading.Nothing table walk pieces held = (held ≡ []) × (string_bytes walk.text ≡ value_bytes pieces)
 HasHeld (reading.Reference reference) table walk pieces held = InReference table reference walk pieces held
 HasHeld reading.Run table walk pieces held = InRun table walk pieces held

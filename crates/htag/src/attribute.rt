@@ -6,15 +6,15 @@ ghost use Rattle.htag.specs.Steps.{EndsAttribute, EndsAttributeValue, BeginsAttr
 ghost use Rattle.htag.specs.TagWalk.{StepsInTag};
 ghost use Rattle.names.specs.declared.refusal.Refusal.TheVariants.{Memory};
 
-use crate::phase::Phase;
 use crate::push::{ends_name, keep_if, keep_null, push_lowered};
+use crate::tag_state::TagState;
 use crate::walk::TagWalk;
 use charref::Table;
 use names::{Attr, ErrorCode, Names, ParseError, Refusal};
 use std::alloc::AllocError;
 use std::mem;
 
-/// More names than this are never numbered.
+/// The most names that numbers of 32 bits tell apart.
 const MAX_NUMBER: usize = 4_294_967_295;
 
 impl<'t> TagWalk<'t> {
@@ -36,7 +36,7 @@ impl<'t> TagWalk<'t> {
         self.attribute.clear();
         self.value.begin();
         self.place = at;
-        self.phase = Phase::AttributeName;
+        self.phase = TagState::AttributeName;
         self.add_to_name(ch, at, errors)
     }
 
@@ -69,17 +69,17 @@ impl<'t> TagWalk<'t> {
         at: u64,
         errors: &mut Vec<ParseError>,
     ) -> Result<bool, Refusal>
-        requires { self.old.phase ≡ Phase.AttributeName }
+        requires { self.old.phase ≡ TagState.AttributeName }
         ensures takes { StepsInTag table.now names.old names.new self.old (record { ch = ch; at = at }) errors.old.items result self.new errors.new.items }
         ensures grows { Grows names.old names.new }
         ensures kind { OnOk result (self.new.kind ≡ self.old.kind) }
     {
         if ch.is_ascii_whitespace() {
-            self.phase = Phase::AfterAttributeName;
+            self.phase = TagState::AfterAttributeName;
             return Ok(false);
         }
         if ch == '=' {
-            self.phase = Phase::BeforeValue;
+            self.phase = TagState::BeforeValue;
             return Ok(false);
         }
         if ch == '/' || ch == '>' {
@@ -99,7 +99,7 @@ impl<'t> TagWalk<'t> {
         at: u64,
         errors: &mut Vec<ParseError>,
     ) -> Result<bool, Refusal>
-        requires { self.old.phase ≡ Phase.AfterAttributeName }
+        requires { self.old.phase ≡ TagState.AfterAttributeName }
         ensures takes { StepsInTag table.now names.old names.new self.old (record { ch = ch; at = at }) errors.old.items result self.new errors.new.items }
         ensures grows { Grows names.old names.new }
         ensures kind { OnOk result (self.new.kind ≡ self.old.kind) }
@@ -108,7 +108,7 @@ impl<'t> TagWalk<'t> {
             return Ok(false);
         }
         if ch == '=' {
-            self.phase = Phase::BeforeValue;
+            self.phase = TagState::BeforeValue;
             return Ok(false);
         }
         self.end_attribute(names, errors)?;
@@ -124,7 +124,7 @@ impl<'t> TagWalk<'t> {
         at: u64,
         errors: &mut Vec<ParseError>,
     ) -> Result<bool, Refusal>
-        requires { self.old.phase ≡ Phase.BeforeValue }
+        requires { self.old.phase ≡ TagState.BeforeValue }
         ensures takes { StepsInTag table.now names.old names.new self.old (record { ch = ch; at = at }) errors.old.items result self.new errors.new.items }
         ensures grows { Grows names.old names.new }
         ensures kind { OnOk result (self.new.kind ≡ self.old.kind) }
@@ -133,7 +133,7 @@ impl<'t> TagWalk<'t> {
             return Ok(false);
         }
         if ch == '"' || ch == '\'' {
-            self.phase = Phase::Quoted(ch);
+            self.phase = TagState::Quoted(ch);
             return Ok(false);
         }
         if ch == '>' {
@@ -141,7 +141,7 @@ impl<'t> TagWalk<'t> {
             self.end_attribute(names, errors)?;
             return self.before_attribute(table, names, ch, at, errors);
         }
-        self.phase = Phase::Unquoted;
+        self.phase = TagState::Unquoted;
         self.value.take(table, false, ch, at, errors)?;
         Ok(false)
     }
@@ -156,14 +156,14 @@ impl<'t> TagWalk<'t> {
         at: u64,
         errors: &mut Vec<ParseError>,
     ) -> Result<bool, Refusal>
-        requires { self.old.phase ≡ Phase.Quoted mark }
+        requires { self.old.phase ≡ TagState.Quoted mark }
         ensures takes { StepsInTag table.now names.old names.new self.old (record { ch = ch; at = at }) errors.old.items result self.new errors.new.items }
         ensures grows { Grows names.old names.new }
         ensures kind { OnOk result (self.new.kind ≡ self.old.kind) }
     {
         if ch == mark {
             self.value.end(errors)?;
-            self.phase = Phase::AfterQuoted;
+            self.phase = TagState::AfterQuoted;
             return Ok(false);
         }
         self.value.take(table, true, ch, at, errors)?;
@@ -179,7 +179,7 @@ impl<'t> TagWalk<'t> {
         at: u64,
         errors: &mut Vec<ParseError>,
     ) -> Result<bool, Refusal>
-        requires { self.old.phase ≡ Phase.Unquoted }
+        requires { self.old.phase ≡ TagState.Unquoted }
         ensures takes { StepsInTag table.now names.old names.new self.old (record { ch = ch; at = at }) errors.old.items result self.new errors.new.items }
         ensures grows { Grows names.old names.new }
         ensures kind { OnOk result (self.new.kind ≡ self.old.kind) }
@@ -201,7 +201,7 @@ impl<'t> TagWalk<'t> {
         at: u64,
         errors: &mut Vec<ParseError>,
     ) -> Result<bool, Refusal>
-        requires { self.old.phase ≡ Phase.AfterQuoted }
+        requires { self.old.phase ≡ TagState.AfterQuoted }
         ensures takes { StepsInTag table.now names.old names.new self.old (record { ch = ch; at = at }) errors.old.items result self.new errors.new.items }
         ensures grows { Grows names.old names.new }
         ensures kind { OnOk result (self.new.kind ≡ self.old.kind) }
@@ -244,7 +244,7 @@ impl<'t> TagWalk<'t> {
         if number >= MAX_NUMBER {
             return Err(Refusal::Memory);
         }
-        self.phase = Phase::BeforeAttribute;
+        self.phase = TagState::BeforeAttribute;
         self.any = true;
         if self.seen.add(number)? {
             let value = mem::replace(&mut self.value.text, String::new(self.alloc));

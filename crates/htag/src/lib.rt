@@ -3,14 +3,14 @@
 
 mod attribute;
 mod kind;
-mod phase;
+mod pending;
 mod piece;
 mod push;
-mod reading;
 mod run;
 mod seen;
 mod stamp;
 mod step;
+mod tag_state;
 mod value;
 mod walk;
 

@@ -8,8 +8,8 @@ ghost use Rattle.htag.specs.TagWalk.{NoValue};
 ghost use Rattle.htag.specs.ValueWalk.{TakesInValue, EndsValue, TellsReference, pieces_errors};
 ghost use Rattle.htag.specs.ValueSteps.{AddsPlain, GivesBack};
 
+use crate::pending::Pending;
 use crate::push::{keep_if, keep_null, push_all, push_value};
-use crate::reading::Reading;
 use crate::value::ValueWalk;
 use charref::{Reference, Table, Walk};
 use names::{ErrorCode, ParseError};
@@ -21,7 +21,7 @@ impl<'t> ValueWalk<'t> {
     {
         ValueWalk {
             text: String::new(alloc),
-            reading: Reading::Nothing,
+            reading: Pending::Nothing,
             place: 0,
             held: Vec::new(alloc),
         }
@@ -32,7 +32,7 @@ impl<'t> ValueWalk<'t> {
         ensures { NoValue self.new }
     {
         self.text.clear();
-        self.reading = Reading::Nothing;
+        self.reading = Pending::Nothing;
     }
 
     /// Takes the next character of the value, which does not end it.
@@ -47,17 +47,17 @@ impl<'t> ValueWalk<'t> {
         ensures { OnOk result (TakesInValue table.now quoted self.old (record { ch = ch; at = at }) errors.old.items self.new errors.new.items) }
     {
         match self.reading {
-            Reading::Nothing => self.take_next(table, quoted, ch, at, errors),
-            Reading::Reference(walk) => self.in_reference(walk, table, quoted, ch, at, errors),
-            Reading::Run => self.in_run(table, quoted, ch, at, errors),
+            Pending::Nothing => self.take_next(table, quoted, ch, at, errors),
+            Pending::Reference(walk) => self.in_reference(walk, table, quoted, ch, at, errors),
+            Pending::Run => self.in_run(table, quoted, ch, at, errors),
         }
     }
 
     /// Whether no reference is being read.
     pub fn is_between(&self) -> bool
-        ensures { MatchBool result (self.now.reading ≡ Reading.Nothing) (Unit {0}) }
+        ensures { MatchBool result (self.now.reading ≡ Pending.Nothing) (Unit {0}) }
     {
-        matches!(self.reading, Reading::Nothing)
+        matches!(self.reading, Pending::Nothing)
     }
 
     /// The value ends.
@@ -65,10 +65,10 @@ impl<'t> ValueWalk<'t> {
         ensures { OnOk result (EndsValue self.old errors.old.items self.new errors.new.items) }
     {
         match self.reading {
-            Reading::Reference(walk) => self.end_reference(walk, errors),
-            Reading::Nothing => Ok(()),
-            Reading::Run => {
-                self.reading = Reading::Nothing;
+            Pending::Reference(walk) => self.end_reference(walk, errors),
+            Pending::Nothing => Ok(()),
+            Pending::Run => {
+                self.reading = Pending::Nothing;
                 Ok(())
             }
         }
@@ -83,13 +83,13 @@ impl<'t> ValueWalk<'t> {
         at: u64,
         errors: &mut Vec<ParseError>,
     ) -> Result<(), AllocError>
-        requires { self.old.reading ≡ Reading.Nothing }
+        requires { self.old.reading ≡ Pending.Nothing }
         ensures { OnOk result (TakesInValue table.now quoted self.old (record { ch = ch; at = at }) errors.old.items self.new errors.new.items) }
     {
         if ch != '&' {
             return self.push(quoted, ch, at, errors);
         }
-        self.reading = Reading::Reference(Walk::new(table, true));
+        self.reading = Pending::Reference(Walk::new(table, true));
         self.place = at;
         self.held.clear();
         Ok(())
@@ -133,31 +133,31 @@ impl<'t> ValueWalk<'t> {
         at: u64,
         errors: &mut Vec<ParseError>,
     ) -> Result<(), AllocError>
-        requires { self.old.reading ≡ Reading.Reference walk }
+        requires { self.old.reading ≡ Pending.Reference walk }
         ensures { OnOk result (TakesInValue table.now quoted self.old (record { ch = ch; at = at }) errors.old.items self.new errors.new.items) }
     {
         let mut walk = walk;
         let found = match walk.take(ch) {
             None if walk.is_number() => {
                 self.held.clear();
-                self.reading = Reading::Reference(walk);
+                self.reading = Pending::Reference(walk);
                 return Ok(());
             }
             None => {
                 self.held.push(ch)?;
-                self.reading = Reading::Reference(walk);
+                self.reading = Pending::Reference(walk);
                 return Ok(());
             }
             Some(found) => found,
         };
         self.tell(found, errors)?;
         if found.in_run {
-            self.reading = Reading::Run;
+            self.reading = Pending::Run;
             push_all(&mut self.text, &self.held)?;
             self.text.push(ch)?;
             return Ok(());
         }
-        self.reading = Reading::Nothing;
+        self.reading = Pending::Nothing;
         if found.left == 0 {
             return Ok(());
         }
@@ -174,7 +174,7 @@ impl<'t> ValueWalk<'t> {
         at: u64,
         errors: &mut Vec<ParseError>,
     ) -> Result<(), AllocError>
-        requires { self.old.reading ≡ Reading.Run }
+        requires { self.old.reading ≡ Pending.Run }
         ensures { OnOk result (TakesInValue table.now quoted self.old (record { ch = ch; at = at }) errors.old.items self.new errors.new.items) }
     {
         if ch.is_ascii_alphanumeric() {
@@ -187,7 +187,7 @@ impl<'t> ValueWalk<'t> {
             self.place,
             errors,
         )?;
-        self.reading = Reading::Nothing;
+        self.reading = Pending::Nothing;
         self.take_next(table, quoted, ch, at, errors)
     }
 
@@ -198,12 +198,12 @@ impl<'t> ValueWalk<'t> {
         walk: Walk<'t>,
         errors: &mut Vec<ParseError>,
     ) -> Result<(), AllocError>
-        requires { self.old.reading ≡ Reading.Reference walk }
+        requires { self.old.reading ≡ Pending.Reference walk }
         ensures { OnOk result (EndsValue self.old errors.old.items self.new errors.new.items) }
     {
         let found = walk.end();
         self.tell(found, errors)?;
-        self.reading = Reading::Nothing;
+        self.reading = Pending::Nothing;
         self.give_back(found.left)
     }
 
@@ -224,7 +224,7 @@ impl<'t> ValueWalk<'t> {
         Ok(())
     }
 
-    /// Adds the last characters that were held, so many.
+    /// Adds the last `count` characters that were held.
     fn give_back(&mut self, count: usize) -> Result<(), AllocError>
         ensures { OnOk result (GivesBack count self.old self.new) }
     {

@@ -102,7 +102,7 @@ pub(crate) fn count_word(text: &str) -> usize
     text.len()
 }
 
-/// So many characters at the front of a run of plain ones.
+/// This many characters at the front of a run of plain ones.
 pub(crate) fn push_front(text: &mut String, run: &str, count: usize) -> Result<(), AllocError>
     requires plain { list_all is_plain_byte run.now ≡ true }
     requires within { count ≤ length run.now }

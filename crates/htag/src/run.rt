@@ -9,8 +9,8 @@ ghost use Rattle.htext.specs.Run.{is_plain_byte};
 ghost use Rattle.htag.specs.Run.{TakesPart, TakesRun};
 ghost use Rattle.htag.specs.TagWalk.{IsInTag};
 
-use crate::phase::Phase;
 use crate::push::{count_before, count_word, push_front};
+use crate::tag_state::TagState;
 use crate::walk::TagWalk;
 use charref::Table;
 use names::{Names, ParseError, Refusal};
@@ -81,17 +81,17 @@ impl<'t> TagWalk<'t> {
         ensures { IfOk result (λ count. TakesPart self.old run.now count self.new) }
     {
         match self.phase {
-            Phase::Name => self.part_of_name(run),
-            Phase::AttributeName => self.part_of_attribute(run),
-            Phase::Quoted(mark) => self.part_of_quoted(mark, run),
-            Phase::Unquoted => self.part_of_unquoted(run),
+            TagState::Name => self.part_of_name(run),
+            TagState::AttributeName => self.part_of_attribute(run),
+            TagState::Quoted(mark) => self.part_of_quoted(mark, run),
+            TagState::Unquoted => self.part_of_unquoted(run),
             _ => Ok(0),
         }
     }
 
     /// Takes that part of the tag's name.
     fn part_of_name(&mut self, run: &str) -> Result<usize, AllocError>
-        requires phase { self.old.phase ≡ Phase.Name }
+        requires phase { self.old.phase ≡ TagState.Name }
         requires plain { list_all is_plain_byte run.now ≡ true }
         ensures { IfOk result (λ count. TakesPart self.old run.now count self.new) }
     {
@@ -102,7 +102,7 @@ impl<'t> TagWalk<'t> {
 
     /// Takes that part of an attribute's name.
     fn part_of_attribute(&mut self, run: &str) -> Result<usize, AllocError>
-        requires phase { self.old.phase ≡ Phase.AttributeName }
+        requires phase { self.old.phase ≡ TagState.AttributeName }
         requires plain { list_all is_plain_byte run.now ≡ true }
         ensures { IfOk result (λ count. TakesPart self.old run.now count self.new) }
     {
@@ -113,7 +113,7 @@ impl<'t> TagWalk<'t> {
 
     /// Takes that part of a value in quotes.
     fn part_of_quoted(&mut self, mark: char, run: &str) -> Result<usize, AllocError>
-        requires phase { self.old.phase ≡ Phase.Quoted mark }
+        requires phase { self.old.phase ≡ TagState.Quoted mark }
         requires plain { list_all is_plain_byte run.now ≡ true }
         ensures { IfOk result (λ count. TakesPart self.old run.now count self.new) }
     {
@@ -127,7 +127,7 @@ impl<'t> TagWalk<'t> {
 
     /// Takes that part of a value without quotes.
     fn part_of_unquoted(&mut self, run: &str) -> Result<usize, AllocError>
-        requires phase { self.old.phase ≡ Phase.Unquoted }
+        requires phase { self.old.phase ≡ TagState.Unquoted }
         requires plain { list_all is_plain_byte run.now ≡ true }
         ensures { IfOk result (λ count. TakesPart self.old run.now count self.new) }
     {

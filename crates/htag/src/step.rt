@@ -4,8 +4,8 @@ ghost use Rattle.std.specs.Prelude.{◌≡◌, OnOk};
 ghost use Rattle.names.specs.Names.{Grows};
 ghost use Rattle.htag.specs.TagWalk.{StepsInTag};
 
-use crate::phase::Phase;
 use crate::push::{keep_if, keep_null, push_lowered};
+use crate::tag_state::TagState;
 use crate::walk::TagWalk;
 use charref::Table;
 use names::{ErrorCode, Names, ParseError, Refusal};
@@ -20,13 +20,13 @@ impl<'t> TagWalk<'t> {
         at: u64,
         errors: &mut Vec<ParseError>,
     ) -> Result<bool, Refusal>
-        requires { self.old.phase ≡ Phase.Name }
+        requires { self.old.phase ≡ TagState.Name }
         ensures takes { StepsInTag table.now names.old names.new self.old (record { ch = ch; at = at }) errors.old.items result self.new errors.new.items }
         ensures grows { Grows names.old names.new }
         ensures kind { OnOk result (self.new.kind ≡ self.old.kind) }
     {
         if ch == '>' || ch == '/' || ch.is_ascii_whitespace() {
-            self.phase = Phase::BeforeAttribute;
+            self.phase = TagState::BeforeAttribute;
             return self.before_attribute(table, names, ch, at, errors);
         }
         keep_null(ch, at, errors)?;
@@ -43,7 +43,7 @@ impl<'t> TagWalk<'t> {
         at: u64,
         errors: &mut Vec<ParseError>,
     ) -> Result<bool, Refusal>
-        requires { self.old.phase ≡ Phase.BeforeAttribute }
+        requires { self.old.phase ≡ TagState.BeforeAttribute }
         ensures takes { StepsInTag table.now names.old names.new self.old (record { ch = ch; at = at }) errors.old.items result self.new errors.new.items }
         ensures grows { Grows names.old names.new }
         ensures kind { OnOk result (self.new.kind ≡ self.old.kind) }
@@ -56,7 +56,7 @@ impl<'t> TagWalk<'t> {
             return Ok(false);
         }
         if ch == '/' {
-            self.phase = Phase::Solidus;
+            self.phase = TagState::Solidus;
             return Ok(false);
         }
         self.begin_attribute(ch, at, errors)?;
@@ -72,7 +72,7 @@ impl<'t> TagWalk<'t> {
         at: u64,
         errors: &mut Vec<ParseError>,
     ) -> Result<bool, Refusal>
-        requires { self.old.phase ≡ Phase.Solidus }
+        requires { self.old.phase ≡ TagState.Solidus }
         ensures takes { StepsInTag table.now names.old names.new self.old (record { ch = ch; at = at }) errors.old.items result self.new errors.new.items }
         ensures grows { Grows names.old names.new }
         ensures kind { OnOk result (self.new.kind ≡ self.old.kind) }
@@ -82,7 +82,7 @@ impl<'t> TagWalk<'t> {
             return Ok(true);
         }
         keep_if(true, ErrorCode::UnexpectedSolidusInTag, at, errors)?;
-        self.phase = Phase::BeforeAttribute;
+        self.phase = TagState::BeforeAttribute;
         self.before_attribute(table, names, ch, at, errors)
     }
 }

@@ -1,13 +1,13 @@
 //! The value of an attribute.
 
-use crate::reading::Reading;
+use crate::pending::Pending;
 
 /// Reads the value of an attribute, a character at a time, with the character references in it.
 #[derive(Drop)]
 pub(crate) struct ValueWalk<'t> {
     /// What was read of the value, but for what `reading` says.
     pub text: String,
-    pub reading: Reading<'t>,
+    pub reading: Pending<'t>,
     /// The place of the `&` that is being read.
     pub place: u64,
     /// The characters after it, but for those of a number.

@@ -11,9 +11,9 @@ ghost use Rattle.htag.specs.TagWalk.{NoValue, IsInTag, TakesInTag, IsCutTag};
 ghost use Rattle.names.specs.declared.refusal.Refusal.TheVariants.{Memory};
 
 use crate::kind::TagKind;
-use crate::phase::Phase;
 use crate::push::push_lowered;
 use crate::seen::Seen;
+use crate::tag_state::TagState;
 use crate::value::ValueWalk;
 use charref::Table;
 use names::{Attr, Names, ParseError, Refusal};
@@ -25,7 +25,7 @@ use std::mem;
 pub struct TagWalk<'t> {
     pub(crate) alloc: Global,
     pub(crate) kind: TagKind,
-    pub(crate) phase: Phase,
+    pub(crate) phase: TagState,
     pub(crate) name: String,
     /// The attribute that is being read: its name, the first byte of it, and its value.
     pub(crate) attribute: String,
@@ -51,7 +51,7 @@ impl<'t> TagWalk<'t> {
         TagWalk {
             alloc,
             kind: TagKind::Start,
-            phase: Phase::Name,
+            phase: TagState::Name,
             name: String::new(alloc),
             attribute: String::new(alloc),
             place: 0,
@@ -101,15 +101,15 @@ impl<'t> TagWalk<'t> {
         ensures kind { OnOk result (self.new.kind ≡ self.old.kind) }
     {
         match self.phase {
-            Phase::Name => self.in_name(table, names, ch, at, errors),
-            Phase::BeforeAttribute => self.before_attribute(table, names, ch, at, errors),
-            Phase::Solidus => self.after_solidus(table, names, ch, at, errors),
-            Phase::AttributeName => self.in_attribute_name(table, names, ch, at, errors),
-            Phase::AfterAttributeName => self.after_attribute_name(table, names, ch, at, errors),
-            Phase::BeforeValue => self.before_value(table, names, ch, at, errors),
-            Phase::Quoted(mark) => self.in_quotes(table, mark, names, ch, at, errors),
-            Phase::Unquoted => self.in_unquoted(table, names, ch, at, errors),
-            Phase::AfterQuoted => self.after_quotes(table, names, ch, at, errors),
+            TagState::Name => self.in_name(table, names, ch, at, errors),
+            TagState::BeforeAttribute => self.before_attribute(table, names, ch, at, errors),
+            TagState::Solidus => self.after_solidus(table, names, ch, at, errors),
+            TagState::AttributeName => self.in_attribute_name(table, names, ch, at, errors),
+            TagState::AfterAttributeName => self.after_attribute_name(table, names, ch, at, errors),
+            TagState::BeforeValue => self.before_value(table, names, ch, at, errors),
+            TagState::Quoted(mark) => self.in_quotes(table, mark, names, ch, at, errors),
+            TagState::Unquoted => self.in_unquoted(table, names, ch, at, errors),
+            TagState::AfterQuoted => self.after_quotes(table, names, ch, at, errors),
         }
     }
 
@@ -120,15 +120,15 @@ impl<'t> TagWalk<'t> {
         ensures grows { Grows names.old names.new }
     {
         match self.phase {
-            Phase::Name => Ok(()),
-            Phase::BeforeAttribute => Ok(()),
-            Phase::Solidus => Ok(()),
-            Phase::AttributeName => self.end_attribute(names, errors),
-            Phase::AfterAttributeName => self.end_attribute(names, errors),
-            Phase::BeforeValue => self.end_attribute(names, errors),
-            Phase::Quoted(_) => self.end_value(names, errors),
-            Phase::Unquoted => self.end_value(names, errors),
-            Phase::AfterQuoted => self.end_attribute(names, errors),
+            TagState::Name => Ok(()),
+            TagState::BeforeAttribute => Ok(()),
+            TagState::Solidus => Ok(()),
+            TagState::AttributeName => self.end_attribute(names, errors),
+            TagState::AfterAttributeName => self.end_attribute(names, errors),
+            TagState::BeforeValue => self.end_attribute(names, errors),
+            TagState::Quoted(_) => self.end_value(names, errors),
+            TagState::Unquoted => self.end_value(names, errors),
+            TagState::AfterQuoted => self.end_attribute(names, errors),
         }
     }
 
@@ -174,7 +174,7 @@ impl<'t> TagWalk<'t> {
         ensures name { self.new.name ≡ self.old.name }
     {
         self.kind = kind;
-        self.phase = Phase::Name;
+        self.phase = TagState::Name;
         self.any = false;
         self.attrs.clear();
         self.seen.begin();

@@ -10,8 +10,8 @@ use Rattle.names.specs.declared.refusal.Refusal.{Refusal}
 use Rattle.htext.specs.declared.Bom.{Bom}
 use Rattle.htext.specs.declared.BadBytes.{BadBytes}
 use Rattle.htext.specs.declared.BadBytes.TheVariants.{Refuse, Replace}
-use Rattle.htext.specs.declared.reading.Next.{Next}
-use Rattle.htext.specs.declared.reading.Next.TheVariants.{Bad as NextBad, Waits, Refused}
+use Rattle.htext.specs.declared.progress.Front.{Front}
+use Rattle.htext.specs.declared.progress.Front.TheVariants.{Bad as NextBad, Waits, Refused}
 use Rattle.htext.specs.Next.{next_of, AreBad, AreReplaced}
 use Rattle.htext.specs.Text.{Policy, Read, Whole, Bad, reads, normalized, ends_in_return, text as text_of, valid_len, front_len, decoded, settled, refusal_of}
 use Rattle.htext.specs.Items.{CharItem, items, bad_each}
@@ -330,7 +330,7 @@ text_short n count bytes text is within = omega (arith, ap length is, length-val
 pub later : (i j n : ℕ) (xs ys : List ℕ) → drop i xs ≡ drop j ys → drop (i + n) xs ≡ drop (j + n) ys
 later i j n xs ys e = sym (drop-drop n i xs) ∙ ap (drop n) e ∙ drop-drop n j ys
 
-pub same_next : (result next : Next) (bad bad' : BadBytes) (count : ℕ) (bytes xs : List ℕ) (limit limit' read read' : ℕ) → result ≡ next_of bad (take (length bytes - count) (drop count bytes)) (limit - read) read → result ≡ next
+pub same_next : (result next : Front) (bad bad' : BadBytes) (count : ℕ) (bytes xs : List ℕ) (limit limit' read read' : ℕ) → result ≡ next_of bad (take (length bytes - count) (drop count bytes)) (limit - read) read → result ≡ next
     → bad ≡ bad' → drop count bytes ≡ xs → limit ≡ limit' → read ≡ read' → next_of bad' xs (limit' - read') read' ≡ next
 same_next result next bad bad' count bytes xs limit limit' read read' is given a b c d =
     sym (ap (λ (x : BadBytes). next_of x (take (length bytes - count) (drop count bytes)) (limit - read) read) a

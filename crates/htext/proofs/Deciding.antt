@@ -12,8 +12,8 @@ use Rattle.names.specs.declared.refusal.Refusal.TheVariants.{NotUtf8, TooLarge}
 use Rattle.htext.specs.declared.Bom.TheVariants.{Keep}
 use Rattle.htext.specs.declared.BadBytes.{BadBytes}
 use Rattle.htext.specs.declared.BadBytes.TheVariants.{Refuse, Replace}
-use Rattle.htext.specs.declared.reading.Next.{Next}
-use Rattle.htext.specs.declared.reading.Next.TheVariants.{Bad, Waits, Refused}
+use Rattle.htext.specs.declared.progress.Front.{Front}
+use Rattle.htext.specs.declared.progress.Front.TheVariants.{Bad, Waits, Refused}
 use Rattle.htext.specs.Next.{next_of, next_part}
 use Rattle.htext.specs.Text.{Policy, valid_len, refusal_with, StaysRefused}
 use Rattle.htext.proofs.Valid.{refusal_within, take-take, starts, starts_back, going_on, refusal_past}
@@ -106,7 +106,7 @@ module _ (limit : ℕ) (front rest : List ℕ) (u : IsUtf8 front) (within : leng
 -- WHAT STANDS THERE
 
 -- The next of what is left, for one of these causes.
-pub data NextIs (bad : BadBytes) (rest : List ℕ) (room at : ℕ) (next : Next) : Type 0 where
+pub data NextIs (bad : BadBytes) (rest : List ℕ) (room at : ℕ) (next : Front) : Type 0 where
   a_character : 0 < utf8_valid_len rest → next ≡ Refused (TooLarge at) → NextIs bad rest room at next
   none_can : (k : ℕ) → bad ≡ Refuse → utf8_valid_len rest ≡ 0 → utf8_error_len rest ≡ Some k → next ≡ Refused (NotUtf8 at) → NextIs bad rest room at next
   a_part : (k : ℕ) → bad ≡ Replace → utf8_valid_len rest ≡ 0 → utf8_error_len rest ≡ Some k → k ≤ room → next ≡ Bad k → NextIs bad rest room at next

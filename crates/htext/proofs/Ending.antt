@@ -10,8 +10,8 @@ use Rattle.names.specs.declared.refusal.Refusal.TheVariants.{NotUtf8}
 use Rattle.htext.specs.declared.Bom.{Bom}
 use Rattle.htext.specs.declared.BadBytes.{BadBytes}
 use Rattle.htext.specs.declared.BadBytes.TheVariants.{Refuse, Replace}
-use Rattle.htext.specs.declared.reading.Next.{Next}
-use Rattle.htext.specs.declared.reading.Next.TheVariants.{Bad as NextBad, Waits, Refused}
+use Rattle.htext.specs.declared.progress.Front.{Front}
+use Rattle.htext.specs.declared.progress.Front.TheVariants.{Bad as NextBad, Waits, Refused}
 use Rattle.htext.specs.Next.{next_of}
 use Rattle.htext.specs.Text.{Read, Bad, normalized, ends_in_return, reads, text as text_of, valid_len, fitting_within, fitting, front_len, refusal_of, refusal_with, decoded, settled}
 use Rattle.htext.specs.Items.{CharItem, items}
@@ -54,7 +54,7 @@ module _ (bom : Bom) (bad : BadBytes) (limit read : ℕ) (after_return : Bool) (
   stuck = stuck_by bad (limit - read) (drop read fed) unread
 
   -- what is held waits
-  waits_by : (next : Next) → next_of bad (drop read fed) (limit - read) read ≡ next → WhatWaits bad (drop read fed) (limit - read)
+  waits_by : (next : Front) → next_of bad (drop read fed) (limit - read) read ≡ next → WhatWaits bad (drop read fed) (limit - read)
   waits_by (NextBad n) e =
       let w = what_is_bad bad _ _ _ n e in
       let more = bad_reading bom bad limit read after_return fed reading n w in

@@ -11,8 +11,8 @@ use Rattle.names.specs.declared.refusal.Refusal.TheVariants.{TooLarge}
 use Rattle.htext.specs.declared.Bom.{Bom}
 use Rattle.htext.specs.declared.BadBytes.{BadBytes}
 use Rattle.htext.specs.declared.BadBytes.TheVariants.{Refuse, Replace}
-use Rattle.htext.specs.declared.reading.Next.{Next}
-use Rattle.htext.specs.declared.reading.Next.TheVariants.{Bad, Waits, Refused}
+use Rattle.htext.specs.declared.progress.Front.{Front}
+use Rattle.htext.specs.declared.progress.Front.TheVariants.{Bad, Waits, Refused}
 use Rattle.htext.specs.Next.{next_of}
 use Rattle.htext.specs.Text.{valid_len, bad_len, or_rest, after_part, fitting_within, front_len, refusal_of, StaysRefused, text as text_of}
 use Rattle.htext.specs.Decoding.{IsRefusedFrom, IsUndecided}
@@ -53,7 +53,7 @@ fit_stuck e k room bytes stuck long =
 -- WHAT IS REFUSED
 
 module _ (bad : BadBytes) (rest : List ℕ) (room at : ℕ) (stuck : valid_len room rest ≡ 0) (r : Refusal) where
-  some_next : (next : Next) → NextIs bad rest room at next → next ≡ Refused r → 0 < length rest
+  some_next : (next : Front) → NextIs bad rest room at next → next ≡ Refused r → 0 < length rest
   some_next next (a_character begun is) e = omega (arith, utf8_valid_len_le rest)
   some_next next (none_can k how none fault is) e = some_left rest k fault
   some_next next (a_part k how none fault fits is) e = absurd cc
@@ -61,7 +61,7 @@ module _ (bad : BadBytes) (rest : List ℕ) (room at : ℕ) (stuck : valid_len r
   some_next next (not_yet none open' fits is) e = absurd cc
   some_next next (too_much how none open' long is) e = omega arith
 
-  valid_next : (next : Next) → NextIs bad rest room at next → next ≡ Refused r → (more : List ℕ) → valid_len room (rest ++ more) ≡ 0
+  valid_next : (next : Front) → NextIs bad rest room at next → next ≡ Refused r → (more : List ℕ) → valid_len room (rest ++ more) ≡ 0
   valid_next next (a_character begun is) e more = too_long_after room rest more begun stuck
   valid_next next (none_can k how none fault is) e more = under_limit room (rest ++ more) (none_after rest more k none fault)
   valid_next next (a_part k how none fault fits is) e more = absurd cc
@@ -69,7 +69,7 @@ module _ (bad : BadBytes) (rest : List ℕ) (room at : ℕ) (stuck : valid_len r
   valid_next next (not_yet none open' fits is) e more = absurd cc
   valid_next next (too_much how none open' long is) e more = ap utf8_valid_len (take-append-le room rest more (omega arith)) ∙ stuck
 
-  part_next : (next : Next) → NextIs bad rest room at next → next ≡ Refused r → bad ≡ Replace → (e : Bool) (more : List ℕ) (m : ℕ) → bad_len e (rest ++ more) ≡ Some m → room < m
+  part_next : (next : Front) → NextIs bad rest room at next → next ≡ Refused r → bad ≡ Replace → (e : Bool) (more : List ℕ) (m : ℕ) → bad_len e (rest ++ more) ≡ Some m → room < m
   part_next next (a_character begun is) e how b more m h =
       let some : 0 < utf8_valid_len (rest ++ more) = going_on rest more begun in
       let g = rw (lt-ltb 0 (utf8_valid_len (rest ++ more)) some) at h in absurd cc
@@ -88,7 +88,7 @@ stuck_by Replace rest room at stuck r is e more =
     fit_stuck e (length (rest ++ more)) room (rest ++ more) (valid_next Replace rest room at stuck r _ (next_is Replace rest room at) is more)
     (part_next Replace rest room at stuck r _ (next_is Replace rest room at) is refl e more)
 
-settled_next : (rest : List ℕ) (room at : ℕ) (r : Refusal) (next : Next) → NextIs Refuse rest room at next → next ≡ Refused r → IsSettled rest at r
+settled_next : (rest : List ℕ) (room at : ℕ) (r : Refusal) (next : Front) → NextIs Refuse rest room at next → next ≡ Refused r → IsSettled rest at r
 settled_next rest room at r next (a_character begun is) e = too_long begun cc
 settled_next rest room at r next (none_can k how none fault is) e = no_character k none fault cc
 settled_next rest room at r next (a_part k how none fault fits is) e = absurd cc
@@ -96,7 +96,7 @@ settled_next rest room at r next (a_long_part k how none fault long is) e = absu
 settled_next rest room at r next (not_yet none open' fits is) e = absurd cc
 settled_next rest room at r next (too_much how none open' long is) e = absurd cc
 
-too_large_next : (rest : List ℕ) (room at : ℕ) (r : Refusal) (next : Next) → NextIs Replace rest room at next → next ≡ Refused r → r ≡ TooLarge at
+too_large_next : (rest : List ℕ) (room at : ℕ) (r : Refusal) (next : Front) → NextIs Replace rest room at next → next ≡ Refused r → r ≡ TooLarge at
 too_large_next rest room at r next (a_character begun is) e = cc
 too_large_next rest room at r next (none_can k how none fault is) e = absurd cc
 too_large_next rest room at r next (a_part k how none fault fits is) e = absurd cc
@@ -144,7 +144,7 @@ pub record WhatIsBad (bad : BadBytes) (rest : List ℕ) (room n : ℕ) : Type 0 
   pub is_bad : utf8_error_len rest ≡ Some n
   pub fits : n ≤ room
 
-waits_by : (bad : BadBytes) (rest : List ℕ) (room at : ℕ) (next : Next) → NextIs bad rest room at next → next ≡ Waits → WhatWaits bad rest room
+waits_by : (bad : BadBytes) (rest : List ℕ) (room at : ℕ) (next : Front) → NextIs bad rest room at next → next ≡ Waits → WhatWaits bad rest room
 waits_by bad rest room at next (a_character begun is) e = absurd cc
 waits_by bad rest room at next (none_can k how none fault is) e = absurd cc
 waits_by bad rest room at next (a_part k how none fault fits is) e = absurd cc
@@ -155,7 +155,7 @@ waits_by bad rest room at next (too_much how none open' long is) e = absurd cc
 pub what_waits : (bad : BadBytes) (rest : List ℕ) (room at : ℕ) → next_of bad rest room at ≡ Waits → WhatWaits bad rest room
 what_waits bad rest room at e = waits_by bad rest room at _ (next_is bad rest room at) e
 
-bad_by : (bad : BadBytes) (rest : List ℕ) (room at n : ℕ) (next : Next) → NextIs bad rest room at next → next ≡ Bad n → WhatIsBad bad rest room n
+bad_by : (bad : BadBytes) (rest : List ℕ) (room at n : ℕ) (next : Front) → NextIs bad rest room at next → next ≡ Bad n → WhatIsBad bad rest room n
 bad_by bad rest room at n next (a_character begun is) e = absurd cc
 bad_by bad rest room at n next (none_can k how none fault is) e = absurd cc
 bad_by bad rest room at n next (a_part k how none fault fits is) e =

@@ -37,7 +37,7 @@ items_of r = map InputError (errors_of r) ++ Character (character_of r) ∷ []
 abbrev pub items : List Read → List CharItem
 items text = flat_map items_of text
 
--- so many bad parts of one byte each, from this place on
+-- this many bad parts of one byte each, from this place on
 abbrev pub bad_each : ℕ → ℕ → List Read
 bad_each at zero = []
 bad_each at (suc n) = Bad at ∷ bad_each (at + 1) n

@@ -4,11 +4,11 @@ use Rattle.std.specs.Str.Lossy.{utf8_valid_len, utf8_error_len}
 use Rattle.names.specs.declared.refusal.Refusal.TheVariants.{NotUtf8, TooLarge}
 use Rattle.htext.specs.declared.BadBytes.{BadBytes}
 use Rattle.htext.specs.declared.BadBytes.TheVariants.{Refuse, Replace}
-use Rattle.htext.specs.declared.reading.Next.{Next}
-use Rattle.htext.specs.declared.reading.Next.TheVariants.{Bad, Waits, Refused}
+use Rattle.htext.specs.declared.progress.Front.{Front}
+use Rattle.htext.specs.declared.progress.Front.TheVariants.{Bad, Waits, Refused}
 
--- .. where there are `len` bytes, which begin with no character: with a bad part of that length, or with none that is settled
-abbrev pub next_part : BadBytes → Option ℕ → ℕ → ℕ → ℕ → Next
+-- the same where there are `len` bytes, which begin with no character: with a bad part of that length, or with none that is settled
+abbrev pub next_part : BadBytes → Option ℕ → ℕ → ℕ → ℕ → Front
 next_part Refuse (Some n) len room at = Refused (NotUtf8 at)
 next_part Refuse None len room at = Waits
 next_part Replace (Some n) len room at = if nat_lt room n then Refused (TooLarge at) else Bad n
@@ -19,14 +19,14 @@ abbrev pub AreBad : ℕ → List ℕ → Type 0
 AreBad zero bytes = Unit {0}
 AreBad (suc n) bytes = (utf8_valid_len bytes ≡ 0) × (utf8_error_len bytes ≡ Some 1) × AreBad n (drop 1 bytes)
 
--- so many of them are replaced, one by one
+-- this many of them are replaced, one by one
 pub record AreReplaced (bad : BadBytes) (rest : List ℕ) (room n : ℕ) : Type 0 where
   pub how : 0 < n → bad ≡ Replace
   pub are_bad : AreBad n rest
   pub within : n ≤ length rest
   pub fits : n ≤ room
 
-abbrev pub next_of : BadBytes → List ℕ → ℕ → ℕ → Next
+abbrev pub next_of : BadBytes → List ℕ → ℕ → ℕ → Front
 next_of bad rest room at =
     if nat_lt 0 (utf8_valid_len rest) then Refused (TooLarge at)
     else next_part bad (utf8_error_len rest) (length rest) room at

@@ -4,8 +4,8 @@ use Rattle.std.specs.List.{list_all}
 use Rattle.std.specs.Str.{chars, IsUtf8}
 use Rattle.names.specs.Placed.{placed}
 use Rattle.htext.specs.Items.{CharItem, Character}
-use Rattle.htext.specs.declared.run.Kind.{Kind}
-use Rattle.htext.specs.declared.run.Kind.TheVariants.{Plain, Wide}
+use Rattle.htext.specs.declared.run.RunBytes.{RunBytes}
+use Rattle.htext.specs.declared.run.RunBytes.TheVariants.{Plain, Wide}
 
 -- a byte that is a character by itself, stands in the text as it came but for an LF after a CR, raises no error, and is neither `<` nor `&`
 abbrev pub is_plain_byte : ℕ → Bool
@@ -21,11 +21,11 @@ abbrev pub is_wide_byte : ℕ → Bool
 is_wide_byte byte = is_plain_byte byte || (nat_le 0x80 byte && nat_le byte 0xBF) || (nat_le 0xC3 byte && nat_le byte 0xEE)
 
 -- the bytes of a run of each kind
-abbrev pub is_of : Kind → ℕ → Bool
+abbrev pub is_of : RunBytes → ℕ → Bool
 is_of Plain byte = is_plain_byte byte
 is_of Wide byte = is_wide_byte byte
 
-abbrev pub is_not_of : Kind → ℕ → Bool
+abbrev pub is_not_of : RunBytes → ℕ → Bool
 is_not_of kind byte = not (is_of kind byte)
 
 -- characters one after another, the first at the place `at`
@@ -38,7 +38,7 @@ pub record IsCut (n : ℕ) (text : List ℕ) : Type 0 where
   pub front : IsUtf8 (take n text)
   pub back : IsUtf8 (drop n text)
 
--- .. and all characters before are plain
+-- the same, and all characters before are plain
 pub record IsPlainFront (n : ℕ) (text : List ℕ) : Type 0 where
   pub cut : IsCut n text
   pub plain : list_all is_plain (chars (take n text)) ≡ true

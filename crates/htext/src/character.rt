@@ -37,7 +37,7 @@ pub(crate) fn hand_char<S: CharSink>(
     }
 }
 
-// Whether a character is in the text as it came, wherever it stands, and raises no error.
+/// Whether a character is in the text as it came, wherever it stands, and raises no error.
 #[inline]
 fn is_plain(ch: char) -> bool
     ensures { IsTrue result → (bom : Mark) (after_return : Bool) (at : ℕ)
@@ -56,7 +56,7 @@ fn is_dropped_mark(bom: Bom, ch: char, at: u64) -> bool
     }
 }
 
-// Hands over a character of the text, after its errors.
+/// Hands over a character of the text, after its errors.
 #[inline(never)]
 fn hand_read<S: CharSink>(ch: char, at: u64, sink: &mut S) -> Result<(), Refusal>
     requires { at < MAX_INPUT }

@@ -5,7 +5,7 @@ ghost use Rattle.names.specs.declared.refusal.Refusal.{Refusal as Refused};
 ghost use Rattle.htext.specs.Text.{settled};
 ghost use Rattle.htext.specs.Decoding.{Ends, Feeds, HasFed};
 
-use crate::reading::Reading;
+use crate::progress::Progress;
 use crate::sink::CharSink;
 use crate::{BadBytes, Bom};
 use names::Refusal;
@@ -18,7 +18,7 @@ pub const MAX_INPUT: u64 = 1_073_741_824;
 /// Reads the bytes of an input, which come in pieces, and hands its text to a sink.
 #[derive(Drop)]
 pub struct Decoder {
-    reading: Reading,
+    reading: Progress,
     /// The bytes that have been fed and not read: the beginning of a character.
     undecoded: Vec<u8>,
     refused: Option<Refusal>,
@@ -47,7 +47,7 @@ impl Decoder {
         ensures how { result.how ≡ record { bom = bom; bad = bad_bytes; limit = limit } }
     {
         Decoder {
-            reading: Reading {
+            reading: Progress {
                 bom,
                 bad_bytes,
                 limit,
@@ -83,8 +83,8 @@ impl Decoder {
         answer
     }
 
-    // The same for a decoder that has refused nothing yet, which doesn't keep its refusal. A character that a piece has cut is
-    // completed byte by byte; the rest is read without a copy.
+    /// The same for a decoder that has refused nothing yet, which doesn't keep its refusal. A character that a piece has cut is
+    /// completed byte by byte; the rest is read without a copy.
     fn read_on<S: CharSink>(&mut self, bytes: &[u8], sink: &mut S) -> Result<(), Refusal>
         ensures feeds { (fed : List ℕ) → HasFed self.old fed
             → Feeds S.gives self.old.how fed bytes.now sink.old result sink.new }
@@ -100,7 +100,7 @@ impl Decoder {
         Ok(())
     }
 
-    // The same for one byte, after undecoded ones.
+    /// The same for one byte, after undecoded ones.
     fn read_byte<S: CharSink>(&mut self, byte: u8, sink: &mut S) -> Result<(), Refusal>
         ensures feeds { (fed : List ℕ) → HasFed self.old fed
             → Feeds S.gives self.old.how fed (byte ∷ []) sink.old result sink.new }
@@ -113,7 +113,7 @@ impl Decoder {
         Ok(())
     }
 
-    // The same for a piece, where no undecoded byte comes before it.
+    /// The same for a piece, where no undecoded byte comes before it.
     fn read_piece<S: CharSink>(&mut self, bytes: &[u8], sink: &mut S) -> Result<(), Refusal>
         requires { self.old.undecoded ≡ [] }
         ensures feeds { (fed : List ℕ) → HasFed self.old fed
@@ -156,7 +156,7 @@ impl Decoder {
         answer
     }
 
-    // The same where nothing was refused.
+    /// The same where nothing was refused.
     fn end<S: CharSink>(&mut self, sink: &mut S) -> Result<(), Refusal>
         ensures ends { (fed : List ℕ) → HasFed self.old fed → Ends S.gives self.old.how fed sink.old result sink.new }
         ensures whole { OnOk result ((fed : List ℕ) → HasFed self.old fed → self.new.read ≡ length fed) }

@@ -5,7 +5,7 @@
 mod character;
 pub mod decoder;
 pub mod laws;
-mod reading;
+mod progress;
 pub mod run;
 pub mod sink;
 

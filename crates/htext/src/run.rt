@@ -11,15 +11,15 @@ use std::simd::prelude::*;
 
 /// Which bytes make up a run.
 #[derive(Clone, Copy)]
-pub(crate) enum Kind {
+pub(crate) enum RunBytes {
     /// Those of plain characters, in ASCII.
     Plain,
     /// Those of all plain characters.
     Wide,
 }
 
-// The bytes of a run by their halves: a bit for each kind of high half, 1 for 0, 2 for 2, 4 for 3, 8 for 4 to 6, 16 for 7, 32 for 8
-// to B and D, 64 for C, and 128 for E. A byte is in a run where its low half has the bit of its high one.
+/// The bytes of a run by their halves: a bit for each kind of high half, 1 for 0, 2 for 2, 4 for 3, 8 for 4 to 6, 16 for 7, 32 for 8
+/// to B and D, 64 for C, and 128 for E. A byte is in a run where its low half has the bit of its high one.
 const BY_LOW: [u8; 16] = [
     190, 190, 190, 254, 254, 254, 252, 254, 254, 255, 255, 254, 251, 254, 254, 110,
 ];
@@ -33,17 +33,17 @@ const WIDE_BY_HIGH: [u8; 16] = [1, 0, 2, 4, 8, 8, 8, 16, 32, 32, 32, 32, 64, 32,
 pub fn plain_run(bytes: &[u8]) -> usize
     ensures { result ≡ prefix_len is_plain_byte bytes.now }
 {
-    run(Kind::Plain, bytes)
+    run(RunBytes::Plain, bytes)
 }
 
 /// Counts the bytes before the first one that is neither plain nor one of the characters U+00C0 to U+EFFF in UTF-8.
 pub fn wide_run(bytes: &[u8]) -> usize
     ensures { result ≡ prefix_len is_wide_byte bytes.now }
 {
-    run(Kind::Wide, bytes)
+    run(RunBytes::Wide, bytes)
 }
 
-/// Counts bytes at the front, at most so many, each of which is a bad part by itself.
+/// Counts bytes at the front, at most this many, each of which is a bad part by itself.
 pub(crate) fn bad_run(bytes: &[u8], most: usize) -> usize
     requires { most ≤ length bytes.now }
     ensures few { result ≤ most }
@@ -70,7 +70,7 @@ fn is_bad_alone(bytes: &[u8]) -> bool
 }
 
 #[inline(always)]
-fn run(kind: Kind, bytes: &[u8]) -> usize
+fn run(kind: RunBytes, bytes: &[u8]) -> usize
     ensures { result ≡ prefix_len (is_of kind) bytes.now }
 {
     let mut count = 0;
@@ -86,7 +86,7 @@ fn run(kind: Kind, bytes: &[u8]) -> usize
 
 /// The same, a byte at a time.
 #[inline(always)]
-fn run_by_one(kind: Kind, bytes: &[u8]) -> usize
+fn run_by_one(kind: RunBytes, bytes: &[u8]) -> usize
     ensures counted { result ≡ prefix_len (is_of kind) bytes.now }
     ensures few { result ≤ length bytes.now }
 {
@@ -100,7 +100,7 @@ fn run_by_one(kind: Kind, bytes: &[u8]) -> usize
 
 /// Which of these bytes end a run: a bit for each, the lowest for the first.
 #[inline(always)]
-fn stops(kind: Kind, bytes: u8x16) -> u64
+fn stops(kind: RunBytes, bytes: u8x16) -> u64
     ensures { result ≡ mask_l (map (is_not_of kind) bytes) }
 {
     let low = u8x16::from_array(BY_LOW).swizzle_dyn(bytes & u8x16::splat(15));
@@ -110,24 +110,24 @@ fn stops(kind: Kind, bytes: u8x16) -> u64
 
 /// The bits of the high halves.
 #[inline(always)]
-fn by_high(kind: Kind) -> [u8; 16]
-    ensures plain { kind ≡ Kind.Plain → result ≡ PLAIN_BY_HIGH }
-    ensures wide { kind ≡ Kind.Wide → result ≡ WIDE_BY_HIGH }
+fn by_high(kind: RunBytes) -> [u8; 16]
+    ensures plain { kind ≡ RunBytes.Plain → result ≡ PLAIN_BY_HIGH }
+    ensures wide { kind ≡ RunBytes.Wide → result ≡ WIDE_BY_HIGH }
 {
     match kind {
-        Kind::Plain => PLAIN_BY_HIGH,
-        Kind::Wide => WIDE_BY_HIGH,
+        RunBytes::Plain => PLAIN_BY_HIGH,
+        RunBytes::Wide => WIDE_BY_HIGH,
     }
 }
 
 /// Whether a byte may stand in a run.
 #[inline(always)]
-fn is_in_run(kind: Kind, byte: u8) -> bool
+fn is_in_run(kind: RunBytes, byte: u8) -> bool
     ensures { result ≡ is_of kind byte }
 {
     match kind {
-        Kind::Plain => is_plain(byte),
-        Kind::Wide => is_plain(byte) || matches!(byte, 0x80..=0xBF | 0xC3..=0xEE),
+        RunBytes::Plain => is_plain(byte),
+        RunBytes::Wide => is_plain(byte) || matches!(byte, 0x80..=0xBF | 0xC3..=0xEE),
     }
 }
 

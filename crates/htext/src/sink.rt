@@ -50,7 +50,7 @@ pub trait CharSink {
         Ok(())
     }
 
-    /// Takes what replaces so many bad parts of one byte each, the first of which is at `at`. It is the same as taking the error and
+    /// Takes what replaces this many bad parts of one byte each, the first of which is at `at`. It is the same as taking the error and
     /// the character of one after another, up to the first that is refused.
     fn take_bad(&mut self, count: usize, at: u64) -> Result<(), Refusal>
         requires within { at + count ≤ MAX_INPUT }

@@ -15,7 +15,7 @@ use Rattle.names.specs.Placed.{all, begins, past, is_alphanumeric, error_if}
 use Rattle.charref.specs.declared.reference.Reference.{Reference}
 use Rattle.charref.specs.Pieces.{IsRead, characters_of, errors_of}
 use Rattle.charref.specs.Reference.{Entities, IsTable, IsReference}
-use Rattle.charref.specs.declared.state.State.{State as WalkState}
+use Rattle.charref.specs.declared.reference_state.ReferenceState.{ReferenceState as WalkState}
 use Rattle.charref.specs.Held.{is_number, kept}
 use Rattle.charref.specs.Walk.{HasTaken as WalkHasTaken}
 use Rattle.charref.proofs.Keeping.{kept_none, kept_all, kept_nothing, is_other, drop-kept, drop-kept-end}

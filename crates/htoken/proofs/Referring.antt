@@ -13,7 +13,7 @@ use Rattle.names.specs.Placed.{all, begins, past, is_alphanumeric, error_if}
 use Rattle.charref.specs.declared.number.Base.{Base}
 use Rattle.charref.specs.declared.number.Base.TheVariants.{Decimal, Hexadecimal}
 use Rattle.charref.specs.declared.reference.Reference.{Reference}
-use Rattle.charref.specs.declared.state.State.{State as WalkState}
+use Rattle.charref.specs.declared.reference_state.ReferenceState.{ReferenceState as WalkState}
 use Rattle.charref.specs.Held.{IsHeld as IsWalkHeld, IsSign, in_name, after_sign, after_x, in_number, number_sign, small_x, capital_x}
 use Rattle.charref.specs.Number.{is_digit_of}
 use Rattle.charref.specs.Pieces.{characters_of, errors_of}
@@ -177,7 +177,7 @@ piece_errors found at = errors_in-map (known_errors found at) (map (λ c. Char c
 abbrev pub run_errors : Reference → ℕ → List Placed → List ParseError
 run_errors found at after = error_if (found.in_run && begins (λ c. eqb c 59) (past is_alphanumeric after)) UnknownNamedCharacterReference at
 
--- where the text stands after a reference of so many characters, and the others
+-- where the text stands after a reference of this many characters, and the others
 abbrev pub after_reference : Standing → ℕ → List Placed → ℕ → Standing
 after_reference here at text count = record here { front = backwards (reverse (record { ch = 38; at = at } ∷ take count text) ++ here.front) (drop count text) }
 

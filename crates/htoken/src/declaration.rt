@@ -44,7 +44,7 @@ pub(crate) enum Spelled {
     Other,
 }
 
-/// What the first characters of a word, so many of them, are with this one.
+/// What the first `count` characters of a word are with this one.
 fn spell(word: &[u8], count: usize, ch: char) -> Spelled
     ensures { result ≡ front_of word.now count ch }
 {
@@ -63,7 +63,7 @@ fn spell(word: &[u8], count: usize, ch: char) -> Spelled
 }
 
 impl Opened {
-    /// What so many characters are with one more.
+    /// What `count` characters after `<!` are with one more.
     pub fn after(self, count: usize, ch: char) -> Opens
         ensures { (text : List Character) (p : Character) → p.ch ≡ ch → count ≡ length text → IsOpened self text → OpensAs result (text ++ p ∷ []) }
     {

@@ -79,21 +79,21 @@ impl<'t> Tokenizer<'t> {
         self.in_text(ch, at, sink)
     }
 
-    /// How many of the characters that are held belong to a reference, where so many are read again, the one after them among them.
+    /// How many of the held characters belong to a reference, where the last `left` are read again, counting the character after them.
     fn given_back(&self, left: usize) -> usize
         ensures { result ≡ length self.now.held.items + 1 - left }
     {
         (self.held.len() + 1).saturating_sub(left)
     }
 
-    /// How many of them belong to it where the input ends after them, and so many are read again.
+    /// How many of the held characters belong to a reference at the end of the input, where the last `left` are read again.
     pub(crate) fn left_at_end(&self, left: usize) -> usize
         ensures { result ≡ length self.now.held.items - left }
     {
         self.held.len().saturating_sub(left)
     }
 
-    /// Hands over a reference, and what is held after so many characters, which do not belong to it.
+    /// Hands over a reference, and the held characters after the first `count`, which do not belong to it.
     pub(crate) fn give_reference<S: TokenSink>(
         &self,
         found: &Reference,

@@ -128,7 +128,7 @@ impl<'t> Tokenizer<'t> {
         matches!(self.state, State::Text) && !self.is_in_script() && self.refused.is_none()
     }
 
-    /// Takes the characters that replace so many bad parts of one byte each, the first of which is at `place`. It is the same as
+    /// Takes the characters that replace this many bad parts of one byte each, the first of which is at `place`. It is the same as
     /// feeding them one by one.
     pub fn feed_bad<S: TokenSink>(
         &mut self,

@@ -146,7 +146,7 @@ impl Word {
         }
     }
 
-    /// What ends the text after a character that is no `<`, where `<` and so many characters of the name did.
+    /// How the end of the text is read on by a character that is no `<`, where so far it is `<` and the first `n` characters of the name.
     fn after_letters(name: &[u8], n: usize, ch: char) -> Word
         ensures { result ≡ next_word name.now (Word.Read n) ch }
     {

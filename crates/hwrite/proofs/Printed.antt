@@ -13,7 +13,7 @@ use Rattle.hserialize.specs.Written.{has_no_references, is_raw_in, written, writ
 use Rattle.hserialize.specs.declared.escaping.Escaping.{Escaping}
 use Rattle.hserialize.proofs.KnownNames.{tags-agree}
 use Rattle.hparse.specs.declared.parsed.Parsed.{Parsed}
-use Rattle.hparse.specs.Parse.{Parse, Parses, Subject, Told, root_of}
+use Rattle.hparse.specs.Parse.{Parse, Parses, ParseCase, ParseOptions, root_of}
 use Rattle.hparse.specs.Parsing.{AnswersParse, IsParse}
 use Rattle.hnodes.proofs.Spellings.{questions, spelled-children_of}
 use Rattle.hwrite.proofs.Alike.{spelled-alike}
@@ -23,15 +23,15 @@ use Rattle.hwrite.specs.Prints.{Prints, printed, nodes_text, errors_text, is_pla
 abbrev children_spelled : Parsed → Forest (List ℕ)
 children_spelled parsed = spelled (text_of parsed.names) (children_of parsed.root parsed.tree.trees)
 
-children_are : (subject : Subject) (parsed : Parsed) (parse : Parse) → IsParse subject parsed parse → children_spelled parsed ≡ children_of (root_of subject) parse.trees
-children_are subject parsed parse is =
+children_are : (parse_case : ParseCase) (parsed : Parsed) (parse : Parse) → IsParse parse_case parsed parse → children_spelled parsed ≡ children_of (root_of parse_case) parse.trees
+children_are parse_case parsed parse is =
     spelled-alike parsed.names (children_of parsed.root parsed.tree.trees) is.names_are ∙ spelled-children_of (spelling parsed.names) parsed.root parsed.tree.trees
     ∙ ap₂ (λ (n : ℕ) (f : Forest (List ℕ)). children_of n f) is.root is.trees
 
-pub tree_printed : (told : Told) (subject : Subject) (bytes : List ℕ) (parsed : Parsed) (text : List ℕ) → AnswersParse told subject bytes (Ok parsed)
-    → text ≡ tree_text (children_spelled parsed) → Prints (Parses told subject) (nodes_text subject) bytes (Ok text)
-tree_printed told subject bytes parsed text (parse, is, parses) lines =
-    subst (λ (t : List ℕ). Prints (Parses told subject) (nodes_text subject) bytes (Ok t)) (sym (lines ∙ ap tree_text (children_are subject parsed parse is))) (printed parse parses)
+pub tree_printed : (opts : ParseOptions) (parse_case : ParseCase) (bytes : List ℕ) (parsed : Parsed) (text : List ℕ) → AnswersParse opts parse_case bytes (Ok parsed)
+    → text ≡ tree_text (children_spelled parsed) → Prints (Parses opts parse_case) (nodes_text parse_case) bytes (Ok text)
+tree_printed opts parse_case bytes parsed text (parse, is, parses) lines =
+    subst (λ (t : List ℕ). Prints (Parses opts parse_case) (nodes_text parse_case) bytes (Ok t)) (sym (lines ∙ ap tree_text (children_are parse_case parsed parse is))) (printed parse parses)
 
 -- a number stands for the same known name by its text and by its spelling, so its texts are raw by both
 raw-alike : (names : Texts) → AreNames names → (name : Option ℕ) → is_raw_in (option_map (text_of names) name) ≡ is_raw_in (option_map (spelling names) name)
@@ -39,26 +39,26 @@ raw-alike names table None = refl
 raw-alike names table (Some id) = ap (λ (t : Tag). has_no_references (raw_kind t)) (sym (tags-agree names table id) ∙ sym ((table_spelled names table).spells.tags id))
 
 -- the root's name
-name_is : (subject : Subject) (parsed : Parsed) (parse : Parse) → IsParse subject parsed parse
-    → option_map (spelling parsed.names) (name_of parsed.root parsed.tree.trees) ≡ name_of (root_of subject) parse.trees
-name_is subject parsed parse is =
+name_is : (parse_case : ParseCase) (parsed : Parsed) (parse : Parse) → IsParse parse_case parsed parse
+    → option_map (spelling parsed.names) (name_of parsed.root parsed.tree.trees) ≡ name_of (root_of parse_case) parse.trees
+name_is parse_case parsed parse is =
     sym ((questions (spelling parsed.names)).name parsed.root parsed.tree.trees) ∙ ap₂ (λ (n : ℕ) (f : Forest (List ℕ)). name_of n f) is.root is.trees
 
-pub html_printed : (how : Escaping) (told : Told) (subject : Subject) (bytes : List ℕ) (parsed : Parsed) (text : List ℕ) → AnswersParse told subject bytes (Ok parsed)
-    → text ≡ written how (option_map (text_of parsed.names) (name_of parsed.root parsed.tree.trees)) (children_spelled parsed) → Prints (Parses told subject) (written_text how subject) bytes (Ok text)
-html_printed how told subject bytes parsed text (parse, is, parses) html =
-    let raw = raw-alike parsed.names is.table (name_of parsed.root parsed.tree.trees) ∙ ap is_raw_in (name_is subject parsed parse is) in
-    subst (λ (t : List ℕ). Prints (Parses told subject) (written_text how subject) bytes (Ok t)) (sym (html ∙ ap₂ (written_among how) raw (children_are subject parsed parse is)))
+pub html_printed : (how : Escaping) (opts : ParseOptions) (parse_case : ParseCase) (bytes : List ℕ) (parsed : Parsed) (text : List ℕ) → AnswersParse opts parse_case bytes (Ok parsed)
+    → text ≡ written how (option_map (text_of parsed.names) (name_of parsed.root parsed.tree.trees)) (children_spelled parsed) → Prints (Parses opts parse_case) (written_text how parse_case) bytes (Ok text)
+html_printed how opts parse_case bytes parsed text (parse, is, parses) html =
+    let raw = raw-alike parsed.names is.table (name_of parsed.root parsed.tree.trees) ∙ ap is_raw_in (name_is parse_case parsed parse is) in
+    subst (λ (t : List ℕ). Prints (Parses opts parse_case) (written_text how parse_case) bytes (Ok t)) (sym (html ∙ ap₂ (written_among how) raw (children_are parse_case parsed parse is)))
     (printed parse parses)
 
-pub plain_printed : (told : Told) (subject : Subject) (bytes : List ℕ) (parsed : Parsed) (answer : Bool) (text : List ℕ) → AnswersParse told subject bytes (Ok parsed)
-    → answer ≡ is_plain_in subject (children_spelled parsed) → text ≡ plain_line answer → Prints (Parses told subject) (plain_text subject) bytes (Ok text)
-plain_printed told subject bytes parsed answer text (parse, is, parses) plain line =
-    let same = plain ∙ ap (is_plain_in subject) (children_are subject parsed parse is) in
-    subst (λ (t : List ℕ). Prints (Parses told subject) (plain_text subject) bytes (Ok t)) (sym (line ∙ ap plain_line same))
+pub plain_printed : (opts : ParseOptions) (parse_case : ParseCase) (bytes : List ℕ) (parsed : Parsed) (answer : Bool) (text : List ℕ) → AnswersParse opts parse_case bytes (Ok parsed)
+    → answer ≡ is_plain_in parse_case (children_spelled parsed) → text ≡ plain_line answer → Prints (Parses opts parse_case) (plain_text parse_case) bytes (Ok text)
+plain_printed opts parse_case bytes parsed answer text (parse, is, parses) plain line =
+    let same = plain ∙ ap (is_plain_in parse_case) (children_are parse_case parsed parse is) in
+    subst (λ (t : List ℕ). Prints (Parses opts parse_case) (plain_text parse_case) bytes (Ok t)) (sym (line ∙ ap plain_line same))
     (printed parse parses)
 
-pub errors_printed : (told : Told) (subject : Subject) (bytes : List ℕ) (parsed : Parsed) (text : List ℕ) → AnswersParse told subject bytes (Ok parsed)
-    → text ≡ error_lines parsed.errors.items → Prints (Parses told subject) errors_text bytes (Ok text)
-errors_printed told subject bytes parsed text (parse, is, parses) lines =
-    subst (λ (t : List ℕ). Prints (Parses told subject) errors_text bytes (Ok t)) (sym (lines ∙ ap error_lines is.errors)) (printed parse parses)
+pub errors_printed : (opts : ParseOptions) (parse_case : ParseCase) (bytes : List ℕ) (parsed : Parsed) (text : List ℕ) → AnswersParse opts parse_case bytes (Ok parsed)
+    → text ≡ error_lines parsed.errors.items → Prints (Parses opts parse_case) errors_text bytes (Ok text)
+errors_printed opts parse_case bytes parsed text (parse, is, parses) lines =
+    subst (λ (t : List ℕ). Prints (Parses opts parse_case) errors_text bytes (Ok t)) (sym (lines ∙ ap error_lines is.errors)) (printed parse parses)

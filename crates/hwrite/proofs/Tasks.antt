@@ -4,18 +4,18 @@ use Rattle.names.specs.declared.refusal.Refusal.{Refusal}
 use Rattle.hparse.specs.Answer.{Answers}
 use Rattle.hparse.specs.Fed.{IsUnrefusedText}
 use Rattle.hparse.specs.Parsing.{AnswersParse, IsUnrefused}
-use Rattle.hparse.specs.Parse.{Parses, Told, document, manner, policy}
+use Rattle.hparse.specs.Parse.{Parses, ParseOptions, document, manner, policy}
 use Rattle.hparse.specs.declared.parsed.Parsed.{Parsed}
 use Rattle.hserialize.specs.Output.{WritesText}
 use Rattle.hserialize.specs.declared.escaping.Escaping.{Escaping}
-use Rattle.hwrite.specs.Context.{subject_in}
+use Rattle.hwrite.specs.Context.{case_in}
 use Rattle.hwrite.specs.declared.command.Task.{Task}
 use Rattle.hwrite.specs.declared.command.Task.TheVariants as task
 use Rattle.hwrite.specs.Prints.{Prints, parse_text, parsed_text, tokens_text}
 use Rattle.hwrite.specs.Running.{Runs, RunsIn, RunsTask, ran}
 use Rattle.hwrite.proofs.Printed.{errors_printed, html_printed, plain_printed, tree_printed}
 
-module _ {S W : Type 0} (left : S → Option (List ℕ)) (reads : S → ℕ) (written : W → Option (List ℕ)) (writes : W → ℕ) (context : Option (List ℕ)) (s : Told) (piece : ℕ)
+module _ {S W : Type 0} (left : S → Option (List ℕ)) (reads : S → ℕ) (written : W → Option (List ℕ)) (writes : W → ℕ) (context : Option (List ℕ)) (s : ParseOptions) (piece : ℕ)
     (source source' : S) (target target' : W) (answer : Result (Unit {0}) Refusal) (how : Escaping) where
   pub as_tokens : (t : Task) → t ≡ task.Tokens → Runs left reads written writes (Prints (Answers s.table (policy s document)) tokens_text) (IsUnrefusedText (manner s document)) piece source source' target target' answer
       → RunsTask left reads written writes how t context s piece source source' target target' answer
@@ -23,7 +23,7 @@ module _ {S W : Type 0} (left : S → Option (List ℕ)) (reads : S → ℕ) (wr
 
   -- what a run does that prints of a parse
   abbrev OfParse : Task → Type 0
-  OfParse t = RunsIn left reads written writes context (Prints (Parses s (subject_in context)) (parse_text how t (subject_in context))) (IsUnrefused s (subject_in context)) piece source source' target target' answer
+  OfParse t = RunsIn left reads written writes context (Prints (Parses s (case_in context)) (parse_text how t (case_in context))) (IsUnrefused s (case_in context)) piece source source' target target' answer
 
   of_parse : (t u : Task) → t ≡ u → (OfParse u → RunsTask left reads written writes how u context s piece source source' target target' answer)
       → OfParse t → RunsTask left reads written writes how t context s piece source source' target target' answer
@@ -39,13 +39,13 @@ module _ {S W : Type 0} (left : S → Option (List ℕ)) (reads : S → ℕ) (wr
   as_parsed t (inr (inr (inr is))) = of_parse t task.Plain is (λ h. h)
 
 -- what a task prints of what was parsed is what it prints of the parse
-pub parsed_printed : (how : Escaping) (t : Task) (told : Told) (context : Option (List ℕ)) (bytes : List ℕ) (parsed : Parsed) → AnswersParse told (subject_in context) bytes (Ok parsed)
-    → Prints (Parses told (subject_in context)) (parse_text how t (subject_in context)) bytes (Ok (parsed_text how t context parsed))
-parsed_printed how task.Tokens told context bytes parsed its = tree_printed told (subject_in context) bytes parsed _ its refl
-parsed_printed how task.Tree told context bytes parsed its = tree_printed told (subject_in context) bytes parsed _ its refl
-parsed_printed how task.Errors told context bytes parsed its = errors_printed told (subject_in context) bytes parsed _ its refl
-parsed_printed how task.Write told context bytes parsed its = html_printed how told (subject_in context) bytes parsed _ its refl
-parsed_printed how task.Plain told context bytes parsed its = plain_printed told (subject_in context) bytes parsed _ _ its refl refl
+pub parsed_printed : (how : Escaping) (t : Task) (opts : ParseOptions) (context : Option (List ℕ)) (bytes : List ℕ) (parsed : Parsed) → AnswersParse opts (case_in context) bytes (Ok parsed)
+    → Prints (Parses opts (case_in context)) (parse_text how t (case_in context)) bytes (Ok (parsed_text how t context parsed))
+parsed_printed how task.Tokens opts context bytes parsed its = tree_printed opts (case_in context) bytes parsed _ its refl
+parsed_printed how task.Tree opts context bytes parsed its = tree_printed opts (case_in context) bytes parsed _ its refl
+parsed_printed how task.Errors opts context bytes parsed its = errors_printed opts (case_in context) bytes parsed _ its refl
+parsed_printed how task.Write opts context bytes parsed its = html_printed how opts (case_in context) bytes parsed _ its refl
+parsed_printed how task.Plain opts context bytes parsed its = plain_printed opts (case_in context) bytes parsed _ _ its refl refl
 
 -- a text that was written is what the task prints
 pub shown : {W : Type 0} (written : W → Option (List ℕ)) (failed : W → ℕ) (how : Escaping) (t u : Task) (context : Option (List ℕ)) (parsed : Parsed) (text : List ℕ) (target target' : W) (answer : Result (Unit {0}) Refusal)

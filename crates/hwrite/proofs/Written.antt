@@ -7,7 +7,7 @@ use Rattle.names.specs.declared.refusal.Refusal.TheVariants.{Memory, Read, Write
 use Rattle.hparse.specs.Calls.{counted}
 use Rattle.hserialize.specs.Output.{AppendsBeginning, WritesText, no_buffer, text_cut, text_written}
 use Rattle.hparse.specs.declared.parser.Parser.{Parser}
-use Rattle.hparse.specs.Parse.{Told, document, fragment, is_context}
+use Rattle.hparse.specs.Parse.{ParseOptions, document, fragment, is_context}
 use Rattle.hparse.specs.Parsing.{HasParsed}
 use Rattle.hparse.specs.Reader.{ReadsInput, reading_ran_out, reading_failed, reading_stopped, read_to_end, Gave}
 use Rattle.hwrite.specs.Running.{WritesNothing, Runs, run_ran_out, read_failed, stopped, refused, write_failed, wrote, RunsIn, context_refused, ran, ReadsIn, not_allowed, allowed, BeginsIn}
@@ -85,18 +85,18 @@ module _ {W : Type 0} (written : W → Option (List ℕ)) (failed : W → ℕ) w
       comes_to_text_in target target' run text answer (allowed is r) printed w = ran is (comes_to_text target target' run text answer r printed w)
 
 -- a parse that did not begin
-pub not_begun : {S R : Type 0} (left : S → Option (List ℕ)) (failed : S → ℕ) (answers : List ℕ → Result R Refusal → Type 0) (unrefused : List ℕ → Type 0) (piece : ℕ) (old : S) (told : Told) (context : Option (List ℕ))
-    (e : Refusal) → BeginsIn told context (Err e) → ReadsIn left failed context answers unrefused piece old old (Err e)
-not_begun left failed answers unrefused piece old told context e (inl (is, why)) = allowed is (reading_ran_out (ap (λ (x : Refusal). Err x) why) refl)
-not_begun left failed answers unrefused piece old told context e (inr (not, why)) = not_allowed not (ap (λ (x : Refusal). Err x) why) refl
+pub not_begun : {S R : Type 0} (left : S → Option (List ℕ)) (failed : S → ℕ) (answers : List ℕ → Result R Refusal → Type 0) (unrefused : List ℕ → Type 0) (piece : ℕ) (old : S) (opts : ParseOptions) (context : Option (List ℕ))
+    (e : Refusal) → BeginsIn opts context (Err e) → ReadsIn left failed context answers unrefused piece old old (Err e)
+not_begun left failed answers unrefused piece old opts context e (inl (is, why)) = allowed is (reading_ran_out (ap (λ (x : Refusal). Err x) why) refl)
+not_begun left failed answers unrefused piece old opts context e (inr (not, why)) = not_allowed not (ap (λ (x : Refusal). Err x) why) refl
 
-pub begun_document : (told : Told) (r : Result Parser Refusal) → MatchResult r (λ parser. HasParsed told document parser []) (λ e. e ≡ Memory) → BeginsIn told None r
-begun_document told (Ok parser) h = (tt, h)
-begun_document told (Err e) why = inl (tt, why)
+pub begun_document : (opts : ParseOptions) (r : Result Parser Refusal) → MatchResult r (λ parser. HasParsed opts document parser []) (λ e. e ≡ Memory) → BeginsIn opts None r
+begun_document opts (Ok parser) h = (tt, h)
+begun_document opts (Err e) why = inl (tt, why)
 
-pub begun_fragment : (told : Told) (context : List ℕ) (r : Result Parser Refusal)
-    → MatchResult r (λ parser. (is_context context ≡ true) × HasParsed told (fragment context) parser [])
-    (λ e. ((is_context context ≡ true) × (e ≡ Memory)) ⊎ ((is_context context ≡ false) × (e ≡ BadContext))) → BeginsIn told (Some context) r
-begun_fragment told context (Ok parser) h = h
-begun_fragment told context (Err e) (inl h) = inl h
-begun_fragment told context (Err e) (inr (isnt, why)) = inr ((λ is. absurd cc), why)
+pub begun_fragment : (opts : ParseOptions) (context : List ℕ) (r : Result Parser Refusal)
+    → MatchResult r (λ parser. (is_context context ≡ true) × HasParsed opts (fragment context) parser [])
+    (λ e. ((is_context context ≡ true) × (e ≡ Memory)) ⊎ ((is_context context ≡ false) × (e ≡ BadContext))) → BeginsIn opts (Some context) r
+begun_fragment opts context (Ok parser) h = h
+begun_fragment opts context (Err e) (inl h) = inl h
+begun_fragment opts context (Err e) (inr (isnt, why)) = inr ((λ is. absurd cc), why)

@@ -1,11 +1,11 @@
 -- The element in which an input stands.
 use Rattle.std.specs.Prelude.{◌≡◌, ℕ, ⊤, true, List, Option, None, Some}
-use Rattle.hparse.specs.Parse.{Subject, document, fragment, is_context}
+use Rattle.hparse.specs.Parse.{ParseCase, document, fragment, is_context}
 
 -- what an input is that stands in an element of this name, if there is one
-abbrev pub subject_in : Option (List ℕ) → Subject
-subject_in None = document
-subject_in (Some context) = fragment context
+abbrev pub case_in : Option (List ℕ) → ParseCase
+case_in None = document
+case_in (Some context) = fragment context
 
 -- it may stand there
 abbrev pub AllowsContext : Option (List ℕ) → Type 0

@@ -15,10 +15,10 @@ use Rattle.hparse.specs.Answer.{Answers}
 use Rattle.hparse.specs.Fed.{IsUnrefusedText}
 use Rattle.hparse.specs.Parsing.{IsUnrefused}
 use Rattle.hparse.specs.declared.parsed.Parsed.{Parsed}
-use Rattle.hparse.specs.Parse.{Parse, Parses, Subject, document, fragment, Told, manner, policy, root_of}
+use Rattle.hparse.specs.Parse.{Parse, Parses, ParseCase, document, fragment, ParseOptions, manner, policy, root_of}
 use Rattle.hwrite.specs.declared.command.Task.{Task}
 use Rattle.hwrite.specs.declared.command.Task.TheVariants as task
-use Rattle.hwrite.specs.Context.{subject_in}
+use Rattle.hwrite.specs.Context.{case_in}
 use Rattle.hwrite.specs.TokenLines.{token_lines}
 
 -- The text of an answer, or the refusal that the answer is.
@@ -30,18 +30,18 @@ pub data Prints {A : Type 0} (answers : List ℕ → Result A Refusal → Type 0
 abbrev pub tokens_text : List Tok × List ParseError → List ℕ
 tokens_text answer = token_lines answer.0
 
-abbrev pub nodes_text : Subject → Parse → List ℕ
-nodes_text subject parse = tree_text (children_of (root_of subject) parse.trees)
+abbrev pub nodes_text : ParseCase → Parse → List ℕ
+nodes_text parse_case parse = tree_text (children_of (root_of parse_case) parse.trees)
 
 abbrev pub errors_text : Parse → List ℕ
 errors_text parse = error_lines parse.errors
 
 -- what stands in the root as HTML (13.3); the root's own name says how its texts are written
-abbrev pub written_text : Escaping → Subject → Parse → List ℕ
-written_text escaping subject parse = written escaping (name_of (root_of subject) parse.trees) (children_of (root_of subject) parse.trees)
+abbrev pub written_text : Escaping → ParseCase → Parse → List ℕ
+written_text escaping parse_case parse = written escaping (name_of (root_of parse_case) parse.trees) (children_of (root_of parse_case) parse.trees)
 
 -- whether the nodes of a fragment are plain in its context; those of a document are not
-abbrev pub is_plain_in : Subject → Forest (List ℕ) → Bool
+abbrev pub is_plain_in : ParseCase → Forest (List ℕ) → Bool
 is_plain_in document f = false
 is_plain_in (fragment context) f = is_plain context f
 
@@ -49,25 +49,25 @@ abbrev pub plain_line : Bool → List ℕ
 plain_line true = codes "plain\n"
 plain_line false = codes "not plain\n"
 
-abbrev pub plain_text : Subject → Parse → List ℕ
-plain_text subject parse = plain_line (is_plain_in subject (children_of (root_of subject) parse.trees))
+abbrev pub plain_text : ParseCase → Parse → List ℕ
+plain_text parse_case parse = plain_line (is_plain_in parse_case (children_of (root_of parse_case) parse.trees))
 
 -- what a task prints of a parse; tokens are printed of none
-abbrev pub parse_text : Escaping → Task → Subject → Parse → List ℕ
-parse_text escaping task.Errors subject = errors_text
-parse_text escaping task.Write subject = written_text escaping subject
-parse_text escaping task.Plain subject = plain_text subject
-parse_text escaping _ subject = nodes_text subject
+abbrev pub parse_text : Escaping → Task → ParseCase → Parse → List ℕ
+parse_text escaping task.Errors parse_case = errors_text
+parse_text escaping task.Write parse_case = written_text escaping parse_case
+parse_text escaping task.Plain parse_case = plain_text parse_case
+parse_text escaping _ parse_case = nodes_text parse_case
 
 -- what a task prints of an input that stands in this element, or is a document, where HTML is escaped so; tokens are those of a document
-abbrev pub prints_of : Escaping → Task → Option (List ℕ) → Told → List ℕ → Result (List ℕ) Refusal → Type 0
-prints_of escaping task.Tokens context told = Prints (Answers told.table (policy told document)) tokens_text
-prints_of escaping other context told = Prints (Parses told (subject_in context)) (parse_text escaping other (subject_in context))
+abbrev pub prints_of : Escaping → Task → Option (List ℕ) → ParseOptions → List ℕ → Result (List ℕ) Refusal → Type 0
+prints_of escaping task.Tokens context opts = Prints (Answers opts.table (policy opts document)) tokens_text
+prints_of escaping other context opts = Prints (Parses opts (case_in context)) (parse_text escaping other (case_in context))
 
 -- nothing of the bytes is refused, whatever follows them
-abbrev pub unrefused_of : Task → Option (List ℕ) → Told → List ℕ → Type 0
-unrefused_of task.Tokens context told = IsUnrefusedText (manner told document)
-unrefused_of other context told = IsUnrefused told (subject_in context)
+abbrev pub unrefused_of : Task → Option (List ℕ) → ParseOptions → List ℕ → Type 0
+unrefused_of task.Tokens context opts = IsUnrefusedText (manner opts document)
+unrefused_of other context opts = IsUnrefused opts (case_in context)
 
 -- the element in which a task's input stands
 abbrev pub context_of : Task → Option (List ℕ) → Option (List ℕ)
@@ -81,5 +81,5 @@ nodes_of parsed = spelled (text_of parsed.names) (children_of parsed.root parsed
 abbrev pub parsed_text : Escaping → Task → Option (List ℕ) → Parsed → List ℕ
 parsed_text escaping task.Errors context parsed = error_lines parsed.errors.items
 parsed_text escaping task.Write context parsed = written escaping (option_map (text_of parsed.names) (name_of parsed.root parsed.tree.trees)) (nodes_of parsed)
-parsed_text escaping task.Plain context parsed = plain_line (is_plain_in (subject_in context) (nodes_of parsed))
+parsed_text escaping task.Plain context parsed = plain_line (is_plain_in (case_in context) (nodes_of parsed))
 parsed_text escaping _ context parsed = tree_text (nodes_of parsed)

@@ -7,12 +7,12 @@ use Rattle.names.specs.declared.refusal.Refusal.{Refusal}
 use Rattle.names.specs.declared.refusal.Refusal.TheVariants.{Memory, Read, Write, BadContext}
 use Rattle.hparse.specs.Calls.{counted}
 use Rattle.hparse.specs.Reader.{Gave, IsRefusedFrom, ReadsInput}
-use Rattle.hparse.specs.Parse.{Told}
+use Rattle.hparse.specs.Parse.{ParseOptions}
 use Rattle.hparse.specs.declared.parser.Parser.{Parser}
 use Rattle.hparse.specs.Parsing.{HasParsed}
 use Rattle.hwrite.specs.declared.command.Task.{Task}
 use Rattle.hserialize.specs.declared.escaping.Escaping.{Escaping}
-use Rattle.hwrite.specs.Context.{AllowsContext, subject_in}
+use Rattle.hwrite.specs.Context.{AllowsContext, case_in}
 use Rattle.hwrite.specs.Prints.{prints_of, context_of, unrefused_of}
 
 -- nothing was written, and no call of the writer has failed
@@ -20,7 +20,7 @@ pub record WritesNothing {W : Type 0} (written : W → Option (List ℕ)) (faile
   pub kept : Keeps (written old) (written new)
   pub unfailed : failed new ≡ failed old
 
--- What a run does that reads pieces of at most so many bytes.
+-- What a run does that reads pieces of at most this many bytes.
 pub data Runs {S W : Type 0} (left : S → Option (List ℕ)) (failed_reads : S → ℕ) (written : W → Option (List ℕ)) (failed_writes : W → ℕ)
     (prints : List ℕ → Result (List ℕ) Refusal → Type 0) (unrefused : List ℕ → Type 0) (piece : ℕ) (source source' : S) (target target' : W)
     (answer : Result (Unit {0}) Refusal) : Type 0 where
@@ -61,9 +61,9 @@ pub data RunsIn {S W : Type 0} (left : S → Option (List ℕ)) (failed_reads : 
 
 -- what a run of a task does
 abbrev pub RunsTask : {S W : Type 0} → (S → Option (List ℕ)) → (S → ℕ) → (W → Option (List ℕ)) → (W → ℕ) → Escaping → Task → Option (List ℕ)
-    → Told → ℕ → S → S → W → W → Result (Unit {0}) Refusal → Type 0
-RunsTask left failed_reads written failed_writes escaping task context told piece =
-    RunsIn left failed_reads written failed_writes (context_of task context) (prints_of escaping task context told) (unrefused_of task context told) piece
+    → ParseOptions → ℕ → S → S → W → W → Result (Unit {0}) Refusal → Type 0
+RunsTask left failed_reads written failed_writes escaping task context opts piece =
+    RunsIn left failed_reads written failed_writes (context_of task context) (prints_of escaping task context opts) (unrefused_of task context opts) piece
 
 -- What reading an input does that stands in this element, or is a document.
 pub data ReadsIn {S R : Type 0} (left : S → Option (List ℕ)) (failed : S → ℕ) (context : Option (List ℕ)) (answers : List ℕ → Result R Refusal → Type 0)
@@ -73,6 +73,6 @@ pub data ReadsIn {S R : Type 0} (left : S → Option (List ℕ)) (failed : S →
       → ReadsIn left failed context answers unrefused piece old new answer
 
 -- What beginning a parse does in this element, or of a document: memory runs out, where the element is allowed.
-abbrev pub BeginsIn : Told → Option (List ℕ) → Result Parser Refusal → Type 0
-BeginsIn told context (Ok parser) = AllowsContext context × HasParsed told (subject_in context) parser []
-BeginsIn told context (Err e) = (AllowsContext context × (e ≡ Memory)) ⊎ ((AllowsContext context → ⊥) × (e ≡ BadContext))
+abbrev pub BeginsIn : ParseOptions → Option (List ℕ) → Result Parser Refusal → Type 0
+BeginsIn opts context (Ok parser) = AllowsContext context × HasParsed opts (case_in context) parser []
+BeginsIn opts context (Err e) = (AllowsContext context × (e ≡ Memory)) ⊎ ((AllowsContext context → ⊥) × (e ≡ BadContext))

@@ -7,12 +7,12 @@ ghost use Rattle.hnodes.specs.Named.{AreOf};
 ghost use Rattle.hnodes.specs.Spelled.{spelled};
 ghost use Rattle.hparse.specs.Answer.{Answers, of_document};
 ghost use Rattle.hparse.specs.Parse.{Parses};
-ghost use Rattle.hparse.specs.Parsing.{told_by, AnswersParse, IsUnrefused};
+ghost use Rattle.hparse.specs.Parsing.{options_of, AnswersParse, IsUnrefused};
 ghost use Rattle.hparse.specs.Fed.{IsUnrefusedText};
 ghost use Rattle.hparse.specs.Into.{as_document};
 ghost use Rattle.hparse.specs.Reader.{ReadsInput};
 ghost use Rattle.hwrite.specs.Command.{name_of};
-ghost use Rattle.hwrite.specs.Context.{subject_in};
+ghost use Rattle.hwrite.specs.Context.{case_in};
 ghost use Rattle.hwrite.specs.Prints.{is_plain_in, parse_text, parsed_text, plain_line, tokens_text, Prints};
 ghost use Rattle.hwrite.specs.Draft.{AnswersDraft};
 ghost use Rattle.hwrite.specs.Running.{BeginsIn, ReadsIn, Runs, RunsIn, RunsTask};
@@ -40,7 +40,7 @@ pub fn run<S: Source, W: Target>(
 ) -> Result<(), Refusal>
     requires piece { 0 < command.piece }
     ensures { RunsTask S.left S.failed W.written W.failed command.entry.escaping command.entry.task (name_of command.entry.context)
-        (told_by options.now) command.entry.piece
+        (options_of options.now) command.entry.piece
         source.old source.new target.old target.new result }
 {
     match command.task {
@@ -51,7 +51,7 @@ pub fn run<S: Source, W: Target>(
     }
 }
 
-// The tokens of a document.
+/// The tokens of a document.
 fn run_tokens<S: Source, W: Target>(
     alloc: Global,
     piece: usize,
@@ -72,7 +72,7 @@ fn run_tokens<S: Source, W: Target>(
     answer
 }
 
-// The lines of the tokens of a document, and the names that they leave out.
+/// The lines of the tokens of a document, and the names that they leave out.
 fn read_draft<S: Source>(
     alloc: Global,
     piece: usize,
@@ -86,7 +86,7 @@ fn read_draft<S: Source>(
     read_into(alloc, piece, options, Draft::new(alloc), source)
 }
 
-// What the task prints of the tree of a document or a fragment.
+/// What the task prints of the tree of a document or a fragment.
 fn run_parsed<S: Source, W: Target>(
     alloc: Global,
     command: Command,
@@ -96,9 +96,9 @@ fn run_parsed<S: Source, W: Target>(
 ) -> Result<(), Refusal>
     requires piece { 0 < command.piece }
     ensures { RunsIn S.left S.failed W.written W.failed (name_of command.entry.context)
-        (Prints (Parses (told_by options.now) (subject_in (name_of command.entry.context)))
-        (parse_text command.entry.escaping command.entry.task (subject_in (name_of command.entry.context))))
-        (IsUnrefused (told_by options.now) (subject_in (name_of command.entry.context)))
+        (Prints (Parses (options_of options.now) (case_in (name_of command.entry.context)))
+        (parse_text command.entry.escaping command.entry.task (case_in (name_of command.entry.context))))
+        (IsUnrefused (options_of options.now) (case_in (name_of command.entry.context)))
         command.entry.piece source.old source.new target.old target.new result }
 {
     let parsed = parse(alloc, command, options, source)?;
@@ -107,7 +107,7 @@ fn run_parsed<S: Source, W: Target>(
     answer
 }
 
-// The same of what was parsed.
+/// The same of what was parsed.
 fn print_parsed<W: Target>(
     alloc: Global,
     command: Command,
@@ -134,19 +134,19 @@ fn print_parsed<W: Target>(
     }
 }
 
-// What is printed of a fragment that is plain, or is not.
+/// What is printed of a fragment that is plain, or is not.
 fn plain_line(is_plain: bool) -> &'static [u8]
     ensures { result.now ≡ plain_line is_plain }
 {
     if is_plain { b"plain\n" } else { b"not plain\n" }
 }
 
-// Whether what was parsed in an element of this name is plain there. No document is.
+/// Whether what was parsed in an element of this name is plain there. No document is.
 fn is_plain_in(context: Option<&str>, parsed: &Parsed) -> bool
     requires made { parsed.now.root < parsed.now.tree.made }
     requires table { AreNames parsed.now.names }
     requires names { AreOf parsed.now.names (children_of parsed.now.root parsed.now.tree.trees) }
-    ensures { result ≡ is_plain_in (subject_in (name_of context.entry))
+    ensures { result ≡ is_plain_in (case_in (name_of context.entry))
         (spelled (text_of parsed.now.names) (children_of parsed.now.root parsed.now.tree.trees)) }
 {
     match context {
@@ -155,7 +155,7 @@ fn is_plain_in(context: Option<&str>, parsed: &Parsed) -> bool
     }
 }
 
-// Parses a document or a fragment from a reader.
+/// Parses a document or a fragment from a reader.
 fn parse<S: Source>(
     alloc: Global,
     command: Command,
@@ -163,8 +163,8 @@ fn parse<S: Source>(
     source: &mut S,
 ) -> Result<Parsed, Refusal>
     requires piece { 0 < command.piece }
-    ensures { ReadsIn S.left S.failed (name_of command.entry.context) (AnswersParse (told_by options.now) (subject_in (name_of command.entry.context)))
-        (IsUnrefused (told_by options.now) (subject_in (name_of command.entry.context))) command.entry.piece source.old source.new result }
+    ensures { ReadsIn S.left S.failed (name_of command.entry.context) (AnswersParse (options_of options.now) (case_in (name_of command.entry.context)))
+        (IsUnrefused (options_of options.now) (case_in (name_of command.entry.context))) command.entry.piece source.old source.new result }
 {
     let parser = parser(alloc, command.context, options)?;
     parse_reader(alloc, parser, command.piece, source)
@@ -176,7 +176,7 @@ pub fn parser<'t>(
     context: Option<&str>,
     options: &Options<'t>,
 ) -> Result<Parser<'t>, Refusal>
-    ensures { BeginsIn (told_by options.now) (name_of context.entry) result }
+    ensures { BeginsIn (options_of options.now) (name_of context.entry) result }
 {
     match context {
         None => Parser::document(alloc, options),

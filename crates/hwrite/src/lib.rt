@@ -3,20 +3,20 @@
 #![tactic(auto)]
 
 pub mod command;
-pub mod context;
 pub mod counted;
 mod draft;
 pub mod engine;
 mod filling;
+pub mod given_context;
 pub mod lines;
 mod quoted;
 mod words;
 
 pub use charref::Table;
 pub use command::{Command, Task};
-pub use context::check_context;
 pub use counted::Counted;
 pub use engine::{parser, run, write_text};
+pub use given_context::check_context;
 pub use hmarkup::Quirks;
 pub use hmodes::Limits;
 pub use hnodes::{

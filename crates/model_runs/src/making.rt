@@ -21,7 +21,7 @@ pub fn call(hand: &mut Hand, line: &str) -> Result<Answer, Refusal> {
     }
 }
 
-/// Begins a tree, in which so many nodes may be made.
+/// Begins a tree, in which this many nodes may be made.
 fn begin(tree: &mut Tree, alloc: Global, limit: u32) -> Result<Answer, Refusal> {
     if limit == 0 {
         return Ok(Answer::NotMade);
@@ -55,7 +55,7 @@ fn make_doctype(hand: &mut Hand, line: &str) -> Result<Answer, Refusal> {
     made(hand.tree.create_doctype(texts, PLACE))
 }
 
-/// Makes so many comments: below a node, or the first below it and each other below the one before. Each is a call of its own, so
+/// Makes this many comments: below a node, or the first below it and each other below the one before. Each is a call of its own, so
 /// where memory is refused a few are there.
 fn grow(hand: &mut Hand, line: &str, is_nested: bool) -> Result<Answer, Refusal> {
     match (hand.node(line, 2), number(line, 3)) {

@@ -108,7 +108,7 @@ fn add_formatting(site: &mut Site, name: NameId, attrs: Vec<Attr>, at: u64) -> R
     Ok(())
 }
 
-/// The open node with so many above it as the line says.
+/// The open node with this many above it as the line says.
 fn counted(site: &Site, line: &str) -> Option<NodeId>
     ensures { IfSome result (λ node. node < site.now.nodes.made) }
 {
@@ -263,7 +263,7 @@ fn leave(site: &mut Site, line: &str) -> Answer
     Answer::Done
 }
 
-/// The node of the item with so many before it as the line says.
+/// The node of the item with this many before it as the line says.
 fn listed(site: &Site, line: &str) -> Option<NodeId> {
     let list = site.formatting();
     let back = list.len().checked_sub(1)?.checked_sub(number(line, 2)?)?;

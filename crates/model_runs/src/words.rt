@@ -10,7 +10,7 @@ fn cut(text: &str) -> (&str, &str) {
     }
 }
 
-/// What comes after so many words.
+/// What comes after this many words.
 pub fn after(line: &str, count: usize) -> &str {
     let mut rest = line;
     for _ in 0..count {
@@ -19,7 +19,7 @@ pub fn after(line: &str, count: usize) -> &str {
     rest
 }
 
-/// The word with so many before it; an empty one if there is none.
+/// The word with this many before it; an empty one if there is none.
 pub fn word(line: &str, index: usize) -> &str {
     cut(after(line, index)).0
 }

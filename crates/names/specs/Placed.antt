@@ -15,7 +15,7 @@ placed at (c ∷ cs) = record { ch = c; at = at } ∷ placed (at + len_utf8 c) c
 abbrev pub characters : List Placed → List ℕ
 characters text = map (λ p. p.ch) text
 
--- .. with the letters A to Z lowered
+-- the same with the letters A to Z lowered
 abbrev pub lowered : List Placed → List ℕ
 lowered text = map (λ p. to_ascii_lowercase p.ch) text
 

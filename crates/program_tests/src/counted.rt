@@ -67,7 +67,7 @@ impl Write for Full {
     }
 }
 
-/// Whether a read gives this many bytes, or fails, and so many have failed then.
+/// Whether a read gives this many bytes, or fails, and this many have failed then.
 fn reads<R: Read + Drop>(source: &mut Counted<R>, count: Option<usize>, failures: u64) -> bool {
     let mut buffer = [0; 2];
     source.read(&mut buffer) == count && Source::failures(source) == failures

@@ -1,8 +1,8 @@
 //! The status of the program, and its line on standard error.
 
 use crate::counted::Faulty;
-use hmain::Fault;
-use hmain::ending::ending;
+use hprogram::Fault;
+use hprogram::ending::ending;
 use hwrite::{Counted, Target};
 use names::{Refusal, RefusedName, TableFault};
 use std::alloc::Global;

@@ -1,10 +1,10 @@
 //! Refusals that stay, and errors that are handed out.
 
 use charref::Table;
-use hmain::line::line;
 use hmarkup::{ErrorSink, Quirks};
 use hmodes::{Builder, Limits};
 use hparse::{Options, Parser, is_context};
+use hprogram::line::line;
 use htoken::{Token, TokenSink};
 use names::{ErrorCode, Keys, Names, ParseError, Refusal, RefusedName};
 use std::alloc::Global;

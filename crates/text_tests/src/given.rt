@@ -8,14 +8,14 @@ use std::alloc::Global;
 
 /// What it took: the characters as they are, a letter for each other token, and `!` for an error. It refuses what is more than `left`.
 #[derive(Drop)]
-pub struct Given {
+pub struct Taken {
     pub text: String,
     left: u32,
 }
 
-impl Given {
-    pub fn new(alloc: Global, left: u32) -> Given {
-        Given {
+impl Taken {
+    pub fn new(alloc: Global, left: u32) -> Taken {
+        Taken {
             text: String::new(alloc),
             left,
         }
@@ -31,7 +31,7 @@ impl Given {
     }
 }
 
-impl CharSink for Given {
+impl CharSink for Taken {
     ghost gives = { λ _ _ _ _. Unit {0} };
 
     fn take_char(&mut self, ch: char, _at: u64) -> Result<(), Refusal> {
@@ -43,7 +43,7 @@ impl CharSink for Given {
     }
 }
 
-impl ErrorSink for Given {
+impl ErrorSink for Taken {
     ghost gives = { λ _ _ _ _. Unit {0} };
 
     fn take_error(&mut self, _error: ParseError) -> Result<(), Refusal> {
@@ -51,7 +51,7 @@ impl ErrorSink for Given {
     }
 }
 
-impl TokenSink for Given {
+impl TokenSink for Taken {
     ghost gives_token = { λ _ _ _ _. Unit {0} };
 
     fn take_token(&mut self, token: Token) -> Result<(), Refusal> {

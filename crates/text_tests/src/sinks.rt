@@ -1,6 +1,6 @@
 //! Sinks that refuse: what they took before, and that the refusal stays.
 
-use crate::given::Given;
+use crate::given::Taken;
 use charref::Table;
 use hmarkup::{CommentWalk, DoctypeWalk};
 use htext::{BadBytes, Bom, Decoder, MAX_INPUT};
@@ -14,7 +14,7 @@ fn decode(
     decoder: &mut Decoder,
     front: &[u8],
     rest: &[u8],
-    sink: &mut Given,
+    sink: &mut Taken,
 ) -> Result<(), Refusal> {
     decoder.feed(front, sink)?;
     decoder.feed(rest, sink)?;
@@ -23,14 +23,14 @@ fn decode(
 
 /// Whether a sink with room for two items takes these, and is refused the next.
 fn refuses_third(decoder: &mut Decoder, alloc: Global, front: &[u8], rest: &[u8]) -> bool {
-    let mut sink = Given::new(alloc, 2);
+    let mut sink = Taken::new(alloc, 2);
     let answer = decode(decoder, front, rest, &mut sink);
     answer == Err(Refusal::Write) && sink.text.as_str() == "a!"
 }
 
 /// Whether a decoder hands over nothing more.
 fn stays_refused(decoder: &mut Decoder, alloc: Global) -> bool {
-    let mut sink = Given::new(alloc, 9);
+    let mut sink = Taken::new(alloc, 9);
     let answer = decode(decoder, b"more", b"", &mut sink);
     answer == Err(Refusal::Write) && sink.text.is_empty()
 }
@@ -51,7 +51,7 @@ fn tokenize(
     tokenizer: &mut Tokenizer<'_>,
     names: &mut Names,
     text: &str,
-    sink: &mut Given,
+    sink: &mut Taken,
 ) -> Result<(), Refusal> {
     for (place, ch) in text.char_indices() {
         tokenizer.feed_char(names, ch, place as u64, sink)?;
@@ -63,7 +63,7 @@ fn tokenize(
 fn takes(alloc: Global, text: &str, left: u32, given: &str, is_all: bool) -> Result<bool, Refusal> {
     let table = Table::core(alloc)?;
     let mut names = Names::new(alloc)?;
-    let mut sink = Given::new(alloc, left);
+    let mut sink = Taken::new(alloc, left);
     let mut tokenizer = Tokenizer::new(alloc, &table, Start::Document);
     let answer = tokenize(&mut tokenizer, &mut names, text, &mut sink);
     let stays = is_all || tokenizer.feed_char(&mut names, 'x', 0, &mut sink) == answer;
@@ -82,7 +82,7 @@ fn of_a_tokenizer(rt: HostRuntime) -> Result<(), Fail> {
 }
 
 /// The first character that a walk through a comment is refused at.
-fn comment(mut walk: CommentWalk, text: &str, sink: &mut Given) -> Option<(char, Refusal)> {
+fn comment(mut walk: CommentWalk, text: &str, sink: &mut Taken) -> Option<(char, Refusal)> {
     for ch in text.chars() {
         if let Err(refusal) = walk.take_char(ch, 4, sink) {
             return Some((ch, refusal));
@@ -92,7 +92,7 @@ fn comment(mut walk: CommentWalk, text: &str, sink: &mut Given) -> Option<(char,
 }
 
 /// The same for a doctype.
-fn doctype(mut walk: DoctypeWalk, text: &str, sink: &mut Given) -> Option<(char, Refusal)> {
+fn doctype(mut walk: DoctypeWalk, text: &str, sink: &mut Taken) -> Option<(char, Refusal)> {
     for ch in text.chars() {
         if let Err(refusal) = walk.take_char(ch, 9, sink) {
             return Some((ch, refusal));
@@ -103,10 +103,10 @@ fn doctype(mut walk: DoctypeWalk, text: &str, sink: &mut Given) -> Option<(char,
 
 #[test]
 fn of_walks(rt: HostRuntime) {
-    let mut sink = Given::new(rt.alloc(), 1);
+    let mut sink = Taken::new(rt.alloc(), 1);
     let refused = comment(CommentWalk::comment(rt.alloc()), "<!--!>", &mut sink);
     assert!(rt; refused == Some(('>', Refusal::Write)));
-    let mut sink = Given::new(rt.alloc(), 1);
+    let mut sink = Taken::new(rt.alloc(), 1);
     let refused = doctype(DoctypeWalk::new(rt.alloc()), " a \0", &mut sink);
     assert!(rt; refused == Some(('\0', Refusal::Write)));
 }

@@ -6,7 +6,7 @@ use std::test::Fail;
 const KEYS: &str =
     "{\"&a\":{\"codepoints\":[49],\"characters\":\"1\"},\"&aaa\":{\"codepoints\":[51],\"characters\":\"3\"}}";
 
-/// Whether the longest key that a text begins with has so many bytes.
+/// Whether the longest key that a text begins with has this many bytes.
 fn has_longest(table: &Table, text: &[u8], length: usize) -> bool {
     match table.longest(text) {
         Some(found) => found.length == length,

@@ -1,6 +1,6 @@
 //! What a tokenizer holds of a text that goes on.
 
-use crate::given::Given;
+use crate::given::Taken;
 use charref::Table;
 use htoken::{Start, Tokenizer};
 use names::{Names, Refusal};
@@ -29,7 +29,7 @@ fn feed(
     tokenizer: &mut Tokenizer<'_>,
     names: &mut Names,
     text: &str,
-    sink: &mut Given,
+    sink: &mut Taken,
 ) -> Result<(), Refusal> {
     for (place, ch) in text.char_indices() {
         tokenizer.feed_char(names, ch, place as u64, sink)?;
@@ -45,7 +45,7 @@ fn shown(alloc: Global, text: &str, from: u64, given: &str) -> Result<String, Re
 /// The row of a text.
 fn row(alloc: Global, table: &Table, text: &str) -> Result<String, Refusal> {
     let mut names = Names::new(alloc)?;
-    let mut sink = Given::new(alloc, 99);
+    let mut sink = Taken::new(alloc, 99);
     let mut tokenizer = Tokenizer::new(alloc, table, Start::Document);
     let answer = feed(&mut tokenizer, &mut names, text, &mut sink);
     let row = shown(alloc, text, tokenizer.held_from(), &sink.text);

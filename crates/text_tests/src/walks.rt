@@ -1,6 +1,6 @@
 //! Walks that are begun in the middle, and runs that they take.
 
-use crate::given::Given;
+use crate::given::Taken;
 use charref::Table;
 use hmarkup::CommentWalk;
 use htag::{TagKind, TagWalk};
@@ -9,7 +9,7 @@ use std::alloc::Global;
 use std::test::Fail;
 
 /// Takes characters up to the end of a comment. Whether it ends.
-fn rest(walk: &mut CommentWalk, text: &str, at: u64, sink: &mut Given) -> Result<bool, Refusal> {
+fn rest(walk: &mut CommentWalk, text: &str, at: u64, sink: &mut Taken) -> Result<bool, Refusal> {
     for (index, ch) in text.char_indices() {
         if walk.take_char(ch, at.wrapping_add(index as u64), sink)? {
             return Ok(true);
@@ -19,12 +19,12 @@ fn rest(walk: &mut CommentWalk, text: &str, at: u64, sink: &mut Given) -> Result
 }
 
 /// Whether a comment that has ended has this data, and one error was raised.
-fn is_comment(walk: CommentWalk, ended: Result<bool, Refusal>, sink: &Given, data: &str) -> bool {
+fn is_comment(walk: CommentWalk, ended: Result<bool, Refusal>, sink: &Taken, data: &str) -> bool {
     ended == Ok(true) && sink.text.as_str() == "!" && walk.into_data().as_str() == data
 }
 
 /// Takes a run and characters after those that were read before the walk.
-fn take_after(walk: &mut CommentWalk, sink: &mut Given) -> Result<bool, Refusal> {
+fn take_after(walk: &mut CommentWalk, sink: &mut Taken) -> Result<bool, Refusal> {
     walk.take_run("xé", 4, sink)?;
     rest(walk, "\0->", 7, sink)
 }
@@ -33,14 +33,14 @@ fn take_after(walk: &mut CommentWalk, sink: &mut Given) -> Result<bool, Refusal>
 fn a_comment_goes_on_after_read_characters(rt: HostRuntime) -> Result<(), Fail> {
     let held = [Placed { ch: 'd', at: 2 }, Placed { ch: 'O', at: 3 }];
     let mut walk = CommentWalk::bogus_after(rt.alloc(), &held)?;
-    let mut sink = Given::new(rt.alloc(), 9);
+    let mut sink = Taken::new(rt.alloc(), 9);
     let ended = take_after(&mut walk, &mut sink);
     assert!(rt; is_comment(walk, ended, &sink, "dOxé\u{FFFD}-"));
     Ok(())
 }
 
 /// Takes runs and characters in turn.
-fn take_runs(walk: &mut CommentWalk, sink: &mut Given) -> Result<bool, Refusal> {
+fn take_runs(walk: &mut CommentWalk, sink: &mut Taken) -> Result<bool, Refusal> {
     walk.take_run("", 4, sink)?;
     walk.take_char('-', 4, sink)?;
     walk.take_run("a é", 5, sink)?;
@@ -50,7 +50,7 @@ fn take_runs(walk: &mut CommentWalk, sink: &mut Given) -> Result<bool, Refusal> 
 #[test]
 fn a_comment_takes_runs(rt: HostRuntime) {
     let mut walk = CommentWalk::comment(rt.alloc());
-    let mut sink = Given::new(rt.alloc(), 9);
+    let mut sink = Taken::new(rt.alloc(), 9);
     let ended = take_runs(&mut walk, &mut sink);
     assert!(rt; is_comment(walk, ended, &sink, "-a é<!--"));
 }

@@ -1,7 +1,7 @@
-use Rattle.hparse.specs.Parsing.{told_by}
+use Rattle.hparse.specs.Parsing.{options_of}
 use Rattle.hflat.specs.Exports.{no_command}
 use Rattle.hflat.specs.Given.{unmet}
-use Rattle.hflat.specs.declared.fault.Fault.TheVariants as fault
+use Rattle.hflat.specs.declared.fault.CallFault.TheVariants as fault
 use Rattle.hflat.proofs.Exports.{a_text, no_text}
 use Rattle.hflat.proofs.Outcomes.{fails}
 use Rattle.hflat.proofs.text.text_with.Goals as goal
@@ -16,8 +16,8 @@ returns-in_err-limits c = λ number is.
 pub returns-in_err-text_in : goal.returns-in_err-text_in
 returns-in_err-text_in c = λ number is.
     fails c.from_residual-in_err-text_in.result (fault.Refused c.in_err-text_in.field-0.0) _ _ c.from_residual-in_err-text_in.ensures.1
-    (no_text c.args.input.now c.args.given.now (told_by c.options-options.result) c.options-options.ensures number c.args.command is c.in_err-text_in.field-0.0 c.in_err-text_in.ensures)
+    (no_text c.args.input.now c.args.given.now (options_of c.options-options.result) c.options-options.ensures number c.args.command is c.in_err-text_in.field-0.0 c.in_err-text_in.ensures)
 
 pub returns : goal.returns
 returns c = λ number is.
-    a_text c.args.input.now c.args.given.now (told_by c.options-options.result) c.options-options.ensures number c.args.command is c.in_ok-text_in.field-0.items c.in_ok-text_in.ensures
+    a_text c.args.input.now c.args.given.now (options_of c.options-options.result) c.options-options.ensures number c.args.command is c.in_ok-text_in.field-0.items c.in_ok-text_in.ensures

@@ -1,7 +1,7 @@
-use Rattle.hparse.specs.Parsing.{told_by}
+use Rattle.hparse.specs.Parsing.{options_of}
 use Rattle.hwrite.specs.Command.{name_of}
 use Rattle.hflat.specs.Exports.{unmet_rows}
-use Rattle.hflat.specs.declared.fault.Fault.TheVariants as fault
+use Rattle.hflat.specs.declared.fault.CallFault.TheVariants as fault
 use Rattle.hflat.proofs.Exports.{none_for, some_rows}
 use Rattle.hflat.proofs.Outcomes.{fails}
 use Rattle.hflat.proofs.tree.rows_with.Goals as goal
@@ -15,8 +15,8 @@ returns-in_err-limits c = fails c.from_residual-in_err-limits.result c.in_err-li
 pub returns-in_err-rows_in : goal.returns-in_err-rows_in
 returns-in_err-rows_in c =
     fails c.from_residual-in_err-rows_in.result (fault.Refused c.in_err-rows_in.field-0.0) _ _ c.from_residual-in_err-rows_in.ensures.1
-    (none_for c.args.input.now c.args.given.now (told_by c.options-options.result) c.options-options.ensures (name_of c.args.context) c.requires.context c.in_err-rows_in.field-0.0 c.in_err-rows_in.ensures)
+    (none_for c.args.input.now c.args.given.now (options_of c.options-options.result) c.options-options.ensures (name_of c.args.context) c.requires.context c.in_err-rows_in.field-0.0 c.in_err-rows_in.ensures)
 
 pub returns : goal.returns
 returns c =
-    some_rows c.args.input.now c.args.given.now (told_by c.options-options.result) c.options-options.ensures (name_of c.args.context) c.requires.context c.in_ok-rows_in.field-0 c.in_ok-rows_in.ensures
+    some_rows c.args.input.now c.args.given.now (options_of c.options-options.result) c.options-options.ensures (name_of c.args.context) c.requires.context c.in_ok-rows_in.field-0 c.in_ok-rows_in.ensures

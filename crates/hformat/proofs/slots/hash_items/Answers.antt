@@ -10,7 +10,7 @@ use Rattle.hopen.proofs.Tables.{take-more}
 use Rattle.hformat.specs.Formatting.{EntryOf}
 use Rattle.hformat.specs.Items.{IsStored, item_of, nowhere}
 use Rattle.hformat.specs.Listed.{by_hash, number_by, numbers_by}
-use Rattle.hformat.specs.declared.entry.Item.{Item as Stored}
+use Rattle.hformat.specs.declared.entry.Slot.{Slot as Stored}
 use Rattle.hformat.proofs.slots.hash_items.Goals as goal
 use Rattle.hformat.proofs.slots.hash_items.Goals.{in-Entry+in_ok-find_hash-in-Entry+in_ok-push-in-Entry, in-Marker+in_ok-push-in-Marker, in-Hole+in_ok-push-in-Hole}
 

@@ -1,8 +1,8 @@
 use Rattle.std.proofs.Common.{◌≡◌, ◌+◌, ◌<◌, get_or, length, sym, ◌∙◌, ap, arith, subst, Vec, Global}
 use Rattle.std.proofs.lemmas.List.{get_or_read}
 use Rattle.hformat.specs.Items.{is_gone}
-use Rattle.hformat.specs.declared.entry.Item.{Item as Stored}
-use Rattle.hformat.specs.declared.entry.Item.TheVariants as stored
+use Rattle.hformat.specs.declared.entry.Slot.{Slot as Stored}
+use Rattle.hformat.specs.declared.entry.Slot.TheVariants as stored
 use Rattle.hformat.proofs.Closed.{IsTaken, taken-hole, taken-item}
 use Rattle.hformat.proofs.slots.take_holes.Goals as goal
 use Rattle.hformat.proofs.slots.take_holes.Goals.{then-not-is_hole, else-not-is_hole}

@@ -3,8 +3,8 @@ use Rattle.std.proofs.lemmas.Nat.{and_le_r}
 use Rattle.std.proofs.lemmas.Simd.{zip2_splat, zip2_of_maps}
 use lib.Lanes.{top}
 use Rattle.htext.specs.Run.{is_not_of}
-use Rattle.htext.specs.declared.run.Kind.{Kind}
-use Rattle.htext.specs.declared.run.Kind.TheVariants.{Plain, Wide}
+use Rattle.htext.specs.declared.run.RunBytes.{RunBytes}
+use Rattle.htext.specs.declared.run.RunBytes.TheVariants.{Plain, Wide}
 use Rattle.htext.specs.declared.run.TheConstants.{BY_LOW, PLAIN_BY_HIGH, WIDE_BY_HIGH}
 use Rattle.htext.proofs.Lanes.{down, hit, hit_of, low_half, high_half, looked_up, masked, same, upto}
 use Rattle.htext.proofs.run.stops.Goals as goal
@@ -13,10 +13,10 @@ use Rattle.htext.proofs.run.stops.Goals as goal
 abbrev found : List ℕ → ℕ → ℕ
 found table x = hit (bit_and (get_or BY_LOW (bit_and x 15) 0) (get_or table (x / 16) 0)) 0
 
-abbrev AreRight : Kind → List ℕ → Type 0
+abbrev AreRight : RunBytes → List ℕ → Type 0
 AreRight kind table = T (upto (λ x. same (top 7 (found table x)) (is_not_of kind x)) 256)
 
-right : (kind : Kind) (table : List ℕ) → (kind ≡ Plain → table ≡ PLAIN_BY_HIGH) → (kind ≡ Wide → table ≡ WIDE_BY_HIGH) → AreRight kind table
+right : (kind : RunBytes) (table : List ℕ) → (kind ≡ Plain → table ≡ PLAIN_BY_HIGH) → (kind ≡ Wide → table ≡ WIDE_BY_HIGH) → AreRight kind table
 right Plain table plain wide = subst (AreRight Plain) (sym (plain refl)) tt
 right Wide table plain wide = subst (AreRight Wide) (sym (wide refl)) tt
 

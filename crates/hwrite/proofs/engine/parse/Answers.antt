@@ -1,7 +1,7 @@
 use Rattle.std.proofs.Common.{[]}
 use Rattle.std.proofs.lemmas.Result.{err_from_is_err_and}
-use Rattle.hparse.specs.Parsing.{told_by}
-use Rattle.hwrite.specs.Context.{subject_in}
+use Rattle.hparse.specs.Parsing.{options_of}
+use Rattle.hwrite.specs.Context.{case_in}
 use Rattle.hwrite.specs.Command.{name_of}
 use Rattle.hwrite.specs.Running.{allowed}
 use Rattle.hwrite.proofs.Written.{not_begun}
@@ -10,9 +10,9 @@ use Rattle.hwrite.proofs.engine.parse.Goals as goal
 pub returns-in_err-parser : goal.returns-in_err-parser
 returns-in_err-parser g c =
     let e = err_from_is_err_and c.from_residual.result c.from_residual.ensures.1 in
-    rw (e.1, e.2) (not_begun g.S.Source.left g.S.Source.failed _ _ c.args.command.piece c.args.source.now (told_by c.args.options.now) (name_of c.args.command.context)
+    rw (e.1, e.2) (not_begun g.S.Source.left g.S.Source.failed _ _ c.args.command.piece c.args.source.now (options_of c.args.options.now) (name_of c.args.command.context)
     c.in_err-parser.field-0.0 c.in_err-parser.ensures)
 
 pub returns : goal.returns
 returns g c =
-    allowed c.in_ok-parser.ensures.0 (c.parse_reader.ensures.reads (told_by c.args.options.now) (subject_in (name_of c.args.command.context)) [] c.in_ok-parser.ensures.1)
+    allowed c.in_ok-parser.ensures.0 (c.parse_reader.ensures.reads (options_of c.args.options.now) (case_in (name_of c.args.command.context)) [] c.in_ok-parser.ensures.1)

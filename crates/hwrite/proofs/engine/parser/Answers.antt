@@ -1,6 +1,6 @@
 use Rattle.std.proofs.Common.{Option, List, ℕ, sym, subst}
 use Rattle.std.specs.Borrow.{Bor}
-use Rattle.hparse.specs.Parsing.{told_by}
+use Rattle.hparse.specs.Parsing.{options_of}
 use Rattle.hwrite.specs.Command.{name_of}
 use Rattle.hwrite.specs.Running.{BeginsIn}
 use Rattle.hwrite.proofs.Written.{begun_document, begun_fragment}
@@ -8,10 +8,10 @@ use Rattle.hwrite.proofs.engine.parser.Goals as goal
 
 pub returns-in-None : goal.returns-in-None
 returns-in-None c =
-    subst (λ (name : Option (Bor (List ℕ))). BeginsIn (told_by c.args.options.now) (name_of name) c.document.result) (sym c.in-None.is)
-    (begun_document (told_by c.args.options.now) c.document.result c.document.ensures)
+    subst (λ (name : Option (Bor (List ℕ))). BeginsIn (options_of c.args.options.now) (name_of name) c.document.result) (sym c.in-None.is)
+    (begun_document (options_of c.args.options.now) c.document.result c.document.ensures)
 
 pub returns-in-Some : goal.returns-in-Some
 returns-in-Some c =
-    subst (λ (name : Option (Bor (List ℕ))). BeginsIn (told_by c.args.options.now) (name_of name) c.fragment.result) (sym c.in-Some.is)
-    (begun_fragment (told_by c.args.options.now) c.in-Some.name.now c.fragment.result c.fragment.ensures)
+    subst (λ (name : Option (Bor (List ℕ))). BeginsIn (options_of c.args.options.now) (name_of name) c.fragment.result) (sym c.in-Some.is)
+    (begun_fragment (options_of c.args.options.now) c.in-Some.name.now c.fragment.result c.fragment.ensures)

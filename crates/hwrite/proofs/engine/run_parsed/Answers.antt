@@ -1,7 +1,7 @@
 use Rattle.std.proofs.lemmas.Result.{err_from_is_err_and}
 use Rattle.hparse.specs.Parse.{Parses}
-use Rattle.hparse.specs.Parsing.{told_by}
-use Rattle.hwrite.specs.Context.{subject_in}
+use Rattle.hparse.specs.Parsing.{options_of}
+use Rattle.hwrite.specs.Context.{case_in}
 use Rattle.hwrite.specs.Command.{name_of}
 use Rattle.hwrite.specs.Prints.{not_printed, parse_text, Prints}
 use Rattle.hwrite.proofs.Tasks.{parsed_printed}
@@ -16,18 +16,18 @@ returns-in_err-parsed g c =
 
 pub print_parsed-answer-requires-clause-made : goal.print_parsed-answer-requires-clause-made
 print_parsed-answer-requires-clause-made g c =
-    (an_answer_in g.W.Target.written g.W.Target.failed g.S.Source.left g.S.Source.failed _ (Prints (Parses (told_by c.args.options.now) (subject_in (name_of c.args.command.context))) (parse_text c.args.command.escaping c.args.command.task (subject_in (name_of c.args.command.context)))) _ c.args.command.piece c.args.source.now c.parse.new.source (name_of c.args.command.context) c.in_ok-parsed.parsed c.in_ok-parsed.ensures).1.1.made
+    (an_answer_in g.W.Target.written g.W.Target.failed g.S.Source.left g.S.Source.failed _ (Prints (Parses (options_of c.args.options.now) (case_in (name_of c.args.command.context))) (parse_text c.args.command.escaping c.args.command.task (case_in (name_of c.args.command.context)))) _ c.args.command.piece c.args.source.now c.parse.new.source (name_of c.args.command.context) c.in_ok-parsed.parsed c.in_ok-parsed.ensures).1.1.made
 
 pub print_parsed-answer-requires-clause-table : goal.print_parsed-answer-requires-clause-table
 print_parsed-answer-requires-clause-table g c =
-    (an_answer_in g.W.Target.written g.W.Target.failed g.S.Source.left g.S.Source.failed _ (Prints (Parses (told_by c.args.options.now) (subject_in (name_of c.args.command.context))) (parse_text c.args.command.escaping c.args.command.task (subject_in (name_of c.args.command.context)))) _ c.args.command.piece c.args.source.now c.parse.new.source (name_of c.args.command.context) c.in_ok-parsed.parsed c.in_ok-parsed.ensures).1.1.table
+    (an_answer_in g.W.Target.written g.W.Target.failed g.S.Source.left g.S.Source.failed _ (Prints (Parses (options_of c.args.options.now) (case_in (name_of c.args.command.context))) (parse_text c.args.command.escaping c.args.command.task (case_in (name_of c.args.command.context)))) _ c.args.command.piece c.args.source.now c.parse.new.source (name_of c.args.command.context) c.in_ok-parsed.parsed c.in_ok-parsed.ensures).1.1.table
 
 pub print_parsed-answer-requires-clause-names : goal.print_parsed-answer-requires-clause-names
 print_parsed-answer-requires-clause-names g c =
-    (an_answer_in g.W.Target.written g.W.Target.failed g.S.Source.left g.S.Source.failed _ (Prints (Parses (told_by c.args.options.now) (subject_in (name_of c.args.command.context))) (parse_text c.args.command.escaping c.args.command.task (subject_in (name_of c.args.command.context)))) _ c.args.command.piece c.args.source.now c.parse.new.source (name_of c.args.command.context) c.in_ok-parsed.parsed c.in_ok-parsed.ensures).1.1.names_are
+    (an_answer_in g.W.Target.written g.W.Target.failed g.S.Source.left g.S.Source.failed _ (Prints (Parses (options_of c.args.options.now) (case_in (name_of c.args.command.context))) (parse_text c.args.command.escaping c.args.command.task (case_in (name_of c.args.command.context)))) _ c.args.command.piece c.args.source.now c.parse.new.source (name_of c.args.command.context) c.in_ok-parsed.parsed c.in_ok-parsed.ensures).1.1.names_are
 
 pub returns : goal.returns
 returns g c =
     comes_to_text_in g.W.Target.written g.W.Target.failed g.S.Source.left g.S.Source.failed _ _ _ c.args.command.piece c.args.source.now c.parse.new.source (name_of c.args.command.context) c.args.target.now c.print_parsed-answer.new.target
     c.in_ok-parsed.parsed _ c.print_parsed-answer.result c.in_ok-parsed.ensures
-    (λ bytes its. parsed_printed c.args.command.escaping c.args.command.task (told_by c.args.options.now) (name_of c.args.command.context) bytes c.in_ok-parsed.parsed its) c.print_parsed-answer.ensures
+    (λ bytes its. parsed_printed c.args.command.escaping c.args.command.task (options_of c.args.options.now) (name_of c.args.command.context) bytes c.in_ok-parsed.parsed its) c.print_parsed-answer.ensures

@@ -1,5 +1,5 @@
 use Rattle.std.proofs.Common.{[], true, sym, subst}
-use Rattle.charref.specs.declared.state.State.TheVariants.{Name, NumberSign, HexadecimalSign, Number}
+use Rattle.charref.specs.declared.reference_state.ReferenceState.TheVariants.{Name, NumberSign, HexadecimalSign, Number}
 use Rattle.charref.specs.Held.{IsHeld}
 use Rattle.charref.specs.Pieces.{IsRead, number_of}
 use Rattle.charref.proofs.Numbers.{no_sign, no_x, number_at_end}

@@ -1,7 +1,7 @@
 use Rattle.std.proofs.Common.{Ok, Err, refl, subst}
 use Rattle.hmarkup.specs.Quirks.{ReadsQuirks}
 use Rattle.hflat.specs.Given.{quirks_refused}
-use Rattle.hflat.specs.declared.fault.Fault.TheVariants as fault
+use Rattle.hflat.specs.declared.fault.CallFault.TheVariants as fault
 use Rattle.hflat.proofs.Outcomes.{fails}
 use Rattle.hflat.proofs.answer.Given.quirks.Goals as goal
 

@@ -1,6 +1,6 @@
 use Rattle.std.proofs.Common.{refl, sym, ◌∙◌}
 use Rattle.hflat.specs.Given.{table_refused}
-use Rattle.hflat.specs.declared.fault.Fault.TheVariants as fault
+use Rattle.hflat.specs.declared.fault.CallFault.TheVariants as fault
 use Rattle.hflat.proofs.Outcomes.{core_refused, fails, text_refused}
 use Rattle.hflat.proofs.answer.Given.table.Goals as goal
 

@@ -5,7 +5,7 @@ use Rattle.hformat.specs.Formatting.{is_entry}
 use Rattle.hformat.specs.Items.{hole, item_of, items_of, live}
 use Rattle.hformat.specs.Listed.{by_node}
 use Rattle.hopen.specs.Nearest.{without}
-use Rattle.hformat.specs.declared.entry.Item.TheVariants as stored
+use Rattle.hformat.specs.declared.entry.Slot.TheVariants as stored
 use Rattle.hformat.proofs.Chained.{last-is, last_of}
 use Rattle.hformat.proofs.Holes.{no-position, node-at, node-none, node_place, slots-are}
 use Rattle.hformat.proofs.ItemLists.{length-items_of}

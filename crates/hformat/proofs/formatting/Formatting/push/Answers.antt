@@ -3,7 +3,7 @@ use Rattle.hnodes.specs.Rows.{attribute_of}
 use Rattle.hformat.specs.Formatting.{EntryOf, entry, pushed}
 use Rattle.hformat.specs.Items.{hole, item_of, items_of, live}
 use Rattle.hopen.specs.Nearest.{changed_at}
-use Rattle.hformat.specs.declared.entry.Item.TheVariants as stored
+use Rattle.hformat.specs.declared.entry.Slot.TheVariants as stored
 use Rattle.hformat.proofs.ItemLists.{items_of_last, length-items_of}
 use Rattle.hopen.proofs.Nearest.{set_nearest}
 use Rattle.hformat.proofs.Pushed.{pushed-live}

@@ -4,7 +4,7 @@ use Rattle.hformat.specs.Formatting.{for_node, is_entry, with_node}
 use Rattle.hformat.specs.Items.{items_of, live}
 use Rattle.hformat.specs.Listed.{by_node}
 use Rattle.hopen.specs.Nearest.{changed_at}
-use Rattle.hformat.specs.declared.entry.Item.TheVariants as stored
+use Rattle.hformat.specs.declared.entry.Slot.TheVariants as stored
 use Rattle.hformat.proofs.Chained.{last-is, last_of}
 use Rattle.hformat.proofs.Holes.{no-position, node-at, node-none, node_place, place-told, slots-are}
 use Rattle.hformat.proofs.ItemLists.{length-items_of}

@@ -6,7 +6,7 @@ use Rattle.hnodes.specs.Rows.{attribute_of}
 use Rattle.hformat.specs.Formatting.{EntryOf, Item, after_marker, as_entry, is_equal}
 use Rattle.hformat.specs.Items.{item_of, items_of, nowhere}
 use Rattle.hformat.specs.Listed.{by_hash, number_by, numbers_by}
-use Rattle.hformat.specs.declared.entry.Item.{Item as Stored}
+use Rattle.hformat.specs.declared.entry.Slot.{Slot as Stored}
 use Rattle.hformat.proofs.ByHash.{Steps, last-at, length-after, number-at, numbers-before, skips, steps}
 use Rattle.hformat.proofs.Chained.{before-is, last-is, last_of}
 use Rattle.hformat.proofs.Earliest.{farthest, farthest-within, room-made, room-there}

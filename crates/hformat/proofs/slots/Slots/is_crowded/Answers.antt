@@ -4,8 +4,8 @@ use Rattle.std.proofs.lemmas.List.{get_or-map, get_or_read, length-map}
 use Rattle.std.proofs.lemmas.List.Elements.{All-get_or}
 use Rattle.hformat.specs.Items.{IsStored, item_of, nowhere}
 use Rattle.hformat.specs.Listed.{by_name, number_by}
-use Rattle.hformat.specs.declared.entry.Item.{Item as Stored}
-use Rattle.hformat.specs.declared.entry.Item.TheVariants as stored
+use Rattle.hformat.specs.declared.entry.Slot.{Slot as Stored}
+use Rattle.hformat.specs.declared.entry.Slot.TheVariants as stored
 use Rattle.hformat.proofs.slots.Slots.is_crowded.Goals as goal
 
 low : (c : goal.Then-len-le-FEW) → c.loop.place - 1 < length c.args.self.now.items.items

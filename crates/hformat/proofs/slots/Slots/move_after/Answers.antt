@@ -7,7 +7,7 @@ use Rattle.hformat.specs.Formatting.{is_entry}
 use Rattle.hformat.specs.Items.{item_of, items_of, nowhere, renamed}
 use Rattle.hopen.specs.Nearest.{put_before}
 use Rattle.hopen.specs.Places.{last_place}
-use Rattle.hformat.specs.declared.entry.Item.TheVariants as stored
+use Rattle.hformat.specs.declared.entry.Slot.TheVariants as stored
 use Rattle.hformat.proofs.Moved.{insert-after, listed-renewed, mark-place, remove-set, renamed-item}
 use Rattle.hopen.proofs.Places.{last_place-le}
 use Rattle.hformat.proofs.slots.Slots.move_after.Goals as goal

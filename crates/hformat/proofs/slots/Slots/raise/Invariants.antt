@@ -1,7 +1,7 @@
 use Rattle.std.proofs.Common.{◌≡◌, get_or}
 use Rattle.std.specs.List.{insert, remove}
 use Rattle.hformat.specs.Listed.{IsListed}
-use Rattle.hformat.specs.declared.entry.Item.TheVariants as stored
+use Rattle.hformat.specs.declared.entry.Slot.TheVariants as stored
 use Rattle.hformat.proofs.slots.Slots.raise.Given as goal
 
 -- the item that moves stands at the index

@@ -4,7 +4,7 @@ use Rattle.std.specs.Prelude.{max}
 use Rattle.std.proofs.lemmas.List.Edits.{swap_is}
 use Rattle.hformat.specs.Items.{IsStored}
 use Rattle.hformat.specs.Listed.{by_hash, by_name, by_node, numbers_by}
-use Rattle.hformat.specs.declared.entry.Item.TheVariants as stored
+use Rattle.hformat.specs.declared.entry.Slot.TheVariants as stored
 use Rattle.hformat.proofs.Moved.{NoHoleFrom, All-exchanged, exchanged, length-exchanged, numbers-exchanged, solid-exchanged}
 use Rattle.hformat.proofs.slots.Slots.swap.Goals as goal
 

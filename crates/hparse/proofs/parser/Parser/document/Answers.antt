@@ -1,7 +1,7 @@
 use Rattle.std.proofs.Common.{refl, ap, sym, subst}
 use Rattle.hmodes.specs.Building.{Building}
 use Rattle.hparse.specs.Parse.{document}
-use Rattle.hparse.specs.Parsing.{BeginsIn, a_document, told_by}
+use Rattle.hparse.specs.Parsing.{BeginsIn, a_document, options_of}
 use Rattle.hparse.proofs.parser.Parser.document.Goals as goal
 
 pub returns : goal.returns
@@ -13,6 +13,6 @@ returns c =
       unrefused = ap (λ (b : Building). b.refused) e;
       none_told = ap (λ (b : Building). b.told) e;
       root_is = ap (λ (b : Building). b.root) e;
-      begins = subst (λ (b : Building). BeginsIn (told_by c.args.options.now) c.in_ok-names.names document b.state) (sym e) a_document;
+      begins = subst (λ (b : Building). BeginsIn (options_of c.args.options.now) c.in_ok-names.names document b.state) (sym e) a_document;
       has_read = c.new.ensures;
     }

@@ -4,12 +4,12 @@ use Rattle.hparse.specs.Parse.{manner}
 use Rattle.hparse.proofs.parser.Parser.feed.Goals as goal
 
 pub returns-in-Ok-clause-feeds : goal.returns-in-Ok-clause-feeds
-returns-in-Ok-clause-feeds c = λ told subject bytes h.
-    feeds_on told subject bytes c.args.self.now h c.args.piece.now _ h.accepts (c.in-Ok.ensures (manner told subject) h.began bytes h.has_read)
+returns-in-Ok-clause-feeds c = λ opts parse_case bytes h.
+    feeds_on opts parse_case bytes c.args.self.now h c.args.piece.now _ h.accepts (c.in-Ok.ensures (manner opts parse_case) h.began bytes h.has_read)
 
 pub returns-in-Err-clause-feeds : goal.returns-in-Err-clause-feeds
-returns-in-Err-clause-feeds c = λ told subject bytes h.
-    feeds_refused told subject bytes c.args.self.now h c.feed.new.self c.settle.new.self.names c.settle.ensures.grows c.settle.ensures.are c.in-Err.refusal c.args.piece.now _ (c.in-Err.ensures (manner told subject) h.began bytes h.has_read)
+returns-in-Err-clause-feeds c = λ opts parse_case bytes h.
+    feeds_refused opts parse_case bytes c.args.self.now h c.feed.new.self c.settle.new.self.names c.settle.ensures.grows c.settle.ensures.are c.in-Err.refusal c.args.piece.now _ (c.in-Err.ensures (manner opts parse_case) h.began bytes h.has_read)
 
 pub returns-in-Ok-clause-again : goal.returns-in-Ok-clause-again
 returns-in-Ok-clause-again c = search rules

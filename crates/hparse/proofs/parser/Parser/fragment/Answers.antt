@@ -7,7 +7,7 @@ use Rattle.hmodes.specs.Building.{Building}
 use Rattle.hparse.specs.Fed.{HasRead}
 use Rattle.hparse.specs.Input.{Began}
 use Rattle.hparse.specs.Parse.{fragment, is_context}
-use Rattle.hparse.specs.Parsing.{BeginsIn, a_fragment, builds, told_by}
+use Rattle.hparse.specs.Parsing.{BeginsIn, a_fragment, builds, options_of}
 use Rattle.hparse.proofs.parser.Parser.fragment.Goals as goal
 
 pub returns : goal.returns
@@ -23,7 +23,7 @@ returns c =
         unrefused = ap (λ (b : Building). b.refused) e;
         none_told = ap (λ (b : Building). b.told) e;
         root_is = ap (λ (b : Building). b.root) e;
-        begins = subst (λ (b : Building). BeginsIn (told_by c.args.options.now) began.names (fragment c.args.context.now) b.state) (sym e) (a_fragment c.args.context.now c.in_ok-name.name c.in_ok-name.ensures.number);
+        begins = subst (λ (b : Building). BeginsIn (options_of c.args.options.now) began.names (fragment c.args.context.now) b.state) (sym e) (a_fragment c.args.context.now c.in_ok-name.name c.in_ok-name.ensures.number);
         has_read = subst (λ (k : RawKind). HasRead builds (record { table = c.args.options.now.table.now; start = start.Context k; bad = c.args.options.now.bad_bytes; limit = c.args.options.now.limits.input }) began c.new.result []) kind c.new.ensures;
       },
     )

@@ -5,7 +5,7 @@ use Rattle.names.specs.Placed.{placed}
 use Rattle.htag.specs.TagWalk.{IsInTag}
 use Rattle.htag.proofs.walk.TagWalk.take_run.Given as goal
 
--- So many bytes of the run have been taken.
+-- This many bytes of the run have been taken.
 abbrev pub invariant-loop-count : goal.invariant-loop-count
 invariant-loop-count l = record {
   takes : (body : List Placed) → IsInTag l.table l.fn.names l.fn.self body [] l.fn.errors.items → IsInTag l.table l.names l.self (body ++ placed l.at (take l.count l.run)) [] l.errors.items;

@@ -8,7 +8,7 @@ use Rattle.htoken.specs.Token.{Event, gives_item}
 use Rattle.htoken.specs.Tokenizing.{HasTaken, Takes}
 use Rattle.htoken.proofs.tokenizer.Tokenizer.take_fronts.Given as goal
 
--- So many bytes of the run have been taken.
+-- This many bytes of the run have been taken.
 abbrev pub invariant-loop-count : goal.invariant-loop-count
 invariant-loop-count g l = record {
   takes : (table : Entities) (start : RawKind) (before : Texts) (text : List Placed) (taken : List Event) → Grows before l.fn.names → HasTaken table start l.fn.self before text taken

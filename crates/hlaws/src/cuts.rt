@@ -1,0 +1,64 @@
+//! Laws of the cut of a text.
+
+ghost use Rattle.hlaws.specs.OneCut.{OnePart, OneTag, OneSpanOfData, OneSpan, OneCut, OneListOfTokens, NoTokensOfRefused, OneRefusal};
+ghost use Rattle.hlaws.specs.SomeCut.{SomeSpan, SomeCut, SomeAnswer, ExactlyOneCut, OneFront, OneFrontOfRefused};
+ghost use Rattle.hlaws.specs.SomeEnd.{TagsCanEnd};
+ghost use Rattle.hlaws.specs.Held.{HeldBegins};
+
+/// One part of a tag at most stands at the front of the text after its name, and one tag at the front of a text.
+pub fn one_tag()
+    ensures parts { OnePart }
+    ensures tags { OneTag }
+{}
+
+/// One span of data at most stands at the front of a text, and one span of each other kind.
+pub fn one_span()
+    ensures in_data { OneSpanOfData }
+    ensures in_any { OneSpan }
+{}
+
+/// A whole text is cut into spans in one way at most, so it has one list of tokens at most, and one of errors, but for their order.
+pub fn one_cut()
+    ensures spans { OneCut }
+    ensures tokens { OneListOfTokens }
+{}
+
+/// A text that is refused has no tokens, and it is refused for one name at one place, after one list of tokens.
+pub fn one_answer()
+    ensures either { NoTokensOfRefused }
+    ensures refusal { OneRefusal }
+{}
+
+/// Wherever a cut of a text comes, a span stands at the front of what is left, so that a whole text is cut.
+pub fn some_cut()
+    ensures span { SomeSpan }
+    ensures cut { SomeCut }
+{}
+
+/// A whole text has its tokens and errors, or is refused.
+pub fn some_answer()
+    ensures { SomeAnswer }
+{}
+
+/// A whole text is cut into spans in exactly one way.
+pub fn exactly_one_cut()
+    ensures { ExactlyOneCut }
+{}
+
+/// What a sink was handed before it refused is a front of the tokens of the text, or of those before the tag that it is refused
+/// for.
+pub fn one_front()
+    ensures whole { OneFront }
+    ensures of_refused { OneFrontOfRefused }
+{}
+
+/// What a walk has read of a tag can always be completed: with more text after it, it is a whole tag, whatever follows.
+pub fn some_end()
+    ensures { TagsCanEnd }
+{}
+
+/// What a tokenizer holds back is a beginning of a longer span, or of an end tag of raw text, where its cut stands; it begins at
+/// the place that `held_from` gives.
+pub fn held_begins()
+    ensures { HeldBegins }
+{}

@@ -1,5 +1,0 @@
-use Rattle.std.proofs.Common.{rules}
-use Rattle.hmarkup.proofs.phase.Step.in_quotes.Goals as goal
-
-pub returns-then-ch-eq62 : goal.returns-then-ch-eq62
-returns-then-ch-eq62 c = search rules

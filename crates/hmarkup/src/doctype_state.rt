@@ -1,0 +1,301 @@
+//! The phases of reading a doctype, and what a character does in each.
+
+ghost use Rattle.std.specs.Prelude.{◌≡◌, ◌==◌};
+ghost use Rattle.std.specs.Char.{to_ascii_lowercase};
+ghost use Rattle.names.specs.Placed.{is_space, is_greater, is_quote};
+ghost use Rattle.hmarkup.specs.DoctypeSteps.{goes_to, ends, faulty, refuses, skips, step, before_name, in_name, after_name, in_keyword, after_keyword, in_quotes, after_public, after_system, in_skipped, first_letter, next_letter, end_fault};
+
+use crate::keyword::{Identifier, Letters};
+use names::{ErrorCode, ParseError};
+
+/// Where in a doctype the walk is. A `bool` says whether white space was read there.
+#[derive(Clone, Copy)]
+pub enum DoctypeState {
+    BeforeName(bool),
+    Name,
+    AfterName,
+    /// In a keyword: its letters so far, and the byte offset of the first.
+    Keyword(Letters, u64),
+    AfterKeyword(Identifier, bool),
+    /// Inside an identifier that this quote opened.
+    Quoted(Identifier, char),
+    AfterPublic(bool),
+    AfterSystem,
+    Skipped,
+}
+
+/// Which part of the doctype a character belongs to.
+#[derive(Clone, Copy)]
+pub enum Keeps {
+    Nothing,
+    /// It is part of the name.
+    Name,
+    /// It is the quote that opens an identifier.
+    Quote(Identifier),
+    /// It is part of an identifier.
+    Inside(Identifier),
+}
+
+/// What a character does.
+#[derive(Clone, Copy)]
+pub struct Step {
+    /// Its error, other than the one for NUL.
+    pub fault: Option<ParseError>,
+    pub keeps: Keeps,
+    /// Whether it forces quirks mode.
+    pub forces: bool,
+    /// The next phase, or none if the character ends the doctype.
+    pub next: Option<DoctypeState>,
+}
+
+impl Step {
+    /// Only the phase changes.
+    fn to(next: DoctypeState) -> Step
+        ensures { result ≡ goes_to next }
+    {
+        Step {
+            fault: None,
+            keeps: Keeps::Nothing,
+            forces: false,
+            next: Some(next),
+        }
+    }
+
+    /// The doctype ends.
+    fn end() -> Step
+        ensures { result ≡ ends }
+    {
+        Step {
+            fault: None,
+            keeps: Keeps::Nothing,
+            forces: false,
+            next: None,
+        }
+    }
+
+    /// A `>` that is an error, forces quirks mode and ends the doctype.
+    fn refuse(code: ErrorCode, at: u64) -> Step
+        ensures { result ≡ refuses code at }
+    {
+        Step {
+            fault: Some(ParseError { code, at }),
+            forces: true,
+            ..Step::end()
+        }
+    }
+
+    /// An error after which the rest is skipped.
+    fn skip(code: ErrorCode, at: u64, forces: bool) -> Step
+        ensures { result ≡ skips code at forces }
+    {
+        Step {
+            fault: Some(ParseError { code, at }),
+            forces,
+            ..Step::to(DoctypeState::Skipped)
+        }
+    }
+
+    /// A character that is kept, with an error if no white space precedes it.
+    fn keep(keeps: Keeps, spaced: bool, code: ErrorCode, at: u64, next: DoctypeState) -> Step
+        ensures { result ≡ faulty keeps spaced code at next }
+    {
+        Step {
+            fault: if spaced {
+                None
+            } else {
+                Some(ParseError { code, at })
+            },
+            keeps,
+            ..Step::to(next)
+        }
+    }
+}
+
+impl DoctypeState {
+    /// What a character does whose first byte is at offset `at`.
+    pub fn step(self, ch: char, at: u64) -> Step
+        ensures { result ≡ step self (record { ch = ch; at = at }) }
+    {
+        match self {
+            DoctypeState::BeforeName(spaced) => Step::before_name(spaced, ch, at),
+            DoctypeState::Name => Step::in_name(ch),
+            DoctypeState::AfterName => Step::after_name(ch, at),
+            DoctypeState::Keyword(letters, first) => Step::in_keyword(letters, first, ch),
+            DoctypeState::AfterKeyword(which, spaced) => Step::after_keyword(which, spaced, ch, at),
+            DoctypeState::Quoted(which, mark) => Step::in_quotes(which, mark, ch, at),
+            DoctypeState::AfterPublic(spaced) => Step::after_public(spaced, ch, at),
+            DoctypeState::AfterSystem => Step::after_system(ch, at),
+            DoctypeState::Skipped => Step::in_skipped(ch),
+        }
+    }
+
+    /// The error, if any, when the input ends here, at byte offset `end`.
+    pub fn end_fault(self, end: u64) -> Option<ParseError>
+        ensures { result ≡ end_fault self end }
+    {
+        match self {
+            DoctypeState::Keyword(_, first) => Some(ParseError {
+                code: ErrorCode::InvalidCharacterSequenceAfterDoctypeName,
+                at: first,
+            }),
+            DoctypeState::Skipped => None,
+            _ => Some(ParseError {
+                code: ErrorCode::EofInDoctype,
+                at: end,
+            }),
+        }
+    }
+}
+
+/// Whether the character is a quote.
+fn is_mark(ch: char) -> bool
+    ensures { result ≡ is_quote ch }
+{
+    ch == '"' || ch == '\''
+}
+
+/// What a character does in each phase.
+impl Step {
+    fn before_name(spaced: bool, ch: char, at: u64) -> Step
+        ensures { result ≡ before_name spaced (is_space ch) (is_greater ch) at }
+    {
+        if ch.is_ascii_whitespace() {
+            Step::to(DoctypeState::BeforeName(true))
+        } else if ch == '>' {
+            Step::refuse(ErrorCode::MissingDoctypeName, at)
+        } else {
+            let code = ErrorCode::MissingWhitespaceBeforeDoctypeName;
+            Step::keep(Keeps::Name, spaced, code, at, DoctypeState::Name)
+        }
+    }
+
+    fn in_name(ch: char) -> Step
+        ensures { result ≡ in_name (is_space ch) (is_greater ch) }
+    {
+        if ch.is_ascii_whitespace() {
+            Step::to(DoctypeState::AfterName)
+        } else if ch == '>' {
+            Step::end()
+        } else {
+            Step {
+                keeps: Keeps::Name,
+                ..Step::to(DoctypeState::Name)
+            }
+        }
+    }
+
+    fn after_name(ch: char, at: u64) -> Step
+        ensures { result ≡ after_name (is_space ch) (is_greater ch) (first_letter ch) at }
+    {
+        if ch.is_ascii_whitespace() {
+            return Step::to(DoctypeState::AfterName);
+        }
+        if ch == '>' {
+            return Step::end();
+        }
+        match Letters::first(ch) {
+            Some(letters) => Step::to(DoctypeState::Keyword(letters, at)),
+            None => Step::skip(
+                ErrorCode::InvalidCharacterSequenceAfterDoctypeName,
+                at,
+                true,
+            ),
+        }
+    }
+
+    fn in_keyword(letters: Letters, first: u64, ch: char) -> Step
+        ensures { result ≡ in_keyword letters first (to_ascii_lowercase ch == next_letter letters) (is_greater ch) }
+    {
+        if ch.to_ascii_lowercase() == letters.next() {
+            match letters.after() {
+                Some(letters) => Step::to(DoctypeState::Keyword(letters, first)),
+                None => Step::to(DoctypeState::AfterKeyword(letters.which, false)),
+            }
+        } else if ch == '>' {
+            Step::refuse(ErrorCode::InvalidCharacterSequenceAfterDoctypeName, first)
+        } else {
+            Step::skip(
+                ErrorCode::InvalidCharacterSequenceAfterDoctypeName,
+                first,
+                true,
+            )
+        }
+    }
+
+    fn after_keyword(which: Identifier, spaced: bool, ch: char, at: u64) -> Step
+        ensures { result ≡ after_keyword which spaced (is_space ch) (is_greater ch) (is_quote ch) ch at }
+    {
+        if ch.is_ascii_whitespace() {
+            Step::to(DoctypeState::AfterKeyword(which, true))
+        } else if ch == '>' {
+            Step::refuse(which.missing(), at)
+        } else if is_mark(ch) {
+            Step::keep(
+                Keeps::Quote(which),
+                spaced,
+                which.not_spaced(),
+                at,
+                DoctypeState::Quoted(which, ch),
+            )
+        } else {
+            Step::skip(which.not_quoted(), at, true)
+        }
+    }
+
+    fn in_quotes(which: Identifier, mark: char, ch: char, at: u64) -> Step
+        ensures { result ≡ in_quotes which mark (ch == mark) (is_greater ch) at }
+    {
+        if ch == mark {
+            match which {
+                Identifier::Public => Step::to(DoctypeState::AfterPublic(false)),
+                Identifier::System => Step::to(DoctypeState::AfterSystem),
+            }
+        } else if ch == '>' {
+            Step::refuse(which.abrupt(), at)
+        } else {
+            Step {
+                keeps: Keeps::Inside(which),
+                ..Step::to(DoctypeState::Quoted(which, mark))
+            }
+        }
+    }
+
+    fn after_public(spaced: bool, ch: char, at: u64) -> Step
+        ensures { result ≡ after_public spaced (is_space ch) (is_greater ch) (is_quote ch) ch at }
+    {
+        if ch.is_ascii_whitespace() {
+            Step::to(DoctypeState::AfterPublic(true))
+        } else if ch == '>' {
+            Step::end()
+        } else if is_mark(ch) {
+            let code = ErrorCode::MissingWhitespaceBetweenDoctypePublicAndSystemIdentifiers;
+            let quoted = DoctypeState::Quoted(Identifier::System, ch);
+            Step::keep(Keeps::Quote(Identifier::System), spaced, code, at, quoted)
+        } else {
+            Step::skip(Identifier::System.not_quoted(), at, true)
+        }
+    }
+
+    fn after_system(ch: char, at: u64) -> Step
+        ensures { result ≡ after_system (is_space ch) (is_greater ch) at }
+    {
+        if ch.is_ascii_whitespace() {
+            Step::to(DoctypeState::AfterSystem)
+        } else if ch == '>' {
+            Step::end()
+        } else {
+            let code = ErrorCode::UnexpectedCharacterAfterDoctypeSystemIdentifier;
+            Step::skip(code, at, false)
+        }
+    }
+
+    fn in_skipped(ch: char) -> Step
+        ensures { result ≡ in_skipped (is_greater ch) }
+    {
+        if ch == '>' {
+            Step::end()
+        } else {
+            Step::to(DoctypeState::Skipped)
+        }
+    }
+}

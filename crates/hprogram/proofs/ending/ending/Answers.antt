@@ -1,0 +1,11 @@
+use Rattle.std.proofs.Common.{Ok, sym, subst, IfSome}
+use Rattle.hwrite.specs.Calls.{EndsWith}
+use Rattle.hprogram.specs.Ending.{ending_text}
+use Rattle.hwrite.proofs.CallLemmas.{WritesAll-nil}
+use Rattle.hprogram.proofs.ending.ending.Goals as goal
+
+pub returns-in-Ok-clause-text : goal.returns-in-Ok-clause-text
+returns-in-Ok-clause-text g c =
+    let old = g.W.Target.written c.args.target.now in
+    let before = g.W.Target.failed c.args.target.now in
+    subst (λ outcome. IfSome (ending_text outcome) (EndsWith old before old before)) (sym c.in-Ok.is) (Ok tt, WritesAll-nil old before)

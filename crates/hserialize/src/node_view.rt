@@ -1,0 +1,48 @@
+//! Nodes as a tree lends them, and the texts of their names.
+
+ghost use Rattle.std.specs.Prelude.{◌≡◌, ◌<◌, Some};
+ghost use Rattle.names.specs.Names.{IsOf, text_of};
+ghost use Rattle.hnodes.specs.Spots.{what_of};
+ghost use Rattle.hserialize.specs.Lent.{what_is};
+
+use hnodes::{Doctype, Kind, NodeId, Tree};
+use names::{Attr, NameId, Names};
+
+/// What a node is, as its tree lends it.
+#[derive(Clone, Copy)]
+pub enum NodeView<'a> {
+    Document,
+    Doctype(&'a Doctype),
+    Element(NameId, &'a [Attr]),
+    Comment(&'a str),
+    Text(&'a str),
+}
+
+impl<'a> NodeView<'a> {
+    /// What a node of a tree is.
+    pub fn of(tree: &'a Tree, at: NodeId) -> NodeView<'a>
+        requires { at < tree.now.made }
+        ensures { Some (what_is result) ≡ what_of at tree.now.trees }
+    {
+        if let Some(name) = tree.name(at) {
+            return NodeView::Element(name, tree.attrs(at).unwrap_or(&[]));
+        }
+        if let Some(texts) = tree.doctype(at) {
+            return NodeView::Doctype(texts);
+        }
+        let kind = tree.kind(at);
+        match tree.text(at) {
+            Some(text) if kind == Kind::Text => NodeView::Text(text),
+            Some(text) => NodeView::Comment(text),
+            None => NodeView::Document,
+        }
+    }
+}
+
+/// The text of a name.
+pub fn name_text(names: &Names, name: NameId) -> &str
+    requires { IsOf names.now name }
+    ensures { result.now ≡ text_of names.now name }
+{
+    names.text(name)
+}

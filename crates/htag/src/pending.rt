@@ -1,0 +1,13 @@
+//! How far the character reference in a value is read.
+
+use charref::Walk;
+
+/// What of a value is read but not in its text yet.
+#[derive(Clone, Copy)]
+pub(crate) enum Pending<'t> {
+    Nothing,
+    /// An `&` and what this walk was handed.
+    Reference(Walk<'t>),
+    /// Nothing but an error, at an `&` that no key begins: it is told if a `;` follows the run of alphanumerics.
+    Run,
+}

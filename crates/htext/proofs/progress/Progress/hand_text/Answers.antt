@@ -1,0 +1,68 @@
+use Rattle.std.proofs.Common.{◌≡◌, ℕ, ◌-◌, List, length, map, sym, ap, ◌∙◌, arith}
+use Rattle.std.proofs.lemmas.Result.{err_from_is_err_and}
+use Rattle.std.proofs.lemmas.Str.{IsCharBoundary-from_drop, IsUtf8-past_char, chars_past_char, length-encode, chars-nil}
+use Rattle.std.proofs.lemmas.List.{length-append, length-drop}
+use Rattle.std.specs.Char.{encode_utf8, len_utf8}
+use Rattle.std.specs.Str.{chars}
+use Rattle.names.specs.Placed.{placed}
+use Rattle.htext.specs.Text.{Whole, ends_in_return}
+use Rattle.htext.proofs.Handing.{hand_more, hand_refused, hand_all}
+use Rattle.htext.proofs.Runs.{front_of}
+use Rattle.htext.proofs.Wide.{run_more, run_refused, ends_after}
+use Rattle.htext.proofs.progress.Progress.hand_text.Goals as goal
+
+pub returns-in_err-hand_run-clause-handed : goal.returns-in_err-hand_run-clause-handed
+returns-in_err-hand_run-clause-handed g c =
+    let e = err_from_is_err_and c.from_residual.result c.from_residual.ensures.1 in
+    let here = rw (c.run_at-run.ensures.after_return c.if-run-gt0.true) at c.loop-ch.invariant.handed in
+    let taken = rw (c.range.ensures.value ∙ front_of c.run_at-run.result c.loop-ch.rest.now) at c.in_err-hand_run.ensures in
+    rw (e.1, e.2) (run_refused g.S.CharSink.gives _ _ _ c.loop-ch.sink _ c.run_at-run.result c.loop-ch.rest.now here c.run_at-run.ensures.front _ c.in_err-hand_run.field-0.0 taken)
+
+pub range-requires-clause-end_boundary : goal.range-requires-clause-end_boundary
+range-requires-clause-end_boundary g c =
+    IsCharBoundary-from_drop c.loop-ch.rest.now c.run_at-run.result c.run_at-run.ensures.front.cut.within c.run_at-run.ensures.front.cut.back
+
+pub range_from-rest-requires : goal.range_from-rest-requires
+range_from-rest-requires g c = λ _.
+    IsCharBoundary-from_drop c.loop-ch.rest.now c.run_at-run.result c.run_at-run.ensures.front.cut.within c.run_at-run.ensures.front.cut.back
+
+pub loop-ch-preserved-then-run-gt0 : goal.loop-ch-preserved-then-run-gt0
+loop-ch-preserved-then-run-gt0 g c =
+    let free = c.run_at-run.ensures.after_return c.if-run-gt0.true in
+    let here = rw free at c.loop-ch.invariant.handed in
+    let ended = rw free at c.loop-ch.invariant.ends in
+    let taken = rw (c.range.ensures.value ∙ front_of c.run_at-run.result c.loop-ch.rest.now) at c.in_ok-hand_run.ensures in
+    let n = c.run_at-run.result in
+    let bytes = c.loop-ch.rest.now in
+    let left = c.range_from-rest.ensures.value in
+    record {
+      handed = rw (free, left) (run_more g.S.CharSink.gives _ _ _ c.loop-ch.sink _ n bytes here c.run_at-run.ensures.front _ taken);
+      reached = omega (arith, c.loop-ch.invariant.reached, ap length left, length-drop n bytes, c.run_at-run.ensures.front.cut.within);
+      utf8 = rw left c.run_at-run.ensures.front.cut.back;
+      ends = rw (free, left) (sym (ends_after n c.loop-ch.place bytes c.run_at-run.ensures.front) ∙ ended);
+    }
+
+pub returns-in_err-hand_char-clause-handed : goal.returns-in_err-hand_char-clause-handed
+returns-in_err-hand_char-clause-handed g c =
+    let e = err_from_is_err_and c.from_residual-in_err-hand_char.result c.from_residual-in_err-hand_char.ensures.1 in
+    rw (e.1, e.2) (hand_refused g.S.CharSink.gives _ _ _ c.loop-ch.sink _ _ _ c.loop-ch.invariant.handed c.in-Some.ch _ _ c.in_err-hand_char.field-0.0 c.loop-ch.invariant.utf8 c.in-Some.ensures.0 c.in_err-hand_char.ensures)
+
+pub loop-ch-preserved : goal.loop-ch-preserved
+loop-ch-preserved g c =
+    let is = c.in-Some.ensures.0 in
+    let bytes = c.loop-ch.rest.now in
+    let after = c.in-Some.after.now in
+    let long : length bytes - length after ≡ len_utf8 c.in-Some.ch = omega (arith, ap length is, length-append (encode_utf8 c.in-Some.ch) after, length-encode c.in-Some.ch) in
+    record {
+      handed = rw long (hand_more g.S.CharSink.gives _ _ _ c.loop-ch.sink _ _ _ c.loop-ch.invariant.handed c.in-Some.ch _ _ c.loop-ch.invariant.utf8 is c.in_ok-hand_char.ensures);
+      reached = omega (arith, c.loop-ch.invariant.reached, c.in-Some.ensures.1);
+      utf8 = IsUtf8-past_char bytes after c.in-Some.ch c.loop-ch.invariant.utf8 is;
+      ends = rw long (sym (ap (λ (cs : List ℕ). ends_in_return c.loop-ch.after_return (map Whole (placed c.loop-ch.place cs))) (chars_past_char _ _ _ c.loop-ch.invariant.utf8 is)) ∙ c.loop-ch.invariant.ends);
+    }
+
+pub returns-clause-handed : goal.returns-clause-handed
+returns-clause-handed g c = hand_all g.S.CharSink.gives _ _ _ c.loop-ch.sink _ _ _ c.loop-ch.invariant.handed c.in_default.ensures
+
+pub returns-clause-end : goal.returns-clause-end
+returns-clause-end g c =
+    sym (ap (λ (cs : List ℕ). ends_in_return c.loop-ch.after_return (map Whole (placed c.loop-ch.place cs))) (ap chars c.in_default.ensures ∙ chars-nil)) ∙ c.loop-ch.invariant.ends

@@ -1,0 +1,7 @@
+use Rattle.std.proofs.Common.{sym, ◌∙◌, arith}
+use Rattle.std.proofs.lemmas.Str.{utf8_valid_len-IsUtf8}
+use Rattle.std.proofs.lemmas.List.{take_all}
+use Rattle.htext.proofs.progress.valid_text.Goals as goal
+
+pub returns-in-Ok : goal.returns-in-Ok
+returns-in-Ok c = c.in-Ok.ensures.cases.0 ∙ sym (rw (utf8_valid_len-IsUtf8 _ c.in-Ok.ensures.cases.1) (take_all _ _ (omega arith)))

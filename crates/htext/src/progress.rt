@@ -1,0 +1,291 @@
+//! How far an input has been read.
+
+ghost use Rattle.std.specs.Prelude.{◌≡◌, ℕ, ◌+◌, ◌-◌, ◌<◌, ◌≤◌, ◌++◌, true, false, List, [], ◌∷◌, length, map, take, drop, Ok, Err, IfOk, OnOk, MatchOption, MatchResult};
+ghost use Rattle.std.specs.List.{list_all};
+ghost use Rattle.std.specs.Char.{encode_utf8, is_ascii};
+ghost use Rattle.std.specs.Str.{chars};
+ghost use Rattle.std.specs.Str.Lossy.{utf8_valid_len};
+ghost use Rattle.names.specs.Placed.{placed};
+ghost use Rattle.names.specs.Sink.{Hands};
+ghost use Rattle.names.specs.declared.refusal.Refusal.TheVariants.{NotUtf8};
+ghost use Rattle.htext.specs.declared.decoder.TheConstants.{MAX_INPUT};
+ghost use Rattle.htext.specs.declared.BadBytes.TheVariants.{Refuse, Replace};
+ghost use Rattle.htext.specs.Text.{Policy, Whole, Bad, normalized, ends_in_return, text, settled};
+ghost use Rattle.htext.specs.Items.{items, bad_each};
+ghost use Rattle.htext.specs.Run.{is_plain, is_plain_byte, run_items, IsPlainFront};
+ghost use Rattle.htext.specs.Decoding.{HasRead, HandsOn, IsReading, IsUndecided, Stops};
+ghost use Rattle.htext.specs.Next.{next_of, next_part, AreReplaced};
+
+use crate::character::{hand_char, hand_replaced};
+use crate::decoder::MAX_INPUT;
+use crate::run::{bad_run, plain_run, wide_run};
+use crate::sink::CharSink;
+use crate::{BadBytes, Bom};
+use names::Refusal;
+use simdutf8::compat::from_utf8;
+
+/// How far an input has been read.
+#[derive(Drop)]
+pub(crate) struct Progress {
+    pub(crate) bom: Bom,
+    pub(crate) bad_bytes: BadBytes,
+    pub(crate) limit: u64,
+    /// How many bytes have been read.
+    pub(crate) read: u64,
+    /// Whether the last character was a CR.
+    pub(crate) after_return: bool,
+    ghost limited: { limit ≤ MAX_INPUT },
+    ghost within: { read ≤ limit },
+}
+
+/// What stands at the front of bytes that begin with no character that fits.
+pub(crate) enum Front {
+    /// A bad part of this length, to be replaced.
+    Bad(usize),
+    /// Nothing that is settled before more bytes follow.
+    Waits,
+    /// What is refused, whatever follows.
+    Refused(Refusal),
+}
+
+impl Progress {
+    /// Reads the longest front of the bytes, which follow those read before, that is read whatever follows them. It hands the text of
+    /// that to the sink, and returns its length. The bytes are refused as soon as what is left can't become what fits.
+    pub(crate) fn advance<S: CharSink>(
+        &mut self,
+        bytes: &[u8],
+        sink: &mut S,
+    ) -> Result<usize, Refusal>
+        ensures reads { let how : Policy = record { bom = self.old.bom; bad = self.old.bad_bytes; limit = self.old.limit } in
+            (all : List ℕ) → IsReading how self.old.read self.old.after_return all → bytes.now ≡ drop self.old.read all
+            → MatchResult result
+            (λ count. HandsOn S.gives (text how.bom (take self.old.read all)) (settled how all) sink.old (Ok tt) sink.new
+            × HasRead how self.new.read self.new.after_return all × (drop count bytes.now ≡ drop self.new.read all) × IsUndecided how all)
+            (λ e. Stops S.gives how (text how.bom (take self.old.read all)) all sink.old e sink.new) }
+        ensures few { IfOk result (λ count. (count ≤ length bytes.now) × (length bytes.now ≤ count + 3)) }
+        ensures bom { self.new.bom ≡ self.old.bom }
+        ensures bad { self.new.bad_bytes ≡ self.old.bad_bytes }
+        ensures limit { self.new.limit ≡ self.old.limit }
+    {
+        let mut count = 0;
+        loop {
+            let text = valid_text(self.fitting(&bytes[count..]), count > 0);
+            self.hand_text(text, sink)?;
+            count += text.len();
+            let alone = self.bad_alone(&bytes[count..]);
+            if alone > 0 {
+                self.hand_each(alone, sink)?;
+                count += alone;
+                continue;
+            }
+            let len = match self.next(&bytes[count..]) {
+                Front::Bad(len) => len,
+                Front::Waits => return Ok(count),
+                Front::Refused(refusal) => return Err(refusal),
+            };
+            self.hand_bad(len, sink)?;
+            count += len;
+        }
+    }
+
+    /// Ends the input, after these bytes, which were held: they are replaced or refused.
+    pub(crate) fn end<S: CharSink>(&mut self, rest: &[u8], sink: &mut S) -> Result<(), Refusal>
+        requires { 0 < length rest.now }
+        ensures refused { self.old.bad_bytes ≡ Refuse → (result ≡ Err (NotUtf8 self.old.read)) × (sink.new ≡ sink.old) }
+        ensures replaced { self.old.bad_bytes ≡ Replace → self.old.read + length rest.now ≤ self.old.limit
+            → Hands S.gives sink.old (items (Bad self.old.read ∷ [])) result sink.new }
+        ensures read { OnOk result (self.new.read ≡ self.old.read + length rest.now) }
+        ensures bom { self.new.bom ≡ self.old.bom }
+        ensures bad { self.new.bad_bytes ≡ self.old.bad_bytes }
+        ensures limit { self.new.limit ≡ self.old.limit }
+    {
+        match self.bad_bytes {
+            BadBytes::Replace if rest.len() as u64 <= self.limit - self.read => self.hand_bad(
+                rest.len(),
+                sink,
+            ),
+            _ => Err(Refusal::NotUtf8 { at: self.read }),
+        }
+    }
+
+    /// What is read of bytes whose front fits: as much as there is room for.
+    fn fitting<'a>(&self, bytes: &'a [u8]) -> &'a [u8]
+        ensures { result.now ≡ take (self.now.limit - self.now.read) bytes.now }
+    {
+        let room = ((self.limit - self.read) as usize).min(bytes.len());
+        &bytes[..room]
+    }
+
+    /// How many bytes at the front are seen to be bad parts by themselves, which fit: none where bad bytes are refused.
+    fn bad_alone(&self, rest: &[u8]) -> usize
+        ensures { AreReplaced self.now.bad_bytes rest.now (self.now.limit - self.now.read) result }
+    {
+        match self.bad_bytes {
+            BadBytes::Refuse => 0,
+            BadBytes::Replace => bad_run(rest, self.fitting(rest).len()),
+        }
+    }
+
+    /// What stands at the front of bytes that begin with no character that fits.
+    fn next(&self, rest: &[u8]) -> Front
+        ensures { result ≡ next_of self.now.bad_bytes rest.now (self.now.limit - self.now.read) self.now.read }
+    {
+        let at = self.read;
+        match str::from_utf8(rest) {
+            Ok("") => self.next_part(None, 0),
+            Ok(_) => Front::Refused(Refusal::TooLarge { at }),
+            Err(error) if error.valid_up_to() > 0 => Front::Refused(Refusal::TooLarge { at }),
+            Err(error) => self.next_part(error.error_len(), rest.len()),
+        }
+    }
+
+    /// The same for this many bytes that begin with no character: with a bad part of this length, or with none that is settled.
+    fn next_part(&self, bad_len: Option<usize>, len: usize) -> Front
+        ensures { result ≡ next_part self.now.bad_bytes bad_len len (self.now.limit - self.now.read) self.now.read }
+    {
+        let at = self.read;
+        let room = (self.limit - at) as usize;
+        match (self.bad_bytes, bad_len) {
+            (BadBytes::Refuse, Some(_)) => Front::Refused(Refusal::NotUtf8 { at }),
+            (BadBytes::Refuse, None) => Front::Waits,
+            (BadBytes::Replace, Some(part)) if part > room => Front::Refused(Refusal::TooLarge {
+                at,
+            }),
+            (BadBytes::Replace, Some(part)) => Front::Bad(part),
+            (BadBytes::Replace, None) if len > room => Front::Refused(Refusal::TooLarge { at }),
+            (BadBytes::Replace, None) => Front::Waits,
+        }
+    }
+
+    /// Hands over what replaces a bad part of this length, as the next of the input.
+    fn hand_bad<S: CharSink>(&mut self, len: usize, sink: &mut S) -> Result<(), Refusal>
+        requires some { 0 < len }
+        requires fits { self.old.read + len ≤ self.old.limit }
+        ensures handed { Hands S.gives sink.old (items (Bad self.old.read ∷ [])) result sink.new }
+        ensures read { OnOk result (self.new.read ≡ self.old.read + len) }
+        ensures end { OnOk result (self.new.after_return ≡ false) }
+        ensures bom { self.new.bom ≡ self.old.bom }
+        ensures bad { self.new.bad_bytes ≡ self.old.bad_bytes }
+        ensures limit { self.new.limit ≡ self.old.limit }
+    {
+        hand_replaced(self.read, sink)?;
+        self.after_return = false;
+        self.read += len as u64;
+        Ok(())
+    }
+
+    /// Hands over what replaces this many bad parts of one byte each, as the next of the input.
+    fn hand_each<S: CharSink>(&mut self, count: usize, sink: &mut S) -> Result<(), Refusal>
+        requires { self.old.read + count ≤ self.old.limit }
+        ensures handed { Hands S.gives sink.old (items (bad_each self.old.read count)) result sink.new }
+        ensures read { OnOk result (self.new.read ≡ self.old.read + count) }
+        ensures end { OnOk result (self.new.after_return ≡ false) }
+        ensures bom { self.new.bom ≡ self.old.bom }
+        ensures bad { self.new.bad_bytes ≡ self.old.bad_bytes }
+        ensures limit { self.new.limit ≡ self.old.limit }
+    {
+        sink.take_bad(count, self.read)?;
+        self.after_return = false;
+        self.read += count as u64;
+        Ok(())
+    }
+
+    /// Hands a text to the sink, as the next of the input.
+    fn hand_text<S: CharSink>(&mut self, text: &str, sink: &mut S) -> Result<(), Refusal>
+        requires { self.old.read + length text.now ≤ self.old.limit }
+        ensures handed { Hands S.gives sink.old
+            (items (normalized self.old.bom self.old.after_return (map Whole (placed self.old.read (chars text.now))))) result sink.new }
+        ensures read { OnOk result (self.new.read ≡ self.old.read + length text.now) }
+        ensures end { OnOk result
+            (self.new.after_return ≡ ends_in_return self.old.after_return (map Whole (placed self.old.read (chars text.now)))) }
+        ensures bom { self.new.bom ≡ self.old.bom }
+        ensures bad { self.new.bad_bytes ≡ self.old.bad_bytes }
+        ensures limit { self.new.limit ≡ self.old.limit }
+    {
+        let mut rest = text;
+        let mut place = self.read;
+        let mut after_return = self.after_return;
+        while let Some((ch, after)) = split_first(rest) {
+            let run = run_at(rest, ch, after_return);
+            if run > 0 {
+                hand_run(&rest[..run], ch.is_ascii(), place, sink)?;
+                place += run as u64;
+                rest = &rest[run..];
+                continue;
+            }
+            hand_char(self.bom, after_return, ch, place, sink)?;
+            after_return = ch == '\r';
+            place += (rest.len() - after.len()) as u64;
+            rest = after;
+        }
+        self.after_return = after_return;
+        self.read = place;
+        Ok(())
+    }
+}
+
+/// The first character of a text, and what follows it.
+#[inline]
+fn split_first(text: &str) -> Option<(char, &str)>
+    ensures { MatchOption result (text.now ≡ [])
+        (λ it. (text.now ≡ encode_utf8 it.0 ++ it.1.now) × (length it.1.now < length text.now)) }
+{
+    let mut chars = text.chars();
+    let first = chars.next()?;
+    Some((first, chars.as_str()))
+}
+
+/// How many bytes the run of plain characters has at the front of a text that begins with this one: of those in ASCII where it is one
+/// of them. None after a CR, where an LF is not handed over. At a character that often ends a run, none are looked for.
+#[inline]
+fn run_at(text: &str, first: char, after_return: bool) -> usize
+    ensures front { IsPlainFront result text.now }
+    ensures ascii { is_ascii first ≡ true → list_all is_plain_byte (take result text.now) ≡ true }
+    ensures after_return { 0 < result → after_return ≡ false }
+{
+    if after_return || matches!(first, '<' | '&' | '\u{7F}'..='\u{BF}' | '\u{F000}'..) {
+        0
+    } else if first.is_ascii() {
+        plain_run(text.as_bytes())
+    } else {
+        wide_run(text.as_bytes())
+    }
+}
+
+/// Hands over a run of plain characters, the first of which is at this place; all in ASCII, or any.
+#[inline]
+fn hand_run<S: CharSink>(run: &str, is_ascii: bool, at: u64, sink: &mut S) -> Result<(), Refusal>
+    requires plain { list_all is_plain (chars run.now) ≡ true }
+    requires ascii { is_ascii ≡ true → list_all is_plain_byte run.now ≡ true }
+    requires within { at + length run.now ≤ MAX_INPUT }
+    ensures { Hands S.gives sink.old (run_items at (chars run.now)) result sink.new }
+{
+    if is_ascii {
+        sink.take_run(run, at)
+    } else {
+        sink.take_text(run, at)
+    }
+}
+
+/// The longest front that is UTF-8. After a bad part it is looked for byte by byte, since another may be near: `simdutf8` goes over
+/// all of the bytes before it looks for the first that is bad.
+fn valid_text(bytes: &[u8], after_bad: bool) -> &str
+    ensures { result.now ≡ take (utf8_valid_len bytes.now) bytes.now }
+{
+    if after_bad {
+        return valid_text_by_one(bytes);
+    }
+    match from_utf8(bytes) {
+        Ok(text) => text,
+        Err(error) => from_utf8(&bytes[..error.valid_up_to()]).unwrap(),
+    }
+}
+
+fn valid_text_by_one(bytes: &[u8]) -> &str
+    ensures { result.now ≡ take (utf8_valid_len bytes.now) bytes.now }
+{
+    match str::from_utf8(bytes) {
+        Ok(text) => text,
+        Err(error) => str::from_utf8(&bytes[..error.valid_up_to()]).unwrap(),
+    }
+}
