@@ -36,8 +36,7 @@ impl Site {
         ensures attrs { IfOk result (λ n. attributes_of n (trees self.new) ≡ Some (map attribute_of attrs.items)) }
         ensures few { self.new.nodes.made ≤ self.old.nodes.made + 1 }
     {
-        // its clause says that nodes are nodes
-        self.tree.document();
+        self.tree.are_nodes();
         self.tree.create_element(name, attrs, at)
     }
 

@@ -116,8 +116,7 @@ impl Site {
         ensures done { Gives result self.new (put_each (placed at (chars text.now)) place self.old) }
         ensures kept { Kept numbers self.old → PlaceStands place (trees self.old) → IfOk result (λ _. Kept numbers self.new) }
     {
-        // its clause says that nodes are nodes
-        self.tree.document();
+        self.tree.are_nodes();
         self.tree.put_text(text, place, at)
     }
 

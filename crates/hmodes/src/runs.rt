@@ -48,8 +48,7 @@ impl<'q> TreeConstruction<'q> {
         ensures gives { Gives result self.new.site (put_each (replaced at count) (place numbers self.old.site) self.old.site) }
         ensures rest { state_of self.new ≡ with_site self.new.site (state_of self.old) }
     {
-        // its clause says that nodes are nodes
-        self.site.tree().document();
+        self.site.tree().are_nodes();
         let run = "\u{FFFD}".repeat(self.alloc, count)?;
         let place = self.site.place();
         self.site.put_text(&run, place, at)

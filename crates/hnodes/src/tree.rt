@@ -80,6 +80,13 @@ impl Tree {
         NodeId { number: 0 }
     }
 
+    /// Its nodes are numbered in the order in which they were made, and each stands in it once.
+    pub fn are_nodes(&self)
+        ensures { AreNodes self.now }
+    {
+        prove!(!self.nodes.is_empty());
+    }
+
     /// Whether a node was made in this tree, which each call requires of the nodes that it is given.
     pub fn has(&self, node: NodeId) -> bool
         ensures { IsTrue result ↔ (node < self.now.made) }

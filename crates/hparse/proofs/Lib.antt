@@ -1,5 +1,4 @@
 pub mod Built
-pub mod Contexts
 pub mod Gathered
 pub mod Handing
 pub mod Held

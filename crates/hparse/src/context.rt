@@ -2,9 +2,9 @@
 
 ghost use Rattle.std.specs.Prelude.{◌≡◌};
 ghost use Rattle.std.specs.List.{list_all};
-ghost use Rattle.names.specs.Sets.{is_refused};
-ghost use Rattle.names.specs.Tags.{tag_named};
 ghost use Rattle.hparse.specs.Parse.{is_context, is_lower, is_name, is_name_byte};
+
+use names::Tag;
 
 /// The most bytes of a context's name.
 const MOST_BYTES: usize = 64;
@@ -40,24 +40,6 @@ fn is_name(name: &[u8]) -> bool
     }
 }
 
-/// Whether it is left out of the profile.
-fn is_refused(name: &str) -> bool
-    ensures { result ≡ is_refused (tag_named name.now) }
-{
-    matches!(
-        name,
-        "math"
-            | "svg"
-            | "template"
-            | "select"
-            | "option"
-            | "optgroup"
-            | "frame"
-            | "frameset"
-            | "keygen"
-    )
-}
-
 /// Whether a fragment may be parsed in the context of an element of this name. The name has at most 64 bytes, and is neither
 /// colgroup nor one that is left out of the profile.
 pub fn is_context(name: &str) -> bool
@@ -65,5 +47,5 @@ pub fn is_context(name: &str) -> bool
 {
     name.len() <= MOST_BYTES
         && is_name(name.as_bytes())
-        && !(name == "colgroup" || is_refused(name))
+        && !(name == "colgroup" || Tag::named(name).is_refused())
 }

@@ -1,7 +1,6 @@
 //! A tokenizer that is fed the text of an input.
 
 ghost use Rattle.std.specs.Prelude.{◌≡◌, ◌+◌, ◌≤◌, List, [], true};
-ghost use Rattle.names.specs.Names.{AreNames, Grows};
 ghost use Rattle.names.specs.Sink.{Hands};
 ghost use Rattle.htext.specs.declared.decoder.TheConstants.{MAX_INPUT};
 ghost use Rattle.htext.specs.Items.{CharItem, bad_each, input_errors};
@@ -79,16 +78,6 @@ impl<'t, S: TokenSink> Feeding<'t, S> {
         ensures { self.now.unfed ≡ [] }
     {
         let _names = &self.names;
-    }
-
-    /// Has its texts distinct, the known ones first.
-    pub fn settle(&mut self, alloc: Global)
-        ensures are { AreNames self.new.names }
-        ensures grows { Grows self.old.names self.new.names }
-        ensures rest { self.new ≡ record self.old { names = self.new.names } }
-    {
-        // A known name is there already.
-        let _ = self.names.intern(alloc, "html");
     }
 
     /// Ends the text, at the input's byte `end`.

@@ -1,4 +1,5 @@
-//! A document or a fragment to its tree and parse errors, or to its tokens, from bytes in any pieces or from a reader.
+//! A document or a fragment to its tree and parse errors, or to its tokens, from bytes in any pieces or from a reader. What its options
+//! are made of is passed on: the table of character references, the quirks list, the limits.
 #![tactic(auto)]
 
 mod collect;
@@ -14,8 +15,11 @@ mod reading;
 pub mod source;
 pub mod token_run;
 
+pub use charref::Table;
 pub use context::is_context;
 pub use document::tokens;
+pub use hmarkup::Quirks;
+pub use hmodes::Limits;
 pub use options::Options;
 pub use parsed::Parsed;
 pub use parser::{Parser, parse_reader};

@@ -22,7 +22,6 @@ use std::alloc::Global;
 /// Parses a document or a fragment that comes in pieces. After a refusal each further call returns the same refusal.
 #[derive(Drop)]
 pub struct Parser<'t> {
-    pub(crate) alloc: Global,
     pub(crate) reading: Reading<'t, Builder<'t>>,
     pub(crate) refused: Option<Refusal>,
 }
@@ -35,7 +34,6 @@ impl<'t> Parser<'t> {
         let names = Names::with_keys(alloc, options.keys)?;
         let builder = Builder::document(alloc, options.keys, options.quirks, options.limits)?;
         Ok(Parser {
-            alloc,
             reading: Reading::new(alloc, options, Start::Document, names, builder),
             refused: None,
         })
@@ -60,7 +58,6 @@ impl<'t> Parser<'t> {
         let builder = Builder::fragment(alloc, options.keys, name, options.limits)?;
         let start = Start::Context(name.tag().raw_kind());
         Ok(Parser {
-            alloc,
             reading: Reading::new(alloc, options, start, names, builder),
             refused: None,
         })
@@ -81,7 +78,7 @@ impl<'t> Parser<'t> {
         match self.reading.feed(piece) {
             Ok(()) => Ok(()),
             Err(refusal) => {
-                self.reading.feeding.settle(self.alloc);
+                self.reading.feeding.names.are_names();
                 self.refused = Some(refusal);
                 Err(refusal)
             }
@@ -94,7 +91,6 @@ impl<'t> Parser<'t> {
         ensures again { (refusal : Refused) → self.entry.refused ≡ Some refusal → result ≡ Err refusal }
     {
         let Parser {
-            alloc,
             mut reading,
             refused,
         } = self;
@@ -103,7 +99,7 @@ impl<'t> Parser<'t> {
             return Err(refusal);
         }
         let answer = reading.end();
-        reading.feeding.settle(alloc);
+        reading.feeding.names.are_names();
         match answer {
             Ok(()) => built_of(reading),
             Err(refusal) => {
@@ -132,14 +128,13 @@ pub fn parse_reader<R: Source>(
     let Parser {
         mut reading,
         refused,
-        ..
     } = parser;
     if let Some(refusal) = refused {
         drop(reading);
         return Err(refusal);
     }
     let answer = read_to_end(alloc, piece, &mut reading, source);
-    reading.feeding.settle(alloc);
+    reading.feeding.names.are_names();
     match answer {
         Ok(()) => built_of(reading),
         Err(refusal) => {

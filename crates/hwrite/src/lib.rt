@@ -12,19 +12,16 @@ pub mod lines;
 mod quoted;
 mod words;
 
-pub use charref::Table;
 pub use command::{Command, Task};
 pub use counted::Counted;
 pub use engine::{parser, run, write_text};
 pub use given_context::check_context;
-pub use hmarkup::Quirks;
-pub use hmodes::Limits;
 pub use hnodes::{
     Ancestors, ChildElements, Children, Descendants, Doctype, Kind, NodeId, Place, Tree,
 };
 pub use hparse::{
-    Options, Parsed, Parser, Source, TokenRun, is_context, parse_reader, read_into, read_tokens,
-    tokens,
+    Limits, Options, Parsed, Parser, Quirks, Source, Table, TokenRun, is_context, parse_reader,
+    read_into, read_tokens, tokens,
 };
 pub use hplain::is_plain;
 pub use hprint::{error_lines, print_errors, print_tree, tree_text};

@@ -57,7 +57,8 @@ fn the_unfinished_span_alone_is_held(rt: HostRuntime) -> Result<(), Fail> {
     let table = Table::read(rt.alloc(), NOT)?;
     for wanted in HELD.lines() {
         if let Some((text, _)) = wanted.split_once('|') {
-            assert!(rt; row(rt.alloc(), &table, text)?.as_str() == wanted);
+            let row = row(rt.alloc(), &table, text)?;
+            assert!(rt; row.as_str() == wanted, "{row} in place of {wanted}");
         }
     }
     Ok(())

@@ -1,8 +1,9 @@
+use Rattle.names.proofs.Handing.{grows_not}
 use Rattle.std.proofs.Common.{ap, subst, rules}
 use Rattle.hparse.specs.Input.{Comes}
 use Rattle.hparse.specs.Parse.{manner}
 use Rattle.hparse.specs.Parsing.{builds, AnswersParse, IsUnrefused}
-use Rattle.hparse.proofs.Parsings.{BuiltBy, IsUnrefusedBy, built_answers, refused_answers, unrefused}
+use Rattle.hparse.proofs.Parsings.{IsUnrefusedBy, built_answers, refused_answers, unrefused}
 use Rattle.hparse.proofs.Turns.{not_read, made}
 use Rattle.hparse.proofs.parser.parse_reader.Goals as goal
 
@@ -10,15 +11,14 @@ pub returns-in-Err-clause-reads : goal.returns-in-Err-clause-reads
 returns-in-Err-clause-reads g c = λ opts parse_case fed h.
     let feeding = c.read_to_end-answer.new.reading.feeding in
     not_read g.R.Source.left g.R.Source.failed (λ bytes. Comes builds (manner opts parse_case) h.began bytes feeding.names feeding.sink) (AnswersParse opts parse_case) (IsUnrefusedBy (manner opts parse_case) h.began) (IsUnrefused opts parse_case) (λ bytes u. unrefused opts parse_case fed c.args.parser h bytes u) c.args.piece fed c.args.source.now c.read_to_end-answer.new.source
-    c.in-Err.refusal (λ bytes r. refused_answers opts parse_case fed c.args.parser h c.read_to_end-answer.new.reading c.settle.new.self.names c.settle.ensures.grows c.settle.ensures.are c.in-Err.refusal bytes r)
+    c.in-Err.refusal (λ bytes r. refused_answers opts parse_case fed c.args.parser h c.read_to_end-answer.new.reading c.read_to_end-answer.new.reading.feeding.names (grows_not _) c.are_names.ensures c.in-Err.refusal bytes r)
     (c.in-Err.ensures (manner opts parse_case) h.began fed h.has_read)
 
 pub returns-in-Ok-clause-reads : goal.returns-in-Ok-clause-reads
 returns-in-Ok-clause-reads g c = λ opts parse_case fed h.
     let feeding = c.read_to_end-answer.new.reading.feeding in
-    let built = subst (λ sink. BuiltBy c.settle.new.self.names sink c.built_of.result) (ap (λ f. f.sink) c.settle.ensures.rest) c.built_of.ensures.built in
     made g.R.Source.left g.R.Source.failed (λ bytes. Comes builds (manner opts parse_case) h.began bytes feeding.names feeding.sink) (AnswersParse opts parse_case) (IsUnrefusedBy (manner opts parse_case) h.began) (IsUnrefused opts parse_case) (λ bytes u. unrefused opts parse_case fed c.args.parser h bytes u) c.args.piece fed c.args.source.now c.read_to_end-answer.new.source
-    tt c.built_of.result (λ bytes t. built_answers opts parse_case fed c.args.parser h c.read_to_end-answer.new.reading c.settle.new.self.names c.settle.ensures.grows c.settle.ensures.are c.built_of.result built bytes t)
+    tt c.built_of.result (λ bytes t. built_answers opts parse_case fed c.args.parser h c.read_to_end-answer.new.reading c.read_to_end-answer.new.reading.feeding.names (grows_not _) c.are_names.ensures c.built_of.result c.built_of.ensures.built bytes t)
     (c.in-Ok.ensures (manner opts parse_case) h.began fed h.has_read)
 
 pub returns-in-Ok-clause-again : goal.returns-in-Ok-clause-again

@@ -9,4 +9,4 @@ pub invariant_of-self : goal.invariant_of-self
 invariant_of-self c = made-after_make c.create_element.result c.self.inside.tree c.create_element.new.self (element c.args.name (map attribute_of c.args.attrs.items)) c.self.inside.stack.stack c.create_element.ensures.ok c.create_element.ensures.err c.self.invariant
 
 pub returns-clause-attrs : goal.returns-clause-attrs
-returns-clause-attrs c = made-attributes c.create_element.result c.self.inside.tree c.create_element.new.self c.args.name (map attribute_of c.args.attrs.items) c.document.ensures.nodes c.create_element.ensures.ok c.create_element.ensures.number
+returns-clause-attrs c = made-attributes c.create_element.result c.self.inside.tree c.create_element.new.self c.args.name (map attribute_of c.args.attrs.items) c.are_nodes.ensures c.create_element.ensures.ok c.create_element.ensures.number

@@ -1,3 +1,4 @@
+use Rattle.names.proofs.Handing.{grows_not}
 use Rattle.std.proofs.Common.{rules}
 use Rattle.hparse.proofs.Parsings.{feeds_on, feeds_refused}
 use Rattle.hparse.specs.Parse.{manner}
@@ -9,7 +10,7 @@ returns-in-Ok-clause-feeds c = λ opts parse_case bytes h.
 
 pub returns-in-Err-clause-feeds : goal.returns-in-Err-clause-feeds
 returns-in-Err-clause-feeds c = λ opts parse_case bytes h.
-    feeds_refused opts parse_case bytes c.args.self.now h c.feed.new.self c.settle.new.self.names c.settle.ensures.grows c.settle.ensures.are c.in-Err.refusal c.args.piece.now _ (c.in-Err.ensures (manner opts parse_case) h.began bytes h.has_read)
+    feeds_refused opts parse_case bytes c.args.self.now h c.feed.new.self c.feed.new.self.feeding.names (grows_not _) c.are_names.ensures c.in-Err.refusal c.args.piece.now _ (c.in-Err.ensures (manner opts parse_case) h.began bytes h.has_read)
 
 pub returns-in-Ok-clause-again : goal.returns-in-Ok-clause-again
 returns-in-Ok-clause-again c = search rules
