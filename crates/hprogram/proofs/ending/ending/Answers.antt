@@ -1,4 +1,4 @@
-use Rattle.std.proofs.Common.{Ok, sym, subst, IfSome}
+use Rattle.std.proofs.Common.{Ok, sym, subst, rules, IfSome}
 use Rattle.hwrite.specs.Calls.{EndsWith}
 use Rattle.hprogram.specs.Ending.{ending_text}
 use Rattle.hwrite.proofs.CallLemmas.{WritesAll-nil}
@@ -9,3 +9,6 @@ returns-in-Ok-clause-text g c =
     let old = g.W.Target.written c.args.target.now in
     let before = g.W.Target.failed c.args.target.now in
     subst (λ outcome. IfSome (ending_text outcome) (EndsWith old before old before)) (sym c.in-Ok.is) (Ok tt, WritesAll-nil old before)
+
+pub returns-in-Err-clause-status : goal.returns-in-Err-clause-status
+returns-in-Err-clause-status g c = search rules
