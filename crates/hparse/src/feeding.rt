@@ -1,6 +1,7 @@
 //! A tokenizer that is fed the text of an input.
 
 ghost use Rattle.std.specs.Prelude.{◌≡◌, ◌+◌, ◌≤◌, List, [], true};
+ghost use Rattle.names.specs.Names.{AreNames};
 ghost use Rattle.names.specs.Sink.{Hands};
 ghost use Rattle.htext.specs.declared.decoder.TheConstants.{MAX_INPUT};
 ghost use Rattle.htext.specs.Items.{CharItem, bad_each, input_errors};
@@ -78,6 +79,13 @@ impl<'t, S: TokenSink> Feeding<'t, S> {
         ensures { self.now.unfed ≡ [] }
     {
         let _names = &self.names;
+    }
+
+    /// The texts of its table of names are distinct, the known ones first.
+    pub fn are_names(&self)
+        ensures { AreNames self.now.names }
+    {
+        self.names.are_names();
     }
 
     /// Ends the text, at the input's byte `end`.

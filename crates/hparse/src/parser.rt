@@ -78,7 +78,7 @@ impl<'t> Parser<'t> {
         match self.reading.feed(piece) {
             Ok(()) => Ok(()),
             Err(refusal) => {
-                self.reading.feeding.names.are_names();
+                self.reading.feeding.are_names();
                 self.refused = Some(refusal);
                 Err(refusal)
             }
@@ -99,7 +99,7 @@ impl<'t> Parser<'t> {
             return Err(refusal);
         }
         let answer = reading.end();
-        reading.feeding.names.are_names();
+        reading.feeding.are_names();
         match answer {
             Ok(()) => built_of(reading),
             Err(refusal) => {
@@ -134,7 +134,7 @@ pub fn parse_reader<R: Source>(
         return Err(refusal);
     }
     let answer = read_to_end(alloc, piece, &mut reading, source);
-    reading.feeding.names.are_names();
+    reading.feeding.are_names();
     match answer {
         Ok(()) => built_of(reading),
         Err(refusal) => {

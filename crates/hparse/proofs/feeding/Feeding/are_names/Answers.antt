@@ -1,0 +1,7 @@
+use Rattle.std.proofs.Common.{subst}
+use Rattle.names.specs.Names.{AreNames}
+use Rattle.hparse.specs.Intake.{Intake}
+use Rattle.hparse.proofs.feeding.Feeding.are_names.Goals as goal
+
+pub returns : goal.returns
+returns g c = subst (λ (o : Intake _). AreNames o.names) c.self.view_is c.are_names.ensures
