@@ -8,7 +8,7 @@ mod beginning;
 mod blocks;
 mod builder;
 mod control;
-mod family;
+pub mod family;
 mod in_body;
 mod in_caption;
 mod in_cell;
@@ -27,7 +27,7 @@ mod step;
 mod table_body;
 mod table_text;
 mod token;
-mod token_kind;
+pub mod token_kind;
 mod tree_construction;
 mod words;
 

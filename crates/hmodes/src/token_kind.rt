@@ -10,7 +10,7 @@ use htoken::Token;
 
 /// The kind of a token, by which a rule is chosen.
 #[derive(Clone, Copy)]
-pub(crate) enum TokenKind {
+pub enum TokenKind {
     /// The character NUL.
     Nul,
     /// Tab, LF, FF, CR or space.
