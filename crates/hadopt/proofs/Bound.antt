@@ -10,7 +10,7 @@ use Rattle.hopen.specs.Scopes.{stops, is_named}
 use Rattle.hopen.specs.declared.scope.Scope.TheVariants.{Default}
 use Rattle.hformat.specs.declared.bookmark.Bookmark.TheVariants.{InPlace}
 use Rattle.hopen.specs.Nearest.{before}
-use Rattle.hformat.specs.Formatting.{EntryOf, Item, marker, entry, entries, is_of_node, entry_of, find_entry, without_entry}
+use Rattle.hformat.specs.Formatting.{EntryOf, Listed, marker, entry, entries, is_of_node, entry_of, find_entry, without_entry}
 use Rattle.names.specs.declared.error.ErrorCode.TheVariants.{TreeInBody}
 use Rattle.names.specs.declared.refusal.Refusal.TheVariants.{TooManyNodes}
 use Rattle.names.specs.Sets.{is_special}
@@ -44,7 +44,7 @@ module _ {N : Type 0} where
   nodes_after (Next s) = s.nodes.made
   nodes_after (Ended s) = s.nodes.made
 
-  pub entry_of-without : (n : ℕ) (items : List (Item N)) → entry_of n (without_entry n items) ≡ None
+  pub entry_of-without : (n : ℕ) (items : List (Listed N)) → entry_of n (without_entry n items) ≡ None
   entry_of-without n [] = refl
   entry_of-without n (marker ∷ items) = entry_of-without n items
   entry_of-without n (entry e ∷ items) = go (e.node == n) refl (entry_of-without n items)

@@ -4,7 +4,7 @@ use Rattle.std.specs.Char.{encode_utf8}
 use Rattle.std.specs.Prelude.{Result, IfOk}
 use Rattle.hnodes.specs.Forest.{Attribute, What, element, text}
 use Rattle.hnodes.specs.declared.node.Place.{Place}
-use Rattle.hformat.specs.Formatting.{Item, marker, entry, entries, cleared, without_entry}
+use Rattle.hformat.specs.Formatting.{Listed, marker, entry, entries, cleared, without_entry}
 use Rattle.hopen.specs.Stack.{OpenNode, current}
 use Rattle.names.specs.declared.tag.Tag.TheVariants.{Table}
 use Rattle.names.specs.declared.error.ErrorCode.{ErrorCode}
@@ -42,7 +42,7 @@ module _ {N : Type 0} (n : Naming N) where
     plain = k.plain;
   }
 
-  pub listed-kept : (s : SiteOf N) (items : List (Item N)) → PlainEntries n items → Kept n s → Kept n (with_items items s)
+  pub listed-kept : (s : SiteOf N) (items : List (Listed N)) → PlainEntries n items → Kept n s → Kept n (with_items items s)
   listed-kept s items p k = record { counted = k.counted; open_stands = k.open_stands; plain = p }
 
   pub error-kept : (s : SiteOf N) (code : ErrorCode) (at : ℕ) → Kept n s → Kept n (with_error code at s)
@@ -51,7 +51,7 @@ module _ {N : Type 0} (n : Naming N) where
   pub foster-kept : (s : SiteOf N) (on : Bool) → Kept n s → Kept n (record s { foster = on })
   foster-kept s on k = record { counted = k.counted; open_stands = k.open_stands; plain = k.plain }
 
-  plain-cleared : (items : List (Item N)) → PlainEntries n items → PlainEntries n (cleared items)
+  plain-cleared : (items : List (Listed N)) → PlainEntries n items → PlainEntries n (cleared items)
   plain-cleared [] p = p
   plain-cleared (marker ∷ items) p = p
   plain-cleared (entry e ∷ items) p = plain-cleared items p.1

@@ -8,7 +8,7 @@ use Rattle.hnodes.specs.Edits.{AreCounted, graft_last, make}
 use Rattle.hnodes.specs.declared.node.Place.TheVariants.{LastIn}
 use Rattle.hopen.specs.Nearest.{without}
 use Rattle.hopen.specs.Stack.{OpenNode, is_node}
-use Rattle.hformat.specs.Formatting.{EntryOf, Item, marker, entry, entries, is_of_node, entry_of, without_entry, for_node, with_node}
+use Rattle.hformat.specs.Formatting.{EntryOf, Listed, marker, entry, entries, is_of_node, entry_of, without_entry, for_node, with_node}
 use Rattle.names.specs.declared.tag.Tag.TheVariants.{Table}
 use Rattle.names.specs.declared.refusal.Refusal.TheVariants.{TooManyNodes}
 use Rattle.hnodes.proofs.Counted.{at-most, is-there, not-there, deep-there, times-new, counted-new, counted-graft}
@@ -79,7 +79,7 @@ module _ {N : Type 0} where
 
 module _ {N : Type 0} where
   -- entries that are left
-  pub among-entries : (k : ℕ) (items : List (Item N)) → Among (entries (without_entry k items)) (entries items)
+  pub among-entries : (k : ℕ) (items : List (Listed N)) → Among (entries (without_entry k items)) (entries items)
   among-entries k [] = empty
   among-entries k (marker ∷ items) = among-entries k items
   among-entries k (entry e ∷ items) = go (e.node == k) (among-entries k items)
@@ -92,13 +92,13 @@ module _ {N : Type 0} (n : Naming N) where
   abbrev pub Plain : N → Type 0
   Plain x = n.same x (n.known Table) ≡ false
 
-  abbrev pub PlainEntries : List (Item N) → Type 0
+  abbrev pub PlainEntries : List (Listed N) → Type 0
   PlainEntries items = Each (λ e. Plain e.name) (entries items)
 
-  pub plain-without : (k : ℕ) (items : List (Item N)) → PlainEntries items → PlainEntries (without_entry k items)
+  pub plain-without : (k : ℕ) (items : List (Listed N)) → PlainEntries items → PlainEntries (without_entry k items)
   plain-without k items h = each-among (λ e. Plain e.name) (entries (without_entry k items)) (entries items) (among-entries k items) h
 
-  pub plain-with_node : (old new : ℕ) (items : List (Item N)) → PlainEntries items → PlainEntries (with_node old new items)
+  pub plain-with_node : (old new : ℕ) (items : List (Listed N)) → PlainEntries items → PlainEntries (with_node old new items)
   plain-with_node old new [] h = tt
   plain-with_node old new (marker ∷ items) h = plain-with_node old new items h
   plain-with_node old new (entry e ∷ items) h = go (e.node == old) (plain-with_node old new items h.1)
@@ -137,7 +137,7 @@ module _ {N : Type 0} (n : Naming N) where
     is-x : is_node x.node x ≡ true
     is-x = eq-eqb x.node x.node refl
 
-    left-climbs : (k : ℕ) (items : List (Item N)) → PlainEntries items → Climbing block rest (left x (record c { site = with_items items c.site }))
+    left-climbs : (k : ℕ) (items : List (Listed N)) → PlainEntries items → Climbing block rest (left x (record c { site = with_items items c.site }))
     left-climbs k items plain =
         let less = among-without (is_node x.node) (stack c.site) in
         record {
@@ -183,7 +183,7 @@ module _ {N : Type 0} (n : Naming N) where
       now-behind : (y : OpenNode N) → (0 < deep y.node 0 (trees c.site)) × (deep y.node c.last (trees c.site) ≡ 0) → (0 < deep y.node 0 f') × (deep y.node count f' ≡ 0)
       now-behind y p = (omega (arith, p.0, grown-apart count (trees c.site) h.counted c.last h.low h.pos w y.node 0 (λ e. omega (arith, h.low)) p.1), grown-out count (trees c.site) h.counted c.last h.low h.pos w y.node (old y.node 0 p.0) p.1)
 
-    replaced-climbs : (e : EntryOf N) (items : List (Item N)) → PlainEntries items → Plain e.name
+    replaced-climbs : (e : EntryOf N) (items : List (Listed N)) → PlainEntries items → Plain e.name
         → Climbing block rest (replaced block count x e (record c { site = record (with_items items c.site) { nodes = make (element e.name e.attrs) c.site.nodes } }))
     replaced-climbs e items plain name =
         let w = element e.name e.attrs in
@@ -214,7 +214,7 @@ module _ {N : Type 0} (n : Naming N) where
         go true = plain-without x.node c.site.items h.plain
         go false = h.plain
 
-    abbrev items : ℕ → List (Item N)
+    abbrev items : ℕ → List (Listed N)
     items passed = entries_for passed x.node c.site.items
 
     pub one-climbs : (at passed : ℕ) → OnGoes (Climbing block rest) (climbed_one n at block passed x c)

@@ -5,7 +5,7 @@ use Rattle.std.specs.Option.{option_map_or}
 use Rattle.std.proofs.Math.Dec.{eqb-suc-zero}
 use Rattle.hopen.specs.Nearest.{before}
 use Rattle.hopen.specs.Stack.{OpenNode, in_scope, is_open}
-use Rattle.hformat.specs.Formatting.{Item, marker, entry, entry_at}
+use Rattle.hformat.specs.Formatting.{Listed, marker, entry, entry_at}
 use Rattle.hadopt.specs.Site.{SiteOf, stack}
 use Rattle.hadopt.specs.Reconstructs.{stops_going_back}
 
@@ -20,24 +20,24 @@ all-further test (y ∷ up) zero x is = let same : y ≡ x = cc in rw (same) ref
 all-further test (y ∷ up) (suc i) x is = let e : suc i + 1 ≡ suc (i + 1) = omega arith in rw (e) (all-further test up i x is)
 
 -- whether going back stops at the item with this many after it
-abbrev pub stops_at : SiteOf ℕ → ℕ → List (Item ℕ) → Bool
+abbrev pub stops_at : SiteOf ℕ → ℕ → List (Listed ℕ) → Bool
 stops_at s back items = option_map_or (λ e. is_open e.node (stack s)) (entry_at back items) true
 
-pub stopped : (s : SiteOf ℕ) (items : List (Item ℕ)) (back : ℕ) → stops_at s back items ≡ true → length (before (stops_going_back s) (drop back items)) ≡ 0
+pub stopped : (s : SiteOf ℕ) (items : List (Listed ℕ)) (back : ℕ) → stops_at s back items ≡ true → length (before (stops_going_back s) (drop back items)) ≡ 0
 stopped s [] zero stops = refl
 stopped s [] (suc back) stops = refl
 stopped s (marker ∷ items) zero stops = refl
 stopped s (entry e ∷ items) zero stops = rw (stops) refl
 stopped s (x ∷ items) (suc back) stops = stopped s items back stops
 
-pub goes_on : (s : SiteOf ℕ) (items : List (Item ℕ)) (back : ℕ) → stops_at s back items ≡ false → length (before (stops_going_back s) (drop back items)) ≡ length (before (stops_going_back s) (drop (back + 1) items)) + 1
+pub goes_on : (s : SiteOf ℕ) (items : List (Listed ℕ)) (back : ℕ) → stops_at s back items ≡ false → length (before (stops_going_back s) (drop back items)) ≡ length (before (stops_going_back s) (drop (back + 1) items)) + 1
 goes_on s [] back goes = cc
 goes_on s (marker ∷ items) zero goes = cc
 goes_on s (entry e ∷ items) zero goes = rw (goes) (omega arith)
 goes_on s (x ∷ items) (suc back) goes = let e : suc back + 1 ≡ suc (back + 1) = omega arith in rw (e) (goes_on s items back goes)
 
 -- going back ends at once where it stops at the last item
-pub stopped-at-once : (s : SiteOf ℕ) (items : List (Item ℕ)) → stops_at s 0 items ≡ (length (before (stops_going_back s) items) == 0)
+pub stopped-at-once : (s : SiteOf ℕ) (items : List (Listed ℕ)) → stops_at s 0 items ≡ (length (before (stops_going_back s) items) == 0)
 stopped-at-once s [] = refl
 stopped-at-once s (marker ∷ items) = refl
 stopped-at-once s (entry e ∷ items) = go (is_open e.node (stack s))

@@ -14,7 +14,7 @@ use Rattle.hopen.specs.Nearest.{before, changed_at}
 use Rattle.hopen.specs.Stack.{OpenNode, current, above}
 use Rattle.hopen.specs.Scopes.{is_named}
 use Rattle.hformat.specs.declared.bookmark.Bookmark.TheVariants.{InPlace}
-use Rattle.hformat.specs.Formatting.{EntryOf, Item, marker, entry, for_node, entry_at}
+use Rattle.hformat.specs.Formatting.{EntryOf, Listed, marker, entry, for_node, entry_at}
 use Rattle.names.specs.declared.tag.Tag.TheVariants.{Table}
 use Rattle.names.specs.declared.refusal.Refusal.TheVariants.{TooManyNodes, TooDeep}
 use Rattle.hnodes.proofs.Counted.{counted-what, Begins, NotBefore, below-document, in-document, at-most, not-there, deep-there, times-new, counted-new}
@@ -222,7 +222,7 @@ module _ {N : Type 0} (n : Naming N) where
       go None false = deep-stands (s.nodes.made + 1) _ (there-well (text (encode_utf8 c)) s h p fits).counted p (there-deep (text (encode_utf8 c)) s h p fits) d.1
       go (Some k) false = deep-stands s.nodes.made _ (what-well k (with_char c) s refl h).counted p (rw (deep-what (place_node p) 0 k (with_char c) (trees s)) d.0) d.1
 
-  plain-at : (back new : ℕ) (items : List (Item N)) → PlainEntries n items → PlainEntries n (changed_at back (for_node new) items)
+  plain-at : (back new : ℕ) (items : List (Listed N)) → PlainEntries n items → PlainEntries n (changed_at back (for_node new) items)
   plain-at back new [] h = tt
   plain-at zero new (marker ∷ items) h = h
   plain-at zero new (entry e ∷ items) h = h

@@ -21,7 +21,7 @@ use Rattle.hadopt.proofs.Keeping.{to-well, from-well, numbers-tell}
 use Rattle.hadopt.proofs.Booked.{Booked, climbed-booked, bookmark-there, way-others}
 use Rattle.hopen.specs.Scopes.{stops}
 use Rattle.hopen.specs.declared.scope.Scope.TheVariants.{Default}
-use Rattle.hformat.specs.Formatting.{EntryOf, Item, marker, entry, is_entry, after_marker, find_entry}
+use Rattle.hformat.specs.Formatting.{EntryOf, Listed, marker, entry, is_entry, after_marker, find_entry}
 use Rattle.names.specs.Tags.{tag_of}
 use Rattle.names.specs.declared.error.ErrorCode.{ErrorCode}
 use Rattle.hadopt.specs.Naming.{numbers}
@@ -61,7 +61,7 @@ any-among p x xs (y ∷ ys) is (skip a) = later (p y) (any-among p x xs ys is a)
 any-among p x xs (y ∷ ys) is (keep a) = rw (is) refl
 
 -- an entry that is found is in the list
-pub found-entry : (name : ℕ) (items : List (Item ℕ)) (e : EntryOf ℕ) → find_entry nat_eq name items ≡ Some e → list_any (is_entry e.node) items ≡ true
+pub found-entry : (name : ℕ) (items : List (Listed ℕ)) (e : EntryOf ℕ) → find_entry nat_eq name items ≡ Some e → list_any (is_entry e.node) items ≡ true
 found-entry name [] e is = cc
 found-entry name (marker ∷ items) e is = cc
 found-entry name (entry d ∷ items) e is = go (nat_eq name d.name) is (found-entry name items e)

@@ -12,7 +12,7 @@ use Rattle.hopen.specs.Scopes.{is_named, stops}
 use Rattle.hopen.specs.declared.scope.Scope.TheVariants.{Default}
 use Rattle.hformat.specs.declared.bookmark.Bookmark.{Bookmark}
 use Rattle.hformat.specs.declared.bookmark.Bookmark.TheVariants.{InPlace, After}
-use Rattle.hformat.specs.Formatting.{EntryOf, Item, marker, entry, is_entry, find_entry, without_entry, for_node, booked}
+use Rattle.hformat.specs.Formatting.{EntryOf, Listed, marker, entry, is_entry, find_entry, without_entry, for_node, booked}
 use Rattle.names.specs.declared.tag.Tag.TheVariants.{Table}
 use Rattle.names.specs.declared.error.ErrorCode.{ErrorCode}
 use Rattle.names.specs.declared.error.ErrorCode.TheVariants.{TreeInBody}
@@ -71,29 +71,29 @@ module _ {X : Type 0} where
       go (x ∷ xs) (y ∷ ys) (z ∷ zs) (keep a) (keep b) = keep (go xs ys zs a b)
 
 module _ {N : Type 0} (n : Naming N) where
-  abbrev PlainItem : Item N → Type 0
+  abbrev PlainItem : Listed N → Type 0
   PlainItem marker = Unit {0}
   PlainItem (entry e) = Plain n e.name
 
-  pub to-items : (items : List (Item N)) → PlainEntries n items → Each PlainItem items
+  pub to-items : (items : List (Listed N)) → PlainEntries n items → Each PlainItem items
   to-items [] h = tt
   to-items (marker ∷ items) h = (tt, to-items items h)
   to-items (entry e ∷ items) h = (h.0, to-items items h.1)
 
-  pub from-items : (items : List (Item N)) → Each PlainItem items → PlainEntries n items
+  pub from-items : (items : List (Listed N)) → Each PlainItem items → PlainEntries n items
   from-items [] h = tt
   from-items (marker ∷ items) h = from-items items h.1
   from-items (entry e ∷ items) h = (h.0, from-items items h.1)
 
-  plain-for : (new : ℕ) (i : Item N) → PlainItem i → PlainItem (for_node new i)
+  plain-for : (new : ℕ) (i : Listed N) → PlainItem i → PlainItem (for_node new i)
   plain-for new marker h = tt
   plain-for new (entry e) h = h
 
-  pub plain-booked : (old new : ℕ) (b : Bookmark) (items : List (Item N)) → PlainEntries n items → PlainEntries n (booked old new b items)
+  pub plain-booked : (old new : ℕ) (b : Bookmark) (items : List (Listed N)) → PlainEntries n items → PlainEntries n (booked old new b items)
   plain-booked old new InPlace items h = plain-with_node n old new items h
   plain-booked old new (After k) items h = go (find (is_entry old) items) refl
     where
-      go : (o : Option (Item N)) → find (is_entry old) items ≡ o → PlainEntries n (option_map_or (λ i. put_before (is_entry k) (for_node new i) (without (is_entry old) items)) o items)
+      go : (o : Option (Listed N)) → find (is_entry old) items ≡ o → PlainEntries n (option_map_or (λ i. put_before (is_entry k) (for_node new i) (without (is_entry old) items)) o items)
       go None e = h
       go (Some i) e = from-items (put_before (is_entry k) (for_node new i) (without (is_entry old) items))
           (each-put-any PlainItem (is_entry k) (for_node new i) (without (is_entry old) items) (plain-for new i (find-each PlainItem (is_entry old) items i (to-items items h) e))
@@ -104,7 +104,7 @@ module _ {N : Type 0} (n : Naming N) where
   pub fewer : (s : SiteOf N) (open_now : List (OpenNode N)) → Among open_now (stack s) → Well n s → Well n (with_stack open_now s)
   fewer s open_now a h = record { counted = h.counted; each = each-among _ open_now (stack s) a h.each; order = pairs-among _ open_now (stack s) a h.order; plain = h.plain }
 
-  pub listed-as : (s : SiteOf N) (items : List (Item N)) → PlainEntries n items → Well n s → Well n (with_items items s)
+  pub listed-as : (s : SiteOf N) (items : List (Listed N)) → PlainEntries n items → Well n s → Well n (with_items items s)
   listed-as s items p h = record { counted = h.counted; each = h.each; order = h.order; plain = p }
 
   pub erred : (s : SiteOf N) (code : ErrorCode) (at : ℕ) → Well n s → Well n (with_error code at s)

@@ -1,7 +1,7 @@
 -- The way up of the adoption agency in two parts: the first nodes, which keep their entry, and the others, which leave.
 use Rattle.std.specs.Prelude.{◌≡◌, ◌⊎◌, ℕ, ◌<◌, ◌≤◌, ◌+◌, ◌==◌, false, List, [], ◌∷◌, ◌++◌, Result, Ok, Err, length, drop}
 use Rattle.std.specs.List.{remove_range}
-use Rattle.hformat.specs.Formatting.{Item, without_entry}
+use Rattle.hformat.specs.Formatting.{Listed, without_entry}
 use Rattle.hopen.specs.Nearest.{before}
 use Rattle.hopen.specs.Stack.{OpenNode, is_node}
 use Rattle.names.specs.declared.refusal.Refusal.{Refusal}
@@ -18,7 +18,7 @@ pub record AreDifferent (s : SiteOf ℕ) : Type 0 where
   pub apart : Pairs (λ x y. (x.node == y.node) ≡ false) (stack s)
 
 -- without the entries of these nodes
-abbrev pub without_entries : List (OpenNode ℕ) → List (Item ℕ) → List (Item ℕ)
+abbrev pub without_entries : List (OpenNode ℕ) → List (Listed ℕ) → List (Listed ℕ)
 without_entries [] items = items
 without_entries (x ∷ way) items = without_entries way (without_entry x.node items)
 

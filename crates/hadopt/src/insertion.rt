@@ -19,7 +19,7 @@ ghost use Rattle.hadopt.specs.Naming.{numbers};
 ghost use Rattle.hadopt.specs.Site.{Goes, and_then, stack, trees, with_items, with_trees};
 
 use crate::site::Site;
-use hnodes::{Doctype, NodeId, Place};
+use hnodes::{DocumentType, NodeId, Place};
 use hopen::Open;
 use names::{Attr, NameId, Refusal, Tag};
 use std::alloc::AllocError;
@@ -90,7 +90,7 @@ impl Site {
     }
 
     /// Appends a doctype to the document.
-    pub fn insert_doctype(&mut self, texts: Doctype, at: u64) -> Result<NodeId, Refusal>
+    pub fn insert_doctype(&mut self, texts: DocumentType, at: u64) -> Result<NodeId, Refusal>
         ensures done { Gives result self.new (added at (doctype (string_bytes texts.name) (string_bytes texts.public_id) (string_bytes texts.system_id))
             (LastIn 0) self.old) }
         ensures kept { Kept numbers self.old → IfOk result (λ _. Kept numbers self.new) }

@@ -4,8 +4,8 @@ use Rattle.std.specs.Option.{option_map_or}
 use Rattle.hnodes.specs.Forest.{Attribute, What, document, doctype, element, comment, text, Forest, none, tree}
 use Rattle.hnodes.specs.Spelled.{spelled_what}
 use Rattle.hnodes.specs.Spots.{first_or, parent_of, first_child_of, kind_in, kind_of, next_of}
-use Rattle.hnodes.specs.declared.node.Kind.{Kind}
-use Rattle.hnodes.specs.declared.node.Kind.TheVariants as kind
+use Rattle.hnodes.specs.declared.node.NodeKind.{NodeKind}
+use Rattle.hnodes.specs.declared.node.NodeKind.TheVariants as kind
 use Rattle.hflat.specs.declared.answer.NodeRow.{NodeRow}
 
 -- a word with what ends it
@@ -35,7 +35,7 @@ words_at texts (Some w) = words_in (spelled_what texts w)
 abbrev pub node_words_at : (ℕ → List ℕ) → Option (What ℕ) → List ℕ
 node_words_at texts w = words_at texts w ++ 254 ∷ []
 
-abbrev pub kind_number : Kind → ℕ
+abbrev pub kind_number : NodeKind → ℕ
 kind_number kind.Document = 0
 kind_number kind.Doctype = 1
 kind_number kind.Element = 2

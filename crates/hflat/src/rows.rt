@@ -11,7 +11,7 @@ ghost use Rattle.hflat.specs.Lent.{what_is};
 ghost use Rattle.hflat.specs.Rows.{attribute_words, ended, kind_number, link_to, row_at, rows_of, node_words_at, words_at, words_of};
 
 use crate::answer::NodeRow;
-use hnodes::{Doctype, Kind, NodeId, Tree};
+use hnodes::{DocumentType, NodeKind, NodeId, Tree};
 use names::{Attr, NameId, Names};
 use std::alloc::{AllocError, Global};
 
@@ -58,7 +58,7 @@ fn push_attributes(words: &mut Vec<u8>, names: &Names, attrs: &[Attr]) -> Result
 }
 
 /// Adds the words of a doctype.
-fn push_doctype(words: &mut Vec<u8>, texts: &Doctype) -> Result<(), AllocError>
+fn push_doctype(words: &mut Vec<u8>, texts: &DocumentType) -> Result<(), AllocError>
     ensures { OnOk result (words.new.items ≡ words.old.items
         ++ (ended (string_bytes texts.now.name) ++ (ended (string_bytes texts.now.public_id) ++ ended (string_bytes texts.now.system_id)))) }
 {
@@ -105,7 +105,7 @@ fn push_words(
 #[derive(Clone, Copy)]
 pub(crate) enum Lent<'a> {
     Document,
-    Doctype(&'a Doctype),
+    Doctype(&'a DocumentType),
     Element(NameId, &'a [Attr]),
     Comment(&'a str),
     Text(&'a str),
@@ -125,7 +125,7 @@ impl<'a> Lent<'a> {
         }
         let kind = tree.kind(at);
         match tree.text(at) {
-            Some(text) if kind == Kind::Text => Lent::Text(text),
+            Some(text) if kind == NodeKind::Text => Lent::Text(text),
             Some(text) => Lent::Comment(text),
             None => Lent::Document,
         }
@@ -133,15 +133,15 @@ impl<'a> Lent<'a> {
 }
 
 /// The number of a kind.
-fn kind_number(kind: Kind) -> u32
+fn kind_number(kind: NodeKind) -> u32
     ensures { result ≡ kind_number kind }
 {
     match kind {
-        Kind::Document => 0,
-        Kind::Doctype => 1,
-        Kind::Element => 2,
-        Kind::Comment => 3,
-        Kind::Text => 4,
+        NodeKind::Document => 0,
+        NodeKind::Doctype => 1,
+        NodeKind::Element => 2,
+        NodeKind::Comment => 3,
+        NodeKind::Text => 4,
     }
 }
 

@@ -3,12 +3,12 @@ use Rattle.std.proofs.Common.{◌≡◌, ℕ, Bool, true, false, IsTrue, not, co
 use Rattle.std.specs.List.{list_any}
 use Rattle.std.specs.Option.{option_map}
 use Rattle.std.proofs.lemmas.Bool.{eqb-true}
-use Rattle.hformat.specs.Formatting.{Item, marker, entry, entry_of, is_entry, is_of_node, has_bookmark}
+use Rattle.hformat.specs.Formatting.{Listed, marker, entry, entry_of, is_entry, is_of_node, has_bookmark}
 use Rattle.hformat.specs.declared.bookmark.Bookmark.TheVariants.{After}
 use Rattle.hopen.specs.Nearest.{without}
 
 module _ {N : Type 0} where
-  pub any-is_entry : (n : ℕ) (items : List (Item N)) → list_any (is_entry n) items ≡ is_some (entry_of n items)
+  pub any-is_entry : (n : ℕ) (items : List (Listed N)) → list_any (is_entry n) items ≡ is_some (entry_of n items)
   any-is_entry n [] = refl
   any-is_entry n (marker ∷ items) = any-is_entry n items
   any-is_entry n (entry e ∷ items) = go (is_of_node n e) (any-is_entry n items)
@@ -18,7 +18,7 @@ module _ {N : Type 0} where
       go false i = i
 
   -- the entry of one node stays where that of another is taken from the list
-  any-without : (n k : ℕ) → eqb k n ≡ false → (items : List (Item N)) → list_any (is_entry n) (without (is_entry k) items) ≡ list_any (is_entry n) items
+  any-without : (n k : ℕ) → eqb k n ≡ false → (items : List (Listed N)) → list_any (is_entry n) (without (is_entry k) items) ≡ list_any (is_entry n) items
   any-without n k apart [] = refl
   any-without n k apart (marker ∷ items) = any-without n k apart items
   any-without n k apart (entry e ∷ items) = go (eqb e.node k) refl (any-without n k apart items)
@@ -29,7 +29,7 @@ module _ {N : Type 0} where
       go false same i = ap (λ b. eqb e.node n || b) i
 
   -- a bookmark after the entry of another node stays in the list
-  pub has_bookmark-after : (k n : ℕ) (items : List (Item N)) → not (eqb k n) ≡ true → IsTrue (list_any (is_entry n) items) → IsTrue (has_bookmark k (After n) items)
+  pub has_bookmark-after : (k n : ℕ) (items : List (Listed N)) → not (eqb k n) ≡ true → IsTrue (list_any (is_entry n) items) → IsTrue (has_bookmark k (After n) items)
   has_bookmark-after k n items apart there = any-without n k (go (eqb k n) apart) items ∙ there
     where
       go : (same : Bool) → not same ≡ true → same ≡ false

@@ -7,7 +7,7 @@ use Rattle.std.proofs.Math.Seq.{drop-nil}
 use Rattle.std.proofs.lemmas.Bool.{eqb-true, eqb-false}
 use Rattle.std.proofs.lemmas.List.{drop-drop, drop-map, take-map, get_or-drop, get_or-reverse, length-drop, length-map}
 use Rattle.hformat.proofs.Chained.{last_of}
-use Rattle.hformat.specs.Formatting.{EntryOf, Item, marker, entry, as_entry, after_marker}
+use Rattle.hformat.specs.Formatting.{EntryOf, Listed, marker, entry, as_entry, after_marker}
 use Rattle.hformat.specs.Listed.{number_by}
 use Rattle.hformat.proofs.Earliest.{farthest}
 use Rattle.hformat.specs.Items.{item_of, items_of}
@@ -30,14 +30,14 @@ last-at n p (x ∷ ns) is some = go (eqb x n) refl is (last-at n p ns)
 
 module _ {N : Type 0} where
   -- an item after the last marker is an entry
-  pub entry-up : (items : List (Item N)) (up : ℕ) (x : Item N) → slice_get items up ≡ Some x → up < length (after_marker items)
+  pub entry-up : (items : List (Listed N)) (up : ℕ) (x : Listed N) → slice_get items up ≡ Some x → up < length (after_marker items)
       → (e : EntryOf N) × ((x ≡ entry e) × (drop up (after_marker items) ≡ e ∷ drop (suc up) (after_marker items)))
   entry-up [] up x is h = absurd (omega arith)
   entry-up (marker ∷ items) up x is h = absurd (omega arith)
   entry-up (entry e ∷ items) zero x is h = (e, (cc, refl))
   entry-up (entry e ∷ items) (suc up) x is h = entry-up items up x is (omega arith)
 
-  pub after-drop : (items : List (Item N)) (up : ℕ) → up ≤ length (after_marker items) → after_marker (drop up items) ≡ drop up (after_marker items)
+  pub after-drop : (items : List (Listed N)) (up : ℕ) → up ≤ length (after_marker items) → after_marker (drop up items) ≡ drop up (after_marker items)
   after-drop items zero h = refl
   after-drop [] (suc up) h = absurd (omega arith)
   after-drop (marker ∷ items) (suc up) h = absurd (omega arith)
@@ -45,7 +45,7 @@ module _ {N : Type 0} where
 
 module _ (of : EntryOf ℕ → ℕ) where
   -- how many entries are after the last marker
-  pub length-after : (items : List (Item ℕ)) → length (after_marker items) + place of 0 items ≡ length items
+  pub length-after : (items : List (Listed ℕ)) → length (after_marker items) + place of 0 items ≡ length items
   length-after [] = refl
   length-after (marker ∷ items) = omega (arith, length-map items (number_by of))
   length-after (entry e ∷ items) = rw (eqb-suc-zero (of e)) (omega (arith, length-after items))
@@ -59,11 +59,11 @@ module _ (of : EntryOf ℕ → ℕ) where
         go false here = refl
 
     -- none is sought before the last entry of the number
-    pub record Skips (items : List (Item ℕ)) (up : ℕ) (entries : List (EntryOf ℕ)) : Type 0 where
+    pub record Skips (items : List (Listed ℕ)) (up : ℕ) (entries : List (EntryOf ℕ)) : Type 0 where
       pub count : length (filter sought entries) ≡ length (filter sought (after_marker items))
       pub first : (found : Option ℕ) → farthest sought (up + (length items - place of n items)) found entries ≡ farthest sought up found (after_marker items)
 
-    pub skips : (items : List (Item ℕ)) (up : ℕ) → Skips items up (drop (length items - place of n items) (after_marker items))
+    pub skips : (items : List (Listed ℕ)) (up : ℕ) → Skips items up (drop (length items - place of n items) (after_marker items))
     skips [] up = record { count = refl; first = λ found. refl }
     skips (marker ∷ items) up = rw (drop-nil) (record { count = refl; first = λ found. refl })
     skips (entry e ∷ items) up = go (eqb (suc (of e)) n) refl (skips items (suc up))
@@ -79,13 +79,13 @@ module _ (of : EntryOf ℕ → ℕ) where
             rw later (record { count = rw (not-sought e same) rest.count; first = λ found. rw (same, past) (rest.first found ∙ ap (λ v. farthest sought (suc up) (if v then Some up else found) (after_marker items)) (sym (not-sought e same))) })
 
     -- a step back from an item after the last marker to the one before it of the number
-    pub record Steps (items : List (Item ℕ)) (p q : ℕ) (here : Bool) : Type 0 where
+    pub record Steps (items : List (Listed ℕ)) (p q : ℕ) (here : Bool) : Type 0 where
       pub nearer : q < p
       pub number : 0 < q → get_or (map (number_by of) items) (length items - q) 0 ≡ n
       pub count : length (filter sought (drop (length items - q) (after_marker items))) + (if here then 1 else 0) ≡ length (filter sought (drop (length items - p) (after_marker items)))
       pub first : (found : Option ℕ) → farthest sought (length items - q) (if here then Some (length items - p) else found) (drop (length items - q) (after_marker items)) ≡ farthest sought (length items - p) found (drop (length items - p) (after_marker items))
 
-    abbrev is_sought : Item ℕ → Bool
+    abbrev is_sought : Listed ℕ → Bool
     is_sought x = option_map_or sought (as_entry x) false
 
     one-more : (e : EntryOf ℕ) (es : List (EntryOf ℕ)) (k : ℕ) → k ≡ length (filter sought es) → k + (if sought e then 1 else 0) ≡ length (filter sought (e ∷ es))
@@ -95,7 +95,7 @@ module _ (of : EntryOf ℕ → ℕ) where
         go true = omega arith
         go false = omega arith
 
-    pub steps : (items : List (Item ℕ)) (p q : ℕ) (x : Item ℕ) → p ≤ length items → place of 0 items < p → slice_get items (length items - p) ≡ Some x
+    pub steps : (items : List (Listed ℕ)) (p q : ℕ) (x : Listed ℕ) → p ≤ length items → place of 0 items < p → slice_get items (length items - p) ≡ Some x
         → q ≡ place of n (drop (suc (length items - p)) items) → Steps items p q (is_sought x)
     steps items p q x within marked is before =
         let up = length items - p in

@@ -3,7 +3,7 @@ use Rattle.std.proofs.Common.{◌≡◌, ℕ, suc, ◌+◌, ◌<◌, ◌≤◌, 
 use Rattle.std.specs.List.{list_any, remove}
 use Rattle.std.specs.Option.{option_map, option_map_or}
 use Rattle.std.proofs.lemmas.Bool.{le-leb, lt-leb}
-use Rattle.hformat.specs.Formatting.{EntryOf, Item, marker, entry, after_marker, without_earliest, most_equal, is_equal, with_room}
+use Rattle.hformat.specs.Formatting.{EntryOf, Listed, marker, entry, after_marker, without_earliest, most_equal, is_equal, with_room}
 
 module _ {N : Type 0} (sought : EntryOf N → Bool) where
   -- the farthest entry that is sought, where this many items come after the first of them; if none is, what was found before
@@ -44,7 +44,7 @@ module _ {N : Type 0} (sought : EntryOf N → Bool) where
       go false some rest = rest some
 
   -- the list without it
-  pub removed : (items : List (Item N)) → option_map_or (remove items) (farthest 0 None (after_marker items)) items ≡ without_earliest sought items
+  pub removed : (items : List (Listed N)) → option_map_or (remove items) (farthest 0 None (after_marker items)) items ≡ without_earliest sought items
   removed [] = refl
   removed (marker ∷ items) = refl
   removed (entry e ∷ items) = go (sought e) (list_any sought (after_marker items)) refl (removed items)
@@ -65,7 +65,7 @@ module _ {N : Type 0} (sought : EntryOf N → Bool) where
       go false w any rest = farther (farthest 1 None (after_marker items)) refl rest
 
 -- the list without what gives way to a new entry, where this many are equal to it
-module _ {N : Type 0} (same : N → N → Bool) (new : EntryOf N) (items : List (Item N)) (equal : ℕ) (count : equal ≡ length (filter (is_equal same new) (after_marker items))) where
+module _ {N : Type 0} (same : N → N → Bool) (new : EntryOf N) (items : List (Listed N)) (equal : ℕ) (count : equal ≡ length (filter (is_equal same new) (after_marker items))) where
   pub room-made : most_equal ≤ equal → option_map_or (remove items) (farthest (is_equal same new) 0 None (after_marker items)) items ≡ with_room same new items
   room-made many = rw (le-leb most_equal (length (filter (is_equal same new) (after_marker items))) (omega arith)) (removed (is_equal same new) items)
 

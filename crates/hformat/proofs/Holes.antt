@@ -6,7 +6,7 @@ use Rattle.std.proofs.Math.Dec.{eqb-zero-suc}
 use Rattle.std.proofs.lemmas.Bool.{eqb-true, lt-ltb}
 use Rattle.std.proofs.lemmas.List.{append-nil, drop_at, get_or-map, length-append, length-map, take-append-drop, take_at}
 use Rattle.std.proofs.lemmas.List.Elements.{All-drop, All-take, filter-append}
-use Rattle.hformat.specs.Formatting.{EntryOf, Item, marker, entry, as_entry, entry_of, for_node, is_entry}
+use Rattle.hformat.specs.Formatting.{EntryOf, Listed, marker, entry, as_entry, entry_of, for_node, is_entry}
 use Rattle.hformat.specs.Holes.{nth_live}
 use Rattle.hformat.specs.Items.{AreSlots, IsSlot, IsStored, hole, is_gone, is_hole, item_of, items_of, live, nowhere, told}
 use Rattle.hformat.specs.Listed.{by_node, number_by, unless_hole}
@@ -87,7 +87,7 @@ none-further None = refl
 none-further (Some k) = ap (λ n. Some n) (let same : 0 + k ≡ k = omega arith in same)
 
 -- a hole is passed, and so is an item where more are to be
-pub nth-hole : (n : ℕ) (x : Item ℕ) (xs : List (Item ℕ)) → is_hole x ≡ true → nth_live n (x ∷ xs) ≡ option_map suc (nth_live n xs)
+pub nth-hole : (n : ℕ) (x : Listed ℕ) (xs : List (Listed ℕ)) → is_hole x ≡ true → nth_live n (x ∷ xs) ≡ option_map suc (nth_live n xs)
 nth-hole zero x xs is = rw is refl
 nth-hole (suc n) x xs is = rw is refl
 
@@ -140,10 +140,10 @@ module _ (of : EntryOf ℕ → ℕ) (items : List Stored) (n p : ℕ) (x : Store
       go (stored.Entry e) same number = ap (λ z. is_some (told z)) (sym same)
 
 -- where the last entry of a node stands
-abbrev pub node_place : ℕ → List (Item ℕ) → ℕ
+abbrev pub node_place : ℕ → List (Listed ℕ) → ℕ
 node_place node items = place by_node (suc (suc node)) items
 
-pub entry_of-is : (node : ℕ) (items : List (Item ℕ)) → entry_of node items ≡ option_and_then as_entry (find (is_entry node) items)
+pub entry_of-is : (node : ℕ) (items : List (Listed ℕ)) → entry_of node items ≡ option_and_then as_entry (find (is_entry node) items)
 entry_of-is node [] = refl
 entry_of-is node (marker ∷ items) = entry_of-is node items
 entry_of-is node (entry e ∷ items) = go (eqb e.node node) (entry_of-is node items)
@@ -164,7 +164,7 @@ module _ (node : ℕ) (low : node < nowhere) where
           absurd (omega (arith, eqb-true e.node node is))
       none false is (inl h) gone = refl
 
-  pub node-none : (items : List (Item ℕ)) → AreSlots items → node_place node items ≡ 0 → list_any (is_entry node) items ≡ false
+  pub node-none : (items : List (Listed ℕ)) → AreSlots items → node_place node items ≡ 0 → list_any (is_entry node) items ≡ false
   node-none [] slots is = refl
   node-none (marker ∷ items) slots is = node-none items slots.1 (rw (eqb-zero-suc (suc node)) at is)
   node-none (entry e ∷ items) slots is = go (eqb e.node node) refl is (node-none items slots.1)
@@ -174,14 +174,14 @@ module _ (node : ℕ) (low : node < nowhere) where
       go true same is rest = let never : suc (length (map (number_by by_node) items)) ≡ 0 = rw (node-same e true slots.0 same) at is in absurd (omega arith)
       go false same is rest = rest (rw (node-same e false slots.0 same) at is)
 
-  pub node-some : (items : List (Item ℕ)) → AreSlots items → list_any (is_entry node) items ≡ true → 0 < node_place node items
+  pub node-some : (items : List (Listed ℕ)) → AreSlots items → list_any (is_entry node) items ≡ true → 0 < node_place node items
   node-some items slots there = go (node_place node items) refl
     where
       go : (n : ℕ) → node_place node items ≡ n → 0 < n
       go zero is = let never : true ≡ false = sym there ∙ node-none items slots is in cc
       go (suc n) is = omega arith
 
-  node-first : (items : List (Item ℕ)) → AreSlots items → 0 < node_place node items → position_or_len (is_entry node) items ≡ length items - node_place node items
+  node-first : (items : List (Listed ℕ)) → AreSlots items → 0 < node_place node items → position_or_len (is_entry node) items ≡ length items - node_place node items
   node-first [] slots some = absurd (omega arith)
   node-first (marker ∷ items) slots some =
       let there : 0 < node_place node items = rw (eqb-zero-suc (suc node)) at some in
@@ -196,7 +196,7 @@ module _ (node : ℕ) (low : node < nowhere) where
           let there : 0 < node_place node items = rw (node-same e false slots.0 same) at some in
           rw (node-same e false slots.0 same) (omega (arith, rest there, place-le by_node (suc (suc node)) items))
 
-  pub node-at : (items : List (Item ℕ)) → AreSlots items → 0 < node_place node items → position (is_entry node) items ≡ Some (length items - node_place node items)
+  pub node-at : (items : List (Listed ℕ)) → AreSlots items → 0 < node_place node items → position (is_entry node) items ≡ Some (length items - node_place node items)
   node-at items slots some =
       let first = node-first items slots some in
       rw (lt-ltb (position_or_len (is_entry node) items) (length items) (omega (arith, place-le by_node (suc (suc node)) items))) (ap (λ k. Some k) first)
@@ -211,7 +211,7 @@ no-position sought xs none = go (position sought xs) refl
         cc
 
 -- the last ones of a vector, where there is no hole from an index on
-solid-from : (k : ℕ) (xs : List (Item ℕ)) → ((j : ℕ) → j < k → j < length xs → is_hole (get_or xs j hole) ≡ false) → AllSolid k xs
+solid-from : (k : ℕ) (xs : List (Listed ℕ)) → ((j : ℕ) → j < k → j < length xs → is_hole (get_or xs j hole) ≡ false) → AllSolid k xs
 solid-from zero xs there = tt
 solid-from (suc k) [] there = tt
 solid-from (suc k) (x ∷ xs) there = (there 0 (omega arith) (omega arith), solid-from k xs (λ j h w. there (suc j) (omega arith) (omega arith)))
@@ -258,9 +258,9 @@ module _ (items : List Stored) (stored : All IsStored items) (back : ℕ) where
         let within : index < length items = omega (arith, nth-index.1.1) in
         sym (gone-is x (subst IsStored (sym is) (stored index x within))) ∙ nth-real back nth-index.0 (items_of items) nth-index.1.0 (item_of x) (nth-item x is)
 
-pub changed-marker : (up node : ℕ) (items : List (Item ℕ)) → slice_get items up ≡ Some marker → changed_at up (for_node node) items ≡ items
+pub changed-marker : (up node : ℕ) (items : List (Listed ℕ)) → slice_get items up ≡ Some marker → changed_at up (for_node node) items ≡ items
 changed-marker up node [] is = refl
-changed-marker zero node (i ∷ items) is = ap (λ (j : Item ℕ). for_node node j ∷ items) (let same : i ≡ marker = cc in same) ∙ ap (λ (j : Item ℕ). j ∷ items) (let same : marker ≡ i = cc in same)
+changed-marker zero node (i ∷ items) is = ap (λ (j : Listed ℕ). for_node node j ∷ items) (let same : i ≡ marker = cc in same) ∙ ap (λ (j : Listed ℕ). j ∷ items) (let same : marker ≡ i = cc in same)
 changed-marker (suc up) node (i ∷ items) is = ap (λ xs. i ∷ xs) (changed-marker up node items is)
 
 -- what is told of no entry, and is no hole, is a marker
@@ -269,7 +269,7 @@ marker-is stored.Hole there none = cc
 marker-is stored.Marker there none = refl
 marker-is (stored.Entry e) there none = cc
 
-pub length-live-le : (xs : List (Item ℕ)) → length (live xs) ≤ length xs
+pub length-live-le : (xs : List (Listed ℕ)) → length (live xs) ≤ length xs
 length-live-le [] = omega arith
 length-live-le (x ∷ xs) = go (is_hole x) (length-live-le xs)
   where

@@ -5,7 +5,7 @@ use Rattle.hformat.specs.declared.entry.Slot.{Slot as Stored}
 use Rattle.std.specs.List.{list_any, position, position_or_len, find, slice_get}
 use Rattle.std.proofs.lemmas.List.Folds.{find_at}
 use Rattle.std.proofs.lemmas.Option.{cond_some}
-use Rattle.hformat.specs.Formatting.{Item, is_entry}
+use Rattle.hformat.specs.Formatting.{Listed, is_entry}
 use Rattle.hformat.specs.Items.{items_of, item_of}
 use Rattle.hopen.proofs.Nearest.{reverse_push, is_some-position, slice_get_nearest}
 
@@ -36,7 +36,7 @@ not_missing node items there none =
 
 -- and is the item that this many come after
 pub found_at : (node : ℕ) (items : List Stored) (back i : ℕ) (x : Stored) → position (is_entry node) (items_of items) ≡ Some back → i + suc back ≡ length items → x ≡ get_or items i x
-    → ◌≡◌ {A = Option (Item ℕ)} (Some (item_of x)) (find (is_entry node) (items_of items))
+    → ◌≡◌ {A = Option (Listed ℕ)} (Some (item_of x)) (find (is_entry node) (items_of items))
 found_at node items back i x found at is =
     let back_or : position_or_len (is_entry node) (items_of items) ≡ back = (cond_some (ltb (position_or_len (is_entry node) (items_of items)) (length (items_of items))) (position_or_len (is_entry node) (items_of items)) back found).1 in
     ap (λ y. Some (item_of y)) is ∙ sym (find_at (is_entry node) (items_of items) ∙ ap (slice_get (items_of items)) back_or ∙ slice_get_nearest item_of items i back x at)

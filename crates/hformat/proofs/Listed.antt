@@ -7,7 +7,7 @@ use Rattle.std.proofs.lemmas.Simd.{map-map}
 use Rattle.std.proofs.Math.Dec.{eqb-suc-zero, eqb-zero-suc}
 use Rattle.std.proofs.lemmas.Bool.{eqb-true, eqb-false, eq-eqb}
 use Rattle.hopen.specs.Nearest.{without}
-use Rattle.hformat.specs.Formatting.{EntryOf, Item, marker, entry, as_entry, cleared, find_entry}
+use Rattle.hformat.specs.Formatting.{EntryOf, Listed, marker, entry, as_entry, cleared, find_entry}
 use Rattle.hformat.specs.Items.{item_of, items_of, nowhere}
 use Rattle.hformat.specs.Listed.{by_name, number_by, unless_hole}
 use Rattle.hformat.specs.declared.entry.Slot.{Slot as Stored}
@@ -28,20 +28,20 @@ module _ (of : EntryOf ℕ → ℕ) where
   numbers-seen items = sym (reverse-reverse (map number items)) ∙ ap reverse (numbers-back items)
 
   -- the place of the last item of a number
-  abbrev pub place : ℕ → List (Item ℕ) → ℕ
+  abbrev pub place : ℕ → List (Listed ℕ) → ℕ
   place n items = last_of n (map (number_by of) items)
 
-  pub place-le : (n : ℕ) (items : List (Item ℕ)) → place n items ≤ length items
+  pub place-le : (n : ℕ) (items : List (Listed ℕ)) → place n items ≤ length items
   place-le n items = let most : place n items ≤ length (map (number_by of) items) = last_place-le (λ k. eqb k n) (map (number_by of) items) in omega (arith, length-map items (number_by of))
 
 -- the place of the last marker, and of the last item of a name
-abbrev pub marker_place : List (Item ℕ) → ℕ
+abbrev pub marker_place : List (Listed ℕ) → ℕ
 marker_place items = place by_name 0 items
 
-abbrev pub name_place : ℕ → List (Item ℕ) → ℕ
+abbrev pub name_place : ℕ → List (Listed ℕ) → ℕ
 name_place name items = place by_name (suc (suc name)) items
 
-pub cleared-place : (of : EntryOf ℕ → ℕ) (items : List (Item ℕ)) → cleared items ≡ drop (length items - (place of 0 items - 1)) items
+pub cleared-place : (of : EntryOf ℕ → ℕ) (items : List (Listed ℕ)) → cleared items ≡ drop (length items - (place of 0 items - 1)) items
 cleared-place of [] = refl
 cleared-place of (marker ∷ items) =
     let one : suc (length items) - (suc (length (map (number_by of) items)) - 1) ≡ 1 = omega (arith, length-map items (number_by of)) in
@@ -90,7 +90,7 @@ turned a b false e = go (eqb b a) refl
     go false s = refl
 
 -- the last entry of a name is the item at its place, unless that is before the last marker
-pub find-none : (name : ℕ) → name < nowhere → (items : List (Item ℕ)) → name_place name items ≤ marker_place items → find_entry nat_eq name items ≡ None
+pub find-none : (name : ℕ) → name < nowhere → (items : List (Listed ℕ)) → name_place name items ≤ marker_place items → find_entry nat_eq name items ≡ None
 find-none name low [] h = refl
 find-none name low (marker ∷ items) h = refl
 find-none name low (entry e ∷ items) h = go (eqb e.name name) refl (rw (eqb-suc-zero (by_name e)) at h) (find-none name low items)
@@ -102,7 +102,7 @@ find-none name low (entry e ∷ items) h = go (eqb e.name name) refl (rw (eqb-su
         absurd (omega (arith, place-le by_name 0 items, length-map items (number_by by_name)))
     go false s h i = rw (turned e.name name false s) (i (rw (named-same name low e false s) at h))
 
-pub find-at : (name : ℕ) → name < nowhere → (items : List (Item ℕ)) → marker_place items < name_place name items
+pub find-at : (name : ℕ) → name < nowhere → (items : List (Listed ℕ)) → marker_place items < name_place name items
     → option_and_then as_entry (slice_get items (length items - name_place name items)) ≡ find_entry nat_eq name items
 find-at name low [] h = absurd (omega arith)
 find-at name low (marker ∷ items) h =

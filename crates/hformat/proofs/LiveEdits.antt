@@ -4,24 +4,24 @@ use Rattle.std.specs.List.{find, list_any, remove}
 use Rattle.std.specs.Option.{option_map_or}
 use Rattle.std.proofs.lemmas.Bool.{cases_Bool}
 use Rattle.hopen.specs.Nearest.{without, changed, put_before, changed_at}
-use Rattle.hformat.specs.Formatting.{EntryOf, Item, marker, entry, after_marker, cleared, is_entry, for_node, with_node, booked, has_bookmark, without_earliest, most_equal, is_equal, with_room}
+use Rattle.hformat.specs.Formatting.{EntryOf, Listed, marker, entry, after_marker, cleared, is_entry, for_node, with_node, booked, has_bookmark, without_earliest, most_equal, is_equal, with_room}
 use Rattle.hformat.specs.Items.{nowhere, hole, is_hole, live, AreSlots}
 use Rattle.hformat.specs.declared.bookmark.Bookmark.{Bookmark}
 use Rattle.hformat.specs.declared.bookmark.Bookmark.TheVariants.{InPlace, After}
 use Rattle.hformat.proofs.Live.{apart, is_hole-for_node, Spares, spares-node, find_is-live, any-live, any_after-live, filter_after-live}
 
-pub live-cons : (x : Item ℕ) (xs ys : List (Item ℕ)) → live xs ≡ live ys → live (x ∷ xs) ≡ live (x ∷ ys)
+pub live-cons : (x : Listed ℕ) (xs ys : List (Listed ℕ)) → live xs ≡ live ys → live (x ∷ xs) ≡ live (x ∷ ys)
 live-cons x xs ys same = ap (λ l. cond (not (is_hole x)) (x ∷ l) l) same
 
 -- up to the last marker
-pub cleared-live : (xs : List (Item ℕ)) → cleared (live xs) ≡ live (cleared xs)
+pub cleared-live : (xs : List (Listed ℕ)) → cleared (live xs) ≡ live (cleared xs)
 cleared-live [] = refl
 cleared-live (marker ∷ xs) = refl
 cleared-live (entry e ∷ xs) = elim (cases_Bool (is_hole (entry e))) [ inl h ↦ rw h (cleared-live xs) | inr h ↦ rw h (cleared-live xs) ]
 
 -- room for a new entry
 module _ (sought : EntryOf ℕ → Bool) (spares : (e : EntryOf ℕ) → is_hole (entry e) ≡ true → sought e ≡ false) where
-  pub earliest-live : (xs : List (Item ℕ)) → without_earliest sought (live xs) ≡ live (without_earliest sought xs)
+  pub earliest-live : (xs : List (Listed ℕ)) → without_earliest sought (live xs) ≡ live (without_earliest sought xs)
   earliest-live [] = refl
   earliest-live (marker ∷ xs) = refl
   earliest-live (entry e ∷ xs) = elim (cases_Bool (is_hole (entry e))) [
@@ -34,7 +34,7 @@ module _ (sought : EntryOf ℕ → Bool) (spares : (e : EntryOf ℕ) → is_hole
       go true h i = refl
       go false h i = rw h (ap (λ l. entry e ∷ l) i)
 
-pub room-live : (new : EntryOf ℕ) (xs : List (Item ℕ)) → new.name < nowhere → with_room nat_eq new (live xs) ≡ live (with_room nat_eq new xs)
+pub room-live : (new : EntryOf ℕ) (xs : List (Listed ℕ)) → new.name < nowhere → with_room nat_eq new (live xs) ≡ live (with_room nat_eq new xs)
 room-live new xs low = rw (filter_after-live (is_equal nat_eq new) spares xs) (go (nat_le most_equal (length (filter (is_equal nat_eq new) (after_marker xs)))))
   where
     spares : (e : EntryOf ℕ) → is_hole (entry e) ≡ true → is_equal nat_eq new e ≡ false
@@ -45,15 +45,15 @@ room-live new xs low = rw (filter_after-live (is_equal nat_eq new) spares xs) (g
     go false = refl
 
 -- a hole in an item's place
-pub hide-live : (k : ℕ) (xs : List (Item ℕ)) → live (changed_at k (λ _. hole) xs) ≡ live (remove xs k)
+pub hide-live : (k : ℕ) (xs : List (Listed ℕ)) → live (changed_at k (λ _. hole) xs) ≡ live (remove xs k)
 hide-live zero [] = refl
 hide-live (suc k) [] = refl
 hide-live zero (x ∷ xs) = refl
 hide-live (suc k) (x ∷ xs) = live-cons x (changed_at k (λ _. hole) xs) (remove xs k) (hide-live k xs)
 
 -- edits at the nearest that is sought, where no hole is
-module _ (sought : Item ℕ → Bool) where
-  pub changed_spared : (f : Item ℕ → Item ℕ) → ((i : Item ℕ) → is_hole (f i) ≡ is_hole i) → (xs : List (Item ℕ)) → Spares sought xs
+module _ (sought : Listed ℕ → Bool) where
+  pub changed_spared : (f : Listed ℕ → Listed ℕ) → ((i : Listed ℕ) → is_hole (f i) ≡ is_hole i) → (xs : List (Listed ℕ)) → Spares sought xs
       → changed sought f (live xs) ≡ live (changed sought f xs)
   changed_spared f same [] s = refl
   changed_spared f same (x ∷ xs) s = go (is_hole x) (sought x) refl refl (changed_spared f same xs s.1)
@@ -65,7 +65,7 @@ module _ (sought : Item ℕ → Bool) where
       go false true h k i = rw (k, same x, h) refl
       go false false h k i = rw (h, k) (ap (λ l. x ∷ l) i)
 
-  pub without_spared : (xs : List (Item ℕ)) → Spares sought xs → without sought (live xs) ≡ live (without sought xs)
+  pub without_spared : (xs : List (Listed ℕ)) → Spares sought xs → without sought (live xs) ≡ live (without sought xs)
   without_spared [] s = refl
   without_spared (x ∷ xs) s = go (is_hole x) (sought x) refl refl (without_spared xs s.1)
     where
@@ -76,7 +76,7 @@ module _ (sought : Item ℕ → Bool) where
       go false true h k i = rw k refl
       go false false h k i = rw (h, k) (ap (λ l. x ∷ l) i)
 
-  pub put_spared : (new : Item ℕ) → is_hole new ≡ false → (xs : List (Item ℕ)) → Spares sought xs
+  pub put_spared : (new : Listed ℕ) → is_hole new ≡ false → (xs : List (Listed ℕ)) → Spares sought xs
       → put_before sought new (live xs) ≡ live (put_before sought new xs)
   put_spared new real [] s = refl
   put_spared new real (x ∷ xs) s = go (is_hole x) (sought x) refl refl (put_spared new real xs s.1)
@@ -89,7 +89,7 @@ module _ (sought : Item ℕ → Bool) where
       go false false h k i = rw (h, k) (ap (λ l. x ∷ l) i)
 
   -- what is found is no hole
-  pub found_real : (x : Item ℕ) (xs : List (Item ℕ)) → Spares sought xs → find sought xs ≡ Some x → is_hole x ≡ false
+  pub found_real : (x : Listed ℕ) (xs : List (Listed ℕ)) → Spares sought xs → find sought xs ≡ Some x → is_hole x ≡ false
   found_real x [] s found = cc
   found_real x (y ∷ xs) s found = go (is_hole y) (sought y) refl refl (found_real x xs s.1) found
     where
@@ -100,7 +100,7 @@ module _ (sought : Item ℕ → Bool) where
       go v false h k i found = i found
 
 -- edits at the entry of a node
-module _ (old : ℕ) (xs : List (Item ℕ)) (slots : AreSlots xs) (low : old < nowhere) where
+module _ (old : ℕ) (xs : List (Listed ℕ)) (slots : AreSlots xs) (low : old < nowhere) where
   pub with_node-live : (new : ℕ) → with_node old new (live xs) ≡ live (with_node old new xs)
   with_node-live new = changed_spared (is_entry old) (for_node new) (is_hole-for_node new) xs (spares-node old xs slots low)
 
@@ -108,11 +108,11 @@ module _ (old : ℕ) (xs : List (Item ℕ)) (slots : AreSlots xs) (low : old < n
   without1-live = without_spared (is_entry old) xs (spares-node old xs slots low)
 
 -- the items stay markers, entries or the hole
-slots-either : (v : Bool) (xs ys : List (Item ℕ)) → AreSlots xs → AreSlots ys → AreSlots (cond v xs ys)
+slots-either : (v : Bool) (xs ys : List (Listed ℕ)) → AreSlots xs → AreSlots ys → AreSlots (cond v xs ys)
 slots-either true xs ys s t = s
 slots-either false xs ys s t = t
 
-pub slots-without : (sought : Item ℕ → Bool) (xs : List (Item ℕ)) → AreSlots xs → AreSlots (without sought xs)
+pub slots-without : (sought : Listed ℕ → Bool) (xs : List (Listed ℕ)) → AreSlots xs → AreSlots (without sought xs)
 slots-without sought [] s = tt
 slots-without sought (x ∷ xs) s = slots-either (sought x) xs (x ∷ without sought xs) s.1 (s.0, slots-without sought xs s.1)
 
@@ -121,12 +121,12 @@ abbrev pub IsBookmark : Bookmark → Type 0
 IsBookmark InPlace = Unit {0}
 IsBookmark (After n) = n < nowhere
 
-pub booked-live : (old new : ℕ) (b : Bookmark) (xs : List (Item ℕ)) → AreSlots xs → old < nowhere → IsBookmark b
+pub booked-live : (old new : ℕ) (b : Bookmark) (xs : List (Listed ℕ)) → AreSlots xs → old < nowhere → IsBookmark b
     → booked old new b (live xs) ≡ live (booked old new b xs)
 booked-live old new InPlace xs s low in_list = with_node-live old xs s low new
 booked-live old new (After n) xs s low in_list = rw (find_is-live old xs s low, without1-live old xs s low) (go (find (is_entry old) xs) refl)
   where
-    go : (o : Option (Item ℕ)) → find (is_entry old) xs ≡ o
+    go : (o : Option (Listed ℕ)) → find (is_entry old) xs ≡ o
         → option_map_or (λ i. put_before (is_entry n) (for_node new i) (live (without (is_entry old) xs))) o (live xs)
         ≡ live (option_map_or (λ i. put_before (is_entry n) (for_node new i) (without (is_entry old) xs)) o xs)
     go None found = refl
@@ -135,7 +135,7 @@ booked-live old new (After n) xs s low in_list = rw (find_is-live old xs s low, 
         let left : Spares (is_entry n) (without (is_entry old) xs) = spares-node n (without (is_entry old) xs) (slots-without (is_entry old) xs s) in_list in
         put_spared (is_entry n) (for_node new i) (is_hole-for_node new i ∙ real) (without (is_entry old) xs) left
 
-pub has_bookmark-live : (old : ℕ) (b : Bookmark) (xs : List (Item ℕ)) → AreSlots xs → old < nowhere → IsBookmark b
+pub has_bookmark-live : (old : ℕ) (b : Bookmark) (xs : List (Listed ℕ)) → AreSlots xs → old < nowhere → IsBookmark b
     → has_bookmark old b (live xs) ≡ has_bookmark old b xs
 has_bookmark-live old InPlace xs s low in_list = refl
 has_bookmark-live old (After n) xs s low in_list =

@@ -2,17 +2,17 @@
 use Rattle.std.proofs.Common.{◌≡◌, ℕ, suc, ◌<◌, nat_eq, cond, not, Bool, List, ◌∷◌, Option, Some, None, sym, ◌∙◌, ap}
 use Rattle.std.specs.List.{remove}
 use Rattle.std.specs.Option.{option_map_or}
-use Rattle.hformat.specs.Formatting.{EntryOf, Item, entry, pushed, with_room}
+use Rattle.hformat.specs.Formatting.{EntryOf, Listed, entry, pushed, with_room}
 use Rattle.hformat.specs.Items.{hole, live, nowhere}
 use Rattle.hopen.specs.Nearest.{changed_at}
 use Rattle.hformat.proofs.Holes.{apart}
 use Rattle.hformat.proofs.LiveEdits.{hide-live, room-live}
 
 -- a new entry is no hole
-live-new : (new : EntryOf ℕ) → new.name < nowhere → (xs : List (Item ℕ)) → live (entry new ∷ xs) ≡ entry new ∷ live xs
+live-new : (new : EntryOf ℕ) → new.name < nowhere → (xs : List (Listed ℕ)) → live (entry new ∷ xs) ≡ entry new ∷ live xs
 live-new new low xs = ap (λ (v : Bool). cond (not v) (entry new ∷ live xs) (live xs)) (apart new.name nowhere low)
 
-pub pushed-live : (new : EntryOf ℕ) → new.name < nowhere → (xs : List (Item ℕ)) (first : Option ℕ) → option_map_or (remove xs) first xs ≡ with_room nat_eq new xs
+pub pushed-live : (new : EntryOf ℕ) → new.name < nowhere → (xs : List (Listed ℕ)) (first : Option ℕ) → option_map_or (remove xs) first xs ≡ with_room nat_eq new xs
     → live (option_map_or (λ k. changed_at (suc k) (λ _. hole) (entry new ∷ xs)) first (entry new ∷ xs)) ≡ pushed nat_eq new (live xs)
 pushed-live new low xs None room = live-new new low xs ∙ ap (λ l. entry new ∷ l) (ap live room ∙ sym (room-live new xs low))
 pushed-live new low xs (Some k) room =

@@ -7,7 +7,7 @@ use Rattle.std.proofs.lemmas.List.{length-map}
 use Rattle.std.proofs.lemmas.Option.{slice_get-map}
 use Rattle.hopen.proofs.Images.{without-map, changed-map, put_before-map, filter-map, find-map, any-map, all-map, changed_at-map}
 use Rattle.hopen.specs.Nearest.{without, put_before}
-use Rattle.hformat.specs.Formatting.{EntryOf, Item, marker, entry, entries, is_of_node, is_entry, as_entry, entry_at, entry_of, after_marker, cleared, for_node, with_node, booked, without_earliest, most_equal, same_attribute, are_among, is_equal, pushed, find_entry}
+use Rattle.hformat.specs.Formatting.{EntryOf, Listed, marker, entry, entries, is_of_node, is_entry, as_entry, entry_at, entry_of, after_marker, cleared, for_node, with_node, booked, without_earliest, most_equal, same_attribute, are_among, is_equal, pushed, find_entry}
 use Rattle.hformat.specs.Spelled.{spelled_entry, spelled_item, spelled_items, FormattingKnowsNoNames}
 use Rattle.hformat.specs.declared.bookmark.Bookmark.{Bookmark}
 use Rattle.hformat.specs.declared.bookmark.Bookmark.TheVariants.{InPlace, After}
@@ -15,17 +15,17 @@ use Rattle.hnodes.specs.Forest.{Attribute}
 use Rattle.hnodes.specs.Spelled.{spelled_attribute}
 
 module _ {N M : Type 0} (same : N → N → Bool) (same' : M → M → Bool) (g : N → M) (names : (a b : N) → same' (g a) (g b) ≡ same a b) where
-  after_marker-map : (items : List (Item N)) → after_marker (spelled_items g items) ≡ map (spelled_entry g) (after_marker items)
+  after_marker-map : (items : List (Listed N)) → after_marker (spelled_items g items) ≡ map (spelled_entry g) (after_marker items)
   after_marker-map [] = refl
   after_marker-map (marker ∷ items) = refl
   after_marker-map (entry e ∷ items) = ap (◌∷◌ (spelled_entry g e)) (after_marker-map items)
 
-  entries-map : (items : List (Item N)) → entries (spelled_items g items) ≡ map (spelled_entry g) (entries items)
+  entries-map : (items : List (Listed N)) → entries (spelled_items g items) ≡ map (spelled_entry g) (entries items)
   entries-map [] = refl
   entries-map (marker ∷ items) = entries-map items
   entries-map (entry e ∷ items) = ap (◌∷◌ (spelled_entry g e)) (entries-map items)
 
-  cleared-map : (items : List (Item N)) → cleared (spelled_items g items) ≡ spelled_items g (cleared items)
+  cleared-map : (items : List (Listed N)) → cleared (spelled_items g items) ≡ spelled_items g (cleared items)
   cleared-map [] = refl
   cleared-map (marker ∷ items) = refl
   cleared-map (entry e ∷ items) = cleared-map items
@@ -41,7 +41,7 @@ module _ {N M : Type 0} (same : N → N → Bool) (same' : M → M → Bool) (g 
   is_equal-map : (new e : EntryOf N) → is_equal same' (spelled_entry g new) (spelled_entry g e) ≡ is_equal same new e
   is_equal-map new e = λ i. names new.name e.name i && (are_among-map new.attrs e.attrs i && are_among-map e.attrs new.attrs i)
 
-  without_earliest-map : (p : EntryOf N → Bool) (q : EntryOf M → Bool) → ((e : EntryOf N) → q (spelled_entry g e) ≡ p e) → (items : List (Item N))
+  without_earliest-map : (p : EntryOf N → Bool) (q : EntryOf M → Bool) → ((e : EntryOf N) → q (spelled_entry g e) ≡ p e) → (items : List (Listed N))
       → without_earliest q (spelled_items g items) ≡ spelled_items g (without_earliest p items)
   without_earliest-map p q f [] = refl
   without_earliest-map p q f (marker ∷ items) = refl
@@ -55,13 +55,13 @@ module _ {N M : Type 0} (same : N → N → Bool) (same' : M → M → Bool) (g 
       go true = refl
       go false = refl
 
-  equal-map : (new : EntryOf N) (items : List (Item N)) → length (filter (is_equal same' (spelled_entry g new)) (after_marker (spelled_items g items))) ≡ length (filter (is_equal same new) (after_marker items))
+  equal-map : (new : EntryOf N) (items : List (Listed N)) → length (filter (is_equal same' (spelled_entry g new)) (after_marker (spelled_items g items))) ≡ length (filter (is_equal same new) (after_marker items))
   equal-map new items =
       ap (λ es. length (filter (is_equal same' (spelled_entry g new)) es)) (after_marker-map items)
       ∙ ap length (filter-map (spelled_entry g) (is_equal same new) (is_equal same' (spelled_entry g new)) (is_equal-map new) (after_marker items))
       ∙ length-map (filter (is_equal same new) (after_marker items)) (spelled_entry g)
 
-  pushed-map : (new : EntryOf N) (items : List (Item N)) → pushed same' (spelled_entry g new) (spelled_items g items) ≡ spelled_items g (pushed same new items)
+  pushed-map : (new : EntryOf N) (items : List (Listed N)) → pushed same' (spelled_entry g new) (spelled_items g items) ≡ spelled_items g (pushed same new items)
   pushed-map new items =
       (λ i. entry (spelled_entry g new) ∷ (if nat_le most_equal (equal-map new items i) then without_earliest-map (is_equal same new) (is_equal same' (spelled_entry g new)) (is_equal-map new) items i else spelled_items g items))
       ∙ go (nat_le most_equal (length (filter (is_equal same new) (after_marker items))))
@@ -71,34 +71,34 @@ module _ {N M : Type 0} (same : N → N → Bool) (same' : M → M → Bool) (g 
       go true = refl
       go false = refl
 
-  find_entry-map : (a : N) (items : List (Item N)) → find_entry same' (g a) (spelled_items g items) ≡ option_map (spelled_entry g) (find_entry same a items)
+  find_entry-map : (a : N) (items : List (Listed N)) → find_entry same' (g a) (spelled_items g items) ≡ option_map (spelled_entry g) (find_entry same a items)
   find_entry-map a items =
       ap (find (λ e. same' (g a) e.name)) (after_marker-map items)
       ∙ find-map (spelled_entry g) (λ e. same a e.name) (λ e. same' (g a) e.name) (λ e. names a e.name) (after_marker items)
 
-  entry_of-map : (n : ℕ) (items : List (Item N)) → entry_of n (spelled_items g items) ≡ option_map (spelled_entry g) (entry_of n items)
+  entry_of-map : (n : ℕ) (items : List (Listed N)) → entry_of n (spelled_items g items) ≡ option_map (spelled_entry g) (entry_of n items)
   entry_of-map n items = ap (find (is_of_node n)) (entries-map items) ∙ find-map (spelled_entry g) (is_of_node n) (is_of_node n) (λ _. refl) (entries items)
 
-  get_entry-map : (back : ℕ) (items : List (Item N)) → entry_at back (spelled_items g items) ≡ option_map (spelled_entry g) (entry_at back items)
+  get_entry-map : (back : ℕ) (items : List (Listed N)) → entry_at back (spelled_items g items) ≡ option_map (spelled_entry g) (entry_at back items)
   get_entry-map back items = ap (option_and_then as_entry) (slice_get-map (spelled_item g) items back) ∙ go (slice_get items back)
     where
-      go : (o : Option (Item N)) → option_and_then as_entry (option_map (spelled_item g) o) ≡ option_map (spelled_entry g) (option_and_then as_entry o)
+      go : (o : Option (Listed N)) → option_and_then as_entry (option_map (spelled_item g) o) ≡ option_map (spelled_entry g) (option_and_then as_entry o)
       go None = refl
       go (Some marker) = refl
       go (Some (entry e)) = refl
 
-  is_entry-map : (n : ℕ) (i : Item N) → is_entry n (spelled_item g i) ≡ is_entry n i
+  is_entry-map : (n : ℕ) (i : Listed N) → is_entry n (spelled_item g i) ≡ is_entry n i
   is_entry-map n marker = refl
   is_entry-map n (entry e) = refl
 
-  for_node-map : (new : ℕ) (i : Item N) → for_node new (spelled_item g i) ≡ spelled_item g (for_node new i)
+  for_node-map : (new : ℕ) (i : Listed N) → for_node new (spelled_item g i) ≡ spelled_item g (for_node new i)
   for_node-map new marker = refl
   for_node-map new (entry e) = refl
 
-  with_node-map : (old new : ℕ) (items : List (Item N)) → with_node old new (spelled_items g items) ≡ spelled_items g (with_node old new items)
+  with_node-map : (old new : ℕ) (items : List (Listed N)) → with_node old new (spelled_items g items) ≡ spelled_items g (with_node old new items)
   with_node-map old new items = changed-map (spelled_item g) (is_entry old) (is_entry old) (is_entry-map old) (for_node new) (for_node new) (for_node-map new) items
 
-  booked-map : (old new : ℕ) (bookmark : Bookmark) (items : List (Item N)) → booked old new bookmark (spelled_items g items) ≡ spelled_items g (booked old new bookmark items)
+  booked-map : (old new : ℕ) (bookmark : Bookmark) (items : List (Listed N)) → booked old new bookmark (spelled_items g items) ≡ spelled_items g (booked old new bookmark items)
   booked-map old new InPlace items = with_node-map old new items
   booked-map old new (After n) items =
       (λ i. option_map_or (λ x. put_before (is_entry n) (for_node new x) (left i)) (found i) (spelled_items g items)) ∙ go (find (is_entry old) items)
@@ -109,7 +109,7 @@ module _ {N M : Type 0} (same : N → N → Bool) (same' : M → M → Bool) (g 
       found : find (is_entry old) (spelled_items g items) ≡ option_map (spelled_item g) (find (is_entry old) items)
       found = find-map (spelled_item g) (is_entry old) (is_entry old) (is_entry-map old) items
 
-      go : (o : Option (Item N)) → option_map_or (λ x. put_before (is_entry n) (for_node new x) (spelled_items g (without (is_entry old) items))) (option_map (spelled_item g) o) (spelled_items g items)
+      go : (o : Option (Listed N)) → option_map_or (λ x. put_before (is_entry n) (for_node new x) (spelled_items g (without (is_entry old) items))) (option_map (spelled_item g) o) (spelled_items g items)
           ≡ spelled_items g (option_map_or (λ x. put_before (is_entry n) (for_node new x) (without (is_entry old) items)) o items)
       go None = refl
       go (Some x) = ap (λ y. put_before (is_entry n) y (spelled_items g (without (is_entry old) items))) (for_node-map new x)

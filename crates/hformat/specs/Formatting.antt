@@ -14,33 +14,33 @@ pub record EntryOf (N : Type 0) : Type 0 where
   pub name : N
   pub attrs : List (Attribute N)
 
-pub data Item (N : Type 0) : Type 0 where
-  marker : Item N
-  entry : EntryOf N → Item N
+pub data Listed (N : Type 0) : Type 0 where
+  marker : Listed N
+  entry : EntryOf N → Listed N
 
 module _ {N : Type 0} where
   -- all entries, the last one first
-  abbrev pub entries : List (Item N) → List (EntryOf N)
+  abbrev pub entries : List (Listed N) → List (EntryOf N)
   entries [] = []
   entries (marker ∷ items) = entries items
   entries (entry e ∷ items) = e ∷ entries items
 
   -- an item where it is an entry, and the entry that has this many items after it
-  abbrev pub as_entry : Item N → Option (EntryOf N)
+  abbrev pub as_entry : Listed N → Option (EntryOf N)
   as_entry marker = None
   as_entry (entry e) = Some e
 
-  abbrev pub entry_at : ℕ → List (Item N) → Option (EntryOf N)
+  abbrev pub entry_at : ℕ → List (Listed N) → Option (EntryOf N)
   entry_at n items = option_and_then as_entry (slice_get items n)
 
   -- the entries after the last marker, the last one first
-  abbrev pub after_marker : List (Item N) → List (EntryOf N)
+  abbrev pub after_marker : List (Listed N) → List (EntryOf N)
   after_marker [] = []
   after_marker (marker ∷ items) = []
   after_marker (entry e ∷ items) = e ∷ after_marker items
 
   -- without the last marker and what comes after it
-  abbrev pub cleared : List (Item N) → List (Item N)
+  abbrev pub cleared : List (Listed N) → List (Listed N)
   cleared [] = []
   cleared (marker ∷ items) = items
   cleared (entry e ∷ items) = cleared items
@@ -49,29 +49,29 @@ module _ {N : Type 0} where
   abbrev pub is_of_node : ℕ → EntryOf N → Bool
   is_of_node n e = e.node == n
 
-  abbrev pub is_entry : ℕ → Item N → Bool
+  abbrev pub is_entry : ℕ → Listed N → Bool
   is_entry n marker = false
   is_entry n (entry e) = is_of_node n e
 
   -- the entry of a node
-  abbrev pub entry_of : ℕ → List (Item N) → Option (EntryOf N)
+  abbrev pub entry_of : ℕ → List (Listed N) → Option (EntryOf N)
   entry_of n items = find (is_of_node n) (entries items)
 
   -- without the entry of a node
-  abbrev pub without_entry : ℕ → List (Item N) → List (Item N)
+  abbrev pub without_entry : ℕ → List (Listed N) → List (Listed N)
   without_entry n items = filter (λ i. not (is_entry n i)) items
 
   -- an entry becomes that of another node, which is made for the same token
-  abbrev pub for_node : ℕ → Item N → Item N
+  abbrev pub for_node : ℕ → Listed N → Listed N
   for_node new marker = marker
   for_node new (entry e) = entry (record e { node = new })
 
-  abbrev pub with_node : (old new : ℕ) → List (Item N) → List (Item N)
+  abbrev pub with_node : (old new : ℕ) → List (Listed N) → List (Listed N)
   with_node old new items = changed (is_entry old) (for_node new) items
 
   -- The end of a turn of the adoption agency (13.2.6.4.7): the entry of a node becomes that of another one, and stands at the
   -- bookmark, which is where it stood, or right after the entry of a node.
-  abbrev pub booked : (old new : ℕ) → Bookmark → List (Item N) → List (Item N)
+  abbrev pub booked : (old new : ℕ) → Bookmark → List (Listed N) → List (Listed N)
   booked old new InPlace items = with_node old new items
   booked old new (After n) items =
       option_map_or
@@ -80,12 +80,12 @@ module _ {N : Type 0} where
       items
 
   -- whether the bookmark is in the list, where the entry of a node is taken from it
-  abbrev pub has_bookmark : (old : ℕ) → Bookmark → List (Item N) → Bool
+  abbrev pub has_bookmark : (old : ℕ) → Bookmark → List (Listed N) → Bool
   has_bookmark old InPlace items = true
   has_bookmark old (After n) items = list_any (is_entry n) (without (is_entry old) items)
 
   -- without the earliest entry after the last marker that is sought
-  abbrev pub without_earliest : (EntryOf N → Bool) → List (Item N) → List (Item N)
+  abbrev pub without_earliest : (EntryOf N → Bool) → List (Listed N) → List (Listed N)
   without_earliest sought [] = []
   without_earliest sought (marker ∷ items) = marker ∷ items
   without_earliest sought (entry e ∷ items) =
@@ -112,14 +112,14 @@ module _ {N : Type 0} (same : N → N → Bool) where
   is_equal new e = same new.name e.name && same_attributes new.attrs e.attrs
 
   -- the last entry of this name after the last marker
-  abbrev pub find_entry : N → List (Item N) → Option (EntryOf N)
+  abbrev pub find_entry : N → List (Listed N) → Option (EntryOf N)
   find_entry name items = find (λ e. same name e.name) (after_marker items)
 
   -- the earliest of the entries that are equal to a new one gives way to it, where there are as many as there may be
-  abbrev pub with_room : EntryOf N → List (Item N) → List (Item N)
+  abbrev pub with_room : EntryOf N → List (Listed N) → List (Listed N)
   with_room new items =
       if nat_le most_equal (length (filter (is_equal new) (after_marker items))) then without_earliest (is_equal new) items else items
 
   -- Push onto the list of active formatting elements (13.2.4.3).
-  abbrev pub pushed : EntryOf N → List (Item N) → List (Item N)
+  abbrev pub pushed : EntryOf N → List (Listed N) → List (Listed N)
   pushed new items = entry new ∷ with_room new items

@@ -1,13 +1,13 @@
 -- Worked rows of bookmarks, and of the entries after the last marker, which the prover computes.
 use Rattle.std.specs.Prelude.{◌≡◌, refl, ℕ, true, false, [], ◌∷◌}
 use Rattle.hopen.specs.Nearest.{changed_at}
-use Rattle.hformat.specs.Formatting.{EntryOf, Item, marker, entry, after_marker, for_node, has_bookmark}
+use Rattle.hformat.specs.Formatting.{EntryOf, Listed, marker, entry, after_marker, for_node, has_bookmark}
 use Rattle.hformat.specs.declared.bookmark.Bookmark.TheVariants.{InPlace, After}
 
 abbrev made : ℕ → EntryOf ℕ
 made n = record { node = n; name = 1; attrs = [] }
 
-abbrev e : ℕ → Item ℕ
+abbrev e : ℕ → Listed ℕ
 e n = entry (made n)
 
 -- a bookmark after another entry stays when an entry is taken, but neither one after itself nor one after no entry

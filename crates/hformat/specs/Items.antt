@@ -1,7 +1,7 @@
 -- What the items of a vector say.
 use Rattle.std.specs.Prelude.{◌≡◌, ℕ, ◌<◌, ◌⊎◌, ◌==◌, Bool, true, false, not, List, [], ◌∷◌, Option, Some, None, filter, map, reverse}
 use Rattle.hnodes.specs.Rows.{attribute_of}
-use Rattle.hformat.specs.Formatting.{EntryOf, Item, marker, entry}
+use Rattle.hformat.specs.Formatting.{EntryOf, Listed, marker, entry}
 use Rattle.hformat.specs.declared.entry.Entry.{Entry}
 use Rattle.hformat.specs.declared.entry.Slot.{Slot as Stored}
 use Rattle.hformat.specs.declared.entry.Slot.TheVariants as stored
@@ -14,33 +14,33 @@ abbrev pub nowhere : ℕ
 nowhere = 4294967296
 
 -- what stands where an entry was: it is found by no question
-abbrev pub hole : Item ℕ
+abbrev pub hole : Listed ℕ
 hole = entry (record { node = nowhere; name = nowhere; attrs = [] })
 
-abbrev pub is_hole : Item ℕ → Bool
+abbrev pub is_hole : Listed ℕ → Bool
 is_hole marker = false
 is_hole (entry e) = e.name == nowhere
 
 -- without the holes
-abbrev pub live : List (Item ℕ) → List (Item ℕ)
+abbrev pub live : List (Listed ℕ) → List (Listed ℕ)
 live items = filter (λ i. not (is_hole i)) items
 
 -- a marker, an entry of a node and a name, or the hole
-abbrev pub IsSlot : Item ℕ → Type 0
+abbrev pub IsSlot : Listed ℕ → Type 0
 IsSlot marker = Unit {0}
 IsSlot (entry e) = (entry e ≡ hole) ⊎ ((e.node < nowhere) × (e.name < nowhere))
 
-abbrev pub AreSlots : List (Item ℕ) → Type 0
+abbrev pub AreSlots : List (Listed ℕ) → Type 0
 AreSlots [] = Unit {0}
 AreSlots (i ∷ items) = IsSlot i × AreSlots items
 
-abbrev pub item_of : Stored → Item ℕ
+abbrev pub item_of : Stored → Listed ℕ
 item_of stored.Hole = hole
 item_of stored.Marker = marker
 item_of (stored.Entry e) = entry (entry_is e)
 
 -- the last one first
-abbrev pub items_of : List Stored → List (Item ℕ)
+abbrev pub items_of : List Stored → List (Listed ℕ)
 items_of items = reverse (map item_of items)
 
 -- what a vector holds where no entry is

@@ -3,13 +3,13 @@ use Rattle.std.specs.Prelude.{◌≡◌, ℕ, zero, suc, ◌<◌, ◌≤◌, ◌
 use Rattle.std.specs.List.{All}
 use Rattle.std.specs.declared.hash.DefaultHasher.{DefaultHasher}
 use Rattle.hformat.specs.Hashes.{entry_hash}
-use Rattle.hformat.specs.Formatting.{EntryOf, Item, marker, entry}
+use Rattle.hformat.specs.Formatting.{EntryOf, Listed, marker, entry}
 use Rattle.hformat.specs.Items.{IsStored, is_gone, item_of, nowhere}
 use Rattle.hformat.specs.declared.entry.Slot.{Slot as Stored}
 use Rattle.hformat.specs.declared.slots.Slots.{Slots}
 
 -- the number of an item by one of its entry: markers have the first, and holes the next
-abbrev pub number_by : (EntryOf ℕ → ℕ) → Item ℕ → ℕ
+abbrev pub number_by : (EntryOf ℕ → ℕ) → Listed ℕ → ℕ
 number_by number marker = zero
 number_by number (entry e) = suc (number e)
 

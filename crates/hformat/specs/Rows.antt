@@ -1,7 +1,7 @@
 -- Worked rows of the definitions, which the prover computes.
 use Rattle.std.specs.Prelude.{◌≡◌, refl, ℕ, List, [], ◌∷◌, Some, None, codes, bytes_eq}
 use Rattle.hnodes.specs.Forest.{Attribute}
-use Rattle.hformat.specs.Formatting.{EntryOf, Item, marker, entry, cleared, booked, pushed, find_entry, without_entry}
+use Rattle.hformat.specs.Formatting.{EntryOf, Listed, marker, entry, cleared, booked, pushed, find_entry, without_entry}
 use Rattle.hformat.specs.declared.bookmark.Bookmark.TheVariants.{InPlace, After}
 
 abbrev Text : Type 0
@@ -13,16 +13,16 @@ attribute name value = (name, value)
 abbrev made_for : ℕ → Text → List (Attribute Text) → EntryOf Text
 made_for n name attrs = record { node = n; name = name; attrs = attrs }
 
-abbrev b : ℕ → Item Text
+abbrev b : ℕ → Listed Text
 b n = entry (made_for n (codes "b") (attribute (codes "x") (codes "1") ∷ attribute (codes "y") (codes "2") ∷ []))
 
 abbrev b_turned : ℕ → EntryOf Text
 b_turned n = made_for n (codes "b") (attribute (codes "y") (codes "2") ∷ attribute (codes "x") (codes "1") ∷ [])
 
-abbrev i : ℕ → Item Text
+abbrev i : ℕ → Listed Text
 i n = entry (made_for n (codes "i") [])
 
-abbrev push_b : ℕ → List (Item Text) → List (Item Text)
+abbrev push_b : ℕ → List (Listed Text) → List (Listed Text)
 push_b n items = pushed bytes_eq (b_turned n) items
 
 -- the fourth of equal entries, in whatever order their attributes stand, takes the place of the earliest

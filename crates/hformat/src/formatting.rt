@@ -34,11 +34,11 @@ pub struct Formatting {
 
 impl Model for Formatting {
     ghost use Rattle.std.specs.Prelude.{ℕ, List};
-    ghost use Rattle.hformat.specs.Formatting.{Item};
+    ghost use Rattle.hformat.specs.Formatting.{Listed};
     ghost use Rattle.hformat.specs.ItemCoding.{coded_items};
     ghost use Rattle.hformat.specs.Items.{items_of, live};
 
-    ghost Value = { List (Item ℕ) };
+    ghost Value = { List (Listed ℕ) };
 
     ghost coded = { coded_items };
 

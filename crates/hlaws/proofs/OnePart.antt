@@ -24,17 +24,17 @@ data IsTail (table : Entities) (end : ℕ) (rest tail : List Placed) (value : Li
   unended : (q : Placed) (pieces : List Piece) → tail ≡ q ∷ pieces_text pieces → is_quote q.ch ≡ true → all (λ c. not (c == q.ch)) (pieces_text pieces) ≡ true → AreValue table pieces
       → rest ≡ [] → value ≡ value_bytes pieces → errors ≡ value_errors pieces → IsTail table end rest tail value errors
 
-data Kind : Type 0 where
-  Nothing : Kind
-  Plain : Kind
-  Quoted : Kind
+data PartKind : Type 0 where
+  Nothing : PartKind
+  Plain : PartKind
+  Quoted : PartKind
 
-abbrev kind_by : Bool → Bool → Kind
+abbrev kind_by : Bool → Bool → PartKind
 kind_by true quote = Nothing
 kind_by false true = Quoted
 kind_by false false = Plain
 
-abbrev kind_of : List Placed → Kind
+abbrev kind_of : List Placed → PartKind
 kind_of [] = Nothing
 kind_of (p ∷ ps) = kind_by (is_greater p.ch) (is_quote p.ch)
 
@@ -86,13 +86,13 @@ module _ (table : Entities) (end : ℕ) where
       (first, one_value table pieces pieces' are are' same.0, same.1)
 
   module _ (rest rest' tail tail' : List Placed) (value value' : List ℕ) (errors errors' : List ParseError) (e : tail ++ rest ≡ tail' ++ rest') where
-    clash : (a b : Kind) → kind_of (tail ++ rest) ≡ a → kind_of (tail' ++ rest') ≡ b → a ≡ b
+    clash : (a b : PartKind) → kind_of (tail ++ rest) ≡ a → kind_of (tail' ++ rest') ≡ b → a ≡ b
     clash a b h k = sym h ∙ ap kind_of e ∙ k
 
-    kind_at : (x y : List Placed) (k : Kind) → x ≡ y → kind_of (y ++ rest) ≡ k → kind_of (x ++ rest) ≡ k
+    kind_at : (x y : List Placed) (k : PartKind) → x ≡ y → kind_of (y ++ rest) ≡ k → kind_of (x ++ rest) ≡ k
     kind_at x y k t h = ap (λ (z : List Placed). kind_of (z ++ rest)) t ∙ h
 
-    kind_at' : (x y : List Placed) (k : Kind) → x ≡ y → kind_of (y ++ rest') ≡ k → kind_of (x ++ rest') ≡ k
+    kind_at' : (x y : List Placed) (k : PartKind) → x ≡ y → kind_of (y ++ rest') ≡ k → kind_of (x ++ rest') ≡ k
     kind_at' x y k t h = ap (λ (z : List Placed). kind_of (z ++ rest')) t ∙ h
 
     one_tail : IsTail table end rest tail value errors → IsTail table end rest' tail' value' errors' → IsSame rest rest' tail tail' value value' errors errors'

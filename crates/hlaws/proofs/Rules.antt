@@ -12,7 +12,7 @@ use Rattle.hopen.specs.Stack.{OpenNode, in_scope}
 use Rattle.hopen.specs.Scopes.{stops, stops_item}
 use Rattle.hopen.specs.declared.scope.Scope.{Scope}
 use Rattle.hopen.specs.declared.scope.Scope.TheVariants as scope
-use Rattle.hformat.specs.Formatting.{Item, marker, entry, entry_of, find_entry, without_entry, pushed, cleared}
+use Rattle.hformat.specs.Formatting.{Listed, marker, entry, entry_of, find_entry, without_entry, pushed, cleared}
 use Rattle.names.specs.declared.placed.Placed.{Placed}
 use Rattle.names.specs.declared.tag.Tag.TheVariants as tag
 use Rattle.names.specs.Placed.{is_space}
@@ -88,7 +88,7 @@ module _ {N : Type 0} where
   node k x = record { node = k; name = x }
 
   -- the states of the law: limits, errors and context are those of z
-  abbrev pub state : State N → ℕ → Forest N → List (OpenNode N) → List (Item N) → Control → State N
+  abbrev pub state : State N → ℕ → Forest N → List (OpenNode N) → List (Listed N) → Control → State N
   state z made f stack items c = record {
     site = record { nodes = record { limit = z.site.nodes.limit; made = made; trees = f }; open_nodes = record { limit = z.site.open_nodes.limit; stack = stack }; items = items; foster = false; errors = z.site.errors };
     control = c;
@@ -98,7 +98,7 @@ module _ {N : Type 0} where
 
 module _ {N : Type 0} (n : Naming N) (laws : Laws n) (z : State N) where
   -- no element is reconstructed
-  none_lost : (at made : ℕ) (f : Forest N) (stack : List (OpenNode N)) (items : List (Item N)) (c : Control) → EntriesOpen stack items
+  none_lost : (at made : ℕ) (f : Forest N) (stack : List (OpenNode N)) (items : List (Listed N)) (c : Control) → EntriesOpen stack items
       → reconstructed n at (state z made f stack items c).site ≡ Goes (state z made f stack items c).site
   none_lost at made f stack [] c o = refl
   none_lost at made f stack (marker ∷ items) c o = refl
@@ -112,7 +112,7 @@ module _ {N : Type 0} (n : Naming N) (laws : Laws n) (z : State N) where
   in_flow : (at : ℕ) (t : Token N) (k : TokenKind) (r : Do) (s s' : State N) → is_flow_mode s.control.mode ≡ true → IsFlowRule k r → kind_of n t ≡ k → perform n at t r s ≡ Done s' → Rule n at t s ≡ Done s'
   in_flow at t k r s s' m h fam p = ap (λ j. perform n at t (rule_of s.control.mode j) s) fam ∙ ap (λ q. perform n at t q s) (flow_rule s.control.mode k r m h) ∙ p
 
-  module _ (at made : ℕ) (f : Forest N) (d : OpenNode N) (up : List (OpenNode N)) (items : List (Item N)) (c : Control) where
+  module _ (at made : ℕ) (f : Forest N) (d : OpenNode N) (up : List (OpenNode N)) (items : List (Listed N)) (c : Control) where
     abbrev now : State N
     now = state z made f (d ∷ up) items c
 
@@ -137,7 +137,7 @@ module _ {N : Type 0} (n : Naming N) (laws : Laws n) (z : State N) where
       abbrev Comes : State N → Type 0
       Comes s = Rule n at (start x attrs false) now ≡ Done s
 
-      abbrev Opens : List (Item N) → Control → Type 0
+      abbrev Opens : List (Listed N) → Control → Type 0
       Opens items' c' = Comes (state z (made + 1) grown (node made x ∷ d ∷ up) items' c')
 
       abbrev Stays : Type 0
@@ -232,14 +232,14 @@ module _ {N : Type 0} (n : Naming N) (laws : Laws n) (z : State N) where
     -- END TAGS, AFTER THE CHILDREN
 
     module _ (k : ℕ) (x : N) where
-      abbrev Closes : List (Item N) → Control → Type 0
+      abbrev Closes : List (Listed N) → Control → Type 0
       Closes items' c' = Rule n at (end x) (state z made f (node k x ∷ d ∷ up) items c) ≡ Done (state z made f (d ∷ up) items' c')
 
       self : n.same x x ≡ true
       self = laws.same_self x
 
       module _ (m : is_flow_mode c.mode ≡ true) (w : Family) (fam : family_of (n.tag x) ≡ w) where
-        ends : (r : Do) (items' : List (Item N)) (c' : Control) → IsFlowRule (End w) r → perform n at (end x) r (state z made f (node k x ∷ d ∷ up) items c) ≡ Done (state z made f (d ∷ up) items' c') → Closes items' c'
+        ends : (r : Do) (items' : List (Listed N)) (c' : Control) → IsFlowRule (End w) r → perform n at (end x) r (state z made f (node k x ∷ d ∷ up) items c) ≡ Done (state z made f (d ∷ up) items' c') → Closes items' c'
         ends r items' c' h p = in_flow at (end x) (End w) r (state z made f (node k x ∷ d ∷ up) items c) (state z made f (d ∷ up) items' c') m h (ap End fam) p
 
         pub end_block : IsFlowRule (End w) close_block → has_implied_end (n.tag x) ≡ false → Closes items c
@@ -286,7 +286,7 @@ module _ {N : Type 0} (n : Naming N) (laws : Laws n) (z : State N) where
       end_text m = by_mode at (end x) Text (End (family_of (n.tag x))) _ _ m refl refl
 
       -- tables
-      ends_in : (mode : Mode) (w : Family) (items' : List (Item N)) (c' : Control) → c.mode ≡ mode → family_of (n.tag x) ≡ w → perform n at (end x) (rule_of mode (End w)) (state z made f (node k x ∷ d ∷ up) items c) ≡ Done (state z made f (d ∷ up) items' c') → Closes items' c'
+      ends_in : (mode : Mode) (w : Family) (items' : List (Listed N)) (c' : Control) → c.mode ≡ mode → family_of (n.tag x) ≡ w → perform n at (end x) (rule_of mode (End w)) (state z made f (node k x ∷ d ∷ up) items c) ≡ Done (state z made f (d ∷ up) items' c') → Closes items' c'
       ends_in mode w items' c' m fam p = by_mode at (end x) mode (End w) (state z made f (node k x ∷ d ∷ up) items c) (state z made f (d ∷ up) items' c') m (ap End fam) p
 
       pub end_table : c.mode ≡ InTable → family_of (n.tag x) ≡ family.Table → n.same x (n.known tag.Table) ≡ true → Closes items (record c { mode = reset_mode n z.context (d ∷ up) })
@@ -322,7 +322,7 @@ module _ {N : Type 0} (n : Naming N) (laws : Laws n) (z : State N) where
 
   -- CHARACTERS
 
-  module _ (d : OpenNode N) (up : List (OpenNode N)) (items : List (Item N)) where
+  module _ (d : OpenNode N) (up : List (OpenNode N)) (items : List (Listed N)) where
     -- the first one of a text, and one more
     pub put_first : (at ch made : ℕ) (f : Forest N) (c : Control) → text_before (LastIn d.node) f ≡ None → times made f ≡ 0 → made < z.site.nodes.limit
         → perform n at (character ch) put (state z made f (d ∷ up) items c) ≡ Done (state z (made + 1) (under d.node (tree made (text (encode_utf8 ch)) none none) f) (d ∷ up) items c)
@@ -402,7 +402,7 @@ module _ {N : Type 0} (n : Naming N) (laws : Laws n) (z : State N) where
           ∙ rw (waiting, spaces) (ap (λ r. flow_then r (λ s. Again t (record s { control = record s.control { mode = s.control.saved } }))) all)
 
   -- so the state takes the token as the one in which the white space stands
-  pub acts : (d : OpenNode N) (up : List (OpenNode N)) (items : List (Item N)) (at : ℕ) (t : Token N) (p : Placed) (ps : List Placed) (made : ℕ) (f : Forest N) (c : Control) (o : Outcome (State N)) → is_other (kind_of n t) ≡ true → c.mode ≡ InTableText → c.pending ≡ p ∷ ps
+  pub acts : (d : OpenNode N) (up : List (OpenNode N)) (items : List (Listed N)) (at : ℕ) (t : Token N) (p : Placed) (ps : List Placed) (made : ℕ) (f : Forest N) (c : Control) (o : Outcome (State N)) → is_other (kind_of n t) ≡ true → c.mode ≡ InTableText → c.pending ≡ p ∷ ps
       → list_all (λ p. is_space p.ch) (p ∷ ps) ≡ true → times d.node f ≡ 1 → times made f ≡ 0 → made < z.site.nodes.limit → text_before (LastIn d.node) f ≡ None
       → Chain n at t (begun (state z (made + 1) (under d.node (tree made (text (encode_utf8_all (map (λ p. p.ch) (p ∷ ps)))) none none) f) (d ∷ up) items (record c { pending = []; mode = c.saved }))) o
       → Chain n at t (begun (state z made f (d ∷ up) items c)) o

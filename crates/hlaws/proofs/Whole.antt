@@ -11,7 +11,7 @@ use Rattle.hnodes.specs.declared.node.Place.TheVariants.{LastIn}
 use Rattle.hopen.specs.Stack.{OpenNode, in_scope}
 use Rattle.hopen.specs.Scopes.{stops}
 use Rattle.hopen.specs.declared.scope.Scope.TheVariants as scope
-use Rattle.hformat.specs.Formatting.{EntryOf, Item, marker, entry, with_room, without_entry, entry_of, find_entry, cleared}
+use Rattle.hformat.specs.Formatting.{EntryOf, Listed, marker, entry, with_room, without_entry, entry_of, find_entry, cleared}
 use Rattle.names.specs.declared.placed.Placed.{Placed}
 use Rattle.names.specs.declared.tag.Tag.TheVariants as tag
 use Rattle.names.specs.Placed.{is_space}
@@ -67,7 +67,7 @@ pub record NameLaws {N : Type 0} (n : Naming N) : Type 0 where
 -- LISTS THAT LOST ENTRIES
 
 module _ {N : Type 0} where
-  find-thinned : (alike : N → N → Bool) (x : N) {xs ys : List (Item N)} → Thinned xs ys → find_entry alike x xs ≡ None → find_entry alike x ys ≡ None
+  find-thinned : (alike : N → N → Bool) (x : N) {xs ys : List (Listed N)} → Thinned xs ys → find_entry alike x xs ≡ None → find_entry alike x ys ≡ None
   find-thinned alike x same h = h
   find-thinned alike x (kept {e = e} {xs = xs} {ys = ys} t) h = go (find-thinned alike x t) (alike x e.name) h
     where
@@ -138,7 +138,7 @@ module _ {N : Type 0} (n : Naming N) where
   Good i (tree b (forest.comment t) none rest) = (takes_comments i.content ≡ true) × Good i rest
   Good i _ = ⊥
 
-  pub record Quiet (context : Option N) (i : Inside) (made : ℕ) (f : Forest N) (d : OpenNode N) (up : List (OpenNode N)) (items : List (Item N)) (c : Control) : Type 0 where
+  pub record Quiet (context : Option N) (i : Inside) (made : ℕ) (f : Forest N) (d : OpenNode N) (up : List (OpenNode N)) (items : List (Listed N)) (c : Control) : Type 0 where
     pub mode_is : reset_mode n context (d ∷ up) ≡ c.mode
     pub mode_fits : fits_mode i.content c.mode ≡ true
     pub current_fits : fits_current i.content i.texts (n.tag d.name) ≡ true
@@ -154,8 +154,8 @@ module _ {N : Type 0} (n : Naming N) where
 
 module _ {N : Type 0} (n : Naming N) (laws : NameLaws n) (z : State N) where
   -- from one state that acts as quiet to another
-  pub record Built (l : Forest N) (made : ℕ) (f : Forest N) (d : OpenNode N) (up : List (OpenNode N)) (items : List (Item N)) (c : Control) (s : State N) (ts : List (PlacedToken N)) : Type 0 where
-    pub items' : List (Item N)
+  pub record Built (l : Forest N) (made : ℕ) (f : Forest N) (d : OpenNode N) (up : List (OpenNode N)) (items : List (Listed N)) (c : Control) (s : State N) (ts : List (PlacedToken N)) : Type 0 where
+    pub items' : List (Listed N)
     pub control' : Control
     pub reached : State N
     pub steps : Steps n ts s (Goes reached)
@@ -164,12 +164,12 @@ module _ {N : Type 0} (n : Naming N) (laws : NameLaws n) (z : State N) where
     pub keeps : Keeps c control'
 
   -- the same of a node, after which the state is quiet, unless white space waits
-  pub record NodeBuilt (b : ℕ) (w : What N) (kids : Forest N) (made : ℕ) (f : Forest N) (d : OpenNode N) (up : List (OpenNode N)) (items : List (Item N)) (c : Control) (s : State N) (ts : List (PlacedToken N)) : Type 0 where
+  pub record NodeBuilt (b : ℕ) (w : What N) (kids : Forest N) (made : ℕ) (f : Forest N) (d : OpenNode N) (up : List (OpenNode N)) (items : List (Listed N)) (c : Control) (s : State N) (ts : List (PlacedToken N)) : Type 0 where
     pub built : Built (tree b w kids none) made f d up items c s ts
     pub no_drop : built.control'.drop_lf ≡ false
     pub exact : is_text w ≡ false → built.reached ≡ state z (made + (1 + (size kids + 0))) (under d.node (numbered made (tree b w kids none)) f) (d ∷ up) built.items' built.control'
 
-  later : (i : Inside) (l : Forest N) (made : ℕ) (f : Forest N) (d : OpenNode N) (up : List (OpenNode N)) (items items' : List (Item N)) (c c' : Control)
+  later : (i : Inside) (l : Forest N) (made : ℕ) (f : Forest N) (d : OpenNode N) (up : List (OpenNode N)) (items items' : List (Listed N)) (c c' : Control)
       → Quiet n z.context i made f d up items c → Thinned items items' → Keeps c c' → Quiet n z.context i (made + size l) (under d.node (numbered made l) f) d up items' c'
   later i l made f d up items items' c c' q t k =
       let low : d.node < made = q.lower.0 in
@@ -201,7 +201,7 @@ module _ {N : Type 0} (n : Naming N) (laws : NameLaws n) (z : State N) where
 
   -- COMMENTS
 
-  comment_built : (i : Inside) (b : ℕ) (t : List ℕ) (made : ℕ) (f : Forest N) (d : OpenNode N) (up : List (OpenNode N)) (items : List (Item N)) (c : Control) (s : State N) (ts : List (PlacedToken N))
+  comment_built : (i : Inside) (b : ℕ) (t : List ℕ) (made : ℕ) (f : Forest N) (d : OpenNode N) (up : List (OpenNode N)) (items : List (Listed N)) (c : Control) (s : State N) (ts : List (PlacedToken N))
       → Quiet n z.context i made f d up items c → ActsAs n s (state z made f (d ∷ up) items c) → made < z.site.nodes.limit → AreTokens ts (comment t ∷ []) → NodeBuilt b (forest.comment t) none made f d up items c s ts
   comment_built i b t made f d up items c s ts q acts room h =
       let p = first ts (comment t) [] h in
@@ -228,14 +228,14 @@ module _ {N : Type 0} (n : Naming N) (laws : NameLaws n) (z : State N) where
   -- TEXTS
 
   -- what the characters of a text come to, where each goes in by one rule
-  record CharsBuilt (made : ℕ) (f : Forest N) (d : OpenNode N) (up : List (OpenNode N)) (items : List (Item N)) (c : Control) (s : State N) (ts : List (PlacedToken N)) : Type 0 where
+  record CharsBuilt (made : ℕ) (f : Forest N) (d : OpenNode N) (up : List (OpenNode N)) (items : List (Listed N)) (c : Control) (s : State N) (ts : List (PlacedToken N)) : Type 0 where
     pub control' : Control
     pub steps : Steps n ts s (Goes (state z made f (d ∷ up) items control'))
     pub keeps : Keeps c control'
     pub saved : control'.saved ≡ c.saved
     pub no_drop : control'.drop_lf ≡ false
 
-  module _ (d : OpenNode N) (up : List (OpenNode N)) (items : List (Item N)) (m : Mode) (ok : ℕ → Type 0) (puts : rules.Puts n laws.basic z d up items m ok) where
+  module _ (d : OpenNode N) (up : List (OpenNode N)) (items : List (Listed N)) (m : Mode) (ok : ℕ → Type 0) (puts : rules.Puts n laws.basic z d up items m ok) where
     chars_built : (made k : ℕ) (g : Forest N) (once : times d.node g ≡ 1) (absent : times k g ≡ 0) (chs t : List ℕ) (c : Control) (ts : List (PlacedToken N)) → c.mode ≡ m → c.drop_lf ≡ false → AllOk ok chs
         → AreTokens ts (map (λ ch. character ch) chs)
         → CharsBuilt made (under d.node (tree k (text (t ++ encode_utf8_all chs)) none none) g) d up items c (state z made (under d.node (tree k (text t) none none) g) (d ∷ up) items c) ts
@@ -289,7 +289,7 @@ module _ {N : Type 0} (n : Naming N) (laws : NameLaws n) (z : State N) where
   all_any [] = tt
   all_any (ch ∷ chs) = (tt, all_any chs)
 
-  module _ (b : ℕ) (t : List ℕ) (is : IsText t) (made : ℕ) (f : Forest N) (d : OpenNode N) (up : List (OpenNode N)) (items : List (Item N)) (c : Control) (once : times d.node f ≡ 1) (absent : times made f ≡ 0) (listed : EntriesOpen (d ∷ up) items)
+  module _ (b : ℕ) (t : List ℕ) (is : IsText t) (made : ℕ) (f : Forest N) (d : OpenNode N) (up : List (OpenNode N)) (items : List (Listed N)) (c : Control) (once : times d.node f ≡ 1) (absent : times made f ≡ 0) (listed : EntriesOpen (d ∷ up) items)
       (none_before : text_before (LastIn d.node) f ≡ None) (safe : (c.drop_lf && is.one == 10) ≡ false) (room : made < z.site.nodes.limit) where
     as_node : (ts : List (PlacedToken N)) → CharsBuilt (made + 1) (under d.node (tree made (text t) none none) f) d up items c (state z made f (d ∷ up) items c) ts → NodeBuilt b (text t) none made f d up items c (state z made f (d ∷ up) items c) ts
     as_node ts k = record {
@@ -321,7 +321,7 @@ module _ {N : Type 0} (n : Naming N) (laws : NameLaws n) (z : State N) where
 
   -- WHITE SPACE OF TABLES
 
-  record HeldChars (made : ℕ) (f : Forest N) (d : OpenNode N) (up : List (OpenNode N)) (items : List (Item N)) (c : Control) (chs : List ℕ) (s : State N) (ts : List (PlacedToken N)) : Type 0 where
+  record HeldChars (made : ℕ) (f : Forest N) (d : OpenNode N) (up : List (OpenNode N)) (items : List (Listed N)) (c : Control) (chs : List ℕ) (s : State N) (ts : List (PlacedToken N)) : Type 0 where
     pub control' : Control
     pub added : List Placed
     pub steps : Steps n ts s (Goes (state z made f (d ∷ up) items control'))
@@ -334,7 +334,7 @@ module _ {N : Type 0} (n : Naming N) (laws : NameLaws n) (z : State N) where
     pub quirks : control'.quirks ≡ c.quirks
     pub no_drop : control'.drop_lf ≡ false
 
-  module _ (made : ℕ) (f : Forest N) (d : OpenNode N) (up : List (OpenNode N)) (items : List (Item N)) where
+  module _ (made : ℕ) (f : Forest N) (d : OpenNode N) (up : List (OpenNode N)) (items : List (Listed N)) where
     held_chars : (chs : List ℕ) (c : Control) (ts : List (PlacedToken N)) → c.mode ≡ InTableText → c.drop_lf ≡ false → NoNul chs → AllOk (λ ch. is_space ch ≡ true) chs → AreTokens ts (map (λ ch. character ch) chs)
         → HeldChars made f d up items c chs (state z made f (d ∷ up) items c) ts
     held_chars [] c [] m drop ok spaces h = record { control' = c; added = []; steps = step.none; characters = refl; pending = sym (append-nil c.pending); mode = m; saved = refl; head = refl; form = refl; quirks = refl; no_drop = drop }
@@ -378,7 +378,7 @@ module _ {N : Type 0} (n : Naming N) (laws : NameLaws n) (z : State N) where
       let others : map (λ p. p.ch) ps ≡ chs = cc in
       rw (ap is_space same_ch ∙ h.0) (all_spaces ps chs others h.1)
 
-  parts_text : (b : ℕ) (t : List ℕ) (is : IsText t) (made : ℕ) (f : Forest N) (d : OpenNode N) (up : List (OpenNode N)) (items : List (Item N)) (c : Control) → times d.node f ≡ 1 → times made f ≡ 0
+  parts_text : (b : ℕ) (t : List ℕ) (is : IsText t) (made : ℕ) (f : Forest N) (d : OpenNode N) (up : List (OpenNode N)) (items : List (Listed N)) (c : Control) → times d.node f ≡ 1 → times made f ≡ 0
       → text_before (LastIn d.node) f ≡ None → (c.drop_lf && is.one == 10) ≡ false → made < z.site.nodes.limit → rules.is_parts_mode c.mode ≡ true → is_fostering (n.tag d.name) ≡ true → AllOk (λ ch. is_space ch ≡ true) (is.one ∷ is.more)
       → (ts : List (PlacedToken N)) → AreTokens ts (map (λ ch. character ch) (chars t)) → NodeBuilt b (text t) none made f d up items c (state z made f (d ∷ up) items c) ts
   parts_text b t is made f d up items c once absent none_before safe room parts fosters spaces ts h =
@@ -437,20 +437,20 @@ module _ {N : Type 0} (n : Naming N) (laws : NameLaws n) (z : State N) where
       }
 
   -- what the end tag of an element does, after its children
-  record Closing (x : N) (made : ℕ) (d : OpenNode N) (up : List (OpenNode N)) (items : List (Item N)) (c : Control) (items2 : List (Item N)) (c2 : Control) : Type 0 where
-    pub items3 : List (Item N)
+  record Closing (x : N) (made : ℕ) (d : OpenNode N) (up : List (OpenNode N)) (items : List (Listed N)) (c : Control) (items2 : List (Listed N)) (c2 : Control) : Type 0 where
+    pub items3 : List (Listed N)
     pub control3 : Control
     pub thins : Thinned items items3
     pub keeps : Keeps c control3
     pub no_drop : control3.drop_lf ≡ false
     pub rule : (at m : ℕ) (f : Forest N) → Rule n at (end x) (state z m f (node made x ∷ d ∷ up) items2 (begun_control c2)) ≡ Done (state z m f (d ∷ up) items3 control3)
 
-  module _ (b : ℕ) (x : N) (attrs : List (Attribute N)) (kids : Forest N) (made : ℕ) (f : Forest N) (d : OpenNode N) (up : List (OpenNode N)) (items items1 : List (Item N)) (c c1 : Control) (s : State N) (absent : times made f ≡ 0)
+  module _ (b : ℕ) (x : N) (attrs : List (Attribute N)) (kids : Forest N) (made : ℕ) (f : Forest N) (d : OpenNode N) (up : List (OpenNode N)) (items items1 : List (Listed N)) (c c1 : Control) (s : State N) (absent : times made f ≡ 0)
       (from : ActsAs n s (state z made f (d ∷ up) items c))
       (opening : (at : ℕ) → Rule n at (start x attrs false) (state z made f (d ∷ up) items (begun_control c)) ≡ Done (state z (made + 1) (under d.node (tree made (element x attrs) none none) f) (node made x ∷ d ∷ up) items1 c1)) where
     -- what comes of the children
     record Inner (ts : List (PlacedToken N)) : Type 0 where
-      pub items2 : List (Item N)
+      pub items2 : List (Listed N)
       pub control2 : Control
       pub reached : State N
       pub steps : Steps n ts (state z (made + 1) (under d.node (tree made (element x attrs) none none) f) (node made x ∷ d ∷ up) items1 c1) (Goes reached)
@@ -492,7 +492,7 @@ module _ {N : Type 0} (n : Naming N) (laws : NameLaws n) (z : State N) where
         }
 
   -- a text that is read raw
-  module _ (b : ℕ) (x : N) (attrs : List (Attribute N)) (made : ℕ) (f : Forest N) (d : OpenNode N) (up : List (OpenNode N)) (items : List (Item N)) (c c1 : Control) (s : State N) (once : times d.node f ≡ 1) (fresh : (m : ℕ) → made ≤ m → times m f ≡ 0)
+  module _ (b : ℕ) (x : N) (attrs : List (Attribute N)) (made : ℕ) (f : Forest N) (d : OpenNode N) (up : List (OpenNode N)) (items : List (Listed N)) (c c1 : Control) (s : State N) (once : times d.node f ≡ 1) (fresh : (m : ℕ) → made ≤ m → times m f ≡ 0)
       (from : ActsAs n s (state z made f (d ∷ up) items c))
       (opening : (at : ℕ) → Rule n at (start x attrs false) (state z made f (d ∷ up) items (begun_control c)) ≡ Done (state z (made + 1) (under d.node (tree made (element x attrs) none none) f) (node made x ∷ d ∷ up) items c1))
       (is_text_mode : c1.mode ≡ Text) (is_saved : c1.saved ≡ c.mode) (heads : c1.head ≡ c.head) (forms : c1.form ≡ c.form) (quirky : c1.quirks ≡ c.quirks) where
@@ -549,12 +549,12 @@ module _ {N : Type 0} (n : Naming N) (laws : NameLaws n) (z : State N) where
   -- THE LAW
 
   abbrev LawOf : Forest N → Type 0
-  LawOf l = (i : Inside) (made : ℕ) (f : Forest N) (d : OpenNode N) (up : List (OpenNode N)) (items : List (Item N)) (c : Control) (s : State N) (ts : List (PlacedToken N))
+  LawOf l = (i : Inside) (made : ℕ) (f : Forest N) (d : OpenNode N) (up : List (OpenNode N)) (items : List (Listed N)) (c : Control) (s : State N) (ts : List (PlacedToken N))
       → Quiet n z.context i made f d up items c → Good n i l → ActsAs n s (state z made f (d ∷ up) items c) → (begins_text l ≡ true → s ≡ state z made f (d ∷ up) items c)
       → (begins_text l ≡ true → text_before (LastIn d.node) f ≡ None) → LfSafe c.drop_lf l → made + size l ≤ z.site.nodes.limit → suc (length up) + depth l ≤ z.site.open_nodes.limit
       → AreTokens ts (tokens_of n l) → Built l made f d up items c s ts
 
-  marked : {xs ys : List (Item N)} → Thinned (marker ∷ xs) ys → ys ≡ marker ∷ xs
+  marked : {xs ys : List (Listed N)} → Thinned (marker ∷ xs) ys → ys ≡ marker ∷ xs
   marked same = refl
 
   -- a list in which one text stands at most
@@ -584,7 +584,7 @@ module _ {N : Type 0} (n : Naming N) (laws : NameLaws n) (z : State N) where
   lf_none (tree b forest.document kids rest) = tt
   lf_none (tree b (forest.doctype a p s) kids rest) = tt
 
-  module _ (b : ℕ) (x : N) (attrs : List (Attribute N)) (kids : Forest N) (law : LawOf kids) (i : Inside) (made : ℕ) (f : Forest N) (d : OpenNode N) (up : List (OpenNode N)) (items : List (Item N)) (c : Control) (s : State N)
+  module _ (b : ℕ) (x : N) (attrs : List (Attribute N)) (kids : Forest N) (law : LawOf kids) (i : Inside) (made : ℕ) (f : Forest N) (d : OpenNode N) (up : List (OpenNode N)) (items : List (Listed N)) (c : Control) (s : State N)
       (q : Quiet n z.context i made f d up items c) (from : ActsAs n s (state z made f (d ∷ up) items c)) (taken : takes_role i.content (row (n.tag x)).0 ≡ true) (alone : is_nested i (n.tag x) ≡ false) (lf : LfSafe (drops_line_feed (n.tag x)) kids)
       (g : Good n (inside_element (n.tag x) i) kids) (room : made + (1 + size kids) ≤ z.site.nodes.limit) (deep : suc (length up) + suc (depth kids) ≤ z.site.open_nodes.limit) where
     abbrev j : Inside
@@ -596,7 +596,7 @@ module _ {N : Type 0} (n : Naming N) (laws : NameLaws n) (z : State N) where
     absent1 : times made f ≡ 0
     absent1 = q.fresh made (omega arith)
 
-    abbrev Opens : List (Item N) → Control → Type 0
+    abbrev Opens : List (Listed N) → Control → Type 0
     Opens items1 c1 = (at : ℕ) → Rule n at (start x attrs false) (state z made f (d ∷ up) items (begun_control c)) ≡ Done (state z (made + 1) f1 (node made x ∷ d ∷ up) items1 c1)
 
     abbrev Node : List (PlacedToken N) → Type 0
@@ -620,13 +620,13 @@ module _ {N : Type 0} (n : Naming N) (laws : NameLaws n) (z : State N) where
         go false e k = rw (laws.button x, (or_parts i.in_button (is_button (n.tag x)) k).1, q.no_button (or_parts i.in_button (is_button (n.tag x)) k).0) (and_right (not (stops n.tag scope.Default (node made x))) false refl)
 
     -- what is asked of the list inside the element
-    abbrev EntriesFit : List (Item N) → Type 0
+    abbrev EntriesFit : List (Listed N) → Type 0
     EntriesFit items1 = EntriesOpen (node made x ∷ d ∷ up) items1 × EntriesLower (made + 1) items1
 
     as_before : EntriesFit items
     as_before = (open-pushed (node made x) (d ∷ up) items q.listed, entries-more made (made + 1) items (omega arith) q.entries_lower)
 
-    pushed : (items1 : List (Item N)) (c1 : Control) → unwrap_or (open_mode (n.tag x)) (reset_mode n z.context (d ∷ up)) ≡ c1.mode → fits_mode j.content c1.mode ≡ true → fits_current j.content j.texts (n.tag x) ≡ true
+    pushed : (items1 : List (Listed N)) (c1 : Control) → unwrap_or (open_mode (n.tag x)) (reset_mode n z.context (d ∷ up)) ≡ c1.mode → fits_mode j.content c1.mode ≡ true → fits_current j.content j.texts (n.tag x) ≡ true
         → EntriesFit items1 → (closes_p j.content ≡ true → in_scope (stops n.tag scope.Button) (is n tag.P) (node made x ∷ d ∷ up) ≡ false)
         → (j.in_a ≡ false → (y : N) → is_a (n.tag y) ≡ true → find_entry n.same y items1 ≡ None) → (j.in_form ≡ false → c1.form ≡ None)
         → Quiet n z.context j (made + 1) f1 (node made x) (d ∷ up) items1 c1
@@ -653,8 +653,8 @@ module _ {N : Type 0} (n : Naming N) (laws : NameLaws n) (z : State N) where
     forms_same : j.in_form ≡ false → c.form ≡ None
     forms_same h = q.no_form (or_parts i.in_form (is_form (n.tag x)) h).0
 
-    by_law : (items1 : List (Item N)) (c1 : Control) → Quiet n z.context j (made + 1) f1 (node made x) (d ∷ up) items1 c1 → LfSafe c1.drop_lf kids → Opens items1 c1
-        → ((items2 : List (Item N)) (c2 : Control) → Thinned items1 items2 → Keeps c1 c2 → Closing x made d up items c items2 c2) → (ts : List (PlacedToken N)) → Spells ts → Node ts
+    by_law : (items1 : List (Listed N)) (c1 : Control) → Quiet n z.context j (made + 1) f1 (node made x) (d ∷ up) items1 c1 → LfSafe c1.drop_lf kids → Opens items1 c1
+        → ((items2 : List (Listed N)) (c2 : Control) → Thinned items1 items2 → Keeps c1 c2 → Closing x made d up items c items2 c2) → (ts : List (PlacedToken N)) → Spells ts → Node ts
     unfolding inner_built
     by_law items1 c1 q1 safe opening closing ts h =
         let t = tags x attrs kids ts h in
@@ -664,9 +664,9 @@ module _ {N : Type 0} (n : Naming N) (laws : NameLaws n) (z : State N) where
 
     -- an element in flow that changes neither list nor control
     abbrev Ends : Type 0
-    Ends = (at m : ℕ) (g : Forest N) (items2 : List (Item N)) (c2 : Control) → is_flow_mode c2.mode ≡ true → Rule n at (end x) (state z m g (node made x ∷ d ∷ up) items2 c2) ≡ Done (state z m g (d ∷ up) items2 c2)
+    Ends = (at m : ℕ) (g : Forest N) (items2 : List (Listed N)) (c2 : Control) → is_flow_mode c2.mode ≡ true → Rule n at (end x) (state z m g (node made x ∷ d ∷ up) items2 c2) ≡ Done (state z m g (d ∷ up) items2 c2)
 
-    plain_closing : is_flow_mode c.mode ≡ true → Ends → (items2 : List (Item N)) (c2 : Control) → Thinned items items2 → c2.mode ≡ c.mode → c2.head ≡ c.head → c2.form ≡ c.form → c2.quirks ≡ c.quirks → Closing x made d up items c items2 c2
+    plain_closing : is_flow_mode c.mode ≡ true → Ends → (items2 : List (Listed N)) (c2 : Control) → Thinned items items2 → c2.mode ≡ c.mode → c2.head ≡ c.head → c2.form ≡ c.form → c2.quirks ≡ c.quirks → Closing x made d up items c items2 c2
     plain_closing flows ends_so items2 c2 t m h fo qu = record {
       items3 = items2;
       control3 = begun_control c2;
@@ -818,11 +818,11 @@ module _ {N : Type 0} (n : Naming N) (laws : NameLaws n) (z : State N) where
     roomy : Thinned items (with_room n.same new items)
     roomy = thinned-room n.same new items
 
-    unlisted : (l : List (Item N)) → Thinned (with_room n.same new items) l → (entry_of made l ≡ None) × (without_entry made l ≡ l)
+    unlisted : (l : List (Listed N)) → Thinned (with_room n.same new items) l → (entry_of made l ≡ None) × (without_entry made l ≡ l)
     unlisted l t = no-entry made l (lower-thinned made (then roomy t) q.entries_lower)
 
     module _ (w : Family) (fam : family_of (n.tag x) ≡ w) (adopts : IsFlowRule (End w) (by_end family.A)) (flows : is_flow_mode c.mode ≡ true) where
-      formatting_closing : (items2 : List (Item N)) (c2 : Control) → Thinned (entry new ∷ with_room n.same new items) items2 → Keeps (begun_control c) c2 → Closing x made d up items c items2 c2
+      formatting_closing : (items2 : List (Listed N)) (c2 : Control) → Thinned (entry new ∷ with_room n.same new items) items2 → Keeps (begun_control c) c2 → Closing x made d up items c items2 c2
       formatting_closing items2 c2 t k = go t
         where
           keeping : Keeps c (begun_control c2)
@@ -831,7 +831,7 @@ module _ {N : Type 0} (n : Naming N) (laws : NameLaws n) (z : State N) where
           still_flows : is_flow_mode c2.mode ≡ true
           still_flows = ap is_flow_mode k.mode ∙ flows
 
-          listed_case : (l : List (Item N)) → Thinned (with_room n.same new items) l → Closing x made d up items c (entry new ∷ l) c2
+          listed_case : (l : List (Listed N)) → Thinned (with_room n.same new items) l → Closing x made d up items c (entry new ∷ l) c2
           listed_case l u = record {
             items3 = l;
             control3 = begun_control c2;
@@ -841,7 +841,7 @@ module _ {N : Type 0} (n : Naming N) (laws : NameLaws n) (z : State N) where
             rule = λ at m g. rules.end_listed n laws.basic z at m g d up l (begun_control c2) made x still_flows w fam attrs adopts (unlisted l u).1;
           }
 
-          go : {l : List (Item N)} → Thinned (entry new ∷ with_room n.same new items) l → Closing x made d up items c l c2
+          go : {l : List (Listed N)} → Thinned (entry new ∷ with_room n.same new items) l → Closing x made d up items c l c2
           go same = listed_case (with_room n.same new items) same
           go (kept u) = listed_case _ u
           go (lost {ys = l} u) = record {
@@ -942,7 +942,7 @@ module _ {N : Type 0} (n : Naming N) (laws : NameLaws n) (z : State N) where
     -- a table and its parts: a mode of their own inside, and the mode that was after them
     in_parts : (k : Content) (m back : Mode) (r : Profile) (p : profile (n.tag x) ≡ r) → content_within i.content r.content ≡ k → r.mode ≡ Some m → r.marks ≡ false → fits_mode k m ≡ true → fits_current k (texts_in k) (n.tag x) ≡ true → closes_p k ≡ false → back ≡ c.mode
         → Opens items (record (begun_control c) { mode = m })
-        → ((at made' : ℕ) (g : Forest N) (items2 : List (Item N)) (c2 : Control) → c2.mode ≡ m → Rule n at (end x) (state z made' g (node made x ∷ d ∷ up) items2 c2) ≡ Done (state z made' g (d ∷ up) items2 (record c2 { mode = back })))
+        → ((at made' : ℕ) (g : Forest N) (items2 : List (Listed N)) (c2 : Control) → c2.mode ≡ m → Rule n at (end x) (state z made' g (node made x ∷ d ∷ up) items2 c2) ≡ Done (state z made' g (d ∷ up) items2 (record c2 { mode = back })))
         → (ts : List (PlacedToken N)) → Spells ts → Node ts
     in_parts k m back r p within mode marks fits cur closes same_as opening ending =
         let o : j.content ≡ k = content_is r p ∙ within in
@@ -993,7 +993,7 @@ module _ {N : Type 0} (n : Naming N) (laws : NameLaws n) (z : State N) where
     -- a caption, a cell and an object: flow content after a marker, after which the list is as it was
     marking : (m back : Mode) (r : Profile) (p : profile (n.tag x) ≡ r) → content_within i.content r.content ≡ content.Flow → unwrap_or (open_mode (n.tag x)) (reset_mode n z.context (d ∷ up)) ≡ m → is_flow_mode m ≡ true → r.is_heading ≡ false → r.is_p ≡ false → r.stops_button ≡ true → back ≡ c.mode
         → Opens (marker ∷ items) (record (begun_control c) { mode = m })
-        → ((at made' : ℕ) (g : Forest N) (items2 : List (Item N)) (c2 : Control) → c2.mode ≡ m → Rule n at (end x) (state z made' g (node made x ∷ d ∷ up) items2 c2) ≡ Done (state z made' g (d ∷ up) (cleared items2) (record c2 { mode = back })))
+        → ((at made' : ℕ) (g : Forest N) (items2 : List (Listed N)) (c2 : Control) → c2.mode ≡ m → Rule n at (end x) (state z made' g (node made x ∷ d ∷ up) items2 c2) ≡ Done (state z made' g (d ∷ up) (cleared items2) (record c2 { mode = back })))
         → (ts : List (PlacedToken N)) → Spells ts → Node ts
     marking m back r p within mode flows no_heading no_p stops_it same_as opening ending =
         let o : j.content ≡ content.Flow = content_is r p ∙ within in
@@ -1004,7 +1004,7 @@ module _ {N : Type 0} (n : Naming N) (laws : NameLaws n) (z : State N) where
         (λ items2 c2 t k. record {
           items3 = cleared items2;
           control3 = record (begun_control c2) { mode = back };
-          thins = subst (λ (l : List (Item N)). Thinned items l) (sym (ap cleared (marked t))) same;
+          thins = subst (λ (l : List (Listed N)). Thinned items l) (sym (ap cleared (marked t))) same;
           keeps = record { mode = same_as; head = k.head; form = k.form; quirks = k.quirks };
           no_drop = refl;
           rule = λ at made' g'. ending at made' g' items2 (begun_control c2) k.mode;
@@ -1069,7 +1069,7 @@ module _ {N : Type 0} (n : Naming N) (laws : NameLaws n) (z : State N) where
   good-empty i (tree b (forest.comment t) none rest) e g = absurd (let h = ap takes_comments e in let k = g.0 in cc)
   good-empty i _ e g = absurd g
 
-  module _ (b : ℕ) (x : N) (attrs : List (Attribute N)) (i : Inside) (made : ℕ) (f : Forest N) (d : OpenNode N) (up : List (OpenNode N)) (items : List (Item N)) (c : Control) (s : State N)
+  module _ (b : ℕ) (x : N) (attrs : List (Attribute N)) (i : Inside) (made : ℕ) (f : Forest N) (d : OpenNode N) (up : List (OpenNode N)) (items : List (Listed N)) (c : Control) (s : State N)
       (q : Quiet n z.context i made f d up items c) (from : ActsAs n s (state z made f (d ∷ up) items c)) (taken : takes_role i.content (row (n.tag x)).0 ≡ true) (room : made + 1 ≤ z.site.nodes.limit) (deep : suc (length up) + 1 ≤ z.site.open_nodes.limit) where
     abbrev Void : List (PlacedToken N) → Type 0
     Void ts = AreTokens ts (start x attrs false ∷ []) → NodeBuilt b (element x attrs) none made f d up items c s ts
@@ -1130,7 +1130,7 @@ module _ {N : Type 0} (n : Naming N) (laws : NameLaws n) (z : State N) where
   fosters_at false true h e = absurd cc
   fosters_at false false h e = absurd cc
 
-  text_node : (i : Inside) (b : ℕ) (t : List ℕ) (made : ℕ) (f : Forest N) (d : OpenNode N) (up : List (OpenNode N)) (items : List (Item N)) (c : Control) → Quiet n z.context i made f d up items c → (good : GoodText i t)
+  text_node : (i : Inside) (b : ℕ) (t : List ℕ) (made : ℕ) (f : Forest N) (d : OpenNode N) (up : List (OpenNode N)) (items : List (Listed N)) (c : Control) → Quiet n z.context i made f d up items c → (good : GoodText i t)
       → text_before (LastIn d.node) f ≡ None → (c.drop_lf && good.is.one == 10) ≡ false → made < z.site.nodes.limit → (ts : List (PlacedToken N)) → AreTokens ts (map (λ ch. character ch) (chars t)) → NodeBuilt b (text t) none made f d up items c (state z made f (d ∷ up) items c) ts
   text_node i b t made f d up items c q good none_before safe room ts h = go i.content refl
     where
@@ -1160,7 +1160,7 @@ module _ {N : Type 0} (n : Naming N) (laws : NameLaws n) (z : State N) where
       go content.Empty e = absurd (text_now content.Empty e)
       go k e = in_flow (fits_now k e)
 
-  node_and_rest : (b : ℕ) (w : What N) (kids rest : Forest N) → LawOf rest → (i : Inside) (made : ℕ) (f : Forest N) (d : OpenNode N) (up : List (OpenNode N)) (items : List (Item N)) (c : Control) (s : State N) (ts : List (PlacedToken N)) (us : List (Token N))
+  node_and_rest : (b : ℕ) (w : What N) (kids rest : Forest N) → LawOf rest → (i : Inside) (made : ℕ) (f : Forest N) (d : OpenNode N) (up : List (OpenNode N)) (items : List (Listed N)) (c : Control) (s : State N) (ts : List (PlacedToken N)) (us : List (Token N))
       → Quiet n z.context i made f d up items c → Good n i rest → (begins_text rest ≡ true → is_text w ≡ false) → (is_text w ≡ false → if_text made (Some w) ≡ None) → made + (1 + (size kids + size rest)) ≤ z.site.nodes.limit → suc (length up) + depth rest ≤ z.site.open_nodes.limit
       → AreTokens ts (us ++ tokens_of n rest) → ((front : List (PlacedToken N)) → AreTokens front us → NodeBuilt b w kids made f d up items c s front)
       → Built (tree b w kids rest) made f d up items c s ts

@@ -8,7 +8,7 @@ use Rattle.hnodes.specs.declared.node.Place.{Place}
 use Rattle.hnodes.specs.declared.node.Place.TheVariants.{LastIn}
 use Rattle.hopen.specs.Nearest.{before}
 use Rattle.hopen.specs.Stack.{is_open, current}
-use Rattle.hformat.specs.Formatting.{Item, marker, entry}
+use Rattle.hformat.specs.Formatting.{Listed, marker, entry}
 use Rattle.hadopt.specs.Naming.{numbers}
 use Rattle.hadopt.specs.Site.{SiteOf, stack, node_of}
 use Rattle.hadopt.specs.Inserts as inserts
@@ -55,13 +55,13 @@ module _ (at c : ℕ) (s : State ℕ) where
       ∙ is_put s.control.mode (is_space c) h
 
 -- what is put changes neither the stack nor the list
-before-nodes : (x : SiteOf ℕ) (v : Nodes ℕ) (items : List (Item ℕ)) → before (stops_going_back (record x { nodes = v })) items ≡ before (stops_going_back x) items
+before-nodes : (x : SiteOf ℕ) (v : Nodes ℕ) (items : List (Listed ℕ)) → before (stops_going_back (record x { nodes = v })) items ≡ before (stops_going_back x) items
 before-nodes x v [] = refl
 before-nodes x v (marker ∷ items) = refl
-before-nodes x v (entry e ∷ items) = ap (λ (r : List (Item ℕ)). if is_open e.node (stack x) then [] else entry e ∷ r) (before-nodes x v items)
+before-nodes x v (entry e ∷ items) = ap (λ (r : List (Listed ℕ)). if is_open e.node (stack x) then [] else entry e ∷ r) (before-nodes x v items)
 
 reconstructed-nodes : (x : SiteOf ℕ) (v : Nodes ℕ) → is_reconstructed (record x { nodes = v }) ≡ is_reconstructed x
-reconstructed-nodes x v = ap (λ (r : List (Item ℕ)). length r == 0) (before-nodes x v x.items)
+reconstructed-nodes x v = ap (λ (r : List (Listed ℕ)). length r == 0) (before-nodes x v x.items)
 
 pub puts-nodes : (m : Mode) (x : SiteOf ℕ) (v : Nodes ℕ) → puts_in m x ≡ true → puts_in m (record x { nodes = v }) ≡ true
 puts-nodes mode.Text x v h = refl

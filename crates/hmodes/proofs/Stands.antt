@@ -7,7 +7,7 @@ use Rattle.hnodes.specs.Forest.{What, document, element}
 use Rattle.hnodes.specs.Forest as forest
 use Rattle.hnodes.specs.declared.node.Place.TheVariants.{LastIn}
 use Rattle.hopen.specs.Stack.{is_node}
-use Rattle.hformat.specs.Formatting.{EntryOf, Item, entry, entries, cleared, find_entry, without_entry, with_room, without_earliest, is_equal, after_marker, most_equal}
+use Rattle.hformat.specs.Formatting.{EntryOf, Listed, entry, entries, cleared, find_entry, without_entry, with_room, without_earliest, is_equal, after_marker, most_equal}
 use Rattle.hformat.specs.Formatting as list
 use Rattle.names.specs.declared.placed.Placed.{Placed}
 use Rattle.names.specs.declared.tag.Tag.{Tag}
@@ -96,12 +96,12 @@ module _ {N : Type 0} (n : Naming N) where
   forgotten-well : (k : ℕ) (s : SiteOf N) → Well n s → Well n (forgotten k s)
   forgotten-well k s h = listed-as n (removed (Some k) s) (without_entry k s.items) (plain-without n k s.items h.plain) (removed-well (Some k) s h)
 
-  plain-cleared : (items : List (Item N)) → PlainEntries n items → PlainEntries n (cleared items)
+  plain-cleared : (items : List (Listed N)) → PlainEntries n items → PlainEntries n (cleared items)
   plain-cleared [] h = tt
   plain-cleared (list.marker ∷ items) h = h
   plain-cleared (entry e ∷ items) h = plain-cleared items h.1
 
-  plain-earliest : (p : EntryOf N → Bool) (items : List (Item N)) → PlainEntries n items → PlainEntries n (without_earliest p items)
+  plain-earliest : (p : EntryOf N → Bool) (items : List (Listed N)) → PlainEntries n items → PlainEntries n (without_earliest p items)
   plain-earliest p [] h = tt
   plain-earliest p (list.marker ∷ items) h = h
   plain-earliest p (entry e ∷ items) h = go (p e && not (list_any p (after_marker items))) (plain-earliest p items h.1)
@@ -110,7 +110,7 @@ module _ {N : Type 0} (n : Naming N) where
       go true r = h.1
       go false r = (h.0, r)
 
-  plain-room : (e : EntryOf N) (items : List (Item N)) → PlainEntries n items → PlainEntries n (with_room n.same e items)
+  plain-room : (e : EntryOf N) (items : List (Listed N)) → PlainEntries n items → PlainEntries n (with_room n.same e items)
   plain-room e items h = go (nat_le most_equal (length (filter (is_equal n.same e) (after_marker items))))
     where
       go : (v : Bool) → PlainEntries n (cond v (without_earliest (is_equal n.same e) items) items)

@@ -19,7 +19,7 @@ ghost use Rattle.hmodes.specs.declared.mode.Mode.TheVariants.{Initial, BeforeHtm
 use crate::mode::Mode;
 use crate::token_kind::TokenKind;
 use crate::tree_construction::{Flow, TreeConstruction};
-use hnodes::Doctype;
+use hnodes::DocumentType;
 use htoken::Token;
 use names::Refusal;
 use std::alloc::Global;
@@ -67,7 +67,7 @@ fn take_text(alloc: Global, text: &mut Option<String>) -> String
 }
 
 /// Takes the texts out of a doctype; what is missing is empty.
-fn take_doctype(alloc: Global, token: &mut Token) -> Doctype
+fn take_doctype(alloc: Global, token: &mut Token) -> DocumentType
     ensures { forest.doctype (string_bytes result.name) (string_bytes result.public_id) (string_bytes result.system_id) ≡ doctype_node (token_of token.old) }
 {
     match token {
@@ -76,12 +76,12 @@ fn take_doctype(alloc: Global, token: &mut Token) -> Doctype
             public_id,
             system_id,
             ..
-        } => Doctype {
+        } => DocumentType {
             name: take_text(alloc, name),
             public_id: take_text(alloc, public_id),
             system_id: take_text(alloc, system_id),
         },
-        _ => Doctype {
+        _ => DocumentType {
             name: String::new(alloc),
             public_id: String::new(alloc),
             system_id: String::new(alloc),

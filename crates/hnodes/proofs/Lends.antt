@@ -16,7 +16,7 @@ use Rattle.hnodes.proofs.Opened.{Opened, opened}
 use Rattle.hnodes.specs.declared.node.Node.{Node}
 use Rattle.hnodes.specs.declared.node.NodeData.{NodeData}
 use Rattle.hnodes.specs.declared.node.NodeData.TheVariants as content
-use Rattle.hnodes.specs.declared.node.Doctype.{Doctype as DoctypeOf}
+use Rattle.hnodes.specs.declared.node.DocumentType.{DocumentType as DoctypeOf}
 use Rattle.names.specs.declared.attr.Attr.{Attr}
 use Rattle.hnodes.specs.declared.tree.Tree.TheInside.{Inside}
 

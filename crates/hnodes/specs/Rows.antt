@@ -3,7 +3,7 @@ use Rattle.std.specs.Prelude.{◌≡◌, ℕ, suc, zero, ◌<◌, List, [], ◌�
 use Rattle.hnodes.specs.Forest.{What, document, doctype, element, comment, text, Attribute}
 use Rattle.hnodes.specs.Links.{Row, Look, at_row}
 use Rattle.names.specs.declared.attr.Attr.{Attr}
-use Rattle.hnodes.specs.declared.node.Doctype.{Doctype as DoctypeOf}
+use Rattle.hnodes.specs.declared.node.DocumentType.{DocumentType as DoctypeOf}
 use Rattle.hnodes.specs.declared.node.Node.{Node}
 use Rattle.hnodes.specs.declared.node.NodeData.{NodeData}
 use Rattle.hnodes.specs.declared.node.NodeData.TheVariants as content

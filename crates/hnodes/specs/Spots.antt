@@ -2,8 +2,8 @@
 use Rattle.std.specs.Prelude.{ℕ, Bool, eqb, List, [], ◌∷◌, Option, Some, None, if◌then◌else◌, option_and_then}
 use Rattle.std.specs.Option.{option_map}
 use Rattle.hnodes.specs.Forest.{Attribute, What, document, doctype, element, comment, text, Forest, none, tree}
-use Rattle.hnodes.specs.declared.node.Kind.{Kind}
-use Rattle.hnodes.specs.declared.node.Kind.TheVariants as kind
+use Rattle.hnodes.specs.declared.node.NodeKind.{NodeKind}
+use Rattle.hnodes.specs.declared.node.NodeKind.TheVariants as kind
 
 -- the place of a node: its parent, the sibling before it, what it is, its children, and the siblings after it
 pub record Spot (N : Type 0) : Type 0 where
@@ -61,7 +61,7 @@ module _ {N : Type 0} where
   abbrev pub what_of : ℕ → Forest N → Option (What N)
   what_of n f = option_map (λ s. s.what) (spot_of n f)
 
-  abbrev pub kind_in : What N → Kind
+  abbrev pub kind_in : What N → NodeKind
   kind_in document = kind.Document
   kind_in (doctype n p s) = kind.Doctype
   kind_in (element x attrs) = kind.Element
@@ -86,7 +86,7 @@ module _ {N : Type 0} where
   doctype_in (doctype n p s) = Some (n, p, s)
   doctype_in w = None
 
-  abbrev pub kind_of : ℕ → Forest N → Option Kind
+  abbrev pub kind_of : ℕ → Forest N → Option NodeKind
   kind_of n f = option_map kind_in (what_of n f)
 
   abbrev pub name_of : ℕ → Forest N → Option N

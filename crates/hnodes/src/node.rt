@@ -38,7 +38,7 @@ impl NodeId {
 
 /// The kind of a node.
 #[derive(Clone, Copy, Debug, PartialEq, Eq)]
-pub enum Kind {
+pub enum NodeKind {
     Document,
     Doctype,
     Element,
@@ -57,7 +57,7 @@ pub enum Place {
 
 /// A doctype's name and identifiers; one that is missing is empty.
 #[derive(Drop)]
-pub struct Doctype {
+pub struct DocumentType {
     pub name: String,
     pub public_id: String,
     pub system_id: String,
@@ -70,7 +70,7 @@ const FEW: usize = 16;
 #[derive(Drop)]
 pub(crate) enum NodeData {
     Document,
-    Doctype(Box<Doctype>),
+    Doctype(Box<DocumentType>),
     Element(NameId, Vec<Attr>),
     /// An element that had more than `FEW` attributes when it was made, or when it got others.
     Wide(NameId, Box<Indexed>),

@@ -19,7 +19,7 @@ ghost use Rattle.std.specs.Str.{chars};
 use crate::attributes::{few_differ, has_name};
 use crate::links::{detach, hook};
 use crate::node::{
-    self, Doctype, Kind, Node, NodeData, NodeId, NodeLink, Place, push_attr, push_char, push_text,
+    self, DocumentType, NodeKind, Node, NodeData, NodeId, NodeLink, Place, push_attr, push_char, push_text,
     widen,
 };
 use names::{Attr, NameId, Refusal, Tag};
@@ -142,7 +142,7 @@ impl Tree {
     }
 
     /// Makes a doctype, loose.
-    pub fn create_doctype(&mut self, texts: Doctype, at: u64) -> Result<NodeId, Refusal>
+    pub fn create_doctype(&mut self, texts: DocumentType, at: u64) -> Result<NodeId, Refusal>
         ensures { Makes (doctype (string_bytes texts.name) (string_bytes texts.public_id) (string_bytes texts.system_id)) at self.old self.new result }
     {
         self.room(at)?;
@@ -341,7 +341,7 @@ impl Tree {
             Place::Before(sibling) => self.previous(sibling),
         };
         match before {
-            Some(node) if self.kind(node) == Kind::Text => Some(node),
+            Some(node) if self.kind(node) == NodeKind::Text => Some(node),
             _ => None,
         }
     }
@@ -471,17 +471,17 @@ impl Tree {
     }
 
     /// The kind of a node.
-    pub fn kind(&self, at: NodeId) -> Kind
+    pub fn kind(&self, at: NodeId) -> NodeKind
         requires { at < self.now.made }
         ensures { Some result ≡ kind_of at self.now.trees }
     {
         match &self.nodes[at.number as usize].content {
-            NodeData::Document => Kind::Document,
-            NodeData::Doctype(_) => Kind::Doctype,
-            NodeData::Element(_, _) => Kind::Element,
-            NodeData::Wide(_, _) => Kind::Element,
-            NodeData::Comment(_) => Kind::Comment,
-            NodeData::Text(_) => Kind::Text,
+            NodeData::Document => NodeKind::Document,
+            NodeData::Doctype(_) => NodeKind::Doctype,
+            NodeData::Element(_, _) => NodeKind::Element,
+            NodeData::Wide(_, _) => NodeKind::Element,
+            NodeData::Comment(_) => NodeKind::Comment,
+            NodeData::Text(_) => NodeKind::Text,
         }
     }
 
@@ -569,7 +569,7 @@ impl Tree {
     }
 
     /// The name and the identifiers of a doctype.
-    pub fn doctype(&self, at: NodeId) -> Option<&Doctype>
+    pub fn doctype(&self, at: NodeId) -> Option<&DocumentType>
         requires { at < self.now.made }
         ensures { option_map (λ texts. doctype_texts texts.now) result ≡ doctype_of at self.now.trees }
     {

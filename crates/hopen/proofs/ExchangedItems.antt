@@ -8,7 +8,7 @@ use Rattle.hopen.specs.Places.{last_place}
 use Rattle.hopen.specs.NameSets.{is_in, is_in_set, set_place}
 use Rattle.hopen.specs.Kept.{opened_by, stack_of, IsKept, AreKept}
 use Rattle.hopen.specs.Exchanged.{exchanged, place_in, IsWindow, IsOutside, IsDropped, IsMended, IsRenewed, IsDone, AreDone, IsSettled, AreKeptIn}
-use Rattle.hopen.specs.declared.kept.Item.{Item}
+use Rattle.hopen.specs.declared.kept.KeptNode.{KeptNode}
 use Rattle.hopen.specs.declared.stack.Open.{Open}
 use Rattle.hopen.specs.declared.name_sets.NameSet.{NameSet}
 use Rattle.names.specs.Tags.{tag_of}
@@ -27,12 +27,12 @@ place-more sought ys j d y h is =
     ∙ sym (ap (λ l. last_place sought (reverse l)) (take-suc ys j d h) ∙ ap (last_place sought) (reverse-append (take j ys) (get_or ys j d ∷ [])))
 
 -- items that keep their places, by their indexes
-kept-take : (items : List Item) (n : ℕ) → n ≤ length items → AreKept (reverse (take n items)) → AreKeptIn 0 n items (map opened_by items)
+kept-take : (items : List KeptNode) (n : ℕ) → n ≤ length items → AreKept (reverse (take n items)) → AreKeptIn 0 n items (map opened_by items)
 kept-take items zero h k j d low within = absurd (omega arith)
 kept-take items (suc n) h k j d low within = go (cases_lt j n) (kept-take items n (omega arith))
   where
-    here : (e : Item) → IsKept (get_or items n e) (stack_of (take n items)) × AreKept (reverse (take n items))
-    here e = kept-last (take n items) (get_or items n e) (subst (λ (xs : List Item). AreKept (reverse xs)) (take-suc items n e (omega arith)) k)
+    here : (e : KeptNode) → IsKept (get_or items n e) (stack_of (take n items)) × AreKept (reverse (take n items))
+    here e = kept-last (take n items) (get_or items n e) (subst (λ (xs : List KeptNode). AreKept (reverse xs)) (take-suc items n e (omega arith)) k)
 
     go : (j < n) ⊎ (n ≤ j) → (AreKept (reverse (take n items)) → AreKeptIn 0 n items (map opened_by items)) → IsKept (get_or items j d) (reverse (take j (map opened_by items)))
     go (inl l) rest = rest (here d).1 j d low l
@@ -40,20 +40,20 @@ kept-take items (suc n) h k j d low within = go (cases_lt j n) (kept-take items 
         let same : n ≡ j = omega arith in
         subst (λ m. IsKept (get_or items m d) (reverse (take m (map opened_by items)))) same (subst (λ l. IsKept (get_or items n d) (reverse l)) (sym (take-map opened_by n items)) (here d).0)
 
-pub kept-at : (items : List Item) → AreKept (reverse items) → AreKeptIn 0 (length items) items (map opened_by items)
-kept-at items k = kept-take items (length items) (le_refl (length items)) (subst (λ (xs : List Item). AreKept (reverse xs)) (sym (take_all (length items) items (le_refl (length items)))) k)
+pub kept-at : (items : List KeptNode) → AreKept (reverse items) → AreKeptIn 0 (length items) items (map opened_by items)
+kept-at items k = kept-take items (length items) (le_refl (length items)) (subst (λ (xs : List KeptNode). AreKept (reverse xs)) (sym (take_all (length items) items (le_refl (length items)))) k)
 
-pub kept-build : (items : List Item) (n : ℕ) → n ≤ length items → AreKeptIn 0 n items (map opened_by items) → AreKept (reverse (take n items))
+pub kept-build : (items : List KeptNode) (n : ℕ) → n ≤ length items → AreKeptIn 0 n items (map opened_by items) → AreKept (reverse (take n items))
 kept-build items zero h k = tt
 kept-build [] (suc n) h k = absurd (omega arith)
 kept-build (x ∷ items) (suc n) h k =
     let all = x ∷ items in
-    subst (λ (xs : List Item). AreKept (reverse xs)) (sym (take-suc all n x (omega arith)))
+    subst (λ (xs : List KeptNode). AreKept (reverse xs)) (sym (take-suc all n x (omega arith)))
     (kept-more (take n all) (get_or all n x) (subst (λ l. IsKept (get_or all n x) (reverse l)) (take-map opened_by n all) (k n x (omega arith) (omega arith)))
     (kept-build all n (omega arith) (λ j d low within. k j d low (omega arith))))
 
-pub kept-from : (items : List Item) → AreKeptIn 0 (length items) items (map opened_by items) → AreKept (reverse items)
-kept-from items k = subst (λ (xs : List Item). AreKept (reverse xs)) (take_all (length items) items (le_refl (length items))) (kept-build items (length items) (le_refl (length items)) k)
+pub kept-from : (items : List KeptNode) → AreKeptIn 0 (length items) items (map opened_by items) → AreKept (reverse items)
+kept-from items k = subst (λ (xs : List KeptNode). AreKept (reverse xs)) (take_all (length items) items (le_refl (length items))) (kept-build items (length items) (le_refl (length items)) k)
 
 -- a place outside the window stays
 pub mended-outside : (from to : ℕ) (v : Bool) (old new : ℕ) → IsMended from to v old new → IsOutside from to old → new ≡ old
@@ -116,7 +116,7 @@ module _ (from to : ℕ) (new : OpenNode ℕ) (ys : List (OpenNode ℕ)) (window
   alike-sets set = ap (λ (m : ℕ). is_in_set set (tag_of m)) window.name
 
   -- an item below the window, mended
-  module _ (j : ℕ) (below : to < j) (within : j < length ys) (x : Item) (here : get_or ys j new ≡ opened_by x) (kept : IsKept x (reverse (take j ys))) where
+  module _ (j : ℕ) (below : to < j) (within : j < length ys) (x : KeptNode) (here : get_or ys j new ≡ opened_by x) (kept : IsKept x (reverse (take j ys))) where
     same-node : x.same_node ≡ place_in (λ y. y.node == x.opened.node) (exchanged from to new ys) j
     same-node = kept.same_node ∙ subst (λ (o : OpenNode ℕ). place_in (λ y. y.node == o.node) ys j ≡ place_in (λ y. y.node == o.node) (exchanged from to new ys) j) here (sym (node-stays j below within))
 
@@ -126,7 +126,7 @@ module _ (from to : ℕ) (new : OpenNode ℕ) (ys : List (OpenNode ℕ)) (window
     within-now : j < length (exchanged from to new ys)
     within-now = omega (arith, exchanged-length from to new ys window.order window.within)
 
-    pub mended-kept : (z : Item) → z.opened ≡ x.opened → z.same_node ≡ x.same_node → IsMended from to (eqb new.name x.opened.name) x.same_name z.same_name
+    pub mended-kept : (z : KeptNode) → z.opened ≡ x.opened → z.same_node ≡ x.same_node → IsMended from to (eqb new.name x.opened.name) x.same_name z.same_name
         → ((set : NameSet) → IsRenewed to (place_in (is_in set) (exchanged from to new ys) (suc to)) (set_place set x.sets) (set_place set z.sets)) → IsKept z (reverse (take j (exchanged from to new ys)))
     mended-kept z opened node name sets = record {
       same_name = mended-same from to (eqb new.name x.opened.name) x.same_name z.same_name _ name (subst (λ p. IsMended from to (eqb new.name x.opened.name) p (place_in (λ y. y.name == x.opened.name) (exchanged from to new ys) j)) (sym kept.same_name)
@@ -154,7 +154,7 @@ module _ (from to : ℕ) (new : OpenNode ℕ) (ys : List (OpenNode ℕ)) (window
     }
 
   -- an item above the window
-  pub above-kept : (j : ℕ) → j < from → (x : Item) → get_or ys j new ≡ opened_by x → IsKept x (reverse (take j ys)) → IsKept x (reverse (take j (exchanged from to new ys)))
+  pub above-kept : (j : ℕ) → j < from → (x : KeptNode) → get_or ys j new ≡ opened_by x → IsKept x (reverse (take j ys)) → IsKept x (reverse (take j (exchanged from to new ys)))
   above-kept j h x here kept =
       let o = window.order in let w = window.within in
       record {
@@ -166,9 +166,9 @@ module _ (from to : ℕ) (new : OpenNode ℕ) (ys : List (OpenNode ℕ)) (window
       }
 
   -- an item of the window, one up
-  module _ (j : ℕ) (low : from ≤ j) (up : j < to) (x leaving : Item) (here : get_or ys (suc j) new ≡ opened_by x) (head : get_or ys from new ≡ opened_by leaving) (kept : IsKept x (reverse (take (suc j) ys)))
+  module _ (j : ℕ) (low : from ≤ j) (up : j < to) (x leaving : KeptNode) (here : get_or ys (suc j) new ≡ opened_by x) (head : get_or ys from new ≡ opened_by leaving) (kept : IsKept x (reverse (take (suc j) ys)))
       (kept-head : IsKept leaving (reverse (take from ys))) where
-    pub dropped-kept : (z : Item) → z.opened ≡ x.opened → IsDropped from leaving.same_name x.same_name z.same_name → IsDropped from leaving.same_node x.same_node z.same_node
+    pub dropped-kept : (z : KeptNode) → z.opened ≡ x.opened → IsDropped from leaving.same_name x.same_name z.same_name → IsDropped from leaving.same_node x.same_node z.same_node
         → ((set : NameSet) → IsDropped from (place_in (is_in set) ys from) (set_place set x.sets) (set_place set z.sets)) → IsKept z (reverse (take j (exchanged from to new ys)))
     dropped-kept z opened name node sets = record {
       same_name = dropped-same from leaving.same_name (place_in named ys from) x.same_name z.same_name (place_in named (exchanged from to new ys) j) name
@@ -215,7 +215,7 @@ module _ (from to : ℕ) (new : OpenNode ℕ) (ys : List (OpenNode ℕ)) (window
       omega (arith, window.fresh)
 
   -- the new item
-  pub new-kept : (z : Item) → opened_by z ≡ new → z.same_name ≡ place_in (λ y. y.name == new.name) (exchanged from to new ys) to → z.same_node ≡ 0
+  pub new-kept : (z : KeptNode) → opened_by z ≡ new → z.same_name ≡ place_in (λ y. y.name == new.name) (exchanged from to new ys) to → z.same_node ≡ 0
       → ((set : NameSet) → set_place set z.sets ≡ place_in (is_in set) (exchanged from to new ys) (suc to)) → IsKept z (reverse (take to (exchanged from to new ys)))
   new-kept z is name node sets = record {
     same_name = name ∙ ap (λ (o : OpenNode ℕ). place_in (λ y. y.name == o.name) (exchanged from to new ys) to) (sym is);
@@ -232,7 +232,7 @@ module _ (from to : ℕ) (new : OpenNode ℕ) (ys : List (OpenNode ℕ)) (window
 
 module _ (from to : ℕ) (new : OpenNode ℕ) (ys : List (OpenNode ℕ)) where
   -- from an end on items keep no place in the window
-  pub settled : (end j : ℕ) → to < end → end ≤ j → j < length ys → (x : Item) → get_or ys j new ≡ opened_by x → IsKept x (reverse (take j ys)) → AreDone from to ys end
+  pub settled : (end j : ℕ) → to < end → end ≤ j → j < length ys → (x : KeptNode) → get_or ys j new ≡ opened_by x → IsKept x (reverse (take j ys)) → AreDone from to ys end
       → ((set : NameSet) → IsOutside from to (place_in (is_in set) ys end)) → IsSettled from to x
   settled end j order low within x here kept done sets = record {
     same_name = subst (IsOutside from to) (sym kept.same_name) name;
@@ -270,17 +270,17 @@ module _ (from to : ℕ) (new : OpenNode ℕ) (ys : List (OpenNode ℕ)) where
   done-more sought end more done h w = λ some. let far = done some in omega (arith, place-mono sought ys new end more h w)
 
 -- the first this many of a vector of items
-pub stack-place : (items : List Item) (sought : OpenNode ℕ → Bool) (n : ℕ) → last_place sought (stack_of (take n items)) ≡ place_in sought (map opened_by items) n
+pub stack-place : (items : List KeptNode) (sought : OpenNode ℕ → Bool) (n : ℕ) → last_place sought (stack_of (take n items)) ≡ place_in sought (map opened_by items) n
 stack-place items sought n = ap (λ l. last_place sought (reverse l)) (sym (take-map opened_by n items))
 
 -- one of a vector of items, as it is read there
-pub opened-at : (items : List Item) (j : ℕ) (x : Item) (d : OpenNode ℕ) → j < length items → x ≡ get_or items j x → get_or (map opened_by items) j d ≡ opened_by x
+pub opened-at : (items : List KeptNode) (j : ℕ) (x : KeptNode) (d : OpenNode ℕ) → j < length items → x ≡ get_or items j x → get_or (map opened_by items) j d ≡ opened_by x
 opened-at items j x d h is = get_or-map opened_by items j x d h ∙ ap opened_by (sym is)
 
-pub item-kept : (items : List Item) (ys : List (OpenNode ℕ)) (from n j : ℕ) (x : Item) → AreKeptIn from n items ys → from ≤ j → j < n → x ≡ get_or items j x → IsKept x (reverse (take j ys))
-item-kept items ys from n j x k low h is = subst (λ (y : Item). IsKept y (reverse (take j ys))) (sym is) (k j x low h)
+pub item-kept : (items : List KeptNode) (ys : List (OpenNode ℕ)) (from n j : ℕ) (x : KeptNode) → AreKeptIn from n items ys → from ≤ j → j < n → x ≡ get_or items j x → IsKept x (reverse (take j ys))
+item-kept items ys from n j x k low h is = subst (λ (y : KeptNode). IsKept y (reverse (take j ys))) (sym is) (k j x low h)
 
-pub item-sets : (items : List Item) (n j : ℕ) (d : Item) → AreKeptIn 0 n items (map opened_by items) → j < n → n ≤ length items → (set : NameSet) → set_place set (Item.sets (get_or items j d)) ≡ place_in (is_in set) (map opened_by items) (suc j)
+pub item-sets : (items : List KeptNode) (n j : ℕ) (d : KeptNode) → AreKeptIn 0 n items (map opened_by items) → j < n → n ≤ length items → (set : NameSet) → set_place set (KeptNode.sets (get_or items j d)) ≡ place_in (is_in set) (map opened_by items) (suc j)
 item-sets items n j d k h w set =
     (k j d (omega arith) h).sets set
     ∙ place-more (is_in set) (map opened_by items) j (opened_by d) (opened_by (get_or items j d)) (omega (arith, length-map items opened_by)) (get_or-map opened_by items j d (opened_by d) (omega arith))

@@ -9,7 +9,7 @@ use Rattle.std.proofs.lemmas.List.Edits.{length-remove}
 use Rattle.hopen.specs.Nearest.{without, put_before}
 use Rattle.hopen.specs.Kept.{opened_by}
 use Rattle.hopen.specs.Exchanged.{exchanged}
-use Rattle.hopen.specs.declared.kept.Item.{Item}
+use Rattle.hopen.specs.declared.kept.KeptNode.{KeptNode}
 use Rattle.hopen.proofs.Nearest.{position_is, remove_nearest, insert_nearest}
 
 module _ {Y : Type 0} (leaves sought : Y → Bool) where
@@ -67,7 +67,7 @@ found-below None P Q h below = absurd (omega arith)
 found-below (Some i) P Q h below = h
 
 -- one item is left out
-pub length-left : (items left : List Item) (i : ℕ) → i < length items → map opened_by left ≡ map opened_by (remove_range items i (i + 1)) → length left + 1 ≡ length items
+pub length-left : (items left : List KeptNode) (i : ℕ) → i < length items → map opened_by left ≡ map opened_by (remove_range items i (i + 1)) → length left + 1 ≡ length items
 length-left items left i h e =
     let next : i + 1 ≡ suc i = omega arith in
     let same : length left ≡ length (remove items i) = sym (length-map left opened_by) ∙ ap length e ∙ length-map (remove_range items i (i + 1)) opened_by ∙ ap (λ n. length (remove_range items i n)) next in

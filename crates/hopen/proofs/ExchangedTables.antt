@@ -6,14 +6,14 @@ use Rattle.hopen.specs.Stack.{OpenNode}
 use Rattle.hopen.specs.Places.{last_place, SaysPlaces}
 use Rattle.hopen.specs.Kept.{opened_by, Stands}
 use Rattle.hopen.specs.Exchanged.{exchanged, place_in, IsWindow, AreAlone, IsMended, IsRenewed, IsLowered, AreLowered}
-use Rattle.hopen.specs.declared.kept.Item.{Item}
+use Rattle.hopen.specs.declared.kept.KeptNode.{KeptNode}
 use Rattle.hopen.specs.declared.kept.LastPlaces.{LastPlaces}
 use Rattle.hopen.proofs.Tables.{same-eqb}
 use Rattle.hopen.proofs.Exchanged.{place-hit, place-found, place-mono, place-inside, place-new, place-below, place-mended, exchanged-length}
 use Rattle.hopen.proofs.ExchangedItems.{place-all, alike-names, none-new, opened-at}
 
 -- the window that the tests find
-pub window-is : (last : LastPlaces) (items : List Item) (from to : ℕ) (new : OpenNode ℕ) (x : Item) → Stands last items → from < to → to < length items → x ≡ get_or items from x → x.opened.name ≡ new.name → get_or last.nodes.items new.node 0 ≡ 0
+pub window-is : (last : LastPlaces) (items : List KeptNode) (from to : ℕ) (new : OpenNode ℕ) (x : KeptNode) → Stands last items → from < to → to < length items → x ≡ get_or items from x → x.opened.name ≡ new.name → get_or last.nodes.items new.node 0 ≡ 0
     → AreAlone from (suc to) last.nodes.items items → IsWindow from to new (map opened_by items)
 window-is last items from to new x s order within is name fresh alone = record {
   order = order;

@@ -9,17 +9,17 @@ use Rattle.hopen.proofs.Nearest.{words, no_words}
 use Rattle.hopen.specs.Stack.{OpenNode, OpenNodes}
 use Rattle.hopen.specs.Kept.{opened_by}
 use Rattle.hopen.specs.StackView.{open_nodes_of}
-use Rattle.hopen.specs.declared.kept.Item.{Item}
+use Rattle.hopen.specs.declared.kept.KeptNode.{KeptNode}
 use Rattle.hopen.specs.declared.stack.OpenStack.TheInside.{Inside}
 
-pub seen : (s : Inside) (n : OpenNodes ℕ) (word : List (OpenNode ℕ) → List (OpenNode ℕ)) (items : List Item) → open_nodes_of s ≡ n → reverse (map opened_by items) ≡ word (reverse (map opened_by s.items.items))
+pub seen : (s : Inside) (n : OpenNodes ℕ) (word : List (OpenNode ℕ) → List (OpenNode ℕ)) (items : List KeptNode) → open_nodes_of s ≡ n → reverse (map opened_by items) ≡ word (reverse (map opened_by s.items.items))
     → ◌≡◌ {A = OpenNodes ℕ} (record { limit = s.limit; stack = reverse (map opened_by items) }) (record { limit = n.limit; stack = word n.stack })
 seen s n word items e h =
     let P : OpenNodes ℕ → Type 0 = λ m. ◌≡◌ {A = OpenNodes ℕ} (record { limit = s.limit; stack = reverse (map opened_by items) }) (record { limit = m.limit; stack = word m.stack }) in
     subst P e (ap (λ (l : List (OpenNode ℕ)). record { limit = s.limit; stack = l }) h)
 
 -- an index of the vector that is found, and how many nodes are nearer
-pub record Found (items : List Item) (sought : OpenNode ℕ → Bool) (i : ℕ) : Type 0 where
+pub record Found (items : List KeptNode) (sought : OpenNode ℕ → Bool) (i : ℕ) : Type 0 where
   pub up : ℕ
   pub place : position sought (reverse (map opened_by items)) ≡ Some up
   pub sum : i + suc up ≡ length items

@@ -5,7 +5,7 @@ use Rattle.std.specs.List.{remove_range}
 use Rattle.hopen.specs.Places.{last_place}
 use Rattle.hopen.specs.NameSets.{is_in, is_in_set, set_place}
 use Rattle.hopen.specs.Kept.{opened_by, stack_of, IsKept, AreKept, Stands, AreIn}
-use Rattle.hopen.specs.declared.kept.Item.{Item}
+use Rattle.hopen.specs.declared.kept.KeptNode.{KeptNode}
 use Rattle.hopen.specs.declared.kept.LastPlaces.{LastPlaces}
 use Rattle.hopen.specs.declared.name_sets.NameSet.{NameSet}
 use Rattle.hopen.specs.declared.name_sets.SetPlaces.{SetPlaces}
@@ -14,13 +14,13 @@ use Rattle.hopen.proofs.Nearest.{reverse_push, reverse-map}
 use Rattle.hopen.proofs.Tables.{says-in, says-more, says-less, take-more, drop-more}
 
 -- the last item of a vector
-pub stack-more : (items : List Item) (x : Item) → stack_of (items ++ x ∷ []) ≡ opened_by x ∷ stack_of items
+pub stack-more : (items : List KeptNode) (x : KeptNode) → stack_of (items ++ x ∷ []) ≡ opened_by x ∷ stack_of items
 stack-more items x = reverse_push opened_by items x
 
-pub length-stack_of : (items : List Item) → length (stack_of items) ≡ length items
+pub length-stack_of : (items : List KeptNode) → length (stack_of items) ≡ length items
 length-stack_of items = length-reverse (map opened_by items) ∙ length-map items opened_by
 
-module _ (items : List Item) (x : Item) where
+module _ (items : List KeptNode) (x : KeptNode) where
   -- the last item, and those before it
   pub kept-last : AreKept (reverse (items ++ x ∷ [])) → IsKept x (stack_of items) × AreKept (reverse items)
   kept-last k =
@@ -30,7 +30,7 @@ module _ (items : List Item) (x : Item) where
   pub kept-more : IsKept x (stack_of items) → AreKept (reverse items) → AreKept (reverse (items ++ x ∷ []))
   kept-more is rest = rw (reverse-append items (x ∷ [])) (rw (reverse-map opened_by items) at is, rest)
 
-module _ (last : LastPlaces) (items : List Item) (x : Item) where
+module _ (last : LastPlaces) (items : List KeptNode) (x : KeptNode) where
   -- the tables have the numbers of an item
   pub stands-in : Stands last (items ++ x ∷ []) → (x.opened.name < length last.names.items) × (x.opened.node < length last.nodes.items)
   stands-in s = (
@@ -61,52 +61,52 @@ module _ (last : LastPlaces) (items : List Item) (x : Item) where
       }
 
 -- tables that say the same
-pub stands-same : (last next : LastPlaces) (items : List Item) → Stands last items → ((k : ℕ) → get_or next.names.items k 0 ≡ get_or last.names.items k 0) → ((k : ℕ) → get_or next.nodes.items k 0 ≡ get_or last.nodes.items k 0) → Stands next items
+pub stands-same : (last next : LastPlaces) (items : List KeptNode) → Stands last items → ((k : ℕ) → get_or next.names.items k 0 ≡ get_or last.names.items k 0) → ((k : ℕ) → get_or next.nodes.items k 0 ≡ get_or last.nodes.items k 0) → Stands next items
 stands-same last next items s names nodes = record { names = λ k. names k ∙ s.names k; nodes = λ k. nodes k ∙ s.nodes k; kept = s.kept }
 
 -- the places of sets at an item that comes
-pub sets-more : (items : List Item) (x : Item) (above : SetPlaces) (place : ℕ) → place ≡ suc (length items) → ((set : NameSet) → set_place set above ≡ last_place (is_in set) (stack_of items))
+pub sets-more : (items : List KeptNode) (x : KeptNode) (above : SetPlaces) (place : ℕ) → place ≡ suc (length items) → ((set : NameSet) → set_place set above ≡ last_place (is_in set) (stack_of items))
     → ((set : NameSet) → set_place set x.sets ≡ cond (is_in_set set (tag_of x.opened.name)) place (set_place set above)) → (set : NameSet) → set_place set x.sets ≡ last_place (is_in set) (opened_by x ∷ stack_of items)
 sets-more items x above place is before here set =
     let p : place ≡ suc (length (stack_of items)) = omega (arith, length-stack_of items) in
     here set ∙ (λ i. cond (is_in_set set (tag_of x.opened.name)) (p i) (before set i))
 
 -- those at the last item
-pub sets-last : (items front : List Item) (x : Item) → items ≡ front ++ x ∷ [] → AreKept (reverse items) → (set : NameSet) → set_place set x.sets ≡ last_place (is_in set) (stack_of items)
+pub sets-last : (items front : List KeptNode) (x : KeptNode) → items ≡ front ++ x ∷ [] → AreKept (reverse items) → (set : NameSet) → set_place set x.sets ≡ last_place (is_in set) (stack_of items)
 sets-last items front x is kept set =
-    let k = kept-last front x (subst (λ (xs : List Item). AreKept (reverse xs)) is kept) in
+    let k = kept-last front x (subst (λ (xs : List KeptNode). AreKept (reverse xs)) is kept) in
     k.0.sets set ∙ ap (last_place (is_in set)) (sym (ap stack_of is ∙ stack-more front x))
 
 -- one item of a vector, and those above it
-module _ (items : List Item) (n j : ℕ) (x : Item) (next : n ≡ suc j) (within : j < length items) (is : x ≡ get_or items j x) where
+module _ (items : List KeptNode) (n j : ℕ) (x : KeptNode) (next : n ≡ suc j) (within : j < length items) (is : x ≡ get_or items j x) where
   pub taken-in : (last : LastPlaces) → Stands last (take n items) → (x.opened.name < length last.names.items) × (x.opened.node < length last.nodes.items)
-  taken-in last s = stands-in last (take j items) x (subst (λ (xs : List Item). Stands last xs) (take-more items n j x next within is) s)
+  taken-in last s = stands-in last (take j items) x (subst (λ (xs : List KeptNode). Stands last xs) (take-more items n j x next within is) s)
 
   pub taken-less : (last next : LastPlaces) → Stands last (take n items) → next.names.items ≡ set last.names.items x.opened.name x.same_name → next.nodes.items ≡ set last.nodes.items x.opened.node x.same_node → Stands next (take j items)
-  taken-less last left s names nodes = stands-less last (take j items) x (subst (λ (xs : List Item). Stands last xs) (take-more items n j x next within is) s) left names nodes
+  taken-less last left s names nodes = stands-less last (take j items) x (subst (λ (xs : List KeptNode). Stands last xs) (take-more items n j x next within is) s) left names nodes
 
   pub numbers-more : (names nodes : ℕ) → AreIn names nodes (drop n items) → x.opened.name < names → x.opened.node < nodes → AreIn names nodes (drop j items)
-  numbers-more names nodes rest name_in node_in = subst (λ (xs : List Item). AreIn names nodes xs) (sym (drop-more items n j x next within is)) (name_in, node_in, rest)
+  numbers-more names nodes rest name_in node_in = subst (λ (xs : List KeptNode). AreIn names nodes xs) (sym (drop-more items n j x next within is)) (name_in, node_in, rest)
 
   pub numbers-less : (names nodes : ℕ) → AreIn names nodes (drop j items) → (x.opened.name < names) × (x.opened.node < nodes) × AreIn names nodes (drop n items)
-  numbers-less names nodes all = subst (λ (xs : List Item). AreIn names nodes xs) (drop-more items n j x next within is) all
+  numbers-less names nodes all = subst (λ (xs : List KeptNode). AreIn names nodes xs) (drop-more items n j x next within is) all
 
 -- the numbers are in the tables where an item takes the place of another
-pub numbers-replaced : (items : List Item) (i : ℕ) (x : Item) (names nodes : ℕ) → i < length items → AreIn names nodes (drop i items) → x.opened.name < names → x.opened.node < nodes → AreIn names nodes (drop i (set items i x))
+pub numbers-replaced : (items : List KeptNode) (i : ℕ) (x : KeptNode) (names nodes : ℕ) → i < length items → AreIn names nodes (drop i items) → x.opened.name < names → x.opened.node < nodes → AreIn names nodes (drop i (set items i x))
 numbers-replaced items i x names nodes within all name_in node_in =
     let rest = numbers-less items (suc i) i (get_or items i x) refl within (get_or_default items i x (get_or items i x) within) names nodes all in
     rw (drop-set items i x within, add-one) (name_in, node_in, rest.2)
 
 -- .. and where a run of items leaves
-numbers-drop : (k : ℕ) (items : List Item) (names nodes : ℕ) → AreIn names nodes items → AreIn names nodes (drop k items)
+numbers-drop : (k : ℕ) (items : List KeptNode) (names nodes : ℕ) → AreIn names nodes items → AreIn names nodes (drop k items)
 numbers-drop zero items names nodes all = all
 numbers-drop (suc k) [] names nodes all = all
 numbers-drop (suc k) (x ∷ items) names nodes all = numbers-drop k items names nodes all.2
 
-pub numbers-left : (items : List Item) (from to : ℕ) (names nodes : ℕ) → from ≤ to → to ≤ length items → AreIn names nodes (drop from items) → AreIn names nodes (drop from (remove_range items from to))
+pub numbers-left : (items : List KeptNode) (from to : ℕ) (names nodes : ℕ) → from ≤ to → to ≤ length items → AreIn names nodes (drop from items) → AreIn names nodes (drop from (remove_range items from to))
 numbers-left items from to names nodes order within all =
     let rest = numbers-drop (to - from) (drop from items) names nodes all in
     let sum : from + (to - from) ≡ to = omega arith in
     let left : drop from (remove_range items from to) ≡ drop to items = drop_at (take from items) (drop to items) from (length-take-le from items (omega arith)) in
     let same : drop (to - from) (drop from items) ≡ drop to items = drop-drop (to - from) from items ∙ ap (λ n. drop n items) sum in
-    subst (λ (xs : List Item). AreIn names nodes xs) (same ∙ sym left) rest
+    subst (λ (xs : List KeptNode). AreIn names nodes xs) (same ∙ sym left) rest

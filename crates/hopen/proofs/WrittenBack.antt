@@ -4,18 +4,18 @@ use Rattle.std.proofs.Math.Seq.{take-append_seam}
 use Rattle.std.proofs.lemmas.List.{length-map}
 use Rattle.std.specs.Prelude.{slice_index}
 use Rattle.hopen.specs.Kept.{opened_by, Stands}
-use Rattle.hopen.specs.declared.kept.Item.{Item}
+use Rattle.hopen.specs.declared.kept.KeptNode.{KeptNode}
 use Rattle.hopen.specs.declared.kept.LastPlaces.{LastPlaces}
 
 -- where the same nodes are open afterwards, the vector has the items of the slice
-pub written_back : (new old : List Item) (n : ℕ) (lent : List Item) → map opened_by new ≡ map opened_by lent → lent ≡ old → length lent ≡ n → take n (new ++ drop (length new) old) ≡ new
+pub written_back : (new old : List KeptNode) (n : ℕ) (lent : List KeptNode) → map opened_by new ≡ map opened_by lent → lent ≡ old → length lent ≡ n → take n (new ++ drop (length new) old) ≡ new
 written_back new old n lent same is long = ap (λ k. take k (new ++ drop (length new) old)) (sym all) ∙ take-append_seam new (drop (length new) old)
   where
     all : length new ≡ n
     all = sym (length-map new opened_by) ∙ ap length same ∙ length-map lent opened_by ∙ long
 
 -- where tables say the same places of the same items, these stand in them
-pub stands_same : (old new : LastPlaces) (xs ys : List Item) → ((k : ℕ) → slice_index new.names.items k ≡ slice_index old.names.items k)
+pub stands_same : (old new : LastPlaces) (xs ys : List KeptNode) → ((k : ℕ) → slice_index new.names.items k ≡ slice_index old.names.items k)
     → ((k : ℕ) → slice_index new.nodes.items k ≡ slice_index old.nodes.items k) → ys ≡ xs → Stands old xs → Stands new ys
 stands_same old new xs ys names nodes same s =
     subst (Stands new) (sym same) (record { names = λ k. names k ∙ s.names k; nodes = λ k. nodes k ∙ s.nodes k; kept = s.kept })

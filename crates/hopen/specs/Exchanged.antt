@@ -6,7 +6,7 @@ use Rattle.hopen.specs.Places.{last_place}
 use Rattle.hopen.specs.NameSets.{set_place}
 use Rattle.hopen.specs.Opens.{open_of}
 use Rattle.hopen.specs.Kept.{IsKept, opened_by}
-use Rattle.hopen.specs.declared.kept.Item.{Item}
+use Rattle.hopen.specs.declared.kept.KeptNode.{KeptNode}
 use Rattle.hopen.specs.declared.stack.Open.{Open}
 use Rattle.hopen.specs.declared.window.Window.{Window}
 use Rattle.hopen.specs.declared.name_sets.NameSet.{NameSet}
@@ -30,15 +30,15 @@ pub record IsWindow (from to : ℕ) (new : OpenNode ℕ) (ys : List (OpenNode �
   pub alone : (j : ℕ) → from ≤ j → j ≤ to → last_place (λ y. y.node == OpenNode.node (get_or ys j new)) (reverse ys) ≡ suc j
 
 -- the table says of these items that their nodes are open nowhere below them
-abbrev pub AreAlone : (from end : ℕ) → List ℕ → List Item → Type 0
-AreAlone from end places items = (j : ℕ) → (d : Item) → from ≤ j → j < end → get_or places (Open.node (Item.opened (get_or items j d))) 0 ≡ suc j
+abbrev pub AreAlone : (from end : ℕ) → List ℕ → List KeptNode → Type 0
+AreAlone from end places items = (j : ℕ) → (d : KeptNode) → from ≤ j → j < end → get_or places (Open.node (KeptNode.opened (get_or items j d))) 0 ≡ suc j
 
 -- the same of a vector of items
-abbrev pub IsFor : Window → Open → List Item → Type 0
+abbrev pub IsFor : Window → Open → List KeptNode → Type 0
 IsFor window new items = IsWindow window.from window.to (open_of new) (map opened_by items)
 
 -- the nodes of such a vector as they are after the exchange
-abbrev pub opened_after : Window → Open → List Item → List (OpenNode ℕ)
+abbrev pub opened_after : Window → Open → List KeptNode → List (OpenNode ℕ)
 opened_after window new items = exchanged window.from window.to (open_of new) (map opened_by items)
 
 -- not the place of a node of the window
@@ -88,14 +88,14 @@ abbrev pub AreDone : (from to : ℕ) → List (OpenNode ℕ) → (end : ℕ) →
 AreDone from to ys end = (j : ℕ) → (d : OpenNode ℕ) → from ≤ j → j ≤ to → IsDone to (λ y. y.name == OpenNode.name (get_or ys j d)) ys end
 
 -- some items keep the places of these nodes
-abbrev pub AreKeptIn : (from end : ℕ) → List Item → List (OpenNode ℕ) → Type 0
-AreKeptIn from end items ys = (j : ℕ) → (d : Item) → from ≤ j → j < end → IsKept (get_or items j d) (reverse (take j ys))
+abbrev pub AreKeptIn : (from end : ℕ) → List KeptNode → List (OpenNode ℕ) → Type 0
+AreKeptIn from end items ys = (j : ℕ) → (d : KeptNode) → from ≤ j → j < end → IsKept (get_or items j d) (reverse (take j ys))
 
 -- no place that an item keeps is in the window
-pub record IsSettled (from to : ℕ) (x : Item) : Type 0 where
+pub record IsSettled (from to : ℕ) (x : KeptNode) : Type 0 where
   pub same_name : IsOutside from to x.same_name
   pub sets : (set : NameSet) → IsOutside from to (set_place set x.sets)
 
 -- from an index on no item keeps a place in the window
-abbrev pub AreSettled : (from to end : ℕ) → List Item → Type 0
-AreSettled from to end items = (j : ℕ) → (d : Item) → end ≤ j → j < length items → IsSettled from to (get_or items j d)
+abbrev pub AreSettled : (from to end : ℕ) → List KeptNode → Type 0
+AreSettled from to end items = (j : ℕ) → (d : KeptNode) → end ≤ j → j < length items → IsSettled from to (get_or items j d)

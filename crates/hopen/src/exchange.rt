@@ -11,7 +11,7 @@ ghost use Rattle.hopen.specs.NameSets.{is_in, set_place};
 ghost use Rattle.hopen.specs.Kept.{AreKept, Stands, opened_by, stack_of};
 ghost use Rattle.hopen.specs.Exchanged.{AreAlone, AreDone, AreDropped, AreKeptIn, AreLowered, AreRenewed, AreSettled, IsDone, IsDropped, IsFor, IsMended, IsOutside, opened_after, place_in};
 
-use crate::kept::{Item, LastPlaces, insert, nearest_of_sets, remove_run};
+use crate::kept::{KeptNode, LastPlaces, insert, nearest_of_sets, remove_run};
 use crate::name_sets::{NameSet, SetPlaces, place_if};
 use crate::stack::Open;
 use crate::window::Window;
@@ -19,7 +19,7 @@ use hnodes::NodeId;
 use names::NameId;
 
 /// Whether each node of a window is open nowhere below its own place.
-fn are_alone(last: &LastPlaces, items: &[Item], window: Window) -> bool
+fn are_alone(last: &LastPlaces, items: &[KeptNode], window: Window) -> bool
     requires places { length items.now < 2 ^ 32 }
     requires order { window.from < window.to }
     requires within { window.to < length items.now }
@@ -37,7 +37,7 @@ fn are_alone(last: &LastPlaces, items: &[Item], window: Window) -> bool
 }
 
 /// Whether the node at the head of a window may leave for a new one without a search for the nodes that keep places in it.
-pub(crate) fn is_window(last: &LastPlaces, items: &[Item], window: Window, new: Open) -> bool
+pub(crate) fn is_window(last: &LastPlaces, items: &[KeptNode], window: Window, new: Open) -> bool
     requires stands { Stands last.now items.now }
     requires places { length items.now < 2 ^ 32 }
     requires within { window.to < length items.now }
@@ -56,7 +56,7 @@ pub(crate) fn is_window(last: &LastPlaces, items: &[Item], window: Window, new: 
 }
 
 /// An index below a window up to which the nearest node of a name below it stands; the end of the window if there is none.
-fn end_of_name(last: &LastPlaces, items: &[Item], window: Window, name: NameId) -> usize
+fn end_of_name(last: &LastPlaces, items: &[KeptNode], window: Window, name: NameId) -> usize
     requires stands { Stands last.now items.now }
     requires places { length items.now < 2 ^ 32 }
     requires within { window.to < length items.now }
@@ -79,7 +79,7 @@ fn end_of_name(last: &LastPlaces, items: &[Item], window: Window, name: NameId) 
 }
 
 /// An index past a window: from it on, no node's nearest node of the same name lies inside the window.
-fn end_of_names(last: &LastPlaces, items: &[Item], window: Window) -> usize
+fn end_of_names(last: &LastPlaces, items: &[KeptNode], window: Window) -> usize
     requires stands { Stands last.now items.now }
     requires places { length items.now < 2 ^ 32 }
     requires order { window.from < window.to }
@@ -99,7 +99,7 @@ fn end_of_names(last: &LastPlaces, items: &[Item], window: Window) -> usize
 }
 
 /// An index from which on no node keeps a place in a window.
-fn end_of_kept(last: &LastPlaces, items: &[Item], window: Window) -> usize
+fn end_of_kept(last: &LastPlaces, items: &[KeptNode], window: Window) -> usize
     requires stands { Stands last.now items.now }
     requires places { length items.now < 2 ^ 32 }
     requires order { window.from < window.to }
@@ -138,7 +138,7 @@ fn put(places: &mut Vec<u32>, number: usize, place: u32)
 }
 
 /// Makes the places of the nodes of a window but for its first, and those of their names, one less.
-fn lower_places(last: &mut LastPlaces, items: &[Item], window: Window)
+fn lower_places(last: &mut LastPlaces, items: &[KeptNode], window: Window)
     requires stands { Stands last.old items.now }
     requires places { length items.now < 2 ^ 32 }
     requires order { window.from < window.to }
@@ -158,7 +158,7 @@ fn lower_places(last: &mut LastPlaces, items: &[Item], window: Window)
 }
 
 /// Writes the places of the nodes as they are after the exchange.
-fn move_places(last: &mut LastPlaces, items: &[Item], window: Window, new: Open)
+fn move_places(last: &mut LastPlaces, items: &[KeptNode], window: Window, new: Open)
     requires stands { Stands last.old items.now }
     requires places { length items.now < 2 ^ 32 }
     requires window { IsFor window new items.now }
@@ -181,7 +181,7 @@ fn move_places(last: &mut LastPlaces, items: &[Item], window: Window, new: Open)
 }
 
 /// The places of sets at the new node.
-fn sets_of_new(items: &[Item], window: Window, new: Open) -> SetPlaces
+fn sets_of_new(items: &[KeptNode], window: Window, new: Open) -> SetPlaces
     requires kept { AreKeptIn 0 (suc window.to) items.now (map opened_by items.now) }
     requires places { length items.now < 2 ^ 32 }
     requires window { IsFor window new items.now }
@@ -193,7 +193,7 @@ fn sets_of_new(items: &[Item], window: Window, new: Open) -> SetPlaces
 }
 
 /// An item below a window as it is after the exchange.
-fn mended(window: Window, item: &Item, name: NameId, sets: &SetPlaces) -> Item
+fn mended(window: Window, item: &KeptNode, name: NameId, sets: &SetPlaces) -> KeptNode
     requires { window.to + 1 < 2 ^ 32 }
     ensures opened { result.opened ≡ item.now.opened }
     ensures same_name { IsMended window.from window.to (name == item.now.opened.name) item.now.same_name result.same_name }
@@ -201,7 +201,7 @@ fn mended(window: Window, item: &Item, name: NameId, sets: &SetPlaces) -> Item
     ensures sets { AreRenewed window.to sets.now item.now.sets result.sets }
 {
     let is_new = name == item.opened.name;
-    Item {
+    KeptNode {
         opened: item.opened,
         same_name: window.mended(is_new, item.same_name),
         same_node: item.same_node,
@@ -210,7 +210,7 @@ fn mended(window: Window, item: &Item, name: NameId, sets: &SetPlaces) -> Item
 }
 
 /// Mends the items below a window, up to the end of those that keep a place in it.
-fn mend_below(items: &mut [Item], window: Window, end: usize, new: Open)
+fn mend_below(items: &mut [KeptNode], window: Window, end: usize, new: Open)
     requires kept { AreKept (reverse items.old) }
     requires places { length items.old < 2 ^ 32 }
     requires window { IsFor window new items.old }
@@ -232,13 +232,13 @@ fn mend_below(items: &mut [Item], window: Window, end: usize, new: Open)
 }
 
 /// An item of a window as it is once the first one has left; `above` has the places of sets above that one.
-fn dropped(window: Window, item: &Item, leaving: &Item, above: &SetPlaces) -> Item
+fn dropped(window: Window, item: &KeptNode, leaving: &KeptNode, above: &SetPlaces) -> KeptNode
     ensures opened { result.opened ≡ item.now.opened }
     ensures same_name { IsDropped window.from leaving.now.same_name item.now.same_name result.same_name }
     ensures same_node { IsDropped window.from leaving.now.same_node item.now.same_node result.same_node }
     ensures sets { AreDropped window.from above.now item.now.sets result.sets }
 {
-    Item {
+    KeptNode {
         opened: item.opened,
         same_name: window.dropped(leaving.same_name, item.same_name),
         same_node: window.dropped(leaving.same_node, item.same_node),
@@ -247,7 +247,7 @@ fn dropped(window: Window, item: &Item, leaving: &Item, above: &SetPlaces) -> It
 }
 
 /// Moves the items of a window one up, over its first, and puts the new one at its end.
-fn move_up(items: &mut [Item], window: Window, new: Open)
+fn move_up(items: &mut [KeptNode], window: Window, new: Open)
     requires places { length items.old < 2 ^ 32 }
     requires window { IsFor window new items.old }
     requires above { AreKeptIn 0 (suc window.to) items.old (map opened_by items.old) }
@@ -267,7 +267,7 @@ fn move_up(items: &mut [Item], window: Window, new: Open)
         index += 1;
         same_name = place_if(item.opened.name == name, index, same_name);
     }
-    items[window.to as usize] = Item {
+    items[window.to as usize] = KeptNode {
         opened: Open { node, name },
         same_name,
         same_node: 0,
@@ -277,7 +277,7 @@ fn move_up(items: &mut [Item], window: Window, new: Open)
 
 /// Takes the node at the head of a window out and puts a new one right below its last. The steps are those of the window, and of the
 /// nodes below that keep a place in it.
-pub(crate) fn exchange(last: &mut LastPlaces, items: &mut [Item], window: Window, new: Open)
+pub(crate) fn exchange(last: &mut LastPlaces, items: &mut [KeptNode], window: Window, new: Open)
     requires stands { Stands last.old items.old }
     requires places { length items.old < 2 ^ 32 }
     requires window { IsFor window new items.old }
@@ -296,7 +296,7 @@ pub(crate) fn exchange(last: &mut LastPlaces, items: &mut [Item], window: Window
 /// The same for any node that leaves, where all nodes below are updated.
 pub(crate) fn exchange_any(
     last: &mut LastPlaces,
-    items: &mut Vec<Item>,
+    items: &mut Vec<KeptNode>,
     index: usize,
     above: NodeId,
     new: Open,
@@ -313,6 +313,6 @@ pub(crate) fn exchange_any(
     remove_run(last, items, index, index + 1);
     let place = last.of_node(above) as usize;
     if place > 0 {
-        insert(last, items, place, Item::new(new));
+        insert(last, items, place, KeptNode::new(new));
     }
 }

@@ -18,7 +18,7 @@ use std::alloc::{AllocError, Global};
 
 /// An open node, and the places that were known when it was opened. Places count from 1, the topmost; 0 is none.
 #[derive(Clone, Copy)]
-pub(crate) struct Item {
+pub(crate) struct KeptNode {
     pub(crate) opened: Open,
     /// The nearest node of the same name above it.
     pub(crate) same_name: u32,
@@ -28,7 +28,7 @@ pub(crate) struct Item {
     pub(crate) sets: SetPlaces,
 }
 
-const _: () = prove!(std::mem::size_of::<Item>() == 60);
+const _: () = prove!(std::mem::size_of::<KeptNode>() == 60);
 
 /// For each name, and each node, by its number: the nearest place where it is open, 0 if it is not.
 #[derive(Drop)]
@@ -62,12 +62,12 @@ fn make_room(places: &mut Vec<u32>, number: usize) -> Result<(), AllocError>
     places.resize(needed, 0)
 }
 
-impl Item {
+impl KeptNode {
     /// An item whose places are not known yet.
     pub(crate) fn new(opened: Open) -> Self
         ensures { result.opened ≡ opened }
     {
-        Item {
+        KeptNode {
             opened,
             same_name: 0,
             same_node: 0,
@@ -134,7 +134,7 @@ impl LastPlaces {
     }
 
     /// Notes that the node of an item is closed: what the item kept is the nearest again.
-    pub(crate) fn take_back(&mut self, item: &Item)
+    pub(crate) fn take_back(&mut self, item: &KeptNode)
         requires name_in { item.now.opened.name < length self.old.names.items }
         requires node_in { item.now.opened.node < length self.old.nodes.items }
         ensures names { self.new.names.items ≡ slice_set self.old.names.items item.now.opened.name item.now.same_name }
@@ -144,13 +144,13 @@ impl LastPlaces {
     }
 
     /// The item of a node that is opened at a place, right below a node with these places of sets.
-    pub(crate) fn item(&self, opened: Open, above: &SetPlaces, place: u32) -> Item
+    pub(crate) fn item(&self, opened: Open, above: &SetPlaces, place: u32) -> KeptNode
         ensures opened { result.opened ≡ opened }
         ensures same_name { result.same_name ≡ slice_index self.now.names.items opened.name }
         ensures same_node { result.same_node ≡ slice_index self.now.nodes.items opened.node }
         ensures sets { (set : NameSet) → set_place set result.sets ≡ (if is_in_set set (tag_of opened.name) then place else set_place set above.now) }
     {
-        Item {
+        KeptNode {
             opened,
             same_name: self.of_name(opened.name),
             same_node: self.of_node(opened.node),
@@ -160,7 +160,7 @@ impl LastPlaces {
 }
 
 /// The nearest nodes of each set of names.
-pub(crate) fn nearest_of_sets(items: &[Item]) -> SetPlaces
+pub(crate) fn nearest_of_sets(items: &[KeptNode]) -> SetPlaces
     requires { AreKept (reverse items.now) }
     ensures { (set : NameSet) → set_place set result ≡ last_place (is_in set) (stack_of items.now) }
 {
@@ -171,7 +171,7 @@ pub(crate) fn nearest_of_sets(items: &[Item]) -> SetPlaces
 }
 
 /// Takes the items from an index on out of the tables, the last one first.
-fn unwind(last: &mut LastPlaces, items: &[Item], from: usize)
+fn unwind(last: &mut LastPlaces, items: &[KeptNode], from: usize)
     requires stands { Stands last.old items.now }
     requires within { from ≤ length items.now }
     ensures stands { Stands last.new (take from items.now) }
@@ -187,7 +187,7 @@ fn unwind(last: &mut LastPlaces, items: &[Item], from: usize)
 }
 
 /// Puts the items from an index on into the tables again, with the places that they have now.
-fn rewind(last: &mut LastPlaces, items: &mut [Item], from: usize)
+fn rewind(last: &mut LastPlaces, items: &mut [KeptNode], from: usize)
     requires stands { Stands last.old (take from items.old) }
     requires within { from ≤ length items.old }
     requires numbers { AreIn (length last.old.names.items) (length last.old.nodes.items) (drop from items.old) }
@@ -212,7 +212,7 @@ fn rewind(last: &mut LastPlaces, items: &mut [Item], from: usize)
 /// Pushes an item for a node. On an error the items stay; the tables may have grown.
 pub(crate) fn push(
     last: &mut LastPlaces,
-    items: &mut Vec<Item>,
+    items: &mut Vec<KeptNode>,
     opened: Open,
 ) -> Result<(), AllocError>
     requires stands { Stands last.old items.old.items }
@@ -232,7 +232,7 @@ pub(crate) fn push(
 }
 
 /// Removes the last item and returns its node.
-pub(crate) fn pop(last: &mut LastPlaces, items: &mut Vec<Item>) -> Option<Open>
+pub(crate) fn pop(last: &mut LastPlaces, items: &mut Vec<KeptNode>) -> Option<Open>
     requires { Stands last.old items.old.items }
     ensures stands { Stands last.new items.new.items }
     ensures popped { option_map open_of result ≡ current (stack_of items.old.items) }
@@ -244,7 +244,7 @@ pub(crate) fn pop(last: &mut LastPlaces, items: &mut Vec<Item>) -> Option<Open>
 }
 
 /// Removes the items from an index up to another one, which stays, and updates the places below them.
-pub(crate) fn remove_run(last: &mut LastPlaces, items: &mut Vec<Item>, from: usize, to: usize)
+pub(crate) fn remove_run(last: &mut LastPlaces, items: &mut Vec<KeptNode>, from: usize, to: usize)
     requires stands { Stands last.old items.old.items }
     requires order { from ≤ to }
     requires within { to ≤ length items.old.items }
@@ -264,7 +264,7 @@ pub(crate) fn remove_run(last: &mut LastPlaces, items: &mut Vec<Item>, from: usi
 }
 
 /// Puts another item in the place of one, and updates the places below it.
-pub(crate) fn replace(last: &mut LastPlaces, items: &mut [Item], index: usize, item: Item)
+pub(crate) fn replace(last: &mut LastPlaces, items: &mut [KeptNode], index: usize, item: KeptNode)
     requires stands { Stands last.old items.old }
     requires within { index < length items.old }
     requires places { length items.old < 2 ^ 32 }
@@ -279,7 +279,7 @@ pub(crate) fn replace(last: &mut LastPlaces, items: &mut [Item], index: usize, i
 }
 
 /// Inserts an item at an index, and updates the places below it.
-pub(crate) fn insert(last: &mut LastPlaces, items: &mut Vec<Item>, index: usize, item: Item)
+pub(crate) fn insert(last: &mut LastPlaces, items: &mut Vec<KeptNode>, index: usize, item: KeptNode)
     requires stands { Stands last.old items.old.items }
     requires within { index ≤ length items.old.items }
     requires room { vec_len items.old < vec_capacity items.old }

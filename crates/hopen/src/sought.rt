@@ -5,7 +5,7 @@ ghost use Rattle.std.specs.List.{find};
 ghost use Rattle.names.specs.Tags.{tag_of};
 ghost use Rattle.names.specs.Sets.{is_special};
 
-use crate::kept::Item;
+use crate::kept::KeptNode;
 use crate::scope::Group;
 use crate::stack::Open;
 use hnodes::NodeId;
@@ -20,7 +20,7 @@ pub(crate) enum Sought {
 }
 
 /// The first node that is special.
-pub(crate) fn first_special(items: &[Item]) -> Option<Open>
+pub(crate) fn first_special(items: &[KeptNode]) -> Option<Open>
     ensures { result ≡ find (λ x. is_special (tag_of x.name)) (map (λ x. x.opened) items.now) }
 {
     items

@@ -15,7 +15,7 @@ ghost use Rattle.names.specs.declared.refusal.Refusal.TheVariants.{TooDeep, Memo
 ghost use Rattle.hopen.specs.declared.scope.Scope.TheVariants.{Default};
 
 use crate::exchange::{exchange, exchange_any, is_window};
-use crate::kept::{Item, LastPlaces, insert, nearest_of_sets, pop, push, remove_run, replace};
+use crate::kept::{KeptNode, LastPlaces, insert, nearest_of_sets, pop, push, remove_run, replace};
 use crate::name_sets::NameSet;
 use crate::scope::{Group, Scope};
 use crate::sought::{Sought, first_special};
@@ -41,7 +41,7 @@ pub struct Open {
 /// an error they change nothing.
 #[derive(Drop)]
 pub struct OpenStack {
-    items: Vec<Item>,
+    items: Vec<KeptNode>,
     last: LastPlaces,
     limit: u32,
 }
@@ -149,7 +149,7 @@ impl OpenStack {
         if let Some(index) = self.index(Sought::Node(node)) {
             let wanted = by;
             self.last.make_room(wanted)?;
-            replace(&mut self.last, &mut self.items, index, Item::new(by));
+            replace(&mut self.last, &mut self.items, index, KeptNode::new(by));
         }
         Ok(())
     }
@@ -170,7 +170,7 @@ impl OpenStack {
                 &mut self.last,
                 &mut self.items,
                 index + 1,
-                Item::new(opened),
+                KeptNode::new(opened),
             );
         }
         Ok(())

@@ -18,7 +18,7 @@ use crate::content::Content;
 use crate::plain_contexts::context_tag;
 use crate::plain_texts::{all_plain_attributes, begins_with, is_plain_comment, is_plain_text};
 use crate::rows::row;
-use hnodes::{Kind, NodeId, Tree};
+use hnodes::{NodeKind, NodeId, Tree};
 use hserialize::{NodeView, Reach, TreeWalk, Visit, inserts_marker};
 use names::{Attr, NameId, Names, Tag};
 
@@ -50,7 +50,7 @@ fn is_text(tree: &Tree, node: Option<NodeId>) -> bool
     ensures { result ≡ is_text_at node tree.now.trees }
 {
     match node {
-        Some(node) => matches!(tree.kind(node), Kind::Text),
+        Some(node) => matches!(tree.kind(node), NodeKind::Text),
         None => false,
     }
 }

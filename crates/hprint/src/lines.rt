@@ -18,7 +18,7 @@ ghost use Rattle.hserialize.specs.Words.{is_empty};
 ghost use Rattle.hserialize.specs.Walk.{node_of};
 
 use crate::sorted::{NamedAttr, in_order};
-use hnodes::{Doctype, NodeId, Tree};
+use hnodes::{DocumentType, NodeId, Tree};
 use hserialize::{
     Gathered, NodeView, Reach, Sink, Target, TreeWalk, Visit, name_text, put, put_parts, room,
 };
@@ -136,7 +136,7 @@ fn put_doctype<W: Target>(
 }
 
 /// Writes the line of a doctype with its identifiers.
-fn put_texts<W: Target>(out: &mut Sink<'_, W>, depth: usize, texts: &Doctype) -> Result<(), Refusal>
+fn put_texts<W: Target>(out: &mut Sink<'_, W>, depth: usize, texts: &DocumentType) -> Result<(), Refusal>
     ensures { Puts (taken W.written W.failed out.old) (taken W.written W.failed out.new)
         (indented depth (codes "<!DOCTYPE " ++ string_bytes texts.now.name
         ++ identifiers (string_bytes texts.now.public_id) (string_bytes texts.now.system_id) ++ codes ">")) result }

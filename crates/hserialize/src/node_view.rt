@@ -5,14 +5,14 @@ ghost use Rattle.names.specs.Names.{IsOf, text_of};
 ghost use Rattle.hnodes.specs.Spots.{what_of};
 ghost use Rattle.hserialize.specs.Lent.{what_is};
 
-use hnodes::{Doctype, Kind, NodeId, Tree};
+use hnodes::{DocumentType, NodeKind, NodeId, Tree};
 use names::{Attr, NameId, Names};
 
 /// What a node is, as its tree lends it.
 #[derive(Clone, Copy)]
 pub enum NodeView<'a> {
     Document,
-    Doctype(&'a Doctype),
+    Doctype(&'a DocumentType),
     Element(NameId, &'a [Attr]),
     Comment(&'a str),
     Text(&'a str),
@@ -32,7 +32,7 @@ impl<'a> NodeView<'a> {
         }
         let kind = tree.kind(at);
         match tree.text(at) {
-            Some(text) if kind == Kind::Text => NodeView::Text(text),
+            Some(text) if kind == NodeKind::Text => NodeView::Text(text),
             Some(text) => NodeView::Comment(text),
             None => NodeView::Document,
         }

@@ -1,8 +1,8 @@
 //! What is answered: a line for each call, of words.
 
-use crate::kit::Answer;
+use crate::structures::Reply;
 use hformat::Entry;
-use hnodes::{Kind, NodeId};
+use hnodes::{NodeKind, NodeId};
 use hopen::Open;
 use names::{Attr, NameId, Refusal, Tag};
 use std::alloc::{AllocError, Global};
@@ -149,7 +149,7 @@ impl Answers {
         }
     }
 
-    pub fn kind(&mut self, kind: Kind) {
+    pub fn kind(&mut self, kind: NodeKind) {
         self.begin_word();
         if write!(self.text, "{kind:?}").is_err() {
             self.is_lost = true;
@@ -164,7 +164,7 @@ impl Answers {
     }
 
     /// Ends a line with what a call answers.
-    pub fn answer(&mut self, answer: Result<Answer, Refusal>) {
+    pub fn answer(&mut self, answer: Result<Reply, Refusal>) {
         match answer {
             Ok(answer) => self.end(answer),
             Err(refusal) => self.refusal(refusal),
@@ -172,12 +172,12 @@ impl Answers {
         self.end_line();
     }
 
-    fn end(&mut self, answer: Answer) {
+    fn end(&mut self, answer: Reply) {
         match answer {
-            Answer::Done => self.word("ok"),
-            Answer::NotMade => self.word("-"),
-            Answer::Number(number) => self.number(number),
-            Answer::Said => {}
+            Reply::Done => self.word("ok"),
+            Reply::NotMade => self.word("-"),
+            Reply::Number(number) => self.number(number),
+            Reply::Said => {}
         }
     }
 }

@@ -2,46 +2,46 @@
 
 use crate::answers::Answers;
 use crate::hand::Hand;
-use crate::kit::Answer;
+use crate::structures::Reply;
 use crate::words::{number, word};
 use hchain::{Chains, NONE};
 use names::Refusal;
 use std::alloc::Global;
 
 /// Makes a call: a word, and a number if it wants one.
-pub fn call(list: &mut Chains, hand: &mut Hand, line: &str) -> Result<Answer, Refusal> {
+pub fn call(list: &mut Chains, hand: &mut Hand, line: &str) -> Result<Reply, Refusal> {
     let number = number(line, 2).unwrap_or(0);
     match word(line, 1) {
         "new" => Ok(begin(list, hand.alloc)),
         "push" => push(list, number),
-        "last" => Ok(Answer::Number(last(list, number))),
+        "last" => Ok(Reply::Number(last(list, number))),
         "entries" => Ok(entries(list, &mut hand.out)),
         word => Ok(shorten(list, word, number)),
     }
 }
 
-fn begin(list: &mut Chains, alloc: Global) -> Answer {
+fn begin(list: &mut Chains, alloc: Global) -> Reply {
     *list = Chains::new(alloc);
-    Answer::Done
+    Reply::Done
 }
 
-fn push(list: &mut Chains, number: usize) -> Result<Answer, Refusal> {
+fn push(list: &mut Chains, number: usize) -> Result<Reply, Refusal> {
     if number == NONE {
-        return Ok(Answer::NotMade);
+        return Ok(Reply::NotMade);
     }
     list.push(number)?;
-    Ok(Answer::Done)
+    Ok(Reply::Done)
 }
 
-fn shorten(list: &mut Chains, word: &str, number: usize) -> Answer {
+fn shorten(list: &mut Chains, word: &str, number: usize) -> Reply {
     let len = list.len();
     match word {
         "clear" if number < len => list.clear(number),
         "truncate" if number <= len => list.truncate(number),
         "compact" if number <= len => list.compact(number),
-        _ => return Answer::NotMade,
+        _ => return Reply::NotMade,
     }
-    Answer::Done
+    Reply::Done
 }
 
 /// The last place of a number; 0 if it is nowhere, or stands for nothing.
@@ -58,7 +58,7 @@ fn before(list: &Chains, index: usize) -> usize {
 }
 
 /// Says the numbers, each with the place before it where it stands too, and the last one.
-fn entries(list: &Chains, out: &mut Answers) -> Answer {
+fn entries(list: &Chains, out: &mut Answers) -> Reply {
     out.number(list.len());
     for index in 0..list.len() {
         if let Some(number) = list.get(index) {
@@ -67,5 +67,5 @@ fn entries(list: &Chains, out: &mut Answers) -> Answer {
             out.number(last(list, number));
         }
     }
-    Answer::Said
+    Reply::Said
 }

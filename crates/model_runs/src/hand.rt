@@ -4,7 +4,7 @@ ghost use Rattle.std.specs.Prelude.{◌<◌, IfSome};
 
 use crate::answers::Answers;
 use crate::words::{number, word};
-use hnodes::{Doctype, NodeId, Tree};
+use hnodes::{DocumentType, NodeId, Tree};
 use hopen::Open;
 use names::{Attr, NameId, Names};
 use std::alloc::{AllocError, Global};
@@ -89,9 +89,9 @@ impl Hand {
     }
 
     /// The texts of a doctype: its name, its public identifier and its system identifier.
-    pub fn doctype(&self, words: [&str; 3]) -> Result<Doctype, AllocError> {
+    pub fn doctype(&self, words: [&str; 3]) -> Result<DocumentType, AllocError> {
         let [name, public_id, system_id] = words;
-        Ok(Doctype {
+        Ok(DocumentType {
             name: String::from_str(self.alloc, name)?,
             public_id: String::from_str(self.alloc, public_id)?,
             system_id: String::from_str(self.alloc, system_id)?,

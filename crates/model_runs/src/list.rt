@@ -6,7 +6,7 @@ ghost use Rattle.hformat.specs.Formatting.{is_entry, has_bookmark};
 
 use crate::answers::Answers;
 use crate::hand::Hand;
-use crate::kit::Answer;
+use crate::structures::Reply;
 use crate::words::{after, count, word};
 use hformat::{Bookmark, Formatting};
 use hnodes::NodeId;
@@ -14,7 +14,7 @@ use names::{Keys, Refusal};
 use std::alloc::Global;
 
 /// Makes a call.
-pub fn call(list: &mut Formatting, hand: &mut Hand, line: &str) -> Result<Answer, Refusal> {
+pub fn call(list: &mut Formatting, hand: &mut Hand, line: &str) -> Result<Reply, Refusal> {
     match word(line, 1) {
         "new" => Ok(begin(list, hand.alloc)),
         "push" => push(list, hand, line),
@@ -24,31 +24,31 @@ pub fn call(list: &mut Formatting, hand: &mut Hand, line: &str) -> Result<Answer
     }
 }
 
-fn begin(list: &mut Formatting, alloc: Global) -> Answer {
+fn begin(list: &mut Formatting, alloc: Global) -> Reply {
     *list = Formatting::new(alloc, Keys::fixed());
-    Answer::Done
+    Reply::Done
 }
 
-fn push(list: &mut Formatting, hand: &mut Hand, line: &str) -> Result<Answer, Refusal> {
+fn push(list: &mut Formatting, hand: &mut Hand, line: &str) -> Result<Reply, Refusal> {
     let open = hand.open(line, 2)?;
     let attrs = hand.attrs(after(line, 4))?;
     list.push(open.node, open.name, &attrs)?;
-    Ok(Answer::Done)
+    Ok(Reply::Done)
 }
 
-fn find(list: &Formatting, hand: &mut Hand, line: &str) -> Result<Answer, Refusal> {
+fn find(list: &Formatting, hand: &mut Hand, line: &str) -> Result<Reply, Refusal> {
     let name = hand.name(line, 2)?;
     hand.out.entry(list.find(name));
-    Ok(Answer::Said)
+    Ok(Reply::Said)
 }
 
-fn marker(list: &mut Formatting) -> Result<Answer, Refusal> {
+fn marker(list: &mut Formatting) -> Result<Reply, Refusal> {
     list.marker()?;
-    Ok(Answer::Done)
+    Ok(Reply::Done)
 }
 
 /// Calls that change or move an entry. The node of the entry comes first, then the one in its place.
-fn change(list: &mut Formatting, hand: &mut Hand, line: &str) -> Answer {
+fn change(list: &mut Formatting, hand: &mut Hand, line: &str) -> Reply {
     let from = hand.near(line, 2);
     let to = hand.near(line, 3);
     match word(line, 1) {
@@ -59,7 +59,7 @@ fn change(list: &mut Formatting, hand: &mut Hand, line: &str) -> Answer {
         "move" => return move_to(list, from, to, Bookmark::After(hand.near(line, 4))),
         _ => return go_back(list, from, to, line, &mut hand.out),
     }
-    Answer::Done
+    Reply::Done
 }
 
 /// Calls for an entry that is told by how many stand after it, and questions.
@@ -69,23 +69,23 @@ fn go_back(
     to: NodeId,
     line: &str,
     out: &mut Answers,
-) -> Answer {
+) -> Reply {
     let back = count(line, 2) as usize;
     match word(line, 1) {
         "renew" => list.renew(back, to),
         "reach" => list.reach(back),
         word => return ask(list, word, node, back, out),
     }
-    Answer::Done
+    Reply::Done
 }
 
 /// Moves an entry where it may be moved.
-fn move_to(list: &mut Formatting, from: NodeId, to: NodeId, bookmark: Bookmark) -> Answer {
+fn move_to(list: &mut Formatting, from: NodeId, to: NodeId, bookmark: Bookmark) -> Reply {
     if has_entry(list, from) && is_marked(list, from, &bookmark) {
         list.move_to_bookmark(from, to, bookmark);
-        return Answer::Done;
+        return Reply::Done;
     }
-    Answer::NotMade
+    Reply::NotMade
 }
 
 /// Whether a node has an entry.
@@ -105,15 +105,15 @@ fn is_marked(list: &Formatting, from: NodeId, bookmark: &Bookmark) -> bool
     }
 }
 
-fn ask(list: &Formatting, word: &str, node: NodeId, back: usize, out: &mut Answers) -> Answer {
+fn ask(list: &Formatting, word: &str, node: NodeId, back: usize, out: &mut Answers) -> Reply {
     match word {
         "len" => out.number(list.len()),
         "get" => out.entry(list.get(back)),
         "all" => say_all(list, out),
         "entry" => out.entry(list.entry_of(node)),
-        _ => return Answer::NotMade,
+        _ => return Reply::NotMade,
     }
-    Answer::Said
+    Reply::Said
 }
 
 /// Each `get`, with the first past the end.

@@ -13,7 +13,7 @@ ghost use Rattle.hadopt.specs.Naming.{numbers};
 mod answers;
 mod chain;
 mod hand;
-mod kit;
+mod structures;
 mod list;
 mod making;
 mod nodes;
@@ -27,7 +27,7 @@ mod texts;
 mod tree;
 mod words;
 
-use crate::kit::{Answer, Kit};
+use crate::structures::{Reply, Structures};
 use crate::site::{Run, call_site};
 use crate::words::word;
 use hopen::Open;
@@ -37,36 +37,36 @@ use std::io;
 const _: () = prove!(std::mem::size_of::<Open>() == 8);
 
 fn main(rt: HostRuntime) -> io::Result<()> {
-    let mut kit = Kit::new(rt.alloc())?;
-    let done = begin(&rt, &mut kit);
-    drop(kit);
+    let mut structures = Structures::new(rt.alloc())?;
+    let done = begin(&rt, &mut structures);
+    drop(structures);
     done
 }
 
 /// Makes the calls of the script, the first ones on a site of the document alone.
-fn begin(rt: &HostRuntime, kit: &mut Kit) -> io::Result<()> {
+fn begin(rt: &HostRuntime, structures: &mut Structures) -> io::Result<()> {
     let mut run = Run::new(rt.alloc(), 1, 1)?;
-    let done = read(rt, kit, &mut run);
+    let done = read(rt, structures, &mut run);
     drop(run);
     done
 }
 
 /// Reads the script, makes its calls, and prints what they answer.
-fn read(rt: &HostRuntime, kit: &mut Kit, run: &mut Run) -> io::Result<()>
+fn read(rt: &HostRuntime, structures: &mut Structures, run: &mut Run) -> io::Result<()>
     requires { IsTrue run.old.sound → Kept numbers run.old.site }
 {
     let script = io::read_to_string(rt.alloc(), rt.reader())?;
-    play(kit, run, &script);
-    rt.print(kit.hand.out.lines()?)
+    play(structures, run, &script);
+    rt.print(structures.hand.out.lines()?)
 }
 
 /// Makes the call of each line.
-fn play(kit: &mut Kit, run: &mut Run, script: &str)
+fn play(structures: &mut Structures, run: &mut Run, script: &str)
     requires { IsTrue run.old.sound → Kept numbers run.old.site }
 {
     for line in script.lines() {
         if !is_comment(line) {
-            answer(kit, run, line);
+            answer(structures, run, line);
         }
     }
 }
@@ -77,35 +77,35 @@ fn is_comment(line: &str) -> bool {
 }
 
 /// Makes the call of a line, and says what it answers.
-fn answer(kit: &mut Kit, run: &mut Run, line: &str)
+fn answer(structures: &mut Structures, run: &mut Run, line: &str)
     requires { IsTrue run.old.sound → Kept numbers run.old.site }
     ensures { IsTrue run.new.sound → Kept numbers run.new.site }
 {
     let answer = if word(line, 0) == "site" {
-        call_site(run, &mut kit.hand, line)
+        call_site(run, &mut structures.hand, line)
     } else {
-        call_again(kit, line)
+        call_again(structures, line)
     };
-    kit.hand.out.answer(answer);
+    structures.hand.out.answer(answer);
 }
 
 /// Makes a call, and makes it again where memory was refused: the call that failed has changed nothing.
-fn call_again(kit: &mut Kit, line: &str) -> Result<Answer, Refusal> {
-    match call(kit, line) {
-        Err(Refusal::Memory) => call(kit, line),
+fn call_again(structures: &mut Structures, line: &str) -> Result<Reply, Refusal> {
+    match call(structures, line) {
+        Err(Refusal::Memory) => call(structures, line),
         answer => answer,
     }
 }
 
 /// Makes a call.
-fn call(kit: &mut Kit, line: &str) -> Result<Answer, Refusal> {
+fn call(structures: &mut Structures, line: &str) -> Result<Reply, Refusal> {
     match word(line, 0) {
-        "chain" => chain::call(&mut kit.chain, &mut kit.hand, line),
-        "tree" => making::call(&mut kit.hand, line),
-        "stack" => stack::call(&mut kit.stack, &mut kit.hand, line),
-        "list" => list::call(&mut kit.list, &mut kit.hand, line),
-        "names" => texts::call_names(&mut kit.hand, line),
-        "table" => texts::call_table(&mut kit.table, &mut kit.hand, line),
-        _ => Ok(Answer::NotMade),
+        "chain" => chain::call(&mut structures.chain, &mut structures.hand, line),
+        "tree" => making::call(&mut structures.hand, line),
+        "stack" => stack::call(&mut structures.stack, &mut structures.hand, line),
+        "list" => list::call(&mut structures.list, &mut structures.hand, line),
+        "names" => texts::call_names(&mut structures.hand, line),
+        "table" => texts::call_table(&mut structures.table, &mut structures.hand, line),
+        _ => Ok(Reply::NotMade),
     }
 }

@@ -4,7 +4,7 @@ ghost use Rattle.std.specs.Prelude.{◌<◌};
 
 use crate::answers::Answers;
 use crate::hand::Hand;
-use crate::kit::Answer;
+use crate::structures::Reply;
 use crate::sums::sum;
 use crate::words::word;
 use hnodes::{NodeId, Tree};
@@ -12,24 +12,24 @@ use names::{Names, Refusal};
 use std::alloc::Global;
 
 /// Answers a question about a tree.
-pub fn ask(hand: &mut Hand, line: &str) -> Result<Answer, Refusal> {
+pub fn ask(hand: &mut Hand, line: &str) -> Result<Reply, Refusal> {
     match word(line, 1) {
-        "made" => Ok(Answer::Number(hand.tree.made() as usize)),
-        "sum" => Ok(Answer::Number(sum(&hand.tree) as usize)),
+        "made" => Ok(Reply::Number(hand.tree.made() as usize)),
+        "sum" => Ok(Reply::Number(sum(&hand.tree) as usize)),
         "named" => Ok(ask_name(hand, line)),
         word => ask_node(hand, word, line),
     }
 }
 
 /// Says whether a node is an element of a name, and the value of its attribute of that name, or `-`.
-fn ask_name(hand: &mut Hand, line: &str) -> Answer {
+fn ask_name(hand: &mut Hand, line: &str) -> Reply {
     match hand.node(line, 2) {
         Some(node) => say_named(&hand.tree, &hand.names, node, word(line, 3), &mut hand.out),
-        None => Answer::NotMade,
+        None => Reply::NotMade,
     }
 }
 
-fn say_named(tree: &Tree, names: &Names, node: NodeId, name: &str, out: &mut Answers) -> Answer
+fn say_named(tree: &Tree, names: &Names, node: NodeId, name: &str, out: &mut Answers) -> Reply
     requires { node < tree.now.made }
 {
     out.flag(tree.is_element(names, node, name));
@@ -37,17 +37,17 @@ fn say_named(tree: &Tree, names: &Names, node: NodeId, name: &str, out: &mut Ans
         Some(value) => out.quoted(value),
         None => out.word("-"),
     }
-    Answer::Said
+    Reply::Said
 }
 
 /// Answers a question about a node.
-fn ask_node(hand: &mut Hand, word: &str, line: &str) -> Result<Answer, Refusal> {
+fn ask_node(hand: &mut Hand, word: &str, line: &str) -> Result<Reply, Refusal> {
     match hand.node(line, 2) {
         Some(node) if word == "content" => {
             say_content(&hand.tree, hand.alloc, node, &mut hand.out)
         }
         Some(node) => Ok(say_about(&hand.tree, word, node, &mut hand.out)),
-        None => Ok(Answer::NotMade),
+        None => Ok(Reply::NotMade),
     }
 }
 
@@ -57,16 +57,16 @@ fn say_content(
     alloc: Global,
     node: NodeId,
     out: &mut Answers,
-) -> Result<Answer, Refusal>
+) -> Result<Reply, Refusal>
     requires { node < tree.now.made }
 {
     let content = tree.text_content(alloc, node)?;
     out.quoted(&content);
-    Ok(Answer::Said)
+    Ok(Reply::Said)
 }
 
 /// Says what a node is, or which nodes are below or above it.
-fn say_about(tree: &Tree, word: &str, node: NodeId, out: &mut Answers) -> Answer
+fn say_about(tree: &Tree, word: &str, node: NodeId, out: &mut Answers) -> Reply
     requires { node < tree.now.made }
 {
     match word {
@@ -75,9 +75,9 @@ fn say_about(tree: &Tree, word: &str, node: NodeId, out: &mut Answers) -> Answer
         "elements" => say_elements(tree, node, out),
         "ancestors" => say_ancestors(tree, node, out),
         "descendants" => say_descendants(tree, node, out),
-        _ => return Answer::NotMade,
+        _ => return Reply::NotMade,
     }
-    Answer::Said
+    Reply::Said
 }
 
 fn say_ancestors(tree: &Tree, node: NodeId, out: &mut Answers)

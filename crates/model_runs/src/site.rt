@@ -5,7 +5,7 @@ ghost use Rattle.hadopt.specs.Kept.{Kept};
 ghost use Rattle.hadopt.specs.Naming.{numbers};
 
 use crate::hand::Hand;
-use crate::kit::{Answer, done};
+use crate::structures::{Reply, done};
 use crate::site_edits::change;
 use crate::site_questions::{ask, say_state};
 use crate::words::{count, word};
@@ -24,7 +24,7 @@ pub struct Run {
 }
 
 /// Makes a call. It is not made again where memory is refused: a call of a site is many.
-pub fn call_site(run: &mut Run, hand: &mut Hand, line: &str) -> Result<Answer, Refusal>
+pub fn call_site(run: &mut Run, hand: &mut Hand, line: &str) -> Result<Reply, Refusal>
     requires { IsTrue run.old.sound → Kept numbers run.old.site }
     ensures { IsTrue run.new.sound → Kept numbers run.new.site }
 {
@@ -59,19 +59,19 @@ impl Run {
     }
 
     /// Makes an edit, and says what the site then is.
-    fn edit(&mut self, hand: &mut Hand, line: &str) -> Result<Answer, Refusal>
+    fn edit(&mut self, hand: &mut Hand, line: &str) -> Result<Reply, Refusal>
         requires { IsTrue self.old.sound → Kept numbers self.old.site }
         ensures { IsTrue self.new.sound → Kept numbers self.new.site }
     {
         let answer = self.change(hand, line)?;
-        if let Answer::NotMade = answer {
+        if let Reply::NotMade = answer {
             return Ok(answer);
         }
         say_state(&self.site, &mut hand.out);
-        Ok(Answer::Said)
+        Ok(Reply::Said)
     }
 
-    fn change(&mut self, hand: &mut Hand, line: &str) -> Result<Answer, Refusal>
+    fn change(&mut self, hand: &mut Hand, line: &str) -> Result<Reply, Refusal>
         requires { IsTrue self.old.sound → Kept numbers self.old.site }
         ensures { IsTrue self.new.sound → Kept numbers self.new.site }
     {
@@ -83,23 +83,23 @@ impl Run {
         }
     }
 
-    fn begin(&mut self, alloc: Global, most_nodes: u32, most_open: u32) -> Result<Answer, Refusal>
+    fn begin(&mut self, alloc: Global, most_nodes: u32, most_open: u32) -> Result<Reply, Refusal>
         requires { IsTrue self.old.sound → Kept numbers self.old.site }
         ensures { IsTrue self.new.sound → Kept numbers self.new.site }
     {
         let new = Run::new(alloc, most_nodes, most_open)?;
         drop(mem::replace(self, new));
-        Ok(Answer::Done)
+        Ok(Reply::Done)
     }
 
-    fn push(&mut self, pops: bool) -> Result<Answer, Refusal>
+    fn push(&mut self, pops: bool) -> Result<Reply, Refusal>
         ensures { IsTrue self.new.sound → Kept numbers self.new.site }
     {
         self.sound = false;
         done(push_again(&mut self.site, pops, self.at))
     }
 
-    fn change_site(&mut self, hand: &mut Hand, line: &str) -> Result<Answer, Refusal>
+    fn change_site(&mut self, hand: &mut Hand, line: &str) -> Result<Reply, Refusal>
         requires { IsTrue self.old.sound → Kept numbers self.old.site }
         ensures { IsTrue self.new.sound → Kept numbers self.new.site }
     {

@@ -7,7 +7,7 @@ ghost use Rattle.names.specs.Tags.{number_of};
 ghost use Rattle.names.specs.declared.tag.Tag.TheVariants as Tag;
 
 use crate::hand::Hand;
-use crate::kit::Answer;
+use crate::structures::Reply;
 use crate::words::{after, group, number, word};
 use hadopt::{Passing, Site};
 use hnodes::NodeId;
@@ -20,7 +20,7 @@ pub fn change(
     hand: &mut Hand,
     line: &str,
     at: u64,
-) -> Result<Answer, Refusal>
+) -> Result<Reply, Refusal>
     requires { IsTrue sound → Kept numbers site.old }
     ensures { IsTrue sound → IfOk result (λ _. Kept numbers site.new) }
 {
@@ -28,22 +28,22 @@ pub fn change(
         return edit(site, hand, line, at);
     }
     if !sound {
-        return Ok(Answer::NotMade);
+        return Ok(Reply::NotMade);
     }
     adopt(site, hand, line, at)
 }
 
-fn adopt(site: &mut Site, hand: &mut Hand, line: &str, at: u64) -> Result<Answer, Refusal>
+fn adopt(site: &mut Site, hand: &mut Hand, line: &str, at: u64) -> Result<Reply, Refusal>
     requires { Kept numbers site.old }
     ensures { IfOk result (λ _. Kept numbers site.new) }
 {
     let name = hand.name(line, 2)?;
     site.adopt(name, at)?;
-    Ok(Answer::Done)
+    Ok(Reply::Done)
 }
 
 /// Makes an edit.
-fn edit(site: &mut Site, hand: &mut Hand, line: &str, at: u64) -> Result<Answer, Refusal>
+fn edit(site: &mut Site, hand: &mut Hand, line: &str, at: u64) -> Result<Reply, Refusal>
     ensures { Kept numbers site.old → IfOk result (λ _. Kept numbers site.new) }
 {
     match word(line, 1) {
@@ -56,7 +56,7 @@ fn edit(site: &mut Site, hand: &mut Hand, line: &str, at: u64) -> Result<Answer,
 }
 
 /// Makes an edit of the open nodes or the list.
-fn edit_open(site: &mut Site, hand: &mut Hand, line: &str, at: u64) -> Result<Answer, Refusal>
+fn edit_open(site: &mut Site, hand: &mut Hand, line: &str, at: u64) -> Result<Reply, Refusal>
     ensures { Kept numbers site.old → IfOk result (λ _. Kept numbers site.new) }
 {
     match word(line, 1) {
@@ -66,13 +66,13 @@ fn edit_open(site: &mut Site, hand: &mut Hand, line: &str, at: u64) -> Result<An
     }
 }
 
-fn insert_element(site: &mut Site, hand: &mut Hand, line: &str, at: u64) -> Result<Answer, Refusal>
+fn insert_element(site: &mut Site, hand: &mut Hand, line: &str, at: u64) -> Result<Reply, Refusal>
     ensures { Kept numbers site.old → IfOk result (λ _. Kept numbers site.new) }
 {
     let name = hand.name(line, 2)?;
     let attrs = hand.attrs(after(line, 3))?;
     add_element(site, name, attrs, at)?;
-    Ok(Answer::Done)
+    Ok(Reply::Done)
 }
 
 fn add_element(site: &mut Site, name: NameId, attrs: Vec<Attr>, at: u64) -> Result<(), Refusal>
@@ -88,16 +88,16 @@ fn insert_formatting(
     hand: &mut Hand,
     line: &str,
     at: u64,
-) -> Result<Answer, Refusal>
+) -> Result<Reply, Refusal>
     ensures { Kept numbers site.old → IfOk result (λ _. Kept numbers site.new) }
 {
     let name = hand.name(line, 2)?;
     if name == Tag::Table.number() {
-        return Ok(Answer::NotMade);
+        return Ok(Reply::NotMade);
     }
     let attrs = hand.attrs(after(line, 3))?;
     add_formatting(site, name, attrs, at)?;
-    Ok(Answer::Done)
+    Ok(Reply::Done)
 }
 
 fn add_formatting(site: &mut Site, name: NameId, attrs: Vec<Attr>, at: u64) -> Result<(), Refusal>
@@ -118,24 +118,24 @@ fn counted(site: &Site, line: &str) -> Option<NodeId>
     }
 }
 
-fn add_missing(site: &mut Site, hand: &mut Hand, line: &str) -> Result<Answer, Refusal>
+fn add_missing(site: &mut Site, hand: &mut Hand, line: &str) -> Result<Reply, Refusal>
     ensures { Kept numbers site.old → IfOk result (λ _. Kept numbers site.new) }
 {
     let attrs = hand.attrs(after(line, 3))?;
     let Some(node) = counted(site, line) else {
-        return Ok(Answer::NotMade);
+        return Ok(Reply::NotMade);
     };
     site.add_missing(node, attrs)?;
-    Ok(Answer::Done)
+    Ok(Reply::Done)
 }
 
 /// Closes by a name.
-fn close(site: &mut Site, hand: &mut Hand, line: &str, at: u64) -> Result<Answer, Refusal>
+fn close(site: &mut Site, hand: &mut Hand, line: &str, at: u64) -> Result<Reply, Refusal>
     ensures { Kept numbers site.old → IfOk result (λ _. Kept numbers site.new) }
 {
     let name = hand.name(line, 2)?;
     close_named(site, name, line, at)?;
-    Ok(Answer::Done)
+    Ok(Reply::Done)
 }
 
 fn close_named(site: &mut Site, name: NameId, line: &str, at: u64) -> Result<(), Refusal>
@@ -161,11 +161,11 @@ fn passing(name: NameId, line: &str) -> Passing {
 }
 
 /// Puts what is no element.
-fn insert(site: &mut Site, hand: &Hand, line: &str, at: u64) -> Result<Answer, Refusal>
+fn insert(site: &mut Site, hand: &Hand, line: &str, at: u64) -> Result<Reply, Refusal>
     ensures { Kept numbers site.old → IfOk result (λ _. Kept numbers site.new) }
 {
     put(site, hand, line, at)?;
-    Ok(Answer::Done)
+    Ok(Reply::Done)
 }
 
 fn put(site: &mut Site, hand: &Hand, line: &str, at: u64) -> Result<(), Refusal>
@@ -219,11 +219,11 @@ fn put_char(site: &mut Site, line: &str, at: u64) -> Result<(), Refusal>
 }
 
 /// Goes by a rule.
-fn follow(site: &mut Site, line: &str, at: u64) -> Result<Answer, Refusal>
+fn follow(site: &mut Site, line: &str, at: u64) -> Result<Reply, Refusal>
     ensures { Kept numbers site.old → IfOk result (λ _. Kept numbers site.new) }
 {
     rule(site, line, at)?;
-    Ok(Answer::Done)
+    Ok(Reply::Done)
 }
 
 fn rule(site: &mut Site, line: &str, at: u64) -> Result<(), Refusal>
@@ -238,7 +238,7 @@ fn rule(site: &mut Site, line: &str, at: u64) -> Result<(), Refusal>
 }
 
 /// Makes an edit that is never refused.
-fn remove(site: &mut Site, line: &str) -> Answer
+fn remove(site: &mut Site, line: &str) -> Reply
     ensures { Kept numbers site.old → Kept numbers site.new }
 {
     match word(line, 1) {
@@ -248,19 +248,19 @@ fn remove(site: &mut Site, line: &str) -> Answer
         "foster" => site.set_foster(word(line, 2) == "on"),
         "leave" => return leave(site, line),
         "unlist" => return unlist(site, line),
-        _ => return Answer::NotMade,
+        _ => return Reply::NotMade,
     }
-    Answer::Done
+    Reply::Done
 }
 
-fn leave(site: &mut Site, line: &str) -> Answer
+fn leave(site: &mut Site, line: &str) -> Reply
     ensures { Kept numbers site.old → Kept numbers site.new }
 {
     let Some(node) = counted(site, line) else {
-        return Answer::NotMade;
+        return Reply::NotMade;
     };
     site.leave(node);
-    Answer::Done
+    Reply::Done
 }
 
 /// The node of the item with this many before it as the line says.
@@ -273,12 +273,12 @@ fn listed(site: &Site, line: &str) -> Option<NodeId> {
     }
 }
 
-fn unlist(site: &mut Site, line: &str) -> Answer
+fn unlist(site: &mut Site, line: &str) -> Reply
     ensures { Kept numbers site.old → Kept numbers site.new }
 {
     let Some(node) = listed(site, line) else {
-        return Answer::NotMade;
+        return Reply::NotMade;
     };
     site.remove_entry(node);
-    Answer::Done
+    Reply::Done
 }

@@ -4,7 +4,7 @@ ghost use Rattle.std.specs.Prelude.{◌<◌};
 
 use crate::answers::Answers;
 use crate::hand::Hand;
-use crate::kit::Answer;
+use crate::structures::Reply;
 use crate::nodes::{say_children, say_node};
 use crate::words::{group, word};
 use hadopt::Site;
@@ -16,7 +16,7 @@ use names::{NameId, ParseError, Refusal};
 const SCOPES: [Scope; 4] = [Scope::Default, Scope::ListItem, Scope::Button, Scope::Table];
 
 /// Answers a question.
-pub fn ask(site: &Site, hand: &mut Hand, line: &str) -> Result<Answer, Refusal> {
+pub fn ask(site: &Site, hand: &mut Hand, line: &str) -> Result<Reply, Refusal> {
     match word(line, 1) {
         "name" => ask_name(site, hand, line),
         "group" => Ok(say_group(site, group(line, 2), &mut hand.out)),
@@ -24,20 +24,20 @@ pub fn ask(site: &Site, hand: &mut Hand, line: &str) -> Result<Answer, Refusal> 
     }
 }
 
-fn say(site: &Site, word: &str, out: &mut Answers) -> Answer {
+fn say(site: &Site, word: &str, out: &mut Answers) -> Reply {
     match word {
         "flags" => say_flags(site, out),
         "nodes" => say_nodes(site.tree(), out),
         "errors" => say_errors(site.errors(), out),
         _ => out.flag(is_tree(site.tree())),
     }
-    Answer::Said
+    Reply::Said
 }
 
-fn ask_name(site: &Site, hand: &mut Hand, line: &str) -> Result<Answer, Refusal> {
+fn ask_name(site: &Site, hand: &mut Hand, line: &str) -> Result<Reply, Refusal> {
     let name = hand.name(line, 2)?;
     say_name(site, name, &mut hand.out);
-    Ok(Answer::Said)
+    Ok(Reply::Said)
 }
 
 /// The entry, whether the current node has the name, whether an item is near, and whether it is in each scope.
@@ -51,13 +51,13 @@ fn say_name(site: &Site, name: NameId, out: &mut Answers) {
 }
 
 /// Whether the current node is of the group, its nearest place, and whether it is in each scope.
-fn say_group(site: &Site, group: Group, out: &mut Answers) -> Answer {
+fn say_group(site: &Site, group: Group, out: &mut Answers) -> Reply {
     out.flag(site.current_is_of(group));
     out.place(site.group_place(group));
     for scope in SCOPES {
         out.flag(site.group_in_scope(scope, group));
     }
-    Answer::Said
+    Reply::Said
 }
 
 /// Foster parenting, whether the current node fosters, whether all may stay open, and whether all entries are reconstructed.

@@ -1,7 +1,7 @@
 //! Edits of the stack of open elements.
 
 use crate::hand::Hand;
-use crate::kit::{Answer, PLACE, done};
+use crate::structures::{Reply, PLACE, done};
 use crate::stack_questions::ask;
 use crate::words::{count, group, word};
 use hnodes::NodeId;
@@ -10,7 +10,7 @@ use names::Refusal;
 use std::alloc::Global;
 
 /// Makes a call.
-pub fn call(stack: &mut OpenStack, hand: &mut Hand, line: &str) -> Result<Answer, Refusal> {
+pub fn call(stack: &mut OpenStack, hand: &mut Hand, line: &str) -> Result<Reply, Refusal> {
     match word(line, 1) {
         "new" => Ok(begin(stack, hand.alloc, count(line, 2))),
         "push" | "insert_below" | "replace" => open(stack, hand, line),
@@ -20,7 +20,7 @@ pub fn call(stack: &mut OpenStack, hand: &mut Hand, line: &str) -> Result<Answer
 }
 
 /// Calls that close nodes.
-fn shorten(stack: &mut OpenStack, hand: &mut Hand, line: &str) -> Result<Answer, Refusal> {
+fn shorten(stack: &mut OpenStack, hand: &mut Hand, line: &str) -> Result<Reply, Refusal> {
     match word(line, 1) {
         "pop_to" => pop_to(stack, hand, line),
         "pop" => Ok(pop(stack, hand)),
@@ -29,13 +29,13 @@ fn shorten(stack: &mut OpenStack, hand: &mut Hand, line: &str) -> Result<Answer,
     }
 }
 
-fn begin(stack: &mut OpenStack, alloc: Global, limit: u32) -> Answer {
+fn begin(stack: &mut OpenStack, alloc: Global, limit: u32) -> Reply {
     *stack = OpenStack::new(alloc, limit);
-    Answer::Done
+    Reply::Done
 }
 
 /// Opens a node, whose number and name come first.
-fn open(stack: &mut OpenStack, hand: &mut Hand, line: &str) -> Result<Answer, Refusal> {
+fn open(stack: &mut OpenStack, hand: &mut Hand, line: &str) -> Result<Reply, Refusal> {
     let open = hand.open(line, 2)?;
     let near = hand.near(line, 4);
     done(open_at(stack, word(line, 1), open, near))
@@ -51,7 +51,7 @@ fn open_at(stack: &mut OpenStack, word: &str, open: Open, near: NodeId) -> Resul
 }
 
 /// Opens a node right below another one, for one that leaves.
-fn exchange(stack: &mut OpenStack, hand: &mut Hand, line: &str) -> Result<Answer, Refusal> {
+fn exchange(stack: &mut OpenStack, hand: &mut Hand, line: &str) -> Result<Reply, Refusal> {
     let new = hand.open(line, 2)?;
     let leaving = hand.near(line, 4);
     let above = hand.near(line, 5);
@@ -63,37 +63,37 @@ fn exchange_open(
     leaving: NodeId,
     above: NodeId,
     new: Open,
-) -> Result<Answer, Refusal> {
+) -> Result<Reply, Refusal> {
     if !stack.contains(leaving) {
-        return Ok(Answer::NotMade);
+        return Ok(Reply::NotMade);
     }
     stack.exchange(leaving, above, new)?;
-    Ok(Answer::Done)
+    Ok(Reply::Done)
 }
 
-fn pop_to(stack: &mut OpenStack, hand: &mut Hand, line: &str) -> Result<Answer, Refusal> {
+fn pop_to(stack: &mut OpenStack, hand: &mut Hand, line: &str) -> Result<Reply, Refusal> {
     let name = hand.name(line, 2)?;
     stack.pop_to(name);
-    Ok(Answer::Done)
+    Ok(Reply::Done)
 }
 
-fn pop(stack: &mut OpenStack, hand: &mut Hand) -> Answer {
+fn pop(stack: &mut OpenStack, hand: &mut Hand) -> Reply {
     hand.out.open(stack.pop());
-    Answer::Said
+    Reply::Said
 }
 
-fn remove_run(stack: &mut OpenStack, up: u32, count: u32) -> Answer {
+fn remove_run(stack: &mut OpenStack, up: u32, count: u32) -> Reply {
     let up = up as usize;
     let count = count as usize;
     if up + count > stack.len() {
-        return Answer::NotMade;
+        return Reply::NotMade;
     }
     stack.remove_run(up, count);
-    Answer::Done
+    Reply::Done
 }
 
 /// Calls that close nodes up to one, or one alone.
-fn close(stack: &mut OpenStack, hand: &mut Hand, line: &str) -> Result<Answer, Refusal> {
+fn close(stack: &mut OpenStack, hand: &mut Hand, line: &str) -> Result<Reply, Refusal> {
     let node = hand.near(line, 2);
     match word(line, 1) {
         "pop_to_node" => stack.pop_to_node(node),
@@ -101,5 +101,5 @@ fn close(stack: &mut OpenStack, hand: &mut Hand, line: &str) -> Result<Answer, R
         "remove" => stack.remove(node),
         _ => return ask(stack, hand, node, line),
     }
-    Ok(Answer::Done)
+    Ok(Reply::Done)
 }

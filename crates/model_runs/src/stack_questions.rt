@@ -2,7 +2,7 @@
 
 use crate::answers::Answers;
 use crate::hand::Hand;
-use crate::kit::Answer;
+use crate::structures::Reply;
 use crate::words::{group, scope, word};
 use hnodes::NodeId;
 use hopen::{Group, OpenStack, Scope};
@@ -13,7 +13,7 @@ pub fn ask(
     hand: &mut Hand,
     node: NodeId,
     line: &str,
-) -> Result<Answer, Refusal> {
+) -> Result<Reply, Refusal> {
     match word(line, 1) {
         "name" => ask_name(stack, hand, line),
         "group" => Ok(say_group(stack, group(line, 2), scope(line, 3), &mut hand.out)),
@@ -21,15 +21,15 @@ pub fn ask(
     }
 }
 
-fn say(stack: &OpenStack, word: &str, node: NodeId, out: &mut Answers) -> Answer {
+fn say(stack: &OpenStack, word: &str, node: NodeId, out: &mut Answers) -> Reply {
     match word {
         "ends" => say_ends(stack, out),
         "all" => say_all(stack, out),
         "node" => say_node(stack, node, out),
         "block" => out.open(stack.furthest_block(node)),
-        _ => return Answer::NotMade,
+        _ => return Reply::NotMade,
     }
-    Answer::Said
+    Reply::Said
 }
 
 /// `len`, `current` and `all_may_stay_open`.
@@ -59,23 +59,23 @@ fn say_node(stack: &OpenStack, node: NodeId, out: &mut Answers) {
     out.flag(stack.node_in_scope(node));
 }
 
-fn ask_name(stack: &OpenStack, hand: &mut Hand, line: &str) -> Result<Answer, Refusal> {
+fn ask_name(stack: &OpenStack, hand: &mut Hand, line: &str) -> Result<Reply, Refusal> {
     let name = hand.name(line, 2)?;
     Ok(say_name(stack, name, scope(line, 3), &mut hand.out))
 }
 
 /// `in_scope`, `before_special`, `item_is_near` and `nearest`.
-fn say_name(stack: &OpenStack, name: NameId, scope: Scope, out: &mut Answers) -> Answer {
+fn say_name(stack: &OpenStack, name: NameId, scope: Scope, out: &mut Answers) -> Reply {
     out.flag(stack.in_scope(scope, name));
     out.flag(stack.before_special(name));
     out.flag(stack.item_is_near(name));
     out.open(stack.nearest(name));
-    Answer::Said
+    Reply::Said
 }
 
 /// `group_in_scope` and `group_place`.
-fn say_group(stack: &OpenStack, group: Group, scope: Scope, out: &mut Answers) -> Answer {
+fn say_group(stack: &OpenStack, group: Group, scope: Scope, out: &mut Answers) -> Reply {
     out.flag(stack.group_in_scope(scope, group));
     out.place(stack.group_place(group));
-    Answer::Said
+    Reply::Said
 }

@@ -2,19 +2,19 @@
 
 use crate::answers::Answers;
 use crate::hand::Hand;
-use crate::kit::Answer;
+use crate::structures::Reply;
 use crate::words::{after, word};
 use charref::{Match, Table};
 use names::Refusal;
 use std::alloc::Global;
 
 /// Makes a call of the table of names.
-pub fn call_names(hand: &mut Hand, line: &str) -> Result<Answer, Refusal> {
+pub fn call_names(hand: &mut Hand, line: &str) -> Result<Reply, Refusal> {
     if word(line, 1) != "intern" {
-        return Ok(Answer::NotMade);
+        return Ok(Reply::NotMade);
     }
     let name = hand.names.intern(hand.alloc, after(line, 2))?;
-    Ok(Answer::Number(name.index()))
+    Ok(Reply::Number(name.index()))
 }
 
 /// Reads a table of references, or looks for the key that a text begins with.
@@ -22,30 +22,30 @@ pub fn call_table(
     table: &mut Option<Table>,
     hand: &mut Hand,
     line: &str,
-) -> Result<Answer, Refusal> {
+) -> Result<Reply, Refusal> {
     let text = after(line, 2);
     match word(line, 1) {
         "read" => read(table, hand.alloc, text),
         "longest" => Ok(look_up(table, text, &mut hand.out)),
-        _ => Ok(Answer::NotMade),
+        _ => Ok(Reply::NotMade),
     }
 }
 
-fn read(table: &mut Option<Table>, alloc: Global, text: &str) -> Result<Answer, Refusal> {
+fn read(table: &mut Option<Table>, alloc: Global, text: &str) -> Result<Reply, Refusal> {
     let new = Table::read(alloc, text)?;
     *table = Some(new);
-    Ok(Answer::Done)
+    Ok(Reply::Done)
 }
 
-fn look_up(table: &Option<Table>, text: &str, out: &mut Answers) -> Answer {
+fn look_up(table: &Option<Table>, text: &str, out: &mut Answers) -> Reply {
     let Some(table) = table else {
-        return Answer::NotMade;
+        return Reply::NotMade;
     };
     match table.longest(text.as_bytes()) {
         Some(found) => say_match(found, out),
         None => out.word("none"),
     }
-    Answer::Said
+    Reply::Said
 }
 
 /// Says the length of a key, and the numbers of the characters that it stands for.

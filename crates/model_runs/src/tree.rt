@@ -4,14 +4,14 @@ ghost use Rattle.std.specs.Prelude.{◌<◌, IfSome};
 ghost use Rattle.hnodes.specs.Edits.{IsPlace};
 
 use crate::hand::Hand;
-use crate::kit::{Answer, PLACE, done};
+use crate::structures::{Reply, PLACE, done};
 use crate::nodes::ask;
 use crate::words::{after, word};
 use hnodes::{NodeId, Place, Tree};
 use names::{Attr, Refusal};
 
 /// Makes a call, if it edits the tree.
-pub fn edit(hand: &mut Hand, line: &str) -> Result<Answer, Refusal> {
+pub fn edit(hand: &mut Hand, line: &str) -> Result<Reply, Refusal> {
     match word(line, 1) {
         "append" | "before" | "move" => Ok(move_nodes(hand, line)),
         "char" | "text" => put(hand, line),
@@ -21,15 +21,15 @@ pub fn edit(hand: &mut Hand, line: &str) -> Result<Answer, Refusal> {
 }
 
 /// Moves a node, or the children of one, where that is allowed.
-fn move_nodes(hand: &mut Hand, line: &str) -> Answer {
+fn move_nodes(hand: &mut Hand, line: &str) -> Reply {
     let is_moved = match (hand.node(line, 2), hand.node(line, 3)) {
         (Some(node), Some(to)) => is_moved(&mut hand.tree, word(line, 1), node, to),
         _ => false,
     };
     if is_moved {
-        Answer::Done
+        Reply::Done
     } else {
-        Answer::NotMade
+        Reply::NotMade
     }
 }
 
@@ -95,19 +95,19 @@ fn place(tree: &Tree, side: &str, node: NodeId) -> Option<Place>
 }
 
 /// Puts a text, or its first character, at a place.
-fn put(hand: &mut Hand, line: &str) -> Result<Answer, Refusal> {
+fn put(hand: &mut Hand, line: &str) -> Result<Reply, Refusal> {
     match hand.node(line, 3) {
         Some(node) => put_beside(&mut hand.tree, node, line),
-        None => Ok(Answer::NotMade),
+        None => Ok(Reply::NotMade),
     }
 }
 
-fn put_beside(tree: &mut Tree, node: NodeId, line: &str) -> Result<Answer, Refusal>
+fn put_beside(tree: &mut Tree, node: NodeId, line: &str) -> Result<Reply, Refusal>
     requires { node < tree.old.made }
 {
     match place(tree, word(line, 2), node) {
         Some(place) => done(put_at(tree, word(line, 1), after(line, 4), place)),
-        None => Ok(Answer::NotMade),
+        None => Ok(Reply::NotMade),
     }
 }
 
@@ -124,12 +124,12 @@ fn put_at(tree: &mut Tree, word: &str, text: &str, place: Place) -> Result<(), R
 }
 
 /// Adds an attribute to a node: `attr` one that the script knows that it lacks, `missing` one if it lacks it.
-fn add_attr(hand: &mut Hand, line: &str) -> Result<Answer, Refusal> {
+fn add_attr(hand: &mut Hand, line: &str) -> Result<Reply, Refusal> {
     let (name, value) = after(line, 3).split_once('=').unwrap_or(("", ""));
     let attr = hand.attr(name, value)?;
     match hand.node(line, 2) {
         Some(node) => done(add(&mut hand.tree, word(line, 1), node, attr)),
-        None => Ok(Answer::NotMade),
+        None => Ok(Reply::NotMade),
     }
 }
 

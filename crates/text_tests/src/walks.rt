@@ -57,14 +57,14 @@ fn a_comment_takes_runs(rt: HostRuntime) {
 
 /// What a walk through a tag writes to.
 #[derive(Drop)]
-struct Kit {
+struct TagOutput {
     names: Names,
     errors: Vec<ParseError>,
 }
 
-impl Kit {
-    fn new(alloc: Global) -> Result<Kit, Refusal> {
-        Ok(Kit {
+impl TagOutput {
+    fn new(alloc: Global) -> Result<TagOutput, Refusal> {
+        Ok(TagOutput {
             names: Names::new(alloc)?,
             errors: Vec::new(alloc),
         })
@@ -104,42 +104,42 @@ fn is_tag(walk: &TagWalk<'_>, name: &str, has_attributes: bool) -> bool {
 
 /// Whether a start tag's name stays that of the end tag after it.
 fn keeps_name<'t>(
-    kit: &mut Kit,
+    output: &mut TagOutput,
     walk: &mut TagWalk<'t>,
     table: &'t Table,
 ) -> Result<bool, Refusal> {
     walk.begin(TagKind::Start, 'P')?;
-    let is_read = kit.take(walk, table, " x>")? && is_tag(walk, "p", true);
+    let is_read = output.take(walk, table, " x>")? && is_tag(walk, "p", true);
     walk.begin_end();
-    let is_end = matches!(walk.kind(), TagKind::End) && kit.take(walk, table, ">")?;
+    let is_end = matches!(walk.kind(), TagKind::End) && output.take(walk, table, ">")?;
     Ok(is_read && is_end && is_tag(walk, "p", false))
 }
 
 #[test]
 fn a_raw_end_tag_keeps_the_name(rt: HostRuntime) -> Result<(), Fail> {
     let table = Table::core(rt.alloc())?;
-    let mut kit = Kit::new(rt.alloc())?;
+    let mut output = TagOutput::new(rt.alloc())?;
     let mut walk = TagWalk::new(rt.alloc());
     assert!(rt; is_tag(&walk, "", false));
-    let answer = keeps_name(&mut kit, &mut walk, &table);
+    let answer = keeps_name(&mut output, &mut walk, &table);
     assert!(rt; answer == Ok(true));
     Ok(())
 }
 
 /// Whether a run is read up to the end of its tag.
-fn takes_run<'t>(kit: &mut Kit, walk: &mut TagWalk<'t>, table: &'t Table) -> Result<bool, Refusal> {
+fn takes_run<'t>(output: &mut TagOutput, walk: &mut TagWalk<'t>, table: &'t Table) -> Result<bool, Refusal> {
     walk.begin(TagKind::Start, 'T')?;
-    let left = kit.take_run(walk, table)?;
-    let is_read = left == Some(">z") && kit.take(walk, table, ">")?;
+    let left = output.take_run(walk, table)?;
+    let is_read = left == Some(">z") && output.take(walk, table, ">")?;
     Ok(is_read && is_tag(walk, "td-1", true) && walk.take_attributes().len() == 3)
 }
 
 #[test]
 fn a_run_is_taken_as_far_as_its_tag_goes(rt: HostRuntime) -> Result<(), Fail> {
     let table = Table::core(rt.alloc())?;
-    let mut kit = Kit::new(rt.alloc())?;
+    let mut output = TagOutput::new(rt.alloc())?;
     let mut walk = TagWalk::new(rt.alloc());
-    let answer = takes_run(&mut kit, &mut walk, &table);
-    assert!(rt; answer == Ok(true) && kit.errors.len() == 1);
+    let answer = takes_run(&mut output, &mut walk, &table);
+    assert!(rt; answer == Ok(true) && output.errors.len() == 1);
     Ok(())
 }

@@ -6,7 +6,7 @@ use Rattle.hopen.specs.Stack.{OpenNode}
 use Rattle.hopen.specs.NameSets.{is_in, set_place}
 use Rattle.hopen.specs.Kept.{opened_by, IsKept}
 use Rattle.hopen.specs.Exchanged.{IsDropped, AreKeptIn, opened_after, place_in}
-use Rattle.hopen.specs.declared.kept.Item.{Item}
+use Rattle.hopen.specs.declared.kept.KeptNode.{KeptNode}
 use Rattle.hopen.proofs.Exchanged.{place-step, place-above, exchanged-length, exchanged-above, exchanged-inside, exchanged-new, exchanged-below}
 use Rattle.hopen.proofs.ExchangedItems.{kept-build, kept-from, item-kept, opened-at, stack-place, above-kept, dropped-kept, new-kept, each-part}
 use Rattle.hopen.proofs.exchange.move_up.Goals as goal
@@ -59,13 +59,13 @@ loop-index-preserved c =
     let next : suc i ≡ i + 1 = omega arith in
     let same : x ≡ get_or first (suc i) r = c.loop-index.invariant.same (i + 1) r (inr (omega arith)) ∙ ap (λ n. get_or first n r) (sym next) in
     let here : get_or ys (suc i) new ≡ opened_by x = get_or-map opened_by first (suc i) r new (omega arith) ∙ ap opened_by (sym same) in
-    let kept : IsKept x (reverse (take (suc i) ys)) = subst (λ (y : Item). IsKept y (reverse (take (suc i) ys))) (sym same) (c.requires.above (suc i) r (omega arith) (omega arith)) in
+    let kept : IsKept x (reverse (take (suc i) ys)) = subst (λ (y : KeptNode). IsKept y (reverse (take (suc i) ys))) (sym same) (c.requires.above (suc i) r (omega arith) (omega arith)) in
     let kept_head : IsKept leaving (reverse (take from ys)) = item-kept first ys 0 _ from leaving c.requires.above (omega arith) (omega arith) c.index-items-window.is in
     let head : get_or ys from new ≡ opened_by leaving = opened-at first from leaving new (omega arith) c.index-items-window.is in
     let moved : IsKept z (reverse (take i zs)) =
     dropped-kept from to new ys c.requires.window i low_i up_i x leaving here head kept kept_head z c.dropped-item.ensures.opened c.dropped-item.ensures.same_name c.dropped-item.ensures.same_node
     (λ set. subst (λ p. IsDropped from p (set_place set x.sets) (set_place set z.sets)) (c.nearest_of_sets-above.ensures set ∙ stack-place first (is_in set) from) (c.dropped-item.ensures.sets set)) in
-    let written : (d : Item) → get_or (set items i z) i d ≡ z = λ d. get_or-set_same items i z d (omega arith) in
+    let written : (d : KeptNode) → get_or (set items i z) i d ≡ z = λ d. get_or-set_same items i z d (omega arith) in
     let now : (e : OpenNode ℕ) → opened_by z ≡ get_or zs i e =
     λ e. ap open_of c.dropped-item.ensures.opened ∙ sym (get_or-map opened_by first (suc i) r e (omega arith) ∙ ap opened_by (sym same)) ∙ sym (exchanged-inside from to new ys c.requires.window.order c.requires.window.within i e low_i up_i) in
     let all = exchanged-length from to new ys c.requires.window.order c.requires.window.within in
@@ -82,8 +82,8 @@ loop-index-preserved c =
           (cases_lt j i);
       kept = λ j d h k.
           ⊎_elim
-          (λ a. subst (λ (y : Item). IsKept y (reverse (take j zs))) (sym (get_or-set_other items i j z d (omega arith))) (c.loop-index.invariant.kept j d h a))
-          (λ a. let at : i ≡ j = omega arith in subst (λ n. IsKept (get_or (set items i z) n d) (reverse (take n zs))) at (subst (λ (y : Item). IsKept y (reverse (take i zs))) (sym (written d)) moved))
+          (λ a. subst (λ (y : KeptNode). IsKept y (reverse (take j zs))) (sym (get_or-set_other items i j z d (omega arith))) (c.loop-index.invariant.kept j d h a))
+          (λ a. let at : i ≡ j = omega arith in subst (λ n. IsKept (get_or (set items i z) n d) (reverse (take n zs))) at (subst (λ (y : KeptNode). IsKept y (reverse (take i zs))) (sym (written d)) moved))
           (cases_lt j i);
       same_name = c.place_if-same_name.ensures ∙ (λ k. cond ((c.eq.ensures ∙ ap (λ (y : OpenNode ℕ). y.name == new.name) (now new)) k) (sym next k) (c.loop-index.invariant.same_name k))
           ∙ sym (place-step (λ y. y.name == new.name) zs new i (omega arith)) ∙ ap (place_in (λ y. y.name == new.name) zs) next;
@@ -99,7 +99,7 @@ returns-clause-opened c =
     let ys = map opened_by first in
     let zs = opened_after c.args.window c.args.new first in
     let r = c.index-items-window.result in
-    let z : Item = record { opened = c.args.new; same_name = c.loop-index.same_name; same_node = 0; sets = c.sets_of_new-sets.result } in
+    let z : KeptNode = record { opened = c.args.new; same_name = c.loop-index.same_name; same_node = 0; sets = c.sets_of_new-sets.result } in
     let o = c.requires.window.order in let w = c.requires.window.within in
     let long = length-map first opened_by in
     let many = c.loop-index.invariant.long in
@@ -126,7 +126,7 @@ returns-clause-kept c =
     let new = open_of c.args.new in
     let ys = map opened_by first in
     let zs = opened_after c.args.window c.args.new first in
-    let z : Item = record { opened = c.args.new; same_name = c.loop-index.same_name; same_node = 0; sets = c.sets_of_new-sets.result } in
+    let z : KeptNode = record { opened = c.args.new; same_name = c.loop-index.same_name; same_node = 0; sets = c.sets_of_new-sets.result } in
     let o = c.requires.window.order in let w = c.requires.window.within in
     let long = length-map first opened_by in
     let many = c.loop-index.invariant.long in
@@ -139,8 +139,8 @@ returns-clause-kept c =
     kept-from (set items to z) (subst (AreKeptIn 0 (length (set items to z)) (set items to z)) (sym (returns-clause-opened c))
     (λ j d low up.
     each-part (IsKept (get_or (set items to z) j d) (reverse (take j zs))) from to j
-    (λ a. subst (λ (y : Item). IsKept y (reverse (take j zs))) (sym (get_or-set_other items to j z d (omega arith) ∙ c.loop-index.invariant.same j d (inl a)))
+    (λ a. subst (λ (y : KeptNode). IsKept y (reverse (take j zs))) (sym (get_or-set_other items to j z d (omega arith) ∙ c.loop-index.invariant.same j d (inl a)))
     (above-kept from to new ys c.requires.window j a (get_or first j d) (get_or-map opened_by first j d new (omega arith)) (c.requires.above j d low (omega arith))))
-    (λ a b. subst (λ (y : Item). IsKept y (reverse (take j zs))) (sym (get_or-set_other items to j z d (omega arith))) (c.loop-index.invariant.kept j d a (omega arith)))
-    (λ a. subst (λ n. IsKept (get_or (set items to z) n d) (reverse (take n zs))) (sym a) (subst (λ (y : Item). IsKept y (reverse (take to zs))) (sym (get_or-set_same items to z d (omega arith))) newest))
-    (λ a. subst (λ (y : Item). IsKept y (reverse (take j zs))) (sym (get_or-set_other items to j z d (omega arith) ∙ c.loop-index.invariant.same j d (inr (omega arith)))) (c.requires.below j d (omega arith) (omega arith)))))
+    (λ a b. subst (λ (y : KeptNode). IsKept y (reverse (take j zs))) (sym (get_or-set_other items to j z d (omega arith))) (c.loop-index.invariant.kept j d a (omega arith)))
+    (λ a. subst (λ n. IsKept (get_or (set items to z) n d) (reverse (take n zs))) (sym a) (subst (λ (y : KeptNode). IsKept y (reverse (take to zs))) (sym (get_or-set_same items to z d (omega arith))) newest))
+    (λ a. subst (λ (y : KeptNode). IsKept y (reverse (take j zs))) (sym (get_or-set_other items to j z d (omega arith) ∙ c.loop-index.invariant.same j d (inr (omega arith)))) (c.requires.below j d (omega arith) (omega arith)))))

@@ -2,7 +2,7 @@ use Rattle.std.proofs.Common.{◌≡◌, suc, ◌+◌, ◌<◌, List, [], ◌∷
 use Rattle.std.proofs.lemmas.List.{length-set, length-take-le, take_more_set, drop-set-lt}
 use Rattle.std.proofs.Math.Seq.{map-set_same}
 use Rattle.hopen.specs.Kept.{Stands, opened_by, stack_of}
-use Rattle.hopen.specs.declared.kept.Item.{Item}
+use Rattle.hopen.specs.declared.kept.KeptNode.{KeptNode}
 use Rattle.hopen.specs.declared.stack.Open.{Open}
 use Rattle.hopen.specs.Opens.{open_of}
 use Rattle.hopen.specs.Places.{last_place}
@@ -24,7 +24,7 @@ loop-index-preserved c =
     let taken : take (i + 1) (set items i x) ≡ take i items ++ x ∷ [] = take_more_set items i x within in
     let left : drop (i + 1) (set items i x) ≡ drop (i + 1) items = drop-set-lt (i + 1) items i x (omega arith) in
     let rest = numbers-less items (i + 1) i y (omega arith) within c.index-items-index.is (length last.names.items) (length last.nodes.items) c.loop-index.invariant.numbers in
-    let opened : x.opened ≡ y.opened = c.item-item.ensures.opened ∙ ap (λ (z : Item). z.opened) (sym c.index-items-index.is) in
+    let opened : x.opened ≡ y.opened = c.item-item.ensures.opened ∙ ap (λ (z : KeptNode). z.opened) (sym c.index-items-index.is) in
     let name_in = subst (λ (z : Open). z.name < length last.names.items) (sym opened) rest.0 in
     let node_in = subst (λ (z : Open). z.node < length last.nodes.items) (sym opened) rest.1 in
     let same_name = c.item-item.ensures.same_name ∙ ap (λ (z : Open). get_or last.names.items z.name 0) (sym c.item-item.ensures.opened) in
@@ -34,7 +34,7 @@ loop-index-preserved c =
     let sets = sets-more (take i items) x c.loop-index.sets (i + 1) place c.loop-index.invariant.sets (λ set. c.item-item.ensures.sets set ∙ ap (λ (z : Open). cond (is_in_set set (tag_of z.name)) (i + 1) (set_place set c.loop-index.sets)) (sym c.item-item.ensures.opened)) in
     record {
       within = omega (arith, length-set items i x);
-      stands = subst (λ (xs : List Item). Stands next xs) (sym taken) (stands-more last (take i items) x (i + 1) place c.loop-index.invariant.stands name_in node_in same_name same_node sets next c.put.ensures.names c.put.ensures.nodes);
+      stands = subst (λ (xs : List KeptNode). Stands next xs) (sym taken) (stands-more last (take i items) x (i + 1) place c.loop-index.invariant.stands name_in node_in same_name same_node sets next c.put.ensures.names c.put.ensures.nodes);
       numbers = rw (left, names, nodes) rest.2;
       sets = λ set. sets set ∙ ap (last_place (is_in set)) (sym (ap stack_of taken ∙ stack-more (take i items) x));
       same = map-set_same opened_by items i x y (ap open_of c.item-item.ensures.opened) ∙ c.loop-index.invariant.same;

@@ -3,7 +3,7 @@ use Rattle.std.specs.List.{remove}
 use Rattle.std.specs.Option.{option_map_or}
 use Rattle.std.proofs.lemmas.List.{length-map}
 use Rattle.hnodes.specs.Rows.{attribute_of}
-use Rattle.hformat.specs.Formatting.{EntryOf, Item, after_marker, as_entry, is_equal}
+use Rattle.hformat.specs.Formatting.{EntryOf, Listed, after_marker, as_entry, is_equal}
 use Rattle.hformat.specs.Items.{item_of, items_of, nowhere}
 use Rattle.hformat.specs.Listed.{by_hash, number_by, numbers_by}
 use Rattle.hformat.specs.declared.entry.Slot.{Slot as Stored}
@@ -57,7 +57,7 @@ module _ (c : goal.After-before-place) where
   abbrev items : List Stored
   items = c.args.self.now.items.items
 
-  abbrev view : List (Item ℕ)
+  abbrev view : List (Listed ℕ)
   view = items_of items
 
   abbrev new : EntryOf ℕ
@@ -131,7 +131,7 @@ loop-place-preserved c =
     }
 
 -- nothing is left at the end
-nothing : (of : EntryOf ℕ → ℕ) (items : List (Item ℕ)) (p : ℕ) → p ≤ place of 0 items → drop (length items - p) (after_marker items) ≡ []
+nothing : (of : EntryOf ℕ → ℕ) (items : List (Listed ℕ)) (p : ℕ) → p ≤ place of 0 items → drop (length items - p) (after_marker items) ≡ []
 nothing of items p h = drop_of_length-le (after_marker items) (omega (arith, length-after of items))
 
 pub returns-then-equal-lt-MOST_EQUAL-clause-room : goal.returns-then-equal-lt-MOST_EQUAL-clause-room

@@ -2,7 +2,7 @@ use Rattle.std.proofs.Common.{◌≡◌, ℕ, Some, suc, ◌+◌, ◌-◌, lengt
 use Rattle.std.specs.Option.{option_map}
 use Rattle.std.proofs.Math.Seq.{drop-length}
 use Rattle.hopen.specs.Kept.{opened_by, stack_of}
-use Rattle.hopen.specs.declared.kept.Item.{Item}
+use Rattle.hopen.specs.declared.kept.KeptNode.{KeptNode}
 use Rattle.hopen.specs.Opens.{open_of}
 use Rattle.hopen.specs.Stack.{OpenNodes, is_node, current, above}
 use Rattle.hopen.proofs.Nearest.{words, no_words, slice_get_nearest}
@@ -25,6 +25,6 @@ returns c =
     let items = c.self.inside.items.items in
     let f = found c.self.inside c.args.self.now (is_node c.args.node) c.in_ok-index.index c.self.view_is c.in_ok-index.ensures.found c.in_ok-index.ensures.within in
     let sum : c.in_ok-index.index - 1 + suc (suc f.up) ≡ length items = omega (arith, f.sum) in
-    ap (λ (x : Item). Some (opened_by x)) c.index-2.ensures
+    ap (λ (x : KeptNode). Some (opened_by x)) c.index-2.ensures
     ∙ sym (ap current (words (is_node c.args.node) (stack_of items) f.up f.place).after_is ∙ current-drop (suc f.up) (stack_of items) ∙ slice_get_nearest opened_by items (c.in_ok-index.index - 1) (suc f.up) c.index-2.result.now sum)
     ∙ ap (λ (n : OpenNodes ℕ). current (above c.args.node n.stack)) c.self.view_is

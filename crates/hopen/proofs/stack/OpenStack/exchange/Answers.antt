@@ -9,7 +9,7 @@ use Rattle.hopen.specs.Stack.{OpenNodes, is_node, is_open}
 use Rattle.hopen.specs.Kept.{opened_by, stack_of}
 use Rattle.hopen.specs.Exchanged.{IsWindow}
 use Rattle.hopen.specs.StackView.{open_nodes_of}
-use Rattle.hopen.specs.declared.kept.Item.{Item}
+use Rattle.hopen.specs.declared.kept.KeptNode.{KeptNode}
 use Rattle.hopen.proofs.Opened.{seen, found, none_found}
 use Rattle.hopen.proofs.Nearest.{remove_nearest, is_some-position}
 use Rattle.hopen.proofs.Standing.{length-stack_of}
@@ -48,7 +48,7 @@ returns-then-is_window-clause-ok c =
     let to = c.unwrap_or-to.result in
     let new = open_of c.args.new in
     let window : IsWindow from to new (map opened_by items) = rw c.deref.ensures.value at c.is_window.ensures c.if-is_window.true in
-    let x : Item = record { opened = c.args.new; same_name = 0; same_node = 0; sets = record { scope = 0; list_item_scope = 0; button_scope = 0; table_scope = 0; special = 0; item_stop = 0; must_close = 0; heading = 0; table_section = 0; cell = 0; tells_mode = 0 } } in
+    let x : KeptNode = record { opened = c.args.new; same_name = 0; same_node = 0; sets = record { scope = 0; list_item_scope = 0; button_scope = 0; table_scope = 0; special = 0; item_stop = 0; must_close = 0; heading = 0; table_section = 0; cell = 0; tells_mode = 0 } } in
     let place_of : position (is_node c.args.above) (stack_of items) ≡ Some (length (stack_of items) - 1 - to) =
     subst (λ n. position (is_node c.args.above) (stack_of items) ≡ Some (length (stack_of items) - 1 - n)) (sym c.unwrap_or-to.ensures) (found-below c.index-2.result _ _ c.index-2.ensures.found (omega (arith, window.order, c.unwrap_or-to.ensures))) in
     seen c.self.inside c.args.self.now (λ s. put_before (is_node c.args.above) new (without (is_node c.args.leaving) s)) (with_items c.self.inside.items c.exchange.new.items).items c.self.view_is
@@ -78,4 +78,4 @@ exchange-requires-clause-name_in c = c.in_ok-make_room.ensures.name_in
 
 pub exchange-requires-clause-window : goal.exchange-requires-clause-window
 exchange-requires-clause-window c =
-    subst (λ (xs : List Item). IsWindow c.in-Some.from c.unwrap_or-to.result (open_of c.args.new) (map opened_by xs)) (c.deref.ensures.value ∙ sym c.deref_mut.ensures.value) (c.is_window.ensures c.if-is_window.true)
+    subst (λ (xs : List KeptNode). IsWindow c.in-Some.from c.unwrap_or-to.result (open_of c.args.new) (map opened_by xs)) (c.deref.ensures.value ∙ sym c.deref_mut.ensures.value) (c.is_window.ensures c.if-is_window.true)

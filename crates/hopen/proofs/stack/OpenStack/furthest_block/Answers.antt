@@ -8,7 +8,7 @@ use Rattle.names.specs.Tags.{tag_of}
 use Rattle.hopen.specs.Kept.{opened_by}
 use Rattle.hopen.specs.Opens.{open_of}
 use Rattle.hopen.specs.Stack.{OpenNodes, is_node, furthest_block}
-use Rattle.hopen.specs.declared.kept.Item.{Item}
+use Rattle.hopen.specs.declared.kept.KeptNode.{KeptNode}
 use Rattle.hopen.proofs.Images.{find-map}
 use Rattle.hopen.proofs.Searches.{furthest-nearest}
 use Rattle.hopen.proofs.stack.OpenStack.furthest_block.Goals as goal
@@ -18,7 +18,7 @@ returns c =
     let items = c.self.inside.items.items in
     let n : c.len-2.result - c.unwrap_or-below.result ≡ length items - unwrap_or c.place.result (length items) = search rules in
     let left = take_rest c.deref.result.now (c.len-2.result - c.unwrap_or-below.result) ∙ ap (λ k. drop k c.deref.result.now) n ∙ ap (drop (length items - unwrap_or c.place.result (length items))) c.deref.ensures.value in
-    ap (option_map open_of) (c.first_special.ensures ∙ ap (λ (xs : List Item). find (λ x. is_special (tag_of x.name)) (map (λ x. x.opened) xs)) left)
+    ap (option_map open_of) (c.first_special.ensures ∙ ap (λ (xs : List KeptNode). find (λ x. is_special (tag_of x.name)) (map (λ x. x.opened) xs)) left)
     ∙ sym (find-map open_of (λ x. is_special (tag_of x.name)) (λ x. is_special (tag_of x.name)) (λ _. refl) (map (λ x. x.opened) (drop (length items - unwrap_or c.place.result (length items)) items)))
     ∙ ap (find (λ x. is_special (tag_of x.name))) (map-map open_of (λ x. x.opened) (drop (length items - unwrap_or c.place.result (length items)) items))
     ∙ furthest-nearest opened_by tag_of c.args.formatting items c.place.result (c.place.ensures.place ∙ ap (λ (n : OpenNodes ℕ). position (is_node c.args.formatting) n.stack) (sym c.self.view_is))

@@ -6,7 +6,7 @@ use Rattle.hopen.specs.Nearest.{put_before}
 use Rattle.hopen.specs.Stack.{is_node}
 use Rattle.hopen.specs.Opens.{open_of}
 use Rattle.hopen.specs.Kept.{opened_by, stack_of}
-use Rattle.hopen.specs.declared.kept.Item.{Item}
+use Rattle.hopen.specs.declared.kept.KeptNode.{KeptNode}
 use Rattle.hopen.specs.declared.stack.Open.{Open}
 use Rattle.std.specs.List.{insert}
 use Rattle.hopen.proofs.stack.OpenStack.insert_below.Goals as goal
@@ -16,7 +16,7 @@ returns-in_ok-reserve-clause-ok c =
     let f = found c.self.inside c.args.self.now (is_node c.args.node) c.in-Some.index c.self.view_is c.in-Some.ensures.found c.in-Some.ensures.within in
     let word = put_before (is_node c.args.node) (open_of c.args.opened) in
     seen c.self.inside c.args.self.now word c.insert.new.items.items c.self.view_is
-    (ap reverse (c.insert.ensures.items ∙ ap (λ (xs : List Item). map opened_by (insert xs (c.in-Some.index + 1) c.new.result)) c.in_ok-reserve.ensures.items)
+    (ap reverse (c.insert.ensures.items ∙ ap (λ (xs : List KeptNode). map opened_by (insert xs (c.in-Some.index + 1) c.new.result)) c.in_ok-reserve.ensures.items)
     ∙ insert_nearest opened_by (is_node c.args.node) c.self.inside.items.items c.in-Some.index f.up c.new.result f.place f.sum
     ∙ ap (λ (x : Open). put_before (is_node c.args.node) (open_of x) (stack_of c.self.inside.items.items)) c.new.ensures)
 
@@ -36,6 +36,6 @@ insert-requires-clause-node_in c = subst (λ (x : Open). x.node < length c.make_
 
 pub invariant_of-self-in_err-reserve : goal.invariant_of-self-in_err-reserve
 invariant_of-self-in_err-reserve c = record {
-  within = subst (λ (xs : List Item). length xs ≤ c.self.inside.limit) (sym c.in_err-reserve.ensures.items) c.self.invariant.within;
+  within = subst (λ (xs : List KeptNode). length xs ≤ c.self.inside.limit) (sym c.in_err-reserve.ensures.items) c.self.invariant.within;
   stands = stands_same c.self.inside.last _ c.self.inside.items.items _ c.in_ok-make_room.ensures.same_names c.in_ok-make_room.ensures.same_nodes c.in_err-reserve.ensures.items c.self.invariant.stands;
 }

@@ -10,7 +10,7 @@ use std::alloc::{AllocError, Global};
 
 /// What a call answers.
 #[derive(Clone, Copy)]
-pub enum Answer {
+pub enum Reply {
     Done,
     /// There is no such call, or its condition is not met.
     NotMade,
@@ -23,9 +23,9 @@ pub enum Answer {
 pub const PLACE: u64 = 7;
 
 /// The answer of a call that gives nothing.
-pub fn done(outcome: Result<(), Refusal>) -> Result<Answer, Refusal> {
+pub fn done(outcome: Result<(), Refusal>) -> Result<Reply, Refusal> {
     match outcome {
-        Ok(()) => Ok(Answer::Done),
+        Ok(()) => Ok(Reply::Done),
         Err(refusal) => Err(refusal),
     }
 }
@@ -33,7 +33,7 @@ pub fn done(outcome: Result<(), Refusal>) -> Result<Answer, Refusal> {
 /// A list of numbers, a stack of open elements, a list of active formatting elements, a table of references, and a tree, names and
 /// answers for all calls.
 #[derive(Drop)]
-pub struct Kit {
+pub struct Structures {
     pub hand: Hand,
     pub chain: Chains,
     pub stack: OpenStack,
@@ -41,10 +41,10 @@ pub struct Kit {
     pub table: Option<Table>,
 }
 
-impl Kit {
+impl Structures {
     /// Empty lists, and the document alone.
     pub fn new(alloc: Global) -> Result<Self, AllocError> {
-        Ok(Kit {
+        Ok(Structures {
             hand: Hand::new(alloc)?,
             chain: Chains::new(alloc),
             stack: OpenStack::new(alloc, 0),
