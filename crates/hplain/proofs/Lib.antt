@@ -1,4 +1,3 @@
-pub mod Contexts
 pub mod Entering
 pub mod Tested
 pub mod Regions

@@ -4,7 +4,6 @@
 mod around;
 pub mod content;
 mod plain;
-mod plain_contexts;
 mod plain_texts;
 mod rows;
 

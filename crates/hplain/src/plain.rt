@@ -15,10 +15,9 @@ ghost use Rattle.hserialize.specs.Walk.{node_of};
 
 use crate::around::{Around, Standing};
 use crate::content::Content;
-use crate::plain_contexts::context_tag;
 use crate::plain_texts::{all_plain_attributes, begins_with, is_plain_comment, is_plain_text};
 use crate::rows::row;
-use hnodes::{NodeKind, NodeId, Tree};
+use hnodes::{NodeId, NodeKind, Tree};
 use hserialize::{NodeView, Reach, TreeWalk, Visit, inserts_marker};
 use names::{Attr, NameId, Names, Tag};
 
@@ -210,7 +209,7 @@ pub fn is_plain(tree: &Tree, names: &Names, root: NodeId, context: &str) -> bool
     requires names { AreOf names.now (children_of root tree.now.trees) }
     ensures { result ≡ is_plain context.now (spelled (text_of names.now) (children_of root tree.now.trees)) }
 {
-    let tag = context_tag(context);
+    let tag = Tag::named(context);
     let Some(top) = row(tag).1.at_top() else {
         return false;
     };

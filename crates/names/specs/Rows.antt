@@ -2,7 +2,7 @@
 use Rattle.std.specs.Prelude.{◌≡◌, [], ◌∷◌, filter, refl, is_some}
 use Rattle.names.specs.declared.tag.Tag.TheVariants.{A, Address, Applet, Area, Article, Aside, B, Base, Basefont, Bgsound, Big, Blockquote, Body, Br, Button, Caption, Center, Code, Col, Colgroup, Dd, Details, Dialog, Dir, Div, Dl, Dt, Em, Embed, Fieldset, Figcaption, Figure, Font, Footer, Form, Frame, Frameset, H1, H2, H3, H4, H5, H6, Head, Header, Hgroup, Hr, Html, I, Iframe, Img, Input, Keygen, Li, Link, Listing, Main, Marquee, Math, Menu, Meta, Nav, Nobr, Noembed, Noframes, Noscript, Object, Ol, Optgroup, Option, P, Param, Plaintext, Pre, Rb, Rp, Rt, Rtc, S, Script, Search, Section, Select, Small, Source, Strike, Strong, Style, Summary, Svg, Table, Tbody, Td, Template, Textarea, Tfoot, Th, Thead, Title, Tr, Track, Tt, U, Ul, Wbr, Xmp}
 use Rattle.names.specs.Tags.{tags}
-use Rattle.names.specs.Sets.{is_special, is_formatting, has_implied_end, stops_scope, stops_list_item_scope, stops_button_scope, stops_table_scope, is_block, may_stay_open, is_heading, is_table_section, belongs_in_head, is_void, refused_name}
+use Rattle.names.specs.Sets.{is_special, is_formatting, has_implied_end, stops_scope, stops_list_item_scope, stops_button_scope, stops_table_scope, may_stay_open, is_heading, is_table_section, is_void, refused_name}
 
 row_is_special : filter is_special tags ≡ Address ∷ Applet ∷ Area ∷ Article ∷ Aside ∷ Base ∷ Basefont ∷ Bgsound ∷ Blockquote ∷ Body ∷ Br ∷ Button ∷ Caption ∷ Center ∷
     Col ∷ Colgroup ∷ Dd ∷ Details ∷ Dir ∷ Div ∷ Dl ∷ Dt ∷ Embed ∷ Fieldset ∷ Figcaption ∷ Figure ∷ Footer ∷ Form ∷
@@ -30,10 +30,6 @@ row_stops_button_scope = refl
 row_stops_table_scope : filter stops_table_scope tags ≡ Html ∷ Table ∷ []
 row_stops_table_scope = refl
 
-row_is_block : filter is_block tags ≡ Address ∷ Article ∷ Aside ∷ Blockquote ∷ Center ∷ Details ∷ Dialog ∷ Dir ∷ Div ∷ Dl ∷ Fieldset ∷ Figcaption ∷ Figure ∷ Footer ∷
-    Header ∷ Hgroup ∷ Main ∷ Menu ∷ Nav ∷ Ol ∷ Search ∷ Section ∷ Summary ∷ Ul ∷ []
-row_is_block = refl
-
 row_may_stay_open : filter may_stay_open tags ≡ Body ∷ Dd ∷ Dt ∷ Html ∷ Li ∷ P ∷ Rb ∷ Rp ∷ Rt ∷ Rtc ∷ Tbody ∷ Td ∷ Tfoot ∷ Th ∷
     Thead ∷ Tr ∷ []
 row_may_stay_open = refl
@@ -43,9 +39,6 @@ row_is_heading = refl
 
 row_is_table_section : filter is_table_section tags ≡ Tbody ∷ Tfoot ∷ Thead ∷ []
 row_is_table_section = refl
-
-row_belongs_in_head : filter belongs_in_head tags ≡ Base ∷ Basefont ∷ Bgsound ∷ Link ∷ Meta ∷ Noframes ∷ Script ∷ Style ∷ Title ∷ []
-row_belongs_in_head = refl
 
 row_is_void : filter is_void tags ≡ Area ∷ Base ∷ Basefont ∷ Bgsound ∷ Br ∷ Col ∷ Embed ∷ Hr ∷ Img ∷ Input ∷ Link ∷ Meta ∷ Param ∷ Source ∷
     Track ∷ Wbr ∷ []

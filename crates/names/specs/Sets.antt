@@ -154,34 +154,6 @@ stops_table_scope tag.Html = true
 stops_table_scope tag.Table = true
 stops_table_scope _ = false
 
--- whether its start tag closes a p and its end tag is looked for in scope (13.2.6.4.7)
-abbrev pub is_block : Tag → Bool
-is_block tag.Address = true
-is_block tag.Article = true
-is_block tag.Aside = true
-is_block tag.Blockquote = true
-is_block tag.Center = true
-is_block tag.Details = true
-is_block tag.Dialog = true
-is_block tag.Dir = true
-is_block tag.Div = true
-is_block tag.Dl = true
-is_block tag.Fieldset = true
-is_block tag.Figcaption = true
-is_block tag.Figure = true
-is_block tag.Footer = true
-is_block tag.Header = true
-is_block tag.Hgroup = true
-is_block tag.Main = true
-is_block tag.Menu = true
-is_block tag.Nav = true
-is_block tag.Ol = true
-is_block tag.Search = true
-is_block tag.Section = true
-is_block tag.Summary = true
-is_block tag.Ul = true
-is_block _ = false
-
 -- whether an element of it may be open at the end of the body (13.2.6.4.7)
 abbrev pub may_stay_open : Tag → Bool
 may_stay_open tag.Body = true
@@ -218,19 +190,6 @@ is_table_section tag.Tbody = true
 is_table_section tag.Tfoot = true
 is_table_section tag.Thead = true
 is_table_section _ = false
-
--- whether its start tag is read by the rules of the head wherever it stands (13.2.6.4.7)
-abbrev pub belongs_in_head : Tag → Bool
-belongs_in_head tag.Base = true
-belongs_in_head tag.Basefont = true
-belongs_in_head tag.Bgsound = true
-belongs_in_head tag.Link = true
-belongs_in_head tag.Meta = true
-belongs_in_head tag.Noframes = true
-belongs_in_head tag.Script = true
-belongs_in_head tag.Style = true
-belongs_in_head tag.Title = true
-belongs_in_head _ = false
 
 -- whether its element has no end tag when it is written (13.3)
 abbrev pub is_void : Tag → Bool

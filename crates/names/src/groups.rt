@@ -1,44 +1,11 @@
 //! The sets of names that the rules of the body and the serializer use (HTML Standard, 13.2.6.4.7 and 13.3).
 
 ghost use Rattle.std.specs.Prelude.{◌≡◌};
-ghost use Rattle.names.specs.Sets.{is_block, may_stay_open, is_heading, is_table_section, belongs_in_head, is_void};
+ghost use Rattle.names.specs.Sets.{may_stay_open, is_heading, is_table_section, is_void};
 
 use crate::tag::Tag;
 
 impl Tag {
-    /// Whether a start tag of the name closes a p, and its end tag closes an element in scope (13.2.6.4.7).
-    pub fn is_block(self) -> bool
-        ensures { result ≡ is_block self }
-    {
-        matches!(
-            self,
-            Tag::Address
-                | Tag::Article
-                | Tag::Aside
-                | Tag::Blockquote
-                | Tag::Center
-                | Tag::Details
-                | Tag::Dialog
-                | Tag::Dir
-                | Tag::Div
-                | Tag::Dl
-                | Tag::Fieldset
-                | Tag::Figcaption
-                | Tag::Figure
-                | Tag::Footer
-                | Tag::Header
-                | Tag::Hgroup
-                | Tag::Main
-                | Tag::Menu
-                | Tag::Nav
-                | Tag::Ol
-                | Tag::Search
-                | Tag::Section
-                | Tag::Summary
-                | Tag::Ul
-        )
-    }
-
     /// Whether an element of the name may be open where the body ends (13.2.6.4.7).
     pub fn may_stay_open(self) -> bool
         ensures { result ≡ may_stay_open self }
@@ -79,24 +46,6 @@ impl Tag {
         ensures { result ≡ is_table_section self }
     {
         matches!(self, Tag::Tbody | Tag::Tfoot | Tag::Thead)
-    }
-
-    /// Whether a start tag of the name in the body is processed by the rules of the head (13.2.6.4.7).
-    pub fn belongs_in_head(self) -> bool
-        ensures { result ≡ belongs_in_head self }
-    {
-        matches!(
-            self,
-            Tag::Base
-                | Tag::Basefont
-                | Tag::Bgsound
-                | Tag::Link
-                | Tag::Meta
-                | Tag::Noframes
-                | Tag::Script
-                | Tag::Style
-                | Tag::Title
-        )
     }
 
     /// Whether an element of the name is written without an end tag (13.3).
