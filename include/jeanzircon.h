@@ -1,6 +1,6 @@
 /* Jeanzircon: HTML as a browser reads it. The header of the library for C.
  *
- * Two functions of the library, jz_text and jz_tree, are proved: what they promise stands at each. What else is here is plain C that
+ * Two functions of the library, jz_text and jz_tree, are proved: what they promise is said at each. What else is here is plain C that
  * prepares their arguments and indexes what they wrote.
  *
  * Who owns what. Every buffer is the caller's. The library keeps no pointer after a call, and has no state of its own: nothing is
@@ -33,7 +33,7 @@ enum {
     JZ_TOO_MANY_NODES = 4,
     JZ_TOO_DEEP = 5,
     JZ_MEMORY = 6,
-    JZ_BAD_CONTEXT = 8, /* no fragment may stand in an element of this name */
+    JZ_BAD_CONTEXT = 8, /* no fragment may be in an element of this name */
     JZ_BAD_TABLE = 9,   /* `detail` says what is wrong (jz_detail_name) */
     JZ_BAD_QUIRKS = 10,
     JZ_BAD_LIMITS = 11,
@@ -41,10 +41,10 @@ enum {
     JZ_TOO_SHORT = 13,  /* there is too little room: the answer says how much is needed */
     JZ_NOT_TEXT = 14,   /* the context's name or a list is not UTF-8 */
     JZ_BAD_NUMBER = 15, /* a task, an escaping, a piece or a choice on bad bytes that is none */
-    JZ_NULL = 16        /* a null pointer where there must be none; told by the functions below, not by jz_text and jz_tree */
+    JZ_NULL = 16        /* a null pointer where there must be none; returned by the functions below, not by jz_text and jz_tree */
 };
 
-/* The tasks of jz_text: what is made of the input. The forms of the lines stand in docs/PROFILE.md. */
+/* The tasks of jz_text: what is made of the input. The forms of the lines are in docs/PROFILE.md. */
 enum {
     JZ_TOKENS = 0, /* a line for each token of a document */
     JZ_TREE = 1,   /* the tree, a line for each node and each attribute */
@@ -61,9 +61,9 @@ typedef struct jz_bytes {
 
 #define JZ_NO_BYTES { (const uint8_t *)"", 0 }
 
-/* What is told beside the input. Begin with JZ_DEFAULTS, and change what you need. */
+/* What is given with the input. Begin with JZ_DEFAULTS, and change what you need. */
 typedef struct jz_options {
-    jz_bytes context;   /* the name of the element in which a fragment stands; empty: the input is a document */
+    jz_bytes context;   /* the name of the element in which a fragment is; empty: the input is a document */
     jz_bytes entities;  /* the table of character references as JSON (data/entities.json); empty: five of them */
     jz_bytes quirks;    /* the quirks list (data/quirks.txt); empty: no list */
     uint64_t nodes;     /* the most nodes: 16 to 16,777,216 */
@@ -114,7 +114,7 @@ enum { JZ_DOCUMENT = 0, JZ_DOCTYPE = 1, JZ_ELEMENT = 2, JZ_COMMENT = 3, JZ_TEXT_
  * Promised: the rows are those of the nodes in the document (number 0), or in a fragment's root element (number 1), each before those
  * inside it; the words of each node, in the same order, are the name of an element and the name and the value of each of its
  * attributes, the name and both identifiers of a doctype, the data of a comment, or the characters of a text. A word ends with the
- * byte 0xFF, and a node's words with 0xFE, which stand in no UTF-8 text. Where the status is not JZ_OK, nothing is written; at
+ * byte 0xFF, and a node's words with 0xFE, which are in no UTF-8 text. Where the status is not JZ_OK, nothing is written; at
  * JZ_TOO_SHORT the answer has the rooms that are needed.
  * Required, and not checked: as at jz_text, of both rooms; `row_room` counts rows. */
 uint32_t jz_tree(const uint8_t *input, size_t length, const jz_options *options, jz_row *rows, size_t row_room, uint8_t *words,

@@ -40,9 +40,9 @@ def options(context=b"", entities=b"", quirks=b"", nodes=16777216, open=1048576,
     return Options(*lists, nodes, open, piece, keys % 2**64, keys >> 64, escaping, bad_bytes)
 
 
-def text(task, page, **told):
+def text(task, page, **settings):
     """The bytes of a task's text."""
-    answer, room, given = Answer(), 2 * len(page) + 256, options(**told)
+    answer, room, given = Answer(), 2 * len(page) + 256, options(**settings)
     while True:
         output = ctypes.create_string_buffer(room)
         LIBRARY.jz_text(task, page, ctypes.c_size_t(len(page)), ctypes.byref(given), output, ctypes.c_size_t(room), ctypes.byref(answer))
@@ -53,9 +53,9 @@ def text(task, page, **told):
         room = answer.length
 
 
-def tree(page, **told):
+def tree(page, **settings):
     """The nodes inside the root, in tree order: each a row and the list of its words."""
-    answer, rooms, given = Answer(), (len(page) // 16 + 64, len(page) * 2 + 256), options(**told)
+    answer, rooms, given = Answer(), (len(page) // 16 + 64, len(page) * 2 + 256), options(**settings)
     while True:
         rows, words = (Row * rooms[0])(), ctypes.create_string_buffer(rooms[1])
         sizes = [ctypes.c_size_t(it) for it in (len(page), *rooms)]

@@ -14,7 +14,7 @@ AreNamed names t = AreNames names × AreOf names t.trees
 abbrev pub KeepsNames : (old new : Nodes ℕ) → Type 0
 KeepsNames old new = (names : Texts) → AreOf names old.trees → AreOf names new.trees
 
--- its root was made, and the names of what stands in it are those of the table
+-- its root was made, and the names of what is in it are those of the table
 pub record IsGrown (grown : Grown) : Type 0 where
   pub made : grown.root < grown.tree.made
   pub table : AreNames grown.names

@@ -60,7 +60,7 @@ impl Case {
         })
     }
 
-    /// The case of a command that prints this text of an input, which is a document or stands in a context.
+    /// The case of a command that prints this text of an input, which is a document or is in a context.
     pub fn of(
         alloc: Global,
         command: &str,

@@ -8,7 +8,7 @@ use hnodes::{NodeId, Place, Tree};
 use names::{Attr, Names};
 use std::alloc::Global;
 
-/// A tree that was built node by node, and the table of its names. The list that it is built for stands in the root.
+/// A tree that was built node by node, and the table of its names. The list that it is built for is in the root.
 #[derive(Drop)]
 pub struct Grown {
     pub tree: Tree,
@@ -126,7 +126,7 @@ fn make_comment(alloc: Global, tree: &mut Tree, data: &str) -> Result<NodeId>
     }
 }
 
-/// Adds a text of its own, also after a text: what would join the two stands between them while it is put.
+/// Adds a text of its own, also after a text: what would join the two is between them while it is put.
 fn add_text(alloc: Global, tree: &mut Tree, text: &str, parent: NodeId) -> Result<()>
     ensures { OnOk result (KeepsNames tree.old tree.new) }
 {

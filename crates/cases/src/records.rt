@@ -2,7 +2,7 @@
 //!
 //! A page has `#data`, `#errors`, `#document-fragment` with the name of its context if it is a fragment, and `#document`, its tree.
 //! A list of trees has `#written`, its HTML, `#document-fragment`, `#document`, and if it does not come back `#limit`, which limit
-//! of plain content it breaks, and `#back`, the tree that comes back or the refusal. An empty line stands between two records.
+//! of plain content it breaks, and `#back`, the tree that comes back or the refusal. An empty line is between two records.
 
 use anyhow::{Context, Result};
 use std::alloc::Global;

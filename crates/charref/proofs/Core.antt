@@ -32,7 +32,7 @@ longest_among (x ∷ xs) text e h = by (starts_with nat_eq text x.key) (longest 
     by true None test others h among = here (some_same x e h) test
     by true (Some f) test others h among = choose (nat_lt (length f.key) (length x.key)) f others test h among
 
--- a key stands once in a table
+-- a key is once in a table
 other_below : (keys : Entities) (key : List ℕ) (k : ℕ) (e : Entry) → AllByRecursion (λ y. bytes_eq key y ≡ false) (map (λ e. e.key) keys) → slice_get keys k ≡ Some e → bytes_eq key e.key ≡ false
 other_below [] key k e all h = absurd (cc)
 other_below (x ∷ xs) key zero e all h = let same : x ≡ e = cc in subst (λ (y : Entry). bytes_eq key y.key ≡ false) same all.0

@@ -1,4 +1,4 @@
--- Keys that begin with some bytes, in a list whose keys stand in order.
+-- Keys that begin with some bytes, in a list whose keys are in order.
 use Rattle.std.proofs.Common.{arith, ◌≡◌, ℕ, zero, suc, ◌+◌, ◌≤◌, ◌<◌, ◌⊎◌, inl, inr, Bool, true, false, true≢false, ◌&&◌, nat_eq, nat_lt, cond, List, [], ◌∷◌, ◌++◌, map, length, slice_get, Option, Some, None, Less, Equal, Greater, refl, sym, ap, ◌∙◌, subst, length-append}
 use Rattle.std.proofs.lemmas.Bool.{and_parts, and_from}
 use Rattle.std.proofs.lemmas.Bool.Decides.{nat_tests}

@@ -137,7 +137,7 @@ range_more table bytes byte low high from to range a b c first second = record {
 pub range_over : (table : Entities) (bytes : List ℕ) (low high : ℕ) → IsRange table bytes low high → low ≡ high → IsOver table bytes
 range_over table bytes low high range none = record { no_more = λ k e p begins. absurd (let at : (low ≤ k) × (k < high) = within low high k (sym (range.exact k e p) ∙ begins) in omega (arith, at.0, at.1)) }
 
--- the key that is what was read stands first in the range
+-- the key that is what was read is first in the range
 pub only_first : (table : Entities) (bytes : List ℕ) (low high : ℕ) → IsSortedTable table → IsRange table bytes low high → IsOnly table bytes low
 only_first table bytes low high sorted range = record {
   here = λ k e p is.

@@ -13,7 +13,7 @@ pub record IsOpen (table : Entities) (amp : Placed) (text : List Placed) : Type 
   pub text_is : piece.text ≡ amp ∷ (text ++ more)
   pub is_reference : IsReference table false rest piece
 
--- A reference, or an `&` that is text, stands at the front of this text.
+-- A reference, or an `&` that is text, is at the front of this text.
 pub record HasReference (table : Entities) (in_value : Bool) (text : List Placed) : Type 0 where
   pub piece : Piece
   pub rest : List Placed

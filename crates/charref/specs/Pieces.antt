@@ -22,7 +22,7 @@ errors_of found at after =
     ++ map (λ code. error code at) (option_to_list found.fault)
     ++ error_if (found.in_run && begins (λ c. c == 59) (past is_alphanumeric after)) UnknownNamedCharacterReference at
 
--- This reference stands at the `&` before `text` and `after`, and leaves the last `left` characters of the text to be read again.
+-- This reference is at the `&` before `text` and `after`, and leaves the last `left` characters of the text to be read again.
 pub record IsRead (table : Entities) (in_value : Bool) (text after : List Placed) (found : Reference) : Type 0 where
   pub within : found.left ≤ length text
   -- in a run, only alphanumerics were read, and all of them are read again

@@ -82,7 +82,7 @@ abbrev pub number_from : ℕ → ℕ → List Placed → ℕ
 number_from value base [] = value
 number_from value base (p ∷ ps) = number_from (value * base + digit_value p.ch) base ps
 
--- whether `#` and a digit, or `#x` and a hex digit, stand here (13.2.5.75 to 13.2.5.77)
+-- whether `#` and a digit, or `#x` and a hex digit, are here (13.2.5.75 to 13.2.5.77)
 abbrev pub begins_number : List Placed → Bool
 begins_number text = spells (codes "#") text
     && (begins is_digit (drop 1 text) || (begins (λ c. c == 120 || c == 88) (drop 1 text) && begins is_hex_digit (drop 2 text)))
@@ -147,9 +147,9 @@ numeric_piece base opening digits close =
           ++ map (λ code. error code at) (option_to_list (number_fault value));
     }
 
--- The text at `&` is this piece where `rest` follows it. All errors stand at the `&`.
+-- The text at `&` is this piece where `rest` follows it. All errors are at the `&`.
 pub data IsReference (table : Entities) (in_value : Bool) (rest : List Placed) (piece : Piece) : Type 0 where
-  -- a key: the longest one that stands here (13.2.5.73)
+  -- a key: the longest one that is here (13.2.5.73)
   named : (amp : Placed) (name : List Placed) (entry : Entry) → amp.ch ≡ 38 → begins is_alphanumeric name ≡ true
       → longest table (characters (amp ∷ name ++ rest)) ≡ Some entry → characters (amp ∷ name) ≡ entry.key
       → is_kept in_value entry.key rest ≡ false → piece ≡ named_piece (amp ∷ name) entry → IsReference table in_value rest piece

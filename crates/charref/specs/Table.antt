@@ -27,7 +27,7 @@ code_of (Some byte) = byte + 1
 abbrev pub code_at : List ℕ → ℕ → ℕ
 code_at key depth = code_of (slice_get key depth)
 
--- The entries whose keys begin with these bytes stand from `low` up to `high`.
+-- The entries whose keys begin with these bytes are from `low` up to `high`.
 pub record IsRange (table : Entities) (bytes : List ℕ) (low high : ℕ) : Type 0 where
   pub ordered : low ≤ high
   pub within : high ≤ length table

@@ -7,7 +7,7 @@ ghost use Rattle.charref.specs.Open.{IsOpen, HasReference};
 ghost use Rattle.charref.specs.declared.walk.Walk.{Walk as WalkOf};
 ghost use Rattle.charref.specs.Walk.{HasTaken};
 
-/// A law: at each `&` stands a reference, or an `&` that is text.
+/// A law: at each `&` is a reference, or an `&` that is text.
 pub fn some_reference()
     ensures { (table : Entities) (in_value : Bool) (amp : Placed) (text : List Placed) → IsTable table → amp.ch ≡ 38
         → HasReference table in_value (amp ∷ text) }

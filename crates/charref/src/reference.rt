@@ -13,7 +13,7 @@ pub enum Characters<'t> {
     One(char),
 }
 
-/// What stands at an `&`: a reference, or an `&` that is text.
+/// What is at an `&`: a reference, or an `&` that is text.
 ///
 /// Its parse errors are placed at the `&`: missing-semicolon-after-character-reference if `missing_semicolon` is set, and
 /// then `fault`. If `in_run` is set, no key matches, all characters taken are alphanumerics to be read again, and their run may

@@ -103,7 +103,7 @@ impl Search {
         self.low == self.high
     }
 
-    /// The look-up that has read one more byte, where the keys that go on with it stand from `low` up to `high`.
+    /// The look-up that has read one more byte, where the keys that go on with it are from `low` up to `high`.
     fn narrowed(&self, entities: &[Entity], low: usize, high: usize) -> Search
         requires sorted { IsSortedTable (entries entities.now) }
         requires within { (low ≤ high) × (high ≤ length entities.now) }

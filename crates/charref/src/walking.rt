@@ -72,7 +72,7 @@ impl<'t> Walk<'t> {
         }
     }
 
-    /// What stands at the `&` if the text ends after the characters taken.
+    /// What is at the `&` if the text ends after the characters taken.
     pub fn end(&self) -> Reference<'t>
         ensures read { (table : Entities) (in_value : Bool) (text : List Placed)
             → HasTaken self.now table in_value text → IsRead table in_value text [] result }

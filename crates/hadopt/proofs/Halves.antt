@@ -21,7 +21,7 @@ use Rattle.hadopt.proofs.Climbing.{OnGoes}
 use Rattle.hadopt.proofs.Lists.{Among, skip, keep, among-all, each-map, each-among, pairs-among, among-without, each-change, pairs-change}
 use Rattle.hadopt.proofs.Ways.{OnWay}
 
--- what a node with an entry, among the first ones, comes to
+-- what a node with an entry, among the first ones, becomes
 pub first-some : (at block passed : ℕ) (x : OpenNode ℕ) (e : EntryOf ℕ) (c : Climb ℕ) → passed < 3 → entry_of x.node c.site.items ≡ Some e
     → climbed_one numbers at block passed x c ≡ and_then (made at (element e.name e.attrs) c.site) (λ t. Goes (replaced block c.site.nodes.made x e (record c { site = t })))
 first-some at block passed x e c few found = rw (lt-leb 3 passed few, found) refl
@@ -60,7 +60,7 @@ abbrev without_each : List (OpenNode ℕ) → List (OpenNode ℕ) → List (Open
 without_each [] open_now = open_now
 without_each (x ∷ way) open_now = without_each way (without (is_node x.node) open_now)
 
--- what the nodes on the way come to that keep no entry
+-- what the nodes on the way become that keep no entry
 all-left : (at block passed : ℕ) (way : List (OpenNode ℕ)) (c : Climb ℕ) → 3 ≤ passed
     → climbed numbers at block passed way c ≡ Goes (record c { site = with_stack (without_each way (stack c.site)) (with_items (without_entries way c.site.items) c.site) })
 all-left at block passed [] c many = refl
@@ -75,7 +75,7 @@ each-at : (P : OpenNode ℕ → Type 0) (front : List (OpenNode ℕ)) (x : OpenN
 each-at P [] x tail e = e.0
 each-at P (y ∷ front) x tail e = each-at P front x tail e.1
 
--- a node leaves where it stands
+-- a node leaves where it is
 without-there : (front : List (OpenNode ℕ)) (x : OpenNode ℕ) (tail : List (OpenNode ℕ)) → Pairs Apart (front ++ (x ∷ tail)) → without (is_node x.node) (front ++ (x ∷ tail)) ≡ front ++ tail
 without-there [] x tail p = rw (eq-eqb x.node x.node refl) refl
 without-there (y ∷ front) x tail p = rw (each-at (Apart y) front x tail p.0) (ap (λ xs. y ∷ xs) (without-there front x tail p.1))

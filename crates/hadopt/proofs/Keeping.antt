@@ -1,4 +1,4 @@
--- What is kept, as it is told and as the proofs use it.
+-- What is kept, as it is stated and as the proofs use it.
 use Rattle.std.proofs.Common.{◌≡◌, ℕ, refl, sym, ◌∙◌}
 use Rattle.hnodes.proofs.Counted.{at-most, below-document, in-document}
 use Rattle.hnodes.proofs.Deep.{deep-is}
@@ -42,7 +42,7 @@ module _ {N : Type 0} (n : Naming N) where
   pub adopted-keeps : TellsTables n → (at : ℕ) (name : N) (s : SiteOf N) → Kept n s → OnGoes (Kept n) (adopted n at name s)
   adopted-keeps tells at name s h = goes-map (Well n) (Kept n) from-well (adopted n at name s) (adopted-well n tells at name s (to-well s h))
 
--- both kinds of names tell tables
+-- both kinds of names mean tables
 pub numbers-tell : TellsTables numbers
 numbers-tell a h = let is : a ≡ number_of Table = eqb-true a (number_of Table) h in rw is refl
 

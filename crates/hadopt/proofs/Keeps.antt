@@ -164,7 +164,7 @@ module _ (s : SiteOf ℕ) (f : ℕ) (b : OpenNode ℕ) (h : Well numbers s) (is_
   low : (x : OpenNode ℕ) → 0 < deep x.node 0 (trees s) → x.node < s.nodes.made
   low x there = (deep-there s.nodes.made (trees s) h.counted x.node 0 there).0
 
-  -- no node is inside itself, and each stands somewhere
+  -- no node is inside itself, and each is somewhere
   others : (x y : OpenNode ℕ) → 0 < deep x.node 0 (trees s) → deep y.node x.node (trees s) ≡ 0 → x.node ≢ y.node
   others x y there out same =
       let within : deep x.node x.node (trees s) ≡ 0 = subst (λ (k : ℕ). deep k x.node (trees s) ≡ 0) (sym same) out in

@@ -1,4 +1,4 @@
--- A run of characters is put as its characters are, one by one: behind the first one a text stands, so none of the others makes a node.
+-- A run of characters is put as its characters are, one by one: behind the first one there is a text, so none of the others makes a node.
 use Rattle.std.proofs.Common.{◌≡◌, ℕ, zero, suc, ◌+◌, ◌<◌, ◌≤◌, Bool, true, false, leb, cond, List, [], ◌∷◌, Option, Some, None, is_none, length, map, refl, sym, ◌∙◌, ap, subst, arith, ◌⊎◌, inl, inr, Ok, Err}
 use Rattle.std.proofs.lemmas.Bool.{le-leb, leb-true}
 use Rattle.std.proofs.lemmas.List.{nil_from_length}
@@ -34,7 +34,7 @@ module _ {N : Type 0} (place : Place) where
   abbrev joined : List Placed → SiteOf N → Outcome (SiteOf N)
   joined ps s = Goes (record s { nodes = add_chars (characters ps) place s.nodes })
 
-  -- where a text stands before the place
+  -- where a text is before the place
   each-joins : (ps : List Placed) (s : SiteOf N) (n : ℕ) → IsTextBefore place (trees s) n → put_each ps place s ≡ joined ps s
   each-joins [] s n is = refl
   each-joins (p ∷ ps) s n is =

@@ -109,7 +109,7 @@ module _ {N : Type 0} (n : Naming N) where
   abbrev pub StandsAt : ℕ → SiteOf N → Type 0
   StandsAt x s = (0 < deep x 0 (trees s)) × (0 < x)
 
-  -- the last node at its place: all stand in the document's tree again
+  -- the last node at its place: all are in the document's tree again
   module _ (block : ℕ) (rest : List (OpenNode N)) (c : Climb N) (h : Climbing n block rest c) (place : Place) (fits : Fits rest c place) where
     abbrev placed : SiteOf N
     placed = with_trees (graft c.last place (trees c.site)) c.site

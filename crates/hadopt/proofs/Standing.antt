@@ -1,4 +1,4 @@
--- The places that the rules name stand in the document's tree.
+-- The places that the rules name are in the document's tree.
 use Rattle.std.proofs.Common.{[]}
 use Rattle.hnodes.specs.Forest.{comment}
 use Rattle.hnodes.specs.declared.node.Place.TheVariants.{LastIn}

@@ -1,4 +1,4 @@
--- What every operation asks and keeps: the open nodes stand in the document's tree, each one outside of those below it.
+-- What every operation asks and keeps: the open nodes are in the document's tree, each one outside of those below it.
 use Rattle.std.specs.Prelude.{◌≡◌, ℕ, true, false, List, [], ◌∷◌}
 use Rattle.hnodes.specs.Edits.{AreCounted}
 use Rattle.hnodes.specs.Forest.{Forest, times, tree_at, children_of, IsOutside}
@@ -16,22 +16,22 @@ module _ {X : Type 0} where
   Each P [] = Unit {0}
   Each P (x ∷ xs) = P x × Each P xs
 
-  -- each member with each that stands after it
+  -- each member with each that is after it
   abbrev pub Pairs : (X → X → Type 0) → List X → Type 0
   Pairs R [] = Unit {0}
   Pairs R (x ∷ xs) = Each (R x) xs × Pairs R xs
 
 module _ {N : Type 0} where
-  -- a node stands below the document, once
+  -- a node is below the document, once
   abbrev pub StandsIn : ℕ → Forest N → Type 0
   StandsIn x f = times x (children_of 0 f) ≡ 1
 
-  -- a place stands in the document's tree
+  -- a place is in the document's tree
   abbrev pub PlaceStands : Place → Forest N → Type 0
   PlaceStands (LastIn p) f = times p (tree_at 0 f) ≡ 1
   PlaceStands (Before s) f = StandsIn s f
 
-  -- open nodes, the current one first: each stands in the document's tree, and none is inside one that is below it
+  -- open nodes, the current one first: each is in the document's tree, and none is inside one that is below it
   pub record OpenStands (f : Forest N) (open_now : List (OpenNode N)) : Type 0 where
     pub stand : Each (λ x. StandsIn x.node f) open_now
     pub order : Pairs (λ x up. IsOutside up.node x.node f) open_now

@@ -218,7 +218,7 @@ impl Site {
     }
 
     /// The last node goes to the appropriate place in the common ancestor. A new element takes all children of the furthest block
-    /// and is appended to it; it stands at the bookmark, and on the stack right below the block, in place of the formatting element.
+    /// and is appended to it; it is at the bookmark, and on the stack right below the block, in place of the formatting element.
     fn settle(
         &mut self,
         formatting: Entry,

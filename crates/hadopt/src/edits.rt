@@ -40,7 +40,7 @@ impl Site {
         self.tree.create_element(name, attrs, at)
     }
 
-    /// Moves a node from where it stands to a place.
+    /// Moves a node from where it is to a place.
     pub(crate) fn graft(&mut self, child: NodeId, place: Place)
         requires child_in { child < self.old.nodes.made }
         requires place { IsPlace place self.old.nodes }

@@ -76,7 +76,7 @@ module _ (last : List ℕ) (links : List Link) where
         kept = λ i h some. c.kept i (omega arith) some;
       }
 
--- .. and of its first links
+-- and of its first links
 module _ (last : List ℕ) (links : List Link) (k : ℕ) (within : k ≤ length links) where
   front-len : length (take k links) ≡ k
   front-len = length-take-le k links within
@@ -173,7 +173,7 @@ module _ (last : List ℕ) (links : List Link) (k n : ℕ) (at : get_or (numbers
               ];
         }
 
--- .. and so does a link
+-- and so does a link
 module _ (last : List ℕ) (links : List Link) (k next : ℕ) (x : Link) (is_next : next ≡ suc k) (within : k < length links) (is : get_or links k x ≡ x) where
   number-is : get_or (numbers_of links) k 0 ≡ x.number
   number-is = get_or-map number_of links k x 0 within ∙ ap number_of is

@@ -1,4 +1,4 @@
--- A number is taken out of a list that keeps where its groups stand, or comes in where nothing is.
+-- A number is taken out of a list that keeps where its groups are, or comes in where nothing is.
 use Rattle.std.proofs.Common.{◌≡◌, ◌≢◌, ℕ, suc, ◌<◌, ◌≤◌, ◌%◌, Bool, List, length, get_or, set, refl, sym, ◌∙◌, ap, subst, add-one, arith}
 use Rattle.std.proofs.lemmas.List.{get_or-set_same, get_or-set_other, length-set}
 use Rattle.hchain.specs.Chains.{none, last_up}

@@ -1,4 +1,4 @@
--- Groups of numbers, and where one stands last among the first links.
+-- Groups of numbers, and where one is last among the first links.
 use Rattle.std.proofs.Common.{◌≡◌, ◌≢◌, ℕ, ◌%◌, true, false, not, eqb, List, get_or}
 use Rattle.std.proofs.lemmas.Bool.{eqb-true, eqb-false, eq-eqb, ne_eqb, and_parts, and_from, and_left, and_right, not_from_false, not_from_true, not-true}
 use Rattle.hchain.specs.Chains.{none, last_up}
@@ -8,7 +8,7 @@ use Rattle.hchain.specs.declared.chains.Link.{Link}
 abbrev pub nearest : List Link → (width group : ℕ) → ℕ → ℕ
 nearest links width group k = last_up (is_in width group) (numbers_of links) k
 
--- .. and where the group of the number at an index stands last before it
+-- and where the group of the number at an index is last before it
 abbrev pub own_nearest : List Link → (width : ℕ) → ℕ → ℕ
 own_nearest links width i = nearest links width (get_or (numbers_of links) i 0 % width) i
 

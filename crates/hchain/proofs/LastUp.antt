@@ -1,4 +1,4 @@
--- Where a number that is sought stands last among the first of a list.
+-- Where a number that is sought is last among the first of a list.
 use Rattle.std.proofs.Common.{◌≡◌, ℕ, zero, suc, ◌-◌, ◌<◌, ◌≤◌, Bool, true, false, cond, List, get_or, ◌⊎◌, inl, inr, refl, sym, ◌∙◌, ap, arith}
 use Rattle.std.proofs.lemmas.Bool.{cases_Bool, cases_lt, false≢true}
 use Rattle.hchain.specs.Chains.{last_up}
@@ -56,7 +56,7 @@ module _ (s : ℕ → Bool) (xs ys : List ℕ) where
   up-alike zero same = refl
   up-alike (suc k) same = λ t. cond (same k (omega arith) t) (suc k) (up-alike k (λ j h. same j (omega arith)) t)
 
-  -- .. from a number on that is sought in both
+  -- from a number on that is sought in both
   pub up-alike-from : (e k : ℕ) → e < k → s (get_or xs e 0) ≡ true → s (get_or ys e 0) ≡ true → ((j : ℕ) → e < j → j < k → s (get_or ys j 0) ≡ s (get_or xs j 0)) → last_up s ys k ≡ last_up s xs k
   up-alike-from e zero h a b same = absurd (omega arith)
   up-alike-from e (suc k) h a b same = go (λ less. up-alike-from e k less a b (λ j f g. same j f (omega arith))) (cases_lt e k)

@@ -1,4 +1,4 @@
--- A list of numbers that keeps where its groups stand, where one number changes.
+-- A list of numbers that keeps where its groups are, where one number changes.
 use Rattle.std.proofs.Common.{◌≡◌, ◌≢◌, ℕ, zero, suc, ◌+◌, ◌-◌, ◌<◌, ◌≤◌, ◌%◌, eqb, Bool, true, false, cond, not, ◌&&◌, List, length, get_or, set, ◌⊎◌, inl, inr, refl, sym, ◌∙◌, ap, subst, add-one, arith}
 use Rattle.std.proofs.lemmas.Bool.{cases_Bool, cases_lt, false≢true, eqb-true, eqb-false, eq-eqb, false_from_ne_true}
 use Rattle.std.proofs.lemmas.List.{get_or-set_same, get_or-set_other, length-map, length-set, map-set}
@@ -83,7 +83,7 @@ module _ (s : ℕ → Bool) (xs : List ℕ) (i at next : ℕ) (k : Walk s xs i a
       let here : 0 < last_up s xs (until (length xs) next) = omega (arith, k.is) in
       ap (λ m. s (get_or xs (m - 1) 0)) k.is ∙ up-found s xs (until (length xs) next) here
 
-  -- it has come to an index
+  -- it has reached an index
   pub walk-before : at ≤ suc i → at ≡ last_up s xs (suc i)
   walk-before h = k.is ∙ up-past s xs (suc i) (until (length xs) next) until-past.0 (λ j a b. false_from_ne_true _ (passed j a b))
     where
@@ -294,7 +294,7 @@ pub fit : (w : ℕ) (ys : List ℕ) (i : ℕ) (x : Link) (len : ℕ) → len ≡
     → Fit w ys i x
 fit w ys i x len e b f l = record { before = b; next = is-next (is_in w (x.number % w)) ys i x.hint len e f l }
 
--- .. in a list that is the same past an index
+-- in a list that is the same past an index
 pub next-same : (s : ℕ → Bool) (xs ys : List ℕ) (i n : ℕ) → length ys ≡ length xs → ((j : ℕ) → i < j → get_or ys j 0 ≡ get_or xs j 0) → IsNext s xs i n → IsNext s ys i n
 next-same s xs ys i n len same m = record {
   found = λ h. ((m.found h).0, omega (arith, (m.found h).1), ap s (same (n - 1) (omega (arith, (m.found h).0))) ∙ (m.found h).2);

@@ -8,7 +8,7 @@ use Rattle.hchain.specs.declared.chains.Link.{Link}
 use Rattle.hchain.proofs.LastUp.{up-sought, up-other, up-alike}
 use Rattle.hchain.proofs.Relinked.{IsNext, Fit, next-same, group-in, not-in}
 
--- .. for the index before, or for the next one, where nothing of its group stands between
+-- for the index before, or for the next one, where nothing of its group is between
 module _ (s : ℕ → Bool) (ys : List ℕ) (i n : ℕ) (other : s (get_or ys (i + 1) 0) ≡ false) where
   not-here : (j : ℕ) → j ≡ i + 1 → s (get_or ys j 0) ≢ true
   not-here j e t = false≢true (sym other ∙ (sym (ap (λ m. s (get_or ys m 0)) e) ∙ t))
@@ -81,7 +81,7 @@ module _ (w i : ℕ) (xs ys1 ys2 : List ℕ) (first second : Link) (p : Pair w i
   pub fit-lower : (v : ℕ) → v ≡ w → Fit v ys2 i second
   fit-lower v width = fit-width w v ys2 i second width (fit-down w ys2 i second free-upper2 p.f2)
 
-  -- .. and, where the upper one came in below, that of the upper one
+  -- and, where the upper one came in below, that of the upper one
   module _ (ys3 : List ℕ) (e3 : ys3 ≡ set ys2 i second.number) where
     len3 : length ys3 ≡ length xs
     len3 = ap length e3 ∙ length-set ys2 i second.number ∙ len2

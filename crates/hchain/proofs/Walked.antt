@@ -1,4 +1,4 @@
--- The walk down a group to where a number stands.
+-- The walk down a group to where a number is.
 use Rattle.std.proofs.Common.{◌≡◌, ◌≢◌, ℕ, zero, suc, ◌<◌, ◌≤◌, ◌-◌, ◌%◌, Bool, true, false, eqb, List, length, get_or, refl, sym, ◌∙◌, ap, subst, arith}
 use Rattle.std.proofs.lemmas.Bool.{eqb-true, ne_eqb, cond_both, both_ways, false_from_ne_true}
 use Rattle.std.proofs.lemmas.List.{get_or-map, get_or_default, length-map}
@@ -8,7 +8,7 @@ use Rattle.hchain.specs.declared.chains.Link.{Link}
 use Rattle.hchain.proofs.Groups.{nearest, in-group, group-of}
 use Rattle.hchain.proofs.LastUp.{up-other, up-within, up-found}
 
--- where a number stands last among the first links
+-- where a number is last among the first links
 abbrev pub sought_up : List Link → ℕ → ℕ → ℕ
 sought_up links number k = last_up (λ n. eqb n number) (numbers_of links) k
 
@@ -31,7 +31,7 @@ own-group width number some n e =
 from-group : (links : List Link) (width number k : ℕ) → number ≢ none → sought_up links number k ≡ sought_up links number (nearest links width (number % width) k)
 from-group links width number k some = up-down (is_in width (number % width)) (λ n. eqb n number) (numbers_of links) (own-group width number some) k
 
--- at the place, if it is one, a number of the sought one's group stands
+-- at the place, if it is one, a number of the sought one's group is
 pub record Walks (links : List Link) (number place : ℕ) : Type 0 where
   pub width : ℕ
   pub kept : Keep width (numbers_of links) (befores_of links)

@@ -1,5 +1,5 @@
 -- What is kept of a list of numbers: the numbers that leave the same remainder are a group, and each keeps the nearest place before it
--- where one of its group stands.
+-- where one of its group is.
 use Rattle.std.specs.Prelude.{◌≡◌, ◌≢◌, ℕ, ◌+◌, ◌-◌, ◌<◌, ◌≤◌, ◌^◌, ◌%◌, ◌==◌, ◌&&◌, Bool, IsTrue, not, List, length, map, slice_index}
 use Rattle.hchain.specs.Chains.{none, last_up}
 use Rattle.hchain.specs.declared.chains.Link.{Link}
@@ -24,22 +24,22 @@ is_in width group n = not (n == none) && n % width == group
 abbrev pub group_of : (width number : ℕ) → ℕ → Bool
 group_of width number = is_in width (number % width)
 
--- a place, if it is one, comes after an index, among this many numbers, and what is sought stands there
+-- a place, if it is one, comes after an index, among this many numbers, and what is sought is there
 abbrev pub StandsAfter : (ℕ → Bool) → (count : ℕ) → (numbers : List ℕ) → (index place : ℕ) → Type 0
 StandsAfter sought count numbers index place =
     0 < place → (index + 1 < place) × (place ≤ count) × IsTrue (sought (slice_index numbers (place - 1)))
 
--- what is sought stands nowhere after an index and before a place; nor after the index at all where the place is 0
+-- what is sought is nowhere after an index and before a place; nor after the index at all where the place is 0
 abbrev pub NoneBetween : (ℕ → Bool) → (count : ℕ) → (numbers : List ℕ) → (index place : ℕ) → Type 0
 NoneBetween sought count numbers index place =
     (j : ℕ) → index < j → j < count → IsTrue (sought (slice_index numbers j)) → (0 < place) × (place ≤ j + 1)
 
--- each number keeps the nearest place before it where one of its group stands
+-- each number keeps the nearest place before it where one of its group is
 abbrev pub Keep : (width : ℕ) → (numbers befores : List ℕ) → Type 0
 Keep width numbers befores =
     (i : ℕ) → i < length numbers → slice_index numbers i ≢ none → slice_index befores i ≡ last_up (is_in width (slice_index numbers i % width)) numbers i
 
--- a table says where each group stands last
+-- a table says where each group is last
 abbrev pub Says : (last numbers : List ℕ) → Type 0
 Says last numbers = (g : ℕ) → g < length last → slice_index last g ≡ last_up (is_in (length last) g) numbers (length numbers)
 

@@ -7,10 +7,10 @@ ghost use Rattle.hchain.specs.Linked.{IsChained, Keep, befores_of, is_in, number
 use std::alloc::{AllocError, Global};
 use std::marker::Model;
 
-/// The number that stands where nothing is: no question finds it.
+/// The number that is where nothing is: no question finds it.
 pub const NONE: usize = 1;
 
-/// A number, and the nearest place before it where a number of its group stands. Places count from 1; 0 is none.
+/// A number, and the nearest place before it where a number of its group is. Places count from 1; 0 is none.
 #[derive(Clone, Copy, Debug)]
 pub(crate) struct Link {
     pub(crate) number: u64,
@@ -45,7 +45,7 @@ impl Model for Chains {
     ghost invariant = { λ c. AreChains c.last.items c.links.items };
 }
 
-/// Walks down a group from one of its places to where a number of the group stands; 0 if it stands nowhere on the way.
+/// Walks down a group from one of its places to where a number of the group is; 0 if it is nowhere on the way.
 fn find_down(links: &[Link], from: usize, number: usize) -> usize
     requires within { from ≤ length links.now }
     requires group { (width : ℕ) × Keep width (numbers_of links.now) (befores_of links.now)
@@ -80,7 +80,7 @@ fn unwind(last: &mut [u32], links: &[Link], from: usize)
     }
 }
 
-/// Says at a place, if it is one, where the next number of its group stands.
+/// Says at a place, if it is one, where the next number of its group is.
 pub(crate) fn hint_at(links: &mut [Link], place: u32, next: u32)
     requires { place ≤ length links.old }
     ensures numbers { numbers_of links.new ≡ numbers_of links.old }
@@ -188,7 +188,7 @@ impl Chains {
         find_down(&self.links, place as usize, number)
     }
 
-    /// The nearest place before another place where the same number stands.
+    /// The nearest place before another place where the same number is.
     pub fn before(&self, place: usize) -> usize
         requires some { 0 < place }
         requires within { place ≤ length self.now }

@@ -1,4 +1,4 @@
-//! Lists of numbers that know where each number stands last.
+//! Lists of numbers that know where each number is last.
 #![tactic(auto)]
 
 pub mod chains;

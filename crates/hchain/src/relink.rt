@@ -6,7 +6,7 @@ ghost use Rattle.hchain.specs.Linked.{IsChained, NoneBetween, StandsAfter, befor
 
 use crate::chains::{Chains, Link, NONE, hint_at};
 
-/// What a number at an index keeps: the nearest place before it where its group stands, and the next one as a hint; 0 is none.
+/// What a number at an index keeps: the nearest place before it where its group is, and the next one as a hint; 0 is none.
 ///
 /// It walks down the group from its last place.
 fn link_at(last: &[u32], links: &[Link], index: usize, number: u64) -> Link
@@ -121,7 +121,7 @@ fn put_in(last: &mut [u32], links: &mut [Link], index: usize, link: Link)
     hint_at(links, link.before, place);
 }
 
-/// Takes out what stands at an index.
+/// Takes out what is at an index.
 fn clear_at(last: &mut [u32], links: &mut [Link], index: usize)
     requires chained { IsChained last.old links.old }
     requires fits { length links.old < 2 ^ 32 }
@@ -203,7 +203,7 @@ fn exchange(last: &mut [u32], links: &mut [Link], index: usize)
     }
 }
 
-/// Exchanges what stands at an index and at the next one.
+/// Exchanges what is at an index and at the next one.
 fn swap_at(last: &mut [u32], links: &mut [Link], index: usize)
     requires chained { IsChained last.old links.old }
     requires fits { length links.old < 2 ^ 32 }

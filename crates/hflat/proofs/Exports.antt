@@ -1,4 +1,4 @@
--- What a call gives, from what was told and what came of the input.
+-- What a call gives, from what was given and what came of the input.
 use Rattle.std.proofs.Common.{◌≡◌, ℕ, List, Option, Ok, Err, refl, subst}
 use Rattle.names.specs.declared.refusal.Refusal.{Refusal}
 use Rattle.hparse.specs.Parse.{ParseOptions}

@@ -1,4 +1,4 @@
--- What a run comes to whose reads do not fail, and whose writer keeps in memory what it takes.
+-- What a run does whose reads do not fail, and whose writer keeps in memory what it takes.
 use Rattle.std.proofs.Common.{◌≡◌, ℕ, List, [], ◌++◌, Option, Some, Result, Ok, Err, sym, subst, ap, ◌∙◌, refl}
 use Rattle.std.proofs.lemmas.List.{append-nil}
 use Rattle.names.specs.declared.refusal.Refusal.{Refusal}

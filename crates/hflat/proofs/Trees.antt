@@ -1,4 +1,4 @@
--- What a reading comes to whose reads do not fail, and the rows of what it gives.
+-- What a reading does whose reads do not fail, and the rows of what it gives.
 use Rattle.std.proofs.Common.{◌≡◌, ℕ, List, [], ◌∷◌, ◌++◌, Option, Some, None, Result, Ok, Err, inl, inr, sym, subst, ap, ap₂, ◌∙◌, refl}
 use Rattle.std.proofs.lemmas.List.{append-nil}
 use Rattle.std.specs.Prelude.{IsErrAnd, ◌⊎◌}

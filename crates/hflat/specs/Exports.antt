@@ -17,7 +17,7 @@ use Rattle.hflat.specs.declared.answer.NodeRow.{NodeRow}
 use Rattle.hflat.specs.declared.fault.CallFault.{CallFault}
 use Rattle.hflat.specs.declared.fault.CallFault.TheVariants as fault
 
--- Why nothing comes of bytes: memory ran out, they are refused, or may not stand in this element.
+-- Why nothing comes of bytes: memory ran out, they are refused, or may not be in this element.
 pub data ComesToNone {A : Type 0} (answers : List ℕ → Result A Refusal → Type 0) (context : Option (List ℕ)) (bytes : List ℕ) (refusal : Refusal) : Type 0 where
   none_for_memory : refusal ≡ Memory → ComesToNone answers context bytes refusal
   none_in_context : (AllowsContext context → ⊥) → refusal ≡ BadContext → ComesToNone answers context bytes refusal
@@ -27,7 +27,7 @@ pub data ComesToNone {A : Type 0} (answers : List ℕ → Result A Refusal → T
 abbrev pub prints : Task → Escaping → Given → ParseOptions → List ℕ → Result (List ℕ) Refusal → Type 0
 prints task how given opts = prints_of how task (context_told given.context.now) opts
 
--- What is told is accepted, and this is the text of the task.
+-- What is given is accepted, and this is the text of the task.
 pub record GivesText (number : ℕ) (input : List ℕ) (given : Given) (text : List ℕ) : Type 0 where
   pub task : Task
   pub how : Escaping
@@ -54,7 +54,7 @@ pub data AnswersText (number : ℕ) (input : List ℕ) (given : Given) (old new 
 abbrev pub case_given : Given → ParseCase
 case_given given = case_in (context_told given.context.now)
 
--- What is told is accepted, and these are the rows and the words of the tree: of the nodes in the document, or in a fragment's root.
+-- What is given is accepted, and these are the rows and the words of the tree: of the nodes in the document, or in a fragment's root.
 pub record GivesRows (input : List ℕ) (given : Given) (rows : List NodeRow) (words : List ℕ) : Type 0 where
   pub opts : ParseOptions
   pub tells : Tells given opts

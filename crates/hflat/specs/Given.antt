@@ -34,7 +34,7 @@ escaping_told number = if number == 1 then Some One else (if number == 2 then So
 abbrev pub bad_told : ℕ → Option BadBytes
 bad_told number = if number == 0 then Some bad.Refuse else (if number == 1 then Some bad.Replace else None)
 
--- the element in which the input stands: none where its name is empty
+-- the element in which the input is: none where its name is empty
 abbrev pub context_told : List ℕ → Option (List ℕ)
 context_told [] = None
 context_told (b ∷ bs) = Some (b ∷ bs)
@@ -51,7 +51,7 @@ IsPiece piece = (0 < piece) × (piece ≤ 65536)
 abbrev pub bounds_told : Given → Bounds
 bounds_told given = record { input = MAX_INPUT; tree = record { nodes = given.nodes; depth = given.open } }
 
--- What is told, where all of it is accepted.
+-- What is given, where all of it is accepted.
 pub record Tells (given : Given) (opts : ParseOptions) : Type 0 where
   pub table : table_told given.entities.now ≡ Ok opts.table
   pub quirks : ReadsQuirks given.quirks.now (Ok opts.quirks)
@@ -60,7 +60,7 @@ pub record Tells (given : Given) (opts : ParseOptions) : Type 0 where
   pub limits : opts.limits ≡ (bounds_told given).tree
   pub in_range : AreLimits (bounds_told given)
 
--- Something that is told is not accepted, for this reason.
+-- Something that is given is not accepted, for this reason.
 pub data Unmet (given : Given) (why : CallFault) : Type 0 where
   no_escaping : escaping_told given.escaping ≡ None → why ≡ fault.BadNumber → Unmet given why
   no_bad_bytes : bad_told given.bad_bytes ≡ None → why ≡ fault.BadNumber → Unmet given why
@@ -72,15 +72,15 @@ pub data Unmet (given : Given) (why : CallFault) : Type 0 where
   quirks_refused : (refusal : Refusal) → ReadsQuirks given.quirks.now (Err refusal) → why ≡ fault.Refused refusal → Unmet given why
   limits_refused : (AreLimits (bounds_told given) → ⊥) → why ≡ fault.Refused BadLimits → Unmet given why
 
--- These are the lists that are told.
+-- These are the lists that are given.
 abbrev pub HasLists : Given → Lists → Type 0
 HasLists given lists = (table_told given.entities.now ≡ Ok lists.table) × ReadsQuirks given.quirks.now (Ok lists.quirks)
 
--- These are the limits that are told.
+-- These are the limits that are given.
 abbrev pub HasLimits : Given → Bounds → Type 0
 HasLimits given limits = AreLimits (bounds_told given) × (limits ≡ bounds_told given)
 
--- A command is what is told, with the task of this number.
+-- A command is what is given, with the task of this number.
 pub record IsCommand (number : ℕ) (given : Given) (command : Command) : Type 0 where
   pub task : task_told number ≡ Some command.task
   pub escaping : escaping_told given.escaping ≡ Some command.escaping

@@ -47,7 +47,7 @@ abbrev pub link_to : Option ℕ → ℕ
 link_to None = 4294967295
 link_to (Some n) = n
 
--- the row of a node where it stands
+-- the row of a node where it is
 abbrev pub row_at : {N : Type 0} → ℕ → Forest N → NodeRow
 row_at n f = record {
   number = n;

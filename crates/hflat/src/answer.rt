@@ -5,7 +5,7 @@
 #[repr(C)]
 #[derive(Clone, Copy)]
 pub struct Given<'a> {
-    /// The name of the element in which a fragment stands.
+    /// The name of the element in which a fragment is.
     pub context: &'a [u8],
     /// The table of character references, as JSON.
     pub entities: &'a [u8],

@@ -13,7 +13,7 @@ pub enum CallFault {
     Refused(Refusal),
     /// The name of the context or a list is not UTF-8.
     NotText,
-    /// A number that is told has no meaning.
+    /// A number that is given has no meaning.
     BadNumber,
 }
 

@@ -57,7 +57,7 @@ fn bad_bytes_of(number: u32) -> Option<BadBytes>
     }
 }
 
-/// The lists that are told.
+/// The lists that are given.
 #[derive(Drop)]
 pub(crate) struct Lists {
     pub(crate) table: Table,
@@ -86,7 +86,7 @@ impl<'a> Given<'a> {
         }
     }
 
-    /// The name of the element in which the input stands, if it is a fragment.
+    /// The name of the element in which the input is, if it is a fragment.
     pub(crate) fn context(&self) -> Result<Option<&'a str>, CallFault>
         ensures { MatchResult result (λ name. name_of name ≡ context_told self.now.context.now) (Unmet self.now) }
     {
@@ -122,7 +122,7 @@ impl<'a> Given<'a> {
         }
     }
 
-    /// The command that is told, with the task of this number.
+    /// The command that is given, with the task of this number.
     pub(crate) fn command(&self, number: u32) -> Result<Command<'a>, CallFault>
         ensures says { MatchResult result (IsCommand number self.now) (NoCommand number self.now) }
         ensures piece { IfOk result (λ command. 0 < command.piece) }
@@ -138,7 +138,7 @@ impl<'a> Given<'a> {
         })
     }
 
-    /// The lists that are told.
+    /// The lists that are given.
     pub(crate) fn lists(&self, alloc: Global) -> Result<Lists, CallFault>
         ensures { MatchResult result (HasLists self.now) (Unmet self.now) }
     {

@@ -15,7 +15,7 @@ use hnodes::{DocumentType, NodeKind, NodeId, Tree};
 use names::{Attr, NameId, Names};
 use std::alloc::{AllocError, Global};
 
-/// What ends a word, and what ends the words of a node. Neither stands in a UTF-8 text.
+/// What ends a word, and what ends the words of a node. Neither is in a UTF-8 text.
 const WORD_END: u8 = 0xFF;
 
 const NODE_END: u8 = 0xFE;

@@ -31,7 +31,7 @@ module _ {X : Type 0} (sought : X → Bool) where
     any-skip (x ∷ xs) zero h other = ap (λ v. v || false) (sym (not-sought x other))
     any-skip (x ∷ xs) (suc p) h other = ap (λ v. sought x || v) (any-skip xs p (omega arith) other)
 
-    -- where the number stands last among this many members
+    -- where the number is last among this many members
     pub record Last (xs : List X) (p q : ℕ) : Type 0 where
       pub within : q ≤ p
       pub there : 0 < q → get_or (map number xs) (q - 1) 0 ≡ n

@@ -1,4 +1,4 @@
--- Vectors of items with holes, and where the entry of a node stands in them.
+-- Vectors of items with holes, and where the entry of a node is in them.
 use Rattle.std.proofs.Common.{◌≡◌, ℕ, zero, suc, ◌+◌, ◌-◌, ◌<◌, ◌≤◌, eqb, Bool, true, false, cond, not, ◌||◌, ◌⊎◌, List, [], ◌∷◌, ◌++◌, Option, Some, None, is_some, length, map, filter, take, take-suc, drop, get_or, refl, sym, ◌∙◌, ap, subst, inl, inr, arith}
 use Rattle.std.specs.List.{All, position, position_or_len, list_any, slice_get, find}
 use Rattle.std.specs.Option.{option_and_then, option_map, option_map_or}
@@ -32,7 +32,7 @@ gone-is stored.Hole s = refl
 gone-is stored.Marker s = refl
 gone-is (stored.Entry e) s = apart e.name nowhere s.1
 
--- what is told of an item that is no hole
+-- what is known of an item that is no hole
 pub told-is : (x : Stored) → is_gone x ≡ false → told x ≡ as_entry (item_of x)
 told-is stored.Hole there = cc
 told-is stored.Marker there = refl
@@ -105,7 +105,7 @@ length-live (x ∷ items) all = ap length (live-parts (x ∷ []) items) ∙ leng
     go true is rest = rw (gone-is x (all 0 x (omega arith)), is) (omega (arith, rest))
     go false is rest = rw (gone-is x (all 0 x (omega arith)), is) (omega (arith, rest))
 
--- what stands at the last place of a number is no hole
+-- what is at the last place of a number is no hole
 module _ (of : EntryOf ℕ → ℕ) (items : List Stored) (n p : ℕ) (x : Stored) (some : 0 < p) (at : place (unless_hole of) (suc (suc n)) (items_of items) ≡ p) (is : x ≡ get_or items (p - 1) x) where
   place-within : p ≤ length items
   place-within = omega (arith, place-le (unless_hole of) (suc (suc n)) (items_of items), length-items_of items)
@@ -139,7 +139,7 @@ module _ (of : EntryOf ℕ → ℕ) (items : List Stored) (n p : ℕ) (x : Store
           absurd (omega arith)
       go (stored.Entry e) same number = ap (λ z. is_some (told z)) (sym same)
 
--- where the last entry of a node stands
+-- where the last entry of a node is
 abbrev pub node_place : ℕ → List (Listed ℕ) → ℕ
 node_place node items = place by_node (suc (suc node)) items
 
@@ -263,7 +263,7 @@ changed-marker up node [] is = refl
 changed-marker zero node (i ∷ items) is = ap (λ (j : Listed ℕ). for_node node j ∷ items) (let same : i ≡ marker = cc in same) ∙ ap (λ (j : Listed ℕ). j ∷ items) (let same : marker ≡ i = cc in same)
 changed-marker (suc up) node (i ∷ items) is = ap (λ xs. i ∷ xs) (changed-marker up node items is)
 
--- what is told of no entry, and is no hole, is a marker
+-- what belongs to no entry, and is no hole, is a marker
 pub marker-is : (x : Stored) → is_gone x ≡ false → is_some (told x) ≡ false → item_of x ≡ marker
 marker-is stored.Hole there none = cc
 marker-is stored.Marker there none = refl

@@ -1,5 +1,5 @@
--- Exchanges of neighbours in a list and what a run of them comes to; an entry that becomes that of another node, and where an entry
--- stands among the others.
+-- Exchanges of neighbours in a list and what a run of them does; an entry that becomes that of another node, and where an entry
+-- is among the others.
 use Rattle.std.proofs.Common.{◌≡◌, ◌≢◌, ℕ, zero, suc, ◌+◌, ◌-◌, ◌<◌, ◌≤◌, ◌==◌, ◌⊎◌, inl, inr, Bool, true, false, IsTrue, cond, eqb, List, [], ◌∷◌, ◌++◌, Option, Some, is_some, length, get_or, set, take, drop, map, reverse, refl, sym, ◌∙◌, ap, arith, subst}
 use Rattle.std.specs.Prelude.{max}
 use Rattle.std.specs.List.{All, insert, list_any, position, remove}
@@ -169,7 +169,7 @@ listed-renewed node i old new listed keys h some low names hashes nodes solid it
       solid = subst (λ n. NoHoleFrom n new.items.items) (sym solid) (subst (NoHoleFrom old.solid) (sym items) (renewed-solid node xs i h some old.solid listed.solid));
     }
 
--- what stands in one list and in that list without a member that is not sought
+-- what is in one list and in that list without a member that is not sought
 module _ {X : Type 0} (sought : X → Bool) where
   abbrev Around : (with' without' low : ℕ) → Type 0
   Around with' without' low = ((with' ≡ without') × (without' ≤ low)) ⊎ ((with' ≡ suc without') × (low < without'))
@@ -188,7 +188,7 @@ module _ {X : Type 0} (sought : X → Bool) where
       ap reverse (set_split xs i d h) ∙ reverse-append (take i xs) (d ∷ drop (suc i) xs) ∙ ap (λ l. l ++ reverse (take i xs)) (reverse-append (d ∷ []) (drop (suc i) xs))
       ∙ append_assoc (reverse (drop (suc i) xs)) (d ∷ []) (reverse (take i xs))
 
-  -- the place without the member at an index, from that in a list where one that is not sought stands there
+  -- the place without the member at an index, from that in a list where one that is not sought is there
   pub record IsPlaceWithout (xs : List X) (i place : ℕ) : Type 0 where
     pub below : place ≤ i → place ≡ last_place sought (reverse (remove xs i))
     pub above : i < place → place - 1 ≡ last_place sought (reverse (remove xs i))

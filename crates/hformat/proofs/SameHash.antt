@@ -169,7 +169,7 @@ module _ (new e : EntryOf ℕ) (equal : is_equal nat_eq new e ≡ true) where
       let other : e.name ≢ nowhere = omega (arith, same-name) in
       rw (ne_eqb e.name nowhere other) (ap (λ n. suc (suc n)) (sym (same-entry_hash keys)))
 
--- an item that is told to be equal is seen as such an entry
+-- an item that is found equal is seen as such an entry
 pub told-equal : (new : EntryOf ℕ) → new.name < nowhere → (x : Stored) → option_map_or (is_equal nat_eq new) (told x) false ≡ option_map_or (is_equal nat_eq new) (as_entry (item_of x)) false
 told-equal new named stored.Hole = let other : new.name ≢ nowhere = omega arith in rw (ne_eqb new.name nowhere other) refl
 told-equal new named stored.Marker = refl

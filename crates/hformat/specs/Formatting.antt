@@ -1,5 +1,5 @@
 -- The list of active formatting elements (13.2.4.3) as a list of markers and entries, the last one first: what comes after an entry
--- in the Standard's order stands before it. Names are of any kind: texts in the rules of HTML, and numbers in the code.
+-- in the Standard's order is before it. Names are of any kind: texts in the rules of HTML, and numbers in the code.
 use Rattle.std.specs.Prelude.{ℕ, Bool, true, false, not, ◌&&◌, ◌==◌, nat_le, List, [], ◌∷◌, Option, Some, None, option_and_then, slice_get, length, filter, find, if◌then◌else◌, bytes_eq}
 use Rattle.std.specs.List.{list_any, list_all}
 use Rattle.std.specs.Option.{option_map_or}
@@ -69,8 +69,8 @@ module _ {N : Type 0} where
   abbrev pub with_node : (old new : ℕ) → List (Listed N) → List (Listed N)
   with_node old new items = changed (is_entry old) (for_node new) items
 
-  -- The end of a turn of the adoption agency (13.2.6.4.7): the entry of a node becomes that of another one, and stands at the
-  -- bookmark, which is where it stood, or right after the entry of a node.
+  -- The end of a turn of the adoption agency (13.2.6.4.7): the entry of a node becomes that of another one, and is at the
+  -- bookmark, which is where it was, or right after the entry of a node.
   abbrev pub booked : (old new : ℕ) → Bookmark → List (Listed N) → List (Listed N)
   booked old new InPlace items = with_node old new items
   booked old new (After n) items =

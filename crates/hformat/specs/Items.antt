@@ -13,7 +13,7 @@ entry_is e = record { node = e.node; name = e.name; attrs = map attribute_of e.a
 abbrev pub nowhere : ℕ
 nowhere = 4294967296
 
--- what stands where an entry was: it is found by no question
+-- what is where an entry was: it is found by no question
 abbrev pub hole : Listed ℕ
 hole = entry (record { node = nowhere; name = nowhere; attrs = [] })
 

@@ -25,7 +25,7 @@ i n = entry (made_for n (codes "i") [])
 abbrev push_b : ℕ → List (Listed Text) → List (Listed Text)
 push_b n items = pushed bytes_eq (b_turned n) items
 
--- the fourth of equal entries, in whatever order their attributes stand, takes the place of the earliest
+-- the fourth of equal entries, in whatever order their attributes are, takes the place of the earliest
 fourth_equal : push_b 9 (b 4 ∷ i 3 ∷ b 2 ∷ b 1 ∷ []) ≡ entry (b_turned 9) ∷ b 4 ∷ i 3 ∷ b 2 ∷ []
 fourth_equal = refl
 

@@ -5,7 +5,7 @@ use hnodes::NodeId;
 /// A place in the list of active formatting elements.
 #[derive(Clone, Copy, Debug, PartialEq, Eq)]
 pub enum Bookmark {
-    /// Where the entry of the formatting element stands.
+    /// Where the entry of the formatting element is.
     InPlace,
     /// Right after the entry of a node.
     After(NodeId),

@@ -43,7 +43,7 @@ pub(crate) struct Numbers {
     pub(crate) node: usize,
 }
 
-/// Items, and where each of their numbers stands last.
+/// Items, and where each of their numbers is last.
 #[derive(Drop)]
 pub(crate) struct Slots {
     pub(crate) items: Vec<Slot>,

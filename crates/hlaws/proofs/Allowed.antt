@@ -16,7 +16,7 @@ use Rattle.hlaws.proofs.NamesAsTexts.{named_back}
 abbrev is_taken : Tag → List ℕ → Bool
 is_taken t name = nat_le (length name) 64 && is_name name && not (bytes_eq name (codes "colgroup") || is_refused t)
 
--- .. whether a list is plain in it
+-- whether a list is plain in it
 abbrev is_plain_in : Tag → Forest (List ℕ) → Bool
 is_plain_in t l = are_content_if (in_context_of (row t).1 (is_form t)) l
 

@@ -134,7 +134,7 @@ plain_profile f r c = record {
   marks = false;
 }
 
--- what may stand around such an element may stand in it
+-- what may be around such an element may be in it
 abbrev pub around : Family → Bool → Bool → Profile
 around f a button = record (plain_profile f role.Phrasing content.Around) { is_a = a; is_button = button; stops_button = button }
 

@@ -1,4 +1,4 @@
--- Each error code stands at its rank among the codes, so that no two have one rank.
+-- Each error code is at its rank among the codes, so that no two have one rank.
 use Rattle.std.proofs.Common.{◌≡◌, List, ◌++◌, Some, refl, sym, ap, ◌∙◌}
 use Rattle.std.specs.Prelude.{slice_get}
 use Rattle.names.specs.declared.error.ErrorCode.{ErrorCode}

@@ -1,4 +1,4 @@
--- Facts of content, of the modes in which it stands and of the names that it holds.
+-- Facts of content, of the modes in which it is and of the names that it holds.
 use Rattle.std.proofs.Common.{◌≡◌, Bool, true, false, not, refl, ap}
 use Rattle.std.proofs.lemmas.Bool.{false≢true}
 use Rattle.hopen.specs.Scopes.{stops_item}
@@ -19,7 +19,7 @@ use Rattle.hplain.specs.Plain.{Inside, is_nested, is_a, is_button, is_form}
 use Rattle.hserialize.specs.Walk.{inserts_marker}
 use Rattle.hlaws.specs.Building.{is_flow_mode, fits_mode, fits_current, is_list, is_dl}
 
--- the content in which a role stands, but that of phrasing elements, which stand in two
+-- the content in which a role is, but that of phrasing elements, which are in two
 abbrev pub home : Role → Content
 home role.Flow = content.Flow
 home role.ListItem = content.ListItems

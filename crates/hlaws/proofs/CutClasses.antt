@@ -1,4 +1,4 @@
--- The classes of texts, by their first characters. Each production of data stands at the front of one class.
+-- The classes of texts, by their first characters. Each production of data is at the front of one class.
 use Rattle.std.proofs.Common.{◌≡◌, ℕ, Bool, true, false, not, ◌&&◌, ◌||◌, eqb, List, [], ◌∷◌, ◌++◌, sym, refl, ap, ◌∙◌, subst, codes}
 use Rattle.std.proofs.lemmas.Bool.{eqb-true, false≢true}
 use Rattle.std.specs.Char.{to_ascii_lowercase}

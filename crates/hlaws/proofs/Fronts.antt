@@ -23,7 +23,7 @@ record IsFirst (table : Entities) (end : ℕ) (here : Standing) (spans whole : L
   rest_is : rest ≡ spans_text more ++ after
   cut : Cut table end (standing_after here spans) more after
 
--- .. where the spans at the front fit, and none that fits stands where the whole cut ends
+-- where the spans at the front fit, and none that fits is where the whole cut ends
 module _ (table : Entities) (end : ℕ) (Fits : Span → Type 0) (after : List Placed) where
   first_of : (here : Standing) (spans whole : List Span) (rest : List Placed) → Cut table end here spans rest → Cut table end here whole after → AllFit table end Fits spans
       → NoneFits table end Fits (standing_after here whole) after → spans_text spans ++ rest ≡ spans_text whole ++ after → IsFirst table end here spans whole rest after

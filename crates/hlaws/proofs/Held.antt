@@ -127,7 +127,7 @@ no_declaration text more e =
     let cdata : spells (codes "[CDATA[") (text ++ (greater ∷ more)) ≡ false = spells_not (codes "[CDATA[") text more refl k.1 in
     rw (dashes, word, cdata) refl
 
--- no `>` stands in what is held after `<!`
+-- no `>` is in what is held after `<!`
 abbrev no_close : List Placed → Bool
 no_close text = list_all (λ c. not (eqb c 62)) (characters text)
 

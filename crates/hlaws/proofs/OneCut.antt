@@ -19,7 +19,7 @@ use Rattle.htoken.specs.Tokens.{spans_text, Cut, tokens_of, errors_of, is_refuse
 use Rattle.hlaws.specs.OneCut.{OneCut, OneListOfTokens, NoTokensOfRefused, OneRefusal}
 use Rattle.hlaws.proofs.OneSpan.{one_span, some_span}
 
--- Two cuts by spans that fit, each up to where none that fits stands, are the same.
+-- Two cuts by spans that fit, each up to where none that fits is, are the same.
 module _ (table : Entities) (end : ℕ) (Fits : Span → Type 0) where
   abbrev pub AllFit : List Span → Type 0
   AllFit [] = Unit {0}

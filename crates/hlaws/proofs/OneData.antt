@@ -1,4 +1,4 @@
--- One span of data at most stands at the front of a text.
+-- One span of data at most is at the front of a text.
 use Rattle.std.proofs.Common.{◌≡◌, ℕ, false, eqb, List, [], ◌∷◌, ◌++◌, length, sym, refl, ap, ◌∙◌, subst, codes, append_assoc}
 use Rattle.std.proofs.lemmas.List.{length-map}
 use Rattle.std.specs.Char.{to_ascii_lowercase}
@@ -124,7 +124,7 @@ module _ (table : Entities) (end : ℕ) (rest : List Placed) (span : Span) where
   side_stands : (side : Side) → IsTagOf table end side rest span → Stands table (c.class_of (span.text ++ rest)) end rest span
   side_stands side h = subst (λ (x : c.Class). Stands table x end rest span) (sym (tag_stands side h)) h
 
-  -- .. which its production says
+  -- which its production says
   stands_of : IsDataSpan table end rest span → Stands table (c.class_of (span.text ++ rest)) end rest span
   stands_of (character p other is) = of_class c.Alone (p ∷ rest) (ap (λ (s : Span). s.text ++ rest) is) (c.alone_class (eqb p.ch 60) (eqb p.ch 38) rest other) (record { p = p; span_is = is })
   stands_of (reference piece h is) =

@@ -1,4 +1,4 @@
--- One part of a tag at most stands at the front of the text after its name.
+-- One part of a tag at most is at the front of the text after its name.
 use Rattle.std.proofs.Common.{◌≡◌, ℕ, Bool, true, false, not, ◌&&◌, ◌||◌, ◌==◌, eqb, if◌then◌else◌, List, [], ◌∷◌, ◌++◌, drop, None, sym, refl, ap, ◌∙◌, subst, codes, append_assoc, append-nil}
 use Rattle.std.proofs.lemmas.Bool.{false≢true, eqb-true}
 use Rattle.names.specs.declared.error.ParseError.{ParseError}
@@ -13,7 +13,7 @@ use Rattle.htag.specs.Tag.{Part, IsPart, IsAttributeName, ends_name, ends_attrib
 use Rattle.hlaws.proofs.Words.{heads, tails, same_mark, one_run, goes_no_further, begins_more, single, no_mark}
 use Rattle.hlaws.proofs.OneValue.{one_value}
 
--- THE END OF AN ATTRIBUTE: what stands after `=` and the white space round it
+-- THE END OF AN ATTRIBUTE: what is after `=` and the white space round it
 
 data IsTail (table : Entities) (end : ℕ) (rest tail : List Placed) (value : List ℕ) (errors : List ParseError) : Type 0 where
   nothing : tail ≡ [] → stops is_greater rest ≡ true → value ≡ [] → errors ≡ error_if (not (is_empty rest)) MissingAttributeValue (place end rest) → IsTail table end rest tail value errors
@@ -197,7 +197,7 @@ one_sign sign sign' x x' h h' s s' e =
       backs.1,
     )
 
--- a sign stands past white space
+-- a sign is past white space
 has_by : (p : Placed) (ps x : List Placed) (b : Bool) → (is_sign ps ≡ true → begins is_equals (past is_space (ps ++ x)) ≡ true)
     → (begins is_equals (if not b then p ∷ ps else past is_space ps) && all is_space (drop 1 (if not b then p ∷ ps else past is_space ps))) ≡ true → begins is_equals (if not b then p ∷ (ps ++ x) else past is_space (ps ++ x)) ≡ true
 has_by p ps x true next h = next h

@@ -1,4 +1,4 @@
--- One span of raw text at most stands at the front of a text, and one span of each kind.
+-- One span of raw text at most is at the front of a text, and one span of each kind.
 use Rattle.std.proofs.Common.{◌≡◌, ℕ, Bool, true, false, ◌&&◌, eqb, List, [], ◌∷◌, ◌++◌, Option, Some, None, sym, refl, ap, ◌∙◌}
 use Rattle.std.proofs.lemmas.Bool.{false≢true, eqb-true}
 use Rattle.names.specs.declared.placed.Placed.{Placed}

@@ -1,4 +1,4 @@
--- One tag at most stands at the front of a text.
+-- One tag at most is at the front of a text.
 use Rattle.std.proofs.Common.{◌≡◌, inl, inr, ℕ, Bool, true, false, not, eqb, List, [], ◌∷◌, ◌++◌, sym, refl, ap, ◌∙◌, subst, codes, append_assoc}
 use Rattle.std.proofs.lemmas.Bool.{false≢true}
 use Rattle.names.specs.declared.error.ErrorCode.TheVariants.{EofInTag}
@@ -71,7 +71,7 @@ tag_whole end side opening name parts after rest span (cut_off a r is) =
     ap (λ (s : Span). s.text ++ rest) is ∙ ap (λ (x : List Placed). (opening ++ name ++ parts_text parts) ++ x) (r ∙ sym a)
     ∙ append_assoc (opening ++ name) (parts_text parts) after ∙ append_assoc opening name (parts_text parts ++ after)
 
--- no part stands where a tag closes
+-- no part is where a tag closes
 no_part : (table : Entities) (end : ℕ) (side : Side) (opening name : List Placed) (parts : List Part) (after rest : List Placed) (span : Span) → IsEnding end side opening name parts after rest span → NoPart table end after
 no_part table end side opening name parts after rest span (closed close closing c a is) part more h e = by closing close c (sym a ∙ e) where
   by : (closing : Bool) (close : List Placed) → characters close ≡ tag_close closing → close ++ rest ≡ part.text ++ more → ⊥

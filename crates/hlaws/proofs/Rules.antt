@@ -41,7 +41,7 @@ use Rattle.hlaws.specs.Building.{is_flow_mode, under, EntriesOpen}
 use Rattle.hlaws.proofs.Classes.{is_p}
 use Rattle.hlaws.proofs.Growing.{graft-new, what-new, text_before-new}
 
--- all modes in which flow content stands have one rule for a kind of tokens
+-- all modes in which flow content is have one rule for a kind of tokens
 abbrev pub IsFlowRule : TokenKind → Do → Type 0
 IsFlowRule k r = (rule_of InBody k ≡ r) × (rule_of InCaption k ≡ r) × (rule_of InCell k ≡ r)
 
@@ -378,7 +378,7 @@ module _ {N : Type 0} (n : Naming N) (laws : Laws n) (z : State N) where
         ∙ puts_next ps made k (t ++ encode_utf8 p.ch) g c once absent
         ∙ ap (λ u. Done (state z made (under d.node (tree k (text u) none none) g) (d ∷ up) items c)) (append_assoc t (encode_utf8 p.ch) (encode_utf8_all (map (λ p. p.ch) ps)))
 
-    -- what a token does that is no character: the white space goes in, and the token goes again
+    -- what a token does that is no character: the white space goes in, and the token is reprocessed
     other_rule : (k : TokenKind) → is_other k ≡ true → rule_of InTableText k ≡ rule_of InTableText Comment
     other_rule Comment h = refl
     other_rule (Start x) h = refl
@@ -401,7 +401,7 @@ module _ {N : Type 0} (n : Naming N) (laws : Laws n) (z : State N) where
           ap (λ r. perform n at t r (state z made f (d ∷ up) items c)) rule
           ∙ rw (waiting, spaces) (ap (λ r. flow_then r (λ s. Again t (record s { control = record s.control { mode = s.control.saved } }))) all)
 
-  -- so the state takes the token as the one in which the white space stands
+  -- so the state takes the token as the one in which the white space is
   pub acts : (d : OpenNode N) (up : List (OpenNode N)) (items : List (Listed N)) (at : ℕ) (t : Token N) (p : Placed) (ps : List Placed) (made : ℕ) (f : Forest N) (c : Control) (o : Outcome (State N)) → is_other (kind_of n t) ≡ true → c.mode ≡ InTableText → c.pending ≡ p ∷ ps
       → list_all (λ p. is_space p.ch) (p ∷ ps) ≡ true → times d.node f ≡ 1 → times made f ≡ 0 → made < z.site.nodes.limit → text_before (LastIn d.node) f ≡ None
       → Chain n at t (begun (state z (made + 1) (under d.node (tree made (text (encode_utf8_all (map (λ p. p.ch) (p ∷ ps)))) none none) f) (d ∷ up) items (record c { pending = []; mode = c.saved }))) o

@@ -1,4 +1,4 @@
--- A part of a tag stands at the front of each text where a tag does not end.
+-- A part of a tag is at the front of each text where a tag does not end.
 use Rattle.std.proofs.Common.{arith, ◌≡◌, ℕ, zero, suc, ◌≤◌, Bool, true, false, not, ◌&&◌, ◌||◌, ◌==◌, eqb, if◌then◌else◌, List, [], ◌∷◌, ◌++◌, length, drop, sym, refl, ap, ◌∙◌, subst, append_assoc, append-nil, length-append}
 use Rattle.std.proofs.lemmas.Bool.{or_parts, false≢true, eqb-true}
 use Rattle.names.specs.declared.placed.Placed.{Placed}

@@ -1,4 +1,4 @@
--- A tag stands at each `<` or `</` before a letter.
+-- A tag is at each `<` or `</` before a letter.
 use Rattle.std.proofs.Common.{arith, ◌≡◌, inl, inr, ℕ, ◌≤◌, Bool, true, false, not, ◌&&◌, ◌||◌, eqb, List, [], ◌∷◌, ◌++◌, length, sym, refl, ap, ◌∙◌, subst, codes, length-append}
 use Rattle.std.proofs.lemmas.Bool.{false≢true, eqb-true}
 use Rattle.names.specs.declared.placed.Placed.{Placed}

@@ -148,7 +148,7 @@ module _ (table : Entities) (is_table : IsTable table) where
       go (p ∷ q ∷ text) e = absurd cc
       go (p ∷ []) e = itself p (head_of p [] c [] e) no_amp no_less
 
-  -- .. of data, and of text in which no more than references is read
+  -- of data, and of text in which no more than references is read
   data_span : (c : ℕ) (ds : List ℕ) (text rest : List Placed) (end : ℕ) (here : Standing) → here.kind ≡ kind.None → Way table setting.Text c ds → characters text ≡ ds
       → Cuts table end here text rest (character c ∷ []) (Same here)
   data_span c ds text rest end here is_data =

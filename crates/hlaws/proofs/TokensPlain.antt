@@ -88,7 +88,7 @@ or_second : (a b : Bool) → (a || b) ≡ true → a ≡ false → b ≡ true
 or_second true b h e = absurd cc
 or_second false b h e = h
 
--- a name that stands somewhere
+-- a name that is somewhere
 pub record IsKnownName (name : List ℕ) : Type 0 where
   pub is_name : IsElementName name
   pub fit : fits (raw_kind (tag_named name)) (row (tag_named name)).1 (is_void (tag_named name)) ≡ true

@@ -28,7 +28,7 @@ abbrev pub pushed : List Placed → List Placed → List Placed
 pushed [] front = front
 pushed (p ∷ ps) front = pushed ps (p ∷ front)
 
--- no end tag of this name stands in the text, where `rest` follows it
+-- no end tag of this name is in the text, where `rest` follows it
 abbrev pub NoEnd : Option (List ℕ) → List Placed → List Placed → Type 0
 NoEnd name [] rest = Unit {0}
 NoEnd name (p ∷ ps) rest = (is_end_tag_of name (p ∷ ps ++ rest) ≡ false) × NoEnd name ps rest

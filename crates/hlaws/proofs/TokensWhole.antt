@@ -78,7 +78,7 @@ raw_fits kind.Rawtext content.RawText false r h = (refl, refl)
 raw_fits kind.Script content.ScriptText false r h = (refl, refl)
 raw_fits _ _ _ r h = absurd (false≢true h)
 
--- .. and the contexts hold one text
+-- and the contexts hold one text
 abbrev text_inside : Bool → Inside
 text_inside form = record { content = content.Text; texts = allowed.Any; in_a = false; in_button = false; in_form = form }
 
@@ -106,7 +106,7 @@ no_text_among which (inl e) = ap (λ (x : Texts). is_among_texts x []) e
 no_text_among which (inr (inl e)) = ap (λ (x : Texts). is_among_texts x []) e
 no_text_among which (inr (inr e)) = ap (λ (x : Texts). is_among_texts x []) e
 
--- only texts stand there
+-- only texts are there
 only_text : (inside : Inside) (w : What (List ℕ)) (kids rest : Forest (List ℕ)) → holds_text inside.content ≡ true → is_plain_node inside w kids rest ≡ true → begins_with_text (tree 0 w kids rest) ≡ true
 only_text inside (forest.element name attrs) kids rest h p =
     let a = and_parts ((takes_role inside.content (row (tag_named name)).0 && not (is_nested inside (tag_named name))) && are_plain_attributes attrs) (not (drops_line_feed (tag_named name) && begins_with_line_feed kids)) p in

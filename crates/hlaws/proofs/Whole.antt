@@ -102,7 +102,7 @@ keeps-all c = record { mode = refl; head = refl; form = refl; quirks = refl }
 abbrev begun_control : Control → Control
 begun_control c = record c { drop_lf = false; acknowledged = false }
 
--- which texts stand in content: white space in the parts of a table
+-- which texts are in content: white space in the parts of a table
 abbrev pub TextFits : Inside → List ℕ → Type 0
 TextFits i chs = go i.content
   where
@@ -130,7 +130,7 @@ module _ {N : Type 0} where
   is_text _ = false
 
 module _ {N : Type 0} (n : Naming N) where
-  -- lists that are content of what they stand in
+  -- lists that are content of what they are in
   abbrev pub Good : Inside → Forest N → Type 0
   Good i none = Unit {0}
   Good i (tree b (element x attrs) kids rest) = (takes_role i.content (row (n.tag x)).0 ≡ true) × (is_nested i (n.tag x) ≡ false) × LfSafe (drops_line_feed (n.tag x)) kids × Good (inside_element (n.tag x) i) kids × Good i rest
@@ -227,7 +227,7 @@ module _ {N : Type 0} (n : Naming N) (laws : NameLaws n) (z : State N) where
 
   -- TEXTS
 
-  -- what the characters of a text come to, where each goes in by one rule
+  -- what the characters of a text build, where each goes in by one rule
   record CharsBuilt (made : ℕ) (f : Forest N) (d : OpenNode N) (up : List (OpenNode N)) (items : List (Listed N)) (c : Control) (s : State N) (ts : List (PlacedToken N)) : Type 0 where
     pub control' : Control
     pub steps : Steps n ts s (Goes (state z made f (d ∷ up) items control'))
@@ -557,7 +557,7 @@ module _ {N : Type 0} (n : Naming N) (laws : NameLaws n) (z : State N) where
   marked : {xs ys : List (Listed N)} → Thinned (marker ∷ xs) ys → ys ≡ marker ∷ xs
   marked same = refl
 
-  -- a list in which one text stands at most
+  -- a list in which one text is at most
   data OneText (l : Forest N) : Type 0 where
     nothing_there : l ≡ none → OneText l
     one_text : (b : ℕ) (u : List ℕ) → IsText u → l ≡ tree b (text u) none none → OneText l

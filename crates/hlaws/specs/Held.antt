@@ -13,7 +13,7 @@ use Rattle.htoken.specs.HeldFrom.{IsCutAt, from_of}
 use Rattle.htoken.specs.Tokenizing.{HasTaken, next_place}
 
 -- What has been fed is a front that is cut into spans, whatever follows, whose tokens were taken, and what is held, which begins at
--- this place and is a beginning of a span of the kind that stands after them.
+-- this place and is a beginning of a span of the kind that is after them.
 pub record HoldsBeginning (table : Entities) (start : RawKind) (text : List Placed) (taken : List Event) (at : ℕ) : Type 0 where
   pub front : List Placed
   pub held : List Placed

@@ -5,7 +5,7 @@ use Rattle.charref.specs.Reference.{Entities, IsTable}
 use Rattle.hparse.specs.Answer.{Answers}
 use Rattle.hparse.specs.Parse.{ParseOptions, ParseCase, Parses}
 
--- one of these stands, and no other
+-- one of these is, and no other
 pub record ExactlyOne {A : Type 0} (P : A → Type 0) : Type 0 where
   pub one : A
   pub is : P one

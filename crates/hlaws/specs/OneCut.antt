@@ -1,4 +1,4 @@
--- Laws of the cut of a text: what stands in it stands there in one way only.
+-- Laws of the cut of a text: what is in it is there in one way only.
 use Rattle.std.specs.Prelude.{◌≡◌, ℕ, List, [], ◌++◌}
 use Rattle.std.specs.List.Sorted.{IsPermutation}
 use Rattle.names.specs.declared.error.ParseError.{ParseError}
@@ -14,7 +14,7 @@ use Rattle.htoken.specs.Data.{IsDataSpan}
 use Rattle.htoken.specs.Spans.{IsSpan}
 use Rattle.htoken.specs.Tokens.{spans_text, Cut, Tokens, IsRefused}
 
--- One part of a tag at most stands at the front of a text, and one tag, and one span of each kind of text.
+-- One part of a tag at most is at the front of a text, and one tag, and one span of each kind of text.
 abbrev pub OnePart : Type 0
 OnePart = (table : Entities) (end : ℕ) (rest rest' : List Placed) (part part' : Part) → IsPart table end rest part → IsPart table end rest' part'
     → part.text ++ rest ≡ part'.text ++ rest' → (part ≡ part') × (rest ≡ rest')

@@ -5,13 +5,13 @@ ghost use Rattle.hlaws.specs.SomeCut.{SomeSpan, SomeCut, SomeAnswer, ExactlyOneC
 ghost use Rattle.hlaws.specs.SomeEnd.{TagsCanEnd};
 ghost use Rattle.hlaws.specs.Held.{HeldBegins};
 
-/// One part of a tag at most stands at the front of the text after its name, and one tag at the front of a text.
+/// One part of a tag at most is at the front of the text after its name, and one tag at the front of a text.
 pub fn one_tag()
     ensures parts { OnePart }
     ensures tags { OneTag }
 {}
 
-/// One span of data at most stands at the front of a text, and one span of each other kind.
+/// One span of data at most is at the front of a text, and one span of each other kind.
 pub fn one_span()
     ensures in_data { OneSpanOfData }
     ensures in_any { OneSpan }
@@ -29,7 +29,7 @@ pub fn one_answer()
     ensures refusal { OneRefusal }
 {}
 
-/// Wherever a cut of a text comes, a span stands at the front of what is left, so that a whole text is cut.
+/// Wherever a cut of a text comes, a span is at the front of what is left, so that a whole text is cut.
 pub fn some_cut()
     ensures span { SomeSpan }
     ensures cut { SomeCut }
@@ -57,7 +57,7 @@ pub fn some_end()
     ensures { TagsCanEnd }
 {}
 
-/// What a tokenizer holds back is a beginning of a longer span, or of an end tag of raw text, where its cut stands; it begins at
+/// What a tokenizer holds back is a beginning of a longer span, or of an end tag of raw text, where its cut is; it begins at
 /// the place that `held_from` gives.
 pub fn held_begins()
     ensures { HeldBegins }

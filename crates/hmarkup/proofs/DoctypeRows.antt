@@ -210,7 +210,7 @@ cut_after_system : IsDoctype 23 [] (placed 9 (codes " a system 'b' "))
 unfolding encode
 cut_after_system = (some_doctype 23 (placed 9 (codes " a system 'b' "))).is_span
 
--- .. and in a skipped rest, where the end does not force quirks mode
+-- and in a skipped rest, where the end does not force quirks mode
 cut_in_skipped : IsDoctype 24 [] (placed 9 (codes " a system 'b' c"))
     (record { name = Some (codes "a"); public = None; system = Some (codes "b"); forced = false })
     (error UnexpectedCharacterAfterDoctypeSystemIdentifier 23 ∷ [])

@@ -32,7 +32,7 @@ module _ (w : Progress) (text : List Placed) (errs : List ParseError) (ch at : �
       (sym (before-avoids closes_bogus text (p ∷ []) avoids_more ∙ ap (λ (x : List Placed). text ++ x) k ∙ append-nil text))
       (ap (λ (c : ℕ). c ∷ []) is) h.data_is (append-nil errs ∙ h.errors_are)
 
--- no `>` stands in it
+-- no `>` is in it
 pub before-bogus : (w : Progress) (text : List Placed) (errs : List ParseError) → IsInBogus w text errs → text ≡ before closes_bogus text
 before-bogus w text errs h = sym (ap (before closes_bogus) (sym (append-nil text)) ∙ before-avoids closes_bogus text [] h.no_close ∙ append-nil text)
 

@@ -1,4 +1,4 @@
--- What stands after the name of a doctype, and letters of its keywords: each character.
+-- What is after the name of a doctype, and letters of its keywords: each character.
 use Rattle.std.proofs.Common.{◌≡◌, ℕ, zero, suc, ◌+◌, ◌≤◌, ◌<◌, nat_le, nat_lt, drop, length, get_or, Bool, true, false, ◌&&◌, eqb, if◌then◌else◌, List, [], ◌∷◌, ◌++◌, sym, refl, ap, ◌∙◌, subst, codes, Option, Some, None, arith}
 use Rattle.std.specs.Char.{to_ascii_lowercase}
 use Rattle.std.proofs.lemmas.Bool.{false≢true, eqb-true, and_from, and_left, and_parts, and_right, or_from, or_parts}

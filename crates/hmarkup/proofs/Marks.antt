@@ -21,7 +21,7 @@ pub before-here : (mark : List Placed → Bool) (xs : List Placed) → mark xs �
 before-here mark [] h = refl
 before-here mark (x ∷ xs) h = ap (λ (b : Bool). cond b [] (x ∷ before mark xs)) h
 
--- .. which is no longer than what stands before one place of the mark
+-- which is no longer than what is before one place of the mark
 shorter : (b : Bool) (x : Placed) (front xs : List Placed) → length front ≤ length xs → length (cond b [] (x ∷ front)) ≤ length (x ∷ xs)
 shorter true x front xs h = omega arith
 shorter false x front xs h = omega (arith, h)
@@ -35,7 +35,7 @@ Avoids-append mark [] ys after h k = k
 Avoids-append mark (p ∷ ps) ys after h k =
     (subst (λ (x : List Placed). mark (p ∷ x) ≡ false) (sym (append_assoc ps ys after)) h.0, Avoids-append mark ps ys after h.1 k)
 
--- One more character follows: a mark is still avoided where it stands at no text that both marks avoided.
+-- One more character follows: a mark is still avoided where it is at no text that both marks avoided.
 pub Avoids-more : (first mark : List Placed → Bool) (p : Placed)
     → ((q : Placed) (x : List Placed) → first (q ∷ x) ≡ false → mark (q ∷ x) ≡ false → mark (q ∷ x ++ p ∷ []) ≡ false)
     → (xs after : List Placed) → Avoids first xs after → Avoids mark xs after → Avoids mark xs (after ++ p ∷ [])
@@ -43,7 +43,7 @@ Avoids-more first mark p point [] after h k = tt
 Avoids-more first mark p point (q ∷ qs) after h k =
     (subst (λ (x : List Placed). mark (q ∷ x) ≡ false) (append_assoc qs after (p ∷ [])) (point q (qs ++ after) h.0 k.0), Avoids-more first mark p point qs after h.1 k.1)
 
--- what stands before the earliest mark avoids it
+-- what is before the earliest mark avoids it
 test_of : (m : Bool) (x : Placed) (xs rest : List Placed) → x ∷ xs ≡ cond m [] (x ∷ rest) → (m ≡ false) × (xs ≡ rest)
 test_of true x xs rest h = absurd cc
 test_of false x xs rest h = (refl, cc)

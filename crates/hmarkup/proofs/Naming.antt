@@ -43,7 +43,7 @@ module _ (known : Found) (end : ℕ) (rest : List Placed) (p : Placed) (ps : Lis
       → (more : List ParseError) × (errors ≡ null_errors (p ∷ []) ++ more) × IsName (named (name_bytes (p ∷ [])) known) end rest ps found more
   name_goes errors h is = name_more errors h.name h.after h.later h.text_is h.runs.passes_none h.runs.stops_after h.follows h.errors_are is
 
-  -- or what stands after it
+  -- or what is after it
   name_over : (errors : List ParseError) (name after : List Placed) (later : List ParseError) → p ∷ ps ≡ name ++ after → all (λ c. not (is_space c || is_greater c)) name ≡ true
       → FollowsName (named (name_bytes name) known) end rest after found later → errors ≡ null_errors name ++ later
       → (is_space p.ch || is_greater p.ch) ≡ true → is_some known.name ≡ true → FollowsName known end rest (p ∷ ps) found errors

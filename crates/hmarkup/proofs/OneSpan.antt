@@ -13,7 +13,7 @@ use Rattle.hmarkup.proofs.Marks.{before-avoids, before-here, avoids-before, spel
 use Rattle.hmarkup.proofs.Fronts.{same_front}
 use Rattle.hmarkup.proofs.Unique.{one_comment}
 
--- what stands before the first `>`, and with it
+-- what is before the first `>`, and with it
 record IsToldBogus (rest text : List Placed) (bytes : List ℕ) (errors : List ParseError) : Type 0 where
   inner : List Placed
   inner_is : inner ≡ before closes_bogus (text ++ rest)

@@ -37,7 +37,7 @@ module _ (known : Found) (end : ℕ) (rest : List Placed) (p : Placed) (ps : Lis
   from_phase phase.AfterSystem errors fits h = from_system known end rest p ps found errors _ _ refl refl h
   from_phase phase.Skipped errors fits h = from_skipped known end rest p ps found errors _ refl h
 
-  -- .. and back
+  -- and back
   pub to_phase : (phase : DoctypeState) (later : List ParseError) → Fits phase known → Goes (step phase p).next (found_by (step phase p) p known) end rest ps found later
       → GoesOn phase known end rest (p ∷ ps) found (step_errors (step phase p) p ++ later)
   to_phase (phase.BeforeName spaced) later fits h = to_before known end rest p ps found later spaced _ _ refl refl h
@@ -205,7 +205,7 @@ end_of (phase.AfterPublic spaced) known end rest found errors fits h = public_at
 end_of phase.AfterSystem known end rest found errors fits h = system_at_end known end rest found errors (at_once (λ spaced. AfterSystemIdentifier known) false end rest found errors [] h refl)
 end_of phase.Skipped known end rest found errors fits h = skipped_at_end known end rest found errors h
 
--- .. and back
+-- and back
 cut_off_here : (known : Found) (end : ℕ) → IsEnd known end [] [] (force known) (error EofInDoctype end ∷ [])
 cut_off_here known end = cut_off refl refl refl refl
 

@@ -90,7 +90,7 @@ run_data w text errs p ps h k =
     rw (← append_assoc text (p ∷ []) ps, ← append_assoc held first (text_bytes ps), ← append_assoc w.data (held ++ first) (text_bytes ps))
     (more_data w.kind (w.data ++ (held ++ first)) (text ++ p ∷ []) _ ps parts.1 one)
 
--- .. and to a bogus comment
+-- and to a bogus comment
 abbrev after_bogus : Progress → List ℕ → Progress
 after_bogus w run = record { kind = w.kind; ending = w.ending; opening = w.opening; «data» = w.data ++ run }
 

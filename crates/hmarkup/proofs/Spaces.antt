@@ -24,7 +24,7 @@ module _ (T : Bool → Stands) (spaced : Bool) (end : ℕ) (rest : List Placed) 
       → is_space p.ch ≡ true → ((b : Bool) (text : List Placed) → T b end rest text found errors → begins is_space text ≡ false) → AfterSpace T true end rest ps found errors
   past_space p ps h is none = from_space p ps h.space h.after h.text_is h.spaces h.then is none
 
-  -- and where there is none, the production stands there
+  -- and where there is none, the production is there
   none_there : (text space after : List Placed) → text ≡ space ++ after → all is_space space ≡ true → T (spaced || not (is_empty space)) end rest after found errors
       → begins is_space text ≡ false → T spaced end rest text found errors
   none_there text [] after t s h is = subst (λ (x : List Placed). T spaced end rest x found errors) (sym t) (subst (λ (b : Bool). T b end rest after found errors) (or-false spaced) h)
@@ -52,6 +52,6 @@ module _ (T : Bool → Stands) (spaced : Bool) (end : ℕ) (rest : List Placed) 
     then = subst (λ (b : Bool). T b end rest text found errors) (sym (or-false spaced)) h;
   }
 
--- a production that isn't told of the white space before it
+-- a production that doesn't depend on the white space before it
 pub any_space : (T : Stands) (a b : Bool) (end : ℕ) (rest text : List Placed) (found : Found) (errors : List ParseError) → AfterSpace (λ (s : Bool). T) a end rest text found errors → AfterSpace (λ (s : Bool). T) b end rest text found errors
 any_space T a b end rest text found errors h = record { space = h.space; after = h.after; text_is = h.text_is; spaces = h.spaces; then = h.then }

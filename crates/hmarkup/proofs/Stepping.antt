@@ -11,7 +11,7 @@ use Rattle.hmarkup.specs.DoctypeSteps.{found_by, step_errors, fault_errors}
 use Rattle.hmarkup.specs.DoctypeWalk.{GoesOn}
 use Rattle.hmarkup.proofs.Characters.{space_not_null, greater_not_null, quote_not_null, no_null_error}
 
--- what stands after the character: the rest of the doctype, or nothing
+-- what is after the character: the rest of the doctype, or nothing
 abbrev pub Goes : Option DoctypeState → Found → Stands
 Goes None known end rest text found errors = (text ≡ []) × (found ≡ known) × (errors ≡ [])
 Goes (Some phase) known end rest text found errors = GoesOn phase known end rest text found errors
@@ -34,7 +34,7 @@ greater_error p h = no_null_error p (greater_not_null p.ch h)
 pub quote_error : (p : Placed) → is_quote p.ch ≡ true → null_errors (p ∷ []) ≡ []
 quote_error p h = no_null_error p (quote_not_null p.ch h)
 
--- an error where no white space stands before
+-- an error where no white space is before
 pub fault_if : (spaced : Bool) (code : ErrorCode) (at : ℕ) → error_if (not spaced) code at ≡ fault_errors (if spaced then None else Some (error code at))
 fault_if true code at = refl
 fault_if false code at = refl

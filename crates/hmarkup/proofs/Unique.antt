@@ -38,7 +38,7 @@ told end whole =
     if closes_at_once whole then told_at_once (spells (codes ">") whole) end whole
     else told_at end whole (before closes_comment whole) (drop (length (before closes_comment whole)) whole)
 
--- .. which is what it is
+-- which is what it is
 pub record IsTold (end : ℕ) (rest text : List Placed) (bytes : List ℕ) (errors : List ParseError) : Type 0 where
   pub last : List ParseError
   pub told_is : told end (text ++ rest) ≡ record { size = length text; bytes = bytes; last = last }

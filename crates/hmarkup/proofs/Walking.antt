@@ -145,7 +145,7 @@ module _ (w : Progress) (text : List Placed) (errs : List ParseError) (ch at : �
         errors_are = errors_now_are;
       }
 
-  -- what stands before the closing mark that ends here
+  -- what is before the closing mark that ends here
   before_now : before closes_comment (h.held ++ p ∷ []) ≡ [] → h.inner ≡ before closes_comment now
   before_now e = sym (ap (before closes_comment) now_is ∙ before-avoids closes_comment h.inner (h.held ++ p ∷ []) avoids_closing
       ∙ ap (λ (x : List Placed). h.inner ++ x) e ∙ append-nil h.inner)
@@ -189,7 +189,7 @@ module _ (w : Progress) (text : List Placed) (errs : List ParseError) (ch at : �
   pub kept_other : eqb ch 62 ≡ false → IsInComment (next w ch) now errors_now
   kept_other e = kept (once-other text p e h.not_at_once) (λ _. e)
 
--- no closing mark stands in it
+-- no closing mark is in it
 pub before-text : (w : Progress) (text : List Placed) (errs : List ParseError) → IsInComment w text errs → text ≡ before closes_comment text
 before-text w text errs h =
     sym (ap (before closes_comment) h.text_is ∙ before-avoids closes_comment h.inner h.held h.no_close ∙ ap (λ (x : List Placed). h.inner ++ x) (held_at_end w.ending h.held h.is_held).0 ∙ sym h.text_is)

@@ -25,7 +25,7 @@ use Rattle.hmodes.proofs.Open.{rule-facts}
 use Rattle.hmodes.proofs.Run.{document-well, fragment-well}
 use Rattle.hmodes.proofs.Stands.{FlowWell, HeadOut, rule-well}
 
--- what names are asked to tell
+-- what is asked of names
 pub record Tells {N : Type 0} (n : Naming N) : Type 0 where
   pub tables : TellsTables n
   pub img : n.tag (n.known tag.Img) ≡ tag.Img
@@ -37,7 +37,7 @@ pub texts-all : Tells texts
 texts-all = record { tables = texts-tell; img = refl }
 
 module _ {N : Type 0} (n : Naming N) where
-  -- the open nodes stand in the document's tree, the head pointer is as the mode says, and text is not left for text
+  -- the open nodes are in the document's tree, the head pointer is as the mode says, and text is not left for text
   pub record Orderly (s : State N) : Type 0 where
     pub well : Well n s.site
     pub head : HeadFacts s

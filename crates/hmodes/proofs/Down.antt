@@ -99,7 +99,7 @@ is_plain (At m) = not (is_texty m)
 is_plain Plain = true
 is_plain Any = false
 
--- .. where one or the other is known
+-- where one or the other is known
 abbrev met : Known → Known → Known
 met w v = if is_plain w && is_plain v then Plain else Any
 

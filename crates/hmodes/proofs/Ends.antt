@@ -1,4 +1,4 @@
--- The rules that a token goes by come to an end: a number that falls with each.
+-- The rules that process a token end: a number that falls with each.
 use Rattle.std.proofs.Common.{◌≡◌, ℕ, zero, suc, ◌+◌, ◌<◌, ◌≤◌, Bool, true, false, cond, if◌then◌else◌, List, [], ◌∷◌, Option, Some, leb, length, drop, refl, sym, ◌∙◌, ap, subst, arith}
 use Rattle.std.proofs.lemmas.Bool.{eqb-true, leb-true}
 use Rattle.std.specs.Prelude.{not, ◌&&◌, ◌||◌, ◌==◌}
@@ -29,7 +29,7 @@ abbrev extra : Mode → ℕ
 extra InColumnGroup = 1
 extra _ = 0
 
--- how high a token stands in a mode that is not of text, under this many open nodes
+-- how high a token is in a mode that is not of text, under this many open nodes
 abbrev weight : TokenKind → Mode → ℕ → ℕ
 weight k m count = 1 + (if is_tabular k m then 30 + (count + count) + extra m else level k m)
 
@@ -66,7 +66,7 @@ weight-most k m count e = go (is_tabular k m)
     go true = omega (arith, extra-most m)
     go false = omega (arith, leb-true (level k m) 30 (level-plain k m e))
 
--- no character goes again in table text
+-- no character is reprocessed in table text
 waits : (k : TokenKind) → is_char k ≡ true → may_again (in_table_text k) ≡ false
 waits Nul e = refl
 waits Ws e = refl
@@ -132,7 +132,7 @@ module _ {N : Type 0} (n : Naming N) where
       count (Again u v) = length (stack v.site)
       count f = 0
 
-  -- .. that ends the column group
+  -- that ends the column group
   goes-up : (at : ℕ) (t t' : Token N) (s s' : State N) → kind_of n t ≡ Start family.Table → s.control.mode ≡ InColumnGroup → perform n at t (rule_of InColumnGroup (Start family.Table)) s ≡ Again t' s' → weight_of t' s' < weight_of t s
   goes-up at t t' s s' k m rule =
       let same : weight_of t (pops_one s) ≡ weight_of t' s' = ap (λ (f : Flow N). rest f) rule in

@@ -25,7 +25,7 @@ module _ {N : Type 0} where
   IsAt hp [] = ⊥
   IsAt hp (x ∷ up) = hp ≡ Some x.node
 
-  -- the head stands in the document's tree, and no open node is inside it
+  -- the head is in the document's tree, and no open node is inside it
   abbrev pub OutOf : Option ℕ → List (OpenNode N) → Forest N → Type 0
   OutOf hp open_now f = (h : ℕ) → hp ≡ Some h → ((0 < deep h 0 f) × (0 < h)) × Each (λ x. deep x.node h f ≡ 0) open_now
 
@@ -35,7 +35,7 @@ module _ {N : Type 0} where
   Knows AfterHead hp open_now f = OutOf hp open_now f
   Knows _ hp open_now f = Unit {0}
 
-  -- .. and in text what holds when its element is popped
+  -- and in text what holds when its element is popped
   abbrev pub Facts : (mode saved : Mode) → Option ℕ → List (OpenNode N) → Forest N → Type 0
   Facts Text saved hp open_now f = Knows saved hp (drop 1 open_now) f
   Facts InTableText saved hp open_now f = is_early saved ≡ false

@@ -19,7 +19,7 @@ use Rattle.hadopt.proofs.Climbing.{OnGoes}
 use Rattle.hadopt.proofs.Settling.{Well}
 
 module _ {N : Type 0} (n : Naming N) where
-  -- what stood in the document's tree stands there still, as much outside of the others
+  -- what was in the document's tree is there still, as much outside of the others
   pub record Steady (s t : SiteOf N) : Type 0 where
     pub out : (x h : ℕ) → 0 < deep x 0 (trees s) → 0 < deep h 0 (trees s) → deep x h (trees s) ≡ 0 → deep x h (trees t) ≡ 0
     pub stays : (x : ℕ) → 0 < deep x 0 (trees s) → 0 < deep x 0 (trees t)

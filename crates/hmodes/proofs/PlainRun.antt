@@ -66,7 +66,7 @@ run_taken b free puts at (c ∷ cs) some plain answer x g =
     run_put b free facts.0 facts.1 facts.2 x (record { ch = c; at = at }) (placed (at + len_utf8 c) cs) (some_plain at (c ∷ cs) plain) answer
     (subst (λ (to : Place). Gives answer x (put_each (placed at (c ∷ cs)) to b.state.site)) (place-here b.state.site facts.0) g)
 
--- .. and so is one of characters that replace bad parts
+-- and so is one of characters that replace bad parts
 pub some_replaced : (count at : ℕ) → AreSome (replaced at count)
 some_replaced zero at = tt
 some_replaced (suc n) at = (refl, some_replaced n (at + 1))

@@ -177,7 +177,7 @@ module _ {N : Type 0} (n : Naming N) (at : ℕ) (name : N) (attrs : List (Attrib
   Leads s0 (Again t s) = (t ≡ tag_token) × IsOutsideText s.control
   Leads s0 (Refused r) = IsLimit r
 
-  -- .. of a program that stands on that way
+  -- of a program that is on that way
   abbrev LeadsBy : State N → Do → State N → Type 0
   LeadsBy s0 p s = ((v : State N) → Way p s v → Ways s0 v) → Leads s0 (perform n at tag_token p s)
 
@@ -337,7 +337,7 @@ module _ {N : Type 0} (n : Naming N) (tells : Tells n) (at : ℕ) (name : N) (at
   head-below : (s : State N) → Orderly n s → s.control.mode ≡ AfterHead → (h : ℕ) → s.control.head ≡ Some h → h < s.site.nodes.made
   head-below s g is h e = (subst (λ (p : Option ℕ). IfSome p (λ k. (0 < k) × (k < s.site.nodes.made))) e (orderly-head n s g is)).1
 
-  -- the rules from s on stand on the way from s0
+  -- the rules from s on are on the way from s0
   abbrev OnWay : State N → State N → Type 0
   OnWay s0 s = (v : State N) → RulesInsert n at (start name attrs closing) s v → RulesInsert n at (start name attrs closing) s0 v
 

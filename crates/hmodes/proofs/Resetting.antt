@@ -1,4 +1,4 @@
--- The mode that fits the open nodes, found by the nearest one that tells it.
+-- The mode that fits the open nodes, found by the nearest one that determines it.
 use Rattle.std.proofs.Common.{◌≡◌, ℕ, suc, ◌+◌, ◌<◌, ◌≤◌, Bool, true, false, not, cond, List, [], ◌∷◌, length, reverse, Option, Some, None, unwrap_or, refl, sym, ap, ◌∙◌, ltb, arith}
 use Rattle.std.specs.Prelude.{slice_get, option_and_then}
 use Rattle.std.specs.List.{position, position_or_len}
@@ -23,7 +23,7 @@ use Rattle.hmodes.specs.declared.mode.Mode.TheVariants.{InBody}
 abbrev pub decided : List (OpenNode ℕ) → ℕ → Option Mode
 decided s up = option_and_then (λ x. open_mode (tag_of x.name)) (slice_get s up)
 
--- whether an open node tells the mode
+-- whether an open node determines the mode
 abbrev pub tells : OpenNode ℕ → Bool
 tells = is_of tag_of group.TellsMode
 
@@ -53,7 +53,7 @@ tells-some tag.Thead h a b = refl
 tells-some tag.Tr h a b = refl
 tells-some _ h a b = absurd (false≢true h)
 
--- the nearest open node that tells the mode is not the first one
+-- the nearest open node that determines the mode is not the first one
 pub reset-told : (context : Option ℕ) (s : List (OpenNode ℕ)) → position_or_len tells s + 1 < length s → reset_mode numbers context s ≡ unwrap_or (decided s (position_or_len tells s)) InBody
 reset-told context [] h = absurd (omega (arith, h))
 reset-told context (x ∷ []) h = absurd (omega (arith, h))
@@ -73,7 +73,7 @@ first-below x y s =
     let l = last-behind (λ z. Unit {0}) y s (y ∷ s) here in
     ap (λ k. slice_get k 0) (reverse-append (x ∷ []) (y ∷ s)) ∙ slice_get-append (reverse (y ∷ s)) (x ∷ []) 0 l.0 l.1 ∙ sym l.1
 
--- no open node below the first one tells the mode
+-- no open node below the first one determines the mode
 pub reset-root : (context : Option ℕ) (s : List (OpenNode ℕ)) → length s ≤ position_or_len tells s + 1 → reset_mode numbers context s ≡ option_map_or (root_mode numbers context) (slice_get (reverse s) 0) InBody
 reset-root context [] h = refl
 reset-root context (x ∷ []) h = refl
@@ -87,7 +87,7 @@ reset-root context (x ∷ (y ∷ s)) h = go (tells x) refl h (reset-root context
         ap (λ o. unwrap_or o (reset_mode numbers context (y ∷ s))) (tells-none (tag_of x.name) is) ∙ before (omega (arith, h))
         ∙ ap (λ o. option_map_or (root_mode numbers context) o InBody) (sym (first-below x y s))
 
--- where the nearest open node that tells the mode is
+-- where the nearest open node that determines the mode is
 pub place-told : (s : List (OpenNode ℕ)) (up : ℕ) → position tells s ≡ Some up → position_or_len tells s ≡ up
 place-told s up = go (ltb (position_or_len tells s) (length s))
   where

@@ -1,4 +1,4 @@
--- A run keeps that the open nodes stand, from the beginning of a document or a fragment on.
+-- A run keeps that the open nodes are, from the beginning of a document or a fragment on.
 use Rattle.std.proofs.Common.{◌≡◌, ℕ, zero, suc, ◌+◌, Bool, true, false, not, cond, eqb, ltb, if◌then◌else◌, List, [], ◌∷◌, refl, subst, arith}
 use Rattle.std.specs.Prelude.{◌&&◌}
 use Rattle.std.proofs.lemmas.Bool.{lt-leb, ne_eqb}

@@ -1,4 +1,4 @@
--- Every rule keeps what the open nodes need: they stand in the document's tree, each outside of those below it.
+-- Every rule keeps what the open nodes need: they are in the document's tree, each outside of those below it.
 use Rattle.std.proofs.Common.{◌≡◌, ℕ, ◌<◌, Bool, true, false, not, cond, leb, List, [], ◌∷◌, Option, Some, None, refl, subst, length, filter}
 use Rattle.std.specs.Prelude.{◌&&◌, ◌||◌, ◌==◌, nat_le}
 use Rattle.std.specs.Option.{option_map_or}
@@ -225,7 +225,7 @@ module _ {N : Type 0} (n : Naming N) (tells : TellsTables n) where
       go false true e = cc
       go false false e = cc
 
-  -- what a rule that opens the head again asks: the head stands in the document's tree, and no open node is inside it
+  -- what a rule that opens the head again asks: the head is in the document's tree, and no open node is inside it
   pub record HeadIsOut (h : ℕ) (s : SiteOf N) : Type 0 where
     pub stands : (0 < deep h 0 (trees s)) × (0 < h)
     pub out : Each (λ x. deep x.node h (trees s) ≡ 0) (stack s)

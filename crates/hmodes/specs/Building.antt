@@ -61,7 +61,7 @@ Takes at t old answer new = MatchOption old.refused (TakesOn at t old answer new
 abbrev pub TakesToken : Building → Given → Result (Unit {0}) Refusal → Building → Type 0
 TakesToken old token answer new = Takes (place_of token) (token_of token) old answer new
 
--- A parse error is taken: one error more is told; or memory ran out.
+-- A parse error is taken: one error more is reported; or memory ran out.
 abbrev pub Tells : ParseError → Building → Result (Unit {0}) Refusal → Building → Type 0
 Tells e old (Ok _) new = new ≡ record old { told = old.told ++ e ∷ [] }
 Tells e old (Err r) new = (r ≡ Memory) × (new ≡ record old { refused = Some Memory })

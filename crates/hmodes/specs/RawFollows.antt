@@ -18,7 +18,7 @@ use Rattle.hmodes.specs.Reached.{Reached}
 use Rattle.hmodes.specs.Step.{Rule, Step, begun}
 use Rattle.hmodes.specs.Words.{Do, ◌▸◌, fostered, insert}
 
--- the kinds that an end tag ends; a plaintext has none, and stands in the body
+-- the kinds that an end tag ends; a plaintext has none, and is in the body
 abbrev pub is_ended : RawKind → Bool
 is_ended Rcdata = true
 is_ended Rawtext = true
@@ -42,7 +42,7 @@ pub data RulesInsert {N : Type 0} (n : Naming N) (at : ℕ) (t : Token N) : Stat
   by_next : {s u v : State N} → Rule n at t s ≡ Again t u → RulesInsert n at t u v → RulesInsert n at t s v
 
 module _ {N : Type 0} (n : Naming N) (at : ℕ) (name : N) (attrs : List (Attribute N)) (closing : Bool) (s : State N) where
-  -- The element was inserted where the rules come to it from s, at the end of what was done with the nodes, and is the current node;
+  -- The element was inserted where the rules get to it from s, at the end of what was done with the nodes, and is the current node;
   -- the mode is "text".
   pub record IsInText (s' : State N) : Type 0 where
     pub before : State N

@@ -98,7 +98,7 @@ impl<'q> Builder<'q> {
     }
 
     /// The tree, its root, and the parse errors. A builder that has refused gives the same refusal and no tree, since its tree may
-    /// stand between two edits of a token. Any other error is `Memory`.
+    /// are between two edits of a token. Any other error is `Memory`.
     pub fn finish(self) -> Result<Built, Refusal>
         ensures tree { IfOk result (λ built. built.tree ≡ self.entry.state.site.nodes) }
         ensures root { IfOk result (λ built. (built.root ≡ self.entry.root) × (built.root < built.tree.made)) }

@@ -1,4 +1,4 @@
--- Where a child of a node stands.
+-- Where a child of a node is.
 use Rattle.std.proofs.Common.{◌≡◌, ℕ, ◌+◌, ◌<◌, ◌≤◌, Bool, true, false, eqb, cond, Option, Some, None, refl, sym, ◌∙◌, ap, subst, arith}
 use Rattle.std.proofs.lemmas.Bool.{eqb-true, eq-eqb}
 use Rattle.hnodes.specs.Forest.{What, Forest, none, tree, times, join, children_of}
@@ -88,7 +88,7 @@ module _ {N : Type 0} (n q : ℕ) (w : What N) where
       go l r (of_kids i j o y a same z) = rw (j, spot_below-absent n p (Some b) rest y, either-none (spot_below n (Some b) None kids)) (l a o same)
       go l r (of_rest i t j o y a same) = rw (j, spot_below-absent n (Some b) None kids o) (r a y same)
 
-  -- a child of q stands below q, between its siblings
+  -- a child of q is below q, between its siblings
   pub child-spot : (L k R f : Forest N) → times q f ≡ 1 → times n f ≡ 1 → children_of q f ≡ join L (tree n w k R) → spot_of n f ≡ Some (spot_among n q w L k R (Some q) None)
   child-spot L k R none one once is = absurd (omega arith)
   child-spot L k R (tree b v kids rest) one once is = go (child-spot L k R rest) (child n q w L k R b v kids rest one once is)

@@ -1,4 +1,4 @@
--- What the edits keep: each node stands in the forest once, and the document's tree comes first.
+-- What the edits keep: each node is in the forest once, and the document's tree comes first.
 use Rattle.std.proofs.Common.{◌≡◌, ◌≢◌, ℕ, zero, suc, ◌+◌, ◌<◌, ◌≤◌, Bool, true, false, eqb, ltb, cond, if◌then◌else◌, refl, ◌∙◌, subst, arith, ◌⊎◌, inl, inr}
 use Rattle.std.proofs.lemmas.Bool.{eq-eqb, ne_eqb, cases_lt, le-leb, lt-leb}
 use Rattle.hnodes.specs.Forest.{What, document, Forest, none, tree, times, join, tree_at, cut, children_of, change_children, change_what, put_before}
@@ -86,7 +86,7 @@ module _ {N : Type 0} where
             let one : 1 + (times 0 kids + times 0 rest) ≤ 1 = subst (λ (g : Forest N). times 0 g ≤ 1) is (at-most 0) in
             rw (is, ne_eqb 0 y (λ e. omega arith)) (omega (arith, deep-lower 0 y kids (omega arith), deep-lower 0 y rest (omega arith)))
 
-    -- what stands below the document
+    -- what is below the document
     pub below-document : (x : ℕ) → times x (children_of 0 f) ≡ 1 → (0 < deep x 0 f) × (0 < x)
     below-document x h = (omega (arith, children-deep x 0 f), go x refl)
       where
@@ -112,7 +112,7 @@ module _ {N : Type 0} where
             let few' : 0 + (times x kids + times x rest) ≤ 1 = subst (λ (u : Bool). cond u 1 0 + (times x kids + times x rest) ≤ 1) (ne_eqb 0 x (λ e. omega arith)) few in
             rw is (omega (arith, deep-upper x 0 kids (omega arith), deep-upper x 0 rest (omega arith)))
 
-  -- a new node stands there once
+  -- a new node is there once
   pub times-new : (new : ℕ) (w : What N) (f : Forest N) → times new f ≡ 0 → times new (join f (tree new w none none)) ≡ 1
   times-new new w f z = omega (arith, times-join new f (tree new w none none), is)
     where
@@ -131,7 +131,7 @@ module _ {N : Type 0} where
           go (inr a) (inl c) = rw (lt-leb (suc x) (made + 1) (omega arith), times-join x f (tree made w none none), not-there made f s x a, ne_eqb made x (λ e. omega arith)) refl
           go (inr a) (inr c) = let e : made ≡ x = omega arith in rw (le-leb (suc x) (made + 1) (omega arith), times-join x f (tree made w none none), not-there made f s x a, eq-eqb made x e) refl
 
-  -- a node comes to a place
+  -- a node is put at a place
   pub counted-graft : (made n : ℕ) (place : Place) (f : Forest N) → AreCounted made f → 0 < n → NotBefore 0 place → times (place_node place) f ≡ 1 → times (place_node place) (tree_at n f) ≡ 0 → AreCounted made (graft n place f)
   counted-graft made n (LastIn p) f s h b one out = record {
     once = λ x. times-hung x p (tree_at n f) (cut n f) (omega (arith, times-cut p n f)) ∙ times-cut x n f ∙ s.once x;

@@ -1,4 +1,4 @@
--- How often a node stands in a forest after each step of an edit.
+-- How often a node is in a forest after each step of an edit.
 use Rattle.std.proofs.Common.{◌≡◌, ℕ, zero, suc, ◌+◌, ◌≤◌, Bool, true, false, eqb, cond, refl, arith}
 use Rattle.hnodes.specs.Forest.{Forest, none, tree, times, join, children_of, change_children, put_before}
 use Rattle.hnodes.proofs.Forests.{times-join, change_children-absent}

@@ -27,7 +27,7 @@ module _ {N : Type 0} where
   pub below-among : (n : ℕ) (f : Forest N) (p : Below n f) (b : ℕ) → times b (children_of p.parent f) ≡ times b p.left + (cond (eqb n b) 1 0 + (times b p.kids + times b p.right))
   below-among n f p b = rw p.is (times-join b p.left (tree n p.what p.kids p.right))
 
-  -- a node that leaves its place stands for itself, and the others stand as before without it
+  -- a node that leaves its place stands for itself, and the others are as before without it
   pub Loose-cut : (look new : Look N) (n : ℕ) (f : Forest N) → times n f ≡ 1 → ((b : ℕ) → times b f ≤ 1) → ((b : ℕ) → new b ≡ detached n look b) → Loose look f → Loose new (cut n f) × Linked new None None (tree_at n f) None
   Loose-cut look new n f h once is s = go (level n f h once)
     where

@@ -1,4 +1,4 @@
--- How often a node is another one or inside it. Where each node stands once, 0 says that it is outside.
+-- How often a node is another one or inside it. Where each node is once, 0 says that it is outside.
 use Rattle.std.proofs.Common.{◌≡◌, ℕ, zero, suc, ◌+◌, ◌<◌, ◌≤◌, Bool, true, false, eqb, cond, if◌then◌else◌, refl, arith}
 use Rattle.hnodes.specs.Forest.{Forest, none, tree, times, join, tree_at, children_of}
 use Rattle.hnodes.proofs.Forests.{times-join, times-cut}
@@ -13,7 +13,7 @@ module _ {N : Type 0} where
   deep-join x y none g = omega arith
   deep-join x y (tree b w kids rest) g = omega (arith, deep-join x y rest g)
 
-  -- no node is inside another unless both stand in the forest
+  -- no node is inside another unless both are in the forest
   pub deep-lower : (x y : ℕ) (f : Forest N) → times x f ≡ 0 → deep x y f ≡ 0
   deep-lower x y none h = refl
   deep-lower x y (tree b w kids rest) h = go (deep-lower x y kids) (deep-lower x y rest) (eqb b y) (eqb b x) h

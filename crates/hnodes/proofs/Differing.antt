@@ -97,7 +97,7 @@ differ-is attrs names false p up h = go (names_differ nat_eq (map attribute_of a
 abbrev pub differ_from : ℕ → List Attr → Bool
 differ_from i attrs = names_differ nat_eq (map attribute_of (drop i attrs))
 
--- .. if this one's name is not among the others', and those differ
+-- if this one's name is not among the others', and those differ
 differ-step : (attrs : List Attr) (i : ℕ) (x : Attr) → i < length attrs → x ≡ get_or attrs i x → differ_from i attrs ≡ (not (list_any (λ (a : Attr). nat_eq a.name x.name) (drop (i + 1) attrs)) && differ_from (i + 1) attrs)
 differ-step attrs i x h is =
     ap (λ (l : List Attr). names_differ nat_eq (map attribute_of l)) (drop-cons attrs i x h ∙ (λ k. sym is k ∷ drop (sym (add-one i) k) attrs))

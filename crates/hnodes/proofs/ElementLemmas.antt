@@ -77,7 +77,7 @@ no-value is h (Some []) = refl
 no-value is h (Some (a ∷ attrs)) = no-value is h (Some attrs) ∙ ap (λ b. cond b (Some a.1) (value_in is attrs)) (sym (h a.0))
 
 module _ {N : Type 0} (f : Forest N) where
-  -- an element stands first among elements, and other nodes are passed over
+  -- an element is first among elements, and other nodes are passed over
   pub element-first : (n : ℕ) (ns : List ℕ) → is_element f n ≡ true → elements_among (n ∷ ns) f ≡ n ∷ elements_among ns f
   element-first n ns e = ap (λ b. cond b (n ∷ elements_among ns f) (elements_among ns f)) e
 

@@ -8,7 +8,7 @@ use Rattle.hnodes.proofs.Forests.{some_inj, times-join, join-none, cut-absent, t
 use Rattle.hnodes.proofs.Spots.{spot_below-absent, spot_of-absent, either-none}
 
 module _ {N : Type 0} where
-  -- where a number stands that is once in a tree and those after it
+  -- where a number is that is once in a tree and those after it
   pub data Sited (m b : ℕ) (kids rest : Forest N) : Type 0 where
     at_root : eqb b m ≡ true → times m kids ≡ 0 → times m rest ≡ 0 → Sited m b kids rest
     in_kids : eqb b m ≡ false → times m kids ≡ 1 → times m rest ≡ 0 → Sited m b kids rest

@@ -1,4 +1,4 @@
--- A node leaves its place and comes to another.
+-- A node leaves its place and is put at another.
 use Rattle.std.proofs.Common.{◌≡◌, ◌≢◌, ℕ, ◌+◌, ◌<◌, ◌≤◌, Option, Some, None, refl, sym, ◌∙◌, ap, subst, arith, ◌⊎◌, inl, inr}
 use Rattle.std.proofs.lemmas.Bool.{eq-eqb}
 use Rattle.hnodes.specs.Forest.{What, Forest, none, tree, size, times, join, tree_at, cut, change_children, children_of, IsOutside}

@@ -1,4 +1,4 @@
--- Where a number stands last in a list of numbers, and whether an attribute of a name is there.
+-- Where a number is last in a list of numbers, and whether an attribute of a name is there.
 use Rattle.std.proofs.Common.{◌≡◌, ℕ, zero, suc, ◌-◌, ◌<◌, ◌≤◌, ◌==◌, ◌||◌, Bool, true, false, cond, ltb, nat_eq, List, [], ◌∷◌, length, length-drop, map, get_or, take, drop, refl, sym, ◌∙◌, ap, arith}
 use Rattle.std.proofs.Math.Dec.{eqb-suc-suc}
 use Rattle.std.proofs.lemmas.Bool.{lt-ltb, le-ltb}
@@ -12,7 +12,7 @@ use Rattle.hnodes.specs.Numbered.{numbers_of}
 use Rattle.hnodes.specs.Rows.{attribute_of}
 
 module _ (s : ℕ → Bool) where
-  -- where it stands with a number more at the front, which is sought or not
+  -- where it is with a number more at the front, which is sought or not
   abbrev up : Bool → ℕ → ℕ
   up v zero = cond v 1 0
   up v (suc n) = suc (suc n)
@@ -45,7 +45,7 @@ pub searched-is : (name : ℕ) (attrs : List Attr) → list_any (λ (a : Attr). 
 searched-is name [] = refl
 searched-is name (a ∷ attrs) = ap (λ b. nat_eq a.name name || b) (searched-is name attrs)
 
--- a number stands somewhere where an attribute of its name is there
+-- a number is somewhere where an attribute of its name is there
 pub named-is : (names : List ℕ) (attrs : List Attr) (number name : ℕ) → names ≡ numbers_of attrs → number ≡ suc (suc name)
     → ltb 0 (last_up (λ k. k == number) names (length names)) ≡ list_any (λ a. nat_eq a.0 name) (map attribute_of attrs)
 named-is names attrs number name same is = (λ i. ltb 0 (last_up (λ k. k == is i) (same i) (length (same i)))) ∙ last-any (λ k. k == suc (suc name)) (numbers_of attrs) ∙ any-named name attrs

@@ -1,4 +1,4 @@
--- Whether a node is inside another: its parent tells.
+-- Whether a node is inside another: its parent says so.
 use Rattle.std.proofs.Common.{◌≡◌, ◌≢◌, ℕ, ◌+◌, ◌<◌, ◌≤◌, Bool, true, false, eqb, cond, Some, None, refl, sym, ◌∙◌, ap, subst, arith, ◌⊎◌, inl, inr}
 use Rattle.std.proofs.lemmas.Bool.{eq-eqb, ne_eqb}
 use Rattle.hnodes.specs.Forest.{What, Forest, none, tree, size, times, join, tree_at, children_of, IsOutside}

@@ -1,4 +1,4 @@
--- Where a node stands: among the roots, or among the children of a node.
+-- Where a node is: among the roots, or among the children of a node.
 use Rattle.std.proofs.Common.{◌≡◌, ℕ, zero, suc, ◌+◌, ◌≤◌, Bool, true, false, eqb, cond, refl, subst, arith, ◌⊎◌, inl, inr}
 use Rattle.std.proofs.lemmas.Bool.{eqb-true, eq-eqb}
 use Rattle.hnodes.specs.Forest.{What, Forest, none, tree, times, join, tree_at, cut, change_children, children_of, put_before}

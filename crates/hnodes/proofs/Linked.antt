@@ -8,7 +8,7 @@ use Rattle.hnodes.specs.Links.{Look, Linked, Loose, seen, seen_each, with_next, 
 use Rattle.hnodes.proofs.Forests.{some_inj, first_or-join, change_children-absent}
 
 module _ {N : Type 0} where
-  -- with enough depth, the siblings that stand there are those that are seen
+  -- with enough depth, the siblings that are there are those that are seen
   pub seen_linked : (look : Look N) (p x : Option ℕ) (f : Forest N) (k : ℕ) → Linked look p x f None → size f ≤ k → seen k look (first_or f None) ≡ f
   seen_linked look p x none zero s h = refl
   seen_linked look p x none (suc k) s h = refl
@@ -25,7 +25,7 @@ module _ {N : Type 0} where
       let right : seen_each k look (roots rest) ≡ rest = seen_loose look rest k s.1 (omega arith) in
       rw s.0.0 (λ i. tree b w (left i) (right i))
 
-  -- what stands in one look stands in another that agrees at its nodes
+  -- what is in one look is in another that agrees at its nodes
   pub Linked-agree : (look new : Look N) (p x : Option ℕ) (f : Forest N) (y : Option ℕ) → ((b : ℕ) → 0 < times b f → new b ≡ look b) → Linked look p x f y → Linked new p x f y
   Linked-agree look new p x none y same s = tt
   Linked-agree look new p x (tree b w kids rest) y same s = (

@@ -25,7 +25,7 @@ one_more n count = go (cases_lt n count) (cases_lt count n)
     go (inr a) (inr b) = rw (lt-leb (suc n) count (omega arith), eq-eqb count n (omega arith), le-leb (suc n) (suc count) (omega arith)) refl
 
 module _ {N : Type 0} where
-  -- what stands there is seen
+  -- what is there is seen
   pub whole-stands : (count : ℕ) (look : Look N) (f : Forest N) → StandsIn count look f → whole count look ≡ f
   whole-stands count look f s = rw (← s.loose_ones) (seen_loose look f count s.rows (rw s.all (omega arith)))
 

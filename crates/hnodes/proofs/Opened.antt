@@ -80,7 +80,7 @@ are_nodes t v o =
       fits = omega (arith, o.made, o.limit, o.fits);
     }
 
--- another forest stands in as many nodes
+-- another forest is in as many nodes
 pub edited : (t : Inside) (v : Nodes ℕ) (new : List Node) (g : Forest ℕ) → Opened t v → length new ≡ length t.nodes.items → StandsIn (length t.nodes.items) (look_in new) g → standing (look_in new 0) ≡ standing (look_in t.nodes.items 0)
     → ((f : Forest ℕ) × StandsIn (length new) (look_in new) f) × (standing (look_in new 0) ≡ Some (document, None)) × (length new ≤ t.limit)
 edited t v new g o same s d = ((g, rw same s), d ∙ o.begun, rw same o.fits)

@@ -28,7 +28,7 @@ module _ {N : Type 0} where
       is : deep x new (tree new w none none) ≡ 0
       is = rw (ne_eqb new x (λ e. h (sym e)), eq-eqb new new refl) refl
 
-  -- A node comes to a place.
+  -- A node is put at a place.
 
   -- where the place is outside of y, nothing more is inside y
   pub graft-deep : (x y n : ℕ) (place : Place) (f : Forest N) → times (place_node place) f ≤ 1 → deep (place_node place) y f ≡ 0 → deep x y (graft n place f) ≤ deep x y f
@@ -93,7 +93,7 @@ module _ {N : Type 0} where
     newest-outside y w h =
         deep-outside (made + 1) (join f (tree made w none none)) (counted-new made w f counted) made y (deep-new made y made w f h ∙ deep-lower made y f (not-there made f counted made (omega arith)))
 
-    -- a node comes to a place
+    -- a node is put at a place
     module _ (n : ℕ) (place : Place) (begun : 0 < n) (below : NotBefore 0 place) (there : place_node place < made) (apart : IsOutside (place_node place) n f) where
       grafted : AreCounted made (graft n place f)
       grafted = counted-graft made n place f counted begun below (is-there made f counted (place_node place) there) apart

@@ -1,4 +1,4 @@
--- A new node at a place: where it stands, and that a change of it changes what came there.
+-- A new node at a place: where it is, and that a change of it changes what came there.
 use Rattle.std.proofs.Common.{◌≡◌, ◌≢◌, ℕ, ◌+◌, ◌<◌, Bool, true, false, eqb, cond, List, Option, Some, None, refl, sym, ◌∙◌, ap, subst, arith, option_and_then, IsSome, ◌⊎◌, inl, inr}
 use Rattle.std.proofs.lemmas.Bool.{eq-eqb, ne_eqb}
 use Rattle.std.specs.Option.{option_map}
@@ -34,7 +34,7 @@ module _ {N : Type 0} where
   tree-made : (n : ℕ) (w : What N) (f : Forest N) → times n f ≡ 0 → tree_at n (join f (tree n w none none)) ≡ tree n w none none
   tree-made n w f h = tree_at-join n f (tree n w none none) h ∙ rw (eq-eqb n n refl) refl
 
-  -- a node that was just made comes to a place
+  -- a node that was just made is put at a place
   pub graft-made : (n : ℕ) (w : What N) (place : Place) (f : Forest N) → times n f ≡ 0 → graft n place (join f (tree n w none none)) ≡ placed place (tree n w none none) f
   graft-made n w (LastIn p) f h = λ i. hung p (tree-made n w f h i) (cut-join n w f h i)
   graft-made n w (Before s) f h = λ i. put_before s (tree-made n w f h i) (cut-join n w f h i)

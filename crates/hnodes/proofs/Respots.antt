@@ -1,4 +1,4 @@
--- Where a node stands once another one has become something else.
+-- Where a node is once another one has become something else.
 use Rattle.std.proofs.Common.{◌≡◌, ℕ, Bool, true, false, eqb, cond, if◌then◌else◌, List, ◌++◌, Option, Some, None, refl, sym, ◌∙◌, ap, option_and_then}
 use Rattle.std.proofs.lemmas.Bool.{eqb-true, eq-eqb}
 use Rattle.std.specs.Option.{option_map}

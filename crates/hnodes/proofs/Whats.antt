@@ -1,4 +1,4 @@
--- A node becomes something else, and stands where it stood.
+-- A node becomes something else, and is where it was.
 use Rattle.std.proofs.Common.{◌≡◌, ℕ, Bool, true, false, eqb, cond, ◌∷◌, Option, Some, None, refl, sym, ◌∙◌, ap, arith}
 use Rattle.std.specs.Option.{option_map}
 use Rattle.hnodes.specs.Forest.{What, document, Forest, none, tree, roots, size, times, change_what}

@@ -12,7 +12,7 @@ pub record Nodes (N : Type 0) : Type 0 where
   pub made : ℕ
   pub trees : Forest N
 
--- the node that a place is told by
+-- the node that names a place
 abbrev pub place_node : Place → ℕ
 place_node (LastIn p) = p
 place_node (Before s) = s
@@ -28,11 +28,11 @@ pub record AreNodes {N : Type 0} (t : Nodes N) : Type 0 where
   pub fits : t.made ≤ t.limit
 
 module _ {N : Type 0} where
-  -- node n, cut from where it stands, becomes the last child of p
+  -- node n, cut from where it is, becomes the last child of p
   abbrev pub graft_last : (n p : ℕ) → Forest N → Forest N
   graft_last n p f = change_children p (λ kids. join kids (tree_at n f)) (cut n f)
 
-  -- node n, cut from where it stands, comes right before node s
+  -- node n, cut from where it is, comes right before node s
   abbrev pub graft_before : (n s : ℕ) → Forest N → Forest N
   graft_before n s f = put_before s (tree_at n f) (cut n f)
 
@@ -86,8 +86,8 @@ module _ {N : Type 0} where
   abbrev pub make : What N → Nodes N → Nodes N
   make w t = record t { made = t.made + 1; trees = join t.trees (tree t.made w none none) }
 
-  -- Insert a character (13.2.6.1): where a text stands right before the place, it gets the character; else a new text is made
-  -- of it and comes to the place.
+  -- Insert a character (13.2.6.1): where a text is right before the place, it gets the character; else a new text is made
+  -- of it and is put at the place.
   abbrev pub char_into : ℕ → Place → Option ℕ → Nodes N → Nodes N
   char_into c place (Some n) t = record t { trees = change_what n (with_char c) t.trees }
   char_into c place None t =

@@ -1,4 +1,4 @@
--- Forests: the tree of a document, and the trees that stand loose. Names are of any kind: texts in the rules of HTML, and numbers
+-- Forests: the tree of a document, and the trees that are loose. Names are of any kind: texts in the rules of HTML, and numbers
 -- in a vector of nodes.
 use Rattle.std.specs.Prelude.{◌≡◌, ℕ, ◌+◌, eqb, List, [], ◌∷◌, if◌then◌else◌}
 
@@ -40,7 +40,7 @@ module _ {N : Type 0} where
   join none g = g
   join (tree b w kids rest) g = tree b w kids (join rest g)
 
-  -- the tree of node n, wherever it stands
+  -- the tree of node n, wherever it is
   abbrev pub tree_at : ℕ → Forest N → Forest N
   tree_at n none = none
   tree_at n (tree b w kids rest) =

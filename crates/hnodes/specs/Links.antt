@@ -33,7 +33,7 @@ module _ {N : Type 0} where
   abbrev pub alone : What N → Row N
   alone w = record { what = w; parent = None; first = None; last = None; previous = None; next = None }
 
-  -- the trees stand in what is seen, linked one to the next, below a parent, after one sibling and before another
+  -- the trees are in what is seen, linked one to the next, below a parent, after one sibling and before another
   abbrev pub Linked : Look N → (parent before : Option ℕ) → Forest N → (after : Option ℕ) → Type 0
   Linked look p before none after = Unit {0}
   Linked look p before (tree b w kids rest) after =
@@ -41,7 +41,7 @@ module _ {N : Type 0} where
       × Linked look (Some b) None kids None
       × Linked look p (Some b) rest after
 
-  -- the trees stand in what is seen, each for itself
+  -- the trees are in what is seen, each for itself
   abbrev pub Loose : Look N → Forest N → Type 0
   Loose look none = Unit {0}
   Loose look (tree b w kids rest) = Linked look None None (tree b w kids none) None × Loose look rest
@@ -98,7 +98,7 @@ module _ {N : Type 0} where
   abbrev pub whole : ℕ → Look N → Forest N
   whole count look = seen_each count look (loose count look)
 
-  -- a forest stands in what is seen of this many nodes, and holds each of them once
+  -- a forest is in what is seen of this many nodes, and holds each of them once
   pub record StandsIn (count : ℕ) (look : Look N) (f : Forest N) : Type 0 where
     pub rows : Loose look f
     pub loose_ones : roots f ≡ loose count look
@@ -124,7 +124,7 @@ module _ {N : Type 0} where
   abbrev pub with_what : (What N → What N) → Row N → Row N
   with_what f r = record r { what = f r.what }
 
-  -- where a node stands among its siblings
+  -- where a node is among its siblings
   abbrev pub with_place : (parent previous next : Option ℕ) → Row N → Row N
   with_place p x y r = record r { parent = p; previous = x; next = y }
 

@@ -1,4 +1,4 @@
--- Attributes, and the numbers of their names: a name has the number that is greater by two, since 1 stands where nothing is.
+-- Attributes, and the numbers of their names: a name has the number that is greater by two, since 1 is where nothing is.
 use Rattle.std.specs.Prelude.{◌≡◌, ℕ, suc, List, length, map, nat_eq, take}
 use Rattle.hnodes.specs.Differing.{names_differ}
 use Rattle.hnodes.specs.Forest.{Attribute}

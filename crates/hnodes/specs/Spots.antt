@@ -1,4 +1,4 @@
--- Where a node stands, and what can be asked of it.
+-- Where a node is, and what can be asked of it.
 use Rattle.std.specs.Prelude.{ℕ, Bool, eqb, List, [], ◌∷◌, Option, Some, None, if◌then◌else◌, option_and_then}
 use Rattle.std.specs.Option.{option_map}
 use Rattle.hnodes.specs.Forest.{Attribute, What, document, doctype, element, comment, text, Forest, none, tree}

@@ -9,7 +9,7 @@ use Rattle.hnodes.specs.declared.tree.Tree.TheInside.{Inside}
 abbrev pub nodes_of : Inside → Nodes ℕ
 nodes_of t = record { limit = t.limit; made = length t.nodes.items; trees = whole (length t.nodes.items) (look_in t.nodes.items) }
 
--- a forest stands there, the first node is the document, and there are no more nodes than may be
+-- a forest is there, the first node is the document, and there are no more nodes than may be
 abbrev pub IsTree : Inside → Type 0
 IsTree t = ((f : Forest ℕ) × StandsIn (length t.nodes.items) (look_in t.nodes.items) f) × (standing (look_in t.nodes.items 0) ≡ Some (document, None))
     × (length t.nodes.items ≤ t.limit)

@@ -31,7 +31,7 @@ use std::marker::Model;
 /// drop, and the moves and the questions allocate nothing.
 ///
 /// A [`Place`] is where a node goes in the tree. `at`, in a call that returns a [`Refusal`], is the byte offset from 0 of the
-/// token that the call is made for, which the refusal reports. A [`NodeId`] is a node, wherever it stands.
+/// token that the call is made for, which the refusal reports. A [`NodeId`] is a node, wherever it is.
 #[derive(Drop)]
 pub struct Tree {
     nodes: Vec<Node>,
@@ -80,7 +80,7 @@ impl Tree {
         NodeId { number: 0 }
     }
 
-    /// Its nodes are numbered in the order in which they were made, and each stands in it once.
+    /// Its nodes are numbered in the order in which they were made, and each is in it once.
     pub fn are_nodes(&self)
         ensures { AreNodes self.now }
     {
@@ -195,7 +195,7 @@ impl Tree {
         Ok(NodeId { number })
     }
 
-    /// Moves a node from where it stands to the end of another's children.
+    /// Moves a node from where it is to the end of another's children.
     pub fn append(&mut self, child: NodeId, parent: NodeId)
         requires child_in { child < self.old.made }
         requires parent_in { parent < self.old.made }
@@ -210,7 +210,7 @@ impl Tree {
         hook(&mut self.nodes, child, parent, last, NodeLink::none());
     }
 
-    /// Moves a node from where it stands to right before another, which has a parent.
+    /// Moves a node from where it is to right before another, which has a parent.
     pub fn insert_before(&mut self, child: NodeId, sibling: NodeId)
         requires child_in { child < self.old.made }
         requires sibling_in { sibling < self.old.made }
@@ -235,7 +235,7 @@ impl Tree {
         }
     }
 
-    /// Moves a node from where it stands to a place.
+    /// Moves a node from where it is to a place.
     pub fn insert(&mut self, child: NodeId, place: Place)
         requires child_in { child < self.old.made }
         requires place { IsPlace place self.old }

@@ -115,7 +115,7 @@ module _ (from to : ℕ) (new : OpenNode ℕ) (ys : List (OpenNode ℕ)) (window
   alike-sets : (set : NameSet) → is_in set (get_or ys from new) ≡ is_in set new
   alike-sets set = ap (λ (m : ℕ). is_in_set set (tag_of m)) window.name
 
-  -- an item below the window, mended
+  -- an item below the window, with its places set right
   module _ (j : ℕ) (below : to < j) (within : j < length ys) (x : KeptNode) (here : get_or ys j new ≡ opened_by x) (kept : IsKept x (reverse (take j ys))) where
     same-node : x.same_node ≡ place_in (λ y. y.node == x.opened.node) (exchanged from to new ys) j
     same-node = kept.same_node ∙ subst (λ (o : OpenNode ℕ). place_in (λ y. y.node == o.node) ys j ≡ place_in (λ y. y.node == o.node) (exchanged from to new ys) j) here (sym (node-stays j below within))

@@ -1,4 +1,4 @@
--- An exchange of two members of a vector in the words on lists whose nearest member stands first.
+-- An exchange of two members of a vector in the words on lists whose nearest member is first.
 use Rattle.std.proofs.Common.{◌≡◌, ℕ, suc, ◌+◌, ◌-◌, ◌<◌, ◌≤◌, Bool, true, false, cond, not, List, [], ◌∷◌, ◌++◌, Option, Some, None, length, map, take, drop, reverse, insert, remove, refl, sym, ◌∙◌, ap, arith}
 use Rattle.std.specs.List.{remove_range, position, position_or_len}
 use Rattle.std.specs.Prelude.{MatchOption}

@@ -95,7 +95,7 @@ module _ {Y : Type 0} (sought : Y → Bool) where
           below (inl l) = lt-ltb (position_or_len sought ys) (length ys) l ∙ sym (lt-ltb (1 + position_or_len sought ys) (suc (length ys)) (omega arith))
           below (inr g) = le-ltb (position_or_len sought ys) (length ys) g ∙ sym (le-ltb (1 + position_or_len sought ys) (suc (length ys)) (omega arith))
 
-  -- one that is sought stands somewhere
+  -- one that is sought is somewhere
   pub is_some-position : (ys : List Y) → is_some (position sought ys) ≡ list_any sought ys
   is_some-position ys = go (ltb (position_or_len sought ys) (length ys)) ∙ sym (any-position_or_len ys)
     where

@@ -24,7 +24,7 @@ module _ {N : Type 0} where
   current-drop (suc n) [] = refl
   current-drop (suc n) (y ∷ ys) = current-drop n ys
 
-  -- the topmost of many stands in the upper part where there is one
+  -- the topmost of many is in the upper part where there is one
   topmost-append : (tag : N → Tag) (xs ys : List (OpenNode N)) → topmost_special tag (xs ++ ys) ≡ option_or (topmost_special tag ys) (topmost_special tag xs)
   topmost-append tag [] ys = option_or-none (topmost_special tag ys)
   topmost-append tag (x ∷ xs) ys =

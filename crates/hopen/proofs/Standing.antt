@@ -97,7 +97,7 @@ numbers-replaced items i x names nodes within all name_in node_in =
     let rest = numbers-less items (suc i) i (get_or items i x) refl within (get_or_default items i x (get_or items i x) within) names nodes all in
     rw (drop-set items i x within, add-one) (name_in, node_in, rest.2)
 
--- .. and where a run of items leaves
+-- and where a run of items leaves
 numbers-drop : (k : ℕ) (items : List KeptNode) (names nodes : ℕ) → AreIn names nodes items → AreIn names nodes (drop k items)
 numbers-drop zero items names nodes all = all
 numbers-drop (suc k) [] names nodes all = all

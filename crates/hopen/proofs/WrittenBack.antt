@@ -14,7 +14,7 @@ written_back new old n lent same is long = ap (λ k. take k (new ++ drop (length
     all : length new ≡ n
     all = sym (length-map new opened_by) ∙ ap length same ∙ length-map lent opened_by ∙ long
 
--- where tables say the same places of the same items, these stand in them
+-- where tables say the same places of the same items, these are in them
 pub stands_same : (old new : LastPlaces) (xs ys : List KeptNode) → ((k : ℕ) → slice_index new.names.items k ≡ slice_index old.names.items k)
     → ((k : ℕ) → slice_index new.nodes.items k ≡ slice_index old.nodes.items k) → ys ≡ xs → Stands old xs → Stands new ys
 stands_same old new xs ys names nodes same s =

@@ -1,5 +1,5 @@
 -- A node leaves the open nodes, and a new one of its name comes right below another one, which is nearer. In a vector the nearest
--- stands last. The window is what stands from the one that leaves down to that other one.
+-- is last. The window is what is from the one that leaves down to that other one.
 use Rattle.std.specs.Prelude.{◌≡◌, ℕ, suc, ◌<◌, ◌≤◌, ◌==◌, Bool, true, false, List, length, get_or, map, take, reverse, insert, remove}
 use Rattle.hopen.specs.Stack.{OpenNode}
 use Rattle.hopen.specs.Places.{last_place}
@@ -13,7 +13,7 @@ use Rattle.hopen.specs.declared.name_sets.NameSet.{NameSet}
 use Rattle.hopen.specs.declared.name_sets.SetPlaces.{SetPlaces}
 
 module _ {Y : Type 0} where
-  -- the member at an index leaves, and a new one comes, which then stands at another index
+  -- the member at an index leaves, and a new one comes, which then is at another index
   abbrev pub exchanged : (from to : ℕ) → Y → List Y → List Y
   exchanged from to new ys = insert (remove ys from) to new
 

@@ -1,14 +1,14 @@
--- Words on lists whose nearest member stands first: the stack of open elements from its current node on, and the list of active
+-- Words on lists whose nearest member is first: the stack of open elements from its current node on, and the list of active
 -- formatting elements from its last entry on.
 use Rattle.std.specs.Prelude.{ℕ, zero, suc, Bool, List, [], ◌∷◌, if◌then◌else◌}
 
 module _ {X : Type 0} where
-  -- what stands before the nearest member that is sought, or all where there is none
+  -- what is before the nearest member that is sought, or all where there is none
   abbrev pub before : (X → Bool) → List X → List X
   before sought [] = []
   before sought (x ∷ rest) = if sought x then [] else x ∷ before sought rest
 
-  -- what stands after the nearest member that is sought, or nothing where there is none
+  -- what is after the nearest member that is sought, or nothing where there is none
   abbrev pub after : (X → Bool) → List X → List X
   after sought [] = []
   after sought (x ∷ rest) = if sought x then rest else after sought rest

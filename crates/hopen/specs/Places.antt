@@ -1,4 +1,4 @@
--- Where the nearest member that is sought stands, counted from the farthest one.
+-- Where the nearest member that is sought is, counted from the farthest one.
 use Rattle.std.specs.Prelude.{◌≡◌, ℕ, ◌==◌, Bool, List, [], ◌∷◌, length, slice_index, if◌then◌else◌}
 
 module _ {X : Type 0} where

@@ -29,7 +29,7 @@ stops_item tag.Div = false
 stops_item tag.P = false
 stops_item t = is_special t
 
--- whether an element of a name tells the insertion mode when it is reset (13.2.4.1)
+-- whether an element of a name determines the insertion mode when it is reset (13.2.4.1)
 abbrev pub tells_mode : Tag → Bool
 tells_mode tag.Body = true
 tells_mode tag.Caption = true

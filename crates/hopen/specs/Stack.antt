@@ -1,4 +1,4 @@
--- The stack of open elements (13.2.4.2) as a list, the current node first: a node that the Standard calls above another stands after
+-- The stack of open elements (13.2.4.2) as a list, the current node first: a node that the Standard calls above another is after
 -- it. Names are of any kind: texts in the rules of HTML, and numbers in the code.
 use Rattle.std.specs.Prelude.{ℕ, Bool, false, not, ◌&&◌, ◌||◌, ◌==◌, List, [], ◌∷◌, Option, Some, None, if◌then◌else◌}
 use Rattle.std.specs.List.{list_any}

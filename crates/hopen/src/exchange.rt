@@ -55,7 +55,7 @@ pub(crate) fn is_window(last: &LastPlaces, items: &[KeptNode], window: Window, n
     are_alone(last, items, window)
 }
 
-/// An index below a window up to which the nearest node of a name below it stands; the end of the window if there is none.
+/// An index below a window up to which the nearest node of a name below it is; the end of the window if there is none.
 fn end_of_name(last: &LastPlaces, items: &[KeptNode], window: Window, name: NameId) -> usize
     requires stands { Stands last.now items.now }
     requires places { length items.now < 2 ^ 32 }

@@ -42,7 +42,7 @@ pub(crate) fn stops_item(tag: Tag) -> bool
     }
 }
 
-/// Whether an element of a name tells the insertion mode when it is reset.
+/// Whether an element of a name determines the insertion mode when it is reset.
 fn tells_mode(tag: Tag) -> bool
     ensures { result ≡ tells_mode tag }
 {
@@ -70,7 +70,7 @@ pub enum Group {
     TableSection,
     /// td and th.
     Cell,
-    /// The elements that tell the insertion mode when it is reset (13.2.4.1): body, caption, colgroup, table, tbody, td, tfoot, th,
+    /// The elements that determine the insertion mode when it is reset (13.2.4.1): body, caption, colgroup, table, tbody, td, tfoot, th,
     /// thead and tr.
     TellsMode,
 }

@@ -177,7 +177,7 @@ impl OpenStack {
     }
 
     /// Takes a node out and puts a new one right below another, in place of it (13.2.6.4.7, the end of the adoption agency). Where the
-    /// new node has the name of the one that leaves, and stands below it, this takes a step for each node from the one that leaves down
+    /// new node has the name of the one that leaves, and is below it, this takes a step for each node from the one that leaves down
     /// to the other, and for each node below up to the last that keeps a place among these.
     pub fn exchange(&mut self, leaving: NodeId, above: NodeId, new: Open) -> Result<(), AllocError>
         requires { is_open leaving self.old.stack ≡ true }

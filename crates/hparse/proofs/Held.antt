@@ -200,7 +200,7 @@ module _ {S : Type 0} (gives : S → Item → Result (Unit {0}) Refusal → S �
         (λ more end. subst (λ (x : List Placed). AreFront m.table (start_kind m.start) x end h.taken) (with_more items xs more)
         (taken_front m.table (start_kind m.start) old.tokenizer old.names (characters_among items) h.taken h.has_taken (characters_among xs ++ characters_among more) end))
 
-  -- .. or all were taken, and then characters
+  -- or all were taken, and then characters
   pub holds_told : Grows old.names new.names → (xs : List CharItem) (mid : S) → HandsEvents gives old.names old.sink (map Reports (errors_among xs)) (Ok tt) mid → new.unfed ≡ [] → (answer : Result (Unit {0}) Refusal) → new.stopped ≡ is_err answer
       → Takes gives m.table (start_kind m.start) (characters_among items) (characters_among xs) h.taken new.names mid answer new.sink new.tokenizer → TakesItems gives m began items xs answer new
   holds_told grows xs mid given unfed answer noted takes = holds_items grows xs mid (told_after (errors_among xs) (Ok tt) mid given) unfed answer noted takes

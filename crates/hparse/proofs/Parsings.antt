@@ -90,7 +90,7 @@ module _ (opts : ParseOptions) (parse_case : ParseCase) (bytes : List ℕ) (old 
       parse_answered (parses_taken opts parse_case h.began bytes reading.feeding.names reading.feeding.sink h.unrefused h.begins later grows are h.none_told h.root_is parsed t (r (still_unrefused bytes reading.feeding.names reading.feeding.sink t)))
   ends_built reading later grows are (Err e) (input_comes t) r = parse_ran_out (ap (λ (x : Refusal). Err x) (r (still_unrefused bytes reading.feeding.names reading.feeding.sink t)))
 
-  -- .. wherever it ended
+  -- wherever it ended
   pub built_answers : (reading : Reading Building) (later : Texts) → Grows reading.feeding.names later → AreNames later → (result : Result Parsed Refusal) → BuiltBy later reading.feeding.sink result
       → (all : List ℕ) → IsTaken builds (manner opts parse_case) h.began all reading.feeding.names reading.feeding.sink → (result ≡ Err Memory) ⊎ AnswersParse opts parse_case all result
   built_answers reading later grows are (Ok parsed) r all t =

@@ -42,7 +42,7 @@ module _ (table : Entities) (of : BadBytes) (limit : ℕ) where
                 (IsPermutation-trans all now.errors.items run.errors.items (errors_gathered names began now t.tokens all t.handed no_errors) r.errors_are) r.sorted t.whole,
           )
 
-  -- .. or memory ran out
+  -- or memory ran out
   module _ (began : Began Collected) (names : Texts) (now : Collected) (no_tokens : began.sink.tokens.items ≡ []) (no_errors : began.sink.errors.items ≡ []) where
     pub run_answers : (result : Result TokenRun Refusal) → MatchResult result (IsRunOf names now) (λ refusal. refusal ≡ Memory) → (bytes : List ℕ) → IsTaken collects (as_document table of limit) began bytes names now
         → (result ≡ Err Memory) ⊎ AnswersRun table how bytes result

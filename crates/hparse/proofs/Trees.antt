@@ -1,4 +1,4 @@
--- What the input of a builder comes to, with names as texts.
+-- What the input of a builder becomes, with names as texts.
 use Rattle.std.proofs.Common.{◌≡◌, ℕ, List, [], ◌++◌, map, sym, refl, ap, ◌∙◌, subst, None, Ok, Err, append_assoc, inl, inr}
 use Rattle.std.specs.Prelude.{◌⊎◌}
 use Rattle.std.specs.List.Sorted.{IsPermutation}
@@ -62,7 +62,7 @@ module _ (opts : ParseOptions) (parse_case : ParseCase) (began : Began Building)
       (subst (λ (ps : List (PlacedToken (List ℕ))). Steps texts ps (spelled_state spell began.sink.state) (outcome_map (spelled_state spell) o)) (tokens_spelled later are ts tokens (tokens_kept names later grows ts tokens mean))
       ((steps_spelled numbers texts spell (table-agrees later are)).steps (map placed_number ts) began.sink.state o steps))
 
-  -- .. where all of them were handed over
+  -- where all of them were handed over
   gone : (tokens : List Tok) (errors : List ParseError) → Handed builds names began tokens errors (Ok tt) now → Steps texts (map placed tokens) (begins opts parse_case) (Goes (spelled_state spell now.state))
   gone tokens errors h = in_texts h.grows (tokens_handed h.items) tokens (Goes now.state) h.tokens_mean (became began.sink now h.items unrefused h.hands).steps
 

@@ -1,4 +1,4 @@
--- What a reader's input has come to, turn by turn.
+-- What a reader's input has become, turn by turn.
 use Rattle.std.proofs.Common.{false, ◌≡◌, ℕ, ◌+◌, ◌-◌, ◌<◌, ◌≤◌, List, [], ◌++◌, length, take, refl, sym, ap, subst, ◌∙◌, append-nil, append_assoc, arith, length-append, length-drop, Option, Result, Ok, Err, inl, inr}
 use Rattle.std.specs.Prelude.{◌⊎◌}
 use Rattle.std.specs.Io.KnownBytes.{Consumes, IsAtEnd, Keeps}
@@ -73,7 +73,7 @@ module _ {S R : Type 0} (left : R → Option (List ℕ)) (failed : R → ℕ) (g
         let each : turn ≤ length h.fed = h.each_turn in
         omega (arith, length-append before h.fed)
 
-    -- .. so none comes after more than that
+    -- so none comes after more than that
     pub no_turn : (most : ℕ) (come : List ℕ → Result (Unit {0}) Refusal → Type 0) (answer : Result (Unit {0}) Refusal) → m.limit + 3 < turn → ReadsInput left failed come (IsUnrefused gives m began) most before old now answer
     no_turn most come answer many =
         let few : turn ≤ m.limit + 3 = few_turns in
@@ -144,7 +144,7 @@ unrefused_text gives m began reading bytes h =
           (ap characters_among all ∙ characters_among-items text) h.holds.was_fed.has_taken;
     }
 
--- What an input comes to is shown as an answer of another kind.
+-- What an input becomes is shown as an answer of another kind.
 module _ {R A B : Type 0} (left : R → Option (List ℕ)) (failed : R → ℕ) (come : List ℕ → Result A Refusal → Type 0) (answers : List ℕ → Result B Refusal → Type 0) (held stands : List ℕ → Type 0) (kept : (bytes : List ℕ) → held bytes → stands bytes)
     (piece : ℕ) (before : List ℕ) (old new : R) where
   -- a refusal

@@ -26,11 +26,11 @@ of_document bad limit = record { bom = Drop; bad = bad; limit = limit }
 abbrev pub read_text : Policy → List ℕ → List Placed
 read_text how bytes = map character_of (decoded how bytes)
 
--- errors stand in the order of their places, and at one place in that of their codes
+-- errors are in the order of their places, and at one place in that of their codes
 abbrev pub error_cmp : ParseError → ParseError → Ordering
 error_cmp a b = ordering_then (nat_cmp a.at b.at) (nat_cmp (code_rank a.code) (code_rank b.code))
 
--- A document's text is refused for a start tag that stands in it.
+-- A document's text is refused for a start tag that is in it.
 pub record IsTextRefusal (table : Entities) (text : List Placed) (end : ℕ) (refusal : Refusal) : Type 0 where
   pub tokens : List Tok
   pub name : RefusedName

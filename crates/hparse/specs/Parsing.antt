@@ -23,7 +23,7 @@ use Rattle.hparse.specs.Input.{Began}
 use Rattle.hnodes.specs.Named.{AreOf}
 use Rattle.hparse.specs.Parse.{ParseCase, document, fragment, ParseOptions, Parse, Parses, manner, root_of}
 
--- what options tell
+-- what options say
 abbrev pub options_of : Options → ParseOptions
 options_of options = record {
   table = options.table.now;

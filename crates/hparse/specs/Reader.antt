@@ -1,4 +1,4 @@
--- What reading an input from a reader does. `left` says the bytes that the reader has left, where it tells, and `failed` how many
+-- What reading an input from a reader does. `left` says the bytes that the reader has left, where it says, and `failed` how many
 -- of its calls have failed; `answers` says which are the answers of an input's bytes, and `unrefused` that nothing of them is refused,
 -- whatever follows them.
 use Rattle.std.specs.Prelude.{◌≡◌, ℕ, ◌≤◌, List, ◌++◌, length, Option, Result, Err}

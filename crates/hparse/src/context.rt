@@ -16,7 +16,7 @@ fn is_lower(byte: u8) -> bool
     byte >= b'a' && byte <= b'z'
 }
 
-/// Whether it may stand in a context's name after the first one.
+/// Whether it may be in a context's name after the first one.
 fn is_name_byte(byte: u8) -> bool
     ensures { result ≡ is_name_byte byte }
 {

@@ -4,7 +4,7 @@ use hnodes::{NodeId, Tree};
 use names::{Names, ParseError};
 
 /// The tree of a document or a fragment and the parse errors, with the table of the tree's names. The root is the document, or
-/// a fragment's root element: the fragment is what stands in it.
+/// a fragment's root element: the fragment is what is in it.
 #[derive(Drop)]
 pub struct Parsed {
     pub tree: Tree,

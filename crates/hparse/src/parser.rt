@@ -63,7 +63,7 @@ impl<'t> Parser<'t> {
         })
     }
 
-    /// Parses the next piece. What the bytes so far are refused for, whatever comes after them, may be told here.
+    /// Parses the next piece. What the bytes so far are refused for, whatever comes after them, may be returned here.
     pub fn feed(&mut self, piece: &[u8]) -> Result<(), Refusal>
         ensures feeds { (opts : ParseOptions) (parse_case : ParseCase) (bytes : List ℕ) → HasParsed opts parse_case self.old bytes
             → FeedsParser opts parse_case (bytes ++ piece.now) result self.new }

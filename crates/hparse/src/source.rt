@@ -5,7 +5,7 @@ ghost use Rattle.hparse.specs.Calls.{counted_by, Reads};
 
 /// A reader that counts its failed calls.
 pub trait Source {
-    // The bytes that reads will give from here on, where the reader tells.
+    // The bytes that reads will give from here on, where the reader says.
     ghost left: { Self → Option (List ℕ) };
 
     // How many calls have failed.

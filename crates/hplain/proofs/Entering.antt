@@ -28,7 +28,7 @@ fits content.TableRows u = not u
 fits content.Cells u = not u
 fits _ u = true
 
--- phrasing elements, and no others, have what stands around them; but for those that insert a marker, whose content is flow, they
+-- phrasing elements, and no others, have what is around them; but for those that insert a marker, whose content is flow, they
 -- have no content of their own that takes elements
 abbrev is_inline : Content → Bool
 is_inline content.Around = true
@@ -105,7 +105,7 @@ place_in c t a = record { content = c; texts = t; in_a = a.in_a; in_button = a.i
 abbrev pub place_below : Tag → Around → Inside
 place_below t a = let own = content_among a.in_phrasing (row t).1 in place_in own (texts_in own) a
 
--- where the children of an element that inserts no marker stand
+-- where the children of an element that inserts no marker are
 pub record IsEntered (t : Tag) (inside : Inside) (a : Around) : Type 0 where
   pub below : place_below t (marked t true a) ≡ inside
   pub fit : fits (content_among (marked t true a).in_phrasing (row t).1) (marked t true a).in_phrasing ≡ true

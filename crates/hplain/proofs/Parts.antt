@@ -1,4 +1,4 @@
--- Where a part stands in a text.
+-- Where a part is in a text.
 use Rattle.std.proofs.Common.{◌≡◌, ℕ, Bool, true, false, List, [], ◌∷◌, ◌++◌, drop, length, refl, ap}
 use Rattle.std.proofs.lemmas.Bool.Decides.{Decides-eqb}
 use Rattle.std.proofs.lemmas.Slice.Eq.{starts_is}
@@ -30,7 +30,7 @@ stands part (b ∷ bs) (y ∷ before) after is = go (begins_with part (b ∷ bs)
     go true h = refl
     go false h = h
 
--- a test that is true where a part stands in a text is whether it does
+-- a test that is true where a part is in a text is whether it does
 pub has-part : (part t : List ℕ) (u : Bool) → (u ≡ true → HasSubslice t part) → (HasSubslice t part → u ≡ true) → u ≡ has_part part t
 has-part part t true to from = let (before, after, is) = to refl in let there : has_part part t ≡ true = stands part t before after is in cc
 has-part part t false to from = go (has_part part t) refl

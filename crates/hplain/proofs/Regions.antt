@@ -1,4 +1,4 @@
--- A list is content of what it stands in exactly if each of its regions is, and no form stands in a form.
+-- A list is content of what it is in exactly if each of its regions is, and no form is in a form.
 use Rattle.std.proofs.Common.{◌≡◌, ℕ, ◌<◌, Bool, true, false, not, cond, List, [], ◌∷◌, Some, None, refl, sym, ◌∙◌, ap, subst, option_and_then}
 use Rattle.std.specs.List.{AllByRecursion}
 use Rattle.std.specs.Option.{option_map}
@@ -38,7 +38,7 @@ no_form true false = refl
 no_form false true = refl
 no_form false false = refl
 
--- an element that stands in none of its name, whether forms are asked for or not
+-- an element that is in none of its name, whether forms are asked for or not
 nested_apart : (i : Inside) (t : Tag) → not (is_nested i t) ≡ (not (is_nested (without_form i) t) && not (i.in_form && is_form t))
 nested_apart i tag.A = no_form i.in_form (not i.in_a)
 nested_apart i tag.Button = no_form i.in_form (not i.in_button)
@@ -144,7 +144,7 @@ by_regions i (tree n w kids rest) =
 -- THE WALK THAT FINDS REGIONS
 
 module _ (spelling : ℕ → List ℕ) (tags : (id : ℕ) → tag_of id ≡ tag_named (spelling id)) (f : Forest ℕ) where
-  -- whether a form is around, as long as none stands in a form and the regions are content
+  -- whether a form is around, as long as none is in a form and the regions are content
   abbrev pub enters : ℕ → Option Bool → Option Bool
   enters n s = option_and_then (λ u. form_after spelling f (Enter n) u) s
 
@@ -212,7 +212,7 @@ module _ (spelling : ℕ → List ℕ) (tags : (id : ℕ) → tag_of id ≡ tag_
       go true true back inner law =
           ap (λ o. walked enters leaves Whole rest (leaves b o)) (inner within) ∙ after (have_plain_regions within (spelled spelling kids)) (have_plain_regions u (spelled spelling rest)) (back refl) law
 
--- where a list stands at the top
+-- where a list is at the top
 top_is : (c : Content) (form : Bool) → in_context_of c form ≡ option_map (λ own. record { content = own; texts = texts_at_top own; in_a = false; in_button = false; in_form = form }) (top_content c)
 top_is content.Flow form = refl
 top_is _ form = refl
@@ -229,7 +229,7 @@ top_other c top h = ap is_other h ∙ go c
     go content.Flow = refl
     go _ = refl
 
--- a list is plain if its top region is content, and so are the others, and no form stands in a form
+-- a list is plain if its top region is content, and so are the others, and no form is in a form
 pub plain_is : (context : List ℕ) (t : Tag) (top : Content) (f : Forest (List ℕ)) → in_context_of (row t).1 (is_form t) ≡ in_context context → Some top ≡ top_content (row t).1
     → (are_region_content (in_region top) f && have_plain_regions (is_form t) f) ≡ is_plain context f
 plain_is context t top f named topmost =

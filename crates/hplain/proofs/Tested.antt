@@ -55,7 +55,7 @@ module _ (spelling : ℕ → List ℕ) (tags : (id : ℕ) → tag_of id ≡ tag_
       go true h = h
       go false h = refl
 
-  -- where the children of a node stand
+  -- where the children of a node are
   abbrev content_in : ℕ → Bool → Content
   content_in p u = cond (eqb p root) top (content_among u (row (tag_at p f)).1)
 
@@ -108,7 +108,7 @@ module _ (spelling : ℕ → List ℕ) (tags : (id : ℕ) → tag_of id ≡ tag_
   goes (element name attrs) = ap (λ t. not (inserts_marker t)) (tags name)
   goes _ = refl
 
-  -- what a plain node asks of where its children stand
+  -- what a plain node asks of where its children are
   abbrev Stands : (p b : ℕ) → Around → Inside → Type 0
   Stands p b a i = (place b (marked (tag_at b f) true a) ≡ i) × (fits (content_in b (marked (tag_at b f) true a).in_phrasing) (marked (tag_at b f) true a).in_phrasing ≡ true)
 
@@ -121,7 +121,7 @@ module _ (spelling : ℕ → List ℕ) (tags : (id : ℕ) → tag_of id ≡ tag_
       around : marked (tag_at b f) true a ≡ marked t true a
       around = ap (λ u. marked u true a) same
 
-  -- what is around a plain node is around what comes after it, and its children stand in it where no marker hides that
+  -- what is around a plain node is around what comes after it, and its children are in it where no marker hides that
   record IsAgain (p b : ℕ) (w : What ℕ) (a : Around) : Type 0 where
     below : begins w ≡ false → Stands p b a (without_form (inside_node (spelled_what spelling w) (place p a)))
     back : marked (tag_at b f) false (marked (tag_at b f) true a) ≡ a

@@ -87,7 +87,7 @@ row_tr = refl
 row_cells : map row (Td ∷ Th ∷ []) ≡ replicate 2 (role.Cell, content.Flow)
 row_cells = refl
 
--- no other name stands in a plain list
+-- no other name is in a plain list
 abbrev stands_nowhere : Role → Bool
 stands_nowhere role.Nowhere = true
 stands_nowhere _ = false

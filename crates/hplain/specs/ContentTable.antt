@@ -11,7 +11,7 @@ use Rattle.names.specs.declared.tag.Tag.{Tag}
 use Rattle.names.specs.declared.tag.Tag.TheVariants as tag
 
 abbrev pub row : Tag → Role × Content
--- phrasing elements, with what stands around them
+-- phrasing elements, with what is around them
 row tag.A = (Phrasing, content.Around)
 row tag.B = (Phrasing, content.Around)
 row tag.Big = (Phrasing, content.Around)
@@ -121,7 +121,7 @@ row tag.Th = (Cell, content.Flow)
 row tag.Body = (Nowhere, content.Flow)
 row _ = (Nowhere, content.Empty)
 
--- whether elements of this role stand in this content
+-- whether elements of this role are in this content
 abbrev pub takes_role : Content → Role → Bool
 takes_role content.Flow Phrasing = true
 takes_role content.Flow Flow = true

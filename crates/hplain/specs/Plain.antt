@@ -19,7 +19,7 @@ use Rattle.hplain.specs.declared.content.Texts.TheVariants as texts
 abbrev pub begins_with : List ℕ → List ℕ → Bool
 begins_with part t = starts_with nat_eq t part
 
--- whether a part stands somewhere in a text
+-- whether a part is somewhere in a text
 abbrev pub has_part : List ℕ → List ℕ → Bool
 has_part part [] = begins_with part []
 has_part part (b ∷ bs) = begins_with part (b ∷ bs) || has_part part bs
@@ -28,7 +28,7 @@ has_part part (b ∷ bs) = begins_with part (b ∷ bs) || has_part part bs
 abbrev pub is_clean : List ℕ → Bool
 is_clean t = list_all (λ b. not (b == 0 || b == 13)) t
 
--- whether a text may stand where these may
+-- whether a text may be where these may
 abbrev pub is_among_texts : Texts → List ℕ → Bool
 is_among_texts texts.Any t = true
 is_among_texts texts.WhiteSpace t = list_all is_ascii_whitespace t
@@ -58,7 +58,7 @@ are_plain_attributes (a ∷ others) = is_plain_name a.0 && is_clean a.1 && not (
 
 -- LISTS OF TREES
 
--- Where a list of trees stands: its content and its texts, whether an a or a button is around it with no marker between, and whether
+-- Where a list of trees is: its content and its texts, whether an a or a button is around it with no marker between, and whether
 -- a form is at any distance.
 pub record Inside : Type 0 where
   pub content : Content
@@ -67,14 +67,14 @@ pub record Inside : Type 0 where
   pub in_button : Bool
   pub in_form : Bool
 
--- elements that stand in none of their name
+-- elements that are in none of their name
 abbrev pub is_nested : Inside → Tag → Bool
 is_nested inside tag.A = inside.in_a
 is_nested inside tag.Button = inside.in_button
 is_nested inside tag.Form = inside.in_form
 is_nested inside _ = false
 
--- the content of an element, where it stands in this one
+-- the content of an element, where it is in this one
 abbrev pub content_within : Content → Content → Content
 content_within outer content.Around = outer
 content_within outer own = own
@@ -91,7 +91,7 @@ abbrev pub is_form : Tag → Bool
 is_form tag.Form = true
 is_form _ = false
 
--- where the children of an element stand
+-- where the children of an element are
 abbrev pub inside_element : Tag → Inside → Inside
 inside_element t inside =
     let own = content_within inside.content (row t).1 in
@@ -135,7 +135,7 @@ is_plain_node inside (comment t) kids rest = takes_comments inside.content && is
 is_plain_node inside document kids rest = false
 is_plain_node inside (doctype n p s) kids rest = false
 
--- the trees of a list are content of what they stand in
+-- the trees of a list are content of what they are in
 abbrev pub are_content : Inside → Forest (List ℕ) → Bool
 are_content inside none = true
 are_content inside (tree n w kids rest) = is_plain_node inside w kids rest && are_content (inside_node w inside) kids && are_content inside rest
@@ -146,7 +146,7 @@ are_content inside (tree n w kids rest) = is_plain_node inside w kids rest && ar
 abbrev pub at_top : Content → Texts → (in_form : Bool) → Option Inside
 at_top own allowed in_form = Some (record { content = own; texts = allowed; in_a = false; in_button = false; in_form = in_form })
 
--- what may stand in a context of this content: flow in the lists too, no texts in the parts of a table, any text in a raw one
+-- what may be in a context of this content: flow in the lists too, no texts in the parts of a table, any text in a raw one
 abbrev pub in_context_of : Content → (in_form : Bool) → Option Inside
 in_context_of content.Flow form = at_top content.Flow texts.Any form
 in_context_of content.Phrasing form = at_top content.Flow texts.Any form
@@ -162,7 +162,7 @@ in_context_of content.ScriptText form = at_top content.Text texts.Any form
 in_context_of content.Columns form = None
 in_context_of content.Empty form = None
 
--- where the list of a fragment in this context stands, if there are plain ones there; a context form is around it
+-- where the list of a fragment in this context is, if there are plain ones there; a context form is around it
 abbrev pub in_context : List ℕ → Option Inside
 in_context context = in_context_of (row (tag_named context)).1 (is_form (tag_named context))
 

@@ -18,7 +18,7 @@ pre_context = refl
 textarea_plain : is_plain (codes "textarea") (tx (codes "</textarea>&") none) ≡ true
 textarea_plain = refl
 
--- nothing stands in a void element, nor in a text
+-- nothing is in a void element, nor in a text
 void_plain : is_plain (codes "p") (el (codes "br") (tx (codes "x") none) none) ≡ false
 void_plain = refl
 

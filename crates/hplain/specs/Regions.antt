@@ -1,5 +1,5 @@
--- Lists of trees by regions. A marker hides what is around it, but for a form. So what stands in an element that inserts one is a region by itself, and
--- a list is content of what it stands in exactly if each of its regions is, and no form stands in a form.
+-- Lists of trees by regions. A marker hides what is around it, but for a form. So what is in an element that inserts one is a region by itself, and
+-- a list is content of what it is in exactly if each of its regions is, and no form is in a form.
 use Rattle.std.specs.Prelude.{ℕ, Bool, true, false, not, ◌&&◌, ◌||◌, List, Option, Some, None, if◌then◌else◌}
 use Rattle.names.specs.Tags.{tag_named}
 use Rattle.hnodes.specs.Forest.{What, element, Forest, none, tree, children_of}
@@ -29,14 +29,14 @@ without_form inside = record inside { in_form = false }
 abbrev pub in_region : Content → Inside
 in_region own = record { content = own; texts = texts_at_top own; in_a = false; in_button = false; in_form = false }
 
--- the trees of a region are content of what they stand in, wherever forms are
+-- the trees of a region are content of what they are in, wherever forms are
 abbrev pub are_region_content : Inside → Forest (List ℕ) → Bool
 are_region_content inside none = true
 are_region_content inside (tree n w kids rest) =
     is_plain_node inside w kids rest && (if begins_region w then true else are_region_content (without_form (inside_node w inside)) kids)
     && are_region_content inside rest
 
--- the regions inside the trees of a list are content, each that of flow, and no form stands in a form
+-- the regions inside the trees of a list are content, each that of flow, and no form is in a form
 abbrev pub have_plain_regions : (in_form : Bool) → Forest (List ℕ) → Bool
 have_plain_regions in_form none = true
 have_plain_regions in_form (tree n w kids rest) =
@@ -44,7 +44,7 @@ have_plain_regions in_form (tree n w kids rest) =
     && have_plain_regions (in_form || makes_form w) kids && have_plain_regions in_form rest
 
 module _ (spelling : ℕ → List ℕ) where
-  -- whether a form is around what comes after a visit, if none stands in a form, and what stands in a region that is entered is its content
+  -- whether a form is around what comes after a visit, if none is in a form, and what is in a region that is entered is its content
   abbrev pub form_after : Forest ℕ → Visit → (in_form : Bool) → Option Bool
   form_after f (Enter n) in_form =
       if in_form && is_form (tag_at n f) then None

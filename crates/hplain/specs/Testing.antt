@@ -1,4 +1,4 @@
--- What a walk knows of where a node stands, and what it tests there. Names are numbers, and texts are theirs.
+-- What a walk knows of where a node is, and what it tests there. Names are numbers, and texts are theirs.
 use Rattle.std.specs.Prelude.{ℕ, Bool, true, false, not, ◌&&◌, eqb, List, Option, Some, None, codes, map, option_and_then, if◌then◌else◌}
 use Rattle.names.specs.declared.tag.Tag.{Tag}
 use Rattle.names.specs.declared.tag.Tag.TheVariants as tag
@@ -19,7 +19,7 @@ use Rattle.hserialize.specs.declared.walk.Visit.TheVariants.{Enter, Leave}
 
 -- CONTENT
 
--- the content of the children of an element, where phrasing elements alone may stand around it or flow elements too
+-- the content of the children of an element, where phrasing elements alone may be around it or flow elements too
 abbrev pub content_among : (in_phrasing : Bool) → Content → Content
 content_among in_phrasing content.Around = if in_phrasing then content.Phrasing else content.Flow
 content_among in_phrasing own = own

@@ -1,4 +1,4 @@
-//! Where a list of trees stands.
+//! Where a list of trees is.
 
 ghost use Rattle.std.specs.Prelude.{◌≡◌, if◌then◌else◌};
 ghost use Rattle.hplain.specs.Plain.{is_a, is_button, is_nested};
@@ -50,7 +50,7 @@ impl Around {
         }
     }
 
-    /// The same once an element of this name is entered, or left. None of these stands in its own kind, and none inserts a marker.
+    /// The same once an element of this name is entered, or left. None of these is in its own kind, and none inserts a marker.
     pub(crate) fn marked(self, tag: Tag, inside: bool) -> Around
         ensures { result ≡ marked tag inside self }
     {
@@ -62,7 +62,7 @@ impl Around {
     }
 }
 
-/// Where a list of trees stands: its content and its texts, and what is around it.
+/// Where a list of trees is: its content and its texts, and what is around it.
 #[derive(Clone, Copy)]
 pub(crate) struct Standing {
     pub(crate) content: Content,
@@ -94,7 +94,7 @@ impl Standing {
         }
     }
 
-    /// Whether an a would stand in an a, or a button in a button.
+    /// Whether an a would be in an a, or a button in a button.
     pub(crate) fn is_nested(self, tag: Tag) -> bool
         ensures { result ≡ is_nested (inside_is self) tag }
     {

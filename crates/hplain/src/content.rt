@@ -28,7 +28,7 @@ pub enum Role {
 /// What the children of an element are, besides comments.
 #[derive(Clone, Copy)]
 pub enum Content {
-    /// What may stand around the element.
+    /// What may be around the element.
     Around,
     /// Texts, phrasing elements and flow elements.
     Flow,
@@ -56,7 +56,7 @@ pub enum Content {
     Empty,
 }
 
-/// Which texts may stand in a list.
+/// Which texts may be in a list.
 #[derive(Clone, Copy)]
 pub enum Texts {
     Any,
@@ -69,7 +69,7 @@ pub enum Texts {
 }
 
 impl Content {
-    /// Whether elements of this role stand in this content.
+    /// Whether elements of this role are in this content.
     pub(crate) fn takes_role(self, role: Role) -> bool
         ensures { result ≡ takes_role self role }
     {

@@ -32,7 +32,7 @@ fn tag_at(tree: &Tree, node: NodeId) -> Tag
     }
 }
 
-/// Where a node stands, inside a root whose children are this content.
+/// Where a node is, inside a root whose children are this content.
 fn standing_of(tree: &Tree, root: NodeId, top: Content, around: Around, node: NodeId) -> Standing
     requires { node < tree.now.made }
     ensures { result ≡ standing_of root top around (parent_of node tree.now.trees) tree.now.trees }
@@ -152,7 +152,7 @@ fn after_visit(
     }
 }
 
-/// Whether what stands in a node is content of it, wherever forms are, down to the elements that insert a marker: what stands in
+/// Whether what is in a node is content of it, wherever forms are, down to the elements that insert a marker: what is in
 /// those is a region by itself.
 fn is_plain_region(tree: &Tree, names: &Names, root: NodeId, top: Content) -> bool
     requires made { root < tree.now.made }
@@ -178,7 +178,7 @@ fn is_form(tag: Tag) -> bool
     matches!(tag, Tag::Form)
 }
 
-/// Whether a form is around the nodes that come after a visit. None if a form stands in a form, or if what stands in an element
+/// Whether a form is around the nodes that come after a visit. None if a form is in a form, or if what is in an element
 /// that inserts a marker is not its content. No marker hides a form.
 fn form_after(tree: &Tree, names: &Names, in_form: bool, visit: Visit) -> Option<bool>
     requires made { node_of visit < tree.now.made }

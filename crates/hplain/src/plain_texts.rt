@@ -12,7 +12,7 @@ use crate::content::Texts;
 use hserialize::name_text;
 use names::{Attr, Names};
 
-/// Whether a part stands in a text.
+/// Whether a part is in a text.
 fn has_part(text: &str, part: &str) -> bool
     ensures { result ≡ has_part part.now text.now }
 {
@@ -44,7 +44,7 @@ fn is_white_space(text: &str) -> bool
         .all(|byte| byte.is_ascii_whitespace())
 }
 
-/// Whether a text may stand where these may.
+/// Whether a text may be where these may.
 fn is_among_texts(allowed: Texts, text: &str) -> bool
     ensures { result ≡ is_among_texts allowed text.now }
 {
@@ -57,7 +57,7 @@ fn is_among_texts(allowed: Texts, text: &str) -> bool
     }
 }
 
-/// Whether a text is plain where these texts may stand.
+/// Whether a text is plain where these texts may be.
 pub(crate) fn is_plain_text(allowed: Texts, text: &str) -> bool
     ensures { result ≡ is_plain_text allowed text.now }
 {
@@ -75,7 +75,7 @@ pub(crate) fn is_plain_comment(text: &str) -> bool
         && !begins_with(text, "->")
 }
 
-/// Whether a byte may stand in the name of an attribute.
+/// Whether a byte may be in the name of an attribute.
 fn is_name_byte(byte: u8) -> bool
     ensures { result ≡ is_name_byte byte }
 {

@@ -26,7 +26,7 @@ no_level depth level h = let none : depth - level ≡ 0 = omega arith in ap (λ 
 pub one_level : (depth level : ℕ) → level < depth → repeat (depth - level) (codes "  ") ≡ codes "  " ++ repeat (depth - (level + 1)) (codes "  ")
 one_level depth level h = let one : depth - level ≡ suc (depth - (level + 1)) = omega arith in ap (λ n. repeat n (codes "  ")) one
 
--- the words of a line, and what stands around them
+-- the words of a line, and what is around them
 pub line_parts : (depth : ℕ) (words : List ℕ) → indented depth words ≡ (codes "| " ++ repeat depth (codes "  ")) ++ (words ++ codes "\n")
 line_parts depth words = append_assoc (codes "| " ++ repeat depth (codes "  ")) words (codes "\n")
 

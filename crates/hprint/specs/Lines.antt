@@ -12,7 +12,7 @@ use Rattle.hserialize.specs.Words.{is_empty}
 abbrev pub indented : ℕ → List ℕ → List ℕ
 indented depth words = codes "| " ++ repeat depth (codes "  ") ++ words ++ codes "\n"
 
--- attributes in the order of their names' bytes, those of one name as they stand
+-- attributes in the order of their names' bytes, those of one name as they are
 abbrev pub put_in : Attribute (List ℕ) → List (Attribute (List ℕ)) → List (Attribute (List ℕ))
 put_in a [] = a ∷ []
 put_in a (b ∷ others) = if is_lt (slice_cmp nat_cmp b.0 a.0) then b ∷ put_in a others else a ∷ b ∷ others

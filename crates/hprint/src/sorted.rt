@@ -24,7 +24,7 @@ fn add<'a>(entries: &mut Vec<NamedAttr<'a>>, added: NamedAttr<'a>)
     prove!(is_added);
 }
 
-/// Makes these the attributes, as they stand.
+/// Makes these the attributes, as they are.
 fn enter<'a>(entries: &mut Vec<NamedAttr<'a>>, names: &'a Names, attrs: &'a [Attr])
     requires room { length attrs.now ≤ vec_capacity entries.old }
     requires names { AttributesAreOf names.now (map attribute_of attrs.now) }
@@ -39,7 +39,7 @@ fn enter<'a>(entries: &mut Vec<NamedAttr<'a>>, names: &'a Names, attrs: &'a [Att
     }
 }
 
-/// Makes these the attributes in the order of the names' bytes; those of one name stay as they stand. No memory is taken.
+/// Makes these the attributes in the order of the names' bytes; those of one name stay as they are. No memory is taken.
 pub(crate) fn in_order<'a>(entries: &mut Vec<NamedAttr<'a>>, names: &'a Names, attrs: &'a [Attr])
     requires room { length attrs.now ≤ vec_capacity entries.old }
     requires names { AttributesAreOf names.now (map attribute_of attrs.now) }

@@ -1,4 +1,4 @@
--- What the words tell, where they are read.
+-- What the words say, where they are read.
 use Rattle.std.proofs.Common.{◌≡◌, ◌∙◌, ap, ap₂, sym, subst, codes, Option, option_map, ℕ, List, Ok, Err}
 use Rattle.std.specs.Borrow.{Bor}
 use Rattle.clap.specs.Words.{Text}

@@ -1,5 +1,5 @@
 -- What the program does in its surroundings. `has_words`, `cannot_begin` (there are no words, or no keys), `opens` and `cannot_open` say
--- what calls of the surroundings returned; of a reader `left` says the bytes that it has left, where it tells, and of a writer `written`
+-- what calls of the surroundings returned; of a reader `left` says the bytes that it has left, where it says, and of a writer `written`
 -- those that it has taken; `failed` says how many of their calls have failed.
 use Rattle.std.specs.Prelude.{◌≡◌, ◌⊎◌, ℕ, List, [], true, false, Option, None, Some, Result, Ok, Err, IfSome, MatchResult, option_map, codes}
 use Rattle.clap.specs.Words.{Text, takes}
@@ -31,7 +31,7 @@ abbrev pub outcome_of : Result (Unit {0}) Refusal → Result (Unit {0}) Fault
 outcome_of (Ok _) = Ok tt
 outcome_of (Err refusal) = Err (fault.Refused refusal)
 
--- what the program is told to do, with what
+-- what the program is to do, with what
 pub record ParseOptions : Type 0 where
   pub task : Task
   pub context : Option Text
@@ -89,7 +89,7 @@ module _ {R : Type 0} (has_text : R → List ℕ → List ℕ → Type 0) (lacks
   abbrev pub FindsQuirks : R → Option Text → Result (List QuirkLine) Fault → Type 0
   FindsQuirks = Finds [] ReadsQuirks
 
-  -- What the words tell, where all that they name is found and accepted.
+  -- What the words say, where all that they name is found and accepted.
   pub record Tells (surroundings : R) (words : List Text) (opts : ParseOptions) : Type 0 where
     pub task : task_of words ≡ Some opts.task
     pub context : opts.context ≡ value_of words (codes "in")

@@ -25,7 +25,7 @@ pub enum Reads {
 pub struct CommandEntry {
     pub name: &'static str,
     pub about: &'static str,
-    /// What stands at the end of its help.
+    /// What is at the end of its help.
     pub example: &'static str,
     pub reads: Reads,
 }

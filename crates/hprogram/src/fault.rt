@@ -9,7 +9,7 @@ use names::Refusal;
 use std::alloc::AllocError;
 use thiserror::Error;
 
-/// Why the program ends without an answer. The text stands in its line on standard error.
+/// Why the program ends without an answer. The text is in its line on standard error.
 #[derive(Debug, Drop, Error)]
 pub enum Fault {
     /// Out of memory while the command line was read.

@@ -13,7 +13,7 @@ use Rattle.hserialize.specs.declared.escaping.Escaping.{Escaping}
 use Rattle.hserialize.specs.declared.escaping.Setting.{Setting}
 use Rattle.hserialize.proofs.Output.{HasLeft, none_put, part_put, part_failed}
 
--- What stands before `done` is written, and so far each character after it is written as it is.
+-- What is before `done` is written, and so far each character after it is written as it is.
 pub record IsEscaping (how : Escaping) (setting : Setting) (source : List ℕ) (done at : ℕ) (rest : List ℕ) (old now : Taken) : Type 0 where
   pub before : List ℕ
   pub run : List ℕ

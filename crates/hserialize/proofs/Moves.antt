@@ -29,7 +29,7 @@ module _ (made : ℕ) (f : Forest ℕ) (counted : AreCounted made f) (root : ℕ
   placed : (q m : ℕ) (w : What ℕ) (L k R : Forest ℕ) → q < made → m < made → children_of q f ≡ join L (tree m w k R) → spot_of m f ≡ Some (spot_among m q w L k R (Some q) None)
   placed q m w L k R h h' is = child-spot m q w L k R f (is-there made f counted q h) (is-there made f counted m h') is
 
-  -- A walk that has come to a child is to visit it, the siblings after it, and what comes after the end of their parent.
+  -- A walk that has reached a child is to visit it, the siblings after it, and what comes after the end of their parent.
   pub comes : (reach : Reach) (q m : ℕ) (w : What ℕ) (L k R : Forest ℕ) → q < made → children_of q f ≡ join L (tree m w k R) → IsTrue (is_among root (way_up (Some q) f))
       → (visits_from reach root (Some (Enter m)) f ≡ visits reach (tree m w k R) ++ after_ends reach root (way_up (Some q) f) f) × IsInside made root f m
   comes reach q m w L k R h is inside = (

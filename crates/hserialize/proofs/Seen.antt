@@ -1,4 +1,4 @@
--- What is asked of the nodes inside one is what stands in their trees.
+-- What is asked of the nodes inside one is what is in their trees.
 use Rattle.std.proofs.Common.{◌≡◌, ℕ, ◌<◌, Bool, true, false, eqb, cond, List, [], ◌∷◌, ◌++◌, Some, None, refl, sym, ◌∙◌, ap, subst, option_and_then}
 use Rattle.std.proofs.lemmas.Bool.{eq-eqb}
 use Rattle.std.specs.List.{AllByRecursion}
@@ -23,7 +23,7 @@ use Rattle.hserialize.specs.declared.walk.Visit.{Visit}
 use Rattle.hserialize.specs.declared.walk.Visit.TheVariants.{Leave}
 use Rattle.hserialize.proofs.Moves.{comes, parents}
 
--- what is asked of node b, where it stands with these children below p, before these siblings
+-- what is asked of node b, where it is with these children below p, before these siblings
 pub record IsSeen (made : ℕ) (f : Forest ℕ) (root p b : ℕ) (w : What ℕ) (kids rest : Forest ℕ) : Type 0 where
   pub made_is : b < made
   pub other : eqb b root ≡ false
@@ -100,7 +100,7 @@ lent-visits names made f root reach counted h of =
     subst (AllByRecursion (λ v. IsLent names made f (node_of v))) (append-nil (visits reach (children_of root f)))
     (each-visits (IsLent names made f) reach (children_of root f) [] (each-lent names made f root root (children_of root f) (seen made f counted root h) of) tt)
 
--- a node that was made, where the names of what stands in it are those of the table
+-- a node that was made, where the names of what is in it are those of the table
 abbrev pub IsRoot : Texts → (made : ℕ) → Forest ℕ → ℕ → Type 0
 IsRoot names made f n = (n < made) × AreOf names (children_of n f)
 

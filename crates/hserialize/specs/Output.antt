@@ -22,7 +22,7 @@ pub data WritesText {W : Type 0} (written : W → Option (List ℕ)) (failed : W
   -- it was written, and handed on
   text_written : answer ≡ Ok tt → Appends (written old) (written new) text → failed new ≡ failed old → WritesText written failed text old new answer
 
--- what a target tells of itself, which one it is, and the bytes that are held for it
+-- what a target says of itself, which one it is, and the bytes that are held for it
 pub record Taken : Type 0 where
   pub name : ℕ
   pub bytes : Option (List ℕ)

@@ -18,7 +18,7 @@ node_of (Enter n) = n
 node_of (Leave n) = n
 
 -- elements that insert a marker into the list of active formatting elements (13.2.6.4.7, 13.2.6.4.9, 13.2.6.4.14): an a and a button
--- are not around what stands in them
+-- are not around what is in them
 abbrev pub inserts_marker : Tag → Bool
 inserts_marker tag.Caption = true
 inserts_marker tag.Td = true

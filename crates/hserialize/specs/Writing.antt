@@ -17,7 +17,7 @@ abbrev pub holds_raw : Option ℕ → Bool
 holds_raw None = false
 holds_raw (Some name) = has_no_references (raw_kind (tag_of name))
 
--- the same of what stands next to a node
+-- the same of what is next to a node
 abbrev pub stands_raw : ℕ → Forest ℕ → Bool
 stands_raw n f = holds_raw (option_and_then (λ p. name_of p f) (parent_of n f))
 

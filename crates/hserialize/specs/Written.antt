@@ -19,7 +19,7 @@ has_no_references kind.Rawtext = true
 has_no_references kind.Script = true
 has_no_references kind.Plaintext = true
 
--- the same of what stands in an element of this name, or in no element
+-- the same of what is in an element of this name, or in no element
 abbrev pub is_raw_in : Option (List ℕ) → Bool
 is_raw_in None = false
 is_raw_in (Some name) = has_no_references (raw_kind (tag_named name))
@@ -37,7 +37,7 @@ end_tag_text name = codes "</" ++ name ++ codes ">"
 abbrev pub element_text : Escaping → List ℕ → List (Attribute (List ℕ)) → List ℕ → List ℕ
 element_text escaping name attrs children = start_tag_text escaping name attrs ++ (if is_void (tag_named name) then [] else children ++ end_tag_text name)
 
--- a node, given that as well, where it stands among texts that are written as they are, or not
+-- a node, given that as well, where it is among texts that are written as they are, or not
 abbrev pub node_text : Escaping → Bool → What (List ℕ) → List ℕ → List ℕ
 node_text escaping raw (element name attrs) children = element_text escaping name attrs children
 node_text escaping raw (text t) children = if raw then t else escaped escaping Text t
@@ -50,6 +50,6 @@ written_among escaping raw none = []
 written_among escaping raw (tree n w kids rest) =
     node_text escaping raw w (written_among escaping (is_raw_in (name_in w)) kids) ++ written_among escaping raw rest
 
--- a list of trees that stands in an element of this name, or in none
+-- a list of trees that is in an element of this name, or in none
 abbrev pub written : Escaping → Option (List ℕ) → Forest (List ℕ) → List ℕ
 written escaping name f = written_among escaping (is_raw_in name) f

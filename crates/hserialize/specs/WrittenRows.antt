@@ -54,7 +54,7 @@ style_at_root : written One (Some (codes "html")) (tx (codes "a<b") none) ≡ co
 unfolding chars encode_utf8
 style_at_root = refl
 
--- a void element has no end tag, and what stands in it is not written
+-- a void element has no end tag, and what is in it is not written
 void_written : written One (Some (codes "p")) (el (codes "br") (tx (codes "x") none) (tx (codes "y") none)) ≡ codes "<br>y"
 unfolding chars encode_utf8
 void_written = refl

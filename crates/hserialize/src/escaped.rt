@@ -35,7 +35,7 @@ pub(crate) fn put_escaped<W: Target>(
     ensures { Puts (taken W.written W.failed out.old) (taken W.written W.failed out.new) (escaped escaping setting source.now) result }
 {
     let bytes = source.as_bytes();
-    // What stands before is written.
+    // What is before is written.
     let mut done = 0;
     for (at, ch) in source.char_indices() {
         if let Some(reference) = reference(ch, escaping, setting) {

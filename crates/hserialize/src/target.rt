@@ -10,7 +10,7 @@ use names::Refusal;
 
 /// A writer that counts its failed calls.
 pub trait Target {
-    // All bytes that the writer has taken, where it tells.
+    // All bytes that the writer has taken, where it says.
     ghost written: { Self → Option (List ℕ) };
 
     // How many calls have failed.

@@ -24,7 +24,7 @@ pub enum Visit {
 pub enum Reach {
     /// All.
     Whole,
-    /// Elements that are not void: what stands in a void element, or in a node that is no element, is not written.
+    /// Elements that are not void: what is in a void element, or in a node that is no element, is not written.
     Written,
     /// All but elements that insert a marker into the list of active formatting elements.
     Region,

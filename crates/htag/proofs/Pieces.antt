@@ -40,7 +40,7 @@ pub errors-even : (quoted : Bool) (piece : Piece) → is_even piece.text → pie
 errors-even true piece even = append-nil piece.errors
 errors-even false piece even = append-nil (errors_at UnexpectedCharacterInUnquotedAttributeValue is_odd piece.text ++ piece.errors) ∙ ap (λ (x : List ParseError). x ++ piece.errors) even
 
--- the characters that may stand in a reference before its last one
+-- the characters that may be in a reference before its last one
 abbrev pub is_quiet : ℕ → Bool
 is_quiet c = is_alphanumeric c || eqb c 35
 

@@ -16,7 +16,7 @@ use Rattle.htag.specs.declared.value.ValueWalk.{ValueWalk}
 use Rattle.htag.specs.ValueWalk.{EndsValue}
 use Rattle.htag.specs.TagWalk.{NoValue, names_after, HasAttributes}
 
--- A tag of this kind has begun; its name stands in the walk already.
+-- A tag of this kind has begun; its name is in the walk already.
 pub record IsBegun (kind : TagKind) (walk : TagWalk) : Type 0 where
   pub kind_is : walk.kind ≡ kind
   pub in_name : walk.phase ≡ phase.Name
@@ -28,7 +28,7 @@ pub record IsBegun (kind : TagKind) (walk : TagWalk) : Type 0 where
 abbrev pub attribute_of : TagWalk → Attribute
 attribute_of walk = record { name = string_bytes walk.attribute; value = string_bytes walk.value.text; at = walk.place }
 
--- An attribute has been read to its end: it is kept, or told as a repeated one.
+-- An attribute has been read to its end: it is kept, or reported as a duplicate.
 pub record EndsAttribute (before after : Texts) (old : TagWalk) (errors : List ParseError) (new : TagWalk) (later : List ParseError) : Type 0 where
   pub kind_is : new.kind ≡ old.kind
   pub phase_is : new.phase ≡ phase.BeforeAttribute

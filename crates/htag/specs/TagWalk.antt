@@ -60,7 +60,7 @@ pub record InName (walk : TagWalk) (held : List Placed) (own : List ParseError) 
   pub no_value : NoValue walk.value
   pub own_is : own ≡ attribute_name_errors held
 
--- past it, where such characters stand
+-- past it, where such characters are
 pub record PastName (is_such : List Placed → Bool) (walk : TagWalk) (held : List Placed) (own : List ParseError) : Type 0 where
   pub name : List Placed
   pub sign : List Placed
@@ -131,7 +131,7 @@ HasPhase (phase.Quoted mark) table walk parts held own = InQuotes table mark wal
 HasPhase phase.Unquoted table walk parts held own = InUnquoted table walk held own
 HasPhase phase.AfterQuoted table walk parts held own = PastQuotes table walk held own
 
--- past the tag's name a character that ends it stands
+-- past the tag's name a character that ends it is
 abbrev pub IsPast : TagState → Bool → Type 0
 IsPast phase.Name ended = Unit {0}
 IsPast other ended = ended ≡ true

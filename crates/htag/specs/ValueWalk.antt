@@ -41,7 +41,7 @@ pub record InReference (table : Entities) (reference : Walk) (walk : ValueWalk) 
   pub kept_is : walk.held.items ≡ characters (kept reference.state taken)
   pub bytes : string_bytes walk.text ≡ value_bytes pieces
 
--- after an `&` that no key begins: its run of alphanumerics stands in the walk's text
+-- after an `&` that no key begins: its run of alphanumerics is in the walk's text
 pub record InRun (table : Entities) (walk : ValueWalk) (pieces : List Piece) (held : List Placed) : Type 0 where
   pub amp : Placed
   pub run : List Placed

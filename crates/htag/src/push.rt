@@ -76,7 +76,7 @@ pub(crate) fn push_all(text: &mut String, characters: &[char]) -> Result<(), All
     Ok(())
 }
 
-/// How many bytes of an ASCII text stand before the first one that is this character.
+/// How many bytes of an ASCII text are before the first one that is this character.
 pub(crate) fn count_before(text: &str, mark: char) -> usize
     ensures counted { result ≡ prefix_len (λ c. not (c == mark)) text.now }
     ensures few { result ≤ length text.now }
@@ -89,7 +89,7 @@ pub(crate) fn count_before(text: &str, mark: char) -> usize
     text.len()
 }
 
-/// How many bytes of a text stand before the first one that may have a meaning in a name or in a value without quotes.
+/// How many bytes of a text are before the first one that may have a meaning in a name or in a value without quotes.
 pub(crate) fn count_word(text: &str) -> usize
     ensures counted { result ≡ prefix_len is_word_byte text.now }
     ensures few { result ≤ length text.now }

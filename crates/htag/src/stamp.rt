@@ -1,4 +1,4 @@
-//! Asks and tells which names a tag has had.
+//! Keeps which names a tag has had.
 
 ghost use Rattle.std.specs.Prelude.{◌≡◌, ◌∷◌, ◌<◌, ◌^◌, ℕ, List, [], not, IfOk};
 ghost use Rattle.htag.specs.Seen.{HasSeen, has_number};
@@ -28,7 +28,7 @@ impl Seen {
         }
     }
 
-    /// Adds a name, and tells whether the tag had none of this number.
+    /// Adds a name; returns whether the tag had none of this number.
     pub fn add(&mut self, number: usize) -> Result<bool, AllocError>
         requires { number < 2 ^ 63 }
         ensures { IfOk result (λ first. (numbers : List ℕ) → HasSeen self.old numbers

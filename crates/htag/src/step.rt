@@ -1,4 +1,4 @@
-//! A tag's name, and what stands between its attributes.
+//! A tag's name, and what is between its attributes.
 
 ghost use Rattle.std.specs.Prelude.{◌≡◌, OnOk};
 ghost use Rattle.names.specs.Names.{Grows};

@@ -40,7 +40,7 @@ pub struct TagWalk<'t> {
 }
 
 impl<'t> TagWalk<'t> {
-    /// A walk that has read nothing: it tells of a start tag without a name and without attributes.
+    /// A walk that has read nothing: it is that of a start tag without a name and without attributes.
     pub fn new(alloc: Global) -> TagWalk<'t>
         ensures begun { IsBegun Start result }
         ensures name { string_bytes result.name ≡ [] }
@@ -85,7 +85,7 @@ impl<'t> TagWalk<'t> {
         self.begin_parts(TagKind::End);
     }
 
-    /// Takes the next character, and tells whether the tag has ended with it. Each call for one tag is handed the same tables and
+    /// Takes the next character; returns whether the tag has ended with it. Each call for one tag is handed the same tables and
     /// the errors that the calls before it left.
     pub fn take_char(
         &mut self,

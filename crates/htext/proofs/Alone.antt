@@ -65,7 +65,7 @@ alone_first (x ∷ xs) b some is high out =
     let none : 0xC2 ≤ x → x ≤ 0xF4 → ⊥ = λ low most. out (omega (arith, is, low)) (omega (arith, is, most)) in
     (begins_none x xs (omega (arith, is, high)) (λ y ys e low most a c. none low most), first_by x xs (is_in_range 0xC2 0xF4 x) none refl)
 
--- .. or the byte after it goes on with none
+-- or the byte after it goes on with none
 second_by : (x z : ℕ) (zs : List ℕ) (t : Bool) → (128 ≤ z → z ≤ 191 → ⊥) → is_in_range (second_byte_min x) (second_byte_max x) z ≡ t → utf8_error_len (x ∷ z ∷ zs) ≡ Some 1
 second_by x z zs true out e = let r = tested_follows x z e in absurd (out r.least r.most)
 second_by x z zs false out e = error_second x z zs e

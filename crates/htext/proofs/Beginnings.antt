@@ -16,7 +16,7 @@ in_range low high c a b = rw (le-leb low c a, le-leb c high b) refl
 pub from_range : (low high c : ℕ) → is_in_range low high c ≡ true → (low ≤ c) × (c ≤ high)
 from_range low high c h = let k = and_parts _ _ h in (leb-true low c k.0, leb-true c high k.1)
 
--- This byte may stand second, after that first one (Unicode, table 3-7).
+-- This byte may be second, after that first one (Unicode, table 3-7).
 pub record MayFollow (first byte : ℕ) : Type 0 where
   pub least : 128 ≤ byte
   pub most : byte ≤ 191

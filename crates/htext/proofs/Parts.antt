@@ -14,11 +14,11 @@ use Rattle.htext.specs.Text.{Read, Whole, Bad, reads_within}
 use Rattle.htext.proofs.Valid.{utf8_valid_len-append}
 use Rattle.htext.proofs.Errors.{invalid_bounds}
 
--- what stands in bytes, the first of which is at `at`
+-- what is in bytes, the first of which is at `at`
 abbrev pub reads_at : ℕ → List ℕ → List Read
 reads_at at bytes = reads_within (suc (length bytes)) at bytes
 
--- .. after the first `n`, which are characters, where there are more
+-- after the first `n`, which are characters, where there are more
 abbrev tail_at : ℕ → ℕ → List ℕ → ℕ → List Read
 tail_at k at bytes n = cond (eqb n (length bytes)) [] (Bad (at + n) ∷ reads_within k (at + n + utf8_invalid_len (drop n bytes)) (drop (n + utf8_invalid_len (drop n bytes)) bytes))
 
@@ -49,7 +49,7 @@ same_reads k l at bytes same =
     ap (λ (x : List Read). map Whole (placed at (chars (take n bytes))) ++ x)
     (same_tail (eqb n (length bytes)) _ _ (λ e. ap (λ (x : List Read). Bad (at + n) ∷ x) (same (less_left n bytes (utf8_valid_len_le bytes) e))))
 
--- more bad parts may stand in bytes than do
+-- more bad parts may be in bytes than do
 reads_fuel : (k l at : ℕ) (bytes : List ℕ) → length bytes ≤ k → length bytes ≤ l → reads_within (suc k) at bytes ≡ reads_within (suc l) at bytes
 reads_fuel zero l at bytes a b = same_reads zero l at bytes (λ less. absurd (omega (arith, less)))
 reads_fuel (suc k) zero at bytes a b = same_reads (suc k) zero at bytes (λ less. absurd (omega (arith, less)))
@@ -102,7 +102,7 @@ reads_text k at xs ys u =
     ∙ ap (λ (x : List Read). x ++ tail_at k (at + length xs) ys n) texts
     ∙ append_assoc (map Whole (placed at (chars xs))) _ _
 
--- characters, and what stands after them
+-- characters, and what is after them
 pub reads_after_text : (at : ℕ) (xs ys : List ℕ) → IsUtf8 xs → reads_at at (xs ++ ys) ≡ map Whole (placed at (chars xs)) ++ reads_at (at + length xs) ys
 reads_after_text at xs ys u =
     reads_text (length (xs ++ ys)) at xs ys u
@@ -112,7 +112,7 @@ pub reads_of_text : (at : ℕ) (xs : List ℕ) → IsUtf8 xs → reads_at at xs 
 reads_of_text at xs u =
     ap (reads_at at) (sym (append-nil xs)) ∙ reads_after_text at xs [] u ∙ ap (λ (x : List Read). map Whole (placed at (chars xs)) ++ x) (reads_nil (at + length xs)) ∙ append-nil _
 
--- a bad part, and what stands after it
+-- a bad part, and what is after it
 reads_bad : (k at : ℕ) (part ys : List ℕ) → utf8_valid_len (part ++ ys) ≡ 0 → utf8_invalid_len (part ++ ys) ≡ length part → 0 < length part → reads_within (suc k) at (part ++ ys) ≡ Bad at ∷ reads_within k (at + length part) ys
 unfolding reads_within
 reads_bad k at part ys none bad some =

@@ -74,7 +74,7 @@ too_large limit front ch rest u scalar within longer =
 
 -- WHERE BAD BYTES ARE REPLACED
 
--- the bad part that stands at the front, where the input has ended
+-- the bad part that is at the front, where the input has ended
 last_by : (o : Option ℕ) (rest : List ℕ) → 0 < length rest → or_rest true rest o ≡ Some (unwrap_or o (length rest))
 last_by (Some m) rest some = refl
 last_by None rest some = rw (lt-ltb 0 (length rest) some) refl

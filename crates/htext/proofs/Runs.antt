@@ -66,7 +66,7 @@ plain_drop zero xs h = h
 plain_drop (suc n) [] h = refl
 plain_drop (suc n) (x ∷ xs) h = plain_drop n xs (and_parts (is_plain_byte x) (list_all is_plain_byte xs) h).1
 
--- a front, and what stands after it as far as a longer one goes
+-- a front, and what is after it as far as a longer one goes
 nothing : (n : ℕ) → take {A = ℕ} n [] ≡ []
 nothing zero = refl
 nothing (suc n) = refl

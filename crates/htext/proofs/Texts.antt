@@ -61,14 +61,14 @@ rises_later : (first next end : ℕ) (ps : List Placed) → first ≤ next → P
 rises_later first next end [] le h = omega (arith, h)
 rises_later first next end (p ∷ ps) le h = (omega (arith, h.0), h.1)
 
--- .. from character to character
+-- from character to character
 placed_rises : (at : ℕ) (cs : List ℕ) (rs : List Read) (end : ℕ) → PlacesRise (at + length (encode_utf8_all cs)) (map character_of rs) end → PlacesRise at (map character_of (map Whole (placed at cs) ++ rs)) end
 placed_rises at [] rs end h = rises_later at (at + 0) end (map character_of rs) (omega arith) h
 placed_rises at (c ∷ cs) rs end h =
     let on : at + length (encode_utf8_all (c ∷ cs)) ≡ (at + len_utf8 c) + length (encode_utf8_all cs) = omega (arith, length-append (encode_utf8 c) (encode_utf8_all cs), length-encode c) in
     (omega arith, rises_later (at + 1) (at + len_utf8 c) end _ (omega (arith, (len_utf8_bounds c).0)) (placed_rises (at + len_utf8 c) cs rs end (subst (λ (x : ℕ). PlacesRise x (map character_of rs) end) on h)))
 
--- .. and from part to part
+-- and from part to part
 tail_rises : (b : Bool) (at next : ℕ) (rs : List Read) (end : ℕ) → at ≤ end → (b ≡ false → (at < next) × PlacesRise next (map character_of rs) end) → PlacesRise at (map character_of (cond b [] (Bad at ∷ rs))) end
 tail_rises true at next rs end within h = within
 tail_rises false at next rs end within h = let k = h refl in (omega arith, rises_later (at + 1) next end (map character_of rs) (omega (arith, k.0)) k.1)

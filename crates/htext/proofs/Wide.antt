@@ -78,7 +78,7 @@ wide_front bytes u =
     subst (λ (l : List ℕ). IsPlainFront (prefix_len is_wide_byte l) l) (sym (encodes_both (take k cs) (drop k cs)) ∙ ap encode_utf8_all (take-append-drop k cs) ∙ u.1.1)
     (cut_characters (take k cs) (drop k cs) _ parts.0 parts.1 (ap (prefix_len is_wide_byte) (sym (encodes_both (take k cs) (drop k cs)) ∙ ap encode_utf8_all (take-append-drop k cs)) ∙ wide_len cs) (counted is_plain cs))
 
--- .. and those of plain bytes
+-- and those of plain bytes
 pub bytes_plain : (xs : List ℕ) → list_all is_plain_byte xs ≡ true → list_all is_plain xs ≡ true
 bytes_plain [] h = refl
 bytes_plain (x ∷ xs) h = let k = and_parts (is_plain_byte x) (list_all is_plain_byte xs) h in and_from _ _ (byte_plain x k.0) (bytes_plain xs k.1)
@@ -110,7 +110,7 @@ module _ (n : ℕ) (bytes : List ℕ) (cut : IsCut n bytes) where
   pub placed_cut : (at : ℕ) → placed at (chars bytes) ≡ placed at (chars (take n bytes)) ++ placed (at + n) (chars (drop n bytes))
   placed_cut at = ap (placed at) chars_cut ∙ placed-append at (chars (take n bytes)) (chars (drop n bytes)) ∙ ap (λ (k : ℕ). placed at (chars (take n bytes)) ++ placed (at + k) (chars (drop n bytes))) front_long
 
--- .. and what follows is cut again
+-- and what follows is cut again
 module _ (n m : ℕ) (bytes : List ℕ) (cut : IsCut n bytes) (again : IsCut m (drop n bytes)) where
   pub cut_more : IsCut (n + m) bytes
   cut_more = record {
@@ -163,7 +163,7 @@ module _ (bytes : List ℕ) (u : IsUtf8 bytes) (c : ℕ) (cs : List ℕ) (is : c
   pub first_char : (at : ℕ) → record { ch = c; at = at } ∷ [] ≡ placed at (chars (take (len_utf8 c) bytes))
   first_char at = ap (placed at) (sym (ap chars (first_front ∙ sym (append-nil (encode_utf8 c))) ∙ chars_past_char (encode_utf8 c ++ []) [] c (subst IsUtf8 (sym (append-nil (encode_utf8 c))) (IsUtf8-encode c first_scalars.0)) refl ∙ ap (λ (l : List ℕ). c ∷ l) chars-nil))
 
--- .. and the last one, which begins after `n` bytes
+-- and the last one, which begins after `n` bytes
 pub cut_last : (bytes xs : List ℕ) (c n : ℕ) → IsUtf8 bytes → bytes ≡ xs ++ encode_utf8 c → n ≡ length xs → IsCut n bytes
 cut_last bytes xs c n u is here =
     let (b, bs, first, anew) = begins_anew c in

@@ -50,7 +50,7 @@ HandsOn gives before text old answer new = (more : List Read) × (text ≡ befor
 
 -- What a call that feeds the piece does. Memory ran out, and the sink had taken what is read of a front of the piece whatever follows;
 -- or the sink refused an item, whatever comes after the piece, and that is the answer; or the sink took all that is read whatever
--- follows, and the answer is Ok or a refusal that stands whatever comes after.
+-- follows, and the answer is Ok or a refusal that holds whatever comes after.
 pub data Feeds {S : Type 0} (gives : S → CharItem → Result (Unit {0}) Refusal → S → Type 0) (how : Policy)
     (fed piece : List ℕ) (old : S) (answer : Result (Unit {0}) Refusal) (new : S) : Type 0 where
   ran_out : (front rest : List ℕ) → answer ≡ Err Memory → piece ≡ front ++ rest
@@ -64,7 +64,7 @@ pub data Feeds {S : Type 0} (gives : S → CharItem → Result (Unit {0}) Refusa
       → Feeds gives how fed piece old answer new
 
 -- How reading the bytes stops with an error, after a sink was handed `before`: the sink refused an item, whatever comes after the
--- bytes; or it took all that is read whatever follows, and the error stands whatever comes after.
+-- bytes; or it took all that is read whatever follows, and the error holds whatever comes after.
 pub data Stops {S : Type 0} (gives : S → CharItem → Result (Unit {0}) Refusal → S → Type 0) (how : Policy)
     (before : List Read) (bytes : List ℕ) (old : S) (e : Refusal) (new : S) : Type 0 where
   by_sink : ((more : List ℕ) → HandsOn gives before (decoded how (bytes ++ more)) old (Err e) new)

@@ -17,7 +17,7 @@ abbrev pub char_errors : Placed → List ParseError
 char_errors p = error_if (is_stray_control p.ch) ControlCharacterInInputStream p.at
     ++ error_if (is_noncharacter p.ch) NoncharacterInInputStream p.at
 
--- those of what stands in a text, and of a text
+-- those of what is in a text, and of a text
 abbrev pub errors_of : Read → List ParseError
 errors_of (Whole p) = char_errors p
 errors_of (Bad at) = error ReplacedBytes at ∷ []

@@ -1,4 +1,4 @@
--- What stands at the front of bytes that begin with no character that fits.
+-- What is at the front of bytes that begin with no character that fits.
 use Rattle.std.specs.Prelude.{◌≡◌, ◌<◌, ◌≤◌, ℕ, zero, suc, nat_lt, if◌then◌else◌, List, length, drop, Option, Some, None}
 use Rattle.std.specs.Str.Lossy.{utf8_valid_len, utf8_error_len}
 use Rattle.names.specs.declared.refusal.Refusal.TheVariants.{NotUtf8, TooLarge}

@@ -33,7 +33,7 @@ newlines_apart : text Keep (0x0A ∷ 0x0D ∷ 0x0D ∷ 0x0A ∷ 0x0A ∷ 0x0D �
 unfolding reads_within chars utf8_valid_len is_utf8 encode
 newlines_apart = refl
 
--- a byte order mark at the front, and one that stands later
+-- a byte order mark at the front, and one that is later
 mark_dropped : text Drop (0xEF ∷ 0xBB ∷ 0xBF ∷ 0x78 ∷ []) ≡ read 0x78 3 ∷ []
 unfolding reads_within chars utf8_valid_len is_utf8 encode
 mark_dropped = refl

@@ -7,12 +7,12 @@ use Rattle.htext.specs.Items.{CharItem, Character}
 use Rattle.htext.specs.declared.run.RunBytes.{RunBytes}
 use Rattle.htext.specs.declared.run.RunBytes.TheVariants.{Plain, Wide}
 
--- a byte that is a character by itself, stands in the text as it came but for an LF after a CR, raises no error, and is neither `<` nor `&`
+-- a byte that is a character by itself, is in the text as it came but for an LF after a CR, raises no error, and is neither `<` nor `&`
 abbrev pub is_plain_byte : ℕ → Bool
 is_plain_byte byte = (byte == 9 || byte == 10 || byte == 12 || (nat_le 32 byte && nat_le byte 126)) && not (byte == 60 || byte == 38)
 
 -- A character of which the same is true: such a byte, or one of U+00C0 to U+EFFF. (Not all are: it leaves out the few of which it is true
--- beside controls and noncharacters.)
+-- next to controls and noncharacters.)
 abbrev pub is_plain : ℕ → Bool
 is_plain c = is_plain_byte c || (nat_le 0xC0 c && nat_le c 0xEFFF)
 

@@ -18,7 +18,7 @@ pub record Policy : Type 0 where
   pub bad : BadBytes
   pub limit : ℕ
 
--- What stands in bytes: a character; or a bad part, which is none, at the place of its first byte. It is the longest front of the
+-- What is in bytes: a character; or a bad part, which is none, at the place of its first byte. It is the longest front of the
 -- rest that begins some character without being all of it, or one byte (Encoding Standard, "UTF-8 decoder").
 pub data Read : Type 0 where
   Whole : Placed → Read
@@ -29,7 +29,7 @@ abbrev pub character_of : Read → Placed
 character_of (Whole p) = p
 character_of (Bad at) = record { ch = 0xFFFD; at = at }
 
--- what stands in the bytes, the first of which is at `at`: characters up to the first bad part, that, and so on, at most `k` bad parts
+-- what is in the bytes, the first of which is at `at`: characters up to the first bad part, that, and so on, at most `k` bad parts
 unfoldable pub reads_within : ℕ → ℕ → List ℕ → List Read
 reads_within zero at bytes = []
 reads_within (suc k) at bytes =
@@ -51,13 +51,13 @@ read_as bom after_return p =
     if is_dropped_mark bom p || (after_return && p.ch == 0x0A) then []
     else record { ch = if p.ch == 0x0D then 0x0A else p.ch; at = p.at } ∷ []
 
--- the text of what stands in bytes, after a CR or not
+-- the text of what is in bytes, after a CR or not
 abbrev pub normalized : Bom → Bool → List Read → List Read
 normalized bom after_return [] = []
 normalized bom after_return (Whole p ∷ rs) = map Whole (read_as bom after_return p) ++ normalized bom (p.ch == 0x0D) rs
 normalized bom after_return (Bad at ∷ rs) = Bad at ∷ normalized bom false rs
 
--- whether what follows stands after a CR
+-- whether what follows is after a CR
 abbrev pub ends_in_return : Bool → List Read → Bool
 ends_in_return after_return [] = after_return
 ends_in_return after_return (Whole p ∷ rs) = ends_in_return (p.ch == 0x0D) rs
@@ -71,7 +71,7 @@ text bom bytes = normalized bom false (reads bytes)
 abbrev pub valid_len : ℕ → List ℕ → ℕ
 valid_len limit bytes = utf8_valid_len (take limit bytes)
 
--- The length of the bad part at the front of bytes. None where a character stands there, where there is no byte, and where the input
+-- The length of the bad part at the front of bytes. None where a character is there, where there is no byte, and where the input
 -- has not ended and what follows may make a character of them all.
 abbrev pub or_rest : Bool → List ℕ → Option ℕ → Option ℕ
 or_rest ended rest (Some n) = Some n
@@ -132,7 +132,7 @@ refusal_of how bytes =
 abbrev pub StaysRefused : Policy → List ℕ → Refusal → Type 0
 StaysRefused how bytes refusal = (more : List ℕ) → refusal_of how (bytes ++ more) ≡ Some refusal
 
--- no character stands at the front of the bytes
+-- no character is at the front of the bytes
 abbrev pub BeginsNoCharacter : List ℕ → Type 0
 BeginsNoCharacter bytes = (ch : ℕ) (more : List ℕ) → IsScalar ch → bytes ≡ encode_utf8 ch ++ more → ⊥
 

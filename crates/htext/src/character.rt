@@ -37,7 +37,7 @@ pub(crate) fn hand_char<S: CharSink>(
     }
 }
 
-/// Whether a character is in the text as it came, wherever it stands, and raises no error.
+/// Whether a character is in the text as it came, wherever it is, and raises no error.
 #[inline]
 fn is_plain(ch: char) -> bool
     ensures { IsTrue result → (bom : Mark) (after_return : Bool) (at : ℕ)

@@ -15,7 +15,7 @@ pub fn items_are_characters_and_errors()
     ensures errors { (text : List Read) → errors_among (items text) ≡ input_errors text }
 {}
 
-/// What stands in bytes that are UTF-8 is their characters.
+/// What is in bytes that are UTF-8 is their characters.
 pub fn valid_bytes_are_characters()
     ensures { (bytes : List ℕ) → IsUtf8 bytes → reads bytes ≡ map Whole (placed 0 (chars bytes)) }
 {}

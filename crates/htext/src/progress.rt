@@ -38,7 +38,7 @@ pub(crate) struct Progress {
     ghost within: { read ≤ limit },
 }
 
-/// What stands at the front of bytes that begin with no character that fits.
+/// What is at the front of bytes that begin with no character that fits.
 pub(crate) enum Front {
     /// A bad part of this length, to be replaced.
     Bad(usize),
@@ -126,7 +126,7 @@ impl Progress {
         }
     }
 
-    /// What stands at the front of bytes that begin with no character that fits.
+    /// What is at the front of bytes that begin with no character that fits.
     fn next(&self, rest: &[u8]) -> Front
         ensures { result ≡ next_of self.now.bad_bytes rest.now (self.now.limit - self.now.read) self.now.read }
     {

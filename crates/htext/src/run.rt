@@ -29,7 +29,7 @@ const PLAIN_BY_HIGH: [u8; 16] = [1, 0, 2, 4, 8, 8, 8, 16, 0, 0, 0, 0, 0, 0, 0, 0
 const WIDE_BY_HIGH: [u8; 16] = [1, 0, 2, 4, 8, 8, 8, 16, 32, 32, 32, 32, 64, 32, 128, 0];
 
 /// Counts the bytes before the first one that is not plain: `<`, `&`, or any but tab, LF, FF and 20 to 7E. Each of the bytes
-/// before it is a character that stands in the text as it came, unless it is an LF after a CR.
+/// before it is a character that is in the text as it came, unless it is an LF after a CR.
 pub fn plain_run(bytes: &[u8]) -> usize
     ensures { result ≡ prefix_len is_plain_byte bytes.now }
 {
@@ -120,7 +120,7 @@ fn by_high(kind: RunBytes) -> [u8; 16]
     }
 }
 
-/// Whether a byte may stand in a run.
+/// Whether a byte may be in a run.
 #[inline(always)]
 fn is_in_run(kind: RunBytes, byte: u8) -> bool
     ensures { result ≡ is_of kind byte }

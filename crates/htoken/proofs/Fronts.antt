@@ -112,7 +112,7 @@ module _ {S : Type 0} (gives : S → Item → Result (Unit {0}) Refusal → S �
         subst (λ (x : List Placed). Takes gives table start text x taken names old answer new next) (sym is)
         (takes_both front part taken es names old mid new answer next (items, mean_kept before names grows items es mean, given) (then (text ++ front) (taken ++ es) has))
 
-  -- .. of which `count` bytes have been taken, each a character
+  -- of which `count` bytes have been taken, each a character
 
   module _ (at count : ℕ) (run : List ℕ) (plain : list_all is_plain_byte run ≡ true) (within : count ≤ length run) (taken : List Event) (before names : Texts) (grows : Grows before names) (old mid : S) (t : Tokenizer) where
     abbrev pub SoFar : Type 0
@@ -130,7 +130,7 @@ module _ {S : Type 0} (gives : S → Item → Result (Unit {0}) Refusal → S �
     pub all_taken : length run ≤ count → SoFar → Takes gives table start text (placed at run) taken before old (Ok tt) mid t
     all_taken l h = subst (λ (x : List ℕ). Takes gives table start text (placed at x) taken before old (Ok tt) mid t) (take_all count run l) h
 
-  -- .. or each a part of one
+  -- or each a part of one
 
   -- a refusal in a front of a run
   pub cut_refused : (at count : ℕ) (run : List ℕ) → IsCut count run → (taken : List Event) (names : Texts) (old new : S) (e : Refusal) (next then : Tokenizer)

@@ -44,7 +44,7 @@ use Rattle.htag.proofs.Parts.{all-snoc}
 use Rattle.htoken.proofs.RawNames.{is_word, raw_word, word_letter, some_held}
 use Rattle.htoken.proofs.RawEnds.{name_ends, differs, goes_past, is_whole, left_some, left_none, letter_not, name_is_lowered, no_solidus, no_name, a_name, other_goes_on, nameless_goes_on, inner_goes_on}
 
--- a span of raw text is one where raw text stands
+-- a span of raw text is one where raw text is
 raw_of : (k : RawKind) (table : Entities) (end : ℕ) (here : Standing) (rest : List Placed) (span : Span) → is_raw k ≡ true → IsRawSpan table end here rest span → IsSpanOf k table end here rest span
 raw_of kind.None table end here rest span e h = absurd cc
 raw_of kind.Rcdata table end here rest span e h = h
@@ -72,7 +72,7 @@ pub record IsFollowed (t : Tokenizer) (c : ℕ) (new : Tokenizer) : Type 0 where
 abbrev pub after_characters : Standing → List Placed → Standing
 after_characters here qs = record here { front = backwards here.front qs }
 
--- no end tag stands at these characters, and each is given as it is
+-- no end tag is at these characters, and each is given as it is
 abbrev pub GoOn : Standing → List Placed → List Placed → Type 0
 GoOn here [] rest = Unit {0}
 GoOn here (q ∷ qs) rest = (is_raw_end here (q ∷ (qs ++ rest)) ≡ false) × (eqb q.ch 38 ≡ false) × (eqb q.ch 0 ≡ false) × GoOn (record here { front = q ∷ here.front }) qs rest
@@ -191,7 +191,7 @@ module _ {S : Type 0} (gives : S → Item → Result (Unit {0}) Refusal → S �
         raw_taken new old s answer f (λ more. other_goes_on h.here p more (ap (λ (c : ℕ). eqb c 60) is)) (and_no (has_references t.kind) (eqb p.ch 38) (ap (λ (c : ℕ). eqb c 38) is))
         (subst (λ (x : List Event). HandsEvents gives names old x answer s) (sym same) handed)
 
-    -- whether the end tag may stand here
+    -- whether the end tag may be here
     by_kind : (k : RawKind) → (is_script k ≡ true → HasFront t.script h.here.front) → ends_by k (level_number t.script.level) ≡ may_end k h.here.front
     by_kind kind.None l = refl
     by_kind kind.Rcdata l = refl
@@ -312,7 +312,7 @@ module _ {S : Type 0} (gives : S → Item → Result (Unit {0}) Refusal → S �
         subst (λ (x : Tokenizer). Takes gives table start text (p ∷ []) taken names s (Ok tt) s x) (sym i.then)
         (raw_letter_follows (record t { held = new.held }) s c (record { kind_is = refl; last_is = refl; at_is = refl; stays = (refl, refl, refl) }) after refl refl refl i.held_is expected is (word_letter (string_bytes t.tag.name) (length t.held.items) c p.ch word expected is))
 
-    -- no end tag stands here
+    -- no end tag is here
     module _ (other : (more : List Placed) → name_ends (string_bytes t.tag.name) (t.held.items ++ p ∷ more) ≡ false) where
       pub name_go_on : (more : List Placed) → GoOn h.here mark (p ∷ more)
       name_go_on more = name_goes_on h.here t at (p ∷ more) in_name.letters (no_name h.here (string_bytes t.tag.name) in_name.named (less t) refl at (t.held.items ++ p ∷ more) (other more))
@@ -343,7 +343,7 @@ module _ {S : Type 0} (gives : S → Item → Result (Unit {0}) Refusal → S �
       pub goes_past_here : ends_name p.ch ≡ false → (more : List Placed) → name_ends (string_bytes t.tag.name) (t.held.items ++ p ∷ more) ≡ false
       goes_past_here other more = subst (λ (x : List ℕ). name_ends x (t.held.items ++ p ∷ more) ≡ false) name_whole (goes_past t.held.items p more other)
 
-      -- .. and it ends here: the tag goes on with the character
+      -- and it ends here: the tag goes on with the character
       pub end_tag_begins : (new : Tokenizer) → new ≡ record t { state = state.Tag; tag = new.tag } → new.tag.kind ≡ tag.End → ends_name p.ch ≡ true
           → ((letters : List Placed) → begins is_letter letters ≡ true → all is_letter letters ≡ true → string_bytes t.tag.name ≡ name_bytes letters → IsInTag table names new.tag letters [] [])
           → Reads table start new names text (p ∷ []) taken

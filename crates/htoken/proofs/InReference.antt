@@ -37,7 +37,7 @@ use Rattle.htoken.proofs.Going.{goes_on, span_ends}
 use Rattle.htoken.proofs.Pending.{stands_on, stands_told, later_on, later_told}
 use Rattle.htoken.proofs.Referring.{is_kept, all-drop, held_kept, run_errors, after_reference, stands_read, plain_span, plain_is, alphanumeric_kept, reference_is, no_tag, gives_some, next_is}
 
--- where references may stand no script does
+-- where references may be no script does
 no_script : (k : RawKind) → has_references k ≡ true → is_script k ≡ true → ⊥
 no_script kind.None e f = absurd cc
 no_script kind.Rcdata e f = absurd cc

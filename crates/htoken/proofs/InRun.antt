@@ -71,7 +71,7 @@ module _ (c : ℕ) (h : is_itself c ≡ true) where
   no_null : eqb c 0 ≡ false
   no_null = grind (arith, nat_tests)
 
--- where they may be fed as a run, text stands that is no script
+-- where they may be fed as a run, text is that is no script
 pub ready_text : (s : State) (script accepts : Bool) → (is_text s && not script && accepts) ≡ true → (s ≡ state.Text) × (script ≡ false)
 ready_text state.Text false accepts h = (refl, refl)
 ready_text state.Text true accepts h = absurd cc
@@ -108,13 +108,13 @@ next_after now at (x ∷ xs) h some l = next_from_here at (x ∷ xs) h l
 pub next_run : (text : List Placed) (at : ℕ) (run : List ℕ) → list_all is_plain_byte run ≡ true → 0 < length run → at + length run ≤ 0xFFFFFFFFFFFFFFFF → next_place (text ++ placed at run) ≡ at + length run
 next_run text at run h some l = next_from-append 0 text (placed at run) ∙ next_after (next_from 0 text) at run h some l
 
--- .. after a front of a run
+-- after a front of a run
 pub next_front : (text : List Placed) (at count : ℕ) (run : List ℕ) → list_all is_plain_byte run ≡ true → 0 < count → count ≤ length run → at + length run ≤ 0xFFFFFFFFFFFFFFFF → at + count ≡ next_place (text ++ placed at (take count run))
 next_front text at count run plain some within room =
     let long : length (take count run) ≡ count = length-take-le count run within in
     ap (λ (n : ℕ). at + n) (sym long) ∙ sym (next_run text at (take count run) (plain_take count run plain) (omega (arith, long)) (omega (arith, long)))
 
--- .. after a run of any characters, the last of which begins after `n` bytes
+-- after a run of any characters, the last of which begins after `n` bytes
 pub next_last : (text : List Placed) (at n : ℕ) (run : List ℕ) (c : ℕ) → IsCut n run → drop n run ≡ encode_utf8 c → after_place (at + n) ≡ next_place (text ++ placed at (chars run))
 next_last text at n run c cut is =
     sym (ap (λ (x : List Placed). next_place (text ++ x)) (last_char n at run c cut is) ∙ ap next_place (sym (append_assoc text (placed at (chars (take n run))) (record { ch = c; at = at + n } ∷ [])))
@@ -135,7 +135,7 @@ first_of at (x ∷ xs) c h e = ap (λ (n : ℕ). record { ch = n; at = at } ∷ 
 
 -- TEXT
 
--- a plain character as a span, whatever kind of text stands here
+-- a plain character as a span, whatever kind of text is here
 abbrev plain_span : Placed → Span
 plain_span p = record { text = p ∷ []; tokens = Char p.ch p.at ∷ []; errors = [] }
 
@@ -316,7 +316,7 @@ module _ {S : Type 0} (gives : S → Item → Result (Unit {0}) Refusal → S �
   abbrev pub tag_here : IsInMarkedTag table names h.here t h.held []
   tag_here = subst (λ (x : State). IsHeld x table names h.here t h.held []) in_tag h.is_held
 
-  -- .. by the tokenizer's own table
+  -- by the tokenizer's own table
   pub tag_read : IsInTag t.table.now names t.tag tag_here.body [] t.raised.errors.items
   tag_read = subst (λ (x : Entities). IsInTag x names t.tag tag_here.body [] t.raised.errors.items) (sym h.table_is) tag_here.in_tag
 

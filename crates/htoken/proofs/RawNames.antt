@@ -1,4 +1,4 @@
--- The names of raw texts are letters: wherever raw text stands after a start tag, its name says the kind.
+-- The names of raw texts are letters: wherever raw text is after a start tag, its name says the kind.
 use Rattle.std.proofs.Common.{◌≡◌, ℕ, zero, suc, Bool, true, false, not, cond, ◌||◌, List, [], ◌∷◌, length, sym, refl, ap, ◌∙◌, subst, Some, arith}
 use Rattle.std.proofs.lemmas.Bool.Decides.{nat_tests}
 use Rattle.names.proofs.TableLemmas.{bytes_eq-true}
@@ -40,7 +40,7 @@ word_among (t ∷ ts) text h raw = by (bytes_eq (tag_text t) text) refl raw (wor
   by true same e others = ap is_word (sym (bytes_eq-true (tag_text t) text same)) ∙ fits_word (is_raw (raw_kind t)) (is_word (tag_text t)) parts.0 e
   by false same e others = others e
 
--- where raw text stands after a start tag, its name is a word
+-- where raw text is after a start tag, its name is a word
 abbrev HasWord : Standing → Type 0
 HasWord here = (name : List ℕ) → here.name ≡ Some name → is_raw here.kind ≡ true → is_word name ≡ true
 

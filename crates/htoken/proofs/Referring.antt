@@ -1,4 +1,4 @@
--- Where a reference stands, and what follows it as text.
+-- Where a reference is, and what follows it as text.
 use Rattle.std.proofs.Common.{◌≡◌, ℕ, suc, Bool, true, false, not, cond, ◌&&◌, ◌||◌, eqb, List, [], ◌∷◌, ◌++◌, map, length, drop, take, reverse, zero, sym, refl, ap, ◌∙◌, subst, Option, Some, None, arith, append_assoc, append-nil}
 use Rattle.std.proofs.lemmas.Bool.Decides.{nat_tests}
 use Rattle.std.proofs.lemmas.List.{take-append-drop}
@@ -37,7 +37,7 @@ use Rattle.htoken.proofs.RawEnds.{other_goes_on}
 
 -- PLAIN CHARACTERS
 
--- a character that stands for itself wherever references may stand
+-- a character that stands for itself wherever references may be
 abbrev pub is_kept : ℕ → Bool
 is_kept c = not (eqb c 60) && (not (eqb c 38) && not (eqb c 0))
 
@@ -177,7 +177,7 @@ piece_errors found at = errors_in-map (known_errors found at) (map (λ c. Char c
 abbrev pub run_errors : Reference → ℕ → List Placed → List ParseError
 run_errors found at after = error_if (found.in_run && begins (λ c. eqb c 59) (past is_alphanumeric after)) UnknownNamedCharacterReference at
 
--- where the text stands after a reference of this many characters, and the others
+-- where the text is after a reference of this many characters, and the others
 abbrev pub after_reference : Standing → ℕ → List Placed → ℕ → Standing
 after_reference here at text count = record here { front = backwards (reverse (record { ch = 38; at = at } ∷ take count text) ++ here.front) (drop count text) }
 

@@ -184,7 +184,7 @@ impl<'t> Tokenizer<'t> {
         sink.take_token(Token::Eof { at: end })
     }
 
-    /// Whether a script stands in comment-like text here.
+    /// Whether a script is in comment-like text here.
     fn is_cut_off(&self) -> bool
         ensures { result ≡ (is_script self.now.kind && nat_lt 0 (level_number self.now.script.level)) }
     {

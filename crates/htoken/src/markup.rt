@@ -76,7 +76,7 @@ impl<'t> Tokenizer<'t> {
         self.state = State::Doctype;
     }
 
-    /// Begins what is read as a comment with the characters that are held after `<!`. The error stands at the first of them, or here.
+    /// Begins what is read as a comment with the characters that are held after `<!`. The error is at the first of them, or here.
     pub(crate) fn begin_held(&mut self, code: ErrorCode, at: u64) -> Result<(), Refusal>
         ensures { MatchResult result (λ _. (self.new.state ≡ State.Comment) × (all is_plain_in_bogus self.old.held.items ≡ true
             → BeginsBogus self.old self.old.held.items (error code (place at self.old.held.items)) self.new)) (λ refusal. refusal ≡ Refusal.Memory) }

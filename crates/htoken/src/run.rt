@@ -26,7 +26,7 @@ use crate::tokenizer::{Tokenizer, after};
 use htext::plain_run;
 use names::{Names, Refusal};
 
-/// How many bytes stand before the first one that may end a comment, or is a fault in it.
+/// How many bytes are before the first one that may end a comment, or is a fault in it.
 fn count_data(run: &str) -> usize
     ensures counted { result ≡ prefix_len is_only_data run.now }
     ensures few { result ≤ length run.now }

@@ -223,7 +223,7 @@ impl Script {
         }
     }
 
-    /// Whether it stands in comment-like text.
+    /// Whether it is in comment-like text.
     pub fn is_inside(self) -> bool
         ensures { result ≡ nat_lt 0 (level_number self.level) }
     {

@@ -121,21 +121,21 @@ impl<'t> Tokenizer<'t> {
         }
     }
 
-    /// Whether references may stand here.
+    /// Whether references may be here.
     fn has_references(&self) -> bool
         ensures { result ≡ has_references self.now.kind }
     {
         matches!(self.kind, RawKind::None | RawKind::Rcdata)
     }
 
-    /// Whether script data stands here.
+    /// Whether script data is here.
     pub(crate) fn is_in_script(&self) -> bool
         ensures { result ≡ is_script self.now.kind }
     {
         matches!(self.kind, RawKind::Script)
     }
 
-    /// Whether the end tag of the raw text may stand here.
+    /// Whether the end tag of the raw text may be here.
     fn may_end(&self) -> bool
         ensures { result ≡ (is_some self.now.last && ends_by self.now.kind (level_number self.now.script.level)) }
     {

@@ -167,7 +167,7 @@ impl<'t> Tokenizer<'t> {
         answer
     }
 
-    /// Whether nothing is held, and data stands here.
+    /// Whether nothing is held, and data is here.
     fn is_in_data(&self) -> bool
         ensures { MatchBool result ((self.now.state ≡ State.Text) × (self.now.kind ≡ RawKind.None)) (Unit {0}) }
     {

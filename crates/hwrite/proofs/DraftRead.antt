@@ -1,4 +1,4 @@
--- What a draft comes to that was handed the tokens of a document.
+-- What a draft becomes that was handed the tokens of a document.
 use Rattle.std.proofs.Common.{◌≡◌, ℕ, List, [], ◌∷◌, refl, sym, subst, Option, Result, Ok, Err, inr}
 use Rattle.names.specs.declared.refusal.Refusal.{Refusal}
 use Rattle.names.specs.Names.{Texts}
@@ -46,7 +46,7 @@ none_drafted names draft tokens is =
     subst (λ (d : Drafted). ComesTo names d (lines_of tokens) (token_lines tokens)) (sym is) (record { written = []; fills = nothing; whole = refl })
 
 module _ {R : Type 0} (left : R → Option (List ℕ)) (failed : R → ℕ) (table : Entities) (of : BadBytes) (limit : ℕ) (draft : Draft) (is : drafted draft ≡ empty) (piece : ℕ) (old new : R) where
-  -- what reading a document into a draft comes to
+  -- what reading a document into a draft gives
   pub draft_read : (r : Result (Texts × Draft) Refusal) → ReadsInput left failed (ComesInto drafts (as_document table of limit) draft) (IsUnrefusedText (as_document table of limit)) piece [] old new r
       → ReadsInput left failed (AnswersDraft table (of_document of limit)) (IsUnrefusedText (as_document table of limit)) piece [] old new r
   draft_read (Err e) h =

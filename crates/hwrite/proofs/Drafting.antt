@@ -1,4 +1,4 @@
--- What pieces of token lines add to a draft, and what a draft comes to then.
+-- What pieces of token lines add to a draft, and what a draft becomes then.
 use Rattle.std.proofs.Common.{◌≡◌, ℕ, ◌+◌, ◌≤◌, Bool, true, false, List, [], ◌∷◌, ◌++◌, length, drop, refl, sym, ap, subst, ◌∙◌, append_assoc, append-nil, if◌then◌else◌, codes, decimal, encode_utf8, Result, Ok, Err, OnOk}
 use Rattle.std.proofs.lemmas.List.{drop_all}
 use Rattle.std.specs.List.{flat_map}
@@ -83,7 +83,7 @@ ending-whole : (v : Bool) → IsWhole (end_of_characters v)
 ending-whole true = refl
 ending-whole false = refl
 
--- what a draft comes to once characters were added
+-- what a draft becomes once characters were added
 characters_come : (v : Bool) (at : ℕ) (text : List ℕ) (lines : List Line) (written all : List ℕ) → written ++ to_write v (joined (Characters at text) lines) ≡ all
     → written ++ (beginning_of_characters v at ++ escaped text) ++ to_write true lines ≡ all
 characters_come true at text lines written all h = next_character true true (Characters at text) lines written (written ++ escaped text) all text at refl refl refl refl h
@@ -123,7 +123,7 @@ drafts_line old mid new token other a adds = λ names tok lines text means c.
           ∙ words_come old.in_characters (line_of tok) lines c.written text (IsWords-line_of names token tok other means) c.whole;
     }
 
--- .. where that call succeeded
+-- where that call succeeded
 pub drafts_line_ok : {T E : Type 0} (r : Result T E) (old mid new : Drafted) (token : Token) → ((ch at : ℕ) → token ≡ code.Char ch at → ⊥) → AddsText old mid (end_of_characters old.in_characters) false
     → ((names : Texts) (meant : Tok) → TokenMeans names token meant → OnOk r (Adds names mid new (line_text (line_of meant)))) → OnOk r (Drafts old token new)
 drafts_line_ok (Ok x) old mid new token other a adds = drafts_line old mid new token other a adds

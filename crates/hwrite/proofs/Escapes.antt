@@ -1,4 +1,4 @@
--- How bytes and characters stand between quotes.
+-- How bytes and characters are between quotes.
 use Rattle.std.proofs.Common.{◌≡◌, ◌≢◌, ℕ, ◌<◌, ◌≤◌, ◌-◌, ◌^◌, suc, List, [], ◌∷◌, ◌++◌, length, get_or, true, false, refl, sym, ap, arith, codes, append-nil}
 use Rattle.std.specs.Char.{encode_utf8}
 use Rattle.std.specs.List.{list_all}

@@ -46,7 +46,7 @@ module _ (names : Texts) where
     | inr (same, id, others, name, rest, holes, of, is, more) ↦ absurd cc
   ]
 
-  -- The name of the first hole, what stands before it, and what comes after it.
+  -- The name of the first hole, what is before it, and what comes after it.
   pub record AtHole (text : List ℕ) (id : ℕ) (others bytes : List ℕ) : Type 0 where
     pub within : position_or_len is_hole text < length text
     pub name : List ℕ
@@ -118,7 +118,7 @@ module _ (names : Texts) where
   pub extends_as : (t h t' h' bytes bytes' : List ℕ) → bytes ≡ bytes' → Extends names t h t' h' bytes → Extends names t h t' h' bytes'
   extends_as t h t' h' bytes bytes' same e = subst (Extends names t h t' h') same e
 
-  -- .. and all of it
+  -- and all of it
   pub fills_more : (t h t' h' bytes rest : List ℕ) → Fills names t h bytes → Extends names t h t' h' rest → Fills names t' h' (bytes ++ rest)
   fills_more t h t' h' bytes rest f e =
       subst (λ (x : List ℕ). Fills names x h' (bytes ++ rest)) (sym e.text_is) (subst (λ (x : List ℕ). Fills names (t ++ e.more) x (bytes ++ rest)) (sym e.holes_are)

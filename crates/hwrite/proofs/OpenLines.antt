@@ -11,7 +11,7 @@ use Rattle.htoken.specs.Token.{Tok, TokenMeans}
 use Rattle.hwrite.specs.TokenLines.{Line, Words, Characters, joined, line_of, line_text}
 use Rattle.hwrite.proofs.Grouping.{regroup}
 
--- characters that stand right after others
+-- characters that are right after others
 after_characters-joined : (text : List ℕ) (at : ℕ) (lines : List Line) → after_characters (joined (Characters at text) lines) ≡ escaped text ++ after_characters lines
 after_characters-joined text at [] = refl
 after_characters-joined text at (Words later words ∷ lines) = refl

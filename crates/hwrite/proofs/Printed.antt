@@ -19,7 +19,7 @@ use Rattle.hnodes.proofs.Spellings.{questions, spelled-children_of}
 use Rattle.hwrite.proofs.Alike.{spelled-alike}
 use Rattle.hwrite.specs.Prints.{Prints, printed, nodes_text, errors_text, is_plain_in, plain_line, plain_text, written_text}
 
--- what stands in the root of a parse: each number of a name is read as its text
+-- what is in the root of a parse: each number of a name is read as its text
 abbrev children_spelled : Parsed → Forest (List ℕ)
 children_spelled parsed = spelled (text_of parsed.names) (children_of parsed.root parsed.tree.trees)
 

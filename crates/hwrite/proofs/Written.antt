@@ -1,4 +1,4 @@
--- What a run comes to, from what its reading and its writing do.
+-- What a run does, from what its reading and its writing do.
 use Rattle.std.proofs.Common.{◌≡◌, ◌⊎◌, inl, inr, true, false, None, Some, MatchResult, ℕ, List, [], ◌++◌, refl, sym, ap, subst, ◌∙◌, append-nil, Option, Result, Ok, Err}
 use Rattle.std.specs.Io.KnownBytes.{Keeps, Appends, IsAtEnd}
 use Rattle.std.proofs.KnownBytes.{Keeps-refl, Appends-kept}
@@ -67,7 +67,7 @@ module _ {W : Type 0} (written : W → Option (List ℕ)) (failed : W → ℕ) w
         → Runs left reads written failed prints unrefused piece old new target target' answer
     comes_to_text target target' run text answer r printed w = comes_to_written target target' run answer r (λ bytes its. (text, printed bytes its, w))
 
-    -- the same of an input that stands in an element
+    -- the same of an input that is in an element
     module _ (context : Option (List ℕ)) where
       pub not_read_in : ((bytes : List ℕ) (e : Refusal) → answers bytes (Err e) → prints bytes (Err e)) → (target : W) (e : Refusal) → ReadsIn left reads context answers unrefused piece old new (Err e)
           → RunsIn left reads written failed context prints unrefused piece old new target target (Err e)

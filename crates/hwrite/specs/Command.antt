@@ -1,4 +1,4 @@
--- What the program is told to do.
+-- What the program is to do.
 use Rattle.std.specs.Prelude.{ℕ, List, Option, None, Some, option_map, codes, if◌then◌else◌}
 use Rattle.std.specs.Borrow.{Bor}
 use Rattle.std.specs.Str.{bytes_eq}

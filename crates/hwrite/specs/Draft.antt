@@ -15,7 +15,7 @@ use Rattle.hwrite.specs.Quoted.{escaped, quoted}
 use Rattle.hwrite.specs.Prints.{tokens_text}
 use Rattle.hwrite.specs.TokenLines.{Line, Words, Characters, joined, line_of, line_text}
 
--- the byte that stands where a name between quotes is left out
+-- the byte that is where a name between quotes is left out
 abbrev pub hole : ℕ
 hole = 1
 
@@ -87,7 +87,7 @@ pub record ComesTo (names : Texts) (draft : Drafted) (lines : List Line) (text :
   pub fills : Fills names draft.text draft.holes written
   pub whole : written ++ to_write draft.in_characters lines ≡ text
 
--- A token was drafted: with its line and those after it, a draft came to the same as it does now with those after it.
+-- A token was drafted: with its line and those after it, a draft became what it becomes now with those after it.
 abbrev pub Drafts : Drafted → Token → Drafted → Type 0
 Drafts old token new =
     (names : Texts) (tok : Tok) (lines : List Line) (text : List ℕ) → TokenMeans names token tok

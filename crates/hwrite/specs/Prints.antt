@@ -36,7 +36,7 @@ nodes_text parse_case parse = tree_text (children_of (root_of parse_case) parse.
 abbrev pub errors_text : Parse → List ℕ
 errors_text parse = error_lines parse.errors
 
--- what stands in the root as HTML (13.3); the root's own name says how its texts are written
+-- what is in the root as HTML (13.3); the root's own name says how its texts are written
 abbrev pub written_text : Escaping → ParseCase → Parse → List ℕ
 written_text escaping parse_case parse = written escaping (name_of (root_of parse_case) parse.trees) (children_of (root_of parse_case) parse.trees)
 
@@ -59,7 +59,7 @@ parse_text escaping task.Write parse_case = written_text escaping parse_case
 parse_text escaping task.Plain parse_case = plain_text parse_case
 parse_text escaping _ parse_case = nodes_text parse_case
 
--- what a task prints of an input that stands in this element, or is a document, where HTML is escaped so; tokens are those of a document
+-- what a task prints of an input that is in this element, or is a document, where HTML is escaped so; tokens are those of a document
 abbrev pub prints_of : Escaping → Task → Option (List ℕ) → ParseOptions → List ℕ → Result (List ℕ) Refusal → Type 0
 prints_of escaping task.Tokens context opts = Prints (Answers opts.table (policy opts document)) tokens_text
 prints_of escaping other context opts = Prints (Parses opts (case_in context)) (parse_text escaping other (case_in context))
@@ -69,7 +69,7 @@ abbrev pub unrefused_of : Task → Option (List ℕ) → ParseOptions → List �
 unrefused_of task.Tokens context opts = IsUnrefusedText (manner opts document)
 unrefused_of other context opts = IsUnrefused opts (case_in context)
 
--- the element in which a task's input stands
+-- the element in which a task's input is
 abbrev pub context_of : Task → Option (List ℕ) → Option (List ℕ)
 context_of task.Tokens context = None
 context_of _ context = context

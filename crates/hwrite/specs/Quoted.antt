@@ -3,7 +3,7 @@ use Rattle.std.specs.Prelude.{ℕ, ◌/◌, ◌%◌, Bool, not, ◌&&◌, ◌||�
 use Rattle.std.specs.Char.{digit_char}
 use Rattle.std.specs.List.{flat_map}
 
--- A byte as it stands between quotes: a quote, a backslash, LF and the other bytes below the space are escaped.
+-- A byte as it is between quotes: a quote, a backslash, LF and the other bytes below the space are escaped.
 abbrev pub escaped_byte : ℕ → List ℕ
 escaped_byte b =
     if b == 34 then codes "\\\""
@@ -19,6 +19,6 @@ escaped text = flat_map escaped_byte text
 abbrev pub quoted : List ℕ → List ℕ
 quoted text = codes "\"" ++ escaped text ++ codes "\""
 
--- whether a byte stands there as it is
+-- whether a byte is there as it is
 abbrev pub is_unescaped : ℕ → Bool
 is_unescaped b = nat_le 32 b && not (b == 34 || b == 92)

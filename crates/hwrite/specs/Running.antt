@@ -1,5 +1,5 @@
--- What a run over a reader and a writer does. Of a reader `left` says the bytes that it has left, where it tells, and `failed`
--- how many of its calls have failed; of a writer `written` says the bytes that it has taken, where it tells. `prints` says what is
+-- What a run over a reader and a writer does. Of a reader `left` says the bytes that it has left, where it says, and `failed`
+-- how many of its calls have failed; of a writer `written` says the bytes that it has taken, where it says. `prints` says what is
 -- printed of an input's bytes: a text, or nothing where they are refused; `unrefused` that nothing of them is refused, whatever follows.
 use Rattle.std.specs.Prelude.{◌≡◌, ◌⊎◌, ℕ, ◌≤◌, List, [], ◌++◌, length, Option, Result, Ok, Err}
 use Rattle.std.specs.Io.KnownBytes.{Keeps, Appends, Consumes, IsAtEnd}
@@ -50,7 +50,7 @@ pub data Runs {S W : Type 0} (left : S → Option (List ℕ)) (failed_reads : S 
       → prints bytes (Ok text) → Appends (written target) (written target') text → failed_writes target' ≡ failed_writes target
       → Runs left failed_reads written failed_writes prints unrefused piece source source' target target' answer
 
--- The same of an input that stands in this element, or is a document: an element that is not allowed is refused before anything is read.
+-- The same of an input that is in this element, or is a document: an element that is not allowed is refused before anything is read.
 pub data RunsIn {S W : Type 0} (left : S → Option (List ℕ)) (failed_reads : S → ℕ) (written : W → Option (List ℕ)) (failed_writes : W → ℕ)
     (context : Option (List ℕ)) (prints : List ℕ → Result (List ℕ) Refusal → Type 0) (unrefused : List ℕ → Type 0) (piece : ℕ)
     (source source' : S) (target target' : W) (answer : Result (Unit {0}) Refusal) : Type 0 where
@@ -65,7 +65,7 @@ abbrev pub RunsTask : {S W : Type 0} → (S → Option (List ℕ)) → (S → �
 RunsTask left failed_reads written failed_writes escaping task context opts piece =
     RunsIn left failed_reads written failed_writes (context_of task context) (prints_of escaping task context opts) (unrefused_of task context opts) piece
 
--- What reading an input does that stands in this element, or is a document.
+-- What reading an input does that is in this element, or is a document.
 pub data ReadsIn {S R : Type 0} (left : S → Option (List ℕ)) (failed : S → ℕ) (context : Option (List ℕ)) (answers : List ℕ → Result R Refusal → Type 0)
     (unrefused : List ℕ → Type 0) (piece : ℕ) (old new : S) (answer : Result R Refusal) : Type 0 where
   not_allowed : (AllowsContext context → ⊥) → answer ≡ Err BadContext → new ≡ old → ReadsIn left failed context answers unrefused piece old new answer

@@ -12,7 +12,7 @@ row_markup : token_lines (Start (codes "p") [] false 0 ∷ Char 97 3 ∷ Comment
 unfolding encode_utf8 digits
 row_markup = refl
 
--- `a`, LF, `b`, where a CR stood before the LF
+-- `a`, LF, `b`, where a CR was before the LF
 row_line_feed : token_lines (Char 97 0 ∷ Char 10 1 ∷ Char 98 3 ∷ Eof 4 ∷ []) ≡ codes "0 chars \"a\\nb\"\n4 eof\n"
 unfolding encode_utf8 digits
 row_line_feed = refl

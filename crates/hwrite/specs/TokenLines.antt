@@ -1,4 +1,4 @@
--- How tokens are printed: a line each, but one line for characters that stand next to each other.
+-- How tokens are printed: a line each, but one line for characters that are next to each other.
 use Rattle.std.specs.Prelude.{ℕ, Option, None, Some, List, [], ◌∷◌, ◌++◌, if◌then◌else◌, codes, decimal, encode_utf8}
 use Rattle.std.specs.List.{flat_map}
 use Rattle.htoken.specs.Token.{Tok, Doctype, Start, End, Comment, Char, Eof}

@@ -1,4 +1,4 @@
-//! What the program is told to do.
+//! What the program is to do.
 
 ghost use Rattle.std.specs.Prelude.{◌≡◌};
 ghost use Rattle.hwrite.specs.Command.{task_named};
@@ -36,7 +36,7 @@ impl Task {
     }
 }
 
-/// A task, the name of the element in which the input stands, how `Write` escapes, and how many bytes of the input are fed at a
+/// A task, the name of the element in which the input is, how `Write` escapes, and how many bytes of the input are fed at a
 /// time: 1 to 65,536. An input without such an element is a document. That of `Tokens` always is.
 #[derive(Clone, Copy, Debug, PartialEq, Eq)]
 pub struct Command<'a> {

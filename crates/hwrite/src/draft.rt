@@ -19,7 +19,7 @@ use htoken::{Token, TokenSink};
 use names::{Attr, NameId, ParseError, Refusal};
 use std::alloc::{AllocError, Global};
 
-/// What stands where a name between quotes is left out: no line has this byte.
+/// What is where a name between quotes is left out: no line has this byte.
 pub const HOLE: u8 = 1;
 
 /// The lines of the tokens so far, as they are printed, but for the names of tags and attributes. The table of names is known

@@ -25,7 +25,7 @@ fn hex_digit(digit: u8) -> u8
     }
 }
 
-/// Writes a byte as it stands between quotes.
+/// Writes a byte as it is between quotes.
 fn put_escaped_byte<W: Target>(out: &mut Sink<'_, W>, byte: u8) -> Result<(), Refusal>
     ensures { Puts (taken W.written W.failed out.old) (taken W.written W.failed out.new) (escaped_byte byte) result }
 {
@@ -41,7 +41,7 @@ fn put_escaped_byte<W: Target>(out: &mut Sink<'_, W>, byte: u8) -> Result<(), Re
     }
 }
 
-/// Writes bytes as they stand between quotes.
+/// Writes bytes as they are between quotes.
 fn put_escaped<W: Target>(out: &mut Sink<'_, W>, bytes: &[u8]) -> Result<(), Refusal>
     ensures { Puts (taken W.written W.failed out.old) (taken W.written W.failed out.new) (escaped bytes.now) result }
 {
@@ -67,7 +67,7 @@ fn hole_in(text: &[u8]) -> Option<usize>
     text.iter().position(|byte| *byte == HOLE)
 }
 
-/// What stands before the first hole of a text, and what comes after it: all, and nothing, where there is none.
+/// What is before the first hole of a text, and what comes after it: all, and nothing, where there is none.
 fn around_hole(text: &[u8]) -> (&[u8], &[u8])
     ensures before { result.0.now ≡ before_first is_hole text.now }
     ensures after { result.1.now ≡ after_first is_hole text.now }

@@ -1,4 +1,4 @@
-//! The element in which an input stands.
+//! The element in which an input is.
 
 ghost use Rattle.std.specs.Prelude.{◌≡◌, MatchResult};
 ghost use Rattle.names.specs.declared.refusal.Refusal.TheVariants.{BadContext};
@@ -8,7 +8,7 @@ ghost use Rattle.hwrite.specs.Context.{AllowsContext};
 use hparse::is_context;
 use names::Refusal;
 
-/// Whether an input may stand in an element of this name, if there is a name. An error is `BadContext`.
+/// Whether an input may be in an element of this name, if there is a name. An error is `BadContext`.
 pub fn check_context(context: Option<&str>) -> Result<(), Refusal>
     ensures { MatchResult result (λ _. AllowsContext (name_of context.entry)) (λ e. (e ≡ BadContext) × (AllowsContext (name_of context.entry) → ⊥)) }
 {

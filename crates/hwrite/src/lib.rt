@@ -1,5 +1,5 @@
 //! The one crate that a user of the library depends on: parsing, writing, what comes back, and the program's engine, which reads an
-//! input from a reader and prints to a writer. What stands in crates below is passed on.
+//! input from a reader and prints to a writer. What is in crates below is passed on.
 #![tactic(auto)]
 
 pub mod command;

@@ -25,7 +25,7 @@ fn draft_of(alloc: Global, run: &TokenRun) -> Result<Draft, AllocError>
     Ok(draft)
 }
 
-/// The tokens of a run as they are printed: a line each, but one line for characters that stand next to each other.
+/// The tokens of a run as they are printed: a line each, but one line for characters that are next to each other.
 pub fn token_lines(alloc: Global, run: &TokenRun) -> Result<Vec<u8>, Refusal>
     requires { (tokens : List Tok) × TokensMean run.now.names run.now.tokens.items tokens }
     ensures lines { (tokens : List Tok) → TokensMean run.now.names run.now.tokens.items tokens

@@ -34,7 +34,7 @@ fn push_escape(text: &mut String, ch: char) -> Result<(), AllocError>
     }
 }
 
-/// Writes a character as it stands between quotes.
+/// Writes a character as it is between quotes.
 #[inline]
 pub fn push_escaped(text: &mut String, ch: char) -> Result<(), AllocError>
     ensures { OnOk result
@@ -47,7 +47,7 @@ pub fn push_escaped(text: &mut String, ch: char) -> Result<(), AllocError>
     }
 }
 
-/// Writes the characters of a text as they stand between quotes.
+/// Writes the characters of a text as they are between quotes.
 fn push_each(text: &mut String, source: &str) -> Result<(), AllocError>
     ensures { OnOk result
         (string_bytes text.new ≡ string_bytes text.old ++ escaped source.now) }
@@ -72,7 +72,7 @@ fn are_unescaped(bytes: &[u8]) -> bool
     bytes.iter().all(|byte| is_unescaped(*byte))
 }
 
-/// Writes a text as it stands between quotes: at once, where nothing in it is escaped.
+/// Writes a text as it is between quotes: at once, where nothing in it is escaped.
 fn push_escaped_text(text: &mut String, source: &str) -> Result<(), AllocError>
     ensures { OnOk result
         (string_bytes text.new ≡ string_bytes text.old ++ escaped source.now) }

@@ -1,4 +1,4 @@
-//! Lines of tokens, and parts of them, in which no name of a tag or an attribute stands.
+//! Lines of tokens, and parts of them, in which no name of a tag or an attribute is.
 
 ghost use Rattle.std.specs.Prelude.{◌≡◌, ◌++◌, codes, decimal, OnOk};
 ghost use Rattle.std.specs.String.{string_bytes};
@@ -10,7 +10,7 @@ use crate::quoted::{push_escaped, push_quoted};
 use itoa::Buffer;
 use std::alloc::AllocError;
 
-/// What stands before the characters of a line, and after them.
+/// What is before the characters of a line, and after them.
 pub const CHARACTERS: &str = "chars \"";
 
 pub const END_OF_CHARACTERS: &str = "\"\n";

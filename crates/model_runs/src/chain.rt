@@ -49,7 +49,7 @@ fn last(list: &Chains, number: usize) -> usize {
     if number == NONE { 0 } else { list.last(number) }
 }
 
-/// The place before an index where the number at the index stands too; 0 if there is none.
+/// The place before an index where the number at the index is too; 0 if there is none.
 fn before(list: &Chains, index: usize) -> usize {
     match list.get(index) {
         Some(number) if number != NONE && index < list.len() => list.before(index + 1),
@@ -57,7 +57,7 @@ fn before(list: &Chains, index: usize) -> usize {
     }
 }
 
-/// Says the numbers, each with the place before it where it stands too, and the last one.
+/// Says the numbers, each with the place before it where it is too, and the last one.
 fn entries(list: &Chains, out: &mut Answers) -> Reply {
     out.number(list.len());
     for index in 0..list.len() {

@@ -62,7 +62,7 @@ fn change(list: &mut Formatting, hand: &mut Hand, line: &str) -> Reply {
     Reply::Done
 }
 
-/// Calls for an entry that is told by how many stand after it, and questions.
+/// Calls for an entry that is named by how many are after it, and questions.
 fn go_back(
     list: &mut Formatting,
     node: NodeId,

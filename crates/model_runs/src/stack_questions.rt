@@ -1,4 +1,4 @@
-//! Questions of the stack of open elements. The answers of a line stand in the order of its questions.
+//! Questions of the stack of open elements. The answers of a line are in the order of its questions.
 
 use crate::answers::Answers;
 use crate::hand::Hand;

@@ -15,11 +15,11 @@ pub enum Reply {
     /// There is no such call, or its condition is not met.
     NotMade,
     Number(usize),
-    /// What the call itself has said.
+    /// The call itself has answered.
     Said,
 }
 
-/// The place of the token that each call is made for, if a refusal tells it.
+/// The place of the token that each call is made for, if a refusal names it.
 pub const PLACE: u64 = 7;
 
 /// The answer of a call that gives nothing.

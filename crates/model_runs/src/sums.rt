@@ -1,4 +1,4 @@
-//! A number that tells a tree, so that the whole of it can be compared after each of many edits.
+//! A sum over a tree, so that the whole of it can be compared after each of many edits.
 
 ghost use Rattle.std.specs.Prelude.{◌<◌};
 
@@ -40,7 +40,7 @@ fn text_sum(text: &str) -> u64 {
     sum
 }
 
-/// The sum of what stands around a node, and of its text.
+/// The sum of what is around a node, and of its text.
 fn node_sum(tree: &Tree, node: NodeId) -> u64
     requires { node < tree.now.made }
 {

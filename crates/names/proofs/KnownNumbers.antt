@@ -1,4 +1,4 @@
--- A known name and its number tell each other.
+-- A known name and its number determine each other.
 use Rattle.std.proofs.Common.{◌≡◌, ℕ, List, ◌++◌, drop, length, map, get_or, Some, sym, refl, ap, ◌∙◌, subst, zero-add, inl, inr}
 use Rattle.std.proofs.lemmas.List.{take-append-drop, get_or_past, get_or-map}
 use Rattle.std.proofs.lemmas.List.FromFn.{get_or-range_with_len}
@@ -13,7 +13,7 @@ use Rattle.names.specs.Tags.{tag_text, tags, known, tag_of, number_of}
 use Rattle.names.specs.Names.{Texts, AreNames}
 use Rattle.names.proofs.Handing.{slice_get-append}
 
--- the known names stand in the order of their numbers
+-- the known names are in the order of their numbers
 number_of-tags : map number_of tags ≡ range_with_len 0 127
 number_of-tags = refl
 
@@ -24,12 +24,12 @@ number_of-tag_of n known_name =
       | inr past ↦ absurd (known_name (get_or_past tags n Other past))
     ]
 
--- a tag stands at its place among the variants
+-- a tag is at its place among the variants
 pub tag_of-place : (t : Tag) → tag_of (enum.tag_of contract.the_type t) ≡ t
 tag_of-place Other = refl
 tag_of-place _ = refl
 
--- .. which is its number
+-- which is its number
 pub place-is : (t : Tag) → (t ≡ Other → ⊥) → enum.tag_of contract.the_type t ≡ number_of t
 place-is t h =
     sym (number_of-tag_of (enum.tag_of contract.the_type t) (λ e. h (sym (tag_of-place t) ∙ e))) ∙ ap number_of (tag_of-place t)
@@ -37,12 +37,12 @@ place-is t h =
 pub tag_of-number_of : (t : Tag) → (t ≡ Other → ⊥) → tag_of (number_of t) ≡ t
 tag_of-number_of t h = ap tag_of (sym (place-is t h)) ∙ tag_of-place t
 
--- a known text stands at its number
+-- a known text is at its number
 known_text : (t : Tag) → (t ≡ Other → ⊥) → slice_get known (number_of t) ≡ Some (tag_text t)
 known_text Other h = absurd (h refl)
 known_text _ h = refl
 
--- what stands among the known texts stands there in every table
+-- what is among the known texts is there in every table
 pub text_of_first : (names : Texts) (n : ℕ) (text : List ℕ) → AreNames names → slice_get known n ≡ Some text → slice_get names n ≡ Some text
 text_of_first names n text h first =
     let whole : names ≡ known ++ drop (length known) names = sym (take-append-drop (length known) names) ∙ ap (λ (x : Texts). x ++ drop (length known) names) h.known_first in

@@ -16,7 +16,7 @@ different a b h = elim (bytes_eq a b) as (λ v. bytes_eq a b ≡ v → v ≡ fal
 others_distinct : (x : List ℕ) (xs : Texts) → AreDistinct (x ∷ xs) → AreDistinct xs
 others_distinct x xs h i j p q e = let k : suc i ≡ suc j = h (suc i) (suc j) (omega arith) (omega arith) e in omega arith
 
--- the first tag of a text stands where the text does, in texts that are all different
+-- the first tag of a text is where the text does, in texts that are all different
 named_at : (ts : List Tag) (others : Texts) (id : ℕ) (text : List ℕ) → AreDistinct (map tag_text ts ++ others) → id < length (map tag_text ts ++ others)
     → text_of (map tag_text ts ++ others) id ≡ text → get_or ts id Other ≡ tag_among ts text
 named_at [] others id text h less e = get_or_past [] id Other (omega arith)

@@ -1,4 +1,4 @@
--- The known names as they stand in every table.
+-- The known names as they are in every table.
 use Rattle.std.proofs.Common.{subst, ◌≡◌, ℕ, suc, ◌+◌, ◌<◌, ◌≤◌, Bool, true, false, ◌&&◌, ◌||◌, nat_lt, List, [], ◌∷◌, length, map, sym, refl, ap, ◌∙◌, arith, inl, inr, get_or, Option, Some, None, zero-add, replicate, subst}
 use Rattle.std.proofs.lemmas.Bool.{and_parts, cases_lt, false≢true, leb-true, ltb-true}
 use Rattle.std.proofs.lemmas.List.{get_or-map, get_or-replicate}
@@ -16,7 +16,7 @@ use Rattle.names.specs.declared.tag.Tag.TheVariants.{A}
 use Rattle.names.proofs.Handing.{slice_get-append}
 use Rattle.names.proofs.KnownTags.{different}
 
--- each has the place at which it stands alone
+-- each has the place at which it is alone
 places : map (λ t. position (bytes_eq t) known) known ≡ map Some (range_with_len 0 128)
 places = refl
 
@@ -36,7 +36,7 @@ known_tag i t within =
     slice_get-append (map tag_text tags) (type_name ∷ []) i (tag_text (get_or tags i t))
     (slice_get-map tag_text tags i ∙ ap (option_map tag_text) (slice_get-get_or tags i t within))
 
--- where a text that begins with a letter stands, if it is a known name
+-- where a text that begins with a letter is, if it is a known name
 abbrev stands : Option ℕ → ℕ → Bool
 stands None i = false
 stands (Some letter) i = nat_le (get_or FIRST letter 0) i && nat_lt i (get_or FIRST (letter + 1) 0)

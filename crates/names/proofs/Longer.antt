@@ -74,7 +74,7 @@ spelled-alike names id within =
     let more : id < length (longer names) = omega (arith, within, longer-length names) in
     spelled_within names id within ∙ sym (text_of-first names (fresh names) id within) ∙ sym (spelled_within (longer names) id more)
 
--- .. and no others
+-- and no others
 pub alike-within : (names : Texts) (id : ℕ) → spelling names id ≡ spelling (longer names) id → id < length names
 alike-within names id e = elim (cases_lt id (length names)) [
   | inl within ↦ within

@@ -1,4 +1,4 @@
--- Where a text stands among the texts of a table.
+-- Where a text is among the texts of a table.
 use Rattle.std.proofs.Common.{◌≡◌, ℕ, suc, ◌+◌, Bool, true, false, ◌||◌, cond, List, [], ◌∷◌, ◌++◌, length, map, sym, refl, ap, ◌∙◌, arith, Some, string_bytes}
 use Rattle.std.proofs.lemmas.Iterator.Adapters.{position_from-zero}
 use Rattle.std.proofs.lemmas.Option.{get_or_from_slice_get, slice_get_within}

@@ -24,7 +24,7 @@ use Rattle.names.specs.Table.{AreOthers, is_other}
 use Rattle.names.proofs.Handing.{slice_get-append}
 use Rattle.names.proofs.KnownTexts.{known-distinct}
 
--- the test of two texts tells whether they are equal
+-- the test of two texts says whether they are equal
 pub bytes_eq-true : (xs ys : List ℕ) → bytes_eq xs ys ≡ true → xs ≡ ys
 bytes_eq-true xs ys h = (bytes_eq-Decides xs ys).0 h
 
@@ -68,7 +68,7 @@ distinct_from (k ∷ ks) h i j p q same =
 pub grown : {A : Type 0} (old new : List (String A)) (key : String A) → list_any (string_eq key) old ≡ false → new ≡ insert_key string_eq old key → new ≡ old ++ key ∷ []
 grown old new key absent e = e ∙ ap (λ b. cond b old (old ++ key ∷ [])) absent
 
--- the texts beside the known ones, with a new one last
+-- the texts besides the known ones, with a new one last
 pub others_grown : {A : Type 0} (old new : List (String A)) (key : String A) → AreOthers old → length known + length old < 2 ^ 32 → list_any (bytes_eq (string_bytes key)) known ≡ false
     → IsDistinct string_eq new → new ≡ old ++ key ∷ [] → AreOthers new
 others_grown old new key h room other distinct e = record {
@@ -99,7 +99,7 @@ number_last {A = A} old new key text is e = rw e (go old)
     go [] = ap Some is
     go (k ∷ ks) = go ks
 
--- what stands after others
+-- what is after others
 pub text_of-after : (xs ys : Texts) (i : ℕ) → length xs ≤ i → text_of (xs ++ ys) i ≡ text_of ys (i - length xs)
 text_of-after [] ys i past = let e : i ≡ i - 0 = omega arith in ap (text_of ys) e
 text_of-after (x ∷ xs) ys zero past = absurd (omega (arith, past))
@@ -166,7 +166,7 @@ table_grown old new key names is e =
     ap (λ (x : Texts). known ++ x) (ap (map string_bytes) e ∙ map-append string_bytes old (key ∷ [])) ∙ sym (append_assoc known (map string_bytes old) (string_bytes key ∷ []))
     ∙ ap (λ (x : Texts). x ++ string_bytes key ∷ []) is
 
--- what stands at a place after the known names
+-- what is at a place after the known names
 pub slice_get-past : (xs ys : Texts) (i : ℕ) → length xs ≤ i → slice_get (xs ++ ys) i ≡ slice_get ys (i - length xs)
 slice_get-past xs ys i past =
     let e : i ≡ length xs + (i - length xs) = omega (arith, past) in
@@ -183,7 +183,7 @@ slice_get-within xs ys i within =
     let e : slice_get xs i ≡ Some (text_of xs i) = slice_get-get_or xs i [] within in
     slice_get-append xs ys i (text_of xs i) e ∙ sym e
 
--- nothing beside the known names
+-- nothing besides the known names
 pub no_others : {A : Type 0} (keys : List (String A)) → keys ≡ [] → IsDistinct string_eq keys → AreOthers keys
 no_others keys none distinct = record { others = ap (list_all is_other) none; distinct = distinct; fits = omega (arith, ap length none) }
 

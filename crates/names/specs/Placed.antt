@@ -19,7 +19,7 @@ characters text = map (λ p. p.ch) text
 abbrev pub lowered : List Placed → List ℕ
 lowered text = map (λ p. to_ascii_lowercase p.ch) text
 
--- the place at which a text stands: of its first character, or the input's end
+-- the place at which a text is: of its first character, or the input's end
 abbrev pub place : ℕ → List Placed → ℕ
 place end [] = end
 place end (p ∷ ps) = p.at
@@ -64,7 +64,7 @@ pub record RunsTo (test : ℕ → Bool) (text after : List Placed) : Type 0 wher
   pub passes_none : all (λ c. not (test c)) text ≡ true
   pub stops_after : stops test after ≡ true
 
--- "the earliest occurrence of": the text before the earliest place at which the mark stands, and the text from there on
+-- "the earliest occurrence of": the text before the earliest place at which the mark is, and the text from there on
 abbrev pub before : (List Placed → Bool) → List Placed → List Placed
 before mark [] = []
 before mark (p ∷ ps) = if mark (p ∷ ps) then [] else p ∷ before mark ps
@@ -73,7 +73,7 @@ abbrev pub from : (List Placed → Bool) → List Placed → List Placed
 from mark [] = []
 from mark (p ∷ ps) = if mark (p ∷ ps) then p ∷ ps else from mark ps
 
--- the mark stands nowhere in the text, where `after` follows it
+-- the mark is nowhere in the text, where `after` follows it
 abbrev pub Avoids : (List Placed → Bool) → List Placed → List Placed → Type 0
 Avoids mark [] after = Unit {0}
 Avoids mark (p ∷ ps) after = (mark (p ∷ ps ++ after) ≡ false) × Avoids mark ps after

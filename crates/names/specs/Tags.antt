@@ -163,7 +163,7 @@ known = map tag_text tags ++ type_name ∷ []
 abbrev pub tag_of : ℕ → Tag
 tag_of number = slice_index_or tags number Other
 
--- the number of a known name: where its text stands among the known texts
+-- the number of a known name: where its text is among the known texts
 abbrev pub number_of : Tag → ℕ
 number_of t = unwrap_or (position (bytes_eq (tag_text t)) known) (length known)
 

@@ -14,7 +14,7 @@ pub(crate) const KNOWN: usize = 128;
 /// The name of the attribute that says whether an input is hidden.
 const TYPE: &str = "type";
 
-/// Where the tags that begin with each letter begin among the tags, which stand in the order of their texts; last, how many there are.
+/// Where the tags that begin with each letter begin among the tags, which are in the order of their texts; last, how many there are.
 static FIRST: [u8; 27] = [
     0, 7, 18, 24, 34, 36, 44, 44, 55, 61, 61, 63, 67, 73, 78, 83, 87, 88, 93, 109, 122, 124, 125,
     126, 127, 127, 127,

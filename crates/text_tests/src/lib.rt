@@ -1,5 +1,5 @@
 //! Tests of the text layers by what only their own calls can show: numbers of names, sinks that refuse, walks that are begun in the
-//! middle, what is held. What comes of an input stands in the stored cases of `cases`.
+//! middle, what is held. What comes of an input is in the stored cases of `cases`.
 #![tactic(auto)]
 
 #[cfg(test)]

@@ -97,7 +97,7 @@ impl TagOutput {
     }
 }
 
-/// Whether a walk tells of this name, and of attributes.
+/// Whether a walk has read this name, and of attributes.
 fn is_tag(walk: &TagWalk<'_>, name: &str, has_attributes: bool) -> bool {
     walk.name() == name && walk.has_attributes() == has_attributes
 }

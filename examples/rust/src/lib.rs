@@ -24,10 +24,10 @@ pub enum BadBytes {
     Replace,
 }
 
-/// What is told beside the input. `Options::default()` reads a document under the greatest limits.
+/// What is given with the input. `Options::default()` reads a document under the greatest limits.
 #[derive(Clone, Copy, Debug)]
 pub struct Options<'a> {
-    /// The name of the element in which a fragment stands; empty for a document.
+    /// The name of the element in which a fragment is; empty for a document.
     pub context: &'a str,
     /// The table of character references as JSON, and the quirks list; empty for the defaults.
     pub entities: &'a str,

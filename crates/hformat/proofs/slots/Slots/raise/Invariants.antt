@@ -4,7 +4,7 @@ use Rattle.hformat.specs.Listed.{IsListed}
 use Rattle.hformat.specs.declared.entry.Slot.TheVariants as stored
 use Rattle.hformat.proofs.slots.Slots.raise.Given as goal
 
--- the item that moves stands at the index
+-- the item that moves is at the index
 abbrev pub invariant-loop-index : goal.invariant-loop-index
 invariant-loop-index l =
     record {

@@ -6,7 +6,7 @@ use Rattle.htext.specs.Text.{Whole, normalized, ends_in_return}
 use Rattle.htext.specs.Items.{items}
 use Rattle.htext.proofs.progress.Progress.hand_text.Given as goal
 
--- The sink is given the rest as it was given all, and the rest stands after a CR as all does.
+-- The sink is given the rest as it was given all, and the rest is after a CR as all does.
 abbrev pub invariant-loop-ch : goal.invariant-loop-ch
 invariant-loop-ch g l = record {
   handed : Continues g.S.CharSink.gives l.fn.sink (items (normalized l.fn.self.bom l.fn.self.after_return (map Whole (placed l.fn.self.read (chars l.fn.text)))))
