@@ -1,5 +1,6 @@
 -- The table of a JSON text, or the first fault of the text, entry by entry in the order of the keys' bytes.
-use Rattle.std.specs.Prelude.{◌≡◌, ℕ, Bool, not, ◌&&◌, ◌==◌, nat_le, if◌then◌else◌, List, [], ◌∷◌, codes, Option, Some, None, option_map, option_and_then, Result, Ok, Err, bytes_eq, encode_utf8_all, ◌⊎◌}
+use Rattle.std.specs.Prelude.{◌≡◌, ℕ, Bool, not, ◌&&◌, ◌==◌, nat_le, if◌then◌else◌, List, [], ◌∷◌, codes, Option, Some, None, option_map, option_and_then}
+use Rattle.std.specs.Prelude.{Result, Ok, Err, bytes_eq, encode_utf8_all, ◌⊎◌}
 use Rattle.serde_json.specs.Data.{Data, Items, no_items, item, Members, no_members, member}
 use Rattle.serde_json.specs.Find.{get, as_number, as_str, as_array, as_object, as_u64}
 use Rattle.serde_json.specs.Read as json

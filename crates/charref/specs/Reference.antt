@@ -1,11 +1,16 @@
 -- Character references (HTML Standard, 13.2.5.72 to 13.2.5.80): `&` and what it stands for.
-use Rattle.std.specs.Prelude.{◌≡◌, ℕ, ◌+◌, ◌-◌, ◌*◌, Bool, true, false, not, ◌&&◌, ◌||◌, ◌==◌, nat_eq, nat_lt, nat_le, if◌then◌else◌, List, [], ◌∷◌, ◌++◌, map, length, drop, codes, Option, Some, None, option_to_list, bytes_eq, Contains}
+use Rattle.std.specs.Prelude.{◌≡◌, ℕ, ◌+◌, ◌-◌, ◌*◌, Bool, true, false, not, ◌&&◌, ◌||◌, ◌==◌, nat_eq, nat_lt, nat_le, if◌then◌else◌, List, [], ◌∷◌, ◌++◌}
+use Rattle.std.specs.Prelude.{map, length, drop, codes, Option, Some, None, option_to_list, bytes_eq, Contains}
 use Rattle.std.specs.List.{starts_with, list_all, IsDistinct, AllByRecursion}
 use Rattle.names.specs.declared.error.ParseError.{ParseError}
 use Rattle.names.specs.declared.error.ErrorCode.{ErrorCode}
-use Rattle.names.specs.declared.error.ErrorCode.TheVariants.{AbsenceOfDigitsInNumericCharacterReference, CharacterReferenceOutsideUnicodeRange, ControlCharacterReference, MissingSemicolonAfterCharacterReference, NoncharacterCharacterReference, NullCharacterReference, SurrogateCharacterReference, UnknownNamedCharacterReference}
+use Rattle.names.specs.declared.error.ErrorCode.TheVariants.{AbsenceOfDigitsInNumericCharacterReference, CharacterReferenceOutsideUnicodeRange}
+use Rattle.names.specs.declared.error.ErrorCode.TheVariants.{ControlCharacterReference, MissingSemicolonAfterCharacterReference}
+use Rattle.names.specs.declared.error.ErrorCode.TheVariants.{NoncharacterCharacterReference, NullCharacterReference, SurrogateCharacterReference}
+use Rattle.names.specs.declared.error.ErrorCode.TheVariants.{UnknownNamedCharacterReference}
 use Rattle.names.specs.declared.placed.Placed.{Placed}
-use Rattle.names.specs.Placed.{characters, lowered, place, begins, spells, is_empty, RunsTo, past, is_space, is_digit, is_alphanumeric, is_equals, is_noncharacter, error, error_if}
+use Rattle.names.specs.Placed.{characters, lowered, place, begins, spells, is_empty, RunsTo, past, is_space, is_digit, is_alphanumeric, is_equals}
+use Rattle.names.specs.Placed.{is_noncharacter, error, error_if}
 
 abbrev pub is_empty_list : List ℕ → Bool
 is_empty_list [] = true

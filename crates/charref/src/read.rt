@@ -1,6 +1,7 @@
 //! Reading a table from JSON text.
 
-ghost use Rattle.std.specs.Prelude.{◌≡◌, ◌⊎◌, List, [], ◌∷◌, ◌++◌, Ok, Err, Some, IfOk, IfErr, option_map, option_and_then, bytes_eq, codes, string_bytes, encode_utf8_all};
+ghost use Rattle.std.specs.Prelude.{◌≡◌, ◌⊎◌, List, [], ◌∷◌, ◌++◌, Ok, Err, Some, IfOk, IfErr, option_map, option_and_then, bytes_eq, codes, string_bytes};
+ghost use Rattle.std.specs.Prelude.{encode_utf8_all};
 ghost use Rattle.serde_json.specs.Find.{get, as_str, as_array};
 ghost use Rattle.names.specs.declared.refusal.TableFault.{TableFault};
 ghost use Rattle.serde_json.specs.View.{view, items_view, members_view};

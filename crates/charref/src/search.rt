@@ -2,7 +2,8 @@
 
 ghost use Rattle.std.specs.Prelude.{◌≡◌, ◌↔◌, ℕ, ◌+◌, ◌-◌, ◌≤◌, ◌<◌, [], ◌∷◌, ◌++◌, List, true, false, None, length, IsTrue, IsNone, IfSome};
 ghost use Rattle.charref.specs.Reference.{longest};
-ghost use Rattle.charref.specs.Table.{entries, code_at, best_entry, IsSortedTable, IsRange, IsRising, IsParted, IsIndex, IsOver, GoesOn, HasNone, HasRead, is_whole, is_search_within};
+ghost use Rattle.charref.specs.Table.{entries, code_at, best_entry, IsSortedTable, IsRange, IsRising, IsParted, IsIndex, IsOver, GoesOn, HasNone, HasRead};
+ghost use Rattle.charref.specs.Table.{is_whole, is_search_within};
 
 use crate::entity::Entity;
 

@@ -1,6 +1,7 @@
 //! Lists of numbers.
 
-ghost use Rattle.std.specs.Prelude.{◌≡◌, ◌≢◌, ◌==◌, ℕ, ◌%◌, ◌<◌, ◌≤◌, ◌+◌, ◌-◌, ◌*◌, ◌^◌, ◌++◌, OnOk, OnErr, [], ◌∷◌, drop, filter, if◌then◌else◌, length, ltb, not, slice_get, slice_index, take, true};
+ghost use Rattle.std.specs.Prelude.{◌≡◌, ◌≢◌, ◌==◌, ℕ, ◌%◌, ◌<◌, ◌≤◌, ◌+◌, ◌-◌, ◌*◌, ◌^◌, ◌++◌, OnOk, OnErr, [], ◌∷◌, drop, filter, if◌then◌else◌, length};
+ghost use Rattle.std.specs.Prelude.{ltb, not, slice_get, slice_index, take, true};
 ghost use Rattle.hchain.specs.Chains.{last_up, none};
 ghost use Rattle.hchain.specs.Linked.{IsChained, Keep, befores_of, is_in, numbers_of};
 

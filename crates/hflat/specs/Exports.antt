@@ -40,7 +40,8 @@ pub record GivesText (number : ℕ) (input : List ℕ) (given : Given) (text : L
 -- There is no text, for this reason.
 pub data GivesNone (number : ℕ) (input : List ℕ) (given : Given) (why : CallFault) : Type 0 where
   no_command : NoCommand number given why → GivesNone number input given why
-  comes_to_none : (task : Task) (how : Escaping) (opts : ParseOptions) (refusal : Refusal) → task_told number ≡ Some task → escaping_told given.escaping ≡ Some how
+  comes_to_none : (task : Task) (how : Escaping) (opts : ParseOptions) (refusal : Refusal) → task_told number ≡ Some task
+      → escaping_told given.escaping ≡ Some how
       → Tells given opts → ComesToNone (prints task how given opts) (context_of task (context_told given.context.now)) input refusal
       → why ≡ fault.Refused refusal → GivesNone number input given why
 

@@ -4,7 +4,8 @@ ghost use Rattle.std.specs.Prelude.{◌≡◌, ◌<◌, ◌≤◌, MatchResult, 
 ghost use Rattle.hmarkup.specs.Quirks.{ReadsQuirks};
 ghost use Rattle.hparse.specs.Parsing.{options_of};
 ghost use Rattle.hwrite.specs.Command.{name_of};
-ghost use Rattle.hflat.specs.Given.{bad_told, context_told, escaping_told, table_told, task_told, HasLimits, HasLists, IsCommand, IsPiece, NoCommand, Tells, Unmet};
+ghost use Rattle.hflat.specs.Given.{bad_told, context_told, escaping_told, table_told, task_told, HasLimits, HasLists, IsCommand, IsPiece, NoCommand, Tells};
+ghost use Rattle.hflat.specs.Given.{Unmet};
 ghost use Rattle.hflat.specs.declared.fault.CallFault.TheVariants as fault;
 
 use crate::answer::Given;

@@ -11,7 +11,7 @@ ghost use Rattle.hflat.specs.Lent.{what_is};
 ghost use Rattle.hflat.specs.Rows.{attribute_words, ended, kind_number, link_to, row_at, rows_of, node_words_at, words_at, words_of};
 
 use crate::answer::NodeRow;
-use hnodes::{DocumentType, NodeKind, NodeId, Tree};
+use hnodes::{DocumentType, NodeId, NodeKind, Tree};
 use names::{Attr, NameId, Names};
 use std::alloc::{AllocError, Global};
 

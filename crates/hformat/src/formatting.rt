@@ -4,7 +4,8 @@ ghost use Rattle.std.specs.Prelude.{◌≡◌, ℕ, suc, ◌-◌, ◌≤◌, ◌
 ghost use Rattle.std.specs.List.{All, list_any};
 ghost use Rattle.std.specs.Option.{is_some, option_map};
 ghost use Rattle.hnodes.specs.Rows.{attribute_of};
-ghost use Rattle.hformat.specs.Formatting.{cleared, entry_at, entry_of, find_entry, is_entry, marker, pushed, with_node, without_entry, for_node, booked, has_bookmark};
+ghost use Rattle.hformat.specs.Formatting.{cleared, entry_at, entry_of, find_entry, is_entry, marker, pushed, with_node, without_entry, for_node, booked};
+ghost use Rattle.hformat.specs.Formatting.{has_bookmark};
 ghost use Rattle.hformat.specs.Items.{IsStored, entry_is, items_of, live};
 ghost use Rattle.hformat.specs.Listed.{IsListed};
 ghost use Rattle.hopen.specs.Nearest.{changed_at, without};

@@ -3,9 +3,16 @@
 use Rattle.std.specs.Prelude.{◌≡◌, ℕ, Bool, true, false, not, ◌||◌, ◌==◌, List, [], ◌∷◌, ◌++◌, codes, Option, Some, None}
 use Rattle.names.specs.declared.error.ParseError.{ParseError}
 use Rattle.names.specs.declared.error.ErrorCode.{ErrorCode}
-use Rattle.names.specs.declared.error.ErrorCode.TheVariants.{AbruptDoctypePublicIdentifier, AbruptDoctypeSystemIdentifier, EofInDoctype, InvalidCharacterSequenceAfterDoctypeName, MissingDoctypeName, MissingDoctypePublicIdentifier, MissingDoctypeSystemIdentifier, MissingQuoteBeforeDoctypePublicIdentifier, MissingQuoteBeforeDoctypeSystemIdentifier, MissingWhitespaceAfterDoctypePublicKeyword, MissingWhitespaceAfterDoctypeSystemKeyword, MissingWhitespaceBeforeDoctypeName, MissingWhitespaceBetweenDoctypePublicAndSystemIdentifiers, UnexpectedCharacterAfterDoctypeSystemIdentifier}
+use Rattle.names.specs.declared.error.ErrorCode.TheVariants.{AbruptDoctypePublicIdentifier, AbruptDoctypeSystemIdentifier, EofInDoctype}
+use Rattle.names.specs.declared.error.ErrorCode.TheVariants.{InvalidCharacterSequenceAfterDoctypeName, MissingDoctypeName, MissingDoctypePublicIdentifier}
+use Rattle.names.specs.declared.error.ErrorCode.TheVariants.{MissingDoctypeSystemIdentifier, MissingQuoteBeforeDoctypePublicIdentifier}
+use Rattle.names.specs.declared.error.ErrorCode.TheVariants.{MissingQuoteBeforeDoctypeSystemIdentifier, MissingWhitespaceAfterDoctypePublicKeyword}
+use Rattle.names.specs.declared.error.ErrorCode.TheVariants.{MissingWhitespaceAfterDoctypeSystemKeyword, MissingWhitespaceBeforeDoctypeName}
+use Rattle.names.specs.declared.error.ErrorCode.TheVariants.{MissingWhitespaceBetweenDoctypePublicAndSystemIdentifiers}
+use Rattle.names.specs.declared.error.ErrorCode.TheVariants.{UnexpectedCharacterAfterDoctypeSystemIdentifier}
 use Rattle.names.specs.declared.placed.Placed.{Placed}
-use Rattle.names.specs.Placed.{characters, lowered, place, begins, is_empty, spells_in_any_case, all, RunsTo, is_space, is_greater, is_quote, is_greater_or_end, error, error_if, null_errors, text_bytes, name_bytes}
+use Rattle.names.specs.Placed.{characters, lowered, place, begins, is_empty, spells_in_any_case, all, RunsTo, is_space, is_greater, is_quote}
+use Rattle.names.specs.Placed.{is_greater_or_end, error, error_if, null_errors, text_bytes, name_bytes}
 use Rattle.hmarkup.specs.declared.keyword.Identifier.{Identifier}
 use Rattle.hmarkup.specs.declared.keyword.Identifier.TheVariants.{Public, System}
 

@@ -3,7 +3,9 @@ use Rattle.std.specs.Prelude.{ℕ, ◌+◌, nat_lt, get_or, Bool, true, false, �
 use Rattle.std.specs.Char.{to_ascii_lowercase}
 use Rattle.names.specs.declared.error.ParseError.{ParseError}
 use Rattle.names.specs.declared.error.ErrorCode.{ErrorCode}
-use Rattle.names.specs.declared.error.ErrorCode.TheVariants.{EofInDoctype, InvalidCharacterSequenceAfterDoctypeName, MissingDoctypeName, MissingWhitespaceBeforeDoctypeName, MissingWhitespaceBetweenDoctypePublicAndSystemIdentifiers, UnexpectedCharacterAfterDoctypeSystemIdentifier}
+use Rattle.names.specs.declared.error.ErrorCode.TheVariants.{EofInDoctype, InvalidCharacterSequenceAfterDoctypeName, MissingDoctypeName}
+use Rattle.names.specs.declared.error.ErrorCode.TheVariants.{MissingWhitespaceBeforeDoctypeName, MissingWhitespaceBetweenDoctypePublicAndSystemIdentifiers}
+use Rattle.names.specs.declared.error.ErrorCode.TheVariants.{UnexpectedCharacterAfterDoctypeSystemIdentifier}
 use Rattle.names.specs.declared.placed.Placed.{Placed}
 use Rattle.names.specs.Placed.{is_space, is_greater, is_quote, error, null_errors, text_bytes, name_bytes}
 use Rattle.hmarkup.specs.declared.keyword.Identifier.{Identifier}

@@ -9,7 +9,8 @@ use Rattle.hmarkup.specs.declared.keyword.Identifier.TheVariants.{Public, System
 use Rattle.hmarkup.specs.declared.keyword.Letters.{Letters}
 use Rattle.hmarkup.specs.declared.doctype_state.DoctypeState.{DoctypeState}
 use Rattle.hmarkup.specs.declared.doctype_state.DoctypeState.TheVariants as phase
-use Rattle.hmarkup.specs.Doctype.{Found, keyword, Stands, force, AfterSpace, IsSkipped, IsInside, AfterSystemIdentifier, AfterPublicIdentifier, Follows, AfterKeyword, FollowsKeyword, AfterName, IsName, AfterOpening, IsDoctype}
+use Rattle.hmarkup.specs.Doctype.{Found, keyword, Stands, force, AfterSpace, IsSkipped, IsInside, AfterSystemIdentifier, AfterPublicIdentifier, Follows}
+use Rattle.hmarkup.specs.Doctype.{AfterKeyword, FollowsKeyword, AfterName, IsName, AfterOpening, IsDoctype}
 use Rattle.hmarkup.specs.Walk.{Begins}
 
 -- a text in UTF-8, if there is one

@@ -1,5 +1,6 @@
 -- The quirks list (HTML Standard, 13.2.6.4.1): its text, and what it matches.
-use Rattle.std.specs.Prelude.{◌≡◌, ℕ, ◌+◌, Bool, true, false, ◌&&◌, ◌==◌, if◌then◌else◌, List, [], ◌∷◌, ◌++◌, codes, length, take, Option, Some, None, Result, Ok, Err}
+use Rattle.std.specs.Prelude.{◌≡◌, ℕ, ◌+◌, Bool, true, false, ◌&&◌, ◌==◌, if◌then◌else◌, List, [], ◌∷◌, ◌++◌, codes, length, take, Option, Some, None, Result}
+use Rattle.std.specs.Prelude.{Ok, Err}
 use Rattle.std.specs.Int.{is_in_range}
 use Rattle.std.specs.List.{list_any, list_all}
 use Rattle.std.specs.Str.{str_eq_ignore_ascii_case}

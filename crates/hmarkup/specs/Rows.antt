@@ -2,7 +2,8 @@
 use Rattle.std.specs.Prelude.{[], ◌∷◌, refl, codes}
 use lib.Utf8.{encode}
 use Rattle.names.specs.Placed.{placed, error}
-use Rattle.names.specs.declared.error.ErrorCode.TheVariants.{AbruptClosingOfEmptyComment, EofInComment, IncorrectlyClosedComment, NestedComment, UnexpectedNullCharacter}
+use Rattle.names.specs.declared.error.ErrorCode.TheVariants.{AbruptClosingOfEmptyComment, EofInComment, IncorrectlyClosedComment, NestedComment}
+use Rattle.names.specs.declared.error.ErrorCode.TheVariants.{UnexpectedNullCharacter}
 use Rattle.hmarkup.specs.Comment.{IsComment, closed_at_once, closed, closed_with_bang, unclosed, IsBogus, closed_bogus, unclosed_bogus}
 
 -- `<!-->`, `<!--->`

@@ -3,7 +3,8 @@
 ghost use Rattle.std.specs.Prelude.{◌≡◌, ◌==◌};
 ghost use Rattle.std.specs.Char.{to_ascii_lowercase};
 ghost use Rattle.names.specs.Placed.{is_space, is_greater, is_quote};
-ghost use Rattle.hmarkup.specs.DoctypeSteps.{goes_to, ends, faulty, refuses, skips, step, before_name, in_name, after_name, in_keyword, after_keyword, in_quotes, after_public, after_system, in_skipped, first_letter, next_letter, end_fault};
+ghost use Rattle.hmarkup.specs.DoctypeSteps.{goes_to, ends, faulty, refuses, skips, step, before_name, in_name, after_name, in_keyword, after_keyword};
+ghost use Rattle.hmarkup.specs.DoctypeSteps.{in_quotes, after_public, after_system, in_skipped, first_letter, next_letter, end_fault};
 
 use crate::keyword::{Identifier, Letters};
 use names::{ErrorCode, ParseError};

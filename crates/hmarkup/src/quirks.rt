@@ -4,7 +4,8 @@ ghost use Rattle.std.specs.Prelude.{◌≡◌, ◌∷◌, ◌<◌, ◌+◌, ℕ,
 ghost use Rattle.std.specs.Int.{is_in_range};
 ghost use Rattle.std.specs.List.{list_all};
 ghost use Rattle.std.specs.Str.{IsUtf8};
-ghost use Rattle.hmarkup.specs.Quirks.{quirk_word, IsWordless, QuirkLine, IsQuirkLine, IsNoQuirkLine, lines, HasParts, Lacks, same_as, begins_as, line_matches, list_matches, ReadsQuirks};
+ghost use Rattle.hmarkup.specs.Quirks.{quirk_word, IsWordless, QuirkLine, IsQuirkLine, IsNoQuirkLine, lines, HasParts, Lacks, same_as, begins_as};
+ghost use Rattle.hmarkup.specs.Quirks.{line_matches, list_matches, ReadsQuirks};
 
 use names::Refusal;
 use std::alloc::{AllocError, Global};

@@ -21,8 +21,14 @@ use Rattle.hadopt.specs.Closes.{is, is_table_context, is_body_context, is_row_co
 use Rattle.hadopt.specs.Closes as closes
 use Rattle.hadopt.specs.Reconstructs.{reconstructed}
 use Rattle.hadopt.specs.Adopts.{adopted}
-use Rattle.hmodes.specs.Words.{Do, nothing, ◌▸◌, when, unless, choose, fostered, each_pending, again, again_as, error, to, save_mode, to_saved, reset, head_pointer, form_pointer, forget_form, drop_lf, acknowledge, start_pending, pend, go_quirks, judge_quirks, insert, insert_named, insert_root, insert_root_named, insert_comment, comment_in_document, comment_in_first, insert_doctype, put, add_missing_to_first, add_missing_to_second, pop, pop_to, pop_to_name, pop_to_group, implied, implied_except, implied_except_name, clear_to_table, clear_to_body, clear_to_row, push_head, remove_head, remove_form, reconstruct, push_to_list, marker, clear_to_marker, close_p, adopt, adopt_listed, other_end}
-use Rattle.hmodes.specs.State.{Token, character, Control, State, Flow, Done, Again, Refused, flow_then, flow_map, token_name, token_attrs, token_text, token_char, renamed}
+use Rattle.hmodes.specs.Words.{Do, nothing, ◌▸◌, when, unless, choose, fostered, each_pending, again, again_as, error, to, save_mode, to_saved, reset}
+use Rattle.hmodes.specs.Words.{head_pointer, form_pointer, forget_form, drop_lf, acknowledge, start_pending, pend, go_quirks, judge_quirks, insert}
+use Rattle.hmodes.specs.Words.{insert_named, insert_root, insert_root_named, insert_comment, comment_in_document, comment_in_first, insert_doctype, put}
+use Rattle.hmodes.specs.Words.{add_missing_to_first, add_missing_to_second, pop, pop_to, pop_to_name, pop_to_group, implied, implied_except}
+use Rattle.hmodes.specs.Words.{implied_except_name, clear_to_table, clear_to_body, clear_to_row, push_head, remove_head, remove_form, reconstruct}
+use Rattle.hmodes.specs.Words.{push_to_list, marker, clear_to_marker, close_p, adopt, adopt_listed, other_end}
+use Rattle.hmodes.specs.State.{Token, character, Control, State, Flow, Done, Again, Refused, flow_then, flow_map, token_name, token_attrs, token_text}
+use Rattle.hmodes.specs.State.{token_char, renamed}
 use Rattle.hmodes.specs.Rules.{code_of}
 use Rattle.hmodes.specs.Reset.{reset_mode}
 use Rattle.hmodes.specs.Doctypes.{forces_quirks, doctype_node}

@@ -17,7 +17,9 @@ use Rattle.hadopt.specs.Site.{stack, from_top}
 use Rattle.hadopt.specs.Site as site
 use Rattle.hadopt.specs.Places.{is_fostering}
 use Rattle.hadopt.specs.Closes.{is}
-use Rattle.hmodes.specs.Words.{Test, has_in, has_name_in, has_group_in, has_form_in_scope, current_is, current_is_name, current_is_group, current_is_form, current_is_fostering, item_is_near, second_is_body, all_may_stay_open, name_is_listed, form_is_set, is_in_quirks, is_fragment, doctype_conforms, input_is_hidden, pending_is_ws}
+use Rattle.hmodes.specs.Words.{Test, has_in, has_name_in, has_group_in, has_form_in_scope, current_is, current_is_name, current_is_group, current_is_form}
+use Rattle.hmodes.specs.Words.{current_is_fostering, item_is_near, second_is_body, all_may_stay_open, name_is_listed, form_is_set, is_in_quirks, is_fragment}
+use Rattle.hmodes.specs.Words.{doctype_conforms, input_is_hidden, pending_is_ws}
 use Rattle.hmodes.specs.State.{Token, State, token_name, token_attrs}
 use Rattle.hmodes.specs.Doctypes.{conforms}
 

@@ -12,7 +12,9 @@ ghost use Rattle.hmodes.specs.States.{state_of};
 ghost use Rattle.hmodes.specs.Tokens.{token_of};
 ghost use Rattle.hmodes.specs.Body.{block, close_item, close_block, end_item};
 ghost use Rattle.hmodes.specs.Programs.{close_p_in_scope};
-ghost use Rattle.hmodes.specs.Words.{◌▸◌, when, unless, choose, error, insert, insert_named, pop, pop_to, pop_to_group, implied, reconstruct, drop_lf, form_pointer, forget_form, remove_form, close_p, form_is_set, current_is_group, current_is_form, current_is_name, item_is_near, has_in, has_group_in, has_form_in_scope};
+ghost use Rattle.hmodes.specs.Words.{◌▸◌, when, unless, choose, error, insert, insert_named, pop, pop_to, pop_to_group, implied, reconstruct, drop_lf};
+ghost use Rattle.hmodes.specs.Words.{form_pointer, forget_form, remove_form, close_p, form_is_set, current_is_group, current_is_form, current_is_name};
+ghost use Rattle.hmodes.specs.Words.{item_is_near, has_in, has_group_in, has_form_in_scope};
 ghost use Rattle.hmodes.specs.declared.mode.Mode.TheVariants.{InBody};
 
 use crate::mode::Mode;

@@ -11,7 +11,8 @@ ghost use Rattle.hmodes.specs.State.{Token as TokenOf, character};
 ghost use Rattle.hmodes.specs.States.{state_of};
 ghost use Rattle.hmodes.specs.Tokens.{token_of};
 ghost use Rattle.hmodes.specs.Body.{in_body, body_ends, character_in_body};
-ghost use Rattle.hmodes.specs.Words.{Start, End, ◌▸◌, when, choose, error, again, to, insert, reconstruct, add_missing_to_second, second_is_body, has_in, other_end};
+ghost use Rattle.hmodes.specs.Words.{Start, End, ◌▸◌, when, choose, error, again, to, insert, reconstruct, add_missing_to_second, second_is_body, has_in};
+ghost use Rattle.hmodes.specs.Words.{other_end};
 ghost use Rattle.hmodes.specs.declared.mode.Mode.TheVariants.{InBody, AfterBody};
 
 use crate::family::Family;

@@ -11,7 +11,8 @@ ghost use Rattle.hmodes.specs.State.{Token as TokenOf};
 ghost use Rattle.hmodes.specs.States.{state_of};
 ghost use Rattle.hmodes.specs.Tokens.{token_of};
 ghost use Rattle.hmodes.specs.Table.{in_cell, close_cell, cell_ends};
-ghost use Rattle.hmodes.specs.Words.{◌▸◌, unless, choose, error, again, to, implied, pop_to_name, clear_to_marker, current_is_name, current_is_group, has_name_in};
+ghost use Rattle.hmodes.specs.Words.{◌▸◌, unless, choose, error, again, to, implied, pop_to_name, clear_to_marker, current_is_name, current_is_group};
+ghost use Rattle.hmodes.specs.Words.{has_name_in};
 ghost use Rattle.hmodes.specs.declared.mode.Mode.TheVariants.{InCell, InRow};
 
 use crate::family::Family;

@@ -12,7 +12,8 @@ ghost use Rattle.hmodes.specs.States.{state_of};
 ghost use Rattle.hmodes.specs.Tokens.{token_of};
 ghost use Rattle.hmodes.specs.declared.family.Family.TheVariants as family;
 ghost use Rattle.hmodes.specs.Table.{in_table, other_in_table, character_in_table, row_unwritten};
-ghost use Rattle.hmodes.specs.Words.{Start, End, ◌▸◌, when, unless, choose, error, again, to, reset, insert, insert_named, pop, pop_to, form_pointer, marker, clear_to_table, has_in, form_is_set};
+ghost use Rattle.hmodes.specs.Words.{Start, End, ◌▸◌, when, unless, choose, error, again, to, reset, insert, insert_named, pop, pop_to, form_pointer, marker};
+ghost use Rattle.hmodes.specs.Words.{clear_to_table, has_in, form_is_set};
 ghost use Rattle.hmodes.specs.declared.mode.Mode.TheVariants.{InTable, InTableText, InTableBody, InCaption, InColumnGroup};
 
 use crate::family::Family;

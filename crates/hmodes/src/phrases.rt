@@ -13,7 +13,9 @@ ghost use Rattle.hmodes.specs.States.{state_of};
 ghost use Rattle.hmodes.specs.Tokens.{token_of};
 ghost use Rattle.hmodes.specs.Body.{formatting, void_in_text};
 ghost use Rattle.hmodes.specs.Programs.{close_p_in_scope, void, raw};
-ghost use Rattle.hmodes.specs.Words.{◌▸◌, when, unless, choose, error, again_as, to, insert, insert_named, push_to_list, pop, pop_to_name, implied, implied_except, reconstruct, drop_lf, marker, clear_to_marker, adopt, adopt_listed, current_is, current_is_name, has_in, has_name_in, name_is_listed, is_in_quirks};
+ghost use Rattle.hmodes.specs.Words.{◌▸◌, when, unless, choose, error, again_as, to, insert, insert_named, push_to_list, pop, pop_to_name, implied};
+ghost use Rattle.hmodes.specs.Words.{implied_except, reconstruct, drop_lf, marker, clear_to_marker, adopt, adopt_listed, current_is, current_is_name, has_in};
+ghost use Rattle.hmodes.specs.Words.{has_name_in, name_is_listed, is_in_quirks};
 ghost use Rattle.hmodes.specs.declared.mode.Mode.TheVariants.{InBody, InTable};
 
 use crate::mode::Mode;

@@ -13,7 +13,8 @@ ghost use Rattle.hmodes.specs.State.{Token as TokenOf, character, token_attrs};
 ghost use Rattle.hmodes.specs.States.{state_of};
 ghost use Rattle.hmodes.specs.Tokens.{token_of};
 ghost use Rattle.hmodes.specs.declared.mode.Mode.TheVariants.{InBody};
-ghost use Rattle.hmodes.specs.Words.{error, insert, insert_root, insert_comment, comment_in_document, comment_in_first, put, unless, current_is_name, pop_to_name, implied_except_name, ◌▸◌};
+ghost use Rattle.hmodes.specs.Words.{error, insert, insert_root, insert_comment, comment_in_document, comment_in_first, put, unless, current_is_name};
+ghost use Rattle.hmodes.specs.Words.{pop_to_name, implied_except_name, ◌▸◌};
 
 use crate::mode::Mode;
 use crate::token::{take_attrs, take_text, token_char, token_name};

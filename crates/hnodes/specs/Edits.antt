@@ -1,7 +1,8 @@
 -- The edits of a forest. A node never loses its number, and numbers count the nodes that were made.
 use Rattle.std.specs.Prelude.{◌≡◌, ℕ, ◌+◌, ◌<◌, ◌≤◌, ltb, if◌then◌else◌, List, [], ◌∷◌, ◌++◌, Option, Some, None, option_and_then, IsSome}
 use Rattle.std.specs.Char.{encode_utf8}
-use Rattle.hnodes.specs.Forest.{Attribute, What, document, element, text, Forest, none, tree, times, join, tree_at, cut, children_of, change_children, change_what, put_before}
+use Rattle.hnodes.specs.Forest.{Attribute, What, document, element, text, Forest, none, tree, times, join, tree_at, cut, children_of, change_children}
+use Rattle.hnodes.specs.Forest.{change_what, put_before}
 use Rattle.hnodes.specs.Spots.{parent_of, last_child_of, previous_of, what_of}
 use Rattle.hnodes.specs.declared.node.Place.{Place}
 use Rattle.hnodes.specs.declared.node.Place.TheVariants.{LastIn, Before}

@@ -12,6 +12,6 @@ mod walks;
 pub use attributes::{index_attrs, name_number};
 pub use elements::ChildElements;
 pub use laws::{edits_know_no_names, questions_know_no_names};
-pub use node::{DocumentType, NodeKind, NodeId, Place};
+pub use node::{DocumentType, NodeId, NodeKind, Place};
 pub use tree::Tree;
 pub use walks::{Ancestors, Children, Descendants};

@@ -1,7 +1,8 @@
 //! The links between nodes of a vector.
 
 ghost use Rattle.std.specs.Prelude.{◌≡◌, ◌<◌, ◌≤◌, length};
-ghost use Rattle.hnodes.specs.Links.{with_next, with_previous, with_first, with_last, with_place, after_link, before_link, detached, hooked, parent_in, previous_in, next_in};
+ghost use Rattle.hnodes.specs.Links.{with_next, with_previous, with_first, with_last, with_place, after_link, before_link, detached, hooked, parent_in};
+ghost use Rattle.hnodes.specs.Links.{previous_in, next_in};
 ghost use Rattle.hnodes.specs.Rows.{IsChanged, IsSeenAs, IsWithin, look_in};
 
 use crate::node::{Node, NodeId, NodeLink};

@@ -1,12 +1,15 @@
 //! A tree as one value.
 
-ghost use Rattle.std.specs.Prelude.{◌≡◌, ◌<◌, ◌≤◌, ◌↔◌, ◌⊎◌, ℕ, Some, None, OnOk, OnErr, IfOk, IfErr, IfSome, IsSome, IsFalse, IsTrue, map, string_bytes, length, leb, ltb, nat_eq, true, if◌then◌else◌};
+ghost use Rattle.std.specs.Prelude.{◌≡◌, ◌<◌, ◌≤◌, ◌↔◌, ◌⊎◌, ℕ, Some, None, OnOk, OnErr, IfOk, IfErr, IfSome, IsSome, IsFalse, IsTrue, map, string_bytes};
+ghost use Rattle.std.specs.Prelude.{length, leb, ltb, nat_eq, true, if◌then◌else◌};
 ghost use Rattle.std.specs.Option.{option_map, option_map_or};
 ghost use Rattle.hnodes.specs.Attributes.{add_missing, is_present};
 ghost use Rattle.hnodes.specs.Differing.{names_differ};
 ghost use Rattle.hnodes.specs.Forest.{document, doctype, element, comment, text, tree, none, change_what, IsOutside};
-ghost use Rattle.hnodes.specs.Spots.{parent_of, first_child_of, last_child_of, next_of, previous_of, kind_of, what_of, name_of, attributes_of, value_of, text_of, doctype_of};
-ghost use Rattle.hnodes.specs.Edits.{make, graft, graft_last, graft_before, move_all, add_attribute, add_char, add_chars, with_char, with_text, text_before, IsPlace, place_node, AreNodes};
+ghost use Rattle.hnodes.specs.Spots.{parent_of, first_child_of, last_child_of, next_of, previous_of, kind_of, what_of, name_of, attributes_of, value_of};
+ghost use Rattle.hnodes.specs.Spots.{text_of, doctype_of};
+ghost use Rattle.hnodes.specs.Edits.{make, graft, graft_last, graft_before, move_all, add_attribute, add_char, add_chars, with_char, with_text, text_before};
+ghost use Rattle.hnodes.specs.Edits.{IsPlace, place_node, AreNodes};
 ghost use Rattle.hnodes.specs.Makes.{Makes};
 ghost use Rattle.hnodes.specs.Passed.{own_text as own_text_of};
 ghost use Rattle.hnodes.specs.declared.node.Place.{Place};
@@ -19,8 +22,8 @@ ghost use Rattle.std.specs.Str.{chars};
 use crate::attributes::{few_differ, has_name};
 use crate::links::{detach, hook};
 use crate::node::{
-    self, DocumentType, NodeKind, Node, NodeData, NodeId, NodeLink, Place, push_attr, push_char, push_text,
-    widen,
+    self, DocumentType, Node, NodeData, NodeId, NodeKind, NodeLink, Place, push_attr, push_char,
+    push_text, widen,
 };
 use names::{Attr, NameId, Refusal, Tag};
 use std::alloc::{AllocError, Global};

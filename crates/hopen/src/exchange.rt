@@ -1,7 +1,8 @@
 //! A node leaves the stack, and a new one of its name comes right below another: the end of the adoption agency (13.2.6.4.7). The
 //! number of open nodes stays, so the places of the nodes above and below stay too, and few nodes below keep a place in between.
 
-ghost use Rattle.std.specs.Prelude.{◌≡◌, ℕ, ◌+◌, ◌-◌, ◌<◌, ◌≤◌, ◌^◌, ◌==◌, ◌⊎◌, suc, true, length, map, reverse, slice_index, slice_set, vec_capacity, vec_len, if◌then◌else◌};
+ghost use Rattle.std.specs.Prelude.{◌≡◌, ℕ, ◌+◌, ◌-◌, ◌<◌, ◌≤◌, ◌^◌, ◌==◌, ◌⊎◌, suc, true, length, map, reverse, slice_index, slice_set, vec_capacity};
+ghost use Rattle.std.specs.Prelude.{vec_len, if◌then◌else◌};
 ghost use Rattle.std.specs.List.{remove_range};
 ghost use Rattle.hopen.specs.Nearest.{put_before};
 ghost use Rattle.hopen.specs.Opens.{open_of};
@@ -9,7 +10,8 @@ ghost use Rattle.hopen.specs.Stack.{is_node};
 ghost use Rattle.hopen.specs.Places.{SaysPlaces, last_place};
 ghost use Rattle.hopen.specs.NameSets.{is_in, set_place};
 ghost use Rattle.hopen.specs.Kept.{AreKept, Stands, opened_by, stack_of};
-ghost use Rattle.hopen.specs.Exchanged.{AreAlone, AreDone, AreDropped, AreKeptIn, AreLowered, AreRenewed, AreSettled, IsDone, IsDropped, IsFor, IsMended, IsOutside, opened_after, place_in};
+ghost use Rattle.hopen.specs.Exchanged.{AreAlone, AreDone, AreDropped, AreKeptIn, AreLowered, AreRenewed, AreSettled, IsDone, IsDropped, IsFor, IsMended};
+ghost use Rattle.hopen.specs.Exchanged.{IsOutside, opened_after, place_in};
 
 use crate::kept::{KeptNode, LastPlaces, insert, nearest_of_sets, remove_run};
 use crate::name_sets::{NameSet, SetPlaces, place_if};

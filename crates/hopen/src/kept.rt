@@ -1,6 +1,7 @@
 //! The places that open nodes keep, so that no question has to search the stack.
 
-ghost use Rattle.std.specs.Prelude.{◌≡◌, ℕ, ◌+◌, ◌<◌, ◌≤◌, ◌^◌, OnOk, OnErr, [], ◌∷◌, drop, insert, length, map, reverse, slice_index, slice_set, take, vec_capacity, vec_len, if◌then◌else◌};
+ghost use Rattle.std.specs.Prelude.{◌≡◌, ℕ, ◌+◌, ◌<◌, ◌≤◌, ◌^◌, OnOk, OnErr, [], ◌∷◌, drop, insert, length, map, reverse, slice_index, slice_set, take};
+ghost use Rattle.std.specs.Prelude.{vec_capacity, vec_len, if◌then◌else◌};
 ghost use Rattle.std.specs.List.{remove_range};
 ghost use Rattle.std.specs.Option.{option_map};
 ghost use Rattle.hopen.specs.Opens.{open_of};

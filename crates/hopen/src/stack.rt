@@ -1,6 +1,7 @@
 //! The stack of open elements (HTML Standard, 13.2.4.2).
 
-ghost use Rattle.std.specs.Prelude.{◌≡◌, ◌≤◌, ◌↔◌, ◌⊎◌, [], ◌∷◌, OnOk, OnErr, IfErr, IfSome, MatchOption, ◌<◌, ◌+◌, ◌-◌, length, drop, reverse, nat_eq, true, leb, if◌then◌else◌};
+ghost use Rattle.std.specs.Prelude.{◌≡◌, ◌≤◌, ◌↔◌, ◌⊎◌, [], ◌∷◌, OnOk, OnErr, IfErr, IfSome, MatchOption, ◌<◌, ◌+◌, ◌-◌, length, drop, reverse, nat_eq, true};
+ghost use Rattle.std.specs.Prelude.{leb, if◌then◌else◌};
 ghost use Rattle.std.specs.List.{find, list_all, position, remove_range, slice_get};
 ghost use Rattle.std.specs.Option.{option_map};
 ghost use Rattle.hopen.specs.Nearest.{after, without, changed, put_before};

@@ -1,5 +1,6 @@
 -- What parsing the bytes of a document or of a fragment gives: a tree and parse errors, or what they are refused for.
-use Rattle.std.specs.Prelude.{◌≡◌, ℕ, Bool, false, not, ◌&&◌, ◌||◌, ◌==◌, nat_le, bytes_eq, codes, List, [], ◌∷◌, ◌++◌, length, map, None, Some, Result, Ok, Err}
+use Rattle.std.specs.Prelude.{◌≡◌, ℕ, Bool, false, not, ◌&&◌, ◌||◌, ◌==◌, nat_le, bytes_eq, codes, List, [], ◌∷◌, ◌++◌, length, map, None, Some, Result, Ok}
+use Rattle.std.specs.Prelude.{Err}
 use Rattle.std.specs.List.{list_all}
 use Rattle.std.specs.List.Sorted.{IsPermutation, IsSorted}
 use Rattle.names.specs.declared.error.ParseError.{ParseError}
@@ -83,7 +84,8 @@ module _ (opts : ParseOptions) (parse_case : ParseCase) (bytes : List ℕ) where
         → Steps texts (map placed (tokens_in events)) (begins opts parse_case) (Refused refusal) → Parses (Err refusal)
     -- it has a start tag that is left out of the profile, and the rules take the tokens before that
     refused_tag : (name : RefusedName) (at : ℕ) (tokens : List Tok) (state : State (List ℕ))
-        → IsRefused opts.table (start_kind (start_of parse_case)) (text_in (manner opts parse_case) bytes) (read_len (policy opts parse_case) bytes) tokens name at
+        → IsRefused opts.table (start_kind (start_of parse_case)) (text_in (manner opts parse_case) bytes)
+        (read_len (policy opts parse_case) bytes) tokens name at
         → Steps texts (map placed tokens) (begins opts parse_case) (Goes state) → Parses (Err (OutOfProfile name at))
     -- the rules take all of its tokens, but bytes follow it
     refused_bytes : (refusal : Refusal) (errors : List ParseError) (state : State (List ℕ)) → Builds (read_len (policy opts parse_case) bytes) errors state

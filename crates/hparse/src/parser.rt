@@ -87,7 +87,8 @@ impl<'t> Parser<'t> {
 
     /// The answer, where the input has ended.
     pub fn finish(self) -> Result<Parsed, Refusal>
-        ensures shows { (opts : ParseOptions) (parse_case : ParseCase) (bytes : List ℕ) → HasParsed opts parse_case self.entry bytes → ShowsParse opts parse_case bytes result }
+        ensures shows { (opts : ParseOptions) (parse_case : ParseCase) (bytes : List ℕ) → HasParsed opts parse_case self.entry bytes
+            → ShowsParse opts parse_case bytes result }
         ensures again { (refusal : Refused) → self.entry.refused ≡ Some refusal → result ≡ Err refusal }
     {
         let Parser {

@@ -4,11 +4,19 @@ use Rattle.hplain.specs.ContentTable.{row}
 use Rattle.hplain.specs.declared.content.Content.TheVariants as content
 use Rattle.hplain.specs.declared.content.Role.{Role}
 use Rattle.hplain.specs.declared.content.Role.TheVariants as role
-use Rattle.names.specs.declared.tag.Tag.TheVariants.{A, Abbr, Address, Area, Article, Aside, B, Bdi, Bdo, Big, Blockquote, Br, Button, Caption, Center, Cite, Code, Col, Colgroup, Data, Dd, Del, Details, Dfn, Dialog, Dir, Div, Dl, Dt, Em, Embed, Fieldset, Figcaption, Figure, Font, Footer, Form, H1, H2, H3, H4, H5, H6, Header, Hgroup, Hr, I, Iframe, Img, Input, Ins, Kbd, Label, Li, Link, Listing, Main, Mark, Marquee, Menu, Meta, Nav, Noembed, Object, Ol, Output, P, Pre, Q, S, Samp, Script, Search, Section, Small, Source, Span, Strike, Strong, Style, Sub, Summary, Sup, Table, Tbody, Td, Textarea, Tfoot, Th, Thead, Time, Title, Tr, Track, Tt, U, Ul, Var, Wbr, Body}
+use Rattle.names.specs.declared.tag.Tag.TheVariants.{A, Abbr, Address, Area, Article, Aside, B, Bdi, Bdo, Big, Blockquote, Br, Button, Caption, Center, Cite}
+use Rattle.names.specs.declared.tag.Tag.TheVariants.{Code, Col, Colgroup, Data, Dd, Del, Details, Dfn, Dialog, Dir, Div, Dl, Dt, Em, Embed, Fieldset}
+use Rattle.names.specs.declared.tag.Tag.TheVariants.{Figcaption, Figure, Font, Footer, Form, H1, H2, H3, H4, H5, H6, Header, Hgroup, Hr, I, Iframe, Img}
+use Rattle.names.specs.declared.tag.Tag.TheVariants.{Input, Ins, Kbd, Label, Li, Link, Listing, Main, Mark, Marquee, Menu, Meta, Nav, Noembed, Object, Ol}
+use Rattle.names.specs.declared.tag.Tag.TheVariants.{Output, P, Pre, Q, S, Samp, Script, Search, Section, Small, Source, Span, Strike, Strong, Style, Sub}
+use Rattle.names.specs.declared.tag.Tag.TheVariants.{Summary, Sup, Table, Tbody, Td, Textarea, Tfoot, Th, Thead, Time, Title, Tr, Track, Tt, U, Ul, Var, Wbr}
+use Rattle.names.specs.declared.tag.Tag.TheVariants.{Body}
 use Rattle.names.specs.Tags.{tags}
 
--- a b big code em font i s small strike strong tt u abbr bdi bdo cite data del dfn ins kbd label mark output q samp span sub sup time var button: the kind around them
-row_phrasing_around : map row (A ∷ B ∷ Big ∷ Code ∷ Em ∷ Font ∷ I ∷ S ∷ Small ∷ Strike ∷ Strong ∷ Tt ∷ U ∷ Abbr ∷ Bdi ∷ Bdo ∷ Cite ∷ Data ∷ Del ∷ Dfn ∷ Ins ∷ Kbd ∷ Label ∷ Mark ∷ Output ∷ Q ∷ Samp ∷ Span ∷ Sub ∷ Sup ∷ Time ∷ Var ∷ Button ∷ []) ≡ replicate 33 (role.Phrasing, content.Around)
+-- a b big code em font i s small strike strong tt u abbr bdi bdo cite data del dfn ins kbd label mark output q samp span sub sup time var
+-- button: the kind around them
+row_phrasing_around : map row (A ∷ B ∷ Big ∷ Code ∷ Em ∷ Font ∷ I ∷ S ∷ Small ∷ Strike ∷ Strong ∷ Tt ∷ U ∷ Abbr ∷ Bdi ∷ Bdo ∷ Cite ∷ Data ∷ Del ∷ Dfn
+    ∷ Ins ∷ Kbd ∷ Label ∷ Mark ∷ Output ∷ Q ∷ Samp ∷ Span ∷ Sub ∷ Sup ∷ Time ∷ Var ∷ Button ∷ []) ≡ replicate 33 (role.Phrasing, content.Around)
 row_phrasing_around = refl
 
 -- br img wbr embed input area link meta source track: empty
@@ -32,7 +40,8 @@ row_phrasing_flow : map row (Object ∷ Marquee ∷ []) ≡ replicate 2 (role.Ph
 row_phrasing_flow = refl
 
 -- address to summary, and form: flow
-row_flow_flow : map row (Address ∷ Article ∷ Aside ∷ Blockquote ∷ Center ∷ Details ∷ Dialog ∷ Div ∷ Fieldset ∷ Figcaption ∷ Figure ∷ Footer ∷ Header ∷ Hgroup ∷ Main ∷ Nav ∷ Search ∷ Section ∷ Summary ∷ Form ∷ []) ≡ replicate 20 (role.Flow, content.Flow)
+row_flow_flow : map row (Address ∷ Article ∷ Aside ∷ Blockquote ∷ Center ∷ Details ∷ Dialog ∷ Div ∷ Fieldset ∷ Figcaption ∷ Figure ∷ Footer ∷ Header
+    ∷ Hgroup ∷ Main ∷ Nav ∷ Search ∷ Section ∷ Summary ∷ Form ∷ []) ≡ replicate 20 (role.Flow, content.Flow)
 row_flow_flow = refl
 
 -- p, h1 to h6, pre, listing: phrasing

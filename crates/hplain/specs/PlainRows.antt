@@ -32,7 +32,8 @@ row_plain = refl
 row_with_text : is_plain (codes "tr") (tx (codes " ") none) ≡ false
 row_with_text = refl
 
-table_plain : is_plain (codes "li") (el (codes "table") (tx (codes "\n ") (el (codes "tbody") (el (codes "tr") (el (codes "th") none none) none) none)) none) ≡ true
+table_plain : is_plain (codes "li")
+    (el (codes "table") (tx (codes "\n ") (el (codes "tbody") (el (codes "tr") (el (codes "th") none none) none) none)) none) ≡ true
 table_plain = refl
 
 -- none inside its own kind
@@ -46,7 +47,8 @@ anchors : is_plain (codes "div") (el (codes "a") (el (codes "b") (el (codes "a")
 anchors = refl
 
 -- but an a and a button may where a marker is between: in a cell, a caption, an object or a marquee
-anchor_in_cell : is_plain (codes "div") (el (codes "a") (el (codes "table") (el (codes "tbody") (el (codes "tr") (el (codes "td") (el (codes "a") none none) none) none) none) none) none) ≡ true
+anchor_in_cell : is_plain (codes "div")
+    (el (codes "a") (el (codes "table") (el (codes "tbody") (el (codes "tr") (el (codes "td") (el (codes "a") none none) none) none) none) none) none) ≡ true
 anchor_in_cell = refl
 
 button_in_marquee : is_plain (codes "p") (el (codes "button") (el (codes "marquee") (el (codes "button") none none) none) none) ≡ true

@@ -7,7 +7,8 @@ use Rattle.hnodes.specs.Forest.{Attribute, What, element, comment, text, Forest}
 use Rattle.hnodes.specs.Spelled.{spelled_attribute}
 use Rattle.hnodes.specs.Spots.{first_child_of, name_of, next_of, parent_of, what_of}
 use Rattle.hplain.specs.ContentTable.{row, takes_role, texts_in, takes_comments}
-use Rattle.hplain.specs.Plain.{Inside, begins_with, is_clean, is_plain_name, is_plain_text, is_plain_comment, are_plain_attributes, is_nested, is_a, is_button, drops_line_feed}
+use Rattle.hplain.specs.Plain.{Inside, begins_with, is_clean, is_plain_name, is_plain_text, is_plain_comment, are_plain_attributes, is_nested, is_a}
+use Rattle.hplain.specs.Plain.{is_button, drops_line_feed}
 use Rattle.hplain.specs.declared.around.Around.{Around}
 use Rattle.hplain.specs.declared.around.Standing.{Standing}
 use Rattle.hplain.specs.declared.content.Content.{Content}

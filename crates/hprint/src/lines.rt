@@ -136,7 +136,11 @@ fn put_doctype<W: Target>(
 }
 
 /// Writes the line of a doctype with its identifiers.
-fn put_texts<W: Target>(out: &mut Sink<'_, W>, depth: usize, texts: &DocumentType) -> Result<(), Refusal>
+fn put_texts<W: Target>(
+    out: &mut Sink<'_, W>,
+    depth: usize,
+    texts: &DocumentType,
+) -> Result<(), Refusal>
     ensures { Puts (taken W.written W.failed out.old) (taken W.written W.failed out.new)
         (indented depth (codes "<!DOCTYPE " ++ string_bytes texts.now.name
         ++ identifiers (string_bytes texts.now.public_id) (string_bytes texts.now.system_id) ++ codes ">")) result }

@@ -56,7 +56,8 @@ limits_of words = record {
 }
 
 -- The engine ran over an input.
-abbrev pub AnswersInput : {S W : Type 0} → (S → Option (List ℕ)) → (S → ℕ) → (W → Option (List ℕ)) → (W → ℕ) → ParseOptions → S → S → W → W → Result (Unit {0}) Fault
+abbrev pub AnswersInput : {S W : Type 0} → (S → Option (List ℕ)) → (S → ℕ) → (W → Option (List ℕ)) → (W → ℕ) → ParseOptions → S → S → W → W
+    → Result (Unit {0}) Fault
     → Type 0
 AnswersInput left reads written writes opts source source' target target' outcome =
     (answer : Result (Unit {0}) Refusal)
@@ -118,7 +119,8 @@ module _ {R : Type 0} (has_text : R → List ℕ → List ℕ → Type 0) (lacks
 module _ {R F : Type 0} (opens : R → List ℕ → F → Type 0) (cannot_open : R → List ℕ → Type 0) (left_in_file : F → Option (List ℕ))
     (failed_in_file : F → ℕ) where
   -- The engine ran over the file of this name, or that cannot be opened.
-  pub data AnswersFile {W : Type 0} (written : W → Option (List ℕ)) (writes : W → ℕ) (opts : ParseOptions) (surroundings : R) (name : List ℕ) (output output' : W)
+  pub data AnswersFile {W : Type 0} (written : W → Option (List ℕ)) (writes : W → ℕ)
+      (opts : ParseOptions) (surroundings : R) (name : List ℕ) (output output' : W)
       (outcome : Result (Unit {0}) Fault) : Type 0 where
     file_missing : cannot_open surroundings name → outcome ≡ Err fault.CannotRead → output' ≡ output
         → AnswersFile written writes opts surroundings name output output' outcome

@@ -4,7 +4,8 @@ ghost use Rattle.std.specs.Prelude.{◌≡◌, ◌<◌, ◌≤◌, [], true, cod
 ghost use Rattle.clap.specs.Words.{fault_of, first_value, found_of, takes};
 ghost use Rattle.clap.specs.Walk.{texts};
 ghost use Rattle.hwrite.specs.Command.{task_named};
-ghost use Rattle.hprogram.specs.Line.{bad_bytes_of, escaping_of, number_or, program, task_of, value_of, AreGood, FaultOf, IsNumber, IsNumberFault, OptionFault, Says};
+ghost use Rattle.hprogram.specs.Line.{bad_bytes_of, escaping_of, number_or, program, task_of, value_of, AreGood, FaultOf, IsNumber, IsNumberFault};
+ghost use Rattle.hprogram.specs.Line.{OptionFault, Says};
 ghost use Rattle.hprogram.specs.declared.fault.Fault.TheVariants as fault;
 
 use crate::commands::command_line;

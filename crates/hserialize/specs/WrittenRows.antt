@@ -30,11 +30,13 @@ unfolding chars encode_utf8
 pre_written = refl
 
 -- references in text and in values
-value_written : written One (Some (codes "div")) (tree 0 (element (codes "p") ((codes "a", codes "<&>\"") ∷ [])) none none) ≡ codes "<p a=\"<&amp;>&quot;\"></p>"
+value_written : written One (Some (codes "div")) (tree 0 (element (codes "p") ((codes "a", codes "<&>\"") ∷ [])) none none)
+    ≡ codes "<p a=\"<&amp;>&quot;\"></p>"
 unfolding chars encode_utf8
 value_written = refl
 
-value_written_two : written Two (Some (codes "div")) (tree 0 (element (codes "p") ((codes "a", codes "<&>") ∷ [])) none none) ≡ codes "<p a=\"&lt;&amp;&gt;\"></p>"
+value_written_two : written Two (Some (codes "div")) (tree 0 (element (codes "p") ((codes "a", codes "<&>") ∷ [])) none none)
+    ≡ codes "<p a=\"&lt;&amp;&gt;\"></p>"
 unfolding chars encode_utf8
 value_written_two = refl
 

@@ -5,7 +5,7 @@ ghost use Rattle.names.specs.Names.{IsOf, text_of};
 ghost use Rattle.hnodes.specs.Spots.{what_of};
 ghost use Rattle.hserialize.specs.Lent.{what_is};
 
-use hnodes::{DocumentType, NodeKind, NodeId, Tree};
+use hnodes::{DocumentType, NodeId, NodeKind, Tree};
 use names::{Attr, NameId, Names};
 
 /// What a node is, as its tree lends it.

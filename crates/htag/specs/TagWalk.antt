@@ -16,7 +16,8 @@ use Rattle.htag.specs.declared.pending.Pending.TheVariants as reading
 use Rattle.htag.specs.declared.value.ValueWalk.{ValueWalk}
 use Rattle.htag.specs.ValueWalk.{IsInValue, IsWholeValue}
 use Rattle.htag.specs.Seen.{HasSeen}
-use Rattle.htag.specs.Tag.{Part, AreParts, parts_text, attributes_after, named_by, has_attribute, tag_close, tag_errors, is_sign, ends_name, ends_attribute_name, ends_unquoted, attribute_name_errors}
+use Rattle.htag.specs.Tag.{Part, AreParts, parts_text, attributes_after, named_by, has_attribute, tag_close, tag_errors, is_sign, ends_name}
+use Rattle.htag.specs.Tag.{ends_attribute_name, ends_unquoted, attribute_name_errors}
 
 -- ATTRIBUTES
 

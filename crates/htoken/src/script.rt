@@ -7,7 +7,8 @@ ghost use Rattle.names.specs.declared.placed.Placed.{Placed as Character};
 ghost use Rattle.names.specs.Placed.{placed};
 ghost use Rattle.hmarkup.specs.CommentWalk.{backwards};
 ghost use Rattle.htag.specs.Tag.{ends_name};
-ghost use Rattle.htoken.specs.Script.{HasFront, FollowsAll, level_number, mark_after, word_after, next_word, level_after, is_dashes, is_less_bang_dash, is_read};
+ghost use Rattle.htoken.specs.Script.{HasFront, FollowsAll, level_number, mark_after, word_after, next_word, level_after, is_dashes, is_less_bang_dash};
+ghost use Rattle.htoken.specs.Script.{is_read};
 
 use names::Placed;
 

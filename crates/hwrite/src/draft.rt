@@ -47,7 +47,8 @@ impl Draft {
 
     /// Leaves out a name between quotes.
     fn push_name(&mut self, name: NameId) -> Result<(), AllocError>
-        ensures { (names : Texts) (bytes : List ℕ) → slice_get names name ≡ Some bytes → OnOk result (Adds names (drafted self.old) (drafted self.new) (quoted bytes)) }
+        ensures { (names : Texts) (bytes : List ℕ) → slice_get names name ≡ Some bytes
+            → OnOk result (Adds names (drafted self.old) (drafted self.new) (quoted bytes)) }
     {
         self.names.push(name)?;
         self.text.push(char::from(HOLE))

@@ -17,7 +17,7 @@ pub use counted::Counted;
 pub use engine::{parser, run, write_text};
 pub use given_context::check_context;
 pub use hnodes::{
-    Ancestors, ChildElements, Children, Descendants, DocumentType, NodeKind, NodeId, Place, Tree,
+    Ancestors, ChildElements, Children, Descendants, DocumentType, NodeId, NodeKind, Place, Tree,
 };
 pub use hparse::{
     Limits, Options, Parsed, Parser, Quirks, Source, Table, TokenRun, is_context, parse_reader,

@@ -2,7 +2,7 @@
 
 use crate::structures::Reply;
 use hformat::Entry;
-use hnodes::{NodeKind, NodeId};
+use hnodes::{NodeId, NodeKind};
 use hopen::Open;
 use names::{Attr, NameId, Refusal, Tag};
 use std::alloc::{AllocError, Global};

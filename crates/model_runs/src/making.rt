@@ -1,7 +1,7 @@
 //! Calls that make trees and nodes.
 
 use crate::hand::Hand;
-use crate::structures::{Reply, PLACE};
+use crate::structures::{PLACE, Reply};
 use crate::tree::edit;
 use crate::words::{after, count, number, word};
 use hnodes::{NodeId, Tree};

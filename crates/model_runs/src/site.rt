@@ -5,9 +5,9 @@ ghost use Rattle.hadopt.specs.Kept.{Kept};
 ghost use Rattle.hadopt.specs.Naming.{numbers};
 
 use crate::hand::Hand;
-use crate::structures::{Reply, done};
 use crate::site_edits::change;
 use crate::site_questions::{ask, say_state};
+use crate::structures::{Reply, done};
 use crate::words::{count, word};
 use hadopt::Site;
 use names::{Keys, Refusal};

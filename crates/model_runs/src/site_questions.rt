@@ -4,8 +4,8 @@ ghost use Rattle.std.specs.Prelude.{◌<◌};
 
 use crate::answers::Answers;
 use crate::hand::Hand;
-use crate::structures::Reply;
 use crate::nodes::{say_children, say_node};
+use crate::structures::Reply;
 use crate::words::{group, word};
 use hadopt::Site;
 use hformat::Formatting;

@@ -1,8 +1,8 @@
 //! Edits of the stack of open elements.
 
 use crate::hand::Hand;
-use crate::structures::{Reply, PLACE, done};
 use crate::stack_questions::ask;
+use crate::structures::{PLACE, Reply, done};
 use crate::words::{count, group, word};
 use hnodes::NodeId;
 use hopen::{Open, OpenStack};

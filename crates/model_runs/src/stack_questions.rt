@@ -8,12 +8,7 @@ use hnodes::NodeId;
 use hopen::{Group, OpenStack, Scope};
 use names::{NameId, Refusal};
 
-pub fn ask(
-    stack: &OpenStack,
-    hand: &mut Hand,
-    node: NodeId,
-    line: &str,
-) -> Result<Reply, Refusal> {
+pub fn ask(stack: &OpenStack, hand: &mut Hand, node: NodeId, line: &str) -> Result<Reply, Refusal> {
     match word(line, 1) {
         "name" => ask_name(stack, hand, line),
         "group" => Ok(say_group(stack, group(line, 2), scope(line, 3), &mut hand.out)),

@@ -4,8 +4,8 @@ ghost use Rattle.std.specs.Prelude.{◌<◌, IfSome};
 ghost use Rattle.hnodes.specs.Edits.{IsPlace};
 
 use crate::hand::Hand;
-use crate::structures::{Reply, PLACE, done};
 use crate::nodes::ask;
+use crate::structures::{PLACE, Reply, done};
 use crate::words::{after, word};
 use hnodes::{NodeId, Place, Tree};
 use names::{Attr, Refusal};

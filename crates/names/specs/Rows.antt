@@ -1,10 +1,18 @@
 -- The sets, as the lists that they are.
 use Rattle.std.specs.Prelude.{◌≡◌, [], ◌∷◌, filter, refl, is_some}
-use Rattle.names.specs.declared.tag.Tag.TheVariants.{A, Address, Applet, Area, Article, Aside, B, Base, Basefont, Bgsound, Big, Blockquote, Body, Br, Button, Caption, Center, Code, Col, Colgroup, Dd, Details, Dialog, Dir, Div, Dl, Dt, Em, Embed, Fieldset, Figcaption, Figure, Font, Footer, Form, Frame, Frameset, H1, H2, H3, H4, H5, H6, Head, Header, Hgroup, Hr, Html, I, Iframe, Img, Input, Keygen, Li, Link, Listing, Main, Marquee, Math, Menu, Meta, Nav, Nobr, Noembed, Noframes, Noscript, Object, Ol, Optgroup, Option, P, Param, Plaintext, Pre, Rb, Rp, Rt, Rtc, S, Script, Search, Section, Select, Small, Source, Strike, Strong, Style, Summary, Svg, Table, Tbody, Td, Template, Textarea, Tfoot, Th, Thead, Title, Tr, Track, Tt, U, Ul, Wbr, Xmp}
+use Rattle.names.specs.declared.tag.Tag.TheVariants.{A, Address, Applet, Area, Article, Aside, B, Base, Basefont, Bgsound, Big, Blockquote, Body, Br, Button}
+use Rattle.names.specs.declared.tag.Tag.TheVariants.{Caption, Center, Code, Col, Colgroup, Dd, Details, Dialog, Dir, Div, Dl, Dt, Em, Embed, Fieldset}
+use Rattle.names.specs.declared.tag.Tag.TheVariants.{Figcaption, Figure, Font, Footer, Form, Frame, Frameset, H1, H2, H3, H4, H5, H6, Head, Header, Hgroup}
+use Rattle.names.specs.declared.tag.Tag.TheVariants.{Hr, Html, I, Iframe, Img, Input, Keygen, Li, Link, Listing, Main, Marquee, Math, Menu, Meta, Nav, Nobr}
+use Rattle.names.specs.declared.tag.Tag.TheVariants.{Noembed, Noframes, Noscript, Object, Ol, Optgroup, Option, P, Param, Plaintext, Pre, Rb, Rp, Rt, Rtc, S}
+use Rattle.names.specs.declared.tag.Tag.TheVariants.{Script, Search, Section, Select, Small, Source, Strike, Strong, Style, Summary, Svg, Table, Tbody, Td}
+use Rattle.names.specs.declared.tag.Tag.TheVariants.{Template, Textarea, Tfoot, Th, Thead, Title, Tr, Track, Tt, U, Ul, Wbr, Xmp}
 use Rattle.names.specs.Tags.{tags}
-use Rattle.names.specs.Sets.{is_special, is_formatting, has_implied_end, stops_scope, stops_list_item_scope, stops_button_scope, stops_table_scope, may_stay_open, is_heading, is_table_section, is_void, refused_name}
+use Rattle.names.specs.Sets.{is_special, is_formatting, has_implied_end, stops_scope, stops_list_item_scope, stops_button_scope, stops_table_scope}
+use Rattle.names.specs.Sets.{may_stay_open, is_heading, is_table_section, is_void, refused_name}
 
-row_is_special : filter is_special tags ≡ Address ∷ Applet ∷ Area ∷ Article ∷ Aside ∷ Base ∷ Basefont ∷ Bgsound ∷ Blockquote ∷ Body ∷ Br ∷ Button ∷ Caption ∷ Center ∷
+row_is_special : filter is_special tags ≡ Address ∷ Applet ∷ Area ∷ Article ∷ Aside ∷ Base ∷ Basefont ∷ Bgsound ∷ Blockquote ∷ Body ∷ Br ∷ Button
+    ∷ Caption ∷ Center ∷
     Col ∷ Colgroup ∷ Dd ∷ Details ∷ Dir ∷ Div ∷ Dl ∷ Dt ∷ Embed ∷ Fieldset ∷ Figcaption ∷ Figure ∷ Footer ∷ Form ∷
     H1 ∷ H2 ∷ H3 ∷ H4 ∷ H5 ∷ H6 ∷ Head ∷ Header ∷ Hgroup ∷ Hr ∷ Html ∷ Iframe ∷ Img ∷ Input ∷
     Li ∷ Link ∷ Listing ∷ Main ∷ Marquee ∷ Menu ∷ Meta ∷ Nav ∷ Noembed ∷ Noframes ∷ Noscript ∷ Object ∷ Ol ∷ P ∷

@@ -1,5 +1,6 @@
 -- How a table keeps its texts.
-use Rattle.std.specs.Prelude.{ℕ, ◌-◌, ◌&&◌, nat_le, if◌then◌else◌, Option, Some, None, [], ◌∷◌, ◌≡◌, ◌≤◌, ◌+◌, ◌^◌, Bool, true, not, List, length, String, bytes_eq}
+use Rattle.std.specs.Prelude.{ℕ, ◌-◌, ◌&&◌, nat_le, if◌then◌else◌, Option, Some, None, [], ◌∷◌, ◌≡◌, ◌≤◌, ◌+◌, ◌^◌, Bool, true, not, List, length, String}
+use Rattle.std.specs.Prelude.{bytes_eq}
 use Rattle.std.specs.List.{IsDistinct, list_all, list_any}
 use Rattle.std.specs.String.{string_bytes, string_eq}
 use Rattle.names.specs.Tags.{known}

@@ -127,7 +127,11 @@ fn a_raw_end_tag_keeps_the_name(rt: HostRuntime) -> Result<(), Fail> {
 }
 
 /// Whether a run is read up to the end of its tag.
-fn takes_run<'t>(output: &mut TagOutput, walk: &mut TagWalk<'t>, table: &'t Table) -> Result<bool, Refusal> {
+fn takes_run<'t>(
+    output: &mut TagOutput,
+    walk: &mut TagWalk<'t>,
+    table: &'t Table,
+) -> Result<bool, Refusal> {
     walk.begin(TagKind::Start, 'T')?;
     let left = output.take_run(walk, table)?;
     let is_read = left == Some(">z") && output.take(walk, table, ">")?;
