@@ -1,8 +1,9 @@
 -- What a turn of the adoption agency keeps, and what its parts ask.
-use Rattle.std.proofs.Common.{◌≡◌, ◌≢◌, ℕ, ◌<◌, Bool, true, false, List, [], ◌∷◌, Some, find, nat_eq, cond, ◌||◌, refl, subst, arith, Ok, Err, drop, ◌⊎◌, inl, inr, sym, ◌∙◌, ap}
+use Rattle.std.proofs.Common.{◌≡◌, ◌≢◌, ℕ, ◌<◌, Bool, true, false, List, [], ◌∷◌, Option, Some, None, find, nat_eq, cond, ◌||◌, refl, subst, arith, Ok, Err, drop, ◌⊎◌, inl, inr, sym, ◌∙◌, ap}
 use Rattle.std.specs.Prelude.{Result, IfOk, IfSome}
 use Rattle.names.specs.declared.refusal.Refusal.{Refusal}
 use Rattle.std.specs.List.{list_any}
+use Rattle.std.specs.Option.{option_map}
 use Rattle.std.proofs.lemmas.Bool.{eq-eqb, eqb-true, ne_eqb}
 use Rattle.hopen.specs.Stack.{OpenNode, is_node, is_open, in_scope, furthest_block, above, below, current}
 use Rattle.hopen.specs.Nearest.{before}
@@ -77,6 +78,24 @@ found-entry name (entry d ∷ items) e is = go (nat_eq name d.name) is (found-en
     go true e' ih = here (cc)
     go false e' ih = later (is_entry e.node (entry d)) (ih e')
 
+-- .. and so is that of a node that was found
+pub found-node : (name node : ℕ) (items : List (Listed ℕ)) → option_map (λ e. e.node) (find_entry nat_eq name items) ≡ Some node → (f : EntryOf ℕ) × (find_entry nat_eq name items ≡ Some (record f { node = node }))
+found-node name node items is = go (find_entry nat_eq name items) refl is
+  where
+    go : (o : Option (EntryOf ℕ)) → find_entry nat_eq name items ≡ o → option_map (λ e. e.node) o ≡ Some node → (f : EntryOf ℕ) × (find_entry nat_eq name items ≡ Some (record f { node = node }))
+    go None e h = cc
+    go (Some f) e h = let same : f.node ≡ node = cc in (f, e ∙ ap (λ (k : ℕ). Some (record f { node = k })) same)
+
+pub found-none : (name : ℕ) (items : List (Listed ℕ)) → option_map (λ e. e.node) (find_entry nat_eq name items) ≡ None → find_entry nat_eq name items ≡ None
+found-none name items is = go (find_entry nat_eq name items) is
+  where
+    go : (o : Option (EntryOf ℕ)) → option_map (λ e. e.node) o ≡ None → o ≡ None
+    go None h = refl
+    go (Some f) h = cc
+
+pub has-node : (name node : ℕ) (items : List (Listed ℕ)) → option_map (λ e. e.node) (find_entry nat_eq name items) ≡ Some node → list_any (is_entry node) items ≡ true
+has-node name node items is = let h = found-node name node items is in found-entry name items (record h.0 { node = node }) h.1
+
 pub kept-error : (v : Bool) (code : ErrorCode) (at : ℕ) (s : SiteOf ℕ) → Kept numbers s → Kept numbers (error_unless v code at s)
 kept-error true code at s k = k
 kept-error false code at s k = record { counted = k.counted; open_stands = k.open_stands; plain = k.plain }
@@ -88,6 +107,9 @@ unless-stack false code at s = refl
 pub unless-items : (v : Bool) (code : ErrorCode) (at : ℕ) (s : SiteOf ℕ) → (error_unless v code at s).items ≡ s.items
 unless-items true code at s = refl
 unless-items false code at s = refl
+
+pub unless-same : (v : Bool) (code : ErrorCode) (at : ℕ) (s t : SiteOf ℕ) → Goes (error_unless v code at s) ≡ Goes t → t.items ≡ s.items
+unless-same v code at s t is = let same : error_unless v code at s ≡ t = cc in ap (λ (u : SiteOf ℕ). u.items) (sym same) ∙ unless-items v code at s
 
 -- where the furthest block is found, the way up can begin, and where it goes on, it can be settled
 module _ (s : SiteOf ℕ) (f : ℕ) (b : OpenNode ℕ) (h : Well numbers s) (is_open_now : is_open f (stack s) ≡ true) (scope : in_scope (stops tag_of Default) (is_node f) (stack s) ≡ true)

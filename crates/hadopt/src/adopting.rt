@@ -1,14 +1,14 @@
 //! The adoption agency (HTML Standard, 13.2.6.4.7).
 
-ghost use Rattle.std.specs.Prelude.{◌≡◌, IsTrue, ℕ, ◌<◌, ◌≤◌, ◌+◌, ◌*◌, IfOk, length};
-ghost use Rattle.std.specs.List.{slice_get, list_any};
+ghost use Rattle.std.specs.Prelude.{◌≡◌, ℕ, ◌<◌, ◌≤◌, ◌+◌, ◌*◌, IfOk, Some, length, nat_eq};
+ghost use Rattle.std.specs.List.{slice_get};
 ghost use Rattle.std.specs.Option.{option_map};
 ghost use Rattle.hnodes.specs.Forest.{element};
 ghost use Rattle.hopen.specs.Nearest.{before};
 ghost use Rattle.hopen.specs.Stack.{is_node, is_open, above, in_scope, furthest_block};
 ghost use Rattle.hopen.specs.Scopes.{stops};
 ghost use Rattle.hopen.specs.declared.scope.Scope.TheVariants.{Default};
-ghost use Rattle.hformat.specs.Formatting.{is_entry};
+ghost use Rattle.hformat.specs.Formatting.{EntryOf, find_entry};
 ghost use Rattle.names.specs.Tags.{tag_of};
 ghost use Rattle.hopen.specs.Opens.{open_of};
 ghost use Rattle.hformat.specs.Items.{entry_is};
@@ -260,14 +260,15 @@ impl Site {
         Ok(Turn::Next)
     }
 
-    /// A turn with a formatting element.
-    fn turn_with(&mut self, formatting: Entry, at: u64) -> Result<Turn, Refusal>
+    /// A turn with a formatting element, the node of the last entry of the name after the last marker. Only a turn with a furthest
+    /// block copies the entry.
+    fn turn_with(&mut self, name: NameId, node: NodeId, at: u64) -> Result<Turn, Refusal>
         requires kept { Kept numbers self.old }
-        requires entry { IsTrue (list_any (is_entry formatting.node) self.old.items) }
-        ensures done { TurnGives result self.new (turned_with numbers at (entry_is formatting) self.old) }
+        requires entry { option_map (λ e. e.node) (find_entry nat_eq name self.old.items) ≡ Some node }
+        ensures done { (f : EntryOf ℕ) → find_entry nat_eq name self.old.items ≡ Some (record f { node = node })
+            → TurnGives result self.new (turned_with numbers at (record f { node = node }) self.old) }
         ensures few { self.new.nodes.made ≤ self.old.nodes.made + 4 }
     {
-        let node = formatting.node;
         if !self.is_open(node) {
             self.error(ErrorCode::TreeInBody, at)?;
             self.remove_entry(node);
@@ -280,7 +281,12 @@ impl Site {
         let found = self.is_current(node);
         self.error_unless(found, ErrorCode::TreeInBody, at)?;
         match self.furthest_block(node) {
-            Some(block) => self.turn_by(formatting, block.node, at),
+            Some(block) => {
+                let Some(formatting) = self.find_entry(name)? else {
+                    unreachable!()
+                };
+                self.turn_by(formatting, block.node, at)
+            }
             None => {
                 self.pop_to_node(node);
                 self.remove_entry(node);
@@ -296,8 +302,8 @@ impl Site {
         ensures kept { IfOk result (λ _. Kept numbers self.new) }
         ensures few { self.new.nodes.made ≤ self.old.nodes.made + 4 }
     {
-        match self.find_entry(name)? {
-            Some(formatting) => self.turn_with(formatting, at),
+        match self.find(name) {
+            Some(node) => self.turn_with(name, node, at),
             None => {
                 self.other_end(name, at)?;
                 Ok(Turn::Ended)
