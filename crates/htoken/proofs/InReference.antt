@@ -45,7 +45,7 @@ no_script kind.Rawtext e f = absurd cc
 no_script kind.Script e f = absurd cc
 no_script kind.Plaintext e f = absurd cc
 
-same_between : (here after : Standing) (t new : Tokenizer) → has_references here.kind ≡ true → after.kind ≡ here.kind → after.name ≡ here.name → new.tag ≡ t.tag → IsBetween here t → IsBetween after new
+pub same_between : (here after : Standing) (t new : Tokenizer) → has_references here.kind ≡ true → after.kind ≡ here.kind → after.name ≡ here.name → new.tag ≡ t.tag → IsBetween here t → IsBetween after new
 same_between here after t new may kind name tag b = record {
   named = λ raw bytes e. b.named (ap is_raw (sym kind) ∙ raw) bytes (sym name ∙ e) ∙ ap (λ x. string_bytes x.name) (sym tag);
   leveled = λ s. absurd (no_script here.kind may (ap is_script (sym kind) ∙ s));

@@ -81,7 +81,7 @@ stands_plain table start end (q ∷ qs) front rest here taken later may k s =
     (subst (λ (x : List Event). Stands table start end ((front ++ q ∷ []) ++ qs) rest (after_characters here (q ∷ qs)) x later) (append_assoc taken (Gives (Char q.ch q.at) ∷ []) (run_events qs)) many)
 
 -- what a walk has taken is plain
-all_imp : (f g : ℕ → Bool) (xs : List Placed) → ((c : ℕ) → f c ≡ true → g c ≡ true) → all f xs ≡ true → all g xs ≡ true
+pub all_imp : (f g : ℕ → Bool) (xs : List Placed) → ((c : ℕ) → f c ≡ true → g c ≡ true) → all f xs ≡ true → all g xs ≡ true
 all_imp f g [] i h = refl
 all_imp f g (x ∷ xs) i h = let parts = and_parts (f x.ch) (all f xs) h in and_both (g x.ch) (all g xs) (i x.ch parts.0) (all_imp f g xs i parts.1)
 

@@ -8,7 +8,7 @@ ghost use Rattle.names.specs.declared.placed.Placed.{Placed as Character};
 ghost use Rattle.names.specs.declared.raw.RawKind.{RawKind as Kind};
 ghost use Rattle.names.specs.declared.refusal.Refusal.{Refusal as Refused};
 ghost use Rattle.names.specs.Names.{Texts, Grows};
-ghost use Rattle.names.specs.Placed.{placed};
+ghost use Rattle.names.specs.Placed.{is_alphanumeric, placed};
 ghost use Rattle.htext.specs.declared.decoder.TheConstants.{MAX_INPUT};
 ghost use Rattle.htext.specs.Run.{is_plain, is_plain_byte, IsCut};
 ghost use Rattle.charref.specs.Reference.{Entities};
@@ -20,6 +20,7 @@ ghost use Rattle.htoken.specs.Steps.{TakesFront, TakesPart};
 ghost use Rattle.htoken.specs.Token.{Event, gives_item};
 ghost use Rattle.htoken.specs.Tokenizing.{HasTaken, Takes};
 
+use crate::hand::tell_unknown;
 use crate::sink::TokenSink;
 use crate::state::State;
 use crate::tokenizer::{Tokenizer, after};
@@ -33,6 +34,19 @@ fn count_data(run: &str) -> usize
 {
     for (index, byte) in run.as_bytes().iter().enumerate() {
         if matches!(*byte, b'-' | b'!' | b'<' | b'>' | 0) {
+            return index;
+        }
+    }
+    run.len()
+}
+
+/// How many bytes come before the first one that is neither an ASCII letter nor a digit.
+fn count_alphanumerics(run: &str) -> usize
+    ensures counted { result ≡ prefix_len is_alphanumeric run.now }
+    ensures few { result ≤ length run.now }
+{
+    for (index, byte) in run.as_bytes().iter().enumerate() {
+        if !byte.is_ascii_alphanumeric() {
             return index;
         }
     }
@@ -270,6 +284,7 @@ impl<'t> Tokenizer<'t> {
             }
             State::Comment => self.run_of_comment(names, run, at, sink),
             State::Tag => self.run_of_tag(names, run, at, sink),
+            State::Run(amp) => self.run_of_alphanumerics(amp, run, at, sink),
             _ => self.take_first(names, run, at, sink),
         }
     }
@@ -306,6 +321,57 @@ impl<'t> Tokenizer<'t> {
     {
         self.next = after(at + last_start(run) as u64);
         self.follow_run(run);
+        sink.take_run(run, at)
+    }
+
+    /// Takes the letters and digits at the front of a run, with which the run after an `&` goes on. Where there are none, that one
+    /// ends, and the whole run is text.
+    fn run_of_alphanumerics<S: TokenSink>(
+        &mut self,
+        amp: u64,
+        run: &str,
+        at: u64,
+        sink: &mut S,
+    ) -> Result<usize, Refusal>
+        requires in_run { self.old.state ≡ State.Run amp }
+        requires some { 0 < length run.now }
+        requires plain { list_all is_plain_byte run.now ≡ true }
+        requires within { at + length run.now ≤ MAX_INPUT }
+        ensures takes { (table : Entities) (start : Kind) (names : Texts) (text : List Character) (taken : List Event)
+            → HasTaken table start self.old names text taken
+            → TakesFront (gives_item S.gives S.gives_token) table start text at run.now taken names sink.old result sink.new self.new }
+        ensures few { IfOk result (λ count. (0 < count) × (count ≤ length run.now)) }
+    {
+        let count = count_alphanumerics(run);
+        if count == 0 {
+            self.end_run_before(amp, run, at, sink)?;
+            return Ok(run.len());
+        }
+        self.next = at + count as u64;
+        sink.take_run(&run[..count], at)?;
+        Ok(count)
+    }
+
+    /// Ends the run after an `&` before plain characters, the first of which does not belong to it, and takes them as text.
+    fn end_run_before<S: TokenSink>(
+        &mut self,
+        amp: u64,
+        run: &str,
+        at: u64,
+        sink: &mut S,
+    ) -> Result<(), Refusal>
+        requires in_run { self.old.state ≡ State.Run amp }
+        requires some { 0 < length run.now }
+        requires plain { list_all is_plain_byte run.now ≡ true }
+        requires ends { prefix_len is_alphanumeric run.now ≡ 0 }
+        requires within { at + length run.now ≤ MAX_INPUT }
+        ensures { (table : Entities) (start : Kind) (names : Texts) (text : List Character) (taken : List Event)
+            → HasTaken table start self.old names text taken
+            → Takes (gives_item S.gives S.gives_token) table start text (placed at run.now) taken names sink.old result sink.new self.new }
+    {
+        self.state = State::Text;
+        self.next = at + run.len() as u64;
+        tell_unknown(char::from(run.as_bytes()[0]), amp, sink)?;
         sink.take_run(run, at)
     }
 

@@ -26,3 +26,7 @@ returns-in_err-run_of_text-in-Text-clause-takes g c =
     subst (λ (x : List ℕ). Takes (gives_item g.S.ErrorSink.gives g.S.TokenSink.gives_token) table start text (placed c.args.at x) taken c.args.names.now c.args.sink.now (Err c.in_err-run_of_text-in-Text.field-0.0) c.run_of_text.new.sink c.run_of_text.new.self)
     (plain_chars c.args.run.now c.requires.plain c.utf8.run)
     (c.in_err-run_of_text-in-Text.ensures table start c.args.names.now text taken (taken_kept table start c.args.self.now before c.args.names.now text taken grows h)))
+
+pub returns-in-Run-clause-takes : goal.returns-in-Run-clause-takes
+returns-in-Run-clause-takes g c = λ table start before text taken grows h.
+    c.run_of_alphanumerics.ensures.takes table start c.args.names.now text taken (taken_kept table start c.args.self.now before c.args.names.now text taken grows h)
