@@ -1,4 +1,4 @@
-use Rattle.std.proofs.Common.{◌≡◌, ◌+◌, ℕ, List, refl, sym, ap, ◌∙◌, subst, length, take, arith, Ok, Err}
+use Rattle.std.proofs.Common.{◌+◌, ℕ, List, refl, sym, ap, ◌∙◌, subst, length, take, arith, Ok, Err}
 use Rattle.std.specs.List.{list_all}
 use Rattle.std.specs.Str.{chars, IsUtf8}
 use Rattle.std.proofs.lemmas.List.{take_all}
