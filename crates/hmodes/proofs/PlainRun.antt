@@ -1,11 +1,15 @@
 -- Characters that are put as they are, a run or one alone.
-use Rattle.std.proofs.Common.{◌≡◌, ◌<◌, ℕ, zero, suc, Bool, true, false, List, [], ◌∷◌, ◌+◌, length, Option, Some, None, Result, Ok, Err, refl, sym, ap, ◌∙◌, arith, subst}
+use Rattle.std.proofs.Common.{◌≡◌, ◌<◌, ℕ, zero, suc, Bool, true, false, List, [], ◌∷◌, ◌++◌, ◌+◌, ◌-◌, length, Option, Some, None, Result, Ok, Err, refl, sym, ap, ◌∙◌, arith, subst}
 use Rattle.std.specs.List.{list_all}
-use Rattle.std.specs.Prelude.{◌&&◌, ◌==◌, not, is_some}
+use Rattle.std.specs.Prelude.{◌&&◌, ◌==◌, not, is_none, is_some}
 use Rattle.std.specs.Result.{result_err}
 use Rattle.std.proofs.lemmas.Bool.{and_parts}
 use Rattle.std.proofs.lemmas.Bool.Decides.{nat_tests}
+use Rattle.std.proofs.lemmas.List.{length-append}
 use Rattle.names.specs.Placed.{placed}
+use Rattle.names.specs.declared.placed.Placed.{Placed}
+use Rattle.names.proofs.Handing.{Continues-all}
+use Rattle.htext.proofs.Wide.{one_more, one_refused}
 use Rattle.htext.specs.Run.{is_plain}
 use Rattle.std.specs.Char.{len_utf8, encode_utf8}
 use Rattle.std.specs.List.{repeat}
@@ -27,7 +31,7 @@ use Rattle.hadopt.specs.Site.{Outcome, SiteOf}
 use Rattle.hmodes.specs.Perform.{with_site}
 use Rattle.hmodes.specs.State.{State, Token}
 use Rattle.hmodes.specs.Step.{begun}
-use Rattle.hmodes.specs.Building.{Building, Stands, Takes, TakesToken, refused_by}
+use Rattle.hmodes.specs.Building.{Building, Stands, Takes, TakesToken, puts_run, refused_by}
 use Rattle.hmodes.specs.Runs.{puts_in, puts_each}
 use Rattle.hmodes.proofs.OnePut.{place-here}
 use Rattle.hmodes.proofs.InRun.{AreSome, char_put, run_put, taken, stands-on, stands-run}
@@ -153,3 +157,31 @@ pub stands_by_token : (at : ℕ) (t : Token ℕ) (old new : Building) (answer : 
     → Stands new.root new.state
 stands_by_token at t old new answer stands free none h =
     stands-on at t old new (stands free) (taken at t old new (Ok tt) free (subst (λ (a : Result (Unit {0}) Refusal). Takes at t old a new) (ok-of answer none) h))
+
+-- what the test of a run says
+pub run_parts : (run : List ℕ) (b : Building) → puts_run run b ≡ true → (false ≡ (length run == 0)) × (b.refused ≡ None) × (puts_each b.state ≡ true)
+run_parts run b h = go (length run == 0) b.refused (puts_each b.state) h
+  where
+    go : (none : Bool) (o : Option Refusal) (puts : Bool) → (not none && is_none o && puts) ≡ true → (false ≡ none) × (o ≡ None) × (puts ≡ true)
+    go true o puts h = absurd cc
+    go false (Some r) puts h = absurd cc
+    go false None puts h = (refl, refl, h)
+
+-- what is left of a run of plain characters is one
+pub rest_plain : (run rest : List ℕ) (c : ℕ) → IsUtf8 run → run ≡ encode_utf8 c ++ rest → list_all is_plain (chars run) ≡ true → list_all is_plain (chars rest) ≡ true
+rest_plain run rest c u is h = (and_parts (is_plain c) (list_all is_plain (chars rest)) (sym (ap (list_all is_plain) (chars_past_char run rest c u is)) ∙ h)).1
+
+-- A run is taken whose first character was taken by itself, and then what is left.
+abbrev token : Placed → Given
+token p = Char p.ch p.at
+
+module _ (b mid : Building) (at : ℕ) (run rest : List ℕ) (c : ℕ) (u : IsUtf8 run) (is : run ≡ encode_utf8 c ++ rest) where
+  pub rest_taken : (next : ℕ) → next ≡ at + (length run - length rest) → TakesToken b (Char c at) (Ok tt) mid → (answer : Result (Unit {0}) Refusal) (new : Building)
+      → Hands TakesToken mid (run_tokens (placed next (chars rest))) answer new → Hands TakesToken b (run_tokens (placed at (chars run))) answer new
+  rest_taken next here given answer new h =
+      one_more TakesToken token b (run_tokens (placed at (chars run))) b at run (Continues-all TakesToken b (run_tokens (placed at (chars run)))) c rest u is at refl mid next
+      (omega (arith, here, ap length is, length-append (encode_utf8 c) rest)) given answer new h
+
+  pub first_refused : (e : Refusal) → TakesToken b (Char c at) (Err e) mid → Hands TakesToken b (run_tokens (placed at (chars run))) (Err e) mid
+  first_refused e given =
+      one_refused TakesToken token b (run_tokens (placed at (chars run))) b at run (Continues-all TakesToken b (run_tokens (placed at (chars run)))) c rest u is at refl mid e given

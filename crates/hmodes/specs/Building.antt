@@ -1,5 +1,5 @@
 -- The builder of a tree as one value, and what a call does with it.
-use Rattle.std.specs.Prelude.{◌≡◌, ◌<◌, ◌⊎◌, ℕ, List, [], ◌∷◌, ◌++◌, Option, Some, None, Result, Ok, Err, MatchOption}
+use Rattle.std.specs.Prelude.{◌≡◌, ◌<◌, ◌⊎◌, ℕ, Bool, not, ◌&&◌, ◌==◌, is_none, List, [], ◌∷◌, ◌++◌, length, Option, Some, None, Result, Ok, Err, MatchOption}
 use Rattle.names.specs.declared.error.ParseError.{ParseError}
 use Rattle.names.specs.declared.refusal.Refusal.{Refusal}
 use Rattle.names.specs.declared.refusal.Refusal.TheVariants.{Memory}
@@ -8,6 +8,7 @@ use Rattle.hadopt.specs.Naming.{numbers}
 use Rattle.hadopt.specs.Site.{Goes}
 use Rattle.hadopt.specs.Site as site
 use Rattle.hmodes.specs.Reached.{Reached}
+use Rattle.hmodes.specs.Runs.{puts_each}
 use Rattle.hmodes.specs.State.{State, Token}
 use Rattle.hmodes.specs.Step.{Chain, Step, begun}
 use Rattle.hmodes.specs.Tokens.{token_of, place_of}
@@ -42,6 +43,10 @@ HasBegun s = (before : State ℕ) × Reached numbers before × (s ≡ begun befo
 abbrev pub refused_by : Result (Unit {0}) Refusal → Option Refusal
 refused_by (Ok _) = None
 refused_by (Err e) = Some e
+
+-- Whether a run can be put whole: it has characters, nothing was refused, and each of them is put as it is.
+abbrev pub puts_run : List ℕ → Building → Bool
+puts_run run b = not (length run == 0) && is_none b.refused && puts_each b.state
 
 -- What is refused stays so, and nothing changes.
 pub record StaysRefused (r : Refusal) (old : Building) (answer : Result (Unit {0}) Refusal) (new : Building) : Type 0 where

@@ -1,13 +1,15 @@
 //! The builder of a tree.
 
 ghost use Rattle.std.specs.Prelude.{◌≡◌, ◌+◌, ◌<◌, ◌≤◌, ◌++◌, [], Some, None, true, Err, length, IfErr, IfOk, MatchResult};
+ghost use Rattle.std.specs.List.{list_all};
 ghost use Rattle.std.specs.Str.{chars};
 ghost use Rattle.names.specs.declared.refusal.Refusal.{Refusal as Refused};
 ghost use Rattle.names.specs.declared.refusal.Refusal.TheVariants.{Memory};
 ghost use Rattle.hadopt.specs.Naming.{numbers};
 ghost use Rattle.hmodes.specs.Beginning.{document_begins, fragment_begins};
 ghost use Rattle.hmodes.specs.Tokens.{token_of, place_of};
-ghost use Rattle.hmodes.specs.Building.{Takes, TakesToken};
+ghost use Rattle.hmodes.specs.Building.{Takes, TakesToken, puts_run};
+ghost use Rattle.htext.specs.Run.{is_plain};
 ghost use Rattle.htext.specs.declared.decoder.TheConstants.{MAX_INPUT};
 ghost use Rattle.htoken.specs.Run.{run_tokens};
 ghost use Rattle.names.specs.Placed.{placed};
@@ -134,6 +136,45 @@ impl<'q> Builder<'q> {
         Ok(())
     }
 
+    /// Takes the first character of a run by itself. If what is left can be put whole then, as after a character that reconstructs
+    /// formatting elements, it is; otherwise its characters are taken one by one.
+    fn take_first(&mut self, run: &str, at: u64) -> Result<(), Refusal>
+        requires plain { list_all is_plain (chars run.now) ≡ true }
+        requires within { at + length run.now ≤ MAX_INPUT }
+        ensures { Hands TakesToken self.old (run_tokens (placed at (chars run.now))) result self.new }
+    {
+        let mut chars = run.chars();
+        let Some(ch) = chars.next() else {
+            return Ok(());
+        };
+        self.take_text(ch, at)?;
+        let rest = chars.as_str();
+        let next = at + (run.len() - rest.len()) as u64;
+        if self.puts_run(rest) {
+            return self.put_run(rest, next);
+        }
+        self.take_one_by_one(rest, next)
+    }
+
+    /// Whether a run has characters, nothing was refused, and each of them is put as it is.
+    fn puts_run(&self, run: &str) -> bool
+        ensures { result ≡ puts_run run.now self.now }
+    {
+        !run.is_empty() && self.refused.is_none() && self.state.puts_each()
+    }
+
+    /// Puts a run whole.
+    fn put_run(&mut self, run: &str, at: u64) -> Result<(), Refusal>
+        requires plain { list_all is_plain (chars run.now) ≡ true }
+        requires puts { puts_run run.now self.old ≡ true }
+        ensures { Hands TakesToken self.old (run_tokens (placed at (chars run.now))) result self.new }
+    {
+        self.state.begin();
+        let answer = self.state.put_run(run, at);
+        self.refused = answer.err();
+        answer
+    }
+
     /// Takes a token, whose first byte is at this place.
     fn take(&mut self, token: &mut Token, at: u64) -> Result<(), Refusal>
         ensures { Takes at (token_of token.old) self.old result self.new }
@@ -219,16 +260,10 @@ impl<'q> TokenSink for Builder<'q> {
     }
 
     fn take_run(&mut self, run: &str, at: u64) -> Result<(), Refusal> {
-        if run.is_empty() {
-            return Ok(());
+        if self.puts_run(run) {
+            return self.put_run(run, at);
         }
-        if self.refused.is_some() || !self.state.puts_each() {
-            return self.take_one_by_one(run, at);
-        }
-        self.state.begin();
-        let answer = self.state.put_run(run, at);
-        self.refused = answer.err();
-        answer
+        self.take_first(run, at)
     }
 
     fn take_bad(&mut self, count: usize, at: u64) -> Result<(), Refusal> {

@@ -1,0 +1,40 @@
+use Rattle.std.proofs.Common.{◌≡◌, ◌∙◌, ℕ, ◌+◌, ◌-◌, ◌++◌, List, length, ap, sym, subst, refl, Ok}
+use Rattle.std.specs.Char.{encode_utf8}
+use Rattle.std.specs.Str.{chars}
+use Rattle.std.proofs.lemmas.Result.{err_from_is_err_and}
+use Rattle.std.proofs.lemmas.List.{nil_from_length}
+use Rattle.std.proofs.lemmas.Str.{chars-nil}
+use Rattle.names.specs.Placed.{placed}
+use Rattle.names.specs.Sink.{Hands}
+use Rattle.htoken.specs.Run.{run_tokens}
+use Rattle.hmodes.specs.Building.{TakesToken}
+use Rattle.hmodes.proofs.PlainRun.{first_refused, rest_plain, rest_taken}
+use Rattle.hmodes.proofs.builder.Builder.take_first.Goals as goal
+
+pub returns-in_default : goal.returns-in_default
+returns-in_default c =
+    let none : length c.args.run.now ≡ 0 = ap length (sym c.chars-chars.ensures.rest) ∙ c.in_default.ensures.steps.0.0 in
+    subst (λ (l : List ℕ). Hands TakesToken c.args.self.now (run_tokens (placed c.args.at l)) (Ok tt) c.args.self.now) (sym (ap chars (nil_from_length c.args.run.now none) ∙ chars-nil)) (refl, refl)
+
+pub returns-in_err-take_text : goal.returns-in_err-take_text
+returns-in_err-take_text c =
+    let e = err_from_is_err_and c.from_residual.result c.from_residual.ensures.1 in
+    rw (e.1, e.2)
+    (first_refused c.args.self.now c.take_text.new.self c.args.at c.args.run.now _ c.in-Some.ch c.utf8.run (sym c.chars-chars.ensures.rest ∙ c.in-Some.ensures.steps.0) c.in_err-take_text.field-0.0 c.in_err-take_text.ensures)
+
+pub put_run-requires-clause-plain : goal.put_run-requires-clause-plain
+put_run-requires-clause-plain c =
+    let is : c.args.run.now ≡ encode_utf8 c.in-Some.ch ++ c.as_str-rest.result.now = sym c.chars-chars.ensures.rest ∙ c.in-Some.ensures.steps.0 ∙ ap (λ (l : List ℕ). encode_utf8 c.in-Some.ch ++ l) (sym c.as_str-rest.ensures) in
+    rest_plain c.args.run.now c.as_str-rest.result.now c.in-Some.ch c.utf8.run is c.requires.plain
+
+pub returns-then-puts_run : goal.returns-then-puts_run
+returns-then-puts_run c =
+    let is : c.args.run.now ≡ encode_utf8 c.in-Some.ch ++ c.as_str-rest.result.now = sym c.chars-chars.ensures.rest ∙ c.in-Some.ensures.steps.0 ∙ ap (λ (l : List ℕ). encode_utf8 c.in-Some.ch ++ l) (sym c.as_str-rest.ensures) in
+    rest_taken c.args.self.now c.take_text.new.self c.args.at c.args.run.now c.as_str-rest.result.now c.in-Some.ch c.utf8.run is
+    (c.args.at + (length c.args.run.now - length c.as_str-rest.result.now)) refl c.in_ok-take_text.ensures c.put_run.result c.put_run.new.self c.put_run.ensures
+
+pub returns : goal.returns
+returns c =
+    let is : c.args.run.now ≡ encode_utf8 c.in-Some.ch ++ c.as_str-rest.result.now = sym c.chars-chars.ensures.rest ∙ c.in-Some.ensures.steps.0 ∙ ap (λ (l : List ℕ). encode_utf8 c.in-Some.ch ++ l) (sym c.as_str-rest.ensures) in
+    rest_taken c.args.self.now c.take_text.new.self c.args.at c.args.run.now c.as_str-rest.result.now c.in-Some.ch c.utf8.run is
+    (c.args.at + (length c.args.run.now - length c.as_str-rest.result.now)) refl c.in_ok-take_text.ensures c.take_one_by_one.result c.take_one_by_one.new.self c.take_one_by_one.ensures
