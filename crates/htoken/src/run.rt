@@ -284,6 +284,7 @@ impl<'t> Tokenizer<'t> {
             }
             State::Comment => self.run_of_comment(names, run, at, sink),
             State::Tag => self.run_of_tag(names, run, at, sink),
+            State::Reference => self.run_of_reference(run, at, sink),
             State::Run(amp) => self.run_of_alphanumerics(amp, run, at, sink),
             _ => self.take_first(names, run, at, sink),
         }
@@ -322,6 +323,32 @@ impl<'t> Tokenizer<'t> {
         self.next = after(at + last_start(run) as u64);
         self.follow_run(run);
         sink.take_run(run, at)
+    }
+
+    /// Takes the characters at the front of a run with which a reference goes on, and the one that ends it.
+    fn run_of_reference<S: TokenSink>(
+        &mut self,
+        run: &str,
+        at: u64,
+        sink: &mut S,
+    ) -> Result<usize, Refusal>
+        requires in_reference { self.old.state ≡ State.Reference }
+        requires some { 0 < length run.now }
+        requires plain { list_all is_plain_byte run.now ≡ true }
+        requires within { at + length run.now ≤ MAX_INPUT }
+        ensures takes { (table : Entities) (start : Kind) (names : Texts) (text : List Character) (taken : List Event)
+            → HasTaken table start self.old names text taken
+            → TakesFront (gives_item S.gives S.gives_token) table start text at run.now taken names sink.old result sink.new self.new }
+        ensures few { IfOk result (λ count. (0 < count) × (count ≤ length run.now)) }
+    {
+        let mut count = 0;
+        while count < run.len() && matches!(self.state, State::Reference) {
+            let place = at + count as u64;
+            self.next = after(place);
+            self.in_reference(char::from(run.as_bytes()[count]), place, sink)?;
+            count += 1;
+        }
+        Ok(count)
     }
 
     /// Takes the letters and digits at the front of a run, with which the run after an `&` goes on. Where there are none, that one

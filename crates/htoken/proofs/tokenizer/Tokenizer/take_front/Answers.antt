@@ -30,3 +30,7 @@ returns-in_err-run_of_text-in-Text-clause-takes g c =
 pub returns-in-Run-clause-takes : goal.returns-in-Run-clause-takes
 returns-in-Run-clause-takes g c = λ table start before text taken grows h.
     c.run_of_alphanumerics.ensures.takes table start c.args.names.now text taken (taken_kept table start c.args.self.now before c.args.names.now text taken grows h)
+
+pub returns-in-Reference-clause-takes : goal.returns-in-Reference-clause-takes
+returns-in-Reference-clause-takes g c = λ table start before text taken grows h.
+    c.run_of_reference.ensures.takes table start c.args.names.now text taken (taken_kept table start c.args.self.now before c.args.names.now text taken grows h)
