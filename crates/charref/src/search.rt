@@ -18,6 +18,7 @@ pub(crate) struct Search {
 }
 
 /// The byte of a key at `depth`, plus 1; 0 past its end.
+#[inline(always)]
 fn code_at(key: &[u8], depth: usize) -> u16
     ensures { result ≡ code_at key.now depth }
 {
@@ -83,6 +84,7 @@ impl Search {
     }
 
     /// The look-up that has read an `&` and this character, by the index, if some key may begin with them.
+    #[inline(always)]
     pub(crate) fn after_first(entities: &[Entity], starts: &[usize], ch: char) -> Option<Search>
         requires sorted { IsSortedTable (entries entities.now) }
         requires index { IsIndex (entries entities.now) starts.now 130 }
@@ -105,6 +107,7 @@ impl Search {
     }
 
     /// The look-up that has read one more byte, where the keys that go on with it are from `low` up to `high`.
+    #[inline(always)]
     fn narrowed(&self, entities: &[Entity], low: usize, high: usize) -> Search
         requires sorted { IsSortedTable (entries entities.now) }
         requires within { (low ≤ high) × (high ≤ length entities.now) }
@@ -147,6 +150,7 @@ impl Search {
     }
 
     /// Whether some key begins with the bytes read and is longer: if any is, the last of the range is.
+    #[inline(always)]
     pub(crate) fn goes_on(&self, entities: &[Entity]) -> bool
         requires sorted { IsSortedTable (entries entities.now) }
         requires within { (self.now.low ≤ self.now.high) × (self.now.high ≤ length entities.now) }

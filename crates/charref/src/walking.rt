@@ -36,6 +36,7 @@ impl<'t> Walk<'t> {
 
     /// Takes the next character. Returns `None` while the reference is not known yet; once it is, the walk is over, and is
     /// left unchanged.
+    #[inline(always)]
     pub fn take(&mut self, ch: char) -> Option<Reference<'t>>
         ensures ended { IsSome result → self.new ≡ self.old }
         ensures taken { (table : Entities) (in_value : Bool) (text : List Placed) (p : Placed)
@@ -52,12 +53,14 @@ impl<'t> Walk<'t> {
     }
 
     /// Whether a number is being read: then no character taken so far will be read again.
+    #[inline(always)]
     pub fn is_number(&self) -> bool
         ensures { result ≡ is_number self.now.state }
     {
         matches!(self.state, ReferenceState::Number(_, _))
     }
 
+    #[inline(always)]
     fn step(&self, ch: char) -> Next<'t>
         ensures within { is_next_within result (length self.now.table.now) ≡ true }
         ensures next { (table : Entities) (in_value : Bool) (text : List Placed) (p : Placed)
@@ -173,6 +176,7 @@ fn number<'t>(value: u32, left: usize, missing_semicolon: bool) -> Reference<'t>
 }
 
 /// After `#` (13.2.5.75).
+#[inline(always)]
 fn after_sign<'t>(ch: char) -> Next<'t>
     ensures within { (count : ℕ) → is_next_within result count ≡ true }
     ensures next { (table : Entities) (in_value : Bool) (text : List Placed) (p : Placed) → IsSign Base.Decimal text
@@ -208,6 +212,7 @@ fn after_x<'t>(ch: char) -> Next<'t>
 }
 
 /// After the digits of a number (13.2.5.78, 13.2.5.79).
+#[inline(always)]
 fn after_digits<'t>(base: Base, value: u32, ch: char) -> Next<'t>
     requires { value ≤ TOO_GREAT }
     ensures within { (count : ℕ) → is_next_within result count ≡ true }
@@ -223,6 +228,7 @@ fn after_digits<'t>(base: Base, value: u32, ch: char) -> Next<'t>
 }
 
 /// Right after the `&`, before a character that is no alphanumeric (13.2.5.72).
+#[inline(always)]
 fn after_ampersand<'t>(ch: char) -> Next<'t>
     ensures within { (count : ℕ) → is_next_within result count ≡ true }
     ensures next { (table : Entities) (in_value : Bool) (p : Placed) → p.ch ≡ ch → is_alphanumeric ch ≡ false
@@ -237,6 +243,7 @@ fn after_ampersand<'t>(ch: char) -> Next<'t>
 
 /// Whether the characters read are a key that must wait for the next character, by the rule for attribute values
 /// (13.2.5.73).
+#[inline(always)]
 fn waits(in_value: bool, last: Last, search: Search, entities: &[Entity]) -> bool
     requires { IfSome search.best (λ k. k < length entities.now) }
     ensures { result ≡ (in_value && is_letter_or_digit last && is_whole (entries entities.now) search) }
@@ -245,6 +252,7 @@ fn waits(in_value: bool, last: Last, search: Search, entities: &[Entity]) -> boo
 }
 
 /// The look-up after one more character, if some key may begin with it: right after the `&`, by the table's index.
+#[inline(always)]
 fn extended(table: &Table, search: Search, ch: char) -> Option<Search>
     requires { is_search_within search (length table.now) ≡ true }
     ensures within { IfSome result (λ next. is_search_within next (length table.now) ≡ true) }
@@ -261,6 +269,7 @@ fn extended(table: &Table, search: Search, ch: char) -> Option<Search>
 }
 
 /// After the beginning of a name (13.2.5.73).
+#[inline(always)]
 fn after_name<'t>(table: &'t Table, in_value: bool, search: Search, ch: char) -> Next<'t>
     requires { is_search_within search (length table.now) ≡ true }
     ensures within { is_next_within result (length table.now) ≡ true }

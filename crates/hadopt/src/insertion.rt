@@ -102,6 +102,7 @@ impl Site {
     }
 
     /// Inserts a character at a place: at the end of the text right before the place, or in a new text there.
+    #[inline(always)]
     pub fn put(&mut self, c: char, place: Place, at: u64) -> Result<(), Refusal>
         requires { IsPlace place self.old.nodes }
         ensures done { Gives result self.new (put at c place self.old) }
@@ -111,6 +112,7 @@ impl Site {
     }
 
     /// Inserts a run of characters at a place, one by one; `at` is the byte offset of the first. Adjacent texts join.
+    #[inline(always)]
     pub fn put_text(&mut self, text: &str, place: Place, at: u64) -> Result<(), Refusal>
         requires { IsPlace place self.old.nodes }
         ensures done { Gives result self.new (put_each (placed at (chars text.now)) place self.old) }

@@ -29,6 +29,7 @@ pub(crate) fn fosters(tag: Tag) -> bool
 
 impl Site {
     /// The appropriate place for inserting a node.
+    #[inline(always)]
     pub fn place(&self) -> Place
         ensures place { result ≡ place numbers self.now }
         ensures within { IsPlace result self.now.nodes }
@@ -38,6 +39,7 @@ impl Site {
     }
 
     /// The place at the end of the current node, or of the document if no node is open.
+    #[inline(always)]
     pub fn place_in_current(&self) -> Place
         ensures place { result ≡ LastIn (node_of (current (stack self.now))) }
         ensures within { IsPlace result self.now.nodes }
@@ -65,6 +67,7 @@ impl Site {
     }
 
     /// The appropriate place with an open node as the target; at the end of the document if there is none.
+    #[inline(always)]
     pub(crate) fn place_in(&self, target: Option<Open>) -> Place
         requires { IfSome target (λ x. x.node < self.now.nodes.made) }
         ensures place { result ≡ place_in numbers (option_map open_of target) self.now }

@@ -201,6 +201,7 @@ impl Chains {
     }
 
     /// Adds a number at the end. There is room for fewer than 2³² numbers. On an error nothing changes.
+    #[inline(always)]
     pub fn push(&mut self, number: usize) -> Result<(), AllocError>
         requires { number ≢ none }
         ensures ok { OnOk result (self.new ≡ self.old ++ number ∷ []) }

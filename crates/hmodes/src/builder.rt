@@ -157,6 +157,7 @@ impl<'q> Builder<'q> {
     }
 
     /// Whether a run has characters, nothing was refused, and each of them is put as it is.
+    #[inline(always)]
     fn puts_run(&self, run: &str) -> bool
         ensures { result ≡ puts_run run.now self.now }
     {
@@ -164,6 +165,7 @@ impl<'q> Builder<'q> {
     }
 
     /// Puts a run whole.
+    #[inline(always)]
     fn put_run(&mut self, run: &str, at: u64) -> Result<(), Refusal>
         requires plain { list_all is_plain (chars run.now) ≡ true }
         requires puts { puts_run run.now self.old ≡ true }
@@ -176,6 +178,7 @@ impl<'q> Builder<'q> {
     }
 
     /// Takes a token, whose first byte is at this place.
+    #[inline(always)]
     fn take(&mut self, token: &mut Token, at: u64) -> Result<(), Refusal>
         ensures { Takes at (token_of token.old) self.old result self.new }
     {
@@ -208,6 +211,7 @@ fn joined(
 }
 
 /// The place of a token's first byte.
+#[inline(always)]
 fn place(token: &Token) -> u64
     ensures { result ≡ place_of token.now }
 {

@@ -19,6 +19,7 @@ use names::Refusal;
 impl<'q> TreeConstruction<'q> {
     /// Whether a character other than NUL is put at the appropriate place as it is, and so is each of a run: nothing is dropped,
     /// reconstructed or foster parented.
+    #[inline(always)]
     pub(crate) fn puts_each(&self) -> bool
         ensures { result ≡ puts_each (state_of self.now) }
     {
@@ -34,6 +35,7 @@ impl<'q> TreeConstruction<'q> {
     }
 
     /// Puts the characters of a run at the appropriate place.
+    #[inline(always)]
     pub(crate) fn put_run(&mut self, run: &str, at: u64) -> Result<(), Refusal>
         ensures gives { Gives result self.new.site (put_each (placed at (chars run.now)) (place numbers self.old.site) self.old.site) }
         ensures rest { state_of self.new ≡ with_site self.new.site (state_of self.old) }
@@ -55,6 +57,7 @@ impl<'q> TreeConstruction<'q> {
     }
 
     /// Puts a character at the appropriate place.
+    #[inline(always)]
     pub(crate) fn put_one(&mut self, ch: char, at: u64) -> Result<(), Refusal>
         ensures gives { Gives result self.new.site (put at ch (place numbers self.old.site) self.old.site) }
         ensures rest { state_of self.new ≡ with_site self.new.site (state_of self.old) }

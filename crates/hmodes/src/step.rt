@@ -17,6 +17,7 @@ use names::{ErrorCode, Refusal};
 
 impl<'q> TreeConstruction<'q> {
     /// A token: ignored if it is the LF that is to be dropped, and otherwise by the rules.
+    #[inline(always)]
     pub(crate) fn step(&mut self, token: &mut Token, at: u64) -> Result<(), Refusal>
         requires { Reached numbers (state_of self.old) }
         ensures { StepGives at (token_of token.old) (state_of self.old) result (state_of self.new) }
@@ -54,6 +55,7 @@ impl<'q> TreeConstruction<'q> {
     }
 
     /// A token begins.
+    #[inline(always)]
     pub(crate) fn begin(&mut self)
         ensures { state_of self.new ≡ begun (state_of self.old) }
     {

@@ -183,6 +183,7 @@ impl Tree {
     }
 
     /// Makes a node, loose.
+    #[inline(always)]
     fn add(&mut self, content: NodeData) -> Result<NodeId, Refusal>
         requires { self.old.made < self.old.limit }
         ensures ok { OnOk result (self.new ≡ make (content_is content) self.old) }
@@ -239,6 +240,7 @@ impl Tree {
     }
 
     /// Moves a node from where it is to a place.
+    #[inline(always)]
     pub fn insert(&mut self, child: NodeId, place: Place)
         requires child_in { child < self.old.made }
         requires place { IsPlace place self.old }

@@ -86,6 +86,7 @@ impl SetPlaces {
     }
 
     /// The places where one more node is open right below, at a place.
+    #[inline(always)]
     pub(crate) fn with(&self, tag: Tag, place: u32) -> SetPlaces
         ensures { (set : NameSet) → set_place set result ≡ (if is_in_set set tag then place else set_place set self.now) }
     {

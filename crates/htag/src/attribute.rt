@@ -19,6 +19,7 @@ const MAX_NUMBER: usize = 4_294_967_295;
 
 impl<'t> TagWalk<'t> {
     /// Begins an attribute with the first character of its name.
+    #[inline(always)]
     pub(crate) fn begin_attribute(
         &mut self,
         ch: char,
@@ -41,6 +42,7 @@ impl<'t> TagWalk<'t> {
     }
 
     /// Adds a character to the attribute's name.
+    #[inline(always)]
     pub(crate) fn add_to_name(
         &mut self,
         ch: char,
@@ -61,6 +63,7 @@ impl<'t> TagWalk<'t> {
     }
 
     /// In an attribute's name (13.2.5.33).
+    #[inline(always)]
     pub(crate) fn in_attribute_name(
         &mut self,
         table: &'t Table,
@@ -91,6 +94,7 @@ impl<'t> TagWalk<'t> {
     }
 
     /// After an attribute's name and white space (13.2.5.34).
+    #[inline(always)]
     pub(crate) fn after_attribute_name(
         &mut self,
         table: &'t Table,
@@ -116,6 +120,7 @@ impl<'t> TagWalk<'t> {
     }
 
     /// Before a value (13.2.5.35).
+    #[inline(always)]
     pub(crate) fn before_value(
         &mut self,
         table: &'t Table,
@@ -147,6 +152,7 @@ impl<'t> TagWalk<'t> {
     }
 
     /// In a value in quotes (13.2.5.36, 13.2.5.37).
+    #[inline(always)]
     pub(crate) fn in_quotes(
         &mut self,
         table: &'t Table,
@@ -193,6 +199,7 @@ impl<'t> TagWalk<'t> {
     }
 
     /// After a value in quotes (13.2.5.39).
+    #[inline(always)]
     pub(crate) fn after_quotes(
         &mut self,
         table: &'t Table,
@@ -231,6 +238,7 @@ impl<'t> TagWalk<'t> {
     }
 
     /// An attribute has been read: keeps the first one of its name.
+    #[inline(never)]
     pub(crate) fn end_attribute(
         &mut self,
         names: &mut Names,

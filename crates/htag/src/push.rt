@@ -19,6 +19,7 @@ pub(crate) fn ends_name(ch: char) -> bool
 }
 
 /// A character of a name: lowered, NUL as U+FFFD.
+#[inline(always)]
 pub(crate) fn push_lowered(text: &mut String, ch: char) -> Result<(), AllocError>
     ensures { OnOk result (string_bytes text.new ≡ string_bytes text.old ++ encode_utf8 (to_ascii_lowercase (without_null ch))) }
 {
@@ -29,6 +30,7 @@ pub(crate) fn push_lowered(text: &mut String, ch: char) -> Result<(), AllocError
 }
 
 /// A character of a value: NUL as U+FFFD.
+#[inline(always)]
 pub(crate) fn push_value(text: &mut String, ch: char) -> Result<(), AllocError>
     ensures { OnOk result (string_bytes text.new ≡ string_bytes text.old ++ encode_utf8 (without_null ch)) }
 {
@@ -39,6 +41,7 @@ pub(crate) fn push_value(text: &mut String, ch: char) -> Result<(), AllocError>
 }
 
 /// Keeps an error, if there is one.
+#[inline(always)]
 pub(crate) fn keep_if(
     says: bool,
     code: ErrorCode,
@@ -54,6 +57,7 @@ pub(crate) fn keep_if(
 }
 
 /// Keeps the error of a NUL.
+#[inline(always)]
 pub(crate) fn keep_null(ch: char, at: u64, errors: &mut Vec<ParseError>) -> Result<(), AllocError>
     ensures { OnOk result (errors.new.items ≡ errors.old.items ++ null_errors (record { ch = ch; at = at } ∷ [])) }
 {
@@ -77,6 +81,7 @@ pub(crate) fn push_all(text: &mut String, characters: &[char]) -> Result<(), All
 }
 
 /// How many bytes of an ASCII text are before the first one that is this character.
+#[inline(always)]
 pub(crate) fn count_before(text: &str, mark: char) -> usize
     ensures counted { result ≡ prefix_len (λ c. not (c == mark)) text.now }
     ensures few { result ≤ length text.now }
@@ -90,6 +95,7 @@ pub(crate) fn count_before(text: &str, mark: char) -> usize
 }
 
 /// How many bytes of a text are before the first one that may have a meaning in a name or in a value without quotes.
+#[inline(always)]
 pub(crate) fn count_word(text: &str) -> usize
     ensures counted { result ≡ prefix_len is_word_byte text.now }
     ensures few { result ≤ length text.now }
@@ -103,6 +109,7 @@ pub(crate) fn count_word(text: &str) -> usize
 }
 
 /// This many characters at the front of a run of plain ones.
+#[inline(always)]
 pub(crate) fn push_front(text: &mut String, run: &str, count: usize) -> Result<(), AllocError>
     requires plain { list_all is_plain_byte run.now ≡ true }
     requires within { count ≤ length run.now }

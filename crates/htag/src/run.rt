@@ -47,6 +47,7 @@ impl<'t> TagWalk<'t> {
     }
 
     /// Takes the part of a run that this phase takes as a whole, and the character after it, unless that may end the tag.
+    #[inline(always)]
     fn take_front(
         &mut self,
         table: &'t Table,
@@ -76,6 +77,7 @@ impl<'t> TagWalk<'t> {
     }
 
     /// Takes the part of a run, at its front, that this phase takes as a whole.
+    #[inline(always)]
     fn take_part(&mut self, run: &str) -> Result<usize, AllocError>
         requires { list_all is_plain_byte run.now ≡ true }
         ensures { IfOk result (λ count. TakesPart self.old run.now count self.new) }
@@ -90,6 +92,7 @@ impl<'t> TagWalk<'t> {
     }
 
     /// Takes that part of the tag's name.
+    #[inline(always)]
     fn part_of_name(&mut self, run: &str) -> Result<usize, AllocError>
         requires phase { self.old.phase ≡ TagState.Name }
         requires plain { list_all is_plain_byte run.now ≡ true }
@@ -101,6 +104,7 @@ impl<'t> TagWalk<'t> {
     }
 
     /// Takes that part of an attribute's name.
+    #[inline(always)]
     fn part_of_attribute(&mut self, run: &str) -> Result<usize, AllocError>
         requires phase { self.old.phase ≡ TagState.AttributeName }
         requires plain { list_all is_plain_byte run.now ≡ true }
@@ -112,6 +116,7 @@ impl<'t> TagWalk<'t> {
     }
 
     /// Takes that part of a value in quotes.
+    #[inline(always)]
     fn part_of_quoted(&mut self, mark: char, run: &str) -> Result<usize, AllocError>
         requires phase { self.old.phase ≡ TagState.Quoted mark }
         requires plain { list_all is_plain_byte run.now ≡ true }
@@ -126,6 +131,7 @@ impl<'t> TagWalk<'t> {
     }
 
     /// Takes that part of a value without quotes.
+    #[inline(always)]
     fn part_of_unquoted(&mut self, run: &str) -> Result<usize, AllocError>
         requires phase { self.old.phase ≡ TagState.Unquoted }
         requires plain { list_all is_plain_byte run.now ≡ true }

@@ -12,6 +12,7 @@ use names::{ErrorCode, Names, ParseError, Refusal};
 
 impl<'t> TagWalk<'t> {
     /// In the tag's name (13.2.5.8).
+    #[inline(always)]
     pub(crate) fn in_name(
         &mut self,
         table: &'t Table,
@@ -35,6 +36,7 @@ impl<'t> TagWalk<'t> {
     }
 
     /// Before an attribute (13.2.5.32).
+    #[inline(always)]
     pub(crate) fn before_attribute(
         &mut self,
         table: &'t Table,

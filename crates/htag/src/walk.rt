@@ -64,6 +64,7 @@ impl<'t> TagWalk<'t> {
     }
 
     /// Begins a tag with the first letter of its name.
+    #[inline(always)]
     pub fn begin(&mut self, kind: TagKind, ch: char) -> Result<(), AllocError>
         ensures kind { OnOk result (self.new.kind ≡ kind) }
         ensures begun { OnOk result ((table : Entities) (names : Texts) (p : Character) → p.ch ≡ ch → is_letter ch ≡ true
@@ -87,6 +88,7 @@ impl<'t> TagWalk<'t> {
 
     /// Takes the next character; returns whether the tag has ended with it. Each call for one tag is handed the same tables and
     /// the errors that the calls before it left.
+    #[inline(always)]
     pub fn take_char(
         &mut self,
         table: &'t Table,

@@ -19,6 +19,7 @@ use names::{ErrorCode, ParseError, Refusal};
 
 impl<'t> Tokenizer<'t> {
     /// After `<` (13.2.5.6).
+    #[inline(always)]
     pub(crate) fn after_less<S: TokenSink>(
         &mut self,
         ch: char,

@@ -30,6 +30,7 @@ impl<'t> Tokenizer<'t> {
     }
 
     /// After `&` (13.2.5.72 to 13.2.5.80).
+    #[inline(always)]
     pub(crate) fn in_reference<S: TokenSink>(
         &mut self,
         ch: char,
@@ -55,6 +56,7 @@ impl<'t> Tokenizer<'t> {
     }
 
     /// Ends the reference that this character has shown, and reads again what does not belong to it.
+    #[inline(never)]
     fn end_reference<S: TokenSink>(
         &mut self,
         found: &Reference,
@@ -129,6 +131,7 @@ impl<'t> Tokenizer<'t> {
     }
 
     /// In the run of alphanumerics after an `&` that no key begins (13.2.5.74).
+    #[inline(always)]
     pub(crate) fn in_run<S: TokenSink>(
         &mut self,
         amp: u64,

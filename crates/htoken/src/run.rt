@@ -286,11 +286,13 @@ impl<'t> Tokenizer<'t> {
             State::Tag => self.run_of_tag(names, run, at, sink),
             State::Reference => self.run_of_reference(run, at, sink),
             State::Run(amp) => self.run_of_alphanumerics(amp, run, at, sink),
+            State::Less => self.first_after_less(run, at, sink),
             _ => self.take_first(names, run, at, sink),
         }
     }
 
     /// Takes the first character of a run, and returns 1.
+    #[inline(always)]
     fn take_first<S: TokenSink>(
         &mut self,
         names: &mut Names,
@@ -307,6 +309,50 @@ impl<'t> Tokenizer<'t> {
         ensures grows { Grows names.old names.new }
     {
         self.take(names, char::from(run.as_bytes()[0]), at, sink)?;
+        Ok(1)
+    }
+
+    /// Takes the first character of a run in a tag, and returns 1.
+    #[inline(always)]
+    fn first_in_tag<S: TokenSink>(
+        &mut self,
+        names: &mut Names,
+        run: &str,
+        at: u64,
+        sink: &mut S,
+    ) -> Result<usize, Refusal>
+        requires tag { self.old.state ≡ State.Tag }
+        requires some { 0 < length run.now }
+        requires plain { list_all is_plain_byte run.now ≡ true }
+        ensures takes { (table : Entities) (start : Kind) (before : Texts) (text : List Character) (taken : List Event) → Grows before names.old
+            → HasTaken table start self.old before text taken
+            → TakesFront (gives_item S.gives S.gives_token) table start text at run.now taken names.new sink.old result sink.new self.new }
+        ensures one { IfOk result (λ count. count ≡ 1) }
+        ensures grows { Grows names.old names.new }
+    {
+        self.next = after(at);
+        self.in_tag(names, char::from(run.as_bytes()[0]), at, sink)?;
+        Ok(1)
+    }
+
+    /// Takes the first character of a run after `<`, and returns 1.
+    #[inline(always)]
+    fn first_after_less<S: TokenSink>(
+        &mut self,
+        run: &str,
+        at: u64,
+        sink: &mut S,
+    ) -> Result<usize, Refusal>
+        requires less { self.old.state ≡ State.Less }
+        requires some { 0 < length run.now }
+        requires plain { list_all is_plain_byte run.now ≡ true }
+        ensures takes { (table : Entities) (start : Kind) (names : Texts) (text : List Character) (taken : List Event)
+            → HasTaken table start self.old names text taken
+            → TakesFront (gives_item S.gives S.gives_token) table start text at run.now taken names sink.old result sink.new self.new }
+        ensures one { IfOk result (λ count. count ≡ 1) }
+    {
+        self.next = after(at);
+        self.after_less(char::from(run.as_bytes()[0]), at, sink)?;
         Ok(1)
     }
 
@@ -461,13 +507,13 @@ impl<'t> Tokenizer<'t> {
             .tag
             .take_run(self.table, names, run, at, &mut self.raised.errors)?;
         if count == 0 {
-            return self.take_first(names, run, at, sink);
+            return self.first_in_tag(names, run, at, sink);
         }
         self.next = at + count as u64;
         if count == run.len() {
             return Ok(count);
         }
-        self.take_first(names, &run[count..], at + count as u64, sink)?;
+        self.first_in_tag(names, &run[count..], at + count as u64, sink)?;
         Ok(count + 1)
     }
 }

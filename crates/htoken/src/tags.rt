@@ -21,6 +21,7 @@ use std::alloc::AllocError;
 
 impl<'t> Tokenizer<'t> {
     /// Begins a tag with the first letter of its name.
+    #[inline(always)]
     pub(crate) fn begin_tag(&mut self, kind: TagKind, ch: char) -> Result<(), AllocError>
         ensures { OnOk result (BeginsTag self.old kind ch self.new) }
     {
@@ -54,6 +55,7 @@ impl<'t> Tokenizer<'t> {
     }
 
     /// Hands over the tag that has ended.
+    #[inline(always)]
     fn end_tag<S: TokenSink>(&mut self, names: &mut Names, sink: &mut S) -> Result<(), Refusal>
         ensures tag { EndsTag (gives_item S.gives S.gives_token) self.old names.new sink.old result self.new sink.new }
         ensures grows { Grows names.old names.new }
@@ -69,6 +71,7 @@ impl<'t> Tokenizer<'t> {
     }
 
     /// Keeps the errors of an end tag that has attributes or a solidus. It drops them.
+    #[inline(always)]
     fn keep_faults(&mut self) -> Result<(), AllocError>
         ensures { OnOk result (KeepsFaults self.old self.new) }
     {
@@ -80,6 +83,7 @@ impl<'t> Tokenizer<'t> {
     }
 
     /// Keeps an error of the tag, if there is one.
+    #[inline(always)]
     fn keep_if(&mut self, says: bool, code: ErrorCode) -> Result<(), AllocError>
         ensures { OnOk result (KeepsIf says code self.old self.new) }
     {
@@ -90,6 +94,7 @@ impl<'t> Tokenizer<'t> {
         Ok(())
     }
 
+    #[inline(always)]
     fn end_end_tag<S: TokenSink>(&mut self, name: NameId, sink: &mut S) -> Result<(), Refusal>
         ensures { (text : List ℕ) → GivesSpan (gives_item S.gives S.gives_token)
             (λ names token. slice_get names name ≡ Some text → TokenMeans names token (End text self.old.at)) (record self.old { kind = RawKind.None }) sink.old
@@ -101,6 +106,7 @@ impl<'t> Tokenizer<'t> {
     }
 
     /// Hands over a start tag of this name, unless it is left out of the profile.
+    #[inline(always)]
     fn end_start_tag<S: TokenSink>(&mut self, name: NameId, sink: &mut S) -> Result<(), Refusal>
         ensures { (text : List ℕ) (attrs : List (List ℕ × List ℕ))
             → EndsStartTag (gives_item S.gives S.gives_token) self.old name text attrs sink.old result self.new sink.new }

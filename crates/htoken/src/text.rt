@@ -40,7 +40,13 @@ impl<'t> Tokenizer<'t> {
     }
 
     /// Takes a character in data (13.2.5.1).
-    fn in_data<S: TokenSink>(&mut self, ch: char, at: u64, sink: &mut S) -> Result<(), Refusal>
+    #[inline(always)]
+    pub(crate) fn in_data<S: TokenSink>(
+        &mut self,
+        ch: char,
+        at: u64,
+        sink: &mut S,
+    ) -> Result<(), Refusal>
         requires text { self.old.state ≡ State.Text }
         requires is_data { self.old.kind ≡ RawKind.None }
         ensures { (table : Entities) (start : Kind) (names : Texts) (text : List Character) (taken : List Event)
@@ -53,10 +59,7 @@ impl<'t> Tokenizer<'t> {
                 self.at = at;
                 Ok(())
             }
-            '&' => {
-                self.begin_reference(at);
-                Ok(())
-            }
+            '&' => Ok(self.begin_reference(at)),
             '\0' => give_faulty(ErrorCode::UnexpectedNullCharacter, at, ch, at, sink),
             _ => give(ch, at, sink),
         }

@@ -1,6 +1,6 @@
 //! Characters in, tokens out: a tokenizer, and which state takes a character (HTML Standard, 13.2.5).
 
-ghost use Rattle.std.specs.Prelude.{◌≡◌, ◌∷◌, List, [], Some, Err, IfErr, MatchBool, false, ◌||◌, ◌==◌};
+ghost use Rattle.std.specs.Prelude.{◌≡◌, ◌∷◌, List, [], Some, Err, IfErr, MatchBool};
 ghost use Rattle.names.specs.declared.placed.Placed.{Placed as Character};
 ghost use Rattle.names.specs.declared.raw.RawKind.{RawKind as Kind};
 ghost use Rattle.names.specs.declared.refusal.Refusal.{Refusal as Refused};
@@ -14,7 +14,7 @@ ghost use Rattle.htoken.specs.Standing.{start_kind};
 ghost use Rattle.htoken.specs.Tokenizing.{after_place, HasTaken, Takes, Finishes};
 ghost use Rattle.htoken.specs.Steps.{EndsSpan};
 
-use crate::hand::{give, hand_over};
+use crate::hand::hand_over;
 use crate::script::Script;
 use crate::sink::TokenSink;
 use crate::state::{Raised, State};
@@ -51,13 +51,6 @@ pub(crate) fn after(place: u64) -> u64
     ensures { result ≡ after_place place }
 {
     place.saturating_add(1)
-}
-
-/// Whether a character of data stands for itself, without an error.
-fn is_plain(ch: char) -> bool
-    ensures { MatchBool result (((ch == 60 || ch == 38) ≡ false) × ((ch == 0) ≡ false)) (Unit {0}) }
-{
-    ch != '<' && ch != '&' && ch != '\0'
 }
 
 impl<'t> Tokenizer<'t> {
@@ -108,9 +101,9 @@ impl<'t> Tokenizer<'t> {
         if let Some(refusal) = self.refused {
             return Err(refusal);
         }
-        if self.is_in_data() && is_plain(ch) {
+        if self.is_in_data() {
             self.next = after(place);
-            match give(ch, place, sink) {
+            match self.in_data(ch, place, sink) {
                 Ok(()) => Ok(()),
                 Err(refusal) => self.refuse(refusal),
             }
@@ -183,7 +176,7 @@ impl<'t> Tokenizer<'t> {
         Err(refusal)
     }
 
-    /// Takes a character that is not plain text.
+    /// Takes a character in raw text, or where something is held.
     #[inline(never)]
     fn feed_other<S: TokenSink>(
         &mut self,
@@ -207,6 +200,7 @@ impl<'t> Tokenizer<'t> {
     }
 
     /// Takes a character, by what is held.
+    #[inline(always)]
     pub(crate) fn take<S: TokenSink>(
         &mut self,
         names: &mut Names,
@@ -236,6 +230,7 @@ impl<'t> Tokenizer<'t> {
     }
 
     /// Hands over the span that has ended: its errors, and then its token.
+    #[inline(always)]
     pub(crate) fn end_span<S: TokenSink>(
         &mut self,
         token: Token,

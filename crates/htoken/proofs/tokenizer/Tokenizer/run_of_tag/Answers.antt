@@ -29,7 +29,7 @@ returns-then-count-eq0-clause-takes g c = λ table start before text taken grows
     let new = record c.args.self.now { tag = c.take_run.new.self; raised = record { errors = c.take_run.new.errors } } in
     let body = (tag_here gives table start c.args.names.now c.take_run.new.names c.take_run.ensures.grows text taken c.args.self.now k c.requires.tag []).body in
     let read = c.in_ok-count.ensures.takes body (tag_read gives table start c.args.names.now c.take_run.new.names c.take_run.ensures.grows text taken c.args.self.now k c.requires.tag []) in
-    c.take_first.ensures.takes table start c.take_run.new.names text taken (grows_not _)
+    c.first_in_tag.ensures.takes table start c.take_run.new.names text taken (grows_not _)
     (tag_untouched table start c.args.names.now c.take_run.new.names c.take_run.ensures.grows text taken c.args.self.now k c.requires.tag new refl c.in_ok-count.ensures.kind
     (subst (λ (n : ℕ). IsInTag c.args.self.now.table.now c.take_run.new.names c.take_run.new.self (body ++ placed c.args.at (take n c.args.run.now)) [] c.take_run.new.errors.items) c.if-count-eq0.true read))
 
@@ -45,12 +45,12 @@ returns-then-count-run-clause-takes g c = λ table start before text taken grows
     (c.in_ok-count.ensures.takes _ (tag_read gives table start c.args.names.now c.take_run.new.names c.take_run.ensures.grows text taken c.args.self.now k c.requires.tag [])) c.args.sink.now in
     so_far
 
-pub take_first-requires-2-clause-plain : goal.take_first-requires-2-clause-plain
-take_first-requires-2-clause-plain g c = ap (list_all is_plain_byte) c.range_from.ensures.value ∙ plain_drop c.in_ok-count.count c.args.run.now c.requires.plain
+pub first_in_tag-requires-2-clause-plain : goal.first_in_tag-requires-2-clause-plain
+first_in_tag-requires-2-clause-plain g c = ap (list_all is_plain_byte) c.range_from.ensures.value ∙ plain_drop c.in_ok-count.count c.args.run.now c.requires.plain
 
-pub returns-in_err-take_first-clause-takes : goal.returns-in_err-take_first-clause-takes
-returns-in_err-take_first-clause-takes g c =
-    let e = err_from_is_err_and c.from_residual-in_err-take_first.result c.from_residual-in_err-take_first.ensures.1 in
+pub returns-in_err-first_in_tag-clause-takes : goal.returns-in_err-first_in_tag-clause-takes
+returns-in_err-first_in_tag-clause-takes g c =
+    let e = err_from_is_err_and c.from_residual-in_err-first_in_tag.result c.from_residual-in_err-first_in_tag.ensures.1 in
     rw (e.1, e.2) (λ table start before text taken grows h.
     let run = c.args.run.now in
     let count = c.in_ok-count.count in
@@ -60,10 +60,10 @@ returns-in_err-take_first-clause-takes g c =
     let so_far = tag_goes_on gives table start c.args.names.now c.take_run.new.names c.take_run.ensures.grows text taken c.args.self.now k c.requires.tag (placed c.args.at (take count run)) t refl
     (next_front text c.args.at count run c.requires.plain (omega (arith, c.if-count-eq0.false)) c.in_ok-count.ensures.few (omega (arith, c.requires.within))) c.in_ok-count.ensures.kind
     (c.in_ok-count.ensures.takes _ (tag_read gives table start c.args.names.now c.take_run.new.names c.take_run.ensures.grows text taken c.args.self.now k c.requires.tag [])) c.args.sink.now in
-    more_refused gives table start text c.args.at count run c.requires.plain c.in_ok-count.ensures.few taken c.take_run.new.names c.take_first-2.new.names c.take_first-2.ensures.grows c.args.sink.now c.args.sink.now t
-    c.in_err-take_first.field-0.0 c.take_first-2.new.sink c.take_first-2.new.self so_far
-    (λ fed events has. subst (λ (x : List ℕ). Takes gives table start fed (placed (c.args.at + count) x) events c.take_first-2.new.names c.args.sink.now (Err c.in_err-take_first.field-0.0) c.take_first-2.new.sink c.take_first-2.new.self)
-    c.range_from.ensures.value (c.in_err-take_first.ensures.takes table start c.take_run.new.names fed events (grows_not _) has)))
+    more_refused gives table start text c.args.at count run c.requires.plain c.in_ok-count.ensures.few taken c.take_run.new.names c.first_in_tag-2.new.names c.first_in_tag-2.ensures.grows c.args.sink.now c.args.sink.now t
+    c.in_err-first_in_tag.field-0.0 c.first_in_tag-2.new.sink c.first_in_tag-2.new.self so_far
+    (λ fed events has. subst (λ (x : List ℕ). Takes gives table start fed (placed (c.args.at + count) x) events c.first_in_tag-2.new.names c.args.sink.now (Err c.in_err-first_in_tag.field-0.0) c.first_in_tag-2.new.sink c.first_in_tag-2.new.self)
+    c.range_from.ensures.value (c.in_err-first_in_tag.ensures.takes table start c.take_run.new.names fed events (grows_not _) has)))
 
 pub returns-clause-takes : goal.returns-clause-takes
 returns-clause-takes g c = λ table start before text taken grows h.
@@ -75,17 +75,17 @@ returns-clause-takes g c = λ table start before text taken grows h.
     let so_far = tag_goes_on gives table start c.args.names.now c.take_run.new.names c.take_run.ensures.grows text taken c.args.self.now k c.requires.tag (placed c.args.at (take count run)) t refl
     (next_front text c.args.at count run c.requires.plain (omega (arith, c.if-count-eq0.false)) c.in_ok-count.ensures.few (omega (arith, c.requires.within))) c.in_ok-count.ensures.kind
     (c.in_ok-count.ensures.takes _ (tag_read gives table start c.args.names.now c.take_run.new.names c.take_run.ensures.grows text taken c.args.self.now k c.requires.tag [])) c.args.sink.now in
-    more_taken gives table start text c.args.at count run c.requires.plain c.in_ok-count.ensures.few taken c.take_run.new.names c.take_first-2.new.names c.take_first-2.ensures.grows c.args.sink.now c.args.sink.now t
-    1 c.take_first-2.new.sink c.take_first-2.new.self so_far
-    (λ fed events has. subst (λ (x : List ℕ). Takes gives table start fed (placed (c.args.at + count) (take 1 x)) events c.take_first-2.new.names c.args.sink.now (Ok tt) c.take_first-2.new.sink c.take_first-2.new.self) c.range_from.ensures.value
-    (subst (λ (n : ℕ). Takes gives table start fed (placed (c.args.at + count) (take n c.range_from.result.now)) events c.take_first-2.new.names c.args.sink.now (Ok tt) c.take_first-2.new.sink c.take_first-2.new.self) c.in_ok-take_first.ensures.one
-    (c.in_ok-take_first.ensures.takes table start c.take_run.new.names fed events (grows_not _) has)))
+    more_taken gives table start text c.args.at count run c.requires.plain c.in_ok-count.ensures.few taken c.take_run.new.names c.first_in_tag-2.new.names c.first_in_tag-2.ensures.grows c.args.sink.now c.args.sink.now t
+    1 c.first_in_tag-2.new.sink c.first_in_tag-2.new.self so_far
+    (λ fed events has. subst (λ (x : List ℕ). Takes gives table start fed (placed (c.args.at + count) (take 1 x)) events c.first_in_tag-2.new.names c.args.sink.now (Ok tt) c.first_in_tag-2.new.sink c.first_in_tag-2.new.self) c.range_from.ensures.value
+    (subst (λ (n : ℕ). Takes gives table start fed (placed (c.args.at + count) (take n c.range_from.result.now)) events c.first_in_tag-2.new.names c.args.sink.now (Ok tt) c.first_in_tag-2.new.sink c.first_in_tag-2.new.self) c.in_ok-first_in_tag.ensures.one
+    (c.in_ok-first_in_tag.ensures.takes table start c.take_run.new.names fed events (grows_not _) has)))
 
 pub returns-then-count-eq0-clause-grows : goal.returns-then-count-eq0-clause-grows
-returns-then-count-eq0-clause-grows g c = grows_on _ _ _ c.take_run.ensures.grows c.take_first.ensures.grows
+returns-then-count-eq0-clause-grows g c = grows_on _ _ _ c.take_run.ensures.grows c.first_in_tag.ensures.grows
 
-pub returns-in_err-take_first-clause-grows : goal.returns-in_err-take_first-clause-grows
-returns-in_err-take_first-clause-grows g c = grows_on _ _ _ c.take_run.ensures.grows c.take_first-2.ensures.grows
+pub returns-in_err-first_in_tag-clause-grows : goal.returns-in_err-first_in_tag-clause-grows
+returns-in_err-first_in_tag-clause-grows g c = grows_on _ _ _ c.take_run.ensures.grows c.first_in_tag-2.ensures.grows
 
 pub returns-clause-grows : goal.returns-clause-grows
-returns-clause-grows g c = grows_on _ _ _ c.take_run.ensures.grows c.take_first-2.ensures.grows
+returns-clause-grows g c = grows_on _ _ _ c.take_run.ensures.grows c.first_in_tag-2.ensures.grows

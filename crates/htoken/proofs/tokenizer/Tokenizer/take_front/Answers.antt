@@ -34,3 +34,7 @@ returns-in-Run-clause-takes g c = λ table start before text taken grows h.
 pub returns-in-Reference-clause-takes : goal.returns-in-Reference-clause-takes
 returns-in-Reference-clause-takes g c = λ table start before text taken grows h.
     c.run_of_reference.ensures.takes table start c.args.names.now text taken (taken_kept table start c.args.self.now before c.args.names.now text taken grows h)
+
+pub returns-in-Less-clause-takes : goal.returns-in-Less-clause-takes
+returns-in-Less-clause-takes g c = λ table start before text taken grows h.
+    c.first_after_less.ensures.takes table start c.args.names.now text taken (taken_kept table start c.args.self.now before c.args.names.now text taken grows h)
