@@ -38,7 +38,10 @@ pub fn check(alloc: Global, case: &Case) -> Result<bool> {
         limits,
         keys: Keys::fixed(),
     };
-    let command = said.command;
+    let command = Command {
+        is_last: false,
+        ..said.command
+    };
     Ok(
         comes_in_pieces(alloc, case, command, &options)?
             && comes_in_two(alloc, case, command, &options)?

@@ -136,6 +136,7 @@ impl<'a> Given<'a> {
             context: self.context()?,
             escaping: self.escaping()?,
             piece: self.piece()?,
+            is_last: false,
         })
     }
 

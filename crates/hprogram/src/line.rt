@@ -56,6 +56,7 @@ fn said<'a>(name: &'a str, found: &ArgMatches<'a>) -> Result<Line<'a>, Fault>
             context: found.get_str("in"),
             escaping: escaping_of(escape),
             piece: piece as usize,
+            is_last: true,
         },
         entities: found.get_str("entities"),
         quirks: found.get_str("quirks"),

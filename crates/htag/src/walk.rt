@@ -1,6 +1,6 @@
 //! A walk through a tag.
 
-ghost use Rattle.std.specs.Prelude.{◌≡◌, ◌∷◌, ◌++◌, List, [], true, false, OnOk, MatchResult, string_bytes};
+ghost use Rattle.std.specs.Prelude.{◌≡◌, ◌∷◌, ◌++◌, List, [], true, false, OnOk, IfOk, MatchResult, string_bytes};
 ghost use Rattle.names.specs.declared.placed.Placed.{Placed as Character};
 ghost use Rattle.names.specs.Names.{Texts, Grows};
 ghost use Rattle.names.specs.Placed.{all, begins, is_letter, name_bytes};
@@ -19,6 +19,9 @@ use charref::Table;
 use names::{Attr, Names, ParseError, Refusal};
 use std::alloc::{AllocError, Global};
 use std::mem;
+
+/// More attributes than these are handed over in the memory in which they were gathered.
+const FEW: usize = 16;
 
 /// Reads tags after their mark, one after another, a character at a time. What it keeps of a tag stays until the next one begins.
 #[derive(Drop)]
@@ -161,14 +164,20 @@ impl<'t> TagWalk<'t> {
         self.any
     }
 
-    /// The first attribute of each name, in order. They are gone from the walk then.
-    pub fn take_attributes(&mut self) -> Vec<Attr>
-        ensures attributes { result.items ≡ self.old.attrs.items }
+    /// The first attribute of each name, in order. They are gone from the walk then, unless memory has run out. Few of them are moved
+    /// to memory for as many; the walk keeps its own for the next tag.
+    pub fn take_attributes(&mut self) -> Result<Vec<Attr>, AllocError>
+        ensures attributes { IfOk result (λ attrs. attrs.items ≡ self.old.attrs.items) }
         ensures name { self.new.name ≡ self.old.name }
         ensures any { self.new.any ≡ self.old.any }
         ensures closing { self.new.closing ≡ self.old.closing }
     {
-        mem::replace(&mut self.attrs, Vec::new(self.alloc))
+        if self.attrs.len() > FEW {
+            return Ok(mem::replace(&mut self.attrs, Vec::new(self.alloc)));
+        }
+        let mut attrs = Vec::with_capacity(self.alloc, self.attrs.len())?;
+        attrs.append(&mut self.attrs)?;
+        Ok(attrs)
     }
 
     fn begin_parts(&mut self, kind: TagKind)

@@ -120,7 +120,7 @@ impl<'t> Tokenizer<'t> {
         self.last = Some(name);
         self.script = Script::new();
         let closing = self.tag.is_closing();
-        let attrs = self.tag.take_attributes();
+        let attrs = self.tag.take_attributes()?;
         self.end_span(
             Token::Start {
                 name,

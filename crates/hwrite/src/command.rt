@@ -44,4 +44,6 @@ pub struct Command<'a> {
     pub context: Option<&'a str>,
     pub escaping: Escaping,
     pub piece: usize,
+    /// Whether the process ends after it, so that the memory of the tree is left to the system.
+    pub is_last: bool,
 }

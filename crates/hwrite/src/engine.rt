@@ -27,6 +27,7 @@ use hprint::{print_errors, print_tree};
 use hserialize::{Target, serialize, write_all};
 use names::{Names, Refusal};
 use std::alloc::Global;
+use std::mem::forget;
 
 /// Reads an input, and writes what the command makes of it. A context that is not allowed is refused before anything is read.
 /// Reading stops after the piece that brings a refusal, and goes on to the end otherwise; nothing is written before. The size of
@@ -103,7 +104,11 @@ fn run_parsed<S: Source, W: Target>(
 {
     let parsed = parse(alloc, command, options, source)?;
     let answer = print_parsed(alloc, command, &parsed, target);
-    drop(parsed);
+    if command.is_last {
+        forget(parsed);
+    } else {
+        drop(parsed);
+    }
     answer
 }
 

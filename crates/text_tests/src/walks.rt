@@ -135,7 +135,7 @@ fn takes_run<'t>(
     walk.begin(TagKind::Start, 'T')?;
     let left = output.take_run(walk, table)?;
     let is_read = left == Some(">z") && output.take(walk, table, ">")?;
-    Ok(is_read && is_tag(walk, "td-1", true) && walk.take_attributes().len() == 3)
+    Ok(is_read && is_tag(walk, "td-1", true) && walk.take_attributes()?.len() == 3)
 }
 
 #[test]
