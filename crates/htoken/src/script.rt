@@ -1,13 +1,13 @@
 //! The level of script data (HTML Standard, 13.2.5.15 to 13.2.5.31).
 
-ghost use Rattle.std.specs.Prelude.{◌≡◌, [], ◌∷◌, ◌==◌, ◌&&◌, ℕ, List, nat_lt};
+ghost use Rattle.std.specs.Prelude.{◌≡◌, [], ◌∷◌, ◌==◌, ◌&&◌, ℕ, List, IsTrue, nat_lt};
 ghost use Rattle.std.specs.Char.{to_ascii_lowercase};
 ghost use Rattle.std.specs.Str.{chars};
 ghost use Rattle.names.specs.declared.placed.Placed.{Placed as Character};
 ghost use Rattle.names.specs.Placed.{placed};
 ghost use Rattle.hmarkup.specs.CommentWalk.{backwards};
 ghost use Rattle.htag.specs.Tag.{ends_name};
-ghost use Rattle.htoken.specs.Script.{HasFront, FollowsAll, level_number, mark_after, word_after, next_word, level_after, is_dashes, is_less_bang_dash};
+ghost use Rattle.htoken.specs.Script.{HasFront, FollowsAll, level_number, mark_after, word_after, next_word, level_after, is_dashes, is_less_bang_dash, idle};
 ghost use Rattle.htoken.specs.Script.{is_read};
 
 use names::Placed;
@@ -234,8 +234,35 @@ impl Script {
         }
     }
 
-    /// The script after one more character.
+    /// Whether the text ends in no beginning of a mark or of a tag, outside comment-like text.
+    #[inline(always)]
+    fn is_idle(self) -> bool
+        ensures { IsTrue result → self ≡ idle }
+    {
+        matches!(
+            self,
+            Script {
+                level: Level::Plain,
+                mark: Mark::Nothing,
+                opening: Word::Nothing,
+                closing: Word::Nothing,
+            }
+        )
+    }
+
+    /// The script after one more character. Most of a script begins nothing.
+    #[inline(always)]
     pub fn after(self, ch: char) -> Script
+        ensures { (at : ℕ) (front : List Character) → HasFront self front → HasFront result (record { ch = ch; at = at } ∷ front) }
+    {
+        if self.is_idle() && ch != '!' && ch != '-' && ch != '<' {
+            return self;
+        }
+        self.after_any(ch)
+    }
+
+    /// The same, whatever was begun.
+    fn after_any(self, ch: char) -> Script
         ensures { (at : ℕ) (front : List Character) → HasFront self front → HasFront result (record { ch = ch; at = at } ∷ front) }
     {
         Script {
