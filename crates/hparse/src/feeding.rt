@@ -122,6 +122,7 @@ impl<'t, S: TokenSink> CharSink for Feeding<'t, S> {
 
     ghost gives = { Proceeds (gives_item S.gives S.gives_token) };
 
+    #[inline(always)]
     fn take_char(&mut self, ch: char, at: u64) -> Result<(), Refusal> {
         let answer = self
             .tokenizer

@@ -238,7 +238,7 @@ fn split_first(text: &str) -> Option<(char, &str)>
 
 /// How many bytes the run of plain characters has at the front of a text that begins with this one: of those in ASCII where it is one
 /// of them. None after a CR, where an LF is not handed over. At a character that often ends a run, none are looked for.
-#[inline]
+#[inline(always)]
 fn run_at(text: &str, first: char, after_return: bool) -> usize
     ensures front { IsPlainFront result text.now }
     ensures ascii { is_ascii first ≡ true → list_all is_plain_byte (take result text.now) ≡ true }

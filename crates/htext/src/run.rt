@@ -30,6 +30,7 @@ const WIDE_BY_HIGH: [u8; 16] = [1, 0, 2, 4, 8, 8, 8, 16, 32, 32, 32, 32, 64, 32,
 
 /// Counts the bytes before the first one that is not plain: `<`, `&`, or any but tab, LF, FF and 20 to 7E. Each of the bytes
 /// before it is a character that is in the text as it came, unless it is an LF after a CR.
+#[inline(always)]
 pub fn plain_run(bytes: &[u8]) -> usize
     ensures { result ≡ prefix_len is_plain_byte bytes.now }
 {
@@ -37,6 +38,7 @@ pub fn plain_run(bytes: &[u8]) -> usize
 }
 
 /// Counts the bytes before the first one that is neither plain nor one of the characters U+00C0 to U+EFFF in UTF-8.
+#[inline(always)]
 pub fn wide_run(bytes: &[u8]) -> usize
     ensures { result ≡ prefix_len is_wide_byte bytes.now }
 {

@@ -87,6 +87,7 @@ impl Tag {
 const SLOTS: usize = 64;
 
 /// The slot of a text: by its ends and its length, so that the few names of which most pages consist seldom share one.
+#[inline(always)]
 fn slot_of(text: &str) -> usize
     ensures { result < SLOTS }
 {
@@ -150,6 +151,7 @@ impl Names {
     }
 
     /// The number of a text. A new text is added to the table, which has room for 2³² texts; beyond that it is out of memory.
+    #[inline(always)]
     pub fn intern(&mut self, alloc: Global, text: &str) -> Result<NameId, AllocError>
         ensures number { IfOk result (λ id. slice_get self.new id ≡ Some text.now) }
         ensures tag { IfOk result (λ id. tag_of id ≡ tag_named text.now) }
@@ -182,6 +184,7 @@ impl Names {
     }
 
     /// The number that its slot has for a text, if it is the text's.
+    #[inline(always)]
     fn recent(&self, text: &str) -> Option<NameId>
         ensures found { IfSome result (λ id. slice_get self.now id ≡ Some text.now) }
         ensures names { AreNames self.now }
