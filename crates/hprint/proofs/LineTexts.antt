@@ -2,9 +2,11 @@
 use Rattle.std.proofs.Common.{◌≡◌, ℕ, suc, ◌+◌, ◌-◌, ◌<◌, ◌≤◌, ◌&&◌, false, cond, List, [], ◌∷◌, ◌++◌, length, drop, get_or, map, sym, ap, ◌∙◌, drop-cons, add-one, arith}
 use Rattle.std.proofs.lemmas.List.{append_assoc}
 use Rattle.std.specs.List.{flat_map, repeat}
-use Rattle.std.specs.Prelude.{codes}
+use Rattle.std.specs.Prelude.{codes, decimal}
 use Rattle.hnodes.specs.Forest.{Attribute}
-use Rattle.hprint.specs.Lines.{attribute_line, between_quotes, identifiers, indented}
+use Rattle.names.specs.Codes.{code_text}
+use Rattle.names.specs.declared.error.ParseError.{ParseError}
+use Rattle.hprint.specs.Lines.{attribute_line, between_quotes, error_line, identifiers, indented}
 use Rattle.hserialize.specs.Words.{is_empty}
 
 -- the lines from an index on, by the first of them
@@ -47,3 +49,7 @@ doctype_parts depth name public_id system_id some =
 pub element_parts : (depth : ℕ) (name lent : List ℕ) (attrs sorted : List (Attribute (List ℕ))) → lent ≡ name → sorted ≡ attrs
     → indented depth (codes "<" ++ name ++ codes ">") ++ flat_map (attribute_line (suc depth)) attrs ≡ indented depth (codes "<" ++ (lent ++ codes ">")) ++ flat_map (attribute_line (depth + 1)) sorted
 element_parts depth name lent attrs sorted same order = λ i. indented depth (codes "<" ++ (sym same i ++ codes ">")) ++ flat_map (attribute_line (sym (add-one depth) i)) (sym order i)
+
+-- the line of an error: its place and a space, its text, and the end
+pub error_parts : (e : ParseError) (lent : List ℕ) → lent ≡ code_text e.code → error_line e ≡ (decimal e.at ++ codes " ") ++ (lent ++ codes "\n")
+error_parts e lent same = ap (λ t. decimal e.at ++ codes " " ++ t ++ codes "\n") (sym same) ∙ append_assoc (decimal e.at ++ codes " ") lent (codes "\n")

@@ -1,6 +1,6 @@
 //! Trees and errors as they are printed.
 
-ghost use Rattle.std.specs.Prelude.{◌≡◌, ◌++◌, ◌<◌, ◌≤◌, ◌^◌, ◌&&◌, ℕ, codes, flat_map, length, map, vec_capacity};
+ghost use Rattle.std.specs.Prelude.{◌≡◌, ◌++◌, ◌<◌, ◌≤◌, ◌^◌, ◌&&◌, ℕ, codes, decimal, flat_map, length, map, vec_capacity};
 ghost use Rattle.std.specs.List.{repeat};
 ghost use Rattle.std.specs.String.{string_bytes};
 ghost use Rattle.names.specs.Names.{text_of};
@@ -22,7 +22,7 @@ use hnodes::{DocumentType, NodeId, Tree};
 use hserialize::{
     Gathered, NodeView, Reach, Sink, Target, TreeWalk, Visit, name_text, put, put_parts, room,
 };
-use itoa::Buffer;
+use itoa::write_digits;
 use names::{Attr, NameId, Names, ParseError, Refusal};
 use std::alloc::Global;
 
@@ -303,13 +303,24 @@ pub fn tree_text(
     text.into_text(answer)
 }
 
+/// Writes the place of an error, and a space.
+#[inline]
+fn put_place<W: Target>(out: &mut Sink<'_, W>, at: u64) -> Result<(), Refusal>
+    ensures { Puts (taken W.written W.failed out.old) (taken W.written W.failed out.new) (decimal at ++ codes " ") result }
+{
+    let mut place = *b"00000000000000000000 ";
+    let start = write_digits(at, &mut place, 20);
+    put(out, &place[start..])
+}
+
 /// Writes the line of an error.
+#[inline]
 fn put_error<W: Target>(out: &mut Sink<'_, W>, error: &ParseError) -> Result<(), Refusal>
     ensures { Puts (taken W.written W.failed out.old) (taken W.written W.failed out.new) (error_line error.now) result }
 {
-    let mut digits = Buffer::new();
-    let at = digits.format(error.at).as_bytes();
-    put_parts(out, &[at, b" ", error.code.text().as_bytes(), b"\n"])
+    put_place(out, error.at)?;
+    put(out, error.code.text().as_bytes())?;
+    put(out, b"\n")
 }
 
 /// Writes the lines of errors. Nothing is handed on.
