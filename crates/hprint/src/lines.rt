@@ -1,6 +1,6 @@
 //! Trees and errors as they are printed.
 
-ghost use Rattle.std.specs.Prelude.{◌≡◌, ◌++◌, ◌<◌, ◌≤◌, ◌^◌, ◌&&◌, ℕ, codes, decimal, flat_map, length, map, vec_capacity};
+ghost use Rattle.std.specs.Prelude.{◌≡◌, ◌++◌, ◌<◌, ◌≤◌, ◌^◌, ◌&&◌, ℕ, codes, flat_map, length, map, vec_capacity};
 ghost use Rattle.std.specs.List.{repeat};
 ghost use Rattle.std.specs.String.{string_bytes};
 ghost use Rattle.names.specs.Names.{text_of};
@@ -303,24 +303,23 @@ pub fn tree_text(
     text.into_text(answer)
 }
 
-/// Writes the place of an error, and a space.
-#[inline]
-fn put_place<W: Target>(out: &mut Sink<'_, W>, at: u64) -> Result<(), Refusal>
-    ensures { Puts (taken W.written W.failed out.old) (taken W.written W.failed out.new) (decimal at ++ codes " ") result }
-{
-    let mut place = *b"00000000000000000000 ";
-    let start = write_digits(at, &mut place, 20);
-    put(out, &place[start..])
-}
+/// The most digits of an error's place.
+const DIGITS: usize = 20;
 
-/// Writes the line of an error.
-#[inline]
+/// The most bytes of an error's line: the digits, a space, the longest text and the end.
+const LINE: usize = DIGITS + 1 + 64 + 1;
+
+/// Writes the line of an error, which is put together first: one write is cheaper than four.
 fn put_error<W: Target>(out: &mut Sink<'_, W>, error: &ParseError) -> Result<(), Refusal>
     ensures { Puts (taken W.written W.failed out.old) (taken W.written W.failed out.new) (error_line error.now) result }
 {
-    put_place(out, error.at)?;
-    put(out, error.code.text().as_bytes())?;
-    put(out, b"\n")
+    let text = error.code.text().as_bytes();
+    let end = DIGITS + 1 + text.len();
+    let mut line = [b'\n'; LINE];
+    line[DIGITS] = b' ';
+    line[DIGITS + 1..end].copy_from_slice(text);
+    let start = write_digits(error.at, &mut line, DIGITS);
+    put(out, &line[start..=end])
 }
 
 /// Writes the lines of errors. Nothing is handed on.

@@ -1,17 +1,16 @@
-use Rattle.std.proofs.Common.{◌∙◌, codes, refl}
-use Rattle.hprint.proofs.LineTexts.{error_parts}
-use Rattle.hserialize.proofs.Output.{first_failed, then_put}
+use Rattle.std.proofs.Common.{◌∙◌, arith, decimal, rules, subst}
+use Rattle.std.proofs.lemmas.Fmt.{length-decimal-le}
+use Rattle.names.specs.Codes.{code_text}
+use Rattle.hprint.proofs.LineTexts.{error_in, text_fits}
+use Rattle.hserialize.specs.Output.{Puts, taken}
 use Rattle.hprint.proofs.lines.put_error.Goals as goal
 
-pub returns-in_err-put_place : goal.returns-in_err-put_place
-returns-in_err-put_place g c = first_failed _ _ _ _ _ _ c.from_residual.ensures.1 (error_parts c.args.error.now _ refl) c.in_err-put_place.ensures
-
-pub returns-in_err-put : goal.returns-in_err-put
-returns-in_err-put g c =
-    then_put _ _ _ _ _ _ _ (error_parts c.args.error.now _ (c.as_bytes.ensures.value ∙ c.text.ensures)) c.in_ok-put_place.ensures
-    (first_failed _ _ _ _ (codes "\n") _ c.from_residual-in_err-put.ensures.1 refl c.in_err-put.ensures)
+pub write_digits-start-requires : goal.write_digits-start-requires
+write_digits-start-requires g c = (search (rules, length-decimal-le 20), omega arith)
 
 pub returns : goal.returns
 returns g c =
-    then_put _ _ _ _ _ _ _ (error_parts c.args.error.now _ (c.as_bytes.ensures.value ∙ c.text.ensures)) c.in_ok-put_place.ensures
-    (then_put _ _ _ _ _ (codes "\n") _ refl c.in_ok-put.ensures c.put-2.ensures)
+    let lent = c.as_bytes-text.ensures.value ∙ c.text.ensures in
+    let w = c.write_digits-start.ensures in
+    subst (λ t. Puts (taken g.W.Target.written g.W.Target.failed c.args.out.now) (taken g.W.Target.written g.W.Target.failed c.put.new.out) t c.put.result)
+    (error_in (decimal c.args.error.now.at) (code_text c.args.error.now.code) _ _ _ _ lent (c.copy_from_slice.ensures.after ∙ lent) w.start (text_fits c.args.error.now.code) w.written) c.put.ensures
