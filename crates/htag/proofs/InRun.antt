@@ -5,14 +5,17 @@ use Rattle.std.specs.List.{flat_map, list_all, prefix_len}
 use Rattle.std.specs.Char.{len_utf8, to_ascii_lowercase}
 use Rattle.std.specs.String.{string_bytes}
 use Rattle.std.proofs.lemmas.Bool.{and_from, and_parts}
+use Rattle.std.proofs.lemmas.List.{length-drop}
 use Rattle.std.proofs.lemmas.Bool.Decides.{nat_tests}
+use Rattle.names.specs.declared.error.ErrorCode.TheVariants.{UnexpectedEqualsSignBeforeAttributeName}
 use Rattle.names.specs.declared.error.ParseError.{ParseError}
 use Rattle.names.specs.declared.placed.Placed.{Placed}
 use Rattle.names.specs.Names.{Texts}
-use Rattle.names.specs.Placed.{characters, all, placed, name_bytes, null_errors, without_null}
+use Rattle.names.specs.Placed.{characters, all, placed, is_equals, name_bytes, error_if, null_errors, without_null}
 use Rattle.htext.specs.Run.{is_plain_byte}
 use Rattle.htext.proofs.Runs.{plain_bytes, placed_part}
 use Rattle.charref.specs.Reference.{Entities}
+use Rattle.htag.specs.declared.tag_state.TagState.{TagState}
 use Rattle.htag.specs.declared.tag_state.TagState.TheVariants as phase
 use Rattle.htag.specs.declared.pending.Pending.{Pending}
 use Rattle.htag.specs.declared.pending.Pending.TheVariants as reading
@@ -21,10 +24,10 @@ use Rattle.htag.specs.declared.walk.TagWalk.{TagWalk}
 use Rattle.htag.specs.Value.{pieces_text, value_bytes}
 use Rattle.htag.specs.ValueWalk.{Begins, HasHeld, IsInValue, pieces_errors, plain_pieces}
 use Rattle.htag.specs.Tag.{parts_text, tag_close, is_odd, ends_name, ends_attribute_name, ends_unquoted, name_errors_here}
-use Rattle.htag.specs.TagWalk.{IsInTag, WholeOrNot}
-use Rattle.htag.specs.Run.{is_word_byte}
+use Rattle.htag.specs.TagWalk.{NoValue, InName, HasPhase, IsPast, IsInTag, WholeOrNot}
+use Rattle.htag.specs.Run.{is_word_byte, TakesPart}
 use Rattle.htag.specs.Steps.{KeepsTag}
-use Rattle.htag.proofs.Going.{letters_follow, quoted_goes_on, unquoted_goes_on}
+use Rattle.htag.proofs.Going.{past_is, held_in, goes_on, letters_follow, quoted_goes_on, unquoted_goes_on}
 use Rattle.htag.proofs.Keeping.{looks_ahead}
 use Rattle.htag.proofs.Names.{name_grows}
 use Rattle.htag.proofs.Pieces.{pieces_text-append, value_bytes-append, pieces_errors-append, plain_text, alone_bytes, alone_errors, begins_alone}
@@ -52,6 +55,9 @@ module _ (c : ℕ) (h : is_word_byte c ≡ true) where
 
   word_in_value : not (ends_unquoted c) ≡ true
   word_in_value = grind (arith, nat_tests)
+
+  word_no_equals : is_equals c ≡ false
+  word_no_equals = grind (arith, nat_tests)
 
   word_lowered : to_ascii_lowercase (without_null c) ≡ c
   word_lowered = grind (arith, nat_tests)
@@ -165,6 +171,23 @@ module _ (table : Entities) (names : Texts) (walk : TagWalk) (body : List Placed
       unquoted_goes_on table names walk body (placed at run) errors ahead new [] errors keeps attribute place same (sym (append-nil errors)) before
       (value_run table false is_word_byte word_plain (λ e. word_odd) walk.value new.value at run words nothing calm adds) (placed_all _ at run (all_weaker is_word_byte _ word_in_value run words))
 
+-- an attribute begins with a run
+pub run_begins_attribute : (table : Entities) (names : Texts) (walk : TagWalk) (body : List Placed) (errors : List ParseError) (at : ℕ) (run : List ℕ) → IsInTag table names walk body [] errors → list_all is_word_byte run ≡ true → 1 ≤ length run → walk.phase ≡ phase.BeforeAttribute
+    → (new : TagWalk) → KeepsTag walk new → new.phase ≡ phase.AttributeName → new.place ≡ at → NoValue new.value → string_bytes new.attribute ≡ run → IsInTag table names new (body ++ placed at run) [] errors
+run_begins_attribute table names walk body errors at [] h words some before new keeps then place none is = absurd (omega (arith, some))
+run_begins_attribute table names walk body errors at (x ∷ xs) h words some before new keeps then place none is =
+    let fed : List Placed = placed at (x ∷ xs) in
+    let ahead = looks_ahead table names walk body errors h fed in
+    let nothing = held_in table names walk body fed errors ahead phase.BeforeAttribute before in
+    let k = and_parts (is_word_byte x) (list_all is_word_byte xs) words in
+    goes_on table names walk body fed errors ahead new [] errors (sym (append-nil errors)) keeps.name_is keeps.seen_is keeps.attrs_are keeps.any_is (λ b e. subst (λ (y : TagState). IsPast y b) (sym then) e) (past_is table names walk body fed errors ahead phase.BeforeAttribute before)
+    (subst (λ (y : TagState). HasPhase y table new ahead.parts (ahead.held ++ fed) (ahead.own ++ [])) (sym then)
+    (subst (λ (y : List Placed). InName new (y ++ fed) (ahead.own ++ [])) (sym nothing.0) (record {
+      has_name = record { first = word_in_name x k.0; runs = placed_all _ (at + len_utf8 x) xs (all_weaker is_word_byte _ word_in_attribute xs k.1); is = is ∙ sym (word_bytes at (x ∷ xs) words); at_is = sym place };
+      no_value = none;
+      own_is = append-nil ahead.own ∙ nothing.1 ∙ sym (ap (λ (b : Bool). error_if b UnexpectedEqualsSignBeforeAttributeName at ++ flat_map name_errors_here fed) (word_no_equals x k.0) ∙ word_errors at (x ∷ xs) words);
+    })))
+
 -- A CHARACTER THAT DOES NOT END THE TAG
 
 last_of : ℕ → List Placed → ℕ
@@ -210,3 +233,29 @@ pub more_taken : (table : Entities) (names : Texts) (body : List Placed) (at cou
 more_taken table names body at count n run plain within walk errors h =
     subst (λ (x : List Placed). IsInTag table names walk x [] errors)
     (append_assoc body (placed at (take count run)) (placed (at + count) (take n (drop count run))) ∙ ap (λ (x : List Placed). body ++ x) (sym (placed_part at count n run plain within))) h
+
+-- what nothing, the next bytes, and the next byte alone do as a part
+pub part_stays : (walk : TagWalk) (run : List ℕ) (at from : ℕ) → from ≤ length run → TakesPart walk run at from from walk
+part_stays walk run at from within = record { few = within; kind_is = refl; takes = λ table names body errors h. h }
+
+pub part_goes_on : (old new : TagWalk) (run rest : List ℕ) (at from count : ℕ) → list_all is_plain_byte run ≡ true → from ≤ length run → rest ≡ drop from run → count ≤ length rest → new.kind ≡ old.kind
+    → ((table : Entities) (names : Texts) (body : List Placed) (errors : List ParseError) → IsInTag table names old body [] errors → IsInTag table names new (body ++ placed (at + from) (take count rest)) [] errors) → TakesPart old run at from (from + count) new
+part_goes_on old new run rest at from count plain within is few kind goes = record {
+  few = omega (arith, few, ap length is, length-drop from run, within);
+  kind_is = kind;
+  takes = λ table names body errors h.
+      more_taken table names body at from count run plain within new errors
+      (subst (λ (x : List ℕ). IsInTag table names new ((body ++ placed at (take from run)) ++ placed (at + from) (take count x)) [] errors) is (goes table names (body ++ placed at (take from run)) errors h));
+}
+
+pub mark_goes_on : (old new : TagWalk) (run : List ℕ) (at from c : ℕ) → list_all is_plain_byte run ≡ true → from < length run → c ≡ slice_index run from → new.kind ≡ old.kind
+    → ((table : Entities) (names : Texts) (body : List Placed) (errors : List ParseError) → let p : Placed = record { ch = c; at = at + from } in IsInTag table names old body (p ∷ []) errors → IsInTag table names new (body ++ p ∷ []) [] errors)
+    → TakesPart old run at from (from + 1) new
+mark_goes_on old new run at from c plain within is kind goes =
+    part_goes_on old new run (drop from run) at from 1 plain (omega (arith, within)) refl (omega (arith, within, length-drop from run)) kind
+    (λ table names body errors h. subst (λ (x : List Placed). IsInTag table names new (body ++ x) [] errors) (one_at (at + from) from run c within is) (goes table names body errors (looks_ahead table names old body errors h (record { ch = c; at = at + from } ∷ []))))
+
+-- a part from the start
+pub part_taken : (old new : TagWalk) (run : List ℕ) (at count : ℕ) → TakesPart old run at 0 count new → (table : Entities) (names : Texts) (body : List Placed) (errors : List ParseError) → IsInTag table names old body [] errors
+    → IsInTag table names new (body ++ placed at (take count run)) [] errors
+part_taken old new run at count part table names body errors h = part.takes table names body errors (subst (λ (x : List Placed). IsInTag table names old x [] errors) (sym (append-nil body)) h)

@@ -34,17 +34,6 @@ marked old new n numbers h same here others = record { exact = λ m. exact_at m 
   exact_at m false e =
       ap (λ (x : ℕ). eqb x new.tag) (others m (different m n e)) ∙ ap (eqb (stamp old m)) same ∙ h.exact m ∙ sym (ap (λ (b : Bool). b || has_number m numbers) e)
 
--- stamps stay old where each is the tag's or was there
-pub still_older : (old new : List ℕ) (n tag : ℕ) → get_or new n 0 ≡ tag → ((m : ℕ) → (m ≡ n → ⊥) → get_or new m 0 ≡ get_or old m 0) → ((m : ℕ) → get_or old m 0 ≤ tag) → (m : ℕ) → get_or new m 0 ≤ tag
-still_older old new n tag here others h m = by (eqb m n) refl where
-  by : (b : Bool) → eqb m n ≡ b → get_or new m 0 ≤ tag
-  by true e = let is : m ≡ n = eqb-true m n e in omega (arith, ap (λ (x : ℕ). get_or new x 0) is, here)
-  by false e = omega (arith, others m (different m n e), h m)
-
--- a new tag has had no names
-pub none_yet : (seen : Seen) (tag : ℕ) → ((n : ℕ) → stamp seen n ≤ tag) → tag < seen.tag → HasSeen seen []
-none_yet seen tag older new = record { exact = λ n. let h = older n in let other : eqb (stamp seen n) seen.tag ≡ false = grind (arith, nat_tests) in other }
-
 -- a name past all that have a stamp
 pub no_stamp : (seen : Seen) (n : ℕ) (numbers : List ℕ) → 0 < seen.tag → HasSeen seen numbers → length seen.stamps.items ≤ n → true ≡ not (has_number n numbers)
 no_stamp seen n numbers begun h past =

@@ -14,12 +14,12 @@ use Rattle.htag.specs.TagWalk.{IsInTag}
 abbrev pub is_word_byte : ℕ → Bool
 is_word_byte byte = (nat_le 97 byte && nat_le byte 122) || (nat_le 48 byte && nat_le byte 58) || byte == 45 || byte == 46 || byte == 95
 
--- The tag goes on with this many bytes of the run, which changes neither names nor errors.
-pub record TakesPart (old : TagWalk) (run : List ℕ) (count : ℕ) (new : TagWalk) : Type 0 where
-  pub few : count ≤ length run
+-- The tag goes on with the bytes of the run between these two places, the first byte of the run at this one, which changes neither names nor errors.
+pub record TakesPart (old : TagWalk) (run : List ℕ) (at from to : ℕ) (new : TagWalk) : Type 0 where
+  pub few : to ≤ length run
   pub kind_is : new.kind ≡ old.kind
-  pub takes : (table : Entities) (names : Texts) (body : List Placed) (errors : List ParseError) (at : ℕ)
-      → IsInTag table names old body [] errors → IsInTag table names new (body ++ placed at (take count run)) [] errors
+  pub takes : (table : Entities) (names : Texts) (body : List Placed) (errors : List ParseError)
+      → IsInTag table names old (body ++ placed at (take from run)) [] errors → IsInTag table names new (body ++ placed at (take to run)) [] errors
 
 -- What taking a front of this run does, the first of whose characters is at this place, after a text of a tag: the tag goes on
 -- with as many of them as the answer says.

@@ -1,6 +1,6 @@
 //! Characters and errors, added to what was read.
 
-ghost use Rattle.std.specs.Prelude.{◌≡◌, ◌≤◌, ◌==◌, ◌∷◌, ◌++◌, [], true, length, take, not, OnOk, string_bytes, encode_utf8_all};
+ghost use Rattle.std.specs.Prelude.{◌≡◌, ◌≤◌, ◌==◌, ◌∷◌, ◌++◌, [], true, drop, length, take, not, OnOk, string_bytes, encode_utf8_all};
 ghost use Rattle.std.specs.List.{list_all, prefix_len};
 ghost use Rattle.std.specs.Char.{encode_utf8, to_ascii_lowercase};
 ghost use Rattle.names.specs.Placed.{error_if, null_errors, without_null};
@@ -94,6 +94,17 @@ pub(crate) fn count_before(text: &str, mark: char) -> usize
     text.len()
 }
 
+/// Whether a byte has no meaning of its own in a name and in a value without quotes: a small letter, first of all.
+#[inline(always)]
+fn is_word(byte: u8) -> bool
+    ensures { result ≡ is_word_byte byte }
+{
+    if byte.is_ascii_lowercase() {
+        return true;
+    }
+    matches!(byte, b'-' | b'.' | b'0'..=b':' | b'_')
+}
+
 /// How many bytes of a text are before the first one that may have a meaning in a name or in a value without quotes.
 #[inline(always)]
 pub(crate) fn count_word(text: &str) -> usize
@@ -101,11 +112,22 @@ pub(crate) fn count_word(text: &str) -> usize
     ensures few { result ≤ length text.now }
 {
     for (index, byte) in text.as_bytes().iter().enumerate() {
-        if !matches!(*byte, b'-' | b'.' | b'0'..=b':' | b'_' | b'a'..=b'z') {
+        if !is_word(*byte) {
             return index;
         }
     }
     text.len()
+}
+
+/// What is left of a run of plain characters from this place on.
+#[inline(always)]
+pub(crate) fn rest_of(run: &str, from: usize) -> &str
+    requires plain { list_all is_plain_byte run.now ≡ true }
+    requires within { from ≤ length run.now }
+    ensures value { result.now ≡ drop from run.now }
+    ensures plain { list_all is_plain_byte result.now ≡ true }
+{
+    &run[from..]
 }
 
 /// This many characters at the front of a run of plain ones.

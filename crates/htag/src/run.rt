@@ -1,6 +1,6 @@
 //! Runs of plain characters in a tag, taken as wholes where a phase allows it.
 
-ghost use Rattle.std.specs.Prelude.{◌≡◌, ◌≤◌, ◌+◌, List, [], length, true, IfOk, OnOk};
+ghost use Rattle.std.specs.Prelude.{◌≡◌, ◌≤◌, ◌+◌, ℕ, List, [], length, true, IfOk, OnOk};
 ghost use Rattle.std.specs.List.{list_all};
 ghost use Rattle.names.specs.declared.placed.Placed.{Placed as Character};
 ghost use Rattle.names.specs.Names.{Grows};
@@ -9,7 +9,8 @@ ghost use Rattle.htext.specs.Run.{is_plain_byte};
 ghost use Rattle.htag.specs.Run.{TakesPart, TakesRun};
 ghost use Rattle.htag.specs.TagWalk.{IsInTag};
 
-use crate::push::{count_before, count_word, push_front};
+use crate::pending::Pending;
+use crate::push::{count_before, count_word, push_front, rest_of};
 use crate::tag_state::TagState;
 use crate::walk::TagWalk;
 use charref::Table;
@@ -36,8 +37,14 @@ impl<'t> TagWalk<'t> {
         ensures kind { OnOk result (self.new.kind ≡ self.old.kind) }
     {
         let mut count = 0;
-        while count < run.len() {
-            let more = self.take_front(table, names, &run[count..], at + count as u64, errors)?;
+        while count < run.len() && run.as_bytes()[count] != b'>' {
+            let more = self.take_front(
+                table,
+                names,
+                rest_of(run, count),
+                at + count as u64,
+                errors,
+            )?;
             if more == 0 {
                 return Ok(count);
             }
@@ -64,7 +71,7 @@ impl<'t> TagWalk<'t> {
         ensures grows { Grows names.old names.new }
         ensures kind { OnOk result (self.new.kind ≡ self.old.kind) }
     {
-        let count = self.take_part(run)?;
+        let count = self.take_part(run, at)?;
         if count == run.len() {
             return Ok(count);
         }
@@ -76,72 +83,220 @@ impl<'t> TagWalk<'t> {
         Ok(count + 1)
     }
 
-    /// Takes the part of a run, at its front, that this phase takes as a whole.
+    /// Takes the part of a run, at its front, that changes neither names nor errors, as far as these follow one another: the rest of
+    /// the tag's name, a space, an attribute's name, `=`, a quote, the value, and the quote that ends it.
     #[inline(always)]
-    fn take_part(&mut self, run: &str) -> Result<usize, AllocError>
-        requires { list_all is_plain_byte run.now ≡ true }
-        ensures { IfOk result (λ count. TakesPart self.old run.now count self.new) }
+    fn take_part(&mut self, run: &str, at: u64) -> Result<usize, AllocError>
+        requires plain { list_all is_plain_byte run.now ≡ true }
+        requires within { at + length run.now ≤ MAX_INPUT }
+        ensures { IfOk result (λ count. TakesPart self.old run.now at 0 count self.new) }
+    {
+        let mut count = self.part_of_name(run, 0)?;
+        count = self.end_name(run, count);
+        count = self.part_of_attribute(run, count, at)?;
+        count = self.take_equals(run, count);
+        count = self.open_value(run, count);
+        count = self.part_of_value(run, count)?;
+        Ok(self.close_value(run, count))
+    }
+
+    /// Takes that part of the tag's name, from here on.
+    #[inline(always)]
+    fn part_of_name(&mut self, run: &str, from: usize) -> Result<usize, AllocError>
+        requires plain { list_all is_plain_byte run.now ≡ true }
+        requires within { from ≤ length run.now }
+        ensures { IfOk result (λ to. (at : ℕ) → TakesPart self.old run.now at from to self.new) }
     {
         match self.phase {
-            TagState::Name => self.part_of_name(run),
-            TagState::AttributeName => self.part_of_attribute(run),
-            TagState::Quoted(mark) => self.part_of_quoted(mark, run),
-            TagState::Unquoted => self.part_of_unquoted(run),
-            _ => Ok(0),
+            TagState::Name => self.more_of_name(run, from),
+            _ => Ok(from),
         }
     }
 
-    /// Takes that part of the tag's name.
+    /// Takes that part of the name of a tag that is in it.
     #[inline(always)]
-    fn part_of_name(&mut self, run: &str) -> Result<usize, AllocError>
+    fn more_of_name(&mut self, run: &str, from: usize) -> Result<usize, AllocError>
         requires phase { self.old.phase ≡ TagState.Name }
         requires plain { list_all is_plain_byte run.now ≡ true }
-        ensures { IfOk result (λ count. TakesPart self.old run.now count self.new) }
+        requires within { from ≤ length run.now }
+        ensures { IfOk result (λ to. (at : ℕ) → TakesPart self.old run.now at from to self.new) }
     {
-        let count = count_word(run);
-        push_front(&mut self.name, run, count)?;
-        Ok(count)
+        let rest = rest_of(run, from);
+        let count = count_word(rest);
+        push_front(&mut self.name, rest, count)?;
+        Ok(from + count)
     }
 
-    /// Takes that part of an attribute's name.
+    /// Takes the space after it.
     #[inline(always)]
-    fn part_of_attribute(&mut self, run: &str) -> Result<usize, AllocError>
+    fn end_name(&mut self, run: &str, from: usize) -> usize
+        requires plain { list_all is_plain_byte run.now ≡ true }
+        requires within { from ≤ length run.now }
+        ensures { (at : ℕ) → TakesPart self.old run.now at from result self.new }
+    {
+        match self.phase {
+            TagState::Name if from < run.len() && run.as_bytes()[from] == b' ' => {
+                self.phase = TagState::BeforeAttribute;
+                from + 1
+            }
+            _ => from,
+        }
+    }
+
+    /// Takes that part of an attribute's name, which may begin with it.
+    #[inline(always)]
+    fn part_of_attribute(&mut self, run: &str, from: usize, at: u64) -> Result<usize, AllocError>
+        requires plain { list_all is_plain_byte run.now ≡ true }
+        requires few { at + length run.now ≤ MAX_INPUT }
+        requires within { from ≤ length run.now }
+        ensures { IfOk result (λ to. TakesPart self.old run.now at from to self.new) }
+    {
+        match self.phase {
+            TagState::BeforeAttribute => self.begin_part(run, from, at),
+            TagState::AttributeName => self.more_of_attribute(run, from),
+            _ => Ok(from),
+        }
+    }
+
+    /// Begins an attribute with that part of its name, if there is one.
+    #[inline(always)]
+    fn begin_part(&mut self, run: &str, from: usize, at: u64) -> Result<usize, AllocError>
+        requires phase { self.old.phase ≡ TagState.BeforeAttribute }
+        requires plain { list_all is_plain_byte run.now ≡ true }
+        requires few { at + length run.now ≤ MAX_INPUT }
+        requires within { from ≤ length run.now }
+        ensures { IfOk result (λ to. TakesPart self.old run.now at from to self.new) }
+    {
+        let rest = rest_of(run, from);
+        let count = count_word(rest);
+        if count == 0 {
+            return Ok(from);
+        }
+        self.attribute.clear();
+        push_front(&mut self.attribute, rest, count)?;
+        self.value.begin();
+        self.place = at + from as u64;
+        self.phase = TagState::AttributeName;
+        Ok(from + count)
+    }
+
+    /// Takes that part of the name of an attribute that has begun.
+    #[inline(always)]
+    fn more_of_attribute(&mut self, run: &str, from: usize) -> Result<usize, AllocError>
         requires phase { self.old.phase ≡ TagState.AttributeName }
         requires plain { list_all is_plain_byte run.now ≡ true }
-        ensures { IfOk result (λ count. TakesPart self.old run.now count self.new) }
+        requires within { from ≤ length run.now }
+        ensures { IfOk result (λ to. (at : ℕ) → TakesPart self.old run.now at from to self.new) }
     {
-        let count = count_word(run);
-        push_front(&mut self.attribute, run, count)?;
-        Ok(count)
+        let rest = rest_of(run, from);
+        let count = count_word(rest);
+        push_front(&mut self.attribute, rest, count)?;
+        Ok(from + count)
+    }
+
+    /// Takes `=` after it.
+    #[inline(always)]
+    fn take_equals(&mut self, run: &str, from: usize) -> usize
+        requires plain { list_all is_plain_byte run.now ≡ true }
+        requires within { from ≤ length run.now }
+        ensures { (at : ℕ) → TakesPart self.old run.now at from result self.new }
+    {
+        match self.phase {
+            TagState::AttributeName if from < run.len() && run.as_bytes()[from] == b'=' => {
+                self.phase = TagState::BeforeValue;
+                from + 1
+            }
+            _ => from,
+        }
+    }
+
+    /// Takes the quote before a value.
+    #[inline(always)]
+    fn open_value(&mut self, run: &str, from: usize) -> usize
+        requires plain { list_all is_plain_byte run.now ≡ true }
+        requires within { from ≤ length run.now }
+        ensures { (at : ℕ) → TakesPart self.old run.now at from result self.new }
+    {
+        match self.phase {
+            TagState::BeforeValue if from < run.len() => {
+                let mark = char::from(run.as_bytes()[from]);
+                if mark == '"' || mark == '\'' {
+                    self.phase = TagState::Quoted(mark);
+                    return from + 1;
+                }
+                from
+            }
+            _ => from,
+        }
+    }
+
+    /// Takes that part of a value, where no reference is being read.
+    #[inline(always)]
+    fn part_of_value(&mut self, run: &str, from: usize) -> Result<usize, AllocError>
+        requires plain { list_all is_plain_byte run.now ≡ true }
+        requires within { from ≤ length run.now }
+        ensures { IfOk result (λ to. (at : ℕ) → TakesPart self.old run.now at from to self.new) }
+    {
+        if !self.value.is_between() {
+            return Ok(from);
+        }
+        match self.phase {
+            TagState::Quoted(mark) => self.part_of_quoted(mark, run, from),
+            TagState::Unquoted => self.part_of_unquoted(run, from),
+            _ => Ok(from),
+        }
     }
 
     /// Takes that part of a value in quotes.
     #[inline(always)]
-    fn part_of_quoted(&mut self, mark: char, run: &str) -> Result<usize, AllocError>
+    fn part_of_quoted(&mut self, mark: char, run: &str, from: usize) -> Result<usize, AllocError>
         requires phase { self.old.phase ≡ TagState.Quoted mark }
+        requires between { self.old.value.reading ≡ Pending.Nothing }
         requires plain { list_all is_plain_byte run.now ≡ true }
-        ensures { IfOk result (λ count. TakesPart self.old run.now count self.new) }
+        requires within { from ≤ length run.now }
+        ensures { IfOk result (λ to. (at : ℕ) → TakesPart self.old run.now at from to self.new) }
     {
-        if !self.value.is_between() {
-            return Ok(0);
-        }
-        let count = count_before(run, mark);
-        push_front(&mut self.value.text, run, count)?;
-        Ok(count)
+        let rest = rest_of(run, from);
+        let count = count_before(rest, mark);
+        push_front(&mut self.value.text, rest, count)?;
+        Ok(from + count)
     }
 
     /// Takes that part of a value without quotes.
     #[inline(always)]
-    fn part_of_unquoted(&mut self, run: &str) -> Result<usize, AllocError>
+    fn part_of_unquoted(&mut self, run: &str, from: usize) -> Result<usize, AllocError>
         requires phase { self.old.phase ≡ TagState.Unquoted }
+        requires between { self.old.value.reading ≡ Pending.Nothing }
         requires plain { list_all is_plain_byte run.now ≡ true }
-        ensures { IfOk result (λ count. TakesPart self.old run.now count self.new) }
+        requires within { from ≤ length run.now }
+        ensures { IfOk result (λ to. (at : ℕ) → TakesPart self.old run.now at from to self.new) }
     {
-        if !self.value.is_between() {
-            return Ok(0);
+        let rest = rest_of(run, from);
+        let count = count_word(rest);
+        push_front(&mut self.value.text, rest, count)?;
+        Ok(from + count)
+    }
+
+    /// Takes the quote after a value.
+    #[inline(always)]
+    fn close_value(&mut self, run: &str, from: usize) -> usize
+        requires plain { list_all is_plain_byte run.now ≡ true }
+        requires within { from ≤ length run.now }
+        ensures { (at : ℕ) → TakesPart self.old run.now at from result self.new }
+    {
+        if from == run.len() {
+            return from;
         }
-        let count = count_word(run);
-        push_front(&mut self.value.text, run, count)?;
-        Ok(count)
+        if !self.value.is_between() {
+            return from;
+        }
+        let ch = char::from(run.as_bytes()[from]);
+        match self.phase {
+            TagState::Quoted(mark) if ch == mark => {
+                self.phase = TagState::AfterQuoted;
+                from + 1
+            }
+            _ => from,
+        }
     }
 }

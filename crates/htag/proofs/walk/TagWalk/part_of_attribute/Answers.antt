@@ -1,13 +1,9 @@
-use Rattle.std.proofs.Common.{refl}
-use Rattle.htag.specs.Run.{is_word_byte}
-use Rattle.htag.proofs.InRun.{counted_all, run_in_attribute}
+use Rattle.std.proofs.Common.{ℕ}
+use Rattle.std.proofs.lemmas.Result.{IfOk-weaker}
+use Rattle.htag.specs.Run.{TakesPart}
 use Rattle.htag.proofs.walk.TagWalk.part_of_attribute.Goals as goal
 
-pub returns : goal.returns
-returns c = record {
-  few = c.count_word-count.ensures.few;
-  kind_is = refl;
-  takes = λ table names body errors at h.
-      run_in_attribute table names _ body errors at _ h (counted_all is_word_byte c.args.run.now _ c.count_word-count.ensures.counted) c.requires.phase _ (record { kind_is = refl; name_is = refl; attrs_are = refl; seen_is = refl; any_is = refl })
-      refl refl refl c.in_ok-push_front.ensures;
-}
+pub returns-in-AttributeName : goal.returns-in-AttributeName
+returns-in-AttributeName c =
+    IfOk-weaker c.more_of_attribute.result (λ to. (at : ℕ) → TakesPart c.args.self.now c.args.run.now at c.args.from to c.more_of_attribute.new.self) (λ to. TakesPart c.args.self.now c.args.run.now c.args.at c.args.from to c.more_of_attribute.new.self)
+    (λ to taken. taken c.args.at) c.more_of_attribute.ensures

@@ -5,7 +5,7 @@ use Rattle.std.proofs.lemmas.Result.{err_from_is_err_and}
 use Rattle.names.specs.declared.placed.Placed.{Placed}
 use Rattle.names.specs.Placed.{placed}
 use Rattle.htag.specs.TagWalk.{IsInTag}
-use Rattle.htag.proofs.InRun.{one_at, more_taken, other_stays}
+use Rattle.htag.proofs.InRun.{one_at, more_taken, other_stays, part_taken}
 use Rattle.htag.proofs.Keeping.{looks_ahead}
 use Rattle.htag.proofs.walk.TagWalk.take_front.Goals as goal
 
@@ -14,7 +14,7 @@ returns-in_err-take_char-clause-takes c =
     let e = err_from_is_err_and c.from_residual-in_err-take_char.result c.from_residual-in_err-take_char.ensures.1 in
     rw (e.1, e.2) (λ body h.
     let p : Placed = record { ch = c.from-ch.result; at = c.args.at + c.in_ok-count.count } in
-    let mid = c.in_ok-count.ensures.takes c.args.table.now c.args.names.now body c.args.errors.now.items c.args.at h in
+    let mid = part_taken _ _ _ _ _ c.in_ok-count.ensures c.args.table.now c.args.names.now body c.args.errors.now.items h in
     c.in_err-take_char.ensures.takes (body ++ placed c.args.at (take c.in_ok-count.count c.args.run.now)) (looks_ahead _ _ _ _ _ mid (p ∷ [])))
 
 pub returns-clause-takes : goal.returns-clause-takes
@@ -22,7 +22,7 @@ returns-clause-takes c = λ body h.
     let run = c.args.run.now in
     let count = c.in_ok-count.count in
     let p : Placed = record { ch = c.from-ch.result; at = c.args.at + count } in
-    let mid = c.in_ok-count.ensures.takes c.args.table.now c.args.names.now body c.args.errors.now.items c.args.at h in
+    let mid = part_taken _ _ _ _ _ c.in_ok-count.ensures c.args.table.now c.args.names.now body c.args.errors.now.items h in
     let front : List Placed = body ++ placed c.args.at (take count run) in
     let other : eqb c.from-ch.result 62 ≡ false = grind (arith, nat_tests) in
     let took = other_stays c.args.table.now c.take_char.new.names front p c.in_ok-take_char.field-0 c.take_char.new.self c.take_char.new.errors.items other (c.in_ok-take_char.ensures.takes front (looks_ahead _ _ _ _ _ mid (p ∷ []))) in

@@ -1,17 +1,11 @@
 use Rattle.std.proofs.Common.{◌+◌, ◌++◌, [], ℕ, List, ap, ◌∙◌, subst, length, take, arith}
-use Rattle.std.specs.List.{list_all}
 use Rattle.std.proofs.lemmas.List.{length-drop}
 use Rattle.std.proofs.lemmas.Result.{err_from_is_err_and}
 use Rattle.names.specs.Placed.{placed}
 use Rattle.names.proofs.Handing.{grows_on}
-use Rattle.htext.specs.Run.{is_plain_byte}
-use Rattle.htext.proofs.Runs.{plain_drop}
 use Rattle.htag.specs.TagWalk.{IsInTag}
 use Rattle.htag.proofs.InRun.{more_taken}
 use Rattle.htag.proofs.walk.TagWalk.take_run.Goals as goal
-
-pub take_front-requires-clause-plain : goal.take_front-requires-clause-plain
-take_front-requires-clause-plain c = ap (list_all is_plain_byte) c.range_from.ensures.value ∙ plain_drop c.loop-count.count c.args.run.now c.requires.plain
 
 pub returns-in_err-more-clause-takes : goal.returns-in_err-more-clause-takes
 returns-in_err-more-clause-takes c =
@@ -24,8 +18,8 @@ loop-count-preserved c = record {
       let front = body ++ placed c.args.at (take c.loop-count.count c.args.run.now) in
       more_taken c.args.table.now c.take_front.new.names body c.args.at c.loop-count.count c.in_ok-more.more c.args.run.now c.requires.plain c.loop-count.invariant.within c.take_front.new.self c.take_front.new.errors.items
       (subst (λ (x : List ℕ). IsInTag c.args.table.now c.take_front.new.names c.take_front.new.self (front ++ placed (c.args.at + c.loop-count.count) (take c.in_ok-more.more x)) [] c.take_front.new.errors.items)
-      c.range_from.ensures.value (c.in_ok-more.ensures.takes front (c.loop-count.invariant.takes body h)));
-  within = omega (arith, c.in_ok-more.ensures.few, ap length c.range_from.ensures.value, length-drop c.loop-count.count c.args.run.now, c.loop-count.invariant.within);
+      c.rest_of.ensures.value (c.in_ok-more.ensures.takes front (c.loop-count.invariant.takes body h)));
+  within = omega (arith, c.in_ok-more.ensures.few, ap length c.rest_of.ensures.value, length-drop c.loop-count.count c.args.run.now, c.loop-count.invariant.within);
   grows = grows_on _ _ _ c.loop-count.invariant.grows c.take_front.ensures.grows;
   kind = c.in_ok-more.ensures.kind ∙ c.loop-count.invariant.kind;
 }
