@@ -157,17 +157,8 @@ cdata_goes spelled.Front text p first h = (begins_in _ text (p ∷ []) first, h)
 cdata_goes spelled.Whole text p first h = h
 cdata_goes spelled.Other text p first h = λ more. not_cdata ((text ++ p ∷ []) ++ more) (begins_in _ (text ++ p ∷ []) more (begins_in _ text (p ∷ []) first)) (as_it_is (codes "[CDATA[") ((text ++ p ∷ []) ++ more) ∙ h more)
 
-pub dash_then : (text : List Placed) (p : Placed) → characters text ≡ codes "-" → p.ch ≡ 45 → characters (text ++ p ∷ []) ≡ codes "--"
-dash_then [] p h e = absurd cc
-dash_then (x ∷ y ∷ xs) p h e = absurd cc
-dash_then (x ∷ []) p h e = let is : x.ch ≡ 45 = cc in ap (λ (c : ℕ). c ∷ p.ch ∷ []) is ∙ ap (λ (c : ℕ). 45 ∷ c ∷ []) e
-
 pub dash_alone : (text : List Placed) (p : Placed) → characters text ≡ codes "-" → eqb p.ch 45 ≡ false → OpensAs opens.Bogus (text ++ p ∷ [])
 dash_alone text p h e = λ more. subst (λ (x : List Placed). is_declaration x ≡ false) (sym (append_assoc text (p ∷ []) more)) (one_dash text p more h e)
-
-pub first_alone : (text : List Placed) (p : Placed) → text ≡ [] → eqb p.ch 45 ≡ false → eqb p.ch 91 ≡ false → eqb (to_ascii_lowercase p.ch) 100 ≡ false → OpensAs opens.Bogus (text ++ p ∷ [])
-first_alone text p none dash bracket letter = λ more. subst (λ (x : List Placed). is_declaration ((x ++ p ∷ []) ++ more) ≡ false) (sym none)
-    (three (spells (codes "--") (p ∷ more)) (spells_in_any_case (codes "doctype") (p ∷ more)) (is_cdata (p ∷ more)) (no_dashes p more dash) (no_doctype p more letter) (no_cdata p more bracket))
 
 pub doctype_after : (s : Spelled) (text : List Placed) (p : Placed) (c count : ℕ) → p.ch ≡ c → count ≡ length text → IsOpened opened.Doctype text → s ≡ front_of (codes "doctype") count (to_ascii_lowercase c) → OpensAs (by_spelled opened.Doctype opens.Doctype s) (text ++ p ∷ [])
 doctype_after s text p c count is long h e = doctype_goes s text p h.0
@@ -185,9 +176,6 @@ first_doctype text p none is = subst (λ (x : List Placed). IsOpened opened.Doct
 
 pub first_bracket : (text : List Placed) (p : Placed) → text ≡ [] → p.ch ≡ 91 → IsOpened opened.Cdata (text ++ p ∷ [])
 first_bracket text p none is = subst (λ (x : List Placed). IsOpened opened.Cdata (x ++ p ∷ [])) (sym none) (ap (λ (c : ℕ). eqb c 91) is, (67, codes "DATA[", ap (λ (c : ℕ). c ∷ codes "CDATA[") is))
-
-pub first_dash : (text : List Placed) (p : Placed) → text ≡ [] → p.ch ≡ 45 → IsOpened opened.Dash (text ++ p ∷ [])
-first_dash text p none is = subst (λ (x : List Placed). IsOpened opened.Dash (x ++ p ∷ [])) (sym none) (ap (λ (c : ℕ). c ∷ []) is)
 
 pub all_more : (test : ℕ → Bool) (xs : List Placed) (p : Placed) → all test xs ≡ true → test p.ch ≡ true → all test (xs ++ p ∷ []) ≡ true
 all_more test [] p h k = rw k refl
