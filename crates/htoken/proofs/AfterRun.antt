@@ -1,8 +1,8 @@
 -- A run of characters in the run of alphanumerics after an `&`: it goes on with them, or they are text after it.
-use Rattle.std.proofs.Common.{◌≡◌, ℕ, ◌+◌, ◌<◌, true, false, eqb, List, [], ◌∷◌, ◌++◌, map, length, sym, refl, ap, ◌∙◌, subst, Result, Ok, Err, Option, arith, append_assoc, append-nil}
+use Rattle.std.proofs.Common.{◌≡◌, ℕ, ◌+◌, ◌-◌, ◌<◌, ◌≤◌, Bool, true, false, ◌&&◌, eqb, take, drop, List, [], ◌∷◌, ◌++◌, map, length, sym, refl, ap, ◌∙◌, subst, Result, Ok, Err, Option, arith, append_assoc, append-nil}
 use Rattle.std.proofs.lemmas.Bool.Decides.{nat_tests}
 use Rattle.std.specs.Prelude.{slice_index}
-use Rattle.std.specs.List.{prefix_len}
+use Rattle.std.specs.List.{list_all, prefix_len}
 use Rattle.names.specs.declared.error.ErrorCode.TheVariants.{UnknownNamedCharacterReference}
 use Rattle.names.specs.declared.error.ParseError.{ParseError}
 use Rattle.names.specs.declared.placed.Placed.{Placed}
@@ -12,6 +12,7 @@ use Rattle.names.specs.Names.{Texts}
 use Rattle.names.specs.Placed.{all, is_alphanumeric, placed, error_if}
 use Rattle.std.specs.Char.{len_utf8}
 use Rattle.htext.specs.Run.{is_plain_byte}
+use Rattle.htext.proofs.Runs.{placed_part}
 use Rattle.charref.specs.Reference.{Entities}
 use Rattle.hmarkup.proofs.Marks.{and_parts}
 use Rattle.htoken.specs.declared.state.State.{State}
@@ -46,15 +47,33 @@ later_settled amp at (x ∷ xs) c some none is more =
     let other : is_alphanumeric x ≡ false = grind (arith, none) in
     later_told amp (record { ch = x; at = at }) (placed (at + len_utf8 x) xs ++ more) other ∙ ap (λ (n : ℕ). error_if (eqb n 59) UnknownNamedCharacterReference amp) (sym is)
 
+-- the front that goes on with a run, of which this many are known to come next
+pub front_parts : (at known count : ℕ) (run : List ℕ) → list_all is_plain_byte run ≡ true → known ≤ count → count ≤ length run → placed at (take count run) ≡ placed at (take known run) ++ placed (at + known) (take (count - known) (drop known run))
+front_parts at known count run plain few within =
+    let parts : count ≡ known + (count - known) = omega arith in
+    ap (λ (n : ℕ). placed at (take n run)) parts ∙ placed_part at known (count - known) run plain (omega arith)
+
+pub none_known : (table : Entities) (start : RawKind) (t : Tokenizer) (names : Texts) (text : List Placed) (taken : List Event) (at known : ℕ) (run : List ℕ) → known ≡ 0
+    → IsInRun table start t names text (placed at (take known run)) taken → HasTaken table start t names text taken
+none_known table start t names text taken at known run none h = in_run (subst (λ (n : ℕ). IsInRun table start t names text (placed at (take n run)) taken) none h)
+
+-- a letter or digit that is known to come next
+pub letter_first : (at : ℕ) (run : List ℕ) (p : Placed) → p ∷ [] ≡ placed at (take 1 run) → is_alphanumeric p.ch ≡ true → 1 ≤ prefix_len is_alphanumeric run
+letter_first at [] p is letter = absurd cc
+letter_first at (x ∷ xs) p is letter =
+    let first : is_alphanumeric x ≡ true = (and_parts (is_alphanumeric x) true (ap (all is_alphanumeric) (sym is) ∙ ap (λ (b : Bool). b && true) letter)).0 in
+    grind (arith, first)
+
 plain_kept : (c : ℕ) → is_plain_byte c ≡ true → is_kept c ≡ true
 plain_kept c h = grind (arith, nat_tests)
 
-module _ {S : Type 0} (gives : S → Item → Result (Unit {0}) Refusal → S → Type 0) (table : Entities) (start : RawKind) (text : List Placed) (names : Texts) (taken : List Event) (t : Tokenizer) (amp : ℕ) (same : t.state ≡ state.Run amp) (h : IsInRun table start t names text [] taken) (run : List Placed) where
+module _ {S : Type 0} (gives : S → Item → Result (Unit {0}) Refusal → S → Type 0) (table : Entities) (start : RawKind) (text : List Placed) (names : Texts) (taken : List Event) (t : Tokenizer) (amp : ℕ) (same : t.state ≡ state.Run amp) (ahead : List Placed) (h : IsInRun table start t names text ahead taken) (run others : List Placed) (is : run ≡ ahead ++ others) where
   amp_is : h.amp ≡ amp
   amp_is = let e : state.Run h.amp ≡ state.Run amp = sym h.state_is ∙ same in cc
 
   stands_now : (end : ℕ) (more : List Placed) → Stands table start end text (run ++ more) h.here taken (later_errors amp (run ++ more))
-  stands_now end more = subst (λ (a : ℕ). Stands table start end text (run ++ more) h.here taken (later_errors a (run ++ more))) amp_is (h.stands end (run ++ more))
+  stands_now end more = subst (λ (a : ℕ). Stands table start end text (run ++ more) h.here taken (later_errors a (run ++ more))) amp_is
+      (subst (λ (x : List Placed). Stands table start end text x h.here taken (later_errors h.amp x)) (sym (append_assoc ahead others more) ∙ ap (λ (x : List Placed). x ++ more) (sym is)) (h.stands end (others ++ more)))
 
   -- the sink refused what it was handed, after which `rest` is left
   front_refused : (others rest : List Placed) (events : List Event) (old s : S) (e : Refusal) (new : Tokenizer) (there : Standing) (after : List Placed → List ParseError) → text ++ run ≡ others ++ rest

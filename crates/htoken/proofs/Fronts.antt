@@ -1,6 +1,6 @@
 -- A run of characters, a part after another.
-use Rattle.std.proofs.Common.{◌≡◌, ◌≤◌, ℕ, ◌+◌, List, [], ◌∷◌, ◌++◌, length, take, drop, sym, refl, ap, ◌∙◌, subst, Result, Ok, Err, append_assoc, append-nil}
-use Rattle.std.specs.Prelude.{true}
+use Rattle.std.proofs.Common.{◌≡◌, ◌≤◌, ◌<◌, ℕ, ◌+◌, List, [], ◌∷◌, ◌++◌, length, take, drop, sym, refl, ap, ◌∙◌, subst, Result, Ok, Err, append_assoc, append-nil, arith}
+use Rattle.std.specs.Prelude.{true, slice_index, MatchResult}
 use Rattle.std.specs.List.{list_all}
 use Rattle.std.specs.Str.{chars}
 use Rattle.std.proofs.lemmas.List.{take_all}
@@ -21,7 +21,9 @@ use Rattle.htoken.specs.declared.tokenizer.Tokenizer.{Tokenizer}
 use Rattle.htoken.specs.Token.{Tok, Item, ItemToken, ItemError, Event, Gives, Reports, TokenMeans, Mean}
 use Rattle.htoken.specs.Tokens.{tokens_in, IsRefused, AreFront}
 use Rattle.htoken.specs.Handing.{HandsEvents}
+use Rattle.htoken.specs.Steps.{TakesFront}
 use Rattle.htoken.specs.Tokenizing.{HasTaken, Takes, take_ran_out, take_refused, take_sink_refused, take_took}
+use Rattle.htoken.proofs.Going.{takes_after}
 use Rattle.htoken.proofs.Handing.{HandsEvents-append}
 
 -- what was handed over stands for the same when the table of names has grown
@@ -41,6 +43,11 @@ mean_kept old new grows (ItemToken t ∷ items) (Reports error ∷ events) h = a
 mean_kept old new grows (ItemError e ∷ items) (Gives tok ∷ events) h = absurd h.0
 mean_kept old new grows [] (e ∷ events) h = absurd h
 mean_kept old new grows (i ∷ items) [] h = absurd h
+
+-- the first character of a run
+pub first_of : (at : ℕ) (run bytes : List ℕ) (c : ℕ) → 0 < length run → c ≡ slice_index bytes 0 → bytes ≡ run → record { ch = c; at = at } ∷ [] ≡ placed at (take 1 run)
+first_of at [] bytes c some is same = absurd (omega (arith, some))
+first_of at (x ∷ xs) bytes c some is same = ap (λ (n : ℕ). record { ch = n; at = at } ∷ []) (is ∙ ap (λ (bs : List ℕ). slice_index bs 0) same)
 
 module _ {S : Type 0} (gives : S → Item → Result (Unit {0}) Refusal → S → Type 0) (table : Entities) (start : RawKind) (text : List Placed) where
   -- a refusal is one whatever follows
@@ -96,6 +103,20 @@ module _ {S : Type 0} (gives : S → Item → Result (Unit {0}) Refusal → S �
       subst (λ (x : List Placed). Takes gives table start text x taken names old (Err e) new then) (sym (placed_rest at count run plain within))
       (refused_longer (placed at (take count run)) (placed (at + count) (drop count run)) taken names old new e next then h)
 
+  -- a call for the first character of a run takes a front of it
+  pub first_front : (at : ℕ) (run : List ℕ) (p : Placed) → p ∷ [] ≡ placed at (take 1 run) → list_all is_plain_byte run ≡ true → 0 < length run → (taken : List Event) (names : Texts) (old new : S) (next : Tokenizer) (answer : Result (Unit {0}) Refusal)
+      → Takes gives table start text (p ∷ []) taken names old answer new next
+      → MatchResult answer (λ done. Takes gives table start text (placed at (take 1 run)) taken names old (Ok tt) new next) (λ e. Takes gives table start text (placed at run) taken names old (Err e) new next)
+  first_front at run p is plain some taken names old new next (Ok done) h = subst (λ (x : List Placed). Takes gives table start text x taken names old (Ok tt) new next) is h
+  first_front at run p is plain some taken names old new next (Err e) h =
+      front_refused at 1 run plain (omega (arith, some)) taken names old new e next next (subst (λ (x : List Placed). Takes gives table start text x taken names old (Err e) new next) is h)
+
+  -- a front that is taken after events have been handed over
+  pub front_after : (at : ℕ) (run : List ℕ) (taken events : List Event) (names : Texts) (old mid new : S) (answer : Result ℕ Refusal) (next : Tokenizer) → HandsEvents gives names old events (Ok tt) mid
+      → TakesFront gives table start text at run (taken ++ events) names mid answer new next → TakesFront gives table start text at run taken names old answer new next
+  front_after at run taken events names old mid new (Ok n) next given h = takes_after gives table start text (placed at (take n run)) names taken events old mid new (Ok tt) next given h
+  front_after at run taken events names old mid new (Err e) next given h = takes_after gives table start text (placed at run) names taken events old mid new (Err e) next given h
+
   -- A LOOP OVER A RUN, of which a front has been taken
 
   module _ (front : List Placed) (taken : List Event) (before names : Texts) (grows : Grows before names) (old mid : S) (t : Tokenizer) where
@@ -118,14 +139,19 @@ module _ {S : Type 0} (gives : S → Item → Result (Unit {0}) Refusal → S �
     abbrev pub SoFar : Type 0
     SoFar = Takes gives table start text (placed at (take count run)) taken before old (Ok tt) mid t
 
-    abbrev pub Then : List ℕ → Result (Unit {0}) Refusal → S → Tokenizer → Type 0
-    Then part = ThenTakes (placed at (take count run)) taken before names grows old mid t (placed (at + count) part)
+    -- how a front of what is left is taken, if the rest has been
+    abbrev pub Then : List ℕ → Result ℕ Refusal → S → Tokenizer → Type 0
+    Then part answer new next = (fed : List Placed) (events : List Event) → HasTaken table start t before fed events → TakesFront gives table start fed (at + count) part events names mid answer new next
 
-    pub more_taken : (n : ℕ) (new : S) (next : Tokenizer) → SoFar → Then (take n (drop count run)) (Ok tt) new next → Takes gives table start text (placed at (take (count + n) run)) taken names old (Ok tt) new next
-    more_taken n = part_taken (placed at (take count run)) taken before names grows old mid t (placed (at + count) (take n (drop count run))) (placed at (take (count + n) run)) (placed_part at count n run plain within) (Ok tt)
+    pub more_taken : (part : List ℕ) → part ≡ drop count run → (n : ℕ) (new : S) (next : Tokenizer) → SoFar → Then part (Ok n) new next → Takes gives table start text (placed at (take (count + n) run)) taken names old (Ok tt) new next
+    more_taken part is n new next so then =
+        part_taken (placed at (take count run)) taken before names grows old mid t (placed (at + count) (take n (drop count run))) (placed at (take (count + n) run)) (placed_part at count n run plain within) (Ok tt) new next so
+        (subst (λ (x : List ℕ). ThenTakes (placed at (take count run)) taken before names grows old mid t (placed (at + count) (take n x)) (Ok tt) new next) is then)
 
-    pub more_refused : (e : Refusal) (new : S) (next : Tokenizer) → SoFar → Then (drop count run) (Err e) new next → Takes gives table start text (placed at run) taken names old (Err e) new next
-    more_refused e = part_taken (placed at (take count run)) taken before names grows old mid t (placed (at + count) (drop count run)) (placed at run) (placed_rest at count run plain within) (Err e)
+    pub more_refused : (part : List ℕ) → part ≡ drop count run → (e : Refusal) (new : S) (next : Tokenizer) → SoFar → Then part (Err e) new next → Takes gives table start text (placed at run) taken names old (Err e) new next
+    more_refused part is e new next so then =
+        part_taken (placed at (take count run)) taken before names grows old mid t (placed (at + count) (drop count run)) (placed at run) (placed_rest at count run plain within) (Err e) new next so
+        (subst (λ (x : List ℕ). ThenTakes (placed at (take count run)) taken before names grows old mid t (placed (at + count) x) (Err e) new next) is then)
 
     pub all_taken : length run ≤ count → SoFar → Takes gives table start text (placed at run) taken before old (Ok tt) mid t
     all_taken l h = subst (λ (x : List ℕ). Takes gives table start text (placed at x) taken before old (Ok tt) mid t) (take_all count run l) h

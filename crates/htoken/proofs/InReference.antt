@@ -16,8 +16,9 @@ use Rattle.charref.specs.declared.reference.Reference.{Reference}
 use Rattle.charref.specs.Pieces.{IsRead, characters_of, errors_of}
 use Rattle.charref.specs.Reference.{Entities, IsTable, IsReference}
 use Rattle.charref.specs.declared.reference_state.ReferenceState.{ReferenceState as WalkState}
+use Rattle.charref.specs.declared.walk.Walk.{Walk as CharWalk}
 use Rattle.charref.specs.Held.{is_number, kept}
-use Rattle.charref.specs.Walk.{HasTaken as WalkHasTaken}
+use Rattle.charref.specs.Walk.{HasTaken as WalkHasTaken, LeavesLast}
 use Rattle.charref.proofs.Keeping.{kept_none, kept_all, kept_nothing, is_other, drop-kept, drop-kept-end}
 use Rattle.hmarkup.proofs.Marks.{and_no, and_parts}
 use Rattle.htoken.specs.declared.state.State.{State}
@@ -31,11 +32,20 @@ use Rattle.htoken.specs.Giving.{known_errors, piece_events, read_events}
 use Rattle.htoken.specs.Tokens.{tokens_in, eof_of, tokens_of}
 use Rattle.htoken.specs.Handing.{HandsEvents}
 use Rattle.htoken.specs.Run.{run_events}
-use Rattle.htoken.specs.Steps.{Stays, Keeps, BeginsReference, Finds}
+use Rattle.htoken.specs.Steps.{Stays, BeginsReference, Finds, HoldsInReference}
 use Rattle.htoken.specs.Tokenizing.{Stands, Reads, IsInRun, Takes, take_took, take_sink_refused, in_run, IsHeld, IsIn, IsLast, IsBetween, IsInReference, EndsHeld, held_ended, later_errors, next_place}
 use Rattle.htoken.proofs.Going.{goes_on, span_ends}
 use Rattle.htoken.proofs.Pending.{stands_on, stands_told, later_on, later_told}
 use Rattle.htoken.proofs.Referring.{is_kept, all-drop, held_kept, run_errors, after_reference, stands_read, plain_span, plain_is, alphanumeric_kept, reference_is, no_tag, gives_some, next_is}
+
+-- what a walk that stays as it is has found with a character
+pub found_with : (table : Entities) (old new : CharWalk) (p : Placed) (found : Reference) → new ≡ old
+    → ((in_value : Bool) (text : List Placed) (q : Placed) → WalkHasTaken old table in_value text → q.ch ≡ p.ch → (after : List Placed) → IsRead table in_value (text ++ q ∷ []) after found)
+    → (is_number old.state ≡ true → LeavesLast found) → Finds table new p found
+found_with table old new p found same taken number = record {
+  reads = λ text after has. taken false text p (subst (λ (w : CharWalk). WalkHasTaken w table false text) same has) refl after;
+  number = λ is. number (ap (λ (w : CharWalk). is_number w.state) (sym same) ∙ is);
+}
 
 -- where references may be no script does
 no_script : (k : RawKind) → has_references k ≡ true → is_script k ≡ true → ⊥
@@ -75,28 +85,28 @@ module _ {S : Type 0} (gives : S → Item → Result (Unit {0}) Refusal → S �
   taken_by_walk = inside.has_taken
 
   -- what is kept where the reference goes on
-  module _ (next : WalkState) (leads : is_number t.reference.state ≡ true → is_number next ≡ true) where
-    pub number_kept : is_number next ≡ true → [] ≡ kept next (inside.read ++ p ∷ [])
-    number_kept number = sym (kept_none next (inside.read ++ p ∷ []) number)
-
-    pub other_kept : is_number next ≡ false → t.held.items ++ p ∷ [] ≡ kept next (inside.read ++ p ∷ [])
-    other_kept other = ap (λ (x : List Placed). x ++ p ∷ []) (inside.kept_is ∙ kept_all t.reference.state inside.read (is_other t.reference.state (λ number. true≢false (sym (leads number) ∙ other)))) ∙ sym (kept_all next (inside.read ++ p ∷ []) other)
+  kept_on : (next : WalkState) → (is_number t.reference.state ≡ true → is_number next ≡ true) → (number : Bool) → is_number next ≡ number → kept next (t.held.items ++ p ∷ []) ≡ kept next (inside.read ++ p ∷ [])
+  kept_on next leads true number = kept_none next (t.held.items ++ p ∷ []) number ∙ sym (kept_none next (inside.read ++ p ∷ []) number)
+  kept_on next leads false other = kept_all next (t.held.items ++ p ∷ []) other ∙ ap (λ (x : List Placed). x ++ p ∷ []) (inside.kept_is ∙ kept_all t.reference.state inside.read (is_other t.reference.state (λ number. true≢false (sym (leads number) ∙ other))))
+      ∙ sym (kept_all next (inside.read ++ p ∷ []) other)
 
   -- the reference goes on
-  pub reference_goes_on : (new : Tokenizer) (s : S) → Keeps t new → new.state ≡ state.Reference → new.tag ≡ t.tag → new.held.items ≡ kept new.reference.state (inside.read ++ p ∷ []) → new.raised.errors.items ≡ t.raised.errors.items → WalkHasTaken new.reference table false (inside.read ++ p ∷ [])
+  pub reference_goes_on : (walk : CharWalk) (new : Tokenizer) (s : S) → HoldsInReference (record t { reference = walk }) p new → (is_number t.reference.state ≡ true → is_number walk.state ≡ true) → WalkHasTaken walk table false (inside.read ++ p ∷ [])
       → Takes gives table start text (p ∷ []) taken names s (Ok tt) s new
-  reference_goes_on new s keeps same tag held raised walk =
+  reference_goes_on walk new s holds leads walked =
       let i = inside in
-      goes_on gives table start text p names taken t h new s keeps.stays keeps.kind_is keeps.last_is
-      (subst (λ (x : State). IsIn x h.here.kind) (sym same) may)
+      let same : new.state ≡ state.Reference = ap (λ (x : Tokenizer). x.state) holds.then ∙ after_amp in
+      let reference : new.reference ≡ walk = ap (λ (x : Tokenizer). x.reference) holds.then in
+      goes_on gives table start text p names taken t h new s (ap (λ (x : Tokenizer). x.refused) holds.then, ap (λ (x : Tokenizer). x.table) holds.then, ap (λ (x : Tokenizer). x.next) holds.then)
+      (ap (λ (x : Tokenizer). x.kind) holds.then) (ap (λ (x : Tokenizer). x.last) holds.then) (subst (λ (x : State). IsIn x h.here.kind) (sym same) may)
       (subst (λ (x : State). IsHeld x table names h.here new (h.held ++ p ∷ []) []) (sym same) (record {
         read = i.read ++ p ∷ [];
-        held_is = ap (λ (x : List Placed). x ++ p ∷ []) i.held_is ∙ ap (λ (a : ℕ). record { ch = 38; at = a } ∷ (i.read ++ p ∷ [])) (sym keeps.at_is);
-        raises_none = raised ∙ i.raises_none;
+        held_is = ap (λ (x : List Placed). x ++ p ∷ []) i.held_is ∙ ap (λ (x : Tokenizer). record { ch = 38; at = x.at } ∷ (i.read ++ p ∷ [])) (sym holds.then);
+        raises_none = ap (λ (x : Tokenizer). x.raised.errors.items) holds.then ∙ i.raises_none;
         is_table = i.is_table;
-        has_taken = walk;
-        kept_is = held;
-        between = same_between h.here h.here t new may refl refl tag i.between;
+        has_taken = subst (λ (w : CharWalk). WalkHasTaken w table false (i.read ++ p ∷ [])) (sym reference) walked;
+        kept_is = holds.held_is ∙ kept_on walk.state leads (is_number walk.state) refl ∙ ap (λ (w : CharWalk). kept w.state (i.read ++ p ∷ [])) (sym reference);
+        between = same_between h.here h.here t new may refl refl (ap (λ (x : Tokenizer). x.tag) holds.then) i.between;
       }))
 
   module _ (found : Reference) (f : Finds table t.reference p found) where
@@ -106,12 +116,14 @@ module _ {S : Type 0} (gives : S → Item → Result (Unit {0}) Refusal → S �
     r : (after : List Placed) → IsRead table false (read ++ p ∷ []) after found
     r after = f.reads read after inside.has_taken
 
-    pub in_letters : found.in_run ≡ true → (found.left ≡ 0 → ⊥) × (is_alphanumeric p.ch ≡ true)
+    pub in_letters : found.in_run ≡ true → (found.left ≡ 0 → ⊥) × (is_alphanumeric p.ch ≡ true) × (length t.held.items + 1 - found.left ≡ 0)
     in_letters told =
         let run = (r []).run told in
         let long : length (read ++ p ∷ []) ≡ length read + 1 = length-append read (p ∷ []) in
         let parts = and_parts (is_alphanumeric p.ch) true (all-last is_alphanumeric read (p ∷ []) run.1) in
-        (λ none. omega (arith, run.0), parts.0)
+        let name : is_number t.reference.state ≡ false = is_other t.reference.state (λ number. true≢false (sym told ∙ (f.number number).0)) in
+        let held_is : length t.held.items ≡ length read = ap length (inside.kept_is ∙ kept_all t.reference.state read name) in
+        (λ none. omega (arith, run.0), parts.0, omega (arith, run.0))
 
     abbrev amp : Placed
     amp = record { ch = 38; at = t.at }

@@ -2,7 +2,7 @@
 use Rattle.std.proofs.Common.{◌≡◌, ◌≤◌, ◌<◌, ℕ, zero, suc, ◌+◌, Bool, true, false, cond, eqb, List, [], ◌∷◌, ◌++◌, length, take, sym, refl, ap, ◌∙◌, subst, arith, drop, Result, Ok, Err, Option, append_assoc, append-nil}
 use Rattle.std.proofs.lemmas.Bool.Decides.{nat_tests}
 use Rattle.std.specs.List.{list_all}
-use Rattle.std.specs.Prelude.{slice_index, not, ◌&&◌, ◌||◌, ◌==◌}
+use Rattle.std.specs.Prelude.{not, ◌&&◌, ◌||◌, ◌==◌}
 use Rattle.std.proofs.lemmas.Bool.{and_from}
 use Rattle.std.proofs.lemmas.List.{length-take-le}
 use Rattle.std.specs.Char.{len_utf8, encode_utf8}
@@ -127,11 +127,6 @@ next_bad (suc n) now at h = next_bad n (after_place at) (at + 1) (omega (arith, 
 pub next_replaced : (text : List Placed) (at n : ℕ) → 0 < n → at + n ≤ 0xFFFFFFFFFFFFFFFF → at + n ≡ next_place (text ++ replaced at n)
 next_replaced text at zero some h = absurd (omega (arith, some))
 next_replaced text at (suc n) some h = sym (next_from-append 0 text (replaced at (suc n)) ∙ next_bad n (next_from 0 text) at h)
-
--- the first character of a run
-pub first_of : (at : ℕ) (run : List ℕ) (c : ℕ) → 0 < length run → c ≡ slice_index run 0 → record { ch = c; at = at } ∷ [] ≡ placed at (take 1 run)
-first_of at [] c h e = absurd (omega (arith, h))
-first_of at (x ∷ xs) c h e = ap (λ (n : ℕ). record { ch = n; at = at } ∷ []) e
 
 -- TEXT
 

@@ -70,6 +70,7 @@ impl<'t> Tokenizer<'t> {
     }
 
     /// After `</` (13.2.5.7).
+    #[inline(always)]
     pub(crate) fn after_solidus<S: TokenSink>(
         &mut self,
         ch: char,

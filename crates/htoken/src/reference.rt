@@ -1,22 +1,27 @@
 //! References in text, and the runs of alphanumerics after an `&` (HTML Standard, 13.2.5.72 to 13.2.5.80).
 
-ghost use Rattle.std.specs.Prelude.{◌≡◌, ◌∷◌, ◌+◌, ◌-◌, List, [], true, false, length};
+ghost use Rattle.std.specs.Prelude.{◌≡◌, ◌≤◌, ◌<◌, ◌∷◌, ◌+◌, ◌-◌, List, [], true, false, length, take, IfOk, OnOk};
+ghost use Rattle.std.specs.List.{list_all};
 ghost use Rattle.names.specs.declared.placed.Placed.{Placed as Character};
 ghost use Rattle.names.specs.declared.raw.RawKind.{RawKind as Kind};
 ghost use Rattle.names.specs.Names.{Texts};
+ghost use Rattle.names.specs.Placed.{placed};
+ghost use Rattle.htext.specs.declared.decoder.TheConstants.{MAX_INPUT};
+ghost use Rattle.htext.specs.Run.{is_plain_byte};
 ghost use Rattle.charref.specs.Reference.{Entities};
 ghost use Rattle.htoken.specs.Token.{Event, gives_item};
 ghost use Rattle.htoken.specs.Giving.{read_events};
 ghost use Rattle.htoken.specs.Handing.{HandsEvents};
-ghost use Rattle.htoken.specs.Tokenizing.{IsInRun, Reads, Takes};
-ghost use Rattle.htoken.specs.Steps.{BeginsReference, Finds};
+ghost use Rattle.htoken.specs.Tokenizing.{HasTaken, IsInRun, Reads, Takes};
+ghost use Rattle.htoken.specs.Steps.{BeginsReference, Finds, HoldsInReference, TakesFront};
 
 use crate::hand::{after_first, give, give_all, give_piece, tell_unknown};
 use crate::sink::TokenSink;
 use crate::state::State;
-use crate::tokenizer::Tokenizer;
+use crate::tokenizer::{Tokenizer, after};
 use charref::{Reference, Walk};
 use names::{Placed, Refusal};
+use std::alloc::AllocError;
 
 impl<'t> Tokenizer<'t> {
     /// Begins a reference at an `&`.
@@ -44,15 +49,78 @@ impl<'t> Tokenizer<'t> {
     {
         match self.reference.take(ch) {
             Some(found) => self.end_reference(&found, ch, at, sink),
-            None if self.reference.is_number() => {
-                self.held.clear();
-                Ok(())
+            None => Ok(self.hold_in_reference(ch, at)?),
+        }
+    }
+
+    /// Holds a character with which a reference goes on. Of a number nothing is held.
+    #[inline(always)]
+    fn hold_in_reference(&mut self, ch: char, at: u64) -> Result<(), AllocError>
+        ensures { OnOk result (HoldsInReference self.old (record { ch = ch; at = at }) self.new) }
+    {
+        if self.reference.is_number() {
+            self.held.clear();
+        } else {
+            self.held.push(Placed { ch, at })?;
+        }
+        Ok(())
+    }
+
+    /// Takes the first character of a run after `&`. Where it shows that no key begins it, takes the letters and digits after it, too.
+    #[inline(always)]
+    pub(crate) fn front_of_reference<S: TokenSink>(
+        &mut self,
+        run: &str,
+        at: u64,
+        sink: &mut S,
+    ) -> Result<usize, Refusal>
+        requires in_reference { self.old.state ≡ State.Reference }
+        requires some { 0 < length run.now }
+        requires plain { list_all is_plain_byte run.now ≡ true }
+        requires within { at + length run.now ≤ MAX_INPUT }
+        ensures takes { (table : Entities) (start : Kind) (names : Texts) (text : List Character) (taken : List Event)
+            → HasTaken table start self.old names text taken
+            → TakesFront (gives_item S.gives S.gives_token) table start text at run.now taken names sink.old result sink.new self.new }
+        ensures few { IfOk result (λ count. (0 < count) × (count ≤ length run.now)) }
+    {
+        let ch = char::from(run.as_bytes()[0]);
+        self.next = after(at);
+        match self.reference.take(ch) {
+            Some(found) if found.in_run => self.begin_run(&found, run, at, sink),
+            Some(found) => {
+                self.end_known(&found, ch, at, sink)?;
+                Ok(1)
             }
             None => {
-                self.held.push(Placed { ch, at })?;
-                Ok(())
+                self.hold_in_reference(ch, at)?;
+                Ok(1)
             }
         }
+    }
+
+    /// Begins the run of alphanumerics after an `&` that no key begins, where the first character of this run has shown that.
+    #[inline(always)]
+    fn begin_run<S: TokenSink>(
+        &mut self,
+        found: &Reference,
+        run: &str,
+        at: u64,
+        sink: &mut S,
+    ) -> Result<usize, Refusal>
+        requires in_reference { self.old.state ≡ State.Reference }
+        requires in_run { found.now.in_run ≡ true }
+        requires some { 0 < length run.now }
+        requires plain { list_all is_plain_byte run.now ≡ true }
+        requires within { at + length run.now ≤ MAX_INPUT }
+        ensures takes { (table : Entities) (start : Kind) (names : Texts) (text : List Character) (taken : List Event) (p : Character)
+            → p ∷ [] ≡ placed at (take 1 run.now) → Finds table self.old.reference p found.now → Reads table start self.old names text (p ∷ []) taken
+            → TakesFront (gives_item S.gives S.gives_token) table start text at run.now taken names sink.old result sink.new self.new }
+        ensures few { IfOk result (λ count. (0 < count) × (count ≤ length run.now)) }
+    {
+        let amp = self.at;
+        self.state = State::Run(amp);
+        self.give_reference(found, 0, sink)?;
+        self.run_of_alphanumerics(amp, run, at, sink)
     }
 
     /// Ends the reference that this character has shown, and reads again what does not belong to it.
@@ -71,8 +139,28 @@ impl<'t> Tokenizer<'t> {
             → Takes (gives_item S.gives S.gives_token) table start text (record { ch = ch; at = at } ∷ []) taken names sink.old result sink.new self.new }
     {
         if found.in_run {
-            return self.end_in_run(found, ch, at, sink);
+            self.end_in_run(found, ch, at, sink)
+        } else {
+            self.end_known(found, ch, at, sink)
         }
+    }
+
+    /// Ends a reference or an `&` that is text, after which no run of alphanumerics goes on, and reads again what does not belong to it.
+    #[inline(always)]
+    fn end_known<S: TokenSink>(
+        &mut self,
+        found: &Reference,
+        ch: char,
+        at: u64,
+        sink: &mut S,
+    ) -> Result<(), Refusal>
+        requires state { self.old.state ≡ State.Reference }
+        requires known { found.now.in_run ≡ false }
+        ensures { (table : Entities) (start : Kind) (names : Texts) (text : List Character) (taken : List Event)
+            → Finds table self.old.reference (record { ch = ch; at = at }) found.now
+            → Reads table start self.old names text (record { ch = ch; at = at } ∷ []) taken
+            → Takes (gives_item S.gives S.gives_token) table start text (record { ch = ch; at = at } ∷ []) taken names sink.old result sink.new self.new }
+    {
         self.state = State::Text;
         if found.left == 0 {
             return give_piece(found, self.at, sink);
@@ -96,6 +184,7 @@ impl<'t> Tokenizer<'t> {
     }
 
     /// Hands over a reference, and the held characters after the first `count`, which do not belong to it.
+    #[inline(always)]
     pub(crate) fn give_reference<S: TokenSink>(
         &self,
         found: &Reference,

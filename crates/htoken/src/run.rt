@@ -1,6 +1,6 @@
 //! Runs of plain characters, taken as wholes where a state allows it.
 
-ghost use Rattle.std.specs.Prelude.{◌≡◌, ◌≤◌, ◌<◌, ◌+◌, ◌∷◌, ℕ, List, true, Some, Err, IfErr, IfOk, length, drop};
+ghost use Rattle.std.specs.Prelude.{◌≡◌, ◌≤◌, ◌<◌, ◌+◌, ◌∷◌, ℕ, List, true, Some, Err, IfErr, IfOk, length, take, drop};
 ghost use Rattle.std.specs.List.{list_all, prefix_len};
 ghost use Rattle.std.specs.Char.{encode_utf8};
 ghost use Rattle.std.specs.Str.{chars};
@@ -18,7 +18,7 @@ ghost use Rattle.htoken.specs.Run.{replaced, takes_bad};
 ghost use Rattle.htoken.specs.Script.{FollowsAll};
 ghost use Rattle.htoken.specs.Steps.{TakesFront, TakesPart};
 ghost use Rattle.htoken.specs.Token.{Event, gives_item};
-ghost use Rattle.htoken.specs.Tokenizing.{HasTaken, Takes};
+ghost use Rattle.htoken.specs.Tokenizing.{HasTaken, IsInRun, Takes};
 
 use crate::hand::tell_unknown;
 use crate::sink::TokenSink;
@@ -287,6 +287,7 @@ impl<'t> Tokenizer<'t> {
             State::Reference => self.run_of_reference(run, at, sink),
             State::Run(amp) => self.run_of_alphanumerics(amp, run, at, sink),
             State::Less => self.first_after_less(run, at, sink),
+            State::LessSolidus(_) => self.first_after_solidus(run, at, sink),
             _ => self.take_first(names, run, at, sink),
         }
     }
@@ -356,6 +357,27 @@ impl<'t> Tokenizer<'t> {
         Ok(1)
     }
 
+    /// Takes the first character of a run after `</`, and returns 1.
+    #[inline(always)]
+    fn first_after_solidus<S: TokenSink>(
+        &mut self,
+        run: &str,
+        at: u64,
+        sink: &mut S,
+    ) -> Result<usize, Refusal>
+        requires solidus { (solidus : ℕ) × (self.old.state ≡ State.LessSolidus solidus) }
+        requires some { 0 < length run.now }
+        requires plain { list_all is_plain_byte run.now ≡ true }
+        ensures takes { (table : Entities) (start : Kind) (names : Texts) (text : List Character) (taken : List Event)
+            → HasTaken table start self.old names text taken
+            → TakesFront (gives_item S.gives S.gives_token) table start text at run.now taken names sink.old result sink.new self.new }
+        ensures one { IfOk result (λ count. count ≡ 1) }
+    {
+        self.next = after(at);
+        self.after_solidus(char::from(run.as_bytes()[0]), at, sink)?;
+        Ok(1)
+    }
+
     /// Takes a run where nothing is held: the sink takes it as a whole.
     fn run_of_text<S: TokenSink>(&mut self, run: &str, at: u64, sink: &mut S) -> Result<(), Refusal>
         requires text { self.old.state ≡ State.Text }
@@ -372,6 +394,7 @@ impl<'t> Tokenizer<'t> {
     }
 
     /// Takes the characters at the front of a run with which a reference goes on, and the one that ends it.
+    #[inline(never)]
     fn run_of_reference<S: TokenSink>(
         &mut self,
         run: &str,
@@ -389,17 +412,15 @@ impl<'t> Tokenizer<'t> {
     {
         let mut count = 0;
         while count < run.len() && matches!(self.state, State::Reference) {
-            let place = at + count as u64;
-            self.next = after(place);
-            self.in_reference(char::from(run.as_bytes()[count]), place, sink)?;
-            count += 1;
+            let more = self.front_of_reference(&run[count..], at + count as u64, sink)?;
+            count += more;
         }
         Ok(count)
     }
 
     /// Takes the letters and digits at the front of a run, with which the run after an `&` goes on. Where there are none, that one
-    /// ends, and the whole run is text.
-    fn run_of_alphanumerics<S: TokenSink>(
+    /// ends, and the whole run is text. The first `known` of them may be known to come next.
+    pub(crate) fn run_of_alphanumerics<S: TokenSink>(
         &mut self,
         amp: u64,
         run: &str,
@@ -410,8 +431,8 @@ impl<'t> Tokenizer<'t> {
         requires some { 0 < length run.now }
         requires plain { list_all is_plain_byte run.now ≡ true }
         requires within { at + length run.now ≤ MAX_INPUT }
-        ensures takes { (table : Entities) (start : Kind) (names : Texts) (text : List Character) (taken : List Event)
-            → HasTaken table start self.old names text taken
+        ensures takes { (table : Entities) (start : Kind) (names : Texts) (text : List Character) (taken : List Event) (known : ℕ)
+            → known ≤ prefix_len is_alphanumeric run.now → IsInRun table start self.old names text (placed at (take known run.now)) taken
             → TakesFront (gives_item S.gives S.gives_token) table start text at run.now taken names sink.old result sink.new self.new }
         ensures few { IfOk result (λ count. (0 < count) × (count ≤ length run.now)) }
     {

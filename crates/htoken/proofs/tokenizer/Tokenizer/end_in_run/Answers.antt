@@ -17,5 +17,5 @@ returns-in_err-give_reference g c =
 pub returns : goal.returns
 returns g c = λ table start names text taken r h.
     let letters = in_letters (gives_item g.S.ErrorSink.gives g.S.TokenSink.gives_token) table start text (record { ch = c.args.ch; at = c.args.at }) names taken _ h c.requires.state c.args.found.now r c.requires.run in
-    takes_after (gives_item g.S.ErrorSink.gives g.S.TokenSink.gives_token) table start text (record { ch = c.args.ch; at = c.args.at }) names taken _ _ _ _ _ _ (subst (λ n. HandsEvents (gives_item g.S.ErrorSink.gives g.S.TokenSink.gives_token) names c.args.sink.now (read_events c.args.found.now c.args.self.now.at c.args.self.now.held.items n) (Ok tt) c.give_reference.new.sink) c.given_back.ensures (c.in_ok-give_reference.ensures names))
+    takes_after (gives_item g.S.ErrorSink.gives g.S.TokenSink.gives_token) table start text _ names taken _ _ _ _ _ _ (subst (λ n. HandsEvents (gives_item g.S.ErrorSink.gives g.S.TokenSink.gives_token) names c.args.sink.now (read_events c.args.found.now c.args.self.now.at c.args.self.now.held.items n) (Ok tt) c.give_reference.new.sink) c.given_back.ensures (c.in_ok-give_reference.ensures names))
     (c.in_run.ensures table start names text _ (run_begins (gives_item g.S.ErrorSink.gives g.S.TokenSink.gives_token) table start text (record { ch = c.args.ch; at = c.args.at }) names taken _ h c.requires.state c.args.found.now r letters.0 _ c.requires.run letters.1 (refl, refl, refl) refl refl refl refl refl))

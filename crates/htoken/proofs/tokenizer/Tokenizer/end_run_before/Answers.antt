@@ -1,4 +1,4 @@
-use Rattle.std.proofs.Common.{◌+◌, ℕ, List, refl, sym, ap, ◌∙◌, subst, length, arith}
+use Rattle.std.proofs.Common.{◌+◌, ℕ, List, [], refl, sym, ap, ◌∙◌, subst, length, arith}
 use Rattle.std.proofs.lemmas.Result.{err_from_is_err_and}
 use Rattle.std.specs.Prelude.{slice_index}
 use Rattle.names.specs.Placed.{placed}
@@ -23,8 +23,8 @@ returns-in_err-tell_unknown g c =
     let run = c.args.run.now in
     let first = c.from.ensures ∙ ap (λ (bs : List ℕ). slice_index bs 0) c.as_bytes.ensures.value in
     rw (e.1, e.2) (λ table start names text taken h.
-    end_refused (gives_item g.S.ErrorSink.gives g.S.TokenSink.gives_token) table start text names taken c.args.self.now c.args.amp c.requires.in_run
-    (taken_in_run table start c.args.self.now names text taken c.args.amp c.requires.in_run h) (placed c.args.at run) _
+    end_refused (gives_item g.S.ErrorSink.gives g.S.TokenSink.gives_token) table start text names taken c.args.self.now c.args.amp c.requires.in_run []
+    (taken_in_run table start c.args.self.now names text taken c.args.amp c.requires.in_run h) (placed c.args.at run) (placed c.args.at run) refl _
     (later_settled c.args.amp c.args.at run c.from.result c.requires.some c.requires.ends first) (plain_all (placed c.args.at run) (all_placed is_plain_byte c.args.at run c.requires.plain)) _ _ _ _ (c.in_err-tell_unknown.ensures names))
 
 pub returns : goal.returns
@@ -34,7 +34,7 @@ returns g c = λ table start names text taken h.
     let next = sym (next_run text c.args.at run c.requires.plain c.requires.some (omega (arith, c.requires.within))) in
     let given = run_given g.S.ErrorSink.gives g.S.TokenSink.gives_token names _ _ (placed c.args.at run) _
     (subst (λ (x : List ℕ). Hands g.S.TokenSink.gives_token c.tell_unknown.new.sink (run_tokens (placed c.args.at x)) c.take_run.result c.take_run.new.self) (plain_chars run c.requires.plain c.utf8.run) c.take_run.ensures) in
-    text_after (gives_item g.S.ErrorSink.gives g.S.TokenSink.gives_token) table start text names taken c.args.self.now c.args.amp c.requires.in_run
-    (taken_in_run table start c.args.self.now names text taken c.args.amp c.requires.in_run h) (placed c.args.at run) _
+    text_after (gives_item g.S.ErrorSink.gives g.S.TokenSink.gives_token) table start text names taken c.args.self.now c.args.amp c.requires.in_run []
+    (taken_in_run table start c.args.self.now names text taken c.args.amp c.requires.in_run h) (placed c.args.at run) (placed c.args.at run) refl _
     (later_settled c.args.amp c.args.at run c.from.result c.requires.some c.requires.ends first) (plain_all (placed c.args.at run) (all_placed is_plain_byte c.args.at run c.requires.plain))
     (record c.args.self.now { state = state.Text; next = c.args.at + length run }) refl next _ _ _ _ (c.in_ok-tell_unknown.ensures names) given

@@ -22,5 +22,5 @@ returns-in_err-tell_unknown g c =
 pub returns : goal.returns
 returns g c = λ table start names text taken h.
     let other : is_alphanumeric c.args.ch ≡ false = grind (arith, nat_tests) in
-    takes_after (gives_item g.S.ErrorSink.gives g.S.TokenSink.gives_token) table start text (record { ch = c.args.ch; at = c.args.at }) names taken _ _ _ _ _ _ (c.in_ok-tell_unknown.ensures names)
+    takes_after (gives_item g.S.ErrorSink.gives g.S.TokenSink.gives_token) table start text _ names taken _ _ _ _ _ _ (c.in_ok-tell_unknown.ensures names)
     (c.in_text.ensures table start names text _ (run_ended (gives_item g.S.ErrorSink.gives g.S.TokenSink.gives_token) table start text (record { ch = c.args.ch; at = c.args.at }) names taken _ c.args.amp c.requires h other _ (refl, refl, refl) refl refl refl refl refl))

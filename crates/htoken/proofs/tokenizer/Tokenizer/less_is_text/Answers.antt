@@ -13,6 +13,6 @@ returns-in_err-give_faulty g c =
 
 pub returns : goal.returns
 returns g c = λ table start names text taken h.
-    takes_after (gives_item g.S.ErrorSink.gives g.S.TokenSink.gives_token) table start text (record { ch = c.args.ch; at = c.args.at }) names taken _ _ _ _ _ _ (c.in_ok-give_faulty.ensures names)
+    takes_after (gives_item g.S.ErrorSink.gives g.S.TokenSink.gives_token) table start text _ names taken _ _ _ _ _ _ (c.in_ok-give_faulty.ensures names)
     (c.in_text.ensures table start names text _
     (other_follows (gives_item g.S.ErrorSink.gives g.S.TokenSink.gives_token) table start text (record { ch = c.args.ch; at = c.args.at }) names taken _ h c.requires.state _ (record { kind_is = refl; last_is = refl; at_is = refl; stays = (refl, refl, refl) }) refl refl c.requires.other))

@@ -1,4 +1,4 @@
-use Rattle.std.proofs.Common.{◌+◌, ◌++◌, ℕ, List, [], refl, sym, ap, ◌∙◌, subst, take, arith, Ok, Err}
+use Rattle.std.proofs.Common.{◌+◌, ◌++◌, ℕ, [], refl, sym, ap, ◌∙◌, subst, take, arith, Ok}
 use Rattle.std.specs.List.{list_all}
 use Rattle.std.proofs.lemmas.Result.{err_from_is_err_and}
 use Rattle.names.specs.Placed.{placed}
@@ -61,9 +61,8 @@ returns-in_err-first_in_tag-clause-takes g c =
     (next_front text c.args.at count run c.requires.plain (omega (arith, c.if-count-eq0.false)) c.in_ok-count.ensures.few (omega (arith, c.requires.within))) c.in_ok-count.ensures.kind
     (c.in_ok-count.ensures.takes _ (tag_read gives table start c.args.names.now c.take_run.new.names c.take_run.ensures.grows text taken c.args.self.now k c.requires.tag [])) c.args.sink.now in
     more_refused gives table start text c.args.at count run c.requires.plain c.in_ok-count.ensures.few taken c.take_run.new.names c.first_in_tag-2.new.names c.first_in_tag-2.ensures.grows c.args.sink.now c.args.sink.now t
-    c.in_err-first_in_tag.field-0.0 c.first_in_tag-2.new.sink c.first_in_tag-2.new.self so_far
-    (λ fed events has. subst (λ (x : List ℕ). Takes gives table start fed (placed (c.args.at + count) x) events c.first_in_tag-2.new.names c.args.sink.now (Err c.in_err-first_in_tag.field-0.0) c.first_in_tag-2.new.sink c.first_in_tag-2.new.self)
-    c.range_from.ensures.value (c.in_err-first_in_tag.ensures.takes table start c.take_run.new.names fed events (grows_not _) has)))
+    _ c.range_from.ensures.value c.in_err-first_in_tag.field-0.0 c.first_in_tag-2.new.sink c.first_in_tag-2.new.self so_far
+    (λ fed events has. c.in_err-first_in_tag.ensures.takes table start c.take_run.new.names fed events (grows_not _) has))
 
 pub returns-clause-takes : goal.returns-clause-takes
 returns-clause-takes g c = λ table start before text taken grows h.
@@ -76,10 +75,9 @@ returns-clause-takes g c = λ table start before text taken grows h.
     (next_front text c.args.at count run c.requires.plain (omega (arith, c.if-count-eq0.false)) c.in_ok-count.ensures.few (omega (arith, c.requires.within))) c.in_ok-count.ensures.kind
     (c.in_ok-count.ensures.takes _ (tag_read gives table start c.args.names.now c.take_run.new.names c.take_run.ensures.grows text taken c.args.self.now k c.requires.tag [])) c.args.sink.now in
     more_taken gives table start text c.args.at count run c.requires.plain c.in_ok-count.ensures.few taken c.take_run.new.names c.first_in_tag-2.new.names c.first_in_tag-2.ensures.grows c.args.sink.now c.args.sink.now t
-    1 c.first_in_tag-2.new.sink c.first_in_tag-2.new.self so_far
-    (λ fed events has. subst (λ (x : List ℕ). Takes gives table start fed (placed (c.args.at + count) (take 1 x)) events c.first_in_tag-2.new.names c.args.sink.now (Ok tt) c.first_in_tag-2.new.sink c.first_in_tag-2.new.self) c.range_from.ensures.value
-    (subst (λ (n : ℕ). Takes gives table start fed (placed (c.args.at + count) (take n c.range_from.result.now)) events c.first_in_tag-2.new.names c.args.sink.now (Ok tt) c.first_in_tag-2.new.sink c.first_in_tag-2.new.self) c.in_ok-first_in_tag.ensures.one
-    (c.in_ok-first_in_tag.ensures.takes table start c.take_run.new.names fed events (grows_not _) has)))
+    _ c.range_from.ensures.value 1 c.first_in_tag-2.new.sink c.first_in_tag-2.new.self so_far
+    (λ fed events has. subst (λ (n : ℕ). Takes gives table start fed (placed (c.args.at + count) (take n c.range_from.result.now)) events c.first_in_tag-2.new.names c.args.sink.now (Ok tt) c.first_in_tag-2.new.sink c.first_in_tag-2.new.self)
+    c.in_ok-first_in_tag.ensures.one (c.in_ok-first_in_tag.ensures.takes table start c.take_run.new.names fed events (grows_not _) has))
 
 pub returns-then-count-eq0-clause-grows : goal.returns-then-count-eq0-clause-grows
 returns-then-count-eq0-clause-grows g c = grows_on _ _ _ c.take_run.ensures.grows c.first_in_tag.ensures.grows

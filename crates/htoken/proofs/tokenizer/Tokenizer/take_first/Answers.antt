@@ -1,24 +1,15 @@
-use Rattle.std.proofs.Common.{ℕ, List, ap, ◌∙◌, subst, Ok, Err, arith}
-use Rattle.std.specs.Prelude.{slice_index}
+use Rattle.std.proofs.Common.{Ok, Err}
 use Rattle.std.proofs.lemmas.Result.{err_from_is_err_and}
-use Rattle.names.specs.declared.placed.Placed.{Placed}
 use Rattle.htoken.specs.Token.{gives_item}
-use Rattle.htoken.specs.Tokenizing.{Takes}
-use Rattle.htoken.proofs.InRun.{first_of}
-use Rattle.htoken.proofs.Fronts.{front_refused}
+use Rattle.htoken.proofs.Fronts.{first_of, first_front}
 use Rattle.htoken.proofs.tokenizer.Tokenizer.take_first.Goals as goal
 
 pub returns-clause-takes : goal.returns-clause-takes
 returns-clause-takes g c = λ table start before text taken grows h.
-    let first = c.from.ensures ∙ ap (λ (bs : List ℕ). slice_index bs 0) c.as_bytes.ensures.value in
-    subst (λ (x : List Placed). Takes (gives_item g.S.ErrorSink.gives g.S.TokenSink.gives_token) table start text x taken c.take.new.names c.args.sink.now (Ok tt) c.take.new.sink c.take.new.self)
-    (first_of c.args.at c.args.run.now c.from.result c.requires.some first) (c.in_ok-take.ensures.takes table start before text taken grows h)
+    first_front (gives_item g.S.ErrorSink.gives g.S.TokenSink.gives_token) table start text c.args.at c.args.run.now _ (first_of c.args.at c.args.run.now _ c.from.result c.requires.some c.from.ensures c.as_bytes.ensures.value) c.requires.plain c.requires.some taken _ _ _ _ (Ok tt) (c.in_ok-take.ensures.takes table start before text taken grows h)
 
 pub returns-in_err-take-clause-takes : goal.returns-in_err-take-clause-takes
 returns-in_err-take-clause-takes g c =
     let e = err_from_is_err_and c.from_residual.result c.from_residual.ensures.1 in
-    let first = c.from.ensures ∙ ap (λ (bs : List ℕ). slice_index bs 0) c.as_bytes.ensures.value in
     rw (e.1, e.2) (λ table start before text taken grows h.
-    front_refused (gives_item g.S.ErrorSink.gives g.S.TokenSink.gives_token) table start text c.args.at 1 c.args.run.now c.requires.plain (omega (arith, c.requires.some)) taken _ _ _ _ c.take.new.self _
-    (subst (λ (x : List Placed). Takes (gives_item g.S.ErrorSink.gives g.S.TokenSink.gives_token) table start text x taken c.take.new.names c.args.sink.now (Err c.in_err-take.field-0.0) c.take.new.sink c.take.new.self)
-    (first_of c.args.at c.args.run.now c.from.result c.requires.some first) (c.in_err-take.ensures.takes table start before text taken grows h)))
+    first_front (gives_item g.S.ErrorSink.gives g.S.TokenSink.gives_token) table start text c.args.at c.args.run.now _ (first_of c.args.at c.args.run.now _ c.from.result c.requires.some c.from.ensures c.as_bytes.ensures.value) c.requires.plain c.requires.some taken _ _ _ _ (Err c.in_err-take.field-0.0) (c.in_err-take.ensures.takes table start before text taken grows h))

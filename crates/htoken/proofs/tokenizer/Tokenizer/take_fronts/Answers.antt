@@ -1,13 +1,11 @@
-use Rattle.std.proofs.Common.{◌+◌, arith, ◌∙◌, subst, ap, List, ℕ, length, take, Ok, Err}
+use Rattle.std.proofs.Common.{arith, ◌∙◌, ap, length}
 use Rattle.std.specs.List.{list_all}
 use Rattle.std.proofs.lemmas.List.{length-drop}
 use Rattle.std.proofs.lemmas.Result.{err_from_is_err_and}
-use Rattle.names.specs.Placed.{placed}
 use Rattle.names.proofs.Handing.{grows_not, grows_on}
 use Rattle.htext.specs.Run.{is_plain_byte}
 use Rattle.htext.proofs.Runs.{plain_drop}
 use Rattle.htoken.specs.Token.{gives_item}
-use Rattle.htoken.specs.Tokenizing.{Takes}
 use Rattle.htoken.proofs.Fronts.{takes_nothing, more_taken, more_refused, all_taken}
 use Rattle.htoken.proofs.Taking.{taken_kept}
 use Rattle.htoken.proofs.tokenizer.Tokenizer.take_fronts.Goals as goal
@@ -26,9 +24,8 @@ pub loop-count-preserved : goal.loop-count-preserved
 loop-count-preserved g c = record {
   takes = λ table start before text taken grows h.
       more_taken (gives_item g.S.ErrorSink.gives g.S.TokenSink.gives_token) table start text c.args.place c.loop-count.count c.args.run.now c.requires.plain c.loop-count.invariant.within taken c.loop-count.names c.take_front.new.names c.take_front.ensures.grows
-      c.args.sink.now c.loop-count.sink c.loop-count.self c.in_ok-more.more c.take_front.new.sink c.take_front.new.self (c.loop-count.invariant.takes table start before text taken grows h)
-      (λ fed events has. subst (λ (x : List ℕ). Takes (gives_item g.S.ErrorSink.gives g.S.TokenSink.gives_token) table start fed (placed (c.args.place + c.loop-count.count) (take c.in_ok-more.more x)) events c.take_front.new.names c.loop-count.sink (Ok tt) c.take_front.new.sink c.take_front.new.self)
-      c.range_from.ensures.value (c.in_ok-more.ensures.takes table start c.loop-count.names fed events (grows_not _) has));
+      c.args.sink.now c.loop-count.sink c.loop-count.self _ c.range_from.ensures.value c.in_ok-more.more c.take_front.new.sink c.take_front.new.self (c.loop-count.invariant.takes table start before text taken grows h)
+      (λ fed events has. c.in_ok-more.ensures.takes table start c.loop-count.names fed events (grows_not _) has);
   within = omega (arith, c.in_ok-more.ensures.few.1, ap length c.range_from.ensures.value, length-drop c.loop-count.count c.args.run.now, c.loop-count.invariant.within);
   grows = grows_on _ _ _ c.loop-count.invariant.grows c.take_front.ensures.grows;
 }
@@ -38,9 +35,8 @@ returns-in_err-more-clause-takes g c =
     let e = err_from_is_err_and c.from_residual.result c.from_residual.ensures.1 in
     rw (e.1, e.2) (λ table start before text taken grows h.
     more_refused (gives_item g.S.ErrorSink.gives g.S.TokenSink.gives_token) table start text c.args.place c.loop-count.count c.args.run.now c.requires.plain c.loop-count.invariant.within taken c.loop-count.names c.take_front.new.names c.take_front.ensures.grows
-    c.args.sink.now c.loop-count.sink c.loop-count.self c.in_err-more.field-0.0 c.take_front.new.sink c.take_front.new.self (c.loop-count.invariant.takes table start before text taken grows h)
-    (λ fed events has. subst (λ (x : List ℕ). Takes (gives_item g.S.ErrorSink.gives g.S.TokenSink.gives_token) table start fed (placed (c.args.place + c.loop-count.count) x) events c.take_front.new.names c.loop-count.sink (Err c.in_err-more.field-0.0) c.take_front.new.sink c.take_front.new.self)
-    c.range_from.ensures.value (c.in_err-more.ensures.takes table start c.loop-count.names fed events (grows_not _) has)))
+    c.args.sink.now c.loop-count.sink c.loop-count.self _ c.range_from.ensures.value c.in_err-more.field-0.0 c.take_front.new.sink c.take_front.new.self (c.loop-count.invariant.takes table start before text taken grows h)
+    (λ fed events has. c.in_err-more.ensures.takes table start c.loop-count.names fed events (grows_not _) has))
 
 pub returns-clause-takes : goal.returns-clause-takes
 returns-clause-takes g c = λ table start before text taken grows h.
