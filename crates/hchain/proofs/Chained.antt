@@ -67,7 +67,7 @@ module _ (last : List ℕ) (links : List Link) where
         kept = λ i h some. c.kept i (omega arith) some;
       }
 
-  is_chained-all : (0 < length links → 0 < length last) → ChainedTo last links (length links) → IsChained last links
+  pub is_chained-all : (0 < length links → 0 < length last) → ChainedTo last links (length links) → IsChained last links
   is_chained-all wide c =
       let len = length-map links number_of in
       record {

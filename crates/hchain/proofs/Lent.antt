@@ -1,5 +1,6 @@
 -- The fields of a list of numbers as an edit of them is given them, and as it leaves them.
-use Rattle.std.proofs.Common.{◌≡◌, ℕ, ◌<◌, List, length, sym, subst, ap, arith}
+use Rattle.std.proofs.Common.{◌≡◌, ℕ, ◌<◌, Result, Ok, Err, List, length, sym, subst, ap, arith}
+use Rattle.std.specs.Result.{OnErr}
 use Rattle.std.proofs.lemmas.List.{length-map}
 use Rattle.hchain.specs.Linked.{number_of, numbers_of, AreChains}
 use Rattle.hchain.specs.declared.chains.Link.{Link}
@@ -11,3 +12,8 @@ lent last last' links links' e f are =
 -- an index in the list is one of the links
 pub lent-within : (links : List Link) (now : List ℕ) (k : ℕ) → numbers_of links ≡ now → k < length now → k < length links
 lent-within links now k e h = omega (arith, ap length e, length-map links number_of)
+
+-- what holds anyhow holds on an error
+pub on_err : {A E P : Type 0} (r : Result A E) → P → OnErr r P
+on_err (Ok _) p = tt
+on_err (Err _) p = p

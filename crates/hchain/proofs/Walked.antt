@@ -1,12 +1,12 @@
 -- The walk down a group to where a number is.
 use Rattle.std.proofs.Common.{◌≡◌, ◌≢◌, ℕ, zero, suc, ◌<◌, ◌≤◌, ◌-◌, ◌%◌, Bool, true, false, eqb, List, length, get_or, refl, sym, ◌∙◌, ap, subst, arith}
-use Rattle.std.proofs.lemmas.Bool.{eqb-true, ne_eqb, cond_both, both_ways, false_from_ne_true}
+use Rattle.std.proofs.lemmas.Bool.{eqb-true, eq-eqb, ne_eqb, cond_both, both_ways, false_from_ne_true}
 use Rattle.std.proofs.lemmas.List.{get_or-map, get_or_default, length-map}
 use Rattle.hchain.specs.Chains.{none, last_up}
 use Rattle.hchain.specs.Linked.{number_of, before_of, numbers_of, befores_of, is_in, Keep, IsChained}
 use Rattle.hchain.specs.declared.chains.Link.{Link}
 use Rattle.hchain.proofs.Groups.{nearest, in-group, group-of}
-use Rattle.hchain.proofs.LastUp.{up-other, up-within, up-found}
+use Rattle.hchain.proofs.LastUp.{up-sought, up-other, up-within, up-found}
 
 -- where a number is last among the first links
 abbrev pub sought_up : List Link → ℕ → ℕ → ℕ
@@ -76,6 +76,12 @@ module _ {links : List Link} {number place : ℕ} {x : Link} (some : number ≢ 
   -- nothing is missed on the way
   pub walk-down : sought_up links number (place - 1) ≡ sought_up links number x.before
   walk-down = from-group links w.width number (place - 1) some ∙ ap (sought_up links number) (sym kept-at)
+
+  pub walk-here : x.number ≡ number → sought_up links number place ≡ place
+  walk-here same =
+      let next : place ≡ suc (place - 1) = omega (arith, at.some) in
+      ap (sought_up links number) next
+      ∙ up-sought (λ n. eqb n number) (numbers_of links) (place - 1) (eq-eqb (get_or (numbers_of links) (place - 1) 0) number (number-at at ∙ same)) ∙ sym next
 
   pub walk-not : x.number ≢ number → sought_up links number place ≡ sought_up links number x.before
   walk-not other =

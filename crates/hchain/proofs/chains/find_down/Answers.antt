@@ -1,7 +1,7 @@
-use Rattle.std.proofs.Common.{◌-◌, get_or, ◌∙◌, arith}
+use Rattle.std.proofs.Common.{◌≡◌, ◌-◌, get_or, sym, ◌∙◌, ap, arith}
 use Rattle.std.proofs.lemmas.List.{get_or_default}
 use Rattle.hchain.specs.declared.chains.Link.{Link}
-use Rattle.hchain.proofs.Walked.{IsAt, walk-le, walk-on, walk-not}
+use Rattle.hchain.proofs.Walked.{IsAt, sought_up, walk-here, walk-le, walk-on, walk-not}
 use Rattle.hchain.proofs.chains.find_down.Goals as goal
 
 abbrev nothing : Link
@@ -26,3 +26,11 @@ loop-place-preserved c =
       walks = walk-on c.requires.number c.loop-place.invariant.walks at;
       same = c.loop-place.invariant.same ∙ walk-not c.requires.number c.loop-place.invariant.walks at c.if-link-number.false;
     }
+
+pub returns-then-link-number : goal.returns-then-link-number
+returns-then-link-number c =
+    let links = c.args.links.now in
+    let place = c.loop-place.place in
+    let x : Link = get_or links (place - 1) nothing in
+    let at : IsAt links place x = record { some = omega arith; within = omega arith; is = get_or_default links (place - 1) nothing x (omega arith) } in
+    sym (c.loop-place.invariant.same ∙ walk-here c.requires.number c.loop-place.invariant.walks at c.if-link-number.true)

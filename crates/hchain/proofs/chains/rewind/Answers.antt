@@ -1,9 +1,9 @@
-use Rattle.std.proofs.Common.{◌≡◌, ◌+◌, ◌<◌, ◌%◌, length, get_or, set, ap, sym, ◌∙◌, refl, arith}
+use Rattle.std.proofs.Common.{◌≡◌, ℕ, ◌+◌, ◌<◌, ◌%◌, length, get_or, set, ap, sym, ◌∙◌, subst, refl, arith}
 use Rattle.std.proofs.lemmas.List.{get_or_default, get_or-set_same, length-set, take-set-le}
 use Rattle.std.proofs.Math.Seq.{map-set_same}
 use Rattle.hchain.specs.Linked.{number_of}
 use Rattle.hchain.specs.declared.chains.Link.{Link}
-use Rattle.hchain.proofs.Chained.{chained-to, chained-front, chained_to-same, says-le, more-none, more-some}
+use Rattle.hchain.proofs.Chained.{ChainedTo, is_chained-all, chained-to, chained-front, chained_to-same, says-le, more-none, more-some}
 use Rattle.hchain.proofs.chains.rewind.Goals as goal
 use Rattle.hchain.proofs.chains.rewind.Goals.{then-number-ne-NONE, else-number-ne-NONE}
 
@@ -55,3 +55,10 @@ loop-index-preserved c =
             same = c.loop-index.invariant.same;
           })
     ]
+
+pub returns-clause-chained : goal.returns-clause-chained
+returns-clause-chained c =
+    let links = c.loop-index.links in
+    let last = c.loop-index.last in
+    let end : c.loop-index.index ≡ length links = omega arith in
+    is_chained-all last links (λ some. omega (arith, c.requires.wide (omega arith))) (subst (λ (m : ℕ). ChainedTo last links m) end c.loop-index.invariant.chained)

@@ -3,7 +3,7 @@ use Rattle.std.proofs.lemmas.List.{length-set, map-set}
 use Rattle.hchain.specs.Chains.{none, last_up}
 use Rattle.hchain.specs.Linked.{is_in, number_of, numbers_of, IsChained}
 use Rattle.hchain.specs.declared.chains.Link.{Link}
-use Rattle.hchain.proofs.Relinked.{IsNext, is-next, Rewritten, rewritten, next-found, next-least, length-numbers}
+use Rattle.hchain.proofs.Relinked.{IsNext, is-next, Rewritten, rewritten, next-found, next-least, length-numbers, number-at}
 use Rattle.hchain.proofs.Edited.{Out, out-differ, out-group, out-before, out-within, out-next}
 use Rattle.hchain.proofs.relink.take_out.Goals as goal
 
@@ -78,3 +78,6 @@ returns-clause-least c =
     let len : length c.args.links.now ≡ length (numbers_of c.hint_at.new.links) = sym (ap length ys ∙ length-set (numbers_of c.args.links.now) c.args.index none ∙ length-numbers c.args.links.now) in
     let m : IsNext s (set (numbers_of c.args.links.now) c.args.index none) c.args.index c.above-hint.result = out-next c.args.last.now c.args.links.now c.args.index c.above-hint.result o in
     next-least s (numbers_of c.hint_at.new.links) c.args.index c.above-hint.result (length c.args.links.now) len (subst (λ (zs : List ℕ). IsNext s zs c.args.index c.above-hint.result) (sym ys) m)
+
+pub returns-clause-number : goal.returns-clause-number
+returns-clause-number c = sym (number-at c.args.links.now c.args.index)

@@ -47,3 +47,17 @@ returns c =
     ∙ (λ t. sym (take-map number_of from links) t ++ (map-filter number_of (λ n. not (n == none)) (drop from links) ∙ ap (filter (λ n. not (n == none))) (sym (drop-map number_of from links))) t) in
     ap numbers_of (with_items_is c.truncate.new.self c.rewind.new.links (omega arith)) ∙ c.rewind.ensures.same ∙ ap numbers_of (c.deref_mut-4.ensures.value ∙ items) ∙ numbers
     ∙ ap (λ ns. take from ns ++ filter (λ n. not (n == none)) (drop from ns)) c.self.view_is
+
+pub slice_bounds-squeeze-count : goal.slice_bounds-squeeze-count
+slice_bounds-squeeze-count c =
+    omega (arith, c.requires, ap length c.deref_mut-2.ensures.value, ap length c.self.view_is, length-map c.self.inside.links.items number_of)
+
+pub slice_bounds-squeeze-start : goal.slice_bounds-squeeze-start
+slice_bounds-squeeze-start c =
+    let within : c.args.from ≤ length c.deref_mut-2.result.now =
+    omega (arith, c.requires, ap length c.deref_mut-2.ensures.value, ap length c.self.view_is, length-map c.self.inside.links.items number_of) in
+    within
+
+pub offset_bounds-deref_mut-from : goal.offset_bounds-deref_mut-from
+offset_bounds-deref_mut-from c =
+    omega (arith, c.requires, c.self.invariant.fits, ap length c.self.view_is, length-map c.self.inside.links.items number_of)

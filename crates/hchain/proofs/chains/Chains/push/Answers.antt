@@ -3,7 +3,7 @@ use Rattle.std.proofs.lemmas.List.{with_items_is, length_push, get_or_default, m
 use Rattle.hchain.specs.Linked.{number_of, numbers_of, IsChained, AreChains}
 use Rattle.hchain.specs.declared.chains.Link.{Link}
 use Rattle.hchain.proofs.Chained.{chained-push, chained-same}
-use Rattle.hchain.proofs.Lent.{lent}
+use Rattle.hchain.proofs.Lent.{lent, on_err}
 use Rattle.hchain.proofs.Walked.{last-le}
 use Rattle.hchain.proofs.chains.Chains.push.Goals as goal
 
@@ -70,3 +70,22 @@ returns c =
           ∙ ap (λ ns. ns ++ c.args.number ∷ []) old;
       err = tt;
     }
+
+pub returns-in_err-make_room-clause-err : goal.returns-in_err-make_room-clause-err
+returns-in_err-make_room-clause-err c =
+    let same = with_items_is c.self.inside.links c.make_room.new.links (omega arith) in
+    on_err c.from_residual.result (ap numbers_of same ∙ c.in_err-make_room.ensures.same ∙ ap numbers_of c.deref_mut.ensures.value ∙ c.self.view_is)
+
+-- where there is none for the link
+pub invariant_of-self-in_err-push : goal.invariant_of-self-in_err-push
+invariant_of-self-in_err-push c =
+    let same = c.in_err-push.ensures.items ∙ with_items_is c.self.inside.links c.make_room.new.links (omega arith) in
+    lent c.make_room.new.last.items _ c.make_room.new.links _ refl same (record {
+      chained = c.in_ok-make_room.ensures.chained;
+      fits = omega (arith, c.self.invariant.fits);
+    })
+
+pub returns-in_err-push-clause-err : goal.returns-in_err-push-clause-err
+returns-in_err-push-clause-err c =
+    let same = c.in_err-push.ensures.items ∙ with_items_is c.self.inside.links c.make_room.new.links (omega arith) in
+    on_err c.from_residual-in_err-push.result (ap numbers_of same ∙ c.in_ok-make_room.ensures.same ∙ ap numbers_of c.deref_mut.ensures.value ∙ c.self.view_is)

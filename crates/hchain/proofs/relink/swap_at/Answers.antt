@@ -1,0 +1,53 @@
+use Rattle.std.proofs.Common.{◌≡◌, ◌≢◌, ℕ, ◌+◌, List, get_or, set, sym, ◌∙◌, ap}
+use Rattle.std.proofs.lemmas.List.{set-get_or}
+use Rattle.hchain.specs.Chains.{none}
+use Rattle.hchain.specs.Linked.{numbers_of}
+use Rattle.hchain.specs.declared.chains.Link.{Link}
+use Rattle.hchain.proofs.Relinked.{nth, number-at}
+use Rattle.hchain.proofs.relink.swap_at.Goals as goal
+
+-- whether a number that was read is none
+is-none : (links : List Link) (i : ℕ) → (nth links i).number ≡ none → get_or (numbers_of links) i 0 ≡ none
+is-none links i e = number-at links i ∙ e
+
+is-some : (links : List Link) (i : ℕ) → (nth links i).number ≢ none → get_or (numbers_of links) i 0 ≢ none
+is-some links i ne e = ne (sym (number-at links i) ∙ e)
+
+pub returns-then-first-second-clause-numbers : goal.returns-then-first-second-clause-numbers
+returns-then-first-second-clause-numbers c =
+    let links : List Link = c.args.links.now in
+    let old : List ℕ = numbers_of links in
+    let i : ℕ = c.args.index in
+    let same : get_or old i 0 ≡ get_or old (i + 1) 0 = number-at links i ∙ c.if-first-second.true ∙ sym (number-at links (i + 1)) in
+    sym (ap (λ n. set (set old i n) (i + 1) (get_or old i 0)) (sym same) ∙ ap (λ ns. set ns (i + 1) (get_or old i 0)) (set-get_or old i 0)
+    ∙ ap (λ n. set old (i + 1) n) same ∙ set-get_or old (i + 1) 0)
+
+pub move_down-requires-clause-free : goal.move_down-requires-clause-free
+move_down-requires-clause-free c = is-none c.args.links.now c.args.index c.if-first.true
+
+pub move_down-requires-clause-number : goal.move_down-requires-clause-number
+move_down-requires-clause-number c = is-some c.args.links.now (c.args.index + 1) (λ e. c.if-first-second.false (c.if-first.true ∙ sym e))
+
+pub move_up-requires-clause-free : goal.move_up-requires-clause-free
+move_up-requires-clause-free c = is-none c.args.links.now (c.args.index + 1) c.if-second.true
+
+pub move_up-requires-clause-number : goal.move_up-requires-clause-number
+move_up-requires-clause-number c = is-some c.args.links.now c.args.index c.if-first.false
+
+pub exchange-requires-clause-first : goal.exchange-requires-clause-first
+exchange-requires-clause-first c = is-some c.args.links.now c.args.index c.if-first.false
+
+pub exchange-requires-clause-second : goal.exchange-requires-clause-second
+exchange-requires-clause-second c = is-some c.args.links.now (c.args.index + 1) c.if-second.false
+
+pub returns-then-first-clause-numbers : goal.returns-then-first-clause-numbers
+returns-then-first-clause-numbers c =
+    let old : List ℕ = numbers_of c.args.links.now in
+    let i : ℕ = c.args.index in
+    c.move_down.ensures.numbers ∙ ap (λ n. set (set old i (get_or old (i + 1) 0)) (i + 1) n) (sym (is-none c.args.links.now i c.if-first.true))
+
+pub returns-then-second-clause-numbers : goal.returns-then-second-clause-numbers
+returns-then-second-clause-numbers c =
+    let old : List ℕ = numbers_of c.args.links.now in
+    let i : ℕ = c.args.index in
+    c.move_up.ensures.numbers ∙ ap (λ n. set (set old i n) (i + 1) (get_or old i 0)) (sym (is-none c.args.links.now (i + 1) c.if-second.true))
