@@ -1,4 +1,4 @@
-use Rattle.std.proofs.Common.{ℕ, List, length, sym, ap, subst, arith}
+use Rattle.std.proofs.Common.{ℕ, ◌+◌, ◌*◌, ◌<◌, List, length, sym, ◌∙◌, ap, subst, arith}
 use Rattle.std.proofs.lemmas.Bool.{le-ltb}
 use Rattle.std.proofs.lemmas.List.{with_items_is}
 use Rattle.hchain.specs.Linked.{IsChained}
@@ -6,12 +6,19 @@ use Rattle.hchain.proofs.chains.make_room.Goals as goal
 
 pub returns-clause-chained : goal.returns-clause-chained
 returns-clause-chained c =
-    subst (λ (ys : List ℕ). IsChained ys c.rewind.new.links) (sym (with_items_is c.resize.new.self c.rewind.new.last (omega arith))) c.rewind.ensures.chained
+    subst (λ (ys : List ℕ). IsChained ys c.rewind.new.links) (sym (with_items_is c.resize.new.self c.rewind.new.last (c.rewind.auto.last ∙ c.deref_mut.ensures.len)))
+    c.rewind.ensures.chained
+
+some : (k : ℕ) → 0 < 2 * k + 61
+some k = omega arith
 
 pub returns-clause-room : goal.returns-clause-room
-returns-clause-room c = omega (arith, ap length (with_items_is c.resize.new.self c.rewind.new.last (omega arith)), c.in_ok-resize.ensures.len)
+returns-clause-room c =
+    let long = c.rewind.auto.last ∙ c.deref_mut.ensures.len in
+    subst (λ (n : ℕ). 0 < n) (sym (ap length (with_items_is c.resize.new.self c.rewind.new.last long) ∙ long ∙ c.in_ok-resize.ensures.len)) (some c.len-2.result)
 
 pub returns-clause-width : goal.returns-clause-width
 returns-clause-width c =
+    let long = c.rewind.auto.last ∙ c.deref_mut.ensures.len in
     rw (le-ltb (length c.args.links.now) (length c.args.last.now.items) (omega arith))
-    (omega (arith, ap length (with_items_is c.resize.new.self c.rewind.new.last (omega arith)), c.in_ok-resize.ensures.len))
+    (omega (arith, ap length (with_items_is c.resize.new.self c.rewind.new.last long), long, c.in_ok-resize.ensures.len))

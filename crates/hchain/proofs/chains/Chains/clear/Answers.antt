@@ -19,12 +19,12 @@ clear_at-requires c =
 
 pub invariant_of-self : goal.invariant_of-self
 invariant_of-self c =
-    let last = with_items_is c.self.inside.last c.clear_at.new.last (omega arith) in
-    let links = with_items_is c.self.inside.links c.clear_at.new.links (omega arith) in
+    let last = with_items_is c.self.inside.last c.clear_at.new.last (c.clear_at.auto.last ∙ c.deref_mut.ensures.len) in
+    let links = with_items_is c.self.inside.links c.clear_at.new.links (c.clear_at.auto.links ∙ c.deref_mut-2.ensures.len) in
     lent c.clear_at.new.last _ c.clear_at.new.links _ last links (record { chained = c.clear_at.ensures.chained; fits = omega (arith, c.self.invariant.fits) })
 
 pub returns : goal.returns
 returns c =
     let i = c.args.index in
-    ap numbers_of (with_items_is c.self.inside.links c.clear_at.new.links (omega arith)) ∙ c.clear_at.ensures.numbers
+    ap numbers_of (with_items_is c.self.inside.links c.clear_at.new.links (c.clear_at.auto.links ∙ c.deref_mut-2.ensures.len)) ∙ c.clear_at.ensures.numbers
     ∙ ap (λ ns. set ns i none) (ap numbers_of c.deref_mut-2.ensures.value ∙ c.self.view_is)

@@ -18,8 +18,8 @@ unwind-requires c =
 
 pub invariant_of-self : goal.invariant_of-self
 invariant_of-self c =
-    let last = with_items_is (with_items c.self.inside.last c.unwind.new.last) c.rewind.new.last (omega arith) in
-    let links = with_items_is c.truncate.new.self c.rewind.new.links (omega arith) in
+    let last = with_items_is (with_items c.self.inside.last c.unwind.new.last) c.rewind.new.last (c.rewind.auto.last ∙ c.deref_mut-3.ensures.len) in
+    let links = with_items_is c.truncate.new.self c.rewind.new.links (c.rewind.auto.links ∙ c.deref_mut-4.ensures.len) in
     lent c.rewind.new.last _ c.rewind.new.links _ last links (record {
       chained = c.rewind.ensures.chained;
       fits = omega (arith, c.self.invariant.fits);
@@ -45,7 +45,7 @@ returns c =
     let numbers : numbers_of (take from links ++ filter (λ x. not (x.number == none)) (drop from links)) ≡ take from (numbers_of links) ++ filter (λ n. not (n == none)) (drop from (numbers_of links)) =
     map-append number_of (take from links) (filter (λ x. not (x.number == none)) (drop from links))
     ∙ (λ t. sym (take-map number_of from links) t ++ (map-filter number_of (λ n. not (n == none)) (drop from links) ∙ ap (filter (λ n. not (n == none))) (sym (drop-map number_of from links))) t) in
-    ap numbers_of (with_items_is c.truncate.new.self c.rewind.new.links (omega arith)) ∙ c.rewind.ensures.same ∙ ap numbers_of (c.deref_mut-4.ensures.value ∙ items) ∙ numbers
+    ap numbers_of (with_items_is c.truncate.new.self c.rewind.new.links (c.rewind.auto.links ∙ c.deref_mut-4.ensures.len)) ∙ c.rewind.ensures.same ∙ ap numbers_of (c.deref_mut-4.ensures.value ∙ items) ∙ numbers
     ∙ ap (λ ns. take from ns ++ filter (λ n. not (n == none)) (drop from ns)) c.self.view_is
 
 pub slice_bounds-squeeze-count : goal.slice_bounds-squeeze-count

@@ -15,7 +15,7 @@ make_room-requires c =
 -- where there is no memory for a larger table
 pub invariant_of-self : goal.invariant_of-self
 invariant_of-self c =
-    let same = with_items_is c.self.inside.links c.make_room.new.links (omega arith) in
+    let same = with_items_is c.self.inside.links c.make_room.new.links (c.make_room.auto.links ∙ c.deref_mut.ensures.len) in
     lent c.make_room.new.last.items _ c.make_room.new.links _ refl same (record {
       chained = c.in_err-make_room.ensures.chained;
       fits = omega (arith, c.self.invariant.fits);
@@ -28,7 +28,7 @@ hint_at-requires c =
     let x : Link = record { number = c.args.number; before = c.index-before.result.now; hint = 0 } in
     let chained : IsChained last links = c.in_ok-make_room.ensures.chained in
     let wide : 0 < length last = c.in_ok-make_room.ensures.room in
-    let pushed : c.push.new.self.items ≡ links ++ x ∷ [] = c.in_ok-push.ensures.items ∙ ap (λ ys. ys ++ x ∷ []) (with_items_is c.self.inside.links links (omega arith)) in
+    let pushed : c.push.new.self.items ≡ links ++ x ∷ [] = c.in_ok-push.ensures.items ∙ ap (λ ys. ys ++ x ∷ []) (with_items_is c.self.inside.links links (c.make_room.auto.links ∙ c.deref_mut.ensures.len)) in
     let is : x.before ≡ get_or last (c.args.number % length last) x.before = search rules in
     omega (arith, last-le chained c.args.number x.before c.requires wide is, ap length c.deref_mut-2.ensures.value, ap length pushed, length_push links x)
 
@@ -43,9 +43,9 @@ invariant_of-self-2 c =
     let len : c.len-2.result ≡ length last = search rules in
     let next = set last (c.args.number % length last) place in
     -- the list has the link, and then its hints change
-    let pushed : c.push.new.self.items ≡ links ++ x ∷ [] = c.in_ok-push.ensures.items ∙ ap (λ ys. ys ++ x ∷ []) (with_items_is c.self.inside.links links (omega arith)) in
+    let pushed : c.push.new.self.items ≡ links ++ x ∷ [] = c.in_ok-push.ensures.items ∙ ap (λ ys. ys ++ x ∷ []) (with_items_is c.self.inside.links links (c.make_room.auto.links ∙ c.deref_mut.ensures.len)) in
     let passed : c.deref_mut-2.result.now ≡ links ++ x ∷ [] = c.deref_mut-2.ensures.value ∙ pushed in
-    let whole = with_items_is c.push.new.self c.hint_at.new.links (omega arith) in
+    let whole = with_items_is c.push.new.self c.hint_at.new.links (c.hint_at.auto.links ∙ c.deref_mut-2.ensures.len) in
     -- what the table said is what the link keeps
     let is : x.before ≡ get_or last (c.args.number % length last) x.before = search rules in
     let before : x.before ≡ get_or last (c.args.number % length last) 0 = is ∙ get_or_default last (c.args.number % length last) x.before 0 (omega arith) in
@@ -62,8 +62,8 @@ pub returns : goal.returns
 returns c =
     let links : List Link = c.make_room.new.links in
     let x : Link = record { number = c.args.number; before = c.index-before.result.now; hint = 0 } in
-    let pushed : c.push.new.self.items ≡ links ++ x ∷ [] = c.in_ok-push.ensures.items ∙ ap (λ ys. ys ++ x ∷ []) (with_items_is c.self.inside.links links (omega arith)) in
-    let whole = with_items_is c.push.new.self c.hint_at.new.links (omega arith) in
+    let pushed : c.push.new.self.items ≡ links ++ x ∷ [] = c.in_ok-push.ensures.items ∙ ap (λ ys. ys ++ x ∷ []) (with_items_is c.self.inside.links links (c.make_room.auto.links ∙ c.deref_mut.ensures.len)) in
+    let whole = with_items_is c.push.new.self c.hint_at.new.links (c.hint_at.auto.links ∙ c.deref_mut-2.ensures.len) in
     let old = c.in_ok-make_room.ensures.same ∙ ap numbers_of c.deref_mut.ensures.value ∙ c.self.view_is in
     record {
       ok = ap numbers_of whole ∙ c.hint_at.ensures.numbers ∙ ap numbers_of (c.deref_mut-2.ensures.value ∙ pushed) ∙ map-append number_of links (x ∷ [])
@@ -73,13 +73,13 @@ returns c =
 
 pub returns-in_err-make_room-clause-err : goal.returns-in_err-make_room-clause-err
 returns-in_err-make_room-clause-err c =
-    let same = with_items_is c.self.inside.links c.make_room.new.links (omega arith) in
+    let same = with_items_is c.self.inside.links c.make_room.new.links (c.make_room.auto.links ∙ c.deref_mut.ensures.len) in
     on_err c.from_residual.result (ap numbers_of same ∙ c.in_err-make_room.ensures.same ∙ ap numbers_of c.deref_mut.ensures.value ∙ c.self.view_is)
 
 -- where there is none for the link
 pub invariant_of-self-in_err-push : goal.invariant_of-self-in_err-push
 invariant_of-self-in_err-push c =
-    let same = c.in_err-push.ensures.items ∙ with_items_is c.self.inside.links c.make_room.new.links (omega arith) in
+    let same = c.in_err-push.ensures.items ∙ with_items_is c.self.inside.links c.make_room.new.links (c.make_room.auto.links ∙ c.deref_mut.ensures.len) in
     lent c.make_room.new.last.items _ c.make_room.new.links _ refl same (record {
       chained = c.in_ok-make_room.ensures.chained;
       fits = omega (arith, c.self.invariant.fits);
@@ -87,5 +87,5 @@ invariant_of-self-in_err-push c =
 
 pub returns-in_err-push-clause-err : goal.returns-in_err-push-clause-err
 returns-in_err-push-clause-err c =
-    let same = c.in_err-push.ensures.items ∙ with_items_is c.self.inside.links c.make_room.new.links (omega arith) in
+    let same = c.in_err-push.ensures.items ∙ with_items_is c.self.inside.links c.make_room.new.links (c.make_room.auto.links ∙ c.deref_mut.ensures.len) in
     on_err c.from_residual-in_err-push.result (ap numbers_of same ∙ c.in_ok-make_room.ensures.same ∙ ap numbers_of c.deref_mut.ensures.value ∙ c.self.view_is)

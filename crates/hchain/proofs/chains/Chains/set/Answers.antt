@@ -20,12 +20,12 @@ set_at-requires c =
 
 pub invariant_of-self : goal.invariant_of-self
 invariant_of-self c =
-    let last = with_items_is c.self.inside.last c.set_at.new.last (omega arith) in
-    let links = with_items_is c.self.inside.links c.set_at.new.links (omega arith) in
+    let last = with_items_is c.self.inside.last c.set_at.new.last (c.set_at.auto.last ∙ c.deref_mut.ensures.len) in
+    let links = with_items_is c.self.inside.links c.set_at.new.links (c.set_at.auto.links ∙ c.deref_mut-2.ensures.len) in
     lent c.set_at.new.last _ c.set_at.new.links _ last links (record { chained = c.set_at.ensures.chained; fits = omega (arith, c.self.invariant.fits) })
 
 pub returns : goal.returns
 returns c =
     let i = c.args.index in
-    ap numbers_of (with_items_is c.self.inside.links c.set_at.new.links (omega arith)) ∙ c.set_at.ensures.numbers
+    ap numbers_of (with_items_is c.self.inside.links c.set_at.new.links (c.set_at.auto.links ∙ c.deref_mut-2.ensures.len)) ∙ c.set_at.ensures.numbers
     ∙ ap (λ ns. set ns i c.args.number) (ap numbers_of c.deref_mut-2.ensures.value ∙ c.self.view_is)

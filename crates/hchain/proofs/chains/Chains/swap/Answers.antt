@@ -18,12 +18,12 @@ swap_at-requires c =
 
 pub invariant_of-self : goal.invariant_of-self
 invariant_of-self c =
-    let last = with_items_is c.self.inside.last c.swap_at.new.last (omega arith) in
-    let links = with_items_is c.self.inside.links c.swap_at.new.links (omega arith) in
+    let last = with_items_is c.self.inside.last c.swap_at.new.last (c.swap_at.auto.last ∙ c.deref_mut.ensures.len) in
+    let links = with_items_is c.self.inside.links c.swap_at.new.links (c.swap_at.auto.links ∙ c.deref_mut-2.ensures.len) in
     lent c.swap_at.new.last _ c.swap_at.new.links _ last links (record { chained = c.swap_at.ensures.chained; fits = omega (arith, c.self.invariant.fits) })
 
 pub returns : goal.returns
 returns c =
     let i = c.args.index in
-    ap numbers_of (with_items_is c.self.inside.links c.swap_at.new.links (omega arith)) ∙ c.swap_at.ensures.numbers
+    ap numbers_of (with_items_is c.self.inside.links c.swap_at.new.links (c.swap_at.auto.links ∙ c.deref_mut-2.ensures.len)) ∙ c.swap_at.ensures.numbers
     ∙ ap (λ ns. set (set ns i (get_or ns (i + 1) 0)) (i + 1) (get_or ns i 0)) (ap numbers_of c.deref_mut-2.ensures.value ∙ c.self.view_is)

@@ -16,5 +16,5 @@ invariant_of-self c =
     let links = c.deref.result.now in
     let len = c.args.len in
     let left = c.truncate.ensures.items ∙ ap (take len) (sym c.deref.ensures.value) in
-    lent c.unwind.new.last _ (take len links) _ (with_items_is c.self.inside.last c.unwind.new.last (omega arith)) left
+    lent c.unwind.new.last _ (take len links) _ (with_items_is c.self.inside.last c.unwind.new.last (c.unwind.auto.last ∙ c.deref_mut.ensures.len)) left
     (record { chained = c.unwind.ensures; fits = omega (arith, c.self.invariant.fits, ap length c.deref.ensures.value, length-take len links) })
