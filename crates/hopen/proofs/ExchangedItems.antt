@@ -294,3 +294,10 @@ each-part P from to j above inside here below = first (cases_lt j from) (cases_l
     first (inr a) (inl b) c = inside a b
     first (inr a) (inr b) (inl c) = below c
     first (inr a) (inr b) (inr c) = here (omega arith)
+
+-- the ends of a window among the items
+pub to-in : {from to : ℕ} {new : OpenNode ℕ} (items : List KeptNode) → IsWindow from to new (map opened_by items) → to < length items
+to-in items w = omega (arith, length-map items opened_by, w.within)
+
+pub from-in : {from to : ℕ} {new : OpenNode ℕ} (items : List KeptNode) → IsWindow from to new (map opened_by items) → from < length items
+from-in items w = omega (arith, to-in items w, w.order)

@@ -5,6 +5,9 @@ use Rattle.std.specs.List.{remove_range}
 use Rattle.hopen.specs.Places.{last_place}
 use Rattle.hopen.specs.NameSets.{is_in, is_in_set, set_place}
 use Rattle.hopen.specs.Kept.{opened_by, stack_of, IsKept, AreKept, Stands, AreIn}
+use Rattle.hopen.specs.Stack.{OpenNodes}
+use Rattle.hopen.specs.StackView.{open_nodes_of}
+use Rattle.hopen.specs.declared.stack.OpenStack.TheInside.{Inside}
 use Rattle.hopen.specs.declared.kept.KeptNode.{KeptNode}
 use Rattle.hopen.specs.declared.kept.LastPlaces.{LastPlaces}
 use Rattle.hopen.specs.declared.name_sets.NameSet.{NameSet}
@@ -19,6 +22,10 @@ stack-more items x = reverse_push opened_by items x
 
 pub length-stack_of : (items : List KeptNode) → length (stack_of items) ≡ length items
 length-stack_of items = length-reverse (map opened_by items) ∙ length-map items opened_by
+
+-- as many items as nodes are seen
+pub many : (s : Inside) (n : OpenNodes ℕ) → open_nodes_of s ≡ n → length s.items.items ≡ length n.stack
+many s n e = sym (length-stack_of s.items.items) ∙ ap (λ (m : OpenNodes ℕ). length m.stack) e
 
 module _ (items : List KeptNode) (x : KeptNode) where
   -- the last item, and those before it

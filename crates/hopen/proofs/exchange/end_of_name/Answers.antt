@@ -4,6 +4,7 @@ use Rattle.hopen.specs.Stack.{OpenNode}
 use Rattle.hopen.specs.Kept.{opened_by}
 use Rattle.hopen.specs.Exchanged.{place_in}
 use Rattle.hopen.proofs.Exchanged.{place-hit}
+use Rattle.std.proofs.lemmas.Grind.{common_steps}
 use Rattle.hopen.proofs.exchange.end_of_name.Goals as goal
 
 pub returns-then-found-clause-done : goal.returns-then-found-clause-done
@@ -19,3 +20,6 @@ returns-then-found-clause-done c =
 
 pub returns-then-of_name-index-clause-done : goal.returns-then-of_name-index-clause-done
 returns-then-of_name-index-clause-done c = search rules
+
+pub returns-clause-done : goal.returns-clause-done
+returns-clause-done c = grind (arith, common_steps)

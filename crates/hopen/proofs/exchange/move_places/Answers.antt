@@ -4,7 +4,7 @@ use Rattle.hopen.specs.Stack.{OpenNode}
 use Rattle.hopen.specs.Opens.{open_of}
 use Rattle.hopen.specs.Kept.{opened_by}
 use Rattle.hopen.specs.Exchanged.{IsMended, place_in}
-use Rattle.hopen.proofs.ExchangedItems.{kept-at, item-kept, opened-at}
+use Rattle.hopen.proofs.ExchangedItems.{kept-at, item-kept, opened-at, to-in, from-in}
 use Rattle.hopen.proofs.ExchangedTables.{names-moved, nodes-moved}
 use Rattle.hopen.proofs.exchange.move_places.Goals as goal
 
@@ -30,3 +30,15 @@ returns-clause-nodes c =
     (kept.same_node ∙ ap (λ n. place_in (λ y. y.node == n) ys c.args.window.from) (sym c.index-2.ensures))
     c.lower_places.ensures.nodes_in (omega (arith, c.lower_places.ensures.nodes_in, c.requires.node_in)) next
     (c.put-3.ensures ∙ (λ i. set (c.put-2.ensures i) (c.index-3.ensures i) (c.args.window.to + 1)))
+
+pub lower_places-requires-clause-within : goal.lower_places-requires-clause-within
+lower_places-requires-clause-within c = to-in c.args.items.now c.requires.window
+
+pub bounds-items-window : goal.bounds-items-window
+bounds-items-window c = from-in c.args.items.now c.requires.window
+
+pub overflow_add-end : goal.overflow_add-end
+overflow_add-end c = omega (arith, to-in c.args.items.now c.requires.window, c.requires.places)
+
+pub mended-of_name-requires : goal.mended-of_name-requires
+mended-of_name-requires c = omega (arith, to-in c.args.items.now c.requires.window, c.requires.places)

@@ -1,6 +1,6 @@
 use Rattle.std.proofs.Common.{◌≡◌, ℕ, suc, ◌+◌, ◌==◌, cond, ⊎_elim, inl, inr, length, get_or, map, reverse, set, take, sym, refl, ◌∙◌, ap, subst, arith, le_refl}
 use Rattle.std.proofs.lemmas.Bool.{cases_lt}
-use Rattle.std.proofs.lemmas.List.{length-map, get_or-map, get_or-set_same, get_or-set_other, length-set, ext_get_or}
+use Rattle.std.proofs.lemmas.List.{length-map, get_or-map, get_or-set_same, get_or-set_other, length-set, ext_get_or, length-take-le}
 use Rattle.hopen.specs.Opens.{open_of}
 use Rattle.hopen.specs.Stack.{OpenNode}
 use Rattle.hopen.specs.NameSets.{is_in, set_place}
@@ -8,7 +8,7 @@ use Rattle.hopen.specs.Kept.{opened_by, IsKept}
 use Rattle.hopen.specs.Exchanged.{IsDropped, AreKeptIn, opened_after, place_in}
 use Rattle.hopen.specs.declared.kept.KeptNode.{KeptNode}
 use Rattle.hopen.proofs.Exchanged.{place-step, place-above, exchanged-length, exchanged-above, exchanged-inside, exchanged-new, exchanged-below}
-use Rattle.hopen.proofs.ExchangedItems.{kept-build, kept-from, item-kept, opened-at, stack-place, above-kept, dropped-kept, new-kept, each-part}
+use Rattle.hopen.proofs.ExchangedItems.{kept-build, kept-from, item-kept, opened-at, stack-place, above-kept, dropped-kept, new-kept, each-part, to-in, from-in}
 use Rattle.hopen.proofs.exchange.move_up.Goals as goal
 
 pub nearest_of_sets-above-requires : goal.nearest_of_sets-above-requires
@@ -144,3 +144,21 @@ returns-clause-kept c =
     (λ a b. subst (λ (y : KeptNode). IsKept y (reverse (take j zs))) (sym (get_or-set_other items to j z d (omega arith))) (c.loop-index.invariant.kept j d a (omega arith)))
     (λ a. subst (λ n. IsKept (get_or (set items to z) n d) (reverse (take n zs))) (sym a) (subst (λ (y : KeptNode). IsKept y (reverse (take to zs))) (sym (get_or-set_same items to z d (omega arith))) newest))
     (λ a. subst (λ (y : KeptNode). IsKept y (reverse (take j zs))) (sym (get_or-set_other items to j z d (omega arith) ∙ c.loop-index.invariant.same j d (inr (omega arith)))) (c.requires.below j d (omega arith) (omega arith)))))
+
+pub slice_bounds-nearest_of_sets-end : goal.slice_bounds-nearest_of_sets-end
+slice_bounds-nearest_of_sets-end c = omega (arith, from-in c.args.items.now c.requires.window)
+
+pub slice_bounds-nearest_of_sets-end-2 : goal.slice_bounds-nearest_of_sets-end-2
+slice_bounds-nearest_of_sets-end-2 c = sym (length-take-le c.args.window.from c.args.items.now (omega (arith, from-in c.args.items.now c.requires.window)))
+
+pub bounds-items-window : goal.bounds-items-window
+bounds-items-window c = from-in c.args.items.now c.requires.window
+
+pub bounds-items-index : goal.bounds-items-index
+bounds-items-index c = omega (arith, c.loop-index.invariant.long, to-in c.args.items.now c.requires.window)
+
+pub bounds-items-index-in-loop-index : goal.bounds-items-index-in-loop-index
+bounds-items-index-in-loop-index c = omega (arith, c.loop-index.invariant.long, to-in c.args.items.now c.requires.window)
+
+pub bounds-items-window-2 : goal.bounds-items-window-2
+bounds-items-window-2 c = omega (arith, c.loop-index.invariant.long, to-in c.args.items.now c.requires.window)

@@ -1,10 +1,10 @@
-use Rattle.std.proofs.Common.{◌≡◌, ℕ, suc, ◌+◌, cond, map, ◌∙◌, subst₂, arith}
-use Rattle.std.proofs.lemmas.List.{length-map}
+use Rattle.std.proofs.Common.{◌≡◌, ℕ, suc, ◌+◌, cond, map, ◌∙◌, subst₂, arith, sym}
+use Rattle.std.proofs.lemmas.List.{length-map, length-take-le}
 use Rattle.hopen.specs.Kept.{opened_by}
 use Rattle.hopen.specs.Opens.{open_of}
 use Rattle.hopen.specs.NameSets.{is_in, is_in_set, set_place}
 use Rattle.hopen.specs.Exchanged.{IsDropped}
-use Rattle.hopen.proofs.ExchangedItems.{kept-build, sets-new, stack-place, item-sets}
+use Rattle.hopen.proofs.ExchangedItems.{kept-build, sets-new, stack-place, item-sets, to-in, from-in}
 use Rattle.hopen.proofs.exchange.sets_of_new.Goals as goal
 
 pub nearest_of_sets-above-requires : goal.nearest_of_sets-above-requires
@@ -26,3 +26,12 @@ returns c =
   where
     next : (n : ℕ) → n + 1 ≡ suc n
     next n = omega arith
+
+pub slice_bounds-nearest_of_sets-end : goal.slice_bounds-nearest_of_sets-end
+slice_bounds-nearest_of_sets-end c = sym (length-take-le c.args.window.from c.args.items.now (omega (arith, from-in c.args.items.now c.requires.window)))
+
+pub bounds-items-window : goal.bounds-items-window
+bounds-items-window c = to-in c.args.items.now c.requires.window
+
+pub overflow_add-window : goal.overflow_add-window
+overflow_add-window c = omega (arith, to-in c.args.items.now c.requires.window, c.requires.places)

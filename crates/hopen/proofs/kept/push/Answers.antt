@@ -1,4 +1,4 @@
-use Rattle.std.proofs.Common.{◌≡◌, ℕ, suc, ◌+◌, List, ◌<◌, length, get_or, set, cond, subst, sym, ap, ◌∙◌, arith}
+use Rattle.std.proofs.Common.{◌≡◌, ℕ, suc, ◌+◌, List, ◌<◌, length, get_or, set, cond, subst, sym, ap, ◌∙◌, arith, ◌∷◌}
 use Rattle.hopen.specs.Kept.{Stands, stack_of}
 use Rattle.hopen.specs.Places.{last_place}
 use Rattle.hopen.specs.NameSets.{is_in, is_in_set, set_place}
@@ -6,7 +6,8 @@ use Rattle.hopen.specs.declared.kept.KeptNode.{KeptNode}
 use Rattle.hopen.specs.declared.name_sets.NameSet.{NameSet}
 use Rattle.hopen.specs.declared.stack.Open.{Open}
 use Rattle.names.specs.Tags.{tag_of}
-use Rattle.hopen.proofs.Standing.{stands-same, stands-more, sets-more}
+use Rattle.hopen.proofs.Standing.{stands-same, stands-more, sets-more, stack-more}
+use Rattle.hopen.specs.Opens.{open_of}
 use Rattle.hopen.proofs.kept.push.Goals as goal
 
 pub returns-clause-stands : goal.returns-clause-stands
@@ -29,3 +30,8 @@ returns-clause-stands c =
     sets c.put.new.self
     (c.put.ensures.names ∙ ap (λ (z : Open). set last.names.items z.name at) (sym opened))
     (c.put.ensures.nodes ∙ ap (λ (z : Open). set last.nodes.items z.node at) (sym opened)))
+
+pub returns-clause-ok : goal.returns-clause-ok
+returns-clause-ok c =
+    ap stack_of c.in_ok-push.ensures.items ∙ stack-more c.args.items.now.items c.item-item.result
+    ∙ ap (λ (z : Open). open_of z ∷ stack_of c.args.items.now.items) c.item-item.ensures.opened

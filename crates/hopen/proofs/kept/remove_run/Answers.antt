@@ -25,3 +25,12 @@ returns-clause-stands c =
 
 pub rewind-requires-clause-stands : goal.rewind-requires-clause-stands
 rewind-requires-clause-stands c = grind (arith, common_steps)
+
+pub returns-then-from-to-clause-items : goal.returns-then-from-to-clause-items
+returns-then-from-to-clause-items c = grind (arith, common_steps)
+
+pub rewind-requires-clause-within : goal.rewind-requires-clause-within
+rewind-requires-clause-within c = grind (arith, common_steps)
+
+pub rewind-requires-clause-places : goal.rewind-requires-clause-places
+rewind-requires-clause-places c = grind (arith, common_steps)

@@ -1,5 +1,5 @@
 use Rattle.std.proofs.Common.{◌≡◌, suc, ◌+◌, ◌<◌, List, [], ◌∷◌, ◌++◌, length, take, drop, set, get_or, cond, ap, sym, ◌∙◌, subst, arith}
-use Rattle.std.proofs.lemmas.List.{length-set, length-take-le, take_more_set, drop-set-lt}
+use Rattle.std.proofs.lemmas.List.{length-set, length-take-le, take_more_set, drop-set-lt, take_all}
 use Rattle.std.proofs.Math.Seq.{map-set_same}
 use Rattle.hopen.specs.Kept.{Stands, opened_by, stack_of}
 use Rattle.hopen.specs.declared.kept.KeptNode.{KeptNode}
@@ -41,3 +41,18 @@ loop-index-preserved c =
       names = names ∙ c.loop-index.invariant.names;
       nodes = nodes ∙ c.loop-index.invariant.nodes;
     }
+
+pub put-requires-clause-name_in : goal.put-requires-clause-name_in
+put-requires-clause-name_in c =
+    let opened = c.item-item.ensures.opened ∙ ap (λ (z : KeptNode). z.opened) (sym c.index-items-index.is) in
+    subst (λ (z : Open). z.name < length c.loop-index.last.names.items) (sym opened)
+    (numbers-less c.loop-index.items (c.loop-index.index + 1) c.loop-index.index c.index-items-index.result (omega arith) (omega arith) c.index-items-index.is _ _ c.loop-index.invariant.numbers).0
+
+pub put-requires-clause-node_in : goal.put-requires-clause-node_in
+put-requires-clause-node_in c =
+    let opened = c.item-item.ensures.opened ∙ ap (λ (z : KeptNode). z.opened) (sym c.index-items-index.is) in
+    subst (λ (z : Open). z.node < length c.loop-index.last.nodes.items) (sym opened)
+    (numbers-less c.loop-index.items (c.loop-index.index + 1) c.loop-index.index c.index-items-index.result (omega arith) (omega arith) c.index-items-index.is _ _ c.loop-index.invariant.numbers).1
+
+pub returns-clause-stands : goal.returns-clause-stands
+returns-clause-stands c = subst (Stands c.loop-index.last) (take_all c.loop-index.index c.loop-index.items (omega arith)) c.loop-index.invariant.stands

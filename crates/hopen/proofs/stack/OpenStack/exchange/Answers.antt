@@ -1,12 +1,12 @@
-use Rattle.std.proofs.Common.{◌≡◌, ℕ, suc, ◌+◌, ◌-◌, ◌<◌, List, Some, None, length, map, reverse, refl, sym, ◌∙◌, ap, subst, arith, true≢false}
+use Rattle.std.proofs.Common.{◌≡◌, ℕ, suc, ◌+◌, ◌-◌, ◌<◌, List, Some, None, length, map, reverse, refl, sym, ◌∙◌, ap, subst, arith, true≢false, Option}
 use Rattle.std.proofs.lemmas.List.{with_items_is, length-map}
 use Rattle.std.specs.List.{position, remove_range}
-use Rattle.std.specs.Option.{is_some}
+use Rattle.std.specs.Option.{is_some, unwrap_or, IfSome}
 use Rattle.std.specs.Vec.{with_items}
 use Rattle.hopen.specs.Nearest.{without, put_before}
 use Rattle.hopen.specs.Opens.{open_of}
 use Rattle.hopen.specs.Stack.{OpenNodes, is_node, is_open}
-use Rattle.hopen.specs.Kept.{opened_by, stack_of}
+use Rattle.hopen.specs.Kept.{opened_by, stack_of, Stands}
 use Rattle.hopen.specs.Exchanged.{IsWindow}
 use Rattle.hopen.specs.StackView.{open_nodes_of}
 use Rattle.hopen.specs.declared.kept.KeptNode.{KeptNode}
@@ -79,3 +79,33 @@ exchange-requires-clause-name_in c = c.in_ok-make_room.ensures.name_in
 pub exchange-requires-clause-window : goal.exchange-requires-clause-window
 exchange-requires-clause-window c =
     subst (λ (xs : List KeptNode). IsWindow c.in-Some.from c.unwrap_or-to.result (open_of c.args.new) (map opened_by xs)) (c.deref.ensures.value ∙ sym c.deref_mut.ensures.value) (c.is_window.ensures c.if-is_window.true)
+
+-- an index that was found, or the first one
+to-less : (items : List KeptNode) (from : ℕ) (o : Option ℕ) (to : ℕ) → to ≡ unwrap_or o 0 → IfSome o (λ i. i < length (stack_of items)) → from < length (stack_of items) → to < length items
+to-less items from None to is h less = omega (arith, length-stack_of items)
+to-less items from (Some i) to is h less = omega (arith, length-stack_of items)
+
+pub overflow_cast-window : goal.overflow_cast-window
+overflow_cast-window c = omega (arith, c.in-Some.ensures.within, length-stack_of c.self.inside.items.items, c.self.invariant.within)
+
+pub overflow_cast-window-2 : goal.overflow_cast-window-2
+overflow_cast-window-2 c =
+    omega (arith, to-less c.self.inside.items.items c.in-Some.from c.index-2.result c.unwrap_or-to.result c.unwrap_or-to.ensures c.index-2.ensures.within c.in-Some.ensures.within, c.self.invariant.within)
+
+pub is_window-requires-clause-within : goal.is_window-requires-clause-within
+is_window-requires-clause-within c =
+    subst (λ (xs : List KeptNode). c.unwrap_or-to.result < length xs) (sym c.deref.ensures.value)
+    (to-less c.self.inside.items.items c.in-Some.from c.index-2.result c.unwrap_or-to.result c.unwrap_or-to.ensures c.index-2.ensures.within c.in-Some.ensures.within)
+
+pub exchange_any-requires-clause-within : goal.exchange_any-requires-clause-within
+exchange_any-requires-clause-within c =
+    let within : c.in-Some.from < length c.self.inside.items.items = omega (arith, c.in-Some.ensures.within, length-stack_of c.self.inside.items.items) in
+    within
+
+pub invariant_of-self-then-is_window : goal.invariant_of-self-then-is_window
+invariant_of-self-then-is_window c =
+    let whole = with_items_is c.self.inside.items c.exchange.new.items (c.exchange.auto.items ∙ c.deref_mut.ensures.len) in
+    record {
+      within = omega (arith, ap length whole, c.exchange.auto.items, ap length c.deref_mut.ensures.value, c.self.invariant.within);
+      stands = subst (Stands c.exchange.new.last) (sym whole) c.exchange.ensures.stands;
+    }

@@ -1,4 +1,4 @@
-use Rattle.std.proofs.Common.{◌<◌, ◌≤◌, ◌+◌, List, length, ◌∙◌, sym, ap, map, reverse, subst}
+use Rattle.std.proofs.Common.{◌<◌, ◌≤◌, ◌+◌, List, length, ◌∙◌, sym, ap, map, reverse, subst, arith}
 use Rattle.hopen.proofs.Opened.{seen, found, none_found, kept}
 use Rattle.hopen.proofs.WrittenBack.{stands_same}
 use Rattle.hopen.proofs.Nearest.{insert_nearest, no_words}
@@ -9,6 +9,7 @@ use Rattle.hopen.specs.Kept.{opened_by, stack_of}
 use Rattle.hopen.specs.declared.kept.KeptNode.{KeptNode}
 use Rattle.hopen.specs.declared.stack.Open.{Open}
 use Rattle.std.specs.List.{insert}
+use Rattle.std.proofs.lemmas.Grind.{common_steps}
 use Rattle.hopen.proofs.stack.OpenStack.insert_below.Goals as goal
 
 pub returns-in_ok-reserve-clause-ok : goal.returns-in_ok-reserve-clause-ok
@@ -39,3 +40,14 @@ invariant_of-self-in_err-reserve c = record {
   within = subst (λ (xs : List KeptNode). length xs ≤ c.self.inside.limit) (sym c.in_err-reserve.ensures.items) c.self.invariant.within;
   stands = stands_same c.self.inside.last _ c.self.inside.items.items _ c.in_ok-make_room.ensures.same_names c.in_ok-make_room.ensures.same_nodes c.in_err-reserve.ensures.items c.self.invariant.stands;
 }
+
+pub insert-requires-clause-within : goal.insert-requires-clause-within
+insert-requires-clause-within c =
+    let f = found c.self.inside c.args.self.now (is_node c.args.node) c.in-Some.index c.self.view_is c.in-Some.ensures.found c.in-Some.ensures.within in
+    omega (arith, f.sum, ap length c.in_ok-reserve.ensures.items)
+
+pub insert-requires-clause-places : goal.insert-requires-clause-places
+insert-requires-clause-places c = grind (arith, common_steps)
+
+pub invariant_of-self-in-Some : goal.invariant_of-self-in-Some
+invariant_of-self-in-Some c = grind (arith, common_steps)

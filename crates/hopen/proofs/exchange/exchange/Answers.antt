@@ -1,0 +1,32 @@
+use Rattle.std.proofs.Common.{◌≡◌, ℕ, suc, ◌==◌, List, length, reverse, sym, ◌∙◌, ap, subst}
+use Rattle.hopen.specs.Exchanged.{AreKeptIn, IsWindow, exchanged, opened_after}
+use Rattle.hopen.specs.Opens.{open_of}
+use Rattle.hopen.specs.Places.{last_place}
+use Rattle.hopen.specs.Stack.{OpenNode}
+use Rattle.hopen.proofs.exchange.exchange.Goals as goal
+
+pub move_up-requires-clause-window : goal.move_up-requires-clause-window
+move_up-requires-clause-window c =
+    subst (IsWindow c.args.window.from c.args.window.to (open_of c.args.new)) (sym c.mend_below.ensures.opened) c.requires.window
+
+pub move_up-requires-clause-above : goal.move_up-requires-clause-above
+move_up-requires-clause-above c = subst (AreKeptIn 0 (suc c.args.window.to) c.mend_below.new.items) (sym c.mend_below.ensures.opened) c.mend_below.ensures.above
+
+pub move_up-requires-clause-below : goal.move_up-requires-clause-below
+move_up-requires-clause-below c =
+    let items = c.mend_below.new.items in
+    let to = c.args.window.to in
+    subst (AreKeptIn (suc to) (length items) items) (ap (exchanged c.args.window.from to (open_of c.args.new)) (sym c.mend_below.ensures.opened))
+    (subst (λ (n : ℕ). AreKeptIn (suc to) n items (opened_after c.args.window c.args.new c.args.items.now)) (sym c.mend_below.auto.items) c.mend_below.ensures.below)
+
+pub returns-clause-opened : goal.returns-clause-opened
+returns-clause-opened c = c.move_up.ensures.opened ∙ ap (exchanged c.args.window.from c.args.window.to (open_of c.args.new)) c.mend_below.ensures.opened
+
+pub returns-clause-stands : goal.returns-clause-stands
+returns-clause-stands c =
+    let now = returns-clause-opened c in
+    record {
+      names = λ k. c.move_places.ensures.names k ∙ ap (λ (ys : List (OpenNode ℕ)). last_place (λ y. y.name == k) (reverse ys)) (sym now);
+      nodes = λ k. c.move_places.ensures.nodes k ∙ ap (λ (ys : List (OpenNode ℕ)). last_place (λ y. y.node == k) (reverse ys)) (sym now);
+      kept = c.move_up.ensures.kept;
+    }
