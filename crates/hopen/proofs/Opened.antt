@@ -1,5 +1,5 @@
 -- What is seen of the open nodes after an edit of their vector.
-use Rattle.std.proofs.Common.{◌≡◌, ℕ, suc, ◌+◌, ◌-◌, ◌<◌, ◌≤◌, Bool, List, Option, Some, None, length, drop, map, reverse, refl, sym, ◌∙◌, ap, subst, arith, MatchOption}
+use Rattle.std.proofs.Common.{◌≡◌, ℕ, suc, ◌+◌, ◌-◌, ◌<◌, ◌≤◌, Bool, List, Option, Some, None, length, drop, map, reverse, refl, sym, ◌∙◌, ap, subst, arith, MatchOption, Result, Ok, Err, true, false, cond, leb}
 use Rattle.std.specs.List.{position}
 use Rattle.std.proofs.lemmas.List.{length-drop, length-map, length-reverse}
 use Rattle.std.proofs.Math.Seq.{drop-length}
@@ -10,6 +10,7 @@ use Rattle.hopen.specs.Stack.{OpenNode, OpenNodes}
 use Rattle.hopen.specs.Kept.{opened_by}
 use Rattle.hopen.specs.StackView.{open_nodes_of}
 use Rattle.hopen.specs.declared.kept.KeptNode.{KeptNode}
+use Rattle.std.proofs.lemmas.Bool.{leb-false}
 use Rattle.hopen.specs.declared.stack.OpenStack.TheInside.{Inside}
 
 pub seen : (s : Inside) (n : OpenNodes ℕ) (word : List (OpenNode ℕ) → List (OpenNode ℕ)) (items : List KeptNode) → open_nodes_of s ≡ n → reverse (map opened_by items) ≡ word (reverse (map opened_by s.items.items))
@@ -56,3 +57,11 @@ depth_is sought ys o p h = let n : unwrap_or o 0 ≤ length ys = most o h in ome
     most : (o : Option ℕ) → IfSome o (λ i. i < length ys) → unwrap_or o 0 ≤ length ys
     most None h = omega arith
     most (Some i) h = omega arith
+
+-- what a check of the room says where it passes
+pub room-left : {E : Type 0} (e : E) (limit many : ℕ) → ◌≡◌ {A = Result (Unit {0}) E} (Ok tt) (cond (leb limit many) (Err e) (Ok tt)) → many < limit
+room-left {E} e limit many = go (leb limit many) refl
+  where
+    go : (v : Bool) → leb limit many ≡ v → ◌≡◌ {A = Result (Unit {0}) E} (Ok tt) (cond v (Err e) (Ok tt)) → many < limit
+    go true _ is = absurd (cc)
+    go false less _ = leb-false limit many less

@@ -1,15 +1,17 @@
-use Rattle.std.proofs.Common.{◌<◌, ◌≤◌, ◌+◌, List, length, ◌∙◌, sym, ap, map, reverse, subst, arith}
-use Rattle.hopen.proofs.Opened.{seen, found, none_found, kept}
+use Rattle.std.proofs.Common.{◌<◌, ◌≤◌, ◌+◌, List, length, ◌∙◌, sym, ap, map, reverse, subst, arith, ℕ, ◌≡◌}
+use Rattle.hopen.proofs.Opened.{seen, found, none_found, kept, room-left}
 use Rattle.hopen.proofs.WrittenBack.{stands_same}
 use Rattle.hopen.proofs.Nearest.{insert_nearest, no_words}
 use Rattle.hopen.specs.Nearest.{put_before}
-use Rattle.hopen.specs.Stack.{is_node}
+use Rattle.hopen.specs.Stack.{is_node, OpenNodes}
 use Rattle.hopen.specs.Opens.{open_of}
 use Rattle.hopen.specs.Kept.{opened_by, stack_of}
 use Rattle.hopen.specs.declared.kept.KeptNode.{KeptNode}
 use Rattle.hopen.specs.declared.stack.Open.{Open}
 use Rattle.std.specs.List.{insert}
-use Rattle.std.proofs.lemmas.Grind.{common_steps}
+use Rattle.hopen.proofs.Standing.{many}
+use Rattle.std.proofs.lemmas.List.{length-map}
+use Rattle.std.proofs.lemmas.List.Edits.{length-insert}
 use Rattle.hopen.proofs.stack.OpenStack.insert_below.Goals as goal
 
 pub returns-in_ok-reserve-clause-ok : goal.returns-in_ok-reserve-clause-ok
@@ -47,7 +49,30 @@ insert-requires-clause-within c =
     omega (arith, f.sum, ap length c.in_ok-reserve.ensures.items)
 
 pub insert-requires-clause-places : goal.insert-requires-clause-places
-insert-requires-clause-places c = grind (arith, common_steps)
+insert-requires-clause-places c =
+    omega (
+      arith,
+      room-left _ c.args.self.now.limit (length c.args.self.now.stack) c.in_ok-room.ensures,
+      many c.self.inside c.args.self.now c.self.view_is,
+      ap (λ (n : OpenNodes ℕ). n.limit) c.self.view_is,
+      ap length c.in_ok-reserve.ensures.items,
+    )
 
 pub invariant_of-self-in-Some : goal.invariant_of-self-in-Some
-invariant_of-self-in-Some c = grind (arith, common_steps)
+invariant_of-self-in-Some c =
+    let f = found c.self.inside c.args.self.now (is_node c.args.node) c.in-Some.index c.self.view_is c.in-Some.ensures.found c.in-Some.ensures.within in
+    let put = insert c.reserve.new.self.items (c.in-Some.index + 1) c.new.result in
+    let same : length c.reserve.new.self.items ≡ length c.self.inside.items.items = ap length c.in_ok-reserve.ensures.items in
+    let more : length c.insert.new.items.items ≡ length put = sym (length-map c.insert.new.items.items opened_by) ∙ ap length c.insert.ensures.items ∙ length-map put opened_by in
+    record {
+      within = omega (
+        arith,
+        more,
+        same,
+        length-insert c.reserve.new.self.items (c.in-Some.index + 1) c.new.result (omega (arith, f.sum, same)),
+        room-left _ c.args.self.now.limit (length c.args.self.now.stack) c.in_ok-room.ensures,
+        many c.self.inside c.args.self.now c.self.view_is,
+        ap (λ (n : OpenNodes ℕ). n.limit) c.self.view_is,
+      );
+      stands = c.insert.ensures.stands;
+    }
