@@ -9,6 +9,7 @@ use Rattle.hnodes.specs.declared.node.Node.{Node}
 use Rattle.hnodes.specs.declared.node.NodeData.{NodeData}
 use Rattle.hnodes.specs.declared.node.NodeData.TheVariants as content
 use Rattle.names.specs.declared.attr.Attr.{Attr}
+use Rattle.arrayvec.specs.ArrayString.{ArrayString}
 use Rattle.hnodes.proofs.Rows.{changed}
 
 -- a write that does not show
@@ -20,13 +21,14 @@ unchanged xs j k x y same h e r = let w : IsChanged k (λ m. m) xs (set xs j y) 
     go true (Some m) = refl
     go false o = refl
 
-pub not_text : (more : List ℕ) (w : NodeData) → ((a : String Global) → w ≡ content.Text a → ⊥) → content_is w ≡ with_text more (content_is w)
-not_text more content.Document h = refl
-not_text more (content.Doctype d) h = refl
-not_text more (content.Element a b) h = refl
-not_text more (content.Wide a b) h = refl
-not_text more (content.Comment a) h = refl
-not_text more (content.Text a) h = absurd (h a refl)
+pub not_text : (more : List ℕ) (w : NodeData) → ((a : String Global) → w ≡ content.Text a → ⊥) → ((a : ArrayString) → w ≡ content.Short a → ⊥) → content_is w ≡ with_text more (content_is w)
+not_text more content.Document h i = refl
+not_text more (content.Doctype d) h i = refl
+not_text more (content.Element a b) h i = refl
+not_text more (content.Wide a b) h i = refl
+not_text more (content.Comment a) h i = refl
+not_text more (content.Text a) h i = absurd (h a refl)
+not_text more (content.Short a) h i = absurd (i a refl)
 
 pub not_element : (a : Attribute ℕ) (w : NodeData) → ((n : ℕ) (b : Vec Attr Global) → w ≡ content.Element n b → ⊥) → ((n : ℕ) (b : Box (List (Attribute ℕ)) Global) → w ≡ content.Wide n b → ⊥) → content_is w ≡ with_attribute a (content_is w)
 not_element a content.Document h i = refl
@@ -35,3 +37,4 @@ not_element a (content.Element n b) h i = absurd (h n b refl)
 not_element a (content.Wide n b) h i = absurd (i n b refl)
 not_element a (content.Comment t) h i = refl
 not_element a (content.Text t) h i = refl
+not_element a (content.Short t) h i = refl

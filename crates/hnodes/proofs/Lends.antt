@@ -18,6 +18,7 @@ use Rattle.hnodes.specs.declared.node.NodeData.{NodeData}
 use Rattle.hnodes.specs.declared.node.NodeData.TheVariants as content
 use Rattle.hnodes.specs.declared.node.DocumentType.{DocumentType as DoctypeOf}
 use Rattle.names.specs.declared.attr.Attr.{Attr}
+use Rattle.arrayvec.specs.ArrayString.{ArrayString}
 use Rattle.hnodes.specs.declared.tree.Tree.TheInside.{Inside}
 
 -- the row of a node is that of its place
@@ -98,6 +99,7 @@ no_name (content.Element a b) h i = absurd (h a b refl)
 no_name (content.Wide a b) h i = absurd (i a b refl)
 no_name (content.Comment t) h i = refl
 no_name (content.Text t) h i = refl
+no_name (content.Short t) h i = refl
 
 pub no_attributes : (w : NodeData) → ((a : ℕ) (b : Vec Attr Global) → w ≡ content.Element a b → ⊥) → ((a : ℕ) (b : Box (List (Attribute ℕ)) Global) → w ≡ content.Wide a b → ⊥) → None ≡ attributes_in (content_is w)
 no_attributes content.Document h i = refl
@@ -106,22 +108,25 @@ no_attributes (content.Element a b) h i = absurd (h a b refl)
 no_attributes (content.Wide a b) h i = absurd (i a b refl)
 no_attributes (content.Comment t) h i = refl
 no_attributes (content.Text t) h i = refl
+no_attributes (content.Short t) h i = refl
 
-pub no_text : (w : NodeData) → ((a : String Global) → w ≡ content.Comment a → ⊥) → ((a : String Global) → w ≡ content.Text a → ⊥) → None ≡ text_in (content_is w)
-no_text content.Document h i = refl
-no_text (content.Doctype d) h i = refl
-no_text (content.Element a b) h i = refl
-no_text (content.Wide a b) h i = refl
-no_text (content.Comment a) h i = absurd (h a refl)
-no_text (content.Text a) h i = absurd (i a refl)
+pub no_text : (w : NodeData) → ((a : String Global) → w ≡ content.Comment a → ⊥) → ((a : String Global) → w ≡ content.Text a → ⊥) → ((a : ArrayString) → w ≡ content.Short a → ⊥) → None ≡ text_in (content_is w)
+no_text content.Document h i j = refl
+no_text (content.Doctype d) h i j = refl
+no_text (content.Element a b) h i j = refl
+no_text (content.Wide a b) h i j = refl
+no_text (content.Comment a) h i j = absurd (h a refl)
+no_text (content.Text a) h i j = absurd (i a refl)
+no_text (content.Short a) h i j = absurd (j a refl)
 
-pub no_characters : (w : NodeData) → ((a : String Global) → w ≡ content.Text a → ⊥) → [] ≡ own_text (content_is w)
-no_characters content.Document i = refl
-no_characters (content.Doctype d) i = refl
-no_characters (content.Element a b) i = refl
-no_characters (content.Wide a b) i = refl
-no_characters (content.Comment a) i = refl
-no_characters (content.Text a) i = absurd (i a refl)
+pub no_characters : (w : NodeData) → ((a : String Global) → w ≡ content.Text a → ⊥) → ((a : ArrayString) → w ≡ content.Short a → ⊥) → [] ≡ own_text (content_is w)
+no_characters content.Document i j = refl
+no_characters (content.Doctype d) i j = refl
+no_characters (content.Element a b) i j = refl
+no_characters (content.Wide a b) i j = refl
+no_characters (content.Comment a) i j = refl
+no_characters (content.Text a) i j = absurd (i a refl)
+no_characters (content.Short a) i j = absurd (j a refl)
 
 pub no_doctype : (w : NodeData) → ((a : Box DoctypeOf Global) → w ≡ content.Doctype a → ⊥) → None ≡ doctype_in (content_is w)
 no_doctype content.Document h = refl
@@ -130,3 +135,4 @@ no_doctype (content.Element a b) h = refl
 no_doctype (content.Wide a b) h = refl
 no_doctype (content.Comment a) h = refl
 no_doctype (content.Text a) h = refl
+no_doctype (content.Short a) h = refl

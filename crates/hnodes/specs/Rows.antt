@@ -21,6 +21,7 @@ content_is (content.Element name attrs) = element name (map attribute_of attrs.i
 content_is (content.Wide name attrs) = element name attrs.value
 content_is (content.Comment t) = comment (string_bytes t)
 content_is (content.Text t) = text (string_bytes t)
+content_is (content.Short t) = text t.bytes
 
 abbrev pub row_of : Node → Row ℕ
 row_of n = record { what = content_is n.content; parent = n.parent; first = n.first; last = n.last; previous = n.previous; next = n.next }

@@ -1,12 +1,13 @@
 //! Nodes and their numbers.
 
-ghost use Rattle.std.specs.Prelude.{◌≡◌, ◌<◌, Some, None, OnOk, OnErr, IfOk, IfErr, length, map};
+ghost use Rattle.std.specs.Prelude.{◌≡◌, ◌<◌, Some, None, OnOk, OnErr, IfOk, IfErr, ◌++◌, length, map, string_bytes};
 ghost use Rattle.hnodes.specs.Edits.{with_char, with_text, with_attribute};
-ghost use Rattle.hnodes.specs.Forest.{element};
+ghost use Rattle.hnodes.specs.Forest.{element, text};
 ghost use Rattle.hnodes.specs.Links.{alone, with_what};
 ghost use Rattle.hnodes.specs.Rows.{attribute_of, content_is, row_of, IsChanged, IsUnchanged};
 
 use crate::attributes::Indexed;
+use arrayvec::ArrayString;
 use names::{Attr, NameId, Refusal};
 use std::alloc::{AllocError, Global};
 use std::marker::Model;
@@ -66,6 +67,9 @@ pub struct DocumentType {
 /// An element that has more attributes than these is wide.
 const FEW: usize = 16;
 
+/// A text of at most these bytes is kept in its node.
+const SHORT: usize = 16;
+
 /// What a node is.
 #[derive(Drop)]
 pub(crate) enum NodeData {
@@ -76,6 +80,8 @@ pub(crate) enum NodeData {
     Wide(NameId, Box<Indexed>),
     Comment(String),
     Text(String),
+    /// A text of at most `SHORT` bytes.
+    Short(ArrayString<SHORT>),
 }
 
 /// A link to a node, or none, in four bytes.
@@ -159,29 +165,86 @@ impl Node {
 }
 
 /// Adds a character at the end of a text.
-pub(crate) fn push_char(nodes: &mut Vec<Node>, at: NodeId, c: char) -> Result<(), Refusal>
+pub(crate) fn push_char(
+    nodes: &mut Vec<Node>,
+    at: NodeId,
+    c: char,
+    alloc: Global,
+) -> Result<(), Refusal>
     requires { at < length nodes.old.items }
     ensures ok { OnOk result (IsChanged at (with_what (with_char c)) nodes.old.items nodes.new.items) }
     ensures err { OnErr result (IsUnchanged nodes.old.items nodes.new.items) }
     ensures memory { IfErr result (λ e. e ≡ Refusal.Memory) }
 {
-    if let NodeData::Text(text) = &mut nodes[at.number as usize].content {
-        text.push(c)?;
-    }
+    add_char(&mut nodes[at.number as usize].content, c, alloc)?;
     Ok(())
 }
 
 /// Adds a text at the end of a text.
-pub(crate) fn push_text(nodes: &mut Vec<Node>, at: NodeId, more: &str) -> Result<(), Refusal>
+pub(crate) fn push_text(
+    nodes: &mut Vec<Node>,
+    at: NodeId,
+    more: &str,
+    alloc: Global,
+) -> Result<(), Refusal>
     requires { at < length nodes.old.items }
     ensures ok { OnOk result (IsChanged at (with_what (with_text more.now)) nodes.old.items nodes.new.items) }
     ensures err { OnErr result (IsUnchanged nodes.old.items nodes.new.items) }
     ensures memory { IfErr result (λ e. e ≡ Refusal.Memory) }
 {
-    if let NodeData::Text(text) = &mut nodes[at.number as usize].content {
-        text.push_str(more)?;
+    add_text(&mut nodes[at.number as usize].content, more, alloc)?;
+    Ok(())
+}
+
+/// Adds a character at the end of a text.
+fn add_char(content: &mut NodeData, c: char, alloc: Global) -> Result<(), AllocError>
+    ensures ok { OnOk result (content_is content.new ≡ with_char c (content_is content.old)) }
+    ensures err { OnErr result (content_is content.new ≡ content_is content.old) }
+{
+    if let NodeData::Text(text) = content {
+        return text.push(c);
+    }
+    let mut buffer = [0; 4];
+    add_text(content, c.encode_utf8(&mut buffer), alloc)
+}
+
+/// Adds a text at the end of a text.
+#[inline(always)]
+fn add_text(content: &mut NodeData, more: &str, alloc: Global) -> Result<(), AllocError>
+    ensures ok { OnOk result (content_is content.new ≡ with_text more.now (content_is content.old)) }
+    ensures err { OnErr result (content_is content.new ≡ content_is content.old) }
+{
+    match content {
+        NodeData::Text(text) => text.push_str(more)?,
+        NodeData::Short(text) => *content = joined(*text, more, alloc)?,
+        _ => {}
     }
     Ok(())
+}
+
+/// A short text and what follows it. Where that makes it long, it gets room for as many bytes again as a short text has.
+fn joined(start: ArrayString<SHORT>, more: &str, alloc: Global) -> Result<NodeData, AllocError>
+    ensures { IfOk result (λ content. content_is content ≡ text (start.bytes ++ more.now)) }
+{
+    let mut short = start;
+    if short.try_push_str(more).is_ok() {
+        return Ok(NodeData::Short(short));
+    }
+    let mut long = String::with_capacity(alloc, more.len().saturating_add(SHORT).max(2 * SHORT))?;
+    long.push_str(&short)?;
+    long.push_str(more)?;
+    Ok(NodeData::Text(long))
+}
+
+/// A text.
+pub(crate) fn text(run: &str, alloc: Global) -> Result<NodeData, AllocError>
+    ensures { IfOk result (λ content. content_is content ≡ text run.now) }
+{
+    let content = match ArrayString::from(run) {
+        Ok(text) => NodeData::Short(text),
+        Err(_) => NodeData::Text(String::from_str(alloc, run)?),
+    };
+    Ok(content)
 }
 
 /// Adds an attribute at the end of an element's.

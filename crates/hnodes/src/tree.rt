@@ -157,10 +157,8 @@ impl Tree {
     fn create_text(&mut self, c: char, at: u64) -> Result<NodeId, Refusal>
         ensures { Makes (text (encode_utf8 c)) at self.old self.new result }
     {
-        self.room(at)?;
-        let mut text = String::new(self.alloc);
-        text.push(c)?;
-        self.add(NodeData::Text(text))
+        let mut buffer = [0; 4];
+        self.create_run(c.encode_utf8(&mut buffer), at)
     }
 
     /// Makes a text, loose.
@@ -168,8 +166,8 @@ impl Tree {
         ensures { Makes (text run.now) at self.old self.new result }
     {
         self.room(at)?;
-        let run = String::from_str(self.alloc, run)?;
-        self.add(NodeData::Text(run))
+        let content = node::text(run, self.alloc)?;
+        self.add(content)
     }
 
     /// Refuses where no further node may be made.
@@ -321,7 +319,7 @@ impl Tree {
         ensures memory { IfErr result (λ e. e ≡ Memory) }
         ensures err { OnErr result (self.new ≡ self.old) }
     {
-        push_text(&mut self.nodes, before, text)
+        push_text(&mut self.nodes, before, text, self.alloc)
     }
 
     /// Adds a character at the end of a text.
@@ -331,7 +329,7 @@ impl Tree {
         ensures memory { IfErr result (λ e. e ≡ Memory) }
         ensures err { OnErr result (self.new ≡ self.old) }
     {
-        push_char(&mut self.nodes, text, c)
+        push_char(&mut self.nodes, text, c, self.alloc)
     }
 
     /// The text right before a place.
@@ -487,6 +485,7 @@ impl Tree {
             NodeData::Wide(_, _) => NodeKind::Element,
             NodeData::Comment(_) => NodeKind::Comment,
             NodeData::Text(_) => NodeKind::Text,
+            NodeData::Short(_) => NodeKind::Text,
         }
     }
 
@@ -557,6 +556,7 @@ impl Tree {
     {
         match &self.nodes[at.number as usize].content {
             NodeData::Text(text) => Some(text),
+            NodeData::Short(text) => Some(text),
             NodeData::Comment(text) => Some(text),
             _ => None,
         }
@@ -569,6 +569,7 @@ impl Tree {
     {
         match &self.nodes[at.number as usize].content {
             NodeData::Text(text) => text,
+            NodeData::Short(text) => text,
             _ => "",
         }
     }

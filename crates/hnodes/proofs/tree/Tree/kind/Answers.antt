@@ -22,3 +22,6 @@ returns-in-Comment c = ap (λ w. Some (kind_in (content_is w))) (sym c.in-Commen
 
 pub returns-in-Text : goal.returns-in-Text
 returns-in-Text c = ap (λ w. Some (kind_in (content_is w))) (sym c.in-Text.is) ∙ ap (option_map kind_in) (lent_what c.self.inside c.args.self.now c.args.at c.at.inside.number c.index.result.now c.self.view_is c.self.invariant c.requires c.at.view_is c.index.ensures)
+
+pub returns-in-Short : goal.returns-in-Short
+returns-in-Short c = ap (λ w. Some (kind_in (content_is w))) (sym c.in-Short.is) ∙ ap (option_map kind_in) (lent_what c.self.inside c.args.self.now c.args.at c.at.inside.number c.index.result.now c.self.view_is c.self.invariant c.requires c.at.view_is c.index.ensures)
