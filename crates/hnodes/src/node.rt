@@ -216,9 +216,27 @@ fn add_text(content: &mut NodeData, more: &str, alloc: Global) -> Result<(), All
 {
     match content {
         NodeData::Text(text) => text.push_str(more)?,
-        NodeData::Short(text) => *content = joined(*text, more, alloc)?,
+        NodeData::Short(text) => {
+            let start = *text;
+            put_joined(content, start, more, alloc)?
+        }
         _ => {}
     }
+    Ok(())
+}
+
+/// Puts a short text and what follows it into a node. On an error the node stays as it was.
+#[inline(never)]
+fn put_joined(
+    content: &mut NodeData,
+    start: ArrayString<SHORT>,
+    more: &str,
+    alloc: Global,
+) -> Result<(), AllocError>
+    ensures ok { OnOk result (content_is content.new ≡ text (start.bytes ++ more.now)) }
+    ensures err { OnErr result (content_is content.new ≡ content_is content.old) }
+{
+    *content = joined(start, more, alloc)?;
     Ok(())
 }
 
