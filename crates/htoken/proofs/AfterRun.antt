@@ -1,5 +1,5 @@
 -- A run of characters in the run of alphanumerics after an `&`: it goes on with them, or they are text after it.
-use Rattle.std.proofs.Common.{◌≡◌, ℕ, ◌+◌, ◌-◌, ◌<◌, ◌≤◌, Bool, true, false, ◌&&◌, eqb, take, drop, List, [], ◌∷◌, ◌++◌, map, length, sym, refl, ap, ◌∙◌, subst, Result, Ok, Err, Option, arith, append_assoc, append-nil}
+use Rattle.std.proofs.Common.{◌≡◌, ℕ, ◌+◌, ◌-◌, ◌<◌, ◌≤◌, Bool, suc, true, false, cond, ◌&&◌, eqb, take, drop, List, [], ◌∷◌, ◌++◌, map, length, sym, refl, ap, ◌∙◌, subst, Result, Ok, Err, Option, arith, append_assoc, append-nil}
 use Rattle.std.proofs.lemmas.Bool.Decides.{nat_tests}
 use Rattle.std.specs.Prelude.{slice_index}
 use Rattle.std.specs.List.{list_all, prefix_len}
@@ -56,6 +56,14 @@ front_parts at known count run plain few within =
 pub none_known : (table : Entities) (start : RawKind) (t : Tokenizer) (names : Texts) (text : List Placed) (taken : List Event) (at known : ℕ) (run : List ℕ) → known ≡ 0
     → IsInRun table start t names text (placed at (take known run)) taken → HasTaken table start t names text taken
 none_known table start t names text taken at known run none h = in_run (subst (λ (n : ℕ). IsInRun table start t names text (placed at (take n run)) taken) none h)
+
+-- after a front of a run comes none of what it has
+pub after_prefix : (test : ℕ → Bool) (xs : List ℕ) → prefix_len test (drop (prefix_len test xs) xs) ≡ 0
+after_prefix test [] = refl
+after_prefix test (x ∷ xs) = by (test x) refl (after_prefix test xs) where
+  by : (b : Bool) → test x ≡ b → prefix_len test (drop (prefix_len test xs) xs) ≡ 0 → prefix_len test (drop (cond b (1 + prefix_len test xs) 0) (x ∷ xs)) ≡ 0
+  by true e more = let one : 1 + prefix_len test xs ≡ suc (prefix_len test xs) = omega arith in rw one more
+  by false e more = ap (λ (b : Bool). cond b (1 + prefix_len test xs) 0) e
 
 -- a letter or digit that is known to come next
 pub letter_first : (at : ℕ) (run : List ℕ) (p : Placed) → p ∷ [] ≡ placed at (take 1 run) → is_alphanumeric p.ch ≡ true → 1 ≤ prefix_len is_alphanumeric run

@@ -1,6 +1,6 @@
 //! Runs of plain characters, taken as wholes where a state allows it.
 
-ghost use Rattle.std.specs.Prelude.{◌≡◌, ◌≤◌, ◌<◌, ◌+◌, ◌∷◌, ℕ, List, true, Some, Err, IfErr, IfOk, length, take, drop};
+ghost use Rattle.std.specs.Prelude.{◌≡◌, ◌≤◌, ◌<◌, ◌+◌, ◌∷◌, ◌++◌, ℕ, List, true, Some, Err, IfErr, IfOk, length, take, drop};
 ghost use Rattle.std.specs.List.{list_all, prefix_len};
 ghost use Rattle.std.specs.Char.{encode_utf8};
 ghost use Rattle.std.specs.Str.{chars};
@@ -46,7 +46,7 @@ fn count_alphanumerics(run: &str) -> usize
     ensures few { result ≤ length run.now }
 {
     for (index, byte) in run.as_bytes().iter().enumerate() {
-        if !byte.is_ascii_alphanumeric() {
+        if !(byte.is_ascii_alphabetic() || byte.is_ascii_digit()) {
             return index;
         }
     }
@@ -418,8 +418,8 @@ impl<'t> Tokenizer<'t> {
         Ok(count)
     }
 
-    /// Takes the letters and digits at the front of a run, with which the run after an `&` goes on. Where there are none, that one
-    /// ends, and the whole run is text. The first `known` of them may be known to come next.
+    /// Takes a run in the run of alphanumerics after an `&`: the letters and digits at its front, with which that goes on, and what is
+    /// left, before which that ends, as text. The first `known` letters may be known to come next.
     pub(crate) fn run_of_alphanumerics<S: TokenSink>(
         &mut self,
         amp: u64,
@@ -441,9 +441,35 @@ impl<'t> Tokenizer<'t> {
             self.end_run_before(amp, run, at, sink)?;
             return Ok(run.len());
         }
-        self.next = at + count as u64;
-        sink.take_run(&run[..count], at)?;
-        Ok(count)
+        self.take_letters(amp, &run[..count], at, sink)?;
+        if count == run.len() {
+            return Ok(count);
+        }
+        self.end_run_before(amp, &run[count..], at + count as u64, sink)?;
+        Ok(run.len())
+    }
+
+    /// Takes letters and digits with which the run after an `&` goes on, of which some may be known to come next.
+    #[inline(always)]
+    fn take_letters<S: TokenSink>(
+        &mut self,
+        amp: u64,
+        letters: &str,
+        at: u64,
+        sink: &mut S,
+    ) -> Result<(), Refusal>
+        requires in_run { self.old.state ≡ State.Run amp }
+        requires some { 0 < length letters.now }
+        requires alphanumeric { list_all is_alphanumeric letters.now ≡ true }
+        requires plain { list_all is_plain_byte letters.now ≡ true }
+        requires within { at + length letters.now ≤ MAX_INPUT }
+        ensures takes { (table : Entities) (start : Kind) (names : Texts) (text ahead others : List Character) (taken : List Event)
+            → placed at letters.now ≡ ahead ++ others → IsInRun table start self.old names text ahead taken
+            → Takes (gives_item S.gives S.gives_token) table start text (placed at letters.now) taken names sink.old result sink.new self.new }
+        ensures state { self.new.state ≡ self.old.state }
+    {
+        self.next = at + letters.len() as u64;
+        sink.take_run(letters, at)
     }
 
     /// Ends the run after an `&` before plain characters, the first of which does not belong to it, and takes them as text.
