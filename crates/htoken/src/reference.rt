@@ -66,7 +66,7 @@ impl<'t> Tokenizer<'t> {
         Ok(())
     }
 
-    /// Takes the first character of a run after `&`. Where it shows that no key begins it, takes the letters and digits after it, too.
+    /// Takes the first character of a run after `&`, or the whole run where it shows that no key begins it.
     #[inline(always)]
     pub(crate) fn front_of_reference<S: TokenSink>(
         &mut self,
@@ -98,7 +98,7 @@ impl<'t> Tokenizer<'t> {
         }
     }
 
-    /// Begins the run of alphanumerics after an `&` that no key begins, where the first character of this run has shown that.
+    /// Begins the run of alphanumerics after an `&` that no key begins, as the first character of this run has shown, and takes the run.
     #[inline(always)]
     fn begin_run<S: TokenSink>(
         &mut self,

@@ -393,7 +393,8 @@ impl<'t> Tokenizer<'t> {
         sink.take_run(run, at)
     }
 
-    /// Takes the characters at the front of a run with which a reference goes on, and the one that ends it.
+    /// Takes the characters at the front of a run with which a reference goes on, and the one that ends it; the whole run where that one
+    /// shows that no key begins it.
     #[inline(never)]
     fn run_of_reference<S: TokenSink>(
         &mut self,
