@@ -1,6 +1,7 @@
 pub mod Families
 pub mod Words
 pub mod Flows
+pub mod Ended
 pub mod States
 pub mod Programs
 pub mod Head

@@ -31,7 +31,7 @@ impl<'q> TreeConstruction<'q> {
         match kind {
             TokenKind::Nul | TokenKind::Ws | TokenKind::Char => self.put(token, at),
             TokenKind::Eof => self.text_unended(at),
-            TokenKind::End(_) => self.text_ends(),
+            TokenKind::End(_) => self.pop_and_go(self.control.saved, Flow::Done),
             _ => self.ignore(Mode::Text, at),
         }
     }
@@ -45,15 +45,6 @@ impl<'q> TreeConstruction<'q> {
         self.site.pop();
         self.control.mode = saved;
         Ok(Flow::Again)
-    }
-
-    /// The end of a text.
-    pub(crate) fn text_ends(&mut self) -> Result<Flow, Refusal>
-        ensures { (t : TokenOf ℕ) → FlowGives result t (state_of self.new) (perform numbers 0 t (pop ▸ to_saved) (state_of self.old)) }
-    {
-        self.site.pop();
-        self.control.mode = self.control.saved;
-        Ok(Flow::Done)
     }
 
     /// The "after body" insertion mode.

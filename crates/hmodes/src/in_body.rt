@@ -41,7 +41,7 @@ impl<'q> TreeConstruction<'q> {
             TokenKind::Comment => self.insert_comment(token, at),
             TokenKind::Start(family) => self.start_in_body(family, token, at),
             TokenKind::End(family) => self.end_in_body(family, token, at),
-            TokenKind::Eof => self.end_in_open(at),
+            TokenKind::Eof => done(self.check_open(at)),
         }
     }
 
@@ -73,12 +73,12 @@ impl<'q> TreeConstruction<'q> {
             Family::Object => self.object(token, at),
             Family::Table => self.table(token, at),
             Family::Area | Family::Br | Family::Input => self.void_in_text(token, at),
-            Family::Param => self.param(token, at),
+            Family::Param => done(self.void(token, at)),
             Family::Hr => self.hr(token, at),
             Family::Image => self.image(token, at),
             Family::Textarea => self.textarea(token, at),
             Family::Xmp => self.xmp(token, at),
-            Family::Iframe => self.iframe(token, at),
+            Family::Iframe => done(self.raw(token, at)),
             Family::Rb => self.rb(token, at),
             Family::Rp => self.rp(token, at),
             Family::Caption
@@ -137,13 +137,6 @@ impl<'q> TreeConstruction<'q> {
             return Ok(());
         }
         self.error(Mode::InBody, at)
-    }
-
-    /// The end of the input in the body.
-    pub(crate) fn end_in_open(&mut self, at: u64) -> Result<Flow, Refusal>
-        ensures { (t : TokenOf ℕ) → FlowGives result t (state_of self.new) (perform numbers at t (body_ends) (state_of self.old)) }
-    {
-        done(self.check_open(at))
     }
 
     /// The start tag body where it is not the first.

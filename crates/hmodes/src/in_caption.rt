@@ -3,19 +3,18 @@
 ghost use Rattle.std.specs.Prelude.{ℕ};
 ghost use Rattle.hadopt.specs.Kept.{Kept};
 ghost use Rattle.hadopt.specs.Naming.{numbers};
+ghost use Rattle.hmodes.specs.Ended.{ended};
 ghost use Rattle.hmodes.specs.Flows.{FlowGives};
 ghost use Rattle.hmodes.specs.Perform.{perform};
 ghost use Rattle.hmodes.specs.State.{Token as TokenOf};
 ghost use Rattle.hmodes.specs.States.{state_of};
 ghost use Rattle.hmodes.specs.Tokens.{token_of};
 ghost use Rattle.hmodes.specs.Table.{in_caption, close_caption, in_column_group};
-ghost use Rattle.hmodes.specs.Words.{◌▸◌, nothing, again, to, pop};
-ghost use Rattle.hmodes.specs.declared.mode.Mode.TheVariants.{InTable};
 
 use crate::family::Family;
 use crate::mode::Mode;
 use crate::token_kind::TokenKind;
-use crate::tree_construction::{Flow, TreeConstruction};
+use crate::tree_construction::{Flow, TreeConstruction, done};
 use hadopt::Passing;
 use hopen::Scope;
 use htoken::Token;
@@ -33,7 +32,7 @@ impl<'q> TreeConstruction<'q> {
         ensures { FlowGives result (token_of token.new) (state_of self.new) (perform numbers at (token_of token.old) (in_caption kind) (state_of self.old)) }
     {
         match kind {
-            TokenKind::End(Family::Caption) => self.end_caption(at),
+            TokenKind::End(Family::Caption) => self.close_caption(Flow::Done, at),
             TokenKind::Start(
                 Family::Caption
                 | Family::Col
@@ -42,7 +41,7 @@ impl<'q> TreeConstruction<'q> {
                 | Family::Cell
                 | Family::Row,
             )
-            | TokenKind::End(Family::Table) => self.caption_ends(at),
+            | TokenKind::End(Family::Table) => self.close_caption(Flow::Again, at),
             TokenKind::End(
                 Family::Body
                 | Family::Col
@@ -56,9 +55,9 @@ impl<'q> TreeConstruction<'q> {
         }
     }
 
-    /// The end tag caption.
-    pub(crate) fn end_caption(&mut self, at: u64) -> Result<Flow, Refusal>
-        ensures { (t : TokenOf ℕ) → FlowGives result t (state_of self.new) (perform numbers at t (close_caption nothing) (state_of self.old)) }
+    /// The caption is closed, by its end tag or by a token that is reprocessed then.
+    pub(crate) fn close_caption(&mut self, flow: Flow, at: u64) -> Result<Flow, Refusal>
+        ensures { (t : TokenOf ℕ) → FlowGives result t (state_of self.new) (perform numbers at t (close_caption (ended flow)) (state_of self.old)) }
     {
         let caption = Tag::Caption.number();
         if !self.site.in_scope(Scope::Table, caption) {
@@ -68,22 +67,7 @@ impl<'q> TreeConstruction<'q> {
         self.pop_to(Mode::InCaption, caption, at)?;
         self.site.clear_to_marker();
         self.control.mode = Mode::InTable;
-        Ok(Flow::Done)
-    }
-
-    /// A caption that no end tag closed.
-    pub(crate) fn caption_ends(&mut self, at: u64) -> Result<Flow, Refusal>
-        ensures { (t : TokenOf ℕ) → FlowGives result t (state_of self.new) (perform numbers at t (close_caption again) (state_of self.old)) }
-    {
-        let caption = Tag::Caption.number();
-        if !self.site.in_scope(Scope::Table, caption) {
-            return self.ignore(Mode::InCaption, at);
-        }
-        self.site.pop_past(Passing::Implied(None));
-        self.pop_to(Mode::InCaption, caption, at)?;
-        self.site.clear_to_marker();
-        self.control.mode = Mode::InTable;
-        Ok(Flow::Again)
+        Ok(flow)
     }
 
     /// The "in column group" insertion mode.
@@ -100,22 +84,13 @@ impl<'q> TreeConstruction<'q> {
             TokenKind::Ws => self.put(token, at),
             TokenKind::Comment => self.insert_comment(token, at),
             TokenKind::Start(Family::Html) => self.html_again(token, at),
-            TokenKind::Start(Family::Col) => self.param(token, at),
-            TokenKind::End(Family::Colgroup) => self.pop_and_go(Mode::InTable),
+            TokenKind::Start(Family::Col) => done(self.void(token, at)),
+            TokenKind::End(Family::Colgroup) => self.pop_and_go(Mode::InTable, Flow::Done),
             TokenKind::Doctype | TokenKind::End(Family::Col | Family::Template) => {
                 self.ignore(Mode::InColumnGroup, at)
             }
-            TokenKind::Eof => self.end_in_open(at),
-            _ => self.column_group_ends(),
+            TokenKind::Eof => done(self.check_open(at)),
+            _ => self.pop_and_go(Mode::InTable, Flow::Again),
         }
-    }
-
-    /// A column group that no end tag closed.
-    pub(crate) fn column_group_ends(&mut self) -> Result<Flow, Refusal>
-        ensures { (t : TokenOf ℕ) → FlowGives result t (state_of self.new) (perform numbers 0 t (pop ▸ to InTable ▸ again) (state_of self.old)) }
-    {
-        self.site.pop();
-        self.control.mode = Mode::InTable;
-        Ok(Flow::Again)
     }
 }

@@ -2,12 +2,13 @@
 
 ghost use Rattle.std.specs.Prelude.{◌≡◌, ◌<◌, ℕ, IfSome};
 ghost use Rattle.hadopt.specs.Naming.{numbers};
+ghost use Rattle.hmodes.specs.Ended.{ended};
 ghost use Rattle.hmodes.specs.Flows.{FlowGives, StateGives, performed};
 ghost use Rattle.hmodes.specs.Perform.{perform, removed, with_site};
 ghost use Rattle.hmodes.specs.State.{Token as TokenOf};
 ghost use Rattle.hmodes.specs.States.{state_of};
 ghost use Rattle.hmodes.specs.Tokens.{token_of};
-ghost use Rattle.hmodes.specs.Head.{in_head, head_ends, in_head_noscript, noscript_ends, after_head, body_unwritten, late};
+ghost use Rattle.hmodes.specs.Head.{in_head, in_head_noscript, noscript_ends, after_head, body_unwritten, late};
 ghost use Rattle.hmodes.specs.Programs.{void, raw};
 ghost use Rattle.hmodes.specs.Words.{◌▸◌, error, to, insert, pop, push_head};
 ghost use Rattle.hmodes.specs.declared.mode.Mode.TheVariants.{InHead, InHeadNoscript, AfterHead, InBody};
@@ -43,12 +44,15 @@ impl<'q> TreeConstruction<'q> {
                 token,
                 at,
             ),
-            TokenKind::End(Family::Head) => self.pop_and_go(Mode::AfterHead),
-            TokenKind::End(Family::Body | Family::Html | Family::Br) => self.head_ends(),
+            TokenKind::End(Family::Head) => self.pop_and_go(Mode::AfterHead, Flow::Done),
+            TokenKind::End(Family::Body | Family::Html | Family::Br) => self.pop_and_go(
+                Mode::AfterHead,
+                Flow::Again,
+            ),
             TokenKind::Doctype | TokenKind::Start(Family::Head) | TokenKind::End(_) => {
                 self.ignore(Mode::InHead, at)
             }
-            _ => self.head_ends(),
+            _ => self.pop_and_go(Mode::AfterHead, Flow::Again),
         }
     }
 
@@ -67,21 +71,12 @@ impl<'q> TreeConstruction<'q> {
     }
 
     /// The current node is closed, and another mode comes.
-    pub(crate) fn pop_and_go(&mut self, mode: Mode) -> Result<Flow, Refusal>
-        ensures { (t : TokenOf ℕ) → FlowGives result t (state_of self.new) (perform numbers 0 t (pop ▸ to mode) (state_of self.old)) }
+    pub(crate) fn pop_and_go(&mut self, mode: Mode, flow: Flow) -> Result<Flow, Refusal>
+        ensures { (t : TokenOf ℕ) → FlowGives result t (state_of self.new) (perform numbers 0 t (pop ▸ to mode ▸ ended flow) (state_of self.old)) }
     {
         self.site.pop();
         self.control.mode = mode;
-        Ok(Flow::Done)
-    }
-
-    /// A head that no tag closed.
-    fn head_ends(&mut self) -> Result<Flow, Refusal>
-        ensures { (t : TokenOf ℕ) → FlowGives result t (state_of self.new) (perform numbers 0 t head_ends (state_of self.old)) }
-    {
-        self.site.pop();
-        self.control.mode = Mode::AfterHead;
-        Ok(Flow::Again)
+        Ok(flow)
     }
 
     /// The "in head noscript" insertion mode.
@@ -96,7 +91,7 @@ impl<'q> TreeConstruction<'q> {
     {
         match kind {
             TokenKind::Start(Family::Html) => self.html_again(token, at),
-            TokenKind::End(Family::Noscript) => self.pop_and_go(Mode::InHead),
+            TokenKind::End(Family::Noscript) => self.pop_and_go(Mode::InHead, Flow::Done),
             TokenKind::Ws => self.put(token, at),
             TokenKind::Comment => self.insert_comment(token, at),
             TokenKind::Start(Family::Link) => done(self.void(token, at)),

@@ -5,13 +5,14 @@ ghost use Rattle.hadopt.specs.Kept.{Kept};
 ghost use Rattle.hadopt.specs.Naming.{numbers};
 ghost use Rattle.hopen.specs.declared.scope.Scope.TheVariants as scope;
 ghost use Rattle.names.specs.declared.tag.Tag.TheVariants as tag;
+ghost use Rattle.hmodes.specs.Ended.{ended};
 ghost use Rattle.hmodes.specs.Flows.{FlowGives};
 ghost use Rattle.hmodes.specs.Perform.{perform};
 ghost use Rattle.hmodes.specs.State.{Token as TokenOf};
 ghost use Rattle.hmodes.specs.States.{state_of};
 ghost use Rattle.hmodes.specs.Tokens.{token_of};
 ghost use Rattle.hmodes.specs.Table.{in_row, leave_row, close_row};
-ghost use Rattle.hmodes.specs.Words.{◌▸◌, nothing, when, choose, error, again, to, insert, marker, clear_to_row, has_in, has_name_in};
+ghost use Rattle.hmodes.specs.Words.{◌▸◌, when, choose, error, again, to, insert, marker, clear_to_row, has_in, has_name_in};
 ghost use Rattle.hmodes.specs.declared.mode.Mode.TheVariants.{InRow, InCell};
 
 use crate::family::Family;
@@ -37,11 +38,11 @@ impl<'q> TreeConstruction<'q> {
     {
         match kind {
             TokenKind::Start(Family::Cell) => self.cell(token, at),
-            TokenKind::End(Family::Row) => self.end_row(at),
+            TokenKind::End(Family::Row) => self.close_row(Flow::Done, at),
             TokenKind::Start(
                 Family::Caption | Family::Col | Family::Colgroup | Family::Section | Family::Row,
             )
-            | TokenKind::End(Family::Table) => self.row_ends(at),
+            | TokenKind::End(Family::Table) => self.close_row(Flow::Again, at),
             TokenKind::End(Family::Section) => self.end_section_in_row(token, at),
             TokenKind::End(
                 Family::Body
@@ -66,9 +67,9 @@ impl<'q> TreeConstruction<'q> {
         done(self.site.marker())
     }
 
-    /// The end tag tr.
-    pub(crate) fn end_row(&mut self, at: u64) -> Result<Flow, Refusal>
-        ensures { (t : TokenOf ℕ) → FlowGives result t (state_of self.new) (perform numbers at t (close_row nothing) (state_of self.old)) }
+    /// The row is closed, by its end tag or by a token that is reprocessed then.
+    pub(crate) fn close_row(&mut self, flow: Flow, at: u64) -> Result<Flow, Refusal>
+        ensures { (t : TokenOf ℕ) → FlowGives result t (state_of self.new) (perform numbers at t (close_row (ended flow)) (state_of self.old)) }
     {
         if !self.site.in_scope(Scope::Table, Tag::Tr.number()) {
             return self.ignore(Mode::InRow, at);
@@ -76,20 +77,7 @@ impl<'q> TreeConstruction<'q> {
         self.site.pop_past(Passing::Row);
         self.site.pop();
         self.control.mode = Mode::InTableBody;
-        Ok(Flow::Done)
-    }
-
-    /// A row that no end tag closed.
-    pub(crate) fn row_ends(&mut self, at: u64) -> Result<Flow, Refusal>
-        ensures { (t : TokenOf ℕ) → FlowGives result t (state_of self.new) (perform numbers at t (close_row again) (state_of self.old)) }
-    {
-        if !self.site.in_scope(Scope::Table, Tag::Tr.number()) {
-            return self.ignore(Mode::InRow, at);
-        }
-        self.site.pop_past(Passing::Row);
-        self.site.pop();
-        self.control.mode = Mode::InTableBody;
-        Ok(Flow::Again)
+        Ok(flow)
     }
 
     /// The end tag of a table body in a row.

@@ -45,7 +45,7 @@ impl<'q> TreeConstruction<'q> {
             TokenKind::Doctype => self.ignore(Mode::InTable, at),
             TokenKind::Start(family) => self.start_in_table(family, token, at),
             TokenKind::End(family) => self.end_in_table(family, token, at),
-            TokenKind::Eof => self.end_in_open(at),
+            TokenKind::Eof => done(self.check_open(at)),
         }
     }
 
@@ -140,9 +140,7 @@ impl<'q> TreeConstruction<'q> {
     {
         self.site.pop_past(Passing::Table);
         self.site.marker()?;
-        self.insert(token, at)?;
-        self.control.mode = Mode::InCaption;
-        Ok(Flow::Done)
+        self.insert_and_go(Mode::InCaption, token, at)
     }
 
     /// A part of a table, whose content goes by another mode.
@@ -151,9 +149,7 @@ impl<'q> TreeConstruction<'q> {
             (perform numbers at (token_of token.old) (clear_to_table ▸ insert ▸ to mode) (state_of self.old)) }
     {
         self.site.pop_past(Passing::Table);
-        self.insert(token, at)?;
-        self.control.mode = mode;
-        Ok(Flow::Done)
+        self.insert_and_go(mode, token, at)
     }
 
     /// A column group that no tag began.

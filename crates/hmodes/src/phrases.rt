@@ -184,9 +184,7 @@ impl<'q> TreeConstruction<'q> {
             (perform numbers at (token_of token.old) (unless is_in_quirks close_p_in_scope ▸ insert ▸ to InTable) (state_of self.old)) }
     {
         self.close_p_before_table(at)?;
-        self.insert(token, at)?;
-        self.control.mode = Mode::InTable;
-        Ok(Flow::Done)
+        self.insert_and_go(Mode::InTable, token, at)
     }
 
     /// The end tag br.
@@ -214,13 +212,6 @@ impl<'q> TreeConstruction<'q> {
         ensures { FlowGives result (token_of token.new) (state_of self.new) (perform numbers at (token_of token.old) (void_in_text) (state_of self.old)) }
     {
         self.site.reconstruct(at)?;
-        done(self.void(token, at))
-    }
-
-    /// The start tags param, source and track.
-    pub(crate) fn param(&mut self, token: &mut Token, at: u64) -> Result<Flow, Refusal>
-        ensures { FlowGives result (token_of token.new) (state_of self.new) (perform numbers at (token_of token.old) (void) (state_of self.old)) }
-    {
         done(self.void(token, at))
     }
 
@@ -259,13 +250,6 @@ impl<'q> TreeConstruction<'q> {
     {
         self.close_p_in_scope(at)?;
         self.site.reconstruct(at)?;
-        done(self.raw(token, at))
-    }
-
-    /// The start tags iframe and noembed.
-    pub(crate) fn iframe(&mut self, token: &mut Token, at: u64) -> Result<Flow, Refusal>
-        ensures { FlowGives result (token_of token.new) (state_of self.new) (perform numbers at (token_of token.old) (raw) (state_of self.old)) }
-    {
         done(self.raw(token, at))
     }
 

@@ -60,9 +60,7 @@ impl<'q> TreeConstruction<'q> {
             (perform numbers at (token_of token.old) (clear_to_body ▸ insert ▸ to InRow) (state_of self.old)) }
     {
         self.site.pop_past(Passing::Body);
-        self.insert(token, at)?;
-        self.control.mode = Mode::InRow;
-        Ok(Flow::Done)
+        self.insert_and_go(Mode::InRow, token, at)
     }
 
     /// A row that no tag began.
@@ -86,9 +84,7 @@ impl<'q> TreeConstruction<'q> {
             return self.ignore(Mode::InTableBody, at);
         }
         self.site.pop_past(Passing::Body);
-        self.site.pop();
-        self.control.mode = Mode::InTable;
-        Ok(Flow::Done)
+        self.pop_and_go(Mode::InTable, Flow::Done)
     }
 
     /// A table body that no end tag closed.
