@@ -1,12 +1,30 @@
-use Rattle.std.proofs.Common.{◌≡◌, ℕ, false, true, sym, ◌∙◌, ap}
+use Rattle.std.proofs.Common.{◌≡◌, ℕ, false, true, sym, ◌∙◌, ap, inl, inr}
+use Rattle.std.specs.Prelude.{◌⊎◌}
 use Rattle.names.specs.declared.error.ErrorCode.TheVariants.{TreeInTable}
+use Rattle.names.specs.declared.refusal.Refusal.{Refusal}
+use Rattle.names.specs.declared.refusal.Refusal.TheVariants.{Memory}
 use Rattle.hadopt.specs.Naming.{numbers}
 use Rattle.hadopt.specs.Site.{SiteOf, with_error}
 use Rattle.hmodes.specs.Body.{character_in_body}
 use Rattle.hmodes.specs.Perform.{perform, with_foster, with_site}
-use Rattle.hmodes.specs.State.{character, State, Flow, Done, flow_map}
+use Rattle.hmodes.specs.State.{character, State, Flow, Done, Refused, flow_map}
 use Rattle.hmodes.specs.States.{state_of}
+use Rattle.hmodes.proofs.Flowing.{err-state, refused-as}
 use Rattle.hmodes.proofs.tree_construction.TreeConstruction.foster_char.Goals as goal
+
+refused-so : (e : Refusal) (x : Flow ℕ) → (e ≡ Memory) ⊎ (x ≡ Refused e) → (e ≡ Memory) ⊎ (flow_map (with_foster false) x ≡ Refused e)
+refused-so e x (inl m) = inl m
+refused-so e x (inr h) = inr (ap (λ (f : Flow ℕ). flow_map (with_foster false) f) h)
+
+pub returns-in_err-put_in_body : goal.returns-in_err-put_in_body
+returns-in_err-put_in_body c =
+    let e = c.in_err-put_in_body.field-0.0 in
+    let erred = c.in_ok-error.ensures.done in
+    let x : with_site (with_error TreeInTable c.args.at c.args.self.now.site) (state_of c.args.self.now) ≡ state_of c.error.new.self = cc in
+    let one = ap (λ (w : State ℕ). perform numbers c.args.at (character c.args.ch) character_in_body (with_foster true w)) x in
+    let two = ap (λ (t : SiteOf ℕ). perform numbers c.args.at (character c.args.ch) character_in_body (with_site t (state_of c.error.new.self))) (sym c.set_foster.ensures.site) in
+    err-state c.from_residual-in_err-put_in_body.result e _ _ c.from_residual-in_err-put_in_body.ensures.1
+    (refused-as e _ _ (ap (λ (f : Flow ℕ). flow_map (with_foster false) f) (one ∙ two)) (refused-so e _ c.in_err-put_in_body.ensures))
 
 pub returns : goal.returns
 returns c =
