@@ -67,7 +67,7 @@ pub struct DocumentType {
 /// An element that has more attributes than these is wide.
 const FEW: usize = 16;
 
-/// A text of at most these bytes is kept in its node.
+/// A text of at most this many bytes is kept in its node.
 const SHORT: usize = 16;
 
 /// What a node is.
@@ -240,7 +240,7 @@ fn put_joined(
     Ok(())
 }
 
-/// A short text and what follows it. Where that makes it long, it gets room for as many bytes again as a short text has.
+/// A short text and what follows it. What is too long to be short is allocated once, with room for 32 bytes or more.
 fn joined(start: ArrayString<SHORT>, more: &str, alloc: Global) -> Result<NodeData, AllocError>
     ensures { IfOk result (λ content. content_is content ≡ text (start.bytes ++ more.now)) }
 {

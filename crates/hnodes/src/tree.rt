@@ -30,8 +30,8 @@ use std::alloc::{AllocError, Global};
 use std::marker::Model;
 
 /// The tree of a document, and the loose nodes: those that were made and are not in it yet. Each node takes 56 bytes, besides what
-/// its texts and attributes hold. Making a node and moving one take amortized constant time. No call recurses, nor does the
-/// drop, and the moves and the questions allocate nothing.
+/// its attributes and its longer texts hold. Making a node and moving one take amortized constant time. No call recurses, nor does
+/// the drop, and the moves and the questions allocate nothing.
 ///
 /// A [`Place`] is where a node goes in the tree. `at`, in a call that returns a [`Refusal`], is the byte offset from 0 of the
 /// token that the call is made for, which the refusal reports. A [`NodeId`] is a node, wherever it is.
