@@ -104,12 +104,17 @@ fn run_parsed<S: Source, W: Target>(
 {
     let parsed = parse(alloc, command, options, source)?;
     let answer = print_parsed(alloc, command, &parsed, target);
-    if command.is_last {
+    leave(parsed, command.is_last);
+    answer
+}
+
+/// Frees what was parsed, unless the process ends and the system takes it all at once.
+fn leave(parsed: Parsed, is_last: bool) {
+    if is_last {
         forget(parsed);
     } else {
         drop(parsed);
     }
-    answer
 }
 
 /// The same of what was parsed.
