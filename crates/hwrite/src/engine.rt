@@ -117,7 +117,7 @@ fn leave(parsed: Parsed, is_last: bool) {
     }
 }
 
-/// The same of what was parsed.
+/// Writes what the task prints of what was parsed.
 fn print_parsed<W: Target>(
     alloc: Global,
     command: Command,
