@@ -13,6 +13,7 @@ pub mod Lanes
 pub mod Plain
 pub mod Runs
 pub mod Wide
+pub mod Clean
 pub mod Advancing
 pub mod Ending
 pub mod Whole

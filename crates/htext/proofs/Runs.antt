@@ -1,5 +1,5 @@
 -- Runs of plain bytes, each a character.
-use Rattle.std.proofs.Common.{◌≡◌, ℕ, ◌<◌, ◌≤◌, ◌+◌, ◌-◌, zero, suc, Bool, true, false, cond, List, [], ◌∷◌, ◌++◌, length, take, drop, get_or, add-one, drop-cons, sym, refl, ap, ◌∙◌, subst, arith, append-nil}
+use Rattle.std.proofs.Common.{◌≡◌, ℕ, ◌<◌, ◌≤◌, ◌+◌, ◌-◌, zero, suc, Bool, true, false, cond, List, [], ◌∷◌, ◌++◌, length, take, drop, sym, refl, ap, ◌∙◌, subst, arith, append-nil}
 use Rattle.std.specs.Prelude.{encode_utf8_all}
 use Rattle.std.specs.List.{list_all, prefix_len, slice_range}
 use Rattle.std.proofs.lemmas.List.{length-take-le, take-append-drop}
@@ -18,7 +18,7 @@ pub one_long : (x : ℕ) → is_plain_byte x ≡ true → len_utf8 x ≡ 1
 one_long x h = let small : x < 127 = plain_small x h in len_utf8_ascii x (omega arith)
 
 -- the characters of a text that begins with a run
-pub run_chars : (xs ys : List ℕ) → list_all is_plain_byte xs ≡ true → IsUtf8 (xs ++ ys) → IsUtf8 ys × (chars (xs ++ ys) ≡ xs ++ chars ys)
+run_chars : (xs ys : List ℕ) → list_all is_plain_byte xs ≡ true → IsUtf8 (xs ++ ys) → IsUtf8 ys × (chars (xs ++ ys) ≡ xs ++ chars ys)
 run_chars [] ys a u = (u, refl)
 run_chars (x ∷ xs) ys a u =
     let k = and_parts (is_plain_byte x) (list_all is_plain_byte xs) a in
@@ -95,25 +95,3 @@ plain_bytes (x ∷ xs) h =
     let k = and_parts (is_plain_byte x) (list_all is_plain_byte xs) h in
     let small : x < 127 = plain_small x k.0 in
     ap (λ (e : List ℕ). e ++ encode_utf8_all xs) (encode_ascii x (omega arith)) ∙ ap (λ (ys : List ℕ). x ∷ ys) (plain_bytes xs k.1)
-
-pub plain_utf8 : (xs : List ℕ) → list_all is_plain_byte xs ≡ true → IsUtf8 xs
-plain_utf8 xs h = (xs, (plain_scalars xs h, plain_bytes xs h)) where
-  plain_scalars : (xs : List ℕ) → list_all is_plain_byte xs ≡ true → scalars xs ≡ true
-  plain_scalars [] h = refl
-  plain_scalars (x ∷ xs) h =
-      let k = and_parts (is_plain_byte x) (list_all is_plain_byte xs) h in
-      let small : x < 127 = plain_small x k.0 in
-      and_from _ _ (low_scalar x (omega (arith, small))) (plain_scalars xs k.1)
-
--- one byte of a run after another
-all_at : (xs : List ℕ) (i : ℕ) → list_all is_plain_byte xs ≡ true → i < length xs → is_plain_byte (get_or xs i 0) ≡ true
-all_at [] i a h = absurd (omega (arith, h))
-all_at (x ∷ xs) zero a h = (and_parts (is_plain_byte x) (list_all is_plain_byte xs) a).0
-all_at (x ∷ xs) (suc i) a h = all_at xs i (and_parts (is_plain_byte x) (list_all is_plain_byte xs) a).1 (omega (arith, h))
-
-pub run_step : (at i : ℕ) (run : List ℕ) → list_all is_plain_byte run ≡ true → i < length run
-    → placed (at + i) (drop i run) ≡ record { ch = get_or run i 0; at = at + i } ∷ placed (at + (i + 1)) (drop (i + 1) run)
-run_step at i run a h =
-    let b : ℕ = get_or run i 0 in
-    let next : (at + i) + len_utf8 b ≡ at + suc i = omega (arith, one_long b (all_at run i a h)) in
-    rw (drop-cons run i 0 h, add-one, next) refl

@@ -1,13 +1,13 @@
--- Runs of plain characters in a text, by its bytes.
-use Rattle.std.proofs.Common.{◌≡◌, ℕ, ◌≤◌, ◌+◌, zero, suc, Bool, true, false, cond, eqb, List, [], ◌∷◌, ◌++◌, map, length, take, drop, get_or, sym, refl, ap, ◌∙◌, subst, arith, append_assoc, append-nil, Result, Ok, Err}
+-- Runs of characters in a text, by its bytes.
+use Rattle.std.proofs.Common.{◌≡◌, ℕ, ◌≤◌, ◌+◌, Bool, true, false, eqb, List, [], ◌∷◌, ◌++◌, map, length, take, drop, get_or, sym, refl, ap, ◌∙◌, subst, arith, append-nil, Result, Ok, Err}
 use Rattle.std.specs.Prelude.{encode_utf8_all}
-use Rattle.std.specs.List.{list_all, prefix_len}
+use Rattle.std.specs.List.{list_all}
 use Rattle.std.proofs.lemmas.Bool.Decides.{nat_tests}
 use Rattle.std.proofs.lemmas.Bool.{and_parts, and_from, eqb-true}
 use Rattle.std.proofs.lemmas.List.{take_at, drop_at, take-append-drop, length-append, length-take-le, length-drop, drop-drop, take_all, drop_all, nil_from_length}
 use Rattle.std.proofs.lemmas.List.Folds.{list_all-append}
 use Rattle.std.proofs.Math.Seq.{get_or-append_seam}
-use Rattle.std.proofs.lemmas.Str.{chars-append, chars-encodes, encodes-chars, scalars-chars, IsUtf8-append, IsUtf8-nil, IsUtf8-encode, IsUtf8-take, IsUtf8-drop, length-encode, chars_past_char, chars-nil}
+use Rattle.std.proofs.lemmas.Str.{chars-append, encodes-chars, scalars-chars, IsUtf8-append, IsUtf8-nil, IsUtf8-encode, IsUtf8-take, IsUtf8-drop, length-encode, chars_past_char, chars-nil}
 use Rattle.std.specs.Str.{all_scalars as scalars}
 use Rattle.std.specs.Str.{chars, IsUtf8, IsCharBoundary}
 use Rattle.std.specs.Char.{IsScalar, encode_utf8, len_utf8}
@@ -19,81 +19,19 @@ use Rattle.names.proofs.Handing.{Continues-more}
 use Rattle.htext.specs.declared.Bom.{Bom}
 use Rattle.htext.specs.Text.{Whole, normalized, ends_in_return}
 use Rattle.htext.specs.Items.{CharItem, Character, items, items_of}
-use Rattle.htext.specs.Run.{is_plain_byte, is_plain, is_wide_byte, run_items, IsCut, IsPlainFront}
+use Rattle.htext.specs.Run.{is_plain_byte, is_plain, is_clean, run_items, IsCut, IsCleanFront}
 use Rattle.htext.proofs.Handing.{Hands-front}
 use Rattle.htext.proofs.Parts.{placed-append}
-use Rattle.htext.proofs.Plain.{byte_plain, no_return, as_it_came, item_alone, plain_wide, other_narrow, begins_anew}
-use Rattle.htext.proofs.Runs.{counted, take_more, plain_chars, plain_utf8, run_chars}
+use Rattle.htext.proofs.Plain.{byte_plain, no_return, as_it_came, item_alone, begins_anew}
+use Rattle.htext.proofs.Runs.{take_more, plain_chars}
 
--- FRONTS
-
-through : (test : ℕ → Bool) (xs ys : List ℕ) → list_all test xs ≡ true → prefix_len test (xs ++ ys) ≡ length xs + prefix_len test ys
-through test [] ys h = omega arith
-through test (x ∷ xs) ys h =
-    let k = and_parts (test x) (list_all test xs) h in
-    let more : prefix_len test (xs ++ ys) ≡ length xs + prefix_len test ys = through test xs ys k.1 in
-    rw k.0 (omega (arith, more))
-
--- the wide bytes at the front of characters are those of the plain ones
-wide_by : (b : Bool) (c : ℕ) (cs : List ℕ) → is_plain c ≡ b → prefix_len is_wide_byte (encode_utf8_all cs) ≡ length (encode_utf8_all (take (prefix_len is_plain cs) cs))
-    → prefix_len is_wide_byte (encode_utf8 c ++ encode_utf8_all cs) ≡ length (encode_utf8_all (take (cond b (1 + prefix_len is_plain cs) 0) (c ∷ cs)))
-wide_by true c cs e more =
-    let next : 1 + prefix_len is_plain cs ≡ suc (prefix_len is_plain cs) = omega arith in
-    rw next (through is_wide_byte (encode_utf8 c) (encode_utf8_all cs) (plain_wide c e) ∙ ap (λ (n : ℕ). length (encode_utf8 c) + n) more
-    ∙ sym (length-append (encode_utf8 c) (encode_utf8_all (take (prefix_len is_plain cs) cs))))
-wide_by false c cs e more = let (b, bs, is, narrow) = other_narrow c e in ap (λ (x : List ℕ). prefix_len is_wide_byte (x ++ encode_utf8_all cs)) is ∙ rw narrow refl
-
-wide_len : (cs : List ℕ) → prefix_len is_wide_byte (encode_utf8_all cs) ≡ length (encode_utf8_all (take (prefix_len is_plain cs) cs))
-wide_len [] = refl
-wide_len (c ∷ cs) = wide_by (is_plain c) c cs refl (wide_len cs)
-
-take_scalars : (n : ℕ) (cs : List ℕ) → scalars cs ≡ true → (scalars (take n cs) ≡ true) × (scalars (drop n cs) ≡ true)
-take_scalars zero cs s = (refl, s)
-take_scalars (suc n) [] s = (refl, refl)
-take_scalars (suc n) (c ∷ cs) s = let k = and_parts _ (scalars cs) s in let more = take_scalars n cs k.1 in (and_from _ _ k.0 more.0, more.1)
-
-encodes_both : (xs ys : List ℕ) → encode_utf8_all (xs ++ ys) ≡ encode_utf8_all xs ++ encode_utf8_all ys
-encodes_both [] ys = refl
-encodes_both (x ∷ xs) ys = ap (λ (l : List ℕ). encode_utf8 x ++ l) (encodes_both xs ys) ∙ sym (append_assoc (encode_utf8 x) (encode_utf8_all xs) (encode_utf8_all ys))
-
--- characters that are cut in two
-cut_characters : (xs ys : List ℕ) (n : ℕ) → scalars xs ≡ true → scalars ys ≡ true → n ≡ length (encode_utf8_all xs) → list_all is_plain xs ≡ true → IsPlainFront n (encode_utf8_all xs ++ encode_utf8_all ys)
-cut_characters xs ys n s t is plain =
-    let front : take n (encode_utf8_all xs ++ encode_utf8_all ys) ≡ encode_utf8_all xs = take_at (encode_utf8_all xs) (encode_utf8_all ys) n (sym is) in
-    let back : drop n (encode_utf8_all xs ++ encode_utf8_all ys) ≡ encode_utf8_all ys = drop_at (encode_utf8_all xs) (encode_utf8_all ys) n (sym is) in
-    record {
-      cut = record {
-        within = omega (arith, length-append (encode_utf8_all xs) (encode_utf8_all ys));
-        front = rw front (xs, (s, refl));
-        back = rw back (ys, (t, refl));
-      };
-      plain = ap (λ (l : List ℕ). list_all is_plain (chars l)) front ∙ ap (list_all is_plain) (chars-encodes xs s) ∙ plain;
-    }
-
-pub wide_front : (bytes : List ℕ) → IsUtf8 bytes → IsPlainFront (prefix_len is_wide_byte bytes) bytes
-wide_front bytes u =
-    let cs : List ℕ = u.0 in
-    let k : ℕ = prefix_len is_plain cs in
-    let parts = take_scalars k cs u.1.0 in
-    subst (λ (l : List ℕ). IsPlainFront (prefix_len is_wide_byte l) l) (sym (encodes_both (take k cs) (drop k cs)) ∙ ap encode_utf8_all (take-append-drop k cs) ∙ u.1.1)
-    (cut_characters (take k cs) (drop k cs) _ parts.0 parts.1 (ap (prefix_len is_wide_byte) (sym (encodes_both (take k cs) (drop k cs)) ∙ ap encode_utf8_all (take-append-drop k cs)) ∙ wide_len cs) (counted is_plain cs))
-
--- and those of plain bytes
+-- a run of plain bytes as one of plain characters
 pub bytes_plain : (xs : List ℕ) → list_all is_plain_byte xs ≡ true → list_all is_plain xs ≡ true
 bytes_plain [] h = refl
 bytes_plain (x ∷ xs) h = let k = and_parts (is_plain_byte x) (list_all is_plain_byte xs) h in and_from _ _ (byte_plain x k.0) (bytes_plain xs k.1)
 
 pub run_plain : (xs : List ℕ) → list_all is_plain_byte xs ≡ true → IsUtf8 xs → list_all is_plain (chars xs) ≡ true
 run_plain xs h u = ap (list_all is_plain) (plain_chars xs h u) ∙ bytes_plain xs h
-
-pub plain_front : (n : ℕ) (bytes : List ℕ) → IsUtf8 bytes → n ≤ length bytes → list_all is_plain_byte (take n bytes) ≡ true → IsPlainFront n bytes
-plain_front n bytes u l h =
-    let back = (run_chars (take n bytes) (drop n bytes) h (subst IsUtf8 (sym (take-append-drop n bytes)) u)).0 in
-    let front : IsUtf8 (take n bytes) = plain_utf8 (take n bytes) h in
-    record { cut = record { within = l; front = front; back = back }; plain = run_plain (take n bytes) h front }
-
-pub nothing_front : (bytes : List ℕ) → IsUtf8 bytes → IsPlainFront 0 bytes
-nothing_front bytes u = plain_front 0 bytes u (omega arith) refl
 
 -- WHAT STANDS IN A TEXT
 
@@ -178,10 +116,10 @@ last_char n at bytes c cut is =
     placed_cut n bytes cut at
     ∙ ap (λ (l : List ℕ). placed at (chars (take n bytes)) ++ placed (at + n) l) (chars_past_char (drop n bytes) [] c cut.back (is ∙ sym (append-nil (encode_utf8 c))) ∙ ap (λ (l : List ℕ). c ∷ l) chars-nil)
 
-text_of : (bom : Bom) (at : ℕ) (cs : List ℕ) (ps : List Placed) → list_all is_plain cs ≡ true → items (normalized bom false (map Whole (placed at cs ++ ps))) ≡ run_items at cs ++ items (normalized bom false (map Whole ps))
+text_of : (bom : Bom) (at : ℕ) (cs : List ℕ) (ps : List Placed) → list_all is_clean cs ≡ true → items (normalized bom false (map Whole (placed at cs ++ ps))) ≡ run_items at cs ++ items (normalized bom false (map Whole ps))
 text_of bom at [] ps a = refl
 text_of bom at (x ∷ xs) ps a =
-    let k = and_parts (is_plain x) (list_all is_plain xs) a in
+    let k = and_parts (is_clean x) (list_all is_clean xs) a in
     let p : Placed = record { ch = x; at = at } in
     let n : ℕ = at + len_utf8 x in
     ap (λ (r : List Placed). items (map Whole r ++ normalized bom (eqb x 13) (map Whole (placed n xs ++ ps)))) (as_it_came bom x at k.0)
@@ -189,24 +127,24 @@ text_of bom at (x ∷ xs) ps a =
     ∙ ap (λ (i : List CharItem). i ++ items (normalized bom false (map Whole (placed n xs ++ ps)))) (item_alone x at k.0)
     ∙ ap (λ (i : List CharItem). Character p ∷ i) (text_of bom n xs ps k.1)
 
-end_of : (at : ℕ) (cs : List ℕ) (ps : List Placed) → list_all is_plain cs ≡ true → ends_in_return false (map Whole (placed at cs ++ ps)) ≡ ends_in_return false (map Whole ps)
+end_of : (at : ℕ) (cs : List ℕ) (ps : List Placed) → list_all is_clean cs ≡ true → ends_in_return false (map Whole (placed at cs ++ ps)) ≡ ends_in_return false (map Whole ps)
 end_of at [] ps a = refl
 end_of at (x ∷ xs) ps a =
-    let k = and_parts (is_plain x) (list_all is_plain xs) a in
+    let k = and_parts (is_clean x) (list_all is_clean xs) a in
     ap (λ (b : Bool). ends_in_return b (map Whole (placed (at + len_utf8 x) xs ++ ps))) (no_return x k.0) ∙ end_of (at + len_utf8 x) xs ps k.1
 
-pub ends_after : (n at : ℕ) (bytes : List ℕ) → IsPlainFront n bytes → ends_in_return false (map Whole (placed at (chars bytes))) ≡ ends_in_return false (map Whole (placed (at + n) (chars (drop n bytes))))
-ends_after n at bytes is = ap (λ (ps : List Placed). ends_in_return false (map Whole ps)) (placed_cut n bytes is.cut at) ∙ end_of at (chars (take n bytes)) _ is.plain
+pub ends_after : (n at : ℕ) (bytes : List ℕ) → IsCleanFront n bytes → ends_in_return false (map Whole (placed at (chars bytes))) ≡ ends_in_return false (map Whole (placed (at + n) (chars (drop n bytes))))
+ends_after n at bytes is = ap (λ (ps : List Placed). ends_in_return false (map Whole ps)) (placed_cut n bytes is.cut at) ∙ end_of at (chars (take n bytes)) _ is.clean
 
 -- A loop that hands over a text, of which `bytes` are left, at the place `at` and not after a CR, hands over a run at their front.
 module _ {S : Type 0} (gives : S → CharItem → Result (Unit {0}) Refusal → S → Type 0) (bom : Bom) (old : S) (all : List CharItem) (now : S) (at n : ℕ) (bytes : List ℕ)
-    (continues : Continues gives old all now (items (normalized bom false (map Whole (placed at (chars bytes)))))) (is : IsPlainFront n bytes) where
+    (continues : Continues gives old all now (items (normalized bom false (map Whole (placed at (chars bytes)))))) (is : IsCleanFront n bytes) where
   abbrev rest : List CharItem
   rest = items (normalized bom false (map Whole (placed (at + n) (chars (drop n bytes)))))
 
   run_on : Continues gives old all now (run_items at (chars (take n bytes)) ++ rest)
   run_on = subst (λ (x : List CharItem). Continues gives old all now x)
-      (ap (λ (ps : List Placed). items (normalized bom false (map Whole ps))) (placed_cut n bytes is.cut at) ∙ text_of bom at (chars (take n bytes)) (placed (at + n) (chars (drop n bytes))) is.plain)
+      (ap (λ (ps : List Placed). items (normalized bom false (map Whole ps))) (placed_cut n bytes is.cut at) ∙ text_of bom at (chars (take n bytes)) (placed (at + n) (chars (drop n bytes))) is.clean)
       continues
 
   pub run_more : (next : S) → Hands gives now (run_items at (chars (take n bytes))) (Ok tt) next → Continues gives old all next rest

@@ -1,11 +1,12 @@
--- Runs of plain characters.
+-- Runs of characters that are in a text as they came.
 use Rattle.std.specs.Prelude.{◌≡◌, ℕ, ◌≤◌, Bool, true, not, ◌&&◌, ◌||◌, ◌==◌, nat_le, List, length, map, take, drop}
 use Rattle.std.specs.List.{list_all}
+use Rattle.std.specs.Char.{is_ascii}
 use Rattle.std.specs.Str.{chars, IsUtf8}
 use Rattle.names.specs.Placed.{placed}
 use Rattle.htext.specs.Items.{CharItem, Character}
 use Rattle.htext.specs.declared.run.RunBytes.{RunBytes}
-use Rattle.htext.specs.declared.run.RunBytes.TheVariants.{Plain, Wide}
+use Rattle.htext.specs.declared.run.RunBytes.TheVariants.{Plain, Text, Clean}
 
 -- a byte that is a character by itself, is in the text as it came but for an LF after a CR, raises no error, and is neither `<` nor `&`
 abbrev pub is_plain_byte : ℕ → Bool
@@ -16,14 +17,23 @@ is_plain_byte byte = (byte == 9 || byte == 10 || byte == 12 || (nat_le 32 byte &
 abbrev pub is_plain : ℕ → Bool
 is_plain c = is_plain_byte c || (nat_le 0xC0 c && nat_le c 0xEFFF)
 
--- a byte of one of these characters in UTF-8, and of no other character's first byte
-abbrev pub is_wide_byte : ℕ → Bool
-is_wide_byte byte = is_plain_byte byte || (nat_le 0x80 byte && nat_le byte 0xBF) || (nat_le 0xC3 byte && nat_le byte 0xEE)
+-- a plain character, `<` or `&`: it is in the text as it came but for an LF after a CR, and raises no error
+abbrev pub is_clean : ℕ → Bool
+is_clean c = is_plain c || c == 60 || c == 38
+
+-- a byte of one of these characters in UTF-8, and the first byte of no other character
+abbrev pub is_clean_byte : ℕ → Bool
+is_clean_byte byte = is_plain_byte byte || byte == 60 || byte == 38 || (nat_le 0x80 byte && nat_le byte 0xBF) || (nat_le 0xC3 byte && nat_le byte 0xEE)
+
+-- a byte that is neither `<` nor `&`
+abbrev pub is_text_byte : ℕ → Bool
+is_text_byte byte = not (byte == 60 || byte == 38)
 
 -- the bytes of a run of each kind
 abbrev pub is_of : RunBytes → ℕ → Bool
-is_of Plain byte = is_plain_byte byte
-is_of Wide byte = is_wide_byte byte
+is_of Plain byte = is_ascii byte && is_text_byte byte
+is_of Text byte = is_text_byte byte
+is_of Clean byte = is_clean_byte byte
 
 abbrev pub is_not_of : RunBytes → ℕ → Bool
 is_not_of kind byte = not (is_of kind byte)
@@ -38,7 +48,7 @@ pub record IsCut (n : ℕ) (text : List ℕ) : Type 0 where
   pub front : IsUtf8 (take n text)
   pub back : IsUtf8 (drop n text)
 
--- the same, and all characters before are plain
-pub record IsPlainFront (n : ℕ) (text : List ℕ) : Type 0 where
+-- the same, and all characters before are clean
+pub record IsCleanFront (n : ℕ) (text : List ℕ) : Type 0 where
   pub cut : IsCut n text
-  pub plain : list_all is_plain (chars (take n text)) ≡ true
+  pub clean : list_all is_clean (chars (take n text)) ≡ true

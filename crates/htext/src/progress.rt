@@ -2,8 +2,7 @@
 
 ghost use Rattle.std.specs.Prelude.{◌≡◌, ℕ, ◌+◌, ◌-◌, ◌<◌, ◌≤◌, ◌++◌, true, false, List, [], ◌∷◌, length, map, take, drop, Ok, Err, IfOk, OnOk, MatchOption};
 ghost use Rattle.std.specs.Prelude.{MatchResult};
-ghost use Rattle.std.specs.List.{list_all};
-ghost use Rattle.std.specs.Char.{encode_utf8, is_ascii};
+ghost use Rattle.std.specs.Char.{encode_utf8};
 ghost use Rattle.std.specs.Str.{chars};
 ghost use Rattle.std.specs.Str.Lossy.{utf8_valid_len};
 ghost use Rattle.names.specs.Placed.{placed};
@@ -13,13 +12,13 @@ ghost use Rattle.htext.specs.declared.decoder.TheConstants.{MAX_INPUT};
 ghost use Rattle.htext.specs.declared.BadBytes.TheVariants.{Refuse, Replace};
 ghost use Rattle.htext.specs.Text.{Policy, Whole, Bad, normalized, ends_in_return, text, settled};
 ghost use Rattle.htext.specs.Items.{items, bad_each};
-ghost use Rattle.htext.specs.Run.{is_plain, is_plain_byte, run_items, IsPlainFront};
+ghost use Rattle.htext.specs.Run.{IsCleanFront};
 ghost use Rattle.htext.specs.Decoding.{HasRead, HandsOn, IsReading, IsUndecided, Stops};
 ghost use Rattle.htext.specs.Next.{next_of, next_part, AreReplaced};
 
 use crate::character::{hand_char, hand_replaced};
 use crate::decoder::MAX_INPUT;
-use crate::run::{bad_run, plain_run, wide_run};
+use crate::run::{bad_run, clean_run};
 use crate::sink::CharSink;
 use crate::{BadBytes, Bom};
 use names::Refusal;
@@ -209,7 +208,7 @@ impl Progress {
         while let Some((ch, after)) = split_first(rest) {
             let run = run_at(rest, ch, after_return);
             if run > 0 {
-                hand_run(&rest[..run], ch.is_ascii(), place, sink)?;
+                sink.take_run(&rest[..run], place)?;
                 place += run as u64;
                 rest = &rest[run..];
                 continue;
@@ -236,35 +235,17 @@ fn split_first(text: &str) -> Option<(char, &str)>
     Some((first, chars.as_str()))
 }
 
-/// How many bytes the run of plain characters has at the front of a text that begins with this one: of those in ASCII where it is one
-/// of them. None after a CR, where an LF is not handed over. At a character that often ends a run, none are looked for.
+/// How many bytes the run of clean characters has at the front of a text that begins with this one. None after a CR, where an LF is not
+/// handed over. At a character that often ends a run, none are looked for.
 #[inline(always)]
 fn run_at(text: &str, first: char, after_return: bool) -> usize
-    ensures front { IsPlainFront result text.now }
-    ensures ascii { is_ascii first ≡ true → list_all is_plain_byte (take result text.now) ≡ true }
+    ensures front { IsCleanFront result text.now }
     ensures after_return { 0 < result → after_return ≡ false }
 {
-    if after_return || matches!(first, '<' | '&' | '\u{7F}'..='\u{BF}' | '\u{F000}'..) {
+    if after_return || matches!(first, '\u{7F}'..='\u{BF}' | '\u{F000}'..) {
         0
-    } else if first.is_ascii() {
-        plain_run(text.as_bytes())
     } else {
-        wide_run(text.as_bytes())
-    }
-}
-
-/// Hands over a run of plain characters, the first of which is at this place; all in ASCII, or any.
-#[inline]
-fn hand_run<S: CharSink>(run: &str, is_ascii: bool, at: u64, sink: &mut S) -> Result<(), Refusal>
-    requires plain { list_all is_plain (chars run.now) ≡ true }
-    requires ascii { is_ascii ≡ true → list_all is_plain_byte run.now ≡ true }
-    requires within { at + length run.now ≤ MAX_INPUT }
-    ensures { Hands S.gives sink.old (run_items at (chars run.now)) result sink.new }
-{
-    if is_ascii {
-        sink.take_run(run, at)
-    } else {
-        sink.take_text(run, at)
+        clean_run(text.as_bytes())
     }
 }
 

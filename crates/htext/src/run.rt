@@ -1,48 +1,56 @@
-//! Runs of plain characters.
+//! Runs of bytes.
 
 ghost use Rattle.std.specs.Prelude.{◌≡◌, ◌<◌, ◌≤◌, map, length, Some, MatchBool};
 ghost use Rattle.std.specs.List.{prefix_len};
 ghost use Rattle.std.specs.Simd.Lanes.{mask_l};
 ghost use Rattle.std.specs.Str.Lossy.{utf8_valid_len, utf8_error_len};
 ghost use Rattle.htext.specs.Next.{AreBad};
-ghost use Rattle.htext.specs.Run.{is_plain_byte, is_wide_byte, is_of, is_not_of};
+ghost use Rattle.htext.specs.Run.{is_of, is_not_of, is_text_byte};
 
 use std::simd::prelude::*;
 
 /// Which bytes make up a run.
 #[derive(Clone, Copy)]
 pub(crate) enum RunBytes {
-    /// Those of plain characters, in ASCII.
+    /// Those in ASCII but `<` and `&`.
     Plain,
-    /// Those of all plain characters.
-    Wide,
+    /// All but `<` and `&`.
+    Text,
+    /// Those of clean characters.
+    Clean,
 }
 
-/// The bytes of a run by their halves: a bit for each kind of high half, 1 for 0, 2 for 2, 4 for 3, 8 for 4 to 6, 16 for 7, 32 for 8
-/// to B and D, 64 for C, and 128 for E. A byte is in a run where its low half has the bit of its high one.
+/// The bytes of clean characters by their halves: a bit for each kind of high half, 1 for 0, 2 for 2 to 6, 4 for 7, 8 for 8 to B and D,
+/// 16 for C, and 32 for E. A byte is clean where its low half has the bit of its high one.
 const BY_LOW: [u8; 16] = [
-    190, 190, 190, 254, 254, 254, 252, 254, 254, 255, 255, 254, 251, 254, 254, 110,
+    46, 46, 46, 62, 62, 62, 62, 62, 62, 63, 63, 62, 63, 62, 62, 26,
 ];
 
-const PLAIN_BY_HIGH: [u8; 16] = [1, 0, 2, 4, 8, 8, 8, 16, 0, 0, 0, 0, 0, 0, 0, 0];
+const BY_HIGH: [u8; 16] = [1, 0, 2, 2, 2, 2, 2, 4, 8, 8, 8, 8, 16, 8, 32, 0];
 
-const WIDE_BY_HIGH: [u8; 16] = [1, 0, 2, 4, 8, 8, 8, 16, 32, 32, 32, 32, 64, 32, 128, 0];
-
-/// Counts the bytes before the first one that is not plain: `<`, `&`, or any but tab, LF, FF and 20 to 7E. Each of the bytes
-/// before it is a character that is in the text as it came, unless it is an LF after a CR.
+/// Counts the bytes before the first `<`, `&` or byte of a character that is not ASCII.
 #[inline(always)]
 pub fn plain_run(bytes: &[u8]) -> usize
-    ensures { result ≡ prefix_len is_plain_byte bytes.now }
+    ensures { result ≡ prefix_len (is_of RunBytes.Plain) bytes.now }
 {
     run(RunBytes::Plain, bytes)
 }
 
-/// Counts the bytes before the first one that is neither plain nor one of the characters U+00C0 to U+EFFF in UTF-8.
+/// Counts the bytes before the first `<` or `&`.
 #[inline(always)]
-pub fn wide_run(bytes: &[u8]) -> usize
-    ensures { result ≡ prefix_len is_wide_byte bytes.now }
+pub fn text_run(bytes: &[u8]) -> usize
+    ensures { result ≡ prefix_len (is_of RunBytes.Text) bytes.now }
 {
-    run(RunBytes::Wide, bytes)
+    run(RunBytes::Text, bytes)
+}
+
+/// Counts the bytes before the first one that is not of a clean character in UTF-8: of tab, LF, FF, 20 to 7E, or U+00C0 to U+EFFF. Each
+/// of these is in the text as it came, unless it is an LF after a CR, and raises no error.
+#[inline(always)]
+pub fn clean_run(bytes: &[u8]) -> usize
+    ensures { result ≡ prefix_len (is_of RunBytes.Clean) bytes.now }
+{
+    run(RunBytes::Clean, bytes)
 }
 
 /// Counts bytes at the front, at most this many, each of which is a bad part by itself.
@@ -105,21 +113,22 @@ fn run_by_one(kind: RunBytes, bytes: &[u8]) -> usize
 fn stops(kind: RunBytes, bytes: u8x16) -> u64
     ensures { result ≡ mask_l (map (is_not_of kind) bytes) }
 {
-    let low = u8x16::from_array(BY_LOW).swizzle_dyn(bytes & u8x16::splat(15));
-    let high = u8x16::from_array(by_high(kind)).swizzle_dyn(bytes >> u8x16::splat(4));
-    (low & high).simd_eq(u8x16::splat(0)).to_bitmask()
+    let marks = bytes.simd_eq(u8x16::splat(b'<')) | bytes.simd_eq(u8x16::splat(b'&'));
+    match kind {
+        RunBytes::Plain => (marks | bytes.simd_ge(u8x16::splat(0x80))).to_bitmask(),
+        RunBytes::Text => marks.to_bitmask(),
+        RunBytes::Clean => unclean(bytes),
+    }
 }
 
-/// The bits of the high halves.
+/// Which of these bytes are not clean.
 #[inline(always)]
-fn by_high(kind: RunBytes) -> [u8; 16]
-    ensures plain { kind ≡ RunBytes.Plain → result ≡ PLAIN_BY_HIGH }
-    ensures wide { kind ≡ RunBytes.Wide → result ≡ WIDE_BY_HIGH }
+fn unclean(bytes: u8x16) -> u64
+    ensures { result ≡ mask_l (map (is_not_of RunBytes.Clean) bytes) }
 {
-    match kind {
-        RunBytes::Plain => PLAIN_BY_HIGH,
-        RunBytes::Wide => WIDE_BY_HIGH,
-    }
+    let low = u8x16::from_array(BY_LOW).swizzle_dyn(bytes & u8x16::splat(15));
+    let high = u8x16::from_array(BY_HIGH).swizzle_dyn(bytes >> u8x16::splat(4));
+    (low & high).simd_eq(u8x16::splat(0)).to_bitmask()
 }
 
 /// Whether a byte may be in a run.
@@ -128,15 +137,19 @@ fn is_in_run(kind: RunBytes, byte: u8) -> bool
     ensures { result ≡ is_of kind byte }
 {
     match kind {
-        RunBytes::Plain => is_plain(byte),
-        RunBytes::Wide => is_plain(byte) || matches!(byte, 0x80..=0xBF | 0xC3..=0xEE),
+        RunBytes::Plain => byte.is_ascii() && is_text(byte),
+        RunBytes::Text => is_text(byte),
+        RunBytes::Clean => matches!(
+            byte,
+            b'\t' | b'\n' | 0x0C | b' '..=b'~' | 0x80..=0xBF | 0xC3..=0xEE
+        ),
     }
 }
 
-/// Whether a byte is plain.
-#[inline]
-fn is_plain(byte: u8) -> bool
-    ensures { result ≡ is_plain_byte byte }
+/// Whether a byte is neither `<` nor `&`.
+#[inline(always)]
+fn is_text(byte: u8) -> bool
+    ensures { result ≡ is_text_byte byte }
 {
-    matches!(byte, b'\t' | b'\n' | 0x0C | b' '..=b'%' | b'\''..=b';' | b'='..=b'~')
+    !matches!(byte, b'<' | b'&')
 }

@@ -10,7 +10,7 @@ pub trait CharSink {
     ghost use Rattle.names.specs.declared.refusal.Refusal.{Refusal as Refused};
     ghost use Rattle.htext.specs.declared.decoder.TheConstants.{MAX_INPUT};
     ghost use Rattle.htext.specs.Items.{CharItem, Character, InputError, items, bad_each};
-    ghost use Rattle.htext.specs.Run.{is_plain, is_plain_byte, run_items};
+    ghost use Rattle.htext.specs.Run.{is_clean, run_items};
     ghost use Rattle.std.specs.Str.{chars};
 
     /// A step of the sink: as it was, what it was handed, its answer, and as it is then.
@@ -25,22 +25,10 @@ pub trait CharSink {
     fn take_error(&mut self, error: ParseError) -> Result<(), Refusal>
         ensures { gives self.old (InputError error) result self.new };
 
-    /// Takes a run of plain characters, each a byte, the first of which is at `at`. It is the same as taking them one by one,
-    /// up to the first that is refused.
+    /// Takes a run of clean characters, the first byte of which is at `at`. It is the same as taking them one by one, up to the first
+    /// that is refused.
     fn take_run(&mut self, run: &str, at: u64) -> Result<(), Refusal>
-        requires plain { list_all is_plain_byte run.now ≡ true }
-        requires within { at + length run.now ≤ MAX_INPUT }
-        ensures { Hands gives self.old (run_items at run.now) result self.new }
-    {
-        for (index, byte) in run.as_bytes().iter().enumerate() {
-            self.take_char(char::from(*byte), at + index as u64)?;
-        }
-        Ok(())
-    }
-
-    /// The same for a run of any plain characters, the first byte of which is at `at`.
-    fn take_text(&mut self, run: &str, at: u64) -> Result<(), Refusal>
-        requires plain { list_all is_plain (chars run.now) ≡ true }
+        requires clean { list_all is_clean (chars run.now) ≡ true }
         requires within { at + length run.now ≤ MAX_INPUT }
         ensures { Hands gives self.old (run_items at (chars run.now)) result self.new }
     {

@@ -11,12 +11,12 @@ use Rattle.htext.proofs.Runs.{front_of}
 use Rattle.htext.proofs.Wide.{run_more, run_refused, ends_after}
 use Rattle.htext.proofs.progress.Progress.hand_text.Goals as goal
 
-pub returns-in_err-hand_run-clause-handed : goal.returns-in_err-hand_run-clause-handed
-returns-in_err-hand_run-clause-handed g c =
+pub returns-in_err-take_run-clause-handed : goal.returns-in_err-take_run-clause-handed
+returns-in_err-take_run-clause-handed g c =
     let e = err_from_is_err_and c.from_residual.result c.from_residual.ensures.1 in
     let here = rw (c.run_at-run.ensures.after_return c.if-run-gt0.true) at c.loop-ch.invariant.handed in
-    let taken = rw (c.range.ensures.value ∙ front_of c.run_at-run.result c.loop-ch.rest.now) at c.in_err-hand_run.ensures in
-    rw (e.1, e.2) (run_refused g.S.CharSink.gives _ _ _ c.loop-ch.sink _ c.run_at-run.result c.loop-ch.rest.now here c.run_at-run.ensures.front _ c.in_err-hand_run.field-0.0 taken)
+    let taken = rw (c.range.ensures.value ∙ front_of c.run_at-run.result c.loop-ch.rest.now) at c.in_err-take_run.ensures in
+    rw (e.1, e.2) (run_refused g.S.CharSink.gives _ _ _ c.loop-ch.sink _ c.run_at-run.result c.loop-ch.rest.now here c.run_at-run.ensures.front _ c.in_err-take_run.field-0.0 taken)
 
 pub range-requires-clause-end_boundary : goal.range-requires-clause-end_boundary
 range-requires-clause-end_boundary g c =
@@ -31,7 +31,7 @@ loop-ch-preserved-then-run-gt0 g c =
     let free = c.run_at-run.ensures.after_return c.if-run-gt0.true in
     let here = rw free at c.loop-ch.invariant.handed in
     let ended = rw free at c.loop-ch.invariant.ends in
-    let taken = rw (c.range.ensures.value ∙ front_of c.run_at-run.result c.loop-ch.rest.now) at c.in_ok-hand_run.ensures in
+    let taken = rw (c.range.ensures.value ∙ front_of c.run_at-run.result c.loop-ch.rest.now) at c.in_ok-take_run.ensures in
     let n = c.run_at-run.result in
     let bytes = c.loop-ch.rest.now in
     let left = c.range_from-rest.ensures.value in

@@ -1,0 +1,143 @@
+-- Where a text is cut by the count of bytes that pass a test.
+use Rattle.std.proofs.Common.{◌≡◌, ℕ, ◌<◌, ◌≤◌, ◌+◌, zero, suc, Bool, true, false, not, cond, ◌⊎◌, List, [], ◌∷◌, ◌++◌, length, take, drop, get_or, sym, refl, ap, ◌∙◌, subst, arith, append_assoc, inl, inr}
+use Rattle.std.specs.Prelude.{encode_utf8_all}
+use Rattle.std.specs.List.{list_all, prefix_len}
+use Rattle.std.proofs.lemmas.Bool.{and_parts, and_from, cases_lt, not-true}
+use Rattle.std.proofs.lemmas.Bool.Decides.{nat_tests}
+use Rattle.std.proofs.lemmas.List.{take_at, drop_at, take-append-drop, length-append}
+use Rattle.std.proofs.lemmas.List.Folds.{list_all-append}
+use Rattle.std.proofs.lemmas.List.Sums.{prefix_len_stops}
+use Rattle.std.proofs.lemmas.Str.{chars-encodes, encodes-chars, chars-nil, encode_ascii, IsUtf8-nil}
+use Rattle.std.specs.Str.{all_scalars as scalars}
+use Rattle.std.specs.Str.{chars, IsUtf8}
+use Rattle.std.specs.Char.{encode_utf8}
+use Rattle.htext.specs.Run.{is_plain_byte, is_plain, is_clean, is_clean_byte, is_text_byte, is_of, IsCut, IsCleanFront}
+use Rattle.htext.specs.declared.run.RunBytes.TheVariants.{Plain, Text}
+use Rattle.htext.proofs.Plain.{BeginsOutside, clean_bytes, other_bytes, long_bytes, begins_anew, plain_of_text, plain_of_ascii, mark_is}
+use Rattle.htext.proofs.Runs.{counted, plain_bytes}
+use Rattle.htext.proofs.Wide.{chars_cut}
+
+take_scalars : (n : ℕ) (cs : List ℕ) → scalars cs ≡ true → (scalars (take n cs) ≡ true) × (scalars (drop n cs) ≡ true)
+take_scalars zero cs s = (refl, s)
+take_scalars (suc n) [] s = (refl, refl)
+take_scalars (suc n) (c ∷ cs) s = let k = and_parts _ (scalars cs) s in let more = take_scalars n cs k.1 in (and_from _ _ k.0 more.0, more.1)
+
+encodes_both : (xs ys : List ℕ) → encode_utf8_all (xs ++ ys) ≡ encode_utf8_all xs ++ encode_utf8_all ys
+encodes_both [] ys = refl
+encodes_both (x ∷ xs) ys = ap (λ (l : List ℕ). encode_utf8 x ++ l) (encodes_both xs ys) ∙ sym (append_assoc (encode_utf8 x) (encode_utf8_all xs) (encode_utf8_all ys))
+
+through : (test : ℕ → Bool) (xs ys : List ℕ) → list_all test xs ≡ true → prefix_len test (xs ++ ys) ≡ length xs + prefix_len test ys
+through test [] ys h = omega arith
+through test (x ∷ xs) ys h =
+    let k = and_parts (test x) (list_all test xs) h in
+    let more : prefix_len test (xs ++ ys) ≡ length xs + prefix_len test ys = through test xs ys k.1 in
+    rw k.0 (omega (arith, more))
+
+-- a test of characters, and one of bytes that all bytes of the characters that pass do, and the first byte of no other
+module _ (test byte_test : ℕ → Bool) (inside : (c : ℕ) → test c ≡ true → list_all byte_test (encode_utf8 c) ≡ true)
+    (outside : (c : ℕ) → test c ≡ false → BeginsOutside byte_test (encode_utf8 c)) where
+  abbrev IsFront : ℕ → List ℕ → Type 0
+  IsFront n bytes = IsCut n bytes × (list_all test (chars (take n bytes)) ≡ true)
+
+  counted_by : (b : Bool) (c : ℕ) (cs : List ℕ) → test c ≡ b → prefix_len byte_test (encode_utf8_all cs) ≡ length (encode_utf8_all (take (prefix_len test cs) cs))
+      → prefix_len byte_test (encode_utf8 c ++ encode_utf8_all cs) ≡ length (encode_utf8_all (take (cond b (1 + prefix_len test cs) 0) (c ∷ cs)))
+  counted_by true c cs e more =
+      let next : 1 + prefix_len test cs ≡ suc (prefix_len test cs) = omega arith in
+      rw next (through byte_test (encode_utf8 c) (encode_utf8_all cs) (inside c e) ∙ ap (λ (n : ℕ). length (encode_utf8 c) + n) more
+      ∙ sym (length-append (encode_utf8 c) (encode_utf8_all (take (prefix_len test cs) cs))))
+  counted_by false c cs e more = let (b, bs, is, fails) = outside c e in ap (λ (x : List ℕ). prefix_len byte_test (x ++ encode_utf8_all cs)) is ∙ rw fails refl
+
+  -- the bytes that pass at the front of characters are those of the characters that do
+  counts : (cs : List ℕ) → prefix_len byte_test (encode_utf8_all cs) ≡ length (encode_utf8_all (take (prefix_len test cs) cs))
+  counts [] = refl
+  counts (c ∷ cs) = counted_by (test c) c cs refl (counts cs)
+
+  -- characters that are cut in two
+  cut_characters : (xs ys : List ℕ) (n : ℕ) → scalars xs ≡ true → scalars ys ≡ true → n ≡ length (encode_utf8_all xs) → list_all test xs ≡ true → IsFront n (encode_utf8_all xs ++ encode_utf8_all ys)
+  cut_characters xs ys n s t is all =
+      let taken : take n (encode_utf8_all xs ++ encode_utf8_all ys) ≡ encode_utf8_all xs = take_at (encode_utf8_all xs) (encode_utf8_all ys) n (sym is) in
+      let left : drop n (encode_utf8_all xs ++ encode_utf8_all ys) ≡ encode_utf8_all ys = drop_at (encode_utf8_all xs) (encode_utf8_all ys) n (sym is) in (
+        record {
+          within = omega (arith, length-append (encode_utf8_all xs) (encode_utf8_all ys));
+          front = rw taken (xs, (s, refl));
+          back = rw left (ys, (t, refl));
+        },
+        ap (λ (l : List ℕ). list_all test (chars l)) taken ∙ ap (list_all test) (chars-encodes xs s) ∙ all,
+      )
+
+  pub front : (bytes : List ℕ) → IsUtf8 bytes → IsFront (prefix_len byte_test bytes) bytes
+  front bytes u =
+      let cs : List ℕ = u.0 in
+      let k : ℕ = prefix_len test cs in
+      let parts = take_scalars k cs u.1.0 in
+      let both : encode_utf8_all (take k cs) ++ encode_utf8_all (drop k cs) ≡ encode_utf8_all cs = sym (encodes_both (take k cs) (drop k cs)) ∙ ap encode_utf8_all (take-append-drop k cs) in
+      subst (λ (l : List ℕ). IsFront (prefix_len byte_test l) l) (both ∙ u.1.1)
+      (cut_characters (take k cs) (drop k cs) _ parts.0 parts.1 (ap (prefix_len byte_test) both ∙ counts cs) (counted test cs))
+
+-- CLEAN CHARACTERS
+
+pub clean_front : (bytes : List ℕ) → IsUtf8 bytes → IsCleanFront (prefix_len is_clean_byte bytes) bytes
+clean_front bytes u = let (cut, clean) = front is_clean is_clean_byte clean_bytes other_bytes bytes u in record { cut = cut; clean = clean }
+
+pub nothing_front : (bytes : List ℕ) → IsUtf8 bytes → IsCleanFront 0 bytes
+nothing_front bytes u = record { cut = record { within = omega arith; front = IsUtf8-nil; back = u }; clean = ap (list_all is_clean) chars-nil }
+
+pub clean_rest : (n : ℕ) (run : List ℕ) → IsCut n run → list_all is_clean (chars run) ≡ true → (list_all is_clean (chars (take n run)) ≡ true) × (list_all is_clean (chars (drop n run)) ≡ true)
+clean_rest n run cut clean =
+    and_parts (list_all is_clean (chars (take n run))) _ (sym (list_all-append is_clean (chars (take n run)) (chars (drop n run))) ∙ ap (list_all is_clean) (sym (chars_cut n run cut)) ∙ clean)
+
+-- THE FRONTS OF CLEAN CHARACTERS
+
+both_pass : (first second third : ℕ → Bool) → ((c : ℕ) → first c ≡ true → second c ≡ true → third c ≡ true) → (cs : List ℕ) → list_all first cs ≡ true → list_all second cs ≡ true → list_all third cs ≡ true
+both_pass first second third joined [] f s = refl
+both_pass first second third joined (c ∷ cs) f s =
+    let k = and_parts (first c) (list_all first cs) f in
+    let m = and_parts (second c) (list_all second cs) s in
+    and_from _ _ (joined c k.0 m.0) (both_pass first second third joined cs k.1 m.1)
+
+of_long : (byte : ℕ) → 128 ≤ byte → is_text_byte byte ≡ true
+of_long byte l = grind (arith, nat_tests)
+
+text_bytes : (c : ℕ) → is_of Text c ≡ true → list_all (is_of Text) (encode_utf8 c) ≡ true
+text_bytes c h = elim (cases_lt c 128) [
+  | inl one ↦ ap (list_all (is_of Text)) (encode_ascii c one) ∙ and_from _ _ h refl
+  | inr above ↦ long_bytes (is_of Text) of_long c above
+]
+
+mark_bytes : (c : ℕ) → is_of Text c ≡ false → BeginsOutside (is_of Text) (encode_utf8 c)
+mark_bytes c h = elim (cases_lt c 128) [
+  | inl one ↦ (c, [], encode_ascii c one, h)
+  | inr above ↦ (let no : is_text_byte c ≡ true = of_long c above in absurd cc)
+]
+
+ascii_bytes : (c : ℕ) → is_of Plain c ≡ true → list_all (is_of Plain) (encode_utf8 c) ≡ true
+ascii_bytes c h = let one : c < 128 = grind (arith, nat_tests) in ap (list_all (is_of Plain)) (encode_ascii c one) ∙ and_from _ _ h refl
+
+long_is_other : (byte : ℕ) → 128 ≤ byte → not (is_of Plain byte) ≡ true
+long_is_other byte l = grind (arith, nat_tests)
+
+other_plain : (c : ℕ) → is_of Plain c ≡ false → BeginsOutside (is_of Plain) (encode_utf8 c)
+other_plain c h = elim (cases_lt c 128) [
+  | inl one ↦ (c, [], encode_ascii c one, h)
+  | inr above ↦ (
+      let (b, bs, is, _) = begins_anew c in
+      let first = and_parts _ (list_all (λ byte. not (is_of Plain byte)) bs) (sym (ap (list_all (λ byte. not (is_of Plain byte))) is) ∙ long_bytes (λ byte. not (is_of Plain byte)) long_is_other c above) in
+      (b, bs, is, not-true _ first.0))
+]
+
+pub text_stops : (run : List ℕ) → prefix_len (is_of Text) run < length run → (get_or run (prefix_len (is_of Text) run) 0 ≡ 60) ⊎ (get_or run (prefix_len (is_of Text) run) 0 ≡ 38)
+text_stops run l = mark_is (get_or run (prefix_len (is_of Text) run) 0) (prefix_len_stops (is_of Text) run 0 l)
+
+module _ (run : List ℕ) (utf8 : IsUtf8 run) (clean : list_all is_clean (chars run) ≡ true) where
+  pub text_front : IsCut (prefix_len (is_of Text) run) run × (list_all is_plain (chars (take (prefix_len (is_of Text) run) run)) ≡ true)
+  text_front =
+      let n : ℕ = prefix_len (is_of Text) run in
+      let (cut, text) = front (is_of Text) (is_of Text) text_bytes mark_bytes run utf8 in
+      (cut, both_pass is_clean (is_of Text) is_plain plain_of_text (chars (take n run)) (clean_rest n run cut clean).0 text)
+
+  pub plain_front : IsCut (prefix_len (is_of Plain) run) run × (list_all is_plain_byte (take (prefix_len (is_of Plain) run) run) ≡ true)
+  plain_front =
+      let n : ℕ = prefix_len (is_of Plain) run in
+      let (cut, ascii) = front (is_of Plain) (is_of Plain) ascii_bytes other_plain run utf8 in
+      let plain = both_pass is_clean (is_of Plain) is_plain_byte plain_of_ascii (chars (take n run)) (clean_rest n run cut clean).0 ascii in
+      (cut, subst (λ (l : List ℕ). list_all is_plain_byte l ≡ true) (sym (plain_bytes (chars (take n run)) plain) ∙ encodes-chars (take n run) cut.front) plain)
