@@ -5,10 +5,8 @@ use Rattle.std.specs.List.{list_all, prefix_len, slice_range}
 use Rattle.std.proofs.lemmas.List.{length-take-le, take-append-drop}
 use Rattle.std.proofs.lemmas.Bool.{and_parts, and_from}
 use Rattle.std.proofs.lemmas.Str.{encode_ascii, len_utf8_ascii, IsUtf8-past_char, chars_past_char, chars-nil}
-use Rattle.std.specs.Str.{all_scalars as scalars}
 use Rattle.std.specs.Str.{chars, IsUtf8}
 use Rattle.std.specs.Char.{encode_utf8, len_utf8}
-use lib.Utf8.{low_scalar}
 use Rattle.names.specs.Placed.{placed, all}
 use Rattle.names.specs.declared.placed.Placed.{Placed}
 use Rattle.htext.specs.Run.{is_plain_byte}

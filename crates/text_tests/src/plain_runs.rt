@@ -1,51 +1,47 @@
-//! Runs of plain bytes.
+//! Runs of bytes.
 
-use htext::plain_run;
-use std::alloc::{AllocError, Global};
-use std::test::Fail;
+use htext::{clean_run, plain_run, text_run};
 
-const STOPS: [u8; 12] = [0, 8, 11, 13, 14, 31, b'&', b'<', 0x7F, 0x80, 0xC2, 0xFF];
-
-const PLAIN: [u8; 10] = [
-    b'\t', b'\n', 0x0C, b' ', b'%', b'\'', b';', b'=', b'~', b'a',
-];
-
-fn is_plain(byte: u8) -> bool {
-    match byte {
-        b'<' | b'&' => false,
-        b'\t' | b'\n' | 0x0C => true,
-        _ => (0x20..=0x7E).contains(&byte),
-    }
-}
-
-/// The run at the beginning of a text in which the byte at a place is another one.
-fn run_with(alloc: Global, text: &[u8], place: usize, stop: u8) -> Result<usize, AllocError> {
-    let mut changed = Vec::from_slice(alloc, text)?;
-    if let Some(byte) = changed.get_mut(place) {
-        *byte = stop;
-    }
-    Ok(plain_run(&changed))
-}
-
-/// A byte that is not plain ends a run at each place, for lengths below and above those of a step.
+/// A byte that is not in a run ends it at each place, for lengths below and above those of a step.
 #[test]
-fn a_run_ends_at_each_place(rt: HostRuntime) -> Result<(), Fail> {
-    let mut text: Vec<u8> = Vec::new(rt.alloc());
-    for length in 0..101usize {
-        assert!(rt; plain_run(&text) == length);
+fn a_run_ends_at_each_place(rt: HostRuntime) {
+    for length in 0..=40usize {
+        let mut text = [b'a'; 40];
+        let letters = &text[..length];
+        let whole = plain_run(letters) == length && text_run(letters) == length;
+        assert!(rt; whole && clean_run(letters) == length);
         for place in 0..length {
-            let stop = STOPS[length.wrapping_add(place) % STOPS.len()];
-            assert!(rt; run_with(rt.alloc(), &text, place, stop)? == place);
+            text[place] = b'&';
+            let marked = &text[..length];
+            assert!(rt; plain_run(marked) == place && text_run(marked) == place);
+            text[place] = 0;
+            assert!(rt; clean_run(&text[..length]) == place);
+            text[place] = b'a';
         }
-        text.push(PLAIN[length % PLAIN.len()])?;
     }
-    Ok(())
 }
 
 #[test]
-fn each_byte_is_plain_or_not(rt: HostRuntime) {
+fn each_byte_is_in_a_run_or_not(rt: HostRuntime) {
     for byte in 0..=255_u8 {
-        let wanted = if is_plain(byte) { 2 } else { 0 };
-        assert!(rt; plain_run(&[byte, b'a', b'<']) == wanted);
+        let bytes = [byte; 20];
+        let is_text = byte != b'<' && byte != b'&';
+        assert!(rt; text_run(&bytes) == wanted(is_text));
+        assert!(rt; plain_run(&bytes) == wanted(is_text && byte < 0x80));
+        assert!(rt; clean_run(&bytes) == wanted(is_clean(byte)));
     }
+}
+
+/// Whether a byte is one of a clean character.
+fn is_clean(byte: u8) -> bool {
+    match byte {
+        b'\t' | b'\n' | 0x0C => true,
+        0x80.. => byte < 0xC0 || (0xC3..0xEF).contains(&byte),
+        _ => byte >= 0x20 && byte != 0x7F,
+    }
+}
+
+/// The length of the run at the front of 20 such bytes.
+fn wanted(is_in_run: bool) -> usize {
+    if is_in_run { 20 } else { 0 }
 }
