@@ -25,12 +25,12 @@ one_semicolon : (cs : List ℕ) → bytes_eq cs (codes ";") ≡ true → cs ≡ 
 one_semicolon cs h = (bytes_eq-Decides cs (codes ";")).0 h
 
 -- what follows a character of a name
-data Follows (cs : List ℕ) : Type 0 where
+pub data Follows (cs : List ℕ) : Type 0 where
   ends : cs ≡ [] → Follows cs
   closes : cs ≡ 59 ∷ [] → Follows cs
   continues : is_key_name cs ≡ true → Follows cs
 
-follows : (cs : List ℕ) → (is_empty_list cs || bytes_eq cs (codes ";") || is_key_name cs) ≡ true → Follows cs
+pub follows : (cs : List ℕ) → (is_empty_list cs || bytes_eq cs (codes ";") || is_key_name cs) ≡ true → Follows cs
 follows [] h = ends refl
 follows (c ∷ cs) h = by (bytes_eq (c ∷ cs) (codes ";")) refl h
   where

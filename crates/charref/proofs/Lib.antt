@@ -14,3 +14,4 @@ pub mod Keeping
 pub mod Opening
 pub mod OneReference
 pub mod SomeReference
+pub mod AtOnce

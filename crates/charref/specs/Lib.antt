@@ -8,3 +8,4 @@ pub mod Pieces
 pub mod Last
 pub mod Open
 pub mod Walk
+pub mod AtOnce

@@ -1,6 +1,7 @@
 //! Character references (HTML Standard, 13.2.5.72 to 13.2.5.80): the table of named ones, and reading what follows an `&`.
 #![tactic(auto)]
 
+mod at_once;
 mod entity;
 mod last;
 mod laws;

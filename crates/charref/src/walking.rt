@@ -112,7 +112,7 @@ fn as_text<'t>(left: usize, fault: Option<ErrorCode>, in_run: bool) -> Reference
 }
 
 /// Whether a key ends in a `;`.
-fn ends_in_semicolon(key: &[u8]) -> bool
+pub(crate) fn ends_in_semicolon(key: &[u8]) -> bool
     ensures { result ≡ ends_in_semicolon key.now }
 {
     !key.is_empty() && key[key.len() - 1] == b';'
