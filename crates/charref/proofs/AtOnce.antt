@@ -1,8 +1,9 @@
 -- A reference that stands whole in a run of the input.
-use Rattle.std.proofs.Common.{arith, ◌≡◌, ℕ, ◌+◌, ◌-◌, ◌≤◌, ◌<◌, Bool, true, false, true≢false, ◌&&◌, not, nat_eq, nat_lt, nat_le, List, [], ◌∷◌, ◌++◌, length, take, drop, slice_get, get_or, Option, Some, None, IfSome, Bor, refl, sym, ap, ◌∙◌, subst}
+use Rattle.std.proofs.Common.{arith, ◌≡◌, ℕ, ◌+◌, ◌-◌, ◌≤◌, ◌<◌, Bool, true, false, true≢false, not, nat_eq, nat_lt, nat_le, List, [], ◌∷◌, ◌++◌, length, take, drop, slice_get, get_or, Option, Some, None, MatchOption, IfSome, Bor, refl, sym, ap, ◌∙◌, subst}
 use Rattle.std.proofs.lemmas.Bool.{and_parts, and_from}
 use Rattle.std.proofs.lemmas.Bool.Decides.{nat_tests}
 use Rattle.std.proofs.lemmas.List.{take_more, length-map}
+use Rattle.std.proofs.lemmas.Option.{slice_get_within, get_or_from_slice_get}
 use Rattle.std.proofs.lemmas.List.Folds.{list_all_more}
 use Rattle.std.specs.Char.{is_ascii, len_utf8}
 use Rattle.std.specs.List.{starts_with, list_all}
@@ -11,11 +12,13 @@ use Rattle.names.specs.Placed.{placed, characters, all, is_alphanumeric}
 use Rattle.charref.specs.declared.reference.Reference.{Reference}
 use Rattle.charref.specs.declared.reference.Characters.TheVariants.{Named}
 use Rattle.charref.specs.declared.search.Search.{Search}
+use Rattle.charref.specs.declared.walk.Walk.{Walk}
 use Rattle.charref.specs.Reference.{Entry, Entities, IsTable, longest, is_key, is_key_name, ends_in_semicolon}
 use Rattle.charref.specs.Table.{is_search_within, IsOver, GoesOn}
 use Rattle.charref.specs.Held.{key_bytes}
 use Rattle.charref.specs.Pieces.{IsRead}
-use Rattle.charref.specs.AtOnce.{Settles}
+use Rattle.charref.specs.Walk.{HasTaken, Takes}
+use Rattle.charref.specs.AtOnce.{HasTakenBytes, HasWhole, Settles}
 use Rattle.charref.proofs.Keys.{longest-whole, longest-over, no_longer}
 use Rattle.charref.proofs.Core.{once}
 use Rattle.charref.proofs.Naming.{is_key_of, key_of}
@@ -35,28 +38,41 @@ last_placed at (x ∷ xs) byte =
     let more : Last (at + len_utf8 x) xs byte = last_placed (at + len_utf8 x) xs byte in
     record { p = more.p; ch = more.ch; is = ap (λ ps. record { ch = x; at = at } ∷ ps) more.is }
 
-pub placed-more : (at : ℕ) (bytes : List ℕ) (k byte : ℕ) → k < length bytes → byte ≡ get_or bytes k 0 → (last : Last at (take k bytes) byte) → placed at (take (k + 1) bytes) ≡ placed at (take k bytes) ++ last.p ∷ []
-placed-more at bytes k byte within is last =
-    ap (placed at) (take_more bytes k 0 within ∙ ap (λ b. take k bytes ++ b ∷ []) (sym is)) ∙ last.is
+-- The walk goes on after the first `count` bytes, or these settle it.
+abbrev pub Stepped : Entities → List ℕ → ℕ → Walk → Option Reference → Type 0
+Stepped table bytes count walk answer = MatchOption answer (HasTakenBytes walk table bytes count) (λ found. Settles table bytes count found)
 
-pub ascii_more : (bytes : List ℕ) (k : ℕ) → k < length bytes → is_ascii (get_or bytes k 0) ≡ true → list_all is_ascii (take k bytes) ≡ true → list_all is_ascii (take (k + 1) bytes) ≡ true
-ascii_more bytes k within ascii others = list_all_more is_ascii bytes k 0 within ∙ and_from _ _ others ascii
+pub taken_byte : (table : Entities) (bytes : List ℕ) (k byte : ℕ) (walk new : Walk) (answer : Option Reference) → k < length bytes → byte ≡ get_or bytes k 0 → is_ascii (get_or bytes k 0) ≡ true → HasTakenBytes walk table bytes k
+    → ((text : List Placed) (p : Placed) → HasTaken walk table false text → p.ch ≡ byte → Takes table false (text ++ p ∷ []) answer new)
+    → Stepped table bytes (k + 1) new answer
+taken_byte table bytes k byte walk new answer within is ascii before takes = by answer (λ at. let last : Last at (take k bytes) byte = last_placed at (take k bytes) byte in
+    subst (λ text. Takes table false text answer new) (sym (more at last)) (takes (placed at (take k bytes)) last.p (before.taken at) last.ch))
+  where
+    more : (at : ℕ) (last : Last at (take k bytes) byte) → placed at (take (k + 1) bytes) ≡ placed at (take k bytes) ++ last.p ∷ []
+    more at last = ap (placed at) (take_more bytes k 0 within ∙ ap (λ b. take k bytes ++ b ∷ []) (sym is)) ∙ last.is
 
--- The byte settles it.
-pub last_settles : (table : Entities) (bytes : List ℕ) (k byte : ℕ) (found : Reference) → k < length bytes → byte ≡ get_or bytes k 0 → is_ascii (get_or bytes k 0) ≡ true → list_all is_ascii (take k bytes) ≡ true
-    → ((at : ℕ) (p : Placed) → p.ch ≡ byte → (after : List Placed) → IsRead table false (placed at (take k bytes) ++ p ∷ []) after found) → Settles table bytes (k + 1) found
-last_settles table bytes k byte found within is ascii-is others read = record {
-  some = omega arith;
-  few = omega arith;
-  ascii = ascii_more bytes k within ascii-is others;
-  read = λ place after.
-      let last : Last place (take k bytes) byte = last_placed place (take k bytes) byte in
-      subst (λ ps. IsRead table false ps after found) (sym (placed-more place bytes k byte within is last)) (read place last.p last.ch after);
-}
+    all-ascii : list_all is_ascii (take (k + 1) bytes) ≡ true
+    all-ascii = list_all_more is_ascii bytes k 0 within ∙ and_from _ _ before.ascii ascii
 
-pub first_of : (bytes : List ℕ) (byte : ℕ) → Some byte ≡ slice_get bytes 0 → take 1 bytes ≡ byte ∷ []
-first_of [] byte h = absurd (cc)
-first_of (x ∷ xs) byte h = let same : byte ≡ x = cc in ap (λ b. b ∷ []) (sym same)
+    by : (answer : Option Reference) → ((at : ℕ) → Takes table false (placed at (take (k + 1) bytes)) answer new) → Stepped table bytes (k + 1) new answer
+    by None h = record { few = omega arith; ascii = all-ascii; taken = h }
+    by (Some found) h = record { some = omega arith; few = omega arith; ascii = all-ascii; read = h }
+
+pub taken_first : (table : Entities) (bytes : List ℕ) (byte : ℕ) (walk new : Walk) (answer : Option Reference) → Some byte ≡ slice_get bytes 0 → is_ascii byte ≡ true → HasTaken walk table false []
+    → ((text : List Placed) (p : Placed) → HasTaken walk table false text → p.ch ≡ byte → Takes table false (text ++ p ∷ []) answer new)
+    → Stepped table bytes 1 new answer
+taken_first table bytes byte walk new answer first ascii begun takes =
+    let is : get_or bytes 0 0 ≡ byte = get_or_from_slice_get bytes 0 byte 0 (sym first) in
+    taken_byte table bytes 0 byte walk new answer (slice_get_within bytes 0 byte (sym first)) (sym is) (ap is_ascii is ∙ ascii) (record { few = omega arith; ascii = refl; taken = λ at. begun }) takes
+
+-- by a walk's own table
+pub by_own_table : (walk : Walk) (table : Entities) (bytes : List ℕ) (k : ℕ) → HasTakenBytes walk table bytes k → HasTakenBytes walk walk.table.now bytes k
+by_own_table walk table bytes k taken = subst (λ t. HasTakenBytes walk t bytes k) (sym (taken.taken 0).table_is) taken
+
+pub all_read : (own table : Entities) (bytes : List ℕ) (answer : Option (Reference × ℕ)) → own ≡ table → IfSome answer (λ it. Settles own bytes it.1 it.0)
+    → IfSome answer (λ it. (at : ℕ) (after : List Placed) → IsRead table false (placed at (take it.1 bytes)) after it.0)
+all_read own table bytes None is settles = tt
+all_read own table bytes (Some it) is settles = λ at after. subst (λ t. IsRead t false (placed at (take it.1 bytes)) after it.0) is (settles.read at after)
 
 -- the place of a search's only key
 pub only_within : (search : Search) (count : ℕ) → is_search_within search count ≡ true → search.high - search.low ≡ 1 → search.low < count
@@ -114,16 +130,13 @@ key_name_ascii (c ∷ cs) h =
       | continues more ↦ key_name_ascii cs more
     ])
 
-pub key_settles : (table : Entities) (bytes : List ℕ) (k : ℕ) (e : Entry) (count : ℕ) (lent : Bor (List ℕ)) → IsTable table → slice_get table k ≡ Some e
-    → (ends_in_semicolon e.key && starts_with nat_eq bytes (drop 1 e.key)) ≡ true → count ≡ length e.key - 1 → lent.now ≡ e.stands_for
-    → Settles table bytes count (whole lent)
-key_settles table bytes k e count lent is_table at test size stands = by e.key refl (is_key_of table k e is_table at) (and_parts _ _ test).0 (and_parts _ _ test).1
+pub key_settles : (table : Entities) (bytes : List ℕ) (e : Entry) (count : ℕ) (lent : Bor (List ℕ)) → HasWhole table bytes e → count ≡ length e.key - 1 → lent.now ≡ e.stands_for → Settles table bytes count (whole lent)
+key_settles table bytes e count lent has size stands = by e.key refl (is_key_of table has.place e has.is_table has.stands) has.opens
   where
-    by : (key : List ℕ) → e.key ≡ key → is_key key ≡ true → ends_in_semicolon key ≡ true → starts_with nat_eq bytes (drop 1 key) ≡ true
-        → Settles table bytes count (whole lent)
-    by [] is key closed opens = absurd (true≢false (sym key))
-    by (c ∷ []) is key closed opens = absurd (true≢false (sym (and_parts _ _ key).1))
-    by (c ∷ d ∷ ds) is key closed opens =
+    by : (key : List ℕ) → e.key ≡ key → is_key key ≡ true → starts_with nat_eq bytes (drop 1 key) ≡ true → Settles table bytes count (whole lent)
+    by [] is key opens = absurd (true≢false (sym key))
+    by (c ∷ []) is key opens = absurd (true≢false (sym (and_parts _ _ key).1))
+    by (c ∷ d ∷ ds) is key opens =
         let amp : c ≡ 38 = (let t : nat_eq c 38 ≡ true = (and_parts _ _ key).0 in grind (arith, nat_tests)) in
         let name : d ∷ ds ≡ take (length (d ∷ ds)) bytes = key_of bytes (d ∷ ds) opens in
         let long : length e.key ≡ length (c ∷ d ∷ ds) = ap length is in
@@ -132,13 +145,6 @@ key_settles table bytes k e count lent is_table at test size stands = by e.key r
           some = omega arith;
           few = no_longer bytes (d ∷ ds) opens;
           ascii = subst (λ xs. list_all is_ascii xs ≡ true) name (key_name_ascii (d ∷ ds) (and_parts _ _ key).1);
-          read = λ place after. read_closed table (placed place (take (length (d ∷ ds)) bytes)) after k e lent is_table at
-              (is ∙ ap (λ x. x ∷ d ∷ ds) amp ∙ ap (λ xs. 38 ∷ xs) (name ∙ sym (characters-placed place (take (length (d ∷ ds)) bytes))))
-              (subst (λ xs. ends_in_semicolon xs ≡ true) (sym is) closed) stands;
+          read = λ place after. read_closed table (placed place (take (length (d ∷ ds)) bytes)) after has.place e lent has.is_table has.stands
+              (is ∙ ap (λ x. x ∷ d ∷ ds) amp ∙ ap (λ xs. 38 ∷ xs) (name ∙ sym (characters-placed place (take (length (d ∷ ds)) bytes)))) has.closed stands;
         })
-
--- by a walk's own table
-pub all_read : (own table : Entities) (bytes : List ℕ) (answer : Option (Reference × ℕ)) → own ≡ table → IfSome answer (λ it. Settles own bytes it.1 it.0)
-    → IfSome answer (λ it. (at : ℕ) (after : List Placed) → IsRead table false (placed at (take it.1 bytes)) after it.0)
-all_read own table bytes None is settles = tt
-all_read own table bytes (Some it) is settles = λ at after. subst (λ t. IsRead t false (placed at (take it.1 bytes)) after it.0) is (settles.read at after)

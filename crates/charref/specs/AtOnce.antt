@@ -1,16 +1,32 @@
--- A reference that stands whole in a run of the input.
-use Rattle.std.specs.Prelude.{◌≡◌, ℕ, ◌<◌, ◌≤◌, true, false, List, length, take}
+-- A reference that stands whole in a run of the input, outside a value.
+use Rattle.std.specs.Prelude.{◌≡◌, ℕ, ◌<◌, ◌≤◌, true, false, nat_eq, List, length, take, drop, slice_get, Some}
 use Rattle.std.specs.Char.{is_ascii}
-use Rattle.std.specs.List.{list_all}
+use Rattle.std.specs.List.{list_all, starts_with}
 use Rattle.names.specs.declared.placed.Placed.{Placed}
 use Rattle.names.specs.Placed.{placed}
 use Rattle.charref.specs.declared.reference.Reference.{Reference}
-use Rattle.charref.specs.Reference.{Entities}
+use Rattle.charref.specs.declared.walk.Walk.{Walk}
+use Rattle.charref.specs.Reference.{Entry, Entities, IsTable, ends_in_semicolon}
 use Rattle.charref.specs.Pieces.{IsRead}
+use Rattle.charref.specs.Walk.{HasTaken}
 
--- The first `count` of these bytes, all ASCII, settle what is at an `&` before them, outside a value.
+-- The walk, with this table, has taken the first `count` of these bytes, all ASCII.
+pub record HasTakenBytes (walk : Walk) (table : Entities) (bytes : List ℕ) (count : ℕ) : Type 0 where
+  pub few : count ≤ length bytes
+  pub ascii : list_all is_ascii (take count bytes) ≡ true
+  pub taken : (at : ℕ) → HasTaken walk table false (placed at (take count bytes))
+
+-- The first `count` of these bytes, all ASCII, settle what is at an `&` before them.
 pub record Settles (table : Entities) (bytes : List ℕ) (count : ℕ) (found : Reference) : Type 0 where
   pub some : 0 < count
   pub few : count ≤ length bytes
   pub ascii : list_all is_ascii (take count bytes) ≡ true
   pub read : (at : ℕ) (after : List Placed) → IsRead table false (placed at (take count bytes)) after found
+
+-- The table has this entry, whose key ends in a `;`, and these bytes begin with all of the key after its `&`.
+pub record HasWhole (table : Entities) (bytes : List ℕ) (e : Entry) : Type 0 where
+  pub is_table : IsTable table
+  pub place : ℕ
+  pub stands : slice_get table place ≡ Some e
+  pub closed : ends_in_semicolon e.key ≡ true
+  pub opens : starts_with nat_eq bytes (drop 1 e.key) ≡ true

@@ -1,14 +1,16 @@
 //! References that stand whole in one run of the input.
 
-ghost use Rattle.std.specs.Prelude.{◌≡◌, ◌&&◌, ◌<◌, ◌≤◌, ℕ, List, true, false, length, take, drop, nat_eq, IfSome};
+ghost use Rattle.std.specs.Prelude.{◌≡◌, ◌<◌, ◌≤◌, ℕ, List, true, false, length, take, nat_eq, IfSome};
 ghost use Rattle.std.specs.Char.{is_ascii};
 ghost use Rattle.std.specs.List.{list_all, starts_with};
 ghost use Rattle.names.specs.declared.placed.Placed.{Placed};
 ghost use Rattle.names.specs.Placed.{placed};
-ghost use Rattle.charref.specs.Reference.{IsTable, ends_in_semicolon};
+ghost use Rattle.charref.specs.Reference.{IsTable};
+ghost use Rattle.charref.specs.Table.{entry};
 ghost use Rattle.charref.specs.Pieces.{IsRead};
-ghost use Rattle.charref.specs.AtOnce.{Settles};
+ghost use Rattle.charref.specs.AtOnce.{HasTakenBytes, HasWhole, Settles};
 
+use crate::entity::Entity;
 use crate::reference::{Characters, Reference};
 use crate::reference_state::ReferenceState;
 use crate::table::Table;
@@ -37,34 +39,15 @@ impl<'t> Walk<'t> {
         }
     }
 
-    /// The same where the first byte has been taken and does not settle it.
-    #[inline(never)]
-    fn settled_later(&self, bytes: &[u8]) -> Option<(Reference<'t>, usize)>
-        ensures { IfSome result (λ it. Settles self.now.table.now bytes.now it.1 it.0) }
-    {
-        match self.only_key(bytes) {
-            Some(found) => Some(found),
-            None => settled_by_steps(self.table, bytes),
-        }
-    }
-
-    /// The reference of the only key that may follow, if it ends in a `;` and these bytes have all of it: no longer key begins
-    /// with it, so nothing that comes after it matters.
+    /// The same once the first byte has been taken.
     #[inline(always)]
-    fn only_key(&self, bytes: &[u8]) -> Option<(Reference<'t>, usize)>
-        ensures { IfSome result (λ it. Settles self.now.table.now bytes.now it.1 it.0) }
+    fn settled_later(self, bytes: &[u8]) -> Option<(Reference<'t>, usize)>
+        requires { HasTakenBytes self self.table.now bytes.now 1 }
+        ensures { IfSome result (λ it. Settles self.entry.table.now bytes.now it.1 it.0) }
     {
-        let ReferenceState::Name(search) = self.state else {
-            return None;
+        let Some(entity) = self.only_key(bytes) else {
+            return self.settled_by_steps(bytes);
         };
-        if search.high - search.low != 1 {
-            return None;
-        }
-        let table = self.table;
-        let entity = &table.entities[search.low];
-        if !begin_with_name(bytes, &entity.key) {
-            return None;
-        }
         let found = Reference {
             characters: Characters::Named(&entity.characters),
             left: 0,
@@ -74,29 +57,59 @@ impl<'t> Walk<'t> {
         };
         Some((found, entity.key.len() - 1))
     }
-}
 
-/// Whether this key ends in a `;`, and these bytes begin with all of it after its `&`.
-#[inline(always)]
-fn begin_with_name(bytes: &[u8], key: &[u8]) -> bool
-    ensures { result ≡ (ends_in_semicolon key.now && starts_with nat_eq bytes.now (drop 1 key.now)) }
-{
-    ends_in_semicolon(key) && bytes.starts_with(&key[1..])
-}
-
-/// What is at the `&`, one step of a walk for each byte.
-#[inline(never)]
-fn settled_by_steps<'t>(table: &'t Table, bytes: &[u8]) -> Option<(Reference<'t>, usize)>
-    ensures { IfSome result (λ it. Settles table.now bytes.now it.1 it.0) }
-{
-    let mut walk = Walk::new(table, false);
-    for (index, byte) in bytes.iter().enumerate() {
-        if !byte.is_ascii() {
+    /// The only key that may still be read, if it ends in a `;` and these bytes have all of it after its `&`. No longer key
+    /// begins with it, so nothing that comes after it matters.
+    #[inline(always)]
+    fn only_key(&self, bytes: &[u8]) -> Option<&'t Entity>
+        ensures { IfSome result (λ entity. HasWhole self.now.table.now bytes.now (entry entity.now)) }
+    {
+        let ReferenceState::Name(search) = self.state else {
+            return None;
+        };
+        if search.high - search.low != 1 {
             return None;
         }
-        if let Some(found) = walk.take(char::from(*byte)) {
-            return Some((found, index + 1));
+        let table = self.table;
+        let entity = &table.entities[search.low];
+        if ends_in_semicolon(&entity.key) && begin_with(bytes, &entity.key[1..]) {
+            Some(entity)
+        } else {
+            None
         }
     }
-    None
+
+    /// The same by the steps of the walk.
+    #[inline(never)]
+    fn settled_by_steps(mut self, bytes: &[u8]) -> Option<(Reference<'t>, usize)>
+        requires { HasTakenBytes self self.table.now bytes.now 1 }
+        ensures { IfSome result (λ it. Settles self.entry.table.now bytes.now it.1 it.0) }
+    {
+        for count in 1..bytes.len() {
+            let byte = bytes[count];
+            if !byte.is_ascii() {
+                return None;
+            }
+            if let Some(found) = self.take(char::from(byte)) {
+                return Some((found, count + 1));
+            }
+        }
+        None
+    }
+}
+
+/// Whether these bytes begin with a name; by hand, since a name is too short for the groups that `starts_with` compares.
+#[inline(always)]
+fn begin_with(bytes: &[u8], name: &[u8]) -> bool
+    ensures { result ≡ starts_with nat_eq bytes.now name.now }
+{
+    if bytes.len() < name.len() {
+        return false;
+    }
+    for (index, byte) in name.iter().enumerate() {
+        if bytes[index] != *byte {
+            return false;
+        }
+    }
+    true
 }

@@ -1,21 +1,29 @@
-use Rattle.std.proofs.Common.{◌≡◌, Some, false, [], ◌∷◌, take, sym, ap, ◌∙◌, subst}
-use Rattle.names.specs.Placed.{placed}
-use Rattle.charref.specs.Pieces.{IsRead}
-use Rattle.charref.specs.Walk.{HasTaken, Takes}
-use Rattle.charref.proofs.AtOnce.{Last, last_placed, first_of, all_read}
+use Rattle.std.proofs.Common.{false, Some, sym, ap, ◌∙◌, subst}
+use Rattle.std.specs.Char.{is_ascii}
+use Rattle.charref.specs.AtOnce.{HasTakenBytes, Settles}
+use Rattle.charref.proofs.AtOnce.{Stepped, taken_first, by_own_table, all_read}
 use Rattle.charref.proofs.walk.Walk.settled.Goals as goal
 
+pub settled_later-requires : goal.settled_later-requires
+settled_later-requires c =
+    let table = c.args.table.now in
+    let bytes = c.args.bytes.now in
+    let taken : HasTakenBytes c.take.new.self table bytes 1 = subst (Stepped table bytes 1 c.take.new.self) c.in-None.is (taken_first table bytes c.from.result c.new-walk.result c.take.new.self c.take.result (ap Some c.from.ensures ∙ c.in_ok-first.ensures.value)
+    (ap is_ascii c.from.ensures ∙ sym c.is_ascii.ensures ∙ c.if-not-is_ascii.false) c.new-walk.ensures.taken (λ text p. c.take.ensures.taken table false text p)) in
+    by_own_table c.take.new.self table bytes 1 taken
+
 pub returns-in-Some-clause-read : goal.returns-in-Some-clause-read
-returns-in-Some-clause-read c = λ at after.
-    let last : Last at [] c.from.result = last_placed at [] c.from.result in
-    let read : IsRead c.args.table.now false (last.p ∷ []) after c.in-Some.found =
-    subst (λ answer. Takes c.args.table.now false (last.p ∷ []) answer c.take.new.self) c.in-Some.is (c.take.ensures.taken c.args.table.now false [] last.p c.new-walk.ensures.taken last.ch) after in
-    let first : take 1 c.args.bytes.now ≡ c.from.result ∷ [] = first_of c.args.bytes.now c.from.result (ap Some c.from.ensures ∙ c.in_ok-first.ensures.value) in
-    subst (λ text. IsRead c.args.table.now false text after c.in-Some.found) (sym (ap (placed at) first ∙ last.is)) read
+returns-in-Some-clause-read c =
+    let table = c.args.table.now in
+    let bytes = c.args.bytes.now in
+    let settles : Settles table bytes 1 c.in-Some.found = subst (Stepped table bytes 1 c.take.new.self) c.in-Some.is (taken_first table bytes c.from.result c.new-walk.result c.take.new.self c.take.result (ap Some c.from.ensures ∙ c.in_ok-first.ensures.value)
+    (ap is_ascii c.from.ensures ∙ sym c.is_ascii.ensures ∙ c.if-not-is_ascii.false) c.new-walk.ensures.taken (λ text p. c.take.ensures.taken table false text p)) in
+    settles.read
 
 pub returns-in-None-clause-read : goal.returns-in-None-clause-read
 returns-in-None-clause-read c =
-    let last : Last 0 [] c.from.result = last_placed 0 [] c.from.result in
-    let taken : HasTaken c.take.new.self c.args.table.now false (last.p ∷ []) =
-    subst (λ answer. Takes c.args.table.now false (last.p ∷ []) answer c.take.new.self) c.in-None.is (c.take.ensures.taken c.args.table.now false [] last.p c.new-walk.ensures.taken last.ch) in
-    all_read c.take.new.self.table.now c.args.table.now c.args.bytes.now c.settled_later.result taken.table_is c.settled_later.ensures
+    let table = c.args.table.now in
+    let bytes = c.args.bytes.now in
+    let taken : HasTakenBytes c.take.new.self table bytes 1 = subst (Stepped table bytes 1 c.take.new.self) c.in-None.is (taken_first table bytes c.from.result c.new-walk.result c.take.new.self c.take.result (ap Some c.from.ensures ∙ c.in_ok-first.ensures.value)
+    (ap is_ascii c.from.ensures ∙ sym c.is_ascii.ensures ∙ c.if-not-is_ascii.false) c.new-walk.ensures.taken (λ text p. c.take.ensures.taken table false text p)) in
+    all_read c.take.new.self.table.now table bytes c.settled_later.result (taken.taken 0).table_is c.settled_later.ensures
