@@ -49,6 +49,9 @@ fn place_at(places: &[u32], number: usize) -> u32
     }
 }
 
+/// How many numbers a table grows by at least: numbers mostly come in order, so the next ones have room then.
+const GROWTH: usize = 64;
+
 /// Grows a table so that a number is in it.
 fn make_room(places: &mut Vec<u32>, number: usize) -> Result<(), AllocError>
     ensures same { (k : ℕ) → slice_index places.new.items k ≡ slice_index places.old.items k }
@@ -57,7 +60,7 @@ fn make_room(places: &mut Vec<u32>, number: usize) -> Result<(), AllocError>
     if number < places.len() {
         return Ok(());
     }
-    let Some(needed) = number.checked_add(1) else {
+    let Some(needed) = number.checked_add(GROWTH) else {
         return Err(AllocError);
     };
     places.resize(needed, 0)
