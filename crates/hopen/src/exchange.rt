@@ -211,23 +211,23 @@ fn mended(window: Window, item: &KeptNode, name: NameId, sets: &SetPlaces) -> Ke
     }
 }
 
-/// Mends the items below a window, up to the end of those that keep a place in it.
-fn mend_below(items: &mut [KeptNode], window: Window, end: usize, new: Open)
+/// Mends the items below a window, up to the end of those that keep a place in it. `sets` are the places at the new node.
+fn mend_below(items: &mut [KeptNode], window: Window, end: usize, new: Open, sets: &SetPlaces)
     requires kept { AreKept (reverse items.old) }
     requires places { length items.old < 2 ^ 32 }
     requires window { IsFor window new items.old }
     requires order { window.to < end }
     requires within { end ≤ length items.old }
     requires settled { AreSettled window.from window.to end items.old }
+    requires sets { (set : NameSet) → set_place set sets.now ≡ place_in (is_in set) (opened_after window new items.old) (suc window.to) }
     ensures opened { map opened_by items.new ≡ map opened_by items.old }
     ensures above { AreKeptIn 0 (suc window.to) items.new (map opened_by items.old) }
     ensures below { AreKeptIn (suc window.to) (length items.old) items.new (opened_after window new items.old) }
 {
     let name = new.name;
-    let sets = sets_of_new(items, window, new);
     let mut index = window.to as usize + 1;
     while index < end {
-        let item = mended(window, &items[index], name, &sets);
+        let item = mended(window, &items[index], name, sets);
         items[index] = item;
         index += 1;
     }
@@ -248,17 +248,17 @@ fn dropped(window: Window, item: &KeptNode, leaving: &KeptNode, above: &SetPlace
     }
 }
 
-/// Moves the items of a window one up, over its first, and puts the new one at its end.
-fn move_up(items: &mut [KeptNode], window: Window, new: Open)
+/// Moves the items of a window one up, over its first, and puts the new one at its end, with these places of sets.
+fn move_up(items: &mut [KeptNode], window: Window, new: Open, sets: &SetPlaces)
     requires places { length items.old < 2 ^ 32 }
     requires window { IsFor window new items.old }
     requires above { AreKeptIn 0 (suc window.to) items.old (map opened_by items.old) }
+    requires sets { (set : NameSet) → set_place set sets.now ≡ place_in (is_in set) (opened_after window new items.old) (suc window.to) }
     requires below { AreKeptIn (suc window.to) (length items.old) items.old (opened_after window new items.old) }
     ensures opened { map opened_by items.new ≡ opened_after window new items.old }
     ensures kept { AreKept (reverse items.new) }
 {
     let Open { node, name } = new;
-    let sets = sets_of_new(items, window, Open { node, name });
     let above = nearest_of_sets(&items[..window.from as usize]);
     let leaving = items[window.from as usize];
     let mut same_name = leaving.same_name;
@@ -273,7 +273,7 @@ fn move_up(items: &mut [KeptNode], window: Window, new: Open)
         opened: Open { node, name },
         same_name,
         same_node: 0,
-        sets,
+        sets: *sets,
     };
 }
 
@@ -290,9 +290,10 @@ pub(crate) fn exchange(last: &mut LastPlaces, items: &mut [KeptNode], window: Wi
 {
     let Open { node, name } = new;
     let end = end_of_kept(last, items, window);
+    let sets = sets_of_new(items, window, Open { node, name });
     move_places(last, items, window, Open { node, name });
-    mend_below(items, window, end, Open { node, name });
-    move_up(items, window, Open { node, name });
+    mend_below(items, window, end, Open { node, name }, &sets);
+    move_up(items, window, Open { node, name }, &sets);
 }
 
 /// The same for any node that leaves, where all nodes below are updated.

@@ -1,9 +1,26 @@
-use Rattle.std.proofs.Common.{◌≡◌, ℕ, suc, ◌==◌, List, length, reverse, sym, ◌∙◌, ap, subst}
-use Rattle.hopen.specs.Exchanged.{AreKeptIn, IsWindow, exchanged, opened_after}
+use Rattle.std.proofs.Common.{ℕ, suc, ◌==◌, List, length, reverse, sym, ◌∙◌, ap, subst, arith}
+use Rattle.std.proofs.lemmas.List.{length-map}
+use Rattle.hopen.specs.Exchanged.{AreKeptIn, IsWindow, exchanged, opened_after, place_in}
+use Rattle.hopen.specs.Kept.{opened_by}
+use Rattle.hopen.specs.NameSets.{is_in}
 use Rattle.hopen.specs.Opens.{open_of}
 use Rattle.hopen.specs.Places.{last_place}
 use Rattle.hopen.specs.Stack.{OpenNode}
+use Rattle.hopen.proofs.ExchangedItems.{kept-at}
 use Rattle.hopen.proofs.exchange.exchange.Goals as goal
+
+pub sets_of_new-sets-requires-clause-kept : goal.sets_of_new-sets-requires-clause-kept
+sets_of_new-sets-requires-clause-kept c =
+    let items = c.args.items.now in
+    let long = length-map items opened_by in let w = c.requires.window.within in λ j d low up. kept-at items c.requires.stands.kept j d low (omega arith)
+
+pub mend_below-requires-clause-sets : goal.mend_below-requires-clause-sets
+mend_below-requires-clause-sets c = c.sets_of_new-sets.ensures
+
+pub move_up-requires-clause-sets : goal.move_up-requires-clause-sets
+move_up-requires-clause-sets c =
+    λ set. c.sets_of_new-sets.ensures set
+    ∙ ap (λ (ys : List (OpenNode ℕ)). place_in (is_in set) (exchanged c.args.window.from c.args.window.to (open_of c.args.new) ys) (suc c.args.window.to)) (sym c.mend_below.ensures.opened)
 
 pub move_up-requires-clause-window : goal.move_up-requires-clause-window
 move_up-requires-clause-window c =

@@ -10,9 +10,6 @@ use Rattle.hopen.specs.declared.kept.KeptNode.{KeptNode}
 use Rattle.hopen.proofs.ExchangedItems.{kept-at, mended-kept, settled-kept}
 use Rattle.hopen.proofs.exchange.mend_below.Goals as goal
 
-pub sets_of_new-sets-requires-clause-kept : goal.sets_of_new-sets-requires-clause-kept
-sets_of_new-sets-requires-clause-kept c = let long = length-map c.args.items.now opened_by in let w = c.requires.window.within in λ j d low up. kept-at c.args.items.now c.requires.kept j d low (omega arith)
-
 pub loop-index-preserved : goal.loop-index-preserved
 loop-index-preserved c =
     let first = c.args.items.now in
@@ -34,7 +31,7 @@ loop-index-preserved c =
     let kept : IsKept x (reverse (take i ys)) = subst (λ (y : KeptNode). IsKept y (reverse (take i ys))) (sym same) (kept-at first c.requires.kept i r (omega arith) (omega arith)) in
     let mended : IsKept z (reverse (take i zs)) =
     mended-kept c.args.window.from c.args.window.to new ys c.requires.window i low (omega arith) x here kept z c.mended-item.ensures.opened c.mended-item.ensures.same_node c.mended-item.ensures.same_name
-    (λ set. subst (λ p. IsRenewed c.args.window.to p (set_place set x.sets) (set_place set z.sets)) (c.sets_of_new-sets.ensures set) (c.mended-item.ensures.sets set)) in
+    (λ set. subst (λ p. IsRenewed c.args.window.to p (set_place set x.sets) (set_place set z.sets)) (c.requires.sets set) (c.mended-item.ensures.sets set)) in
     let written : (d : KeptNode) → get_or (set items i z) i d ≡ z = λ d. get_or-set_same items i z d (omega arith) in
     record {
       order = omega arith;

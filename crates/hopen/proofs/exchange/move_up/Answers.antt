@@ -99,7 +99,7 @@ returns-clause-opened c =
     let ys = map opened_by first in
     let zs = opened_after c.args.window c.args.new first in
     let r = c.index-items-window.result in
-    let z : KeptNode = record { opened = c.args.new; same_name = c.loop-index.same_name; same_node = 0; sets = c.sets_of_new-sets.result } in
+    let z : KeptNode = record { opened = c.args.new; same_name = c.loop-index.same_name; same_node = 0; sets = c.args.sets.now } in
     let o = c.requires.window.order in let w = c.requires.window.within in
     let long = length-map first opened_by in
     let many = c.loop-index.invariant.long in
@@ -126,7 +126,7 @@ returns-clause-kept c =
     let new = open_of c.args.new in
     let ys = map opened_by first in
     let zs = opened_after c.args.window c.args.new first in
-    let z : KeptNode = record { opened = c.args.new; same_name = c.loop-index.same_name; same_node = 0; sets = c.sets_of_new-sets.result } in
+    let z : KeptNode = record { opened = c.args.new; same_name = c.loop-index.same_name; same_node = 0; sets = c.args.sets.now } in
     let o = c.requires.window.order in let w = c.requires.window.within in
     let long = length-map first opened_by in
     let many = c.loop-index.invariant.long in
@@ -135,7 +135,7 @@ returns-clause-kept c =
     let end_i = c.loop-index-test.false in
     let at_to : c.loop-index.index ≡ to = omega arith in
     let newest : IsKept z (reverse (take to zs)) =
-    new-kept from to new ys c.requires.window z refl (c.loop-index.invariant.same_name ∙ ap (place_in (λ y. y.name == new.name) zs) at_to) refl c.sets_of_new-sets.ensures in
+    new-kept from to new ys c.requires.window z refl (c.loop-index.invariant.same_name ∙ ap (place_in (λ y. y.name == new.name) zs) at_to) refl c.requires.sets in
     kept-from (set items to z) (subst (AreKeptIn 0 (length (set items to z)) (set items to z)) (sym (returns-clause-opened c))
     (λ j d low up.
     each-part (IsKept (get_or (set items to z) j d) (reverse (take j zs))) from to j
