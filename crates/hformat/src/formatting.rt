@@ -21,6 +21,9 @@ use names::{Attr, Keys, NameId};
 use std::alloc::{AllocError, Global};
 use std::marker::Model;
 
+/// In a list of so few items the holes are passed one by one.
+const FEW: usize = 8;
+
 /// The list of active formatting elements.
 ///
 /// Each call takes the same time at any length, amortized, where few entries have the same hash; but `len` counts, and `get` and `renew`
@@ -229,7 +232,8 @@ impl Formatting {
     pub fn reach(&mut self, back: usize)
         ensures { self.new ≡ self.old }
     {
-        if back < self.slots.items.len() - self.slots.solid {
+        let len = self.slots.items.len();
+        if len <= FEW || back < len - self.slots.solid {
             return;
         }
         // twice as far, so that a loop that goes back closes few times
