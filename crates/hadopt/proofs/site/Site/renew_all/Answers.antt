@@ -1,0 +1,13 @@
+use Rattle.std.proofs.Common.{◌∙◌, Ok, ap, sym}
+use Rattle.std.specs.Prelude.{Result}
+use Rattle.names.specs.declared.refusal.Refusal.{Refusal}
+use Rattle.hadopt.specs.Naming.{numbers}
+use Rattle.hadopt.specs.Reconstructs.{reconstructed}
+use Rattle.hadopt.proofs.Calls.{gives-kept, reconstructed-kept}
+use Rattle.hadopt.proofs.Going.{renewed-none}
+use Rattle.hadopt.proofs.site.Site.renew_all.Goals as goal
+
+pub returns-clause-kept : goal.returns-clause-kept
+returns-clause-kept c = λ k.
+    let r : Result (Unit {0}) Refusal = Ok tt in
+    gives-kept numbers r _ _ (ap (reconstructed numbers c.args.at) (sym c.count_back-back.ensures.same) ∙ c.loop-back.invariant ∙ renewed-none c.args.at c.loop-back.back c.loop-back.self c.loop-back-test.false) (reconstructed-kept numbers c.args.at c.args.self.now k)
