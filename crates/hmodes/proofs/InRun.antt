@@ -101,12 +101,6 @@ module _ (b : Building) (free : b.refused ≡ None) (off : b.state.site.foster �
   whole : Before b.state.site.nodes b
   whole = record { begins = refl; lf = keeps_lf; told = refl; root = refl; refused = free }
 
-  -- one character alone
-  pub char_put : (p : Placed) → (p.ch == 0) ≡ false → (answer : Result (Unit {0}) Refusal) (x : SiteOf ℕ) → Gives answer x (inserts.put p.at p.ch to b.state.site)
-      → TakesToken b (code.Char p.ch p.at) answer (after_put x (refused_by answer))
-  char_put p some (Ok u) x e = took p b.state.site.nodes b whole some x e
-  char_put p some (Err r) x e = wrong p b.state.site.nodes b whole some x r e
-
   -- whether a character is refused: a text is to be made, and there are as many nodes as may be
   abbrev is_full : Nodes ℕ → Bool
   is_full v = is_none (text_before to v.trees) && nat_le v.limit v.made

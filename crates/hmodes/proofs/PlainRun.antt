@@ -1,4 +1,4 @@
--- Characters that are put as they are, a run or one alone.
+-- Characters that are put as they are.
 use Rattle.std.proofs.Common.{◌≡◌, ◌<◌, ℕ, zero, suc, Bool, true, false, List, [], ◌∷◌, ◌++◌, ◌+◌, ◌-◌, length, Option, Some, None, Result, Ok, Err, refl, sym, ap, ◌∙◌, arith, subst}
 use Rattle.std.specs.List.{list_all}
 use Rattle.std.specs.Prelude.{◌&&◌, ◌==◌, not, is_none, is_some}
@@ -24,7 +24,7 @@ use Rattle.htoken.specs.Run.{run_tokens, replaced}
 use Rattle.htoken.specs.declared.token.Token.{Token as Given}
 use Rattle.htoken.specs.declared.token.Token.TheVariants.{Char}
 use Rattle.hadopt.specs.Gives.{Gives}
-use Rattle.hadopt.specs.Inserts.{put, put_each}
+use Rattle.hadopt.specs.Inserts.{put_each}
 use Rattle.hadopt.specs.Naming.{numbers}
 use Rattle.hadopt.specs.Places.{place}
 use Rattle.hadopt.specs.Site.{Outcome, SiteOf}
@@ -34,7 +34,7 @@ use Rattle.hmodes.specs.Step.{begun}
 use Rattle.hmodes.specs.Building.{Building, Stands, Takes, TakesToken, puts_run, refused_by}
 use Rattle.hmodes.specs.Runs.{puts_in, puts_each}
 use Rattle.hmodes.proofs.OnePut.{place-here}
-use Rattle.hmodes.proofs.InRun.{AreSome, char_put, run_put, taken, stands-on, stands-run}
+use Rattle.hmodes.proofs.InRun.{AreSome, run_put, taken, stands-on, stands-run}
 
 plain_some : (x : ℕ) → is_plain x ≡ true → (x == 0) ≡ false
 plain_some x h = grind (arith, nat_tests)
@@ -106,14 +106,6 @@ bad_put (suc n) at run to s some is nodes here =
     ap (λ (cs : List ℕ). put_each (placed at cs) to s) (ap chars is ∙ (bad_chars (suc n) at).1)
     ∙ each-same to (record { ch = 0xFFFD; at = at }) (record { ch = 0xFFFD; at = at }) (placed (at + len_utf8 0xFFFD) rest) (replaced (at + 1) n) s nodes here refl
     (ap (λ (cs : List ℕ). 0xFFFD ∷ cs) (placed_bad n (at + len_utf8 0xFFFD) (at + 1)))
-
--- a character that is put as it is is taken
-pub char_taken : (b : Building) → b.refused ≡ None → puts_each b.state ≡ true → (at c : ℕ) → (c == 0) ≡ false
-    → (answer : Result (Unit {0}) Refusal) (x : SiteOf ℕ) → Gives answer x (put at c (place numbers b.state.site) b.state.site)
-    → TakesToken b (Char c at) answer (after_put b x answer)
-char_taken b free puts at c some answer x g =
-    let facts = off-of b.state.site.foster b.state.control.drop_lf (puts_in b.state.control.mode b.state.site) puts in
-    char_put b free facts.0 facts.1 facts.2 (record { ch = c; at = at }) some answer x (subst (λ (to : Place). Gives answer x (put at c to b.state.site)) (place-here b.state.site facts.0) g)
 
 -- what an answer says of later calls
 pub err_is : (answer : Result (Unit {0}) Refusal) → result_err answer ≡ refused_by answer

@@ -3,7 +3,9 @@ use Rattle.std.specs.Prelude.{ℕ, Bool, true, false, not, ◌&&◌, ◌==◌, l
 use Rattle.hopen.specs.Nearest.{before}
 use Rattle.hadopt.specs.Reconstructs.{stops_going_back}
 use Rattle.hadopt.specs.Site.{SiteOf}
+use Rattle.hmodes.specs.Body.{character_in_body}
 use Rattle.hmodes.specs.State.{State}
+use Rattle.hmodes.specs.Words.{Do, put}
 use Rattle.hmodes.specs.declared.mode.Mode.{Mode}
 use Rattle.hmodes.specs.declared.mode.Mode.TheVariants.{InBody, Text, InCaption, InCell}
 
@@ -22,3 +24,20 @@ puts_in _ x = false
 -- the same, and it goes to the current node, where no LF is dropped before it
 abbrev pub puts_each : State ℕ → Bool
 puts_each s = not s.site.foster && not s.control.drop_lf && puts_in s.control.mode s.site
+
+-- whether a mode puts a character, maybe after the formatting elements
+abbrev pub is_for_text : Mode → Bool
+is_for_text Text = true
+is_for_text InBody = true
+is_for_text InCaption = true
+is_for_text InCell = true
+is_for_text _ = false
+
+-- how it does that
+abbrev pub char_rule : Mode → Do
+char_rule Text = put
+char_rule _ = character_in_body
+
+-- whether a character is put so, where no LF is dropped before it
+abbrev pub takes_char : State ℕ → Bool
+takes_char s = not s.control.drop_lf && is_for_text s.control.mode

@@ -253,7 +253,7 @@ impl<'q> TokenSink for Builder<'q> {
     }
 
     fn take_text(&mut self, ch: char, at: u64) -> Result<(), Refusal> {
-        if ch == '\0' || self.refused.is_some() || !self.state.puts_each() {
+        if ch == '\0' || self.refused.is_some() || !self.state.takes_char() {
             let mut token = Token::Char { ch, at };
             return self.take(&mut token, at);
         }

@@ -122,6 +122,7 @@ impl<'q> TreeConstruction<'q> {
     }
 
     /// The character, after the formatting elements.
+    #[inline(always)]
     pub(crate) fn put_in_body(&mut self, ch: char, at: u64) -> Result<(), Refusal>
         ensures { StateGives result (state_of self.new) (perform numbers at (character ch) character_in_body (state_of self.old)) }
     {

@@ -4,13 +4,15 @@ ghost use Rattle.std.specs.Prelude.{◌≡◌, ◌<◌};
 ghost use Rattle.std.specs.Str.{chars};
 ghost use Rattle.names.specs.Placed.{placed};
 ghost use Rattle.hadopt.specs.Gives.{Gives};
-ghost use Rattle.hadopt.specs.Inserts.{put, put_each};
+ghost use Rattle.hadopt.specs.Inserts.{put_each};
 ghost use Rattle.hadopt.specs.Naming.{numbers};
 ghost use Rattle.hadopt.specs.Places.{place};
-ghost use Rattle.hmodes.specs.Perform.{with_site};
+ghost use Rattle.hmodes.specs.Flows.{StateGives};
+ghost use Rattle.hmodes.specs.Perform.{perform, with_site};
+ghost use Rattle.hmodes.specs.State.{character};
 ghost use Rattle.hmodes.specs.States.{state_of};
 ghost use Rattle.htoken.specs.Run.{replaced};
-ghost use Rattle.hmodes.specs.Runs.{puts_each};
+ghost use Rattle.hmodes.specs.Runs.{puts_each, takes_char, char_rule};
 
 use crate::mode::Mode;
 use crate::tree_construction::TreeConstruction;
@@ -56,13 +58,28 @@ impl<'q> TreeConstruction<'q> {
         self.site.put_text(&run, place, at)
     }
 
-    /// Puts a character at the appropriate place.
+    /// Whether the rules put a character other than NUL, maybe after the formatting elements, and drop no LF.
+    #[inline(always)]
+    pub(crate) fn takes_char(&self) -> bool
+        ensures { result ≡ takes_char (state_of self.now) }
+    {
+        let control = &self.control;
+        !control.drop_lf
+            && matches!(
+                control.mode,
+                Mode::Text | Mode::InBody | Mode::InCaption | Mode::InCell
+            )
+    }
+
+    /// Puts a character by the rules of such a mode.
     #[inline(always)]
     pub(crate) fn put_one(&mut self, ch: char, at: u64) -> Result<(), Refusal>
-        ensures gives { Gives result self.new.site (put at ch (place numbers self.old.site) self.old.site) }
-        ensures rest { state_of self.new ≡ with_site self.new.site (state_of self.old) }
+        ensures { StateGives result (state_of self.new)
+            (perform numbers at (character ch) (char_rule self.old.control.mode) (state_of self.old)) }
     {
-        let place = self.site.place();
-        self.site.put(ch, place, at)
+        match self.control.mode {
+            Mode::Text => self.put_char(ch, at),
+            _ => self.put_in_body(ch, at),
+        }
     }
 }

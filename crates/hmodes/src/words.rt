@@ -128,6 +128,7 @@ impl<'q> TreeConstruction<'q> {
     }
 
     /// A character at the appropriate place.
+    #[inline(always)]
     pub(crate) fn put_char(&mut self, ch: char, at: u64) -> Result<(), Refusal>
         ensures { StateGives result (state_of self.new) (perform numbers at (character ch) put (state_of self.old)) }
     {

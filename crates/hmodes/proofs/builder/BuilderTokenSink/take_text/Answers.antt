@@ -1,27 +1,23 @@
-use Rattle.std.proofs.Common.{◌≡◌, ℕ, true, None, ap, sym, subst, ◌∙◌}
+use Rattle.std.proofs.Common.{◌≡◌, true, None, ap, sym, subst, ◌∙◌}
 use Rattle.std.proofs.lemmas.Bool.{ne_eqb}
-use Rattle.hadopt.specs.Inserts.{put}
-use Rattle.hadopt.specs.Naming.{numbers}
-use Rattle.hadopt.specs.Places.{place}
-use Rattle.hadopt.specs.Site.{SiteOf}
 use Rattle.hmodes.specs.State.{character}
 use Rattle.hmodes.specs.States.{state_of}
 use Rattle.hmodes.specs.Building.{Building, Stands, Takes}
-use Rattle.hmodes.specs.Runs.{puts_each}
-use Rattle.hmodes.proofs.PlainRun.{char_taken, free-of, puts-of, gives-of, left_is, stands_by_token}
+use Rattle.hmodes.specs.Runs.{takes_char}
+use Rattle.hmodes.proofs.OneChar.{taken_by_rule, left_by_rule, gives_by_rule, takes-of}
+use Rattle.hmodes.proofs.PlainRun.{free-of, stands_by_token}
 use Rattle.hmodes.proofs.builder.BuilderTokenSink.take_text.Goals as goal
 
 pub returns : goal.returns
 returns c =
     let b : Building = c.args.self.now in
     let answer = c.put_one-answer.result in
-    let x : SiteOf ℕ = c.put_one-answer.new.self.site in
     let free : b.refused ≡ None = free-of b _ c.is_some.result c.self.view_is c.is_some.ensures c.if-is_some.false in
-    let puts : puts_each b.state ≡ true = puts-of b _ c.puts_each.result c.self.view_is c.puts_each.ensures c.if-not-puts_each.false in
+    let takes : takes_char b.state ≡ true = takes-of b _ c.takes_char.result c.self.view_is c.takes_char.ensures c.if-not-takes_char.false in
     subst (λ (o : Building). Takes c.args.at (character c.args.ch) b answer o)
-    (sym (left_is b _ (state_of c.begin.new.self) (state_of c.put_one-answer.new.self) x c.err-self-inside.result answer c.self-2.view_is c.begin.ensures c.put_one-answer.ensures.rest c.err-self-inside.ensures.value))
-    (char_taken b free puts c.args.at c.args.ch (ne_eqb c.args.ch 0 c.if-ch-eq0.false) answer x
-    (gives-of b _ (state_of c.begin.new.self) x answer (λ (y : SiteOf ℕ). put c.args.at c.args.ch (place numbers y) y) c.self-2.view_is c.begin.ensures c.put_one-answer.ensures.gives))
+    (sym (left_by_rule b _ (state_of c.put_one-answer.new.self) c.err-self-inside.result answer c.self-2.view_is c.err-self-inside.ensures.value))
+    (taken_by_rule b free takes c.args.at c.args.ch (ne_eqb c.args.ch 0 c.if-ch-eq0.false) answer (state_of c.put_one-answer.new.self)
+    (gives_by_rule b _ (state_of c.begin.new.self) (state_of c.put_one-answer.new.self) c.args.at c.args.ch answer c.self-2.view_is c.begin.ensures c.put_one-answer.ensures))
 
 pub invariant_of-self : goal.invariant_of-self
 invariant_of-self c = λ none.

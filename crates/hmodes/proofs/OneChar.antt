@@ -1,0 +1,73 @@
+-- A character by the rules of a mode that puts it, maybe after the formatting elements.
+use Rattle.std.proofs.Common.{◌≡◌, inl, inr, ℕ, Bool, true, false, Option, Some, None, Result, Ok, Err, refl, sym, ◌∙◌, ap, subst}
+use Rattle.std.specs.Prelude.{◌&&◌, ◌==◌, not, if◌then◌else◌, MatchOption}
+use Rattle.std.specs.Result.{result_err}
+use Rattle.std.proofs.lemmas.Bool.{false≢true}
+use Rattle.names.specs.Placed.{is_space}
+use Rattle.names.specs.declared.refusal.Refusal.{Refusal}
+use Rattle.htoken.specs.declared.token.Token.TheVariants as code
+use Rattle.hadopt.specs.Naming.{numbers}
+use Rattle.hmodes.specs.Flows.{StateGives}
+use Rattle.hmodes.specs.Perform.{perform}
+use Rattle.hmodes.specs.Rules.{rule_of}
+use Rattle.hmodes.specs.State.{State, character}
+use Rattle.hmodes.specs.Step.{Rule, ends, refuses, goes, begun}
+use Rattle.hmodes.specs.Words.{Do}
+use Rattle.hmodes.specs.Building.{Building, TakesToken, TakesOn, StaysRefused, refused_by}
+use Rattle.hmodes.specs.Runs.{is_for_text, char_rule, takes_char}
+use Rattle.hmodes.specs.declared.token_kind.TokenKind.TheVariants.{Ws, Char, Nul}
+use Rattle.hmodes.specs.declared.mode.Mode.{Mode}
+use Rattle.hmodes.specs.declared.mode.Mode.TheVariants as mode
+use Rattle.hmodes.proofs.PlainRun.{err_is}
+
+rule_is : (m : Mode) (space : Bool) → is_for_text m ≡ true → rule_of m (if space then Ws else Char) ≡ char_rule m
+rule_is mode.Text true h = refl
+rule_is mode.Text false h = refl
+rule_is mode.InBody true h = refl
+rule_is mode.InBody false h = refl
+rule_is mode.InCaption true h = refl
+rule_is mode.InCaption false h = refl
+rule_is mode.InCell true h = refl
+rule_is mode.InCell false h = refl
+rule_is _ space h = absurd (false≢true h)
+
+not_dropped : (d m : Bool) → (not d && m) ≡ true → (d ≡ false) × (m ≡ true)
+not_dropped true m h = absurd (false≢true h)
+not_dropped false m h = (refl, h)
+
+module _ (b : Building) (free : b.refused ≡ None) (takes : takes_char b.state ≡ true) (at c : ℕ) (some : (c == 0) ≡ false) where
+  abbrev parts : (b.state.control.drop_lf ≡ false) × (is_for_text b.state.control.mode ≡ true)
+  parts = not_dropped b.state.control.drop_lf (is_for_text b.state.control.mode) takes
+
+  rule : Rule numbers at (character c) (begun b.state) ≡ perform numbers at (character c) (char_rule b.state.control.mode) (begun b.state)
+  rule =
+      ap (λ (z : Bool). perform numbers at (character c) (rule_of b.state.control.mode (if z then Nul else if is_space c then Ws else Char)) (begun b.state)) some
+      ∙ ap (λ (p : Do). perform numbers at (character c) p (begun b.state)) (rule_is b.state.control.mode (is_space c) parts.1)
+
+  abbrev after : State ℕ → Option Refusal → Building
+  after t refused = record { state = t; root = b.root; told = b.told; refused = refused }
+
+  taking : (answer : Result (Unit {0}) Refusal) (new : Building) → TakesOn at (character c) b answer new → TakesToken b (code.Char c at) answer new
+  taking answer new t = subst (λ (r : Option Refusal). MatchOption r (TakesOn at (character c) b answer new) (λ q. StaysRefused q b answer new)) (sym free) t
+
+  pub taken_by_rule : (answer : Result (Unit {0}) Refusal) (t : State ℕ) → StateGives answer t (perform numbers at (character c) (char_rule b.state.control.mode) (begun b.state))
+      → TakesToken b (code.Char c at) answer (after t (refused_by answer))
+  taken_by_rule (Ok u) t g =
+      taking (Ok tt) (after t None) (record { step = goes (ap (λ (d : Bool). d && (c == 10)) parts.0) (ends (rule ∙ g)); told = refl; root = refl; refused = refl })
+  taken_by_rule (Err r) t (inl m) = taking (Err r) (after t (Some r)) (record { step = inl m; told = refl; root = refl; refused = refl })
+  taken_by_rule (Err r) t (inr e) =
+      taking (Err r) (after t (Some r)) (record { step = inr (goes (ap (λ (d : Bool). d && (c == 10)) parts.0) (refuses (rule ∙ e))); told = refl; root = refl; refused = refl })
+
+-- what a call leaves that begins a token and goes by such a rule
+pub left_by_rule : (b old : Building) (t : State ℕ) (refused : Option Refusal) (answer : Result (Unit {0}) Refusal) → old ≡ b → refused ≡ result_err answer
+    → ◌≡◌ {A = Building} (record { state = t; root = old.root; told = old.told; refused = refused }) (record { state = t; root = b.root; told = b.told; refused = refused_by answer })
+left_by_rule b old t refused answer is errs = λ i. record { state = t; root = (is i).root; told = (is i).told; refused = (errs ∙ err_is answer) i }
+
+pub gives_by_rule : (b old : Building) (s t : State ℕ) (at c : ℕ) (answer : Result (Unit {0}) Refusal) → old ≡ b → s ≡ begun old.state
+    → StateGives answer t (perform numbers at (character c) (char_rule s.control.mode) s)
+    → StateGives answer t (perform numbers at (character c) (char_rule b.state.control.mode) (begun b.state))
+gives_by_rule b old s t at c answer is begins g =
+    subst (λ (w : State ℕ). StateGives answer t (perform numbers at (character c) (char_rule w.control.mode) w)) (begins ∙ ap (λ (o : Building). begun o.state) is) g
+
+pub takes-of : (b old : Building) (r : Bool) → old ≡ b → r ≡ takes_char old.state → r ≡ true → takes_char b.state ≡ true
+takes-of b old r is says on = sym (ap (λ (o : Building). takes_char o.state) is) ∙ sym says ∙ on
