@@ -22,6 +22,7 @@ use std::alloc::AllocError;
 
 impl Site {
     /// Makes a new element, which has no parent yet.
+    #[inline(always)]
     pub(crate) fn create(
         &mut self,
         name: NameId,
@@ -41,6 +42,7 @@ impl Site {
     }
 
     /// Moves a node from where it is to a place.
+    #[inline(always)]
     pub(crate) fn graft(&mut self, child: NodeId, place: Place)
         requires child_in { child < self.old.nodes.made }
         requires place { IsPlace place self.old.nodes }

@@ -135,6 +135,7 @@ impl Site {
     }
 
     /// Makes an existing node the current one.
+    #[inline(always)]
     pub fn push(&mut self, opened: Open, at: u64) -> Result<(), Refusal>
         requires begun { 0 < opened.node }
         requires made { opened.node < self.old.nodes.made }

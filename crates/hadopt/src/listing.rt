@@ -36,6 +36,7 @@ impl Site {
     }
 
     /// Removes the entry of a node, if it has one.
+    #[inline(always)]
     pub fn remove_entry(&mut self, node: NodeId)
         ensures site { self.new ≡ with_items (without_entry node self.old.items) self.old }
         ensures kept { Kept numbers self.old → Kept numbers self.new }

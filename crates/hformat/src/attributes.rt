@@ -15,6 +15,7 @@ use std::alloc::{AllocError, Global};
 const FEW: usize = 16;
 
 /// Copies a list of attributes, in order.
+#[inline(always)]
 pub fn copy_attrs(alloc: Global, attrs: &[Attr]) -> Result<Vec<Attr>, AllocError>
     ensures { IfOk result (λ copies. map attribute_of copies.items ≡ map attribute_of attrs.now) }
 {

@@ -52,6 +52,7 @@ fn total(keys: Keys, name: NameId, hashes: &[u64]) -> u64
 
 /// The number of the hash of an entry with a name and attributes. Equal entries have the same, and few others have it; without keys all
 /// entries of a name have it.
+#[inline(always)]
 pub(crate) fn find_hash(
     alloc: Global,
     keys: Option<Keys>,

@@ -58,6 +58,7 @@ pub(crate) struct Slots {
 }
 
 /// Adds the numbers of the hash and of the node of an item that comes after this many. On an error nothing changes.
+#[inline(always)]
 fn push_numbers(
     hashes: &mut Chains,
     nodes: &mut Chains,
@@ -162,6 +163,7 @@ impl Slots {
     }
 
     /// Adds an item at the end. On an error no item changes.
+    #[inline(always)]
     pub(crate) fn put(&mut self, item: Slot, numbers: Numbers) -> Result<(), AllocError>
         requires listed { IsListed self.old }
         requires stored { IsStored item }
@@ -215,6 +217,7 @@ impl Slots {
     }
 
     /// Sets the node of the entry at an index.
+    #[inline(always)]
     pub(crate) fn renew(&mut self, index: usize, node: NodeId)
         requires listed { IsListed self.old }
         requires within { index < length self.old.items.items }
@@ -320,6 +323,7 @@ impl Slots {
 }
 
 /// The numbers of the hashes of items.
+#[inline(never)]
 fn hash_items(alloc: Global, keys: Option<Keys>, items: &[Slot]) -> Result<Chains, AllocError>
     requires { All IsStored items.now }
     ensures { IfOk result (λ hashes. hashes ≡ numbers_by (by_hash keys) items.now) }

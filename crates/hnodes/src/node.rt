@@ -255,6 +255,7 @@ fn joined(start: ArrayString<SHORT>, more: &str, alloc: Global) -> Result<NodeDa
 }
 
 /// A text.
+#[inline(always)]
 pub(crate) fn text(run: &str, alloc: Global) -> Result<NodeData, AllocError>
     ensures { IfOk result (λ content. content_is content ≡ text run.now) }
 {
@@ -281,6 +282,7 @@ pub(crate) fn push_attr(nodes: &mut Vec<Node>, at: NodeId, attr: Attr) -> Result
 }
 
 /// An element with these attributes.
+#[inline(always)]
 pub(crate) fn element(name: NameId, attrs: Vec<Attr>, alloc: Global) -> Result<NodeData, AllocError>
     ensures { IfOk result (λ content. content_is content ≡ element name (map attribute_of attrs.items)) }
 {
@@ -310,6 +312,7 @@ fn take_indexed(attrs: &mut Vec<Attr>, alloc: Global) -> Result<Box<Indexed>, Al
 }
 
 /// Makes an element with more than a few attributes wide.
+#[inline(always)]
 fn widen_content(content: &mut NodeData, alloc: Global) -> Result<(), AllocError>
     ensures { content_is content.new ≡ content_is content.old }
 {

@@ -123,6 +123,7 @@ impl Tree {
 
     /// Makes an element, loose. The error is `TooManyNodes` at the limit, and `Memory` if memory runs out; either leaves the tree
     /// unchanged. The same holds of all calls that make a node.
+    #[inline(always)]
     pub fn create_element(
         &mut self,
         name: NameId,
@@ -162,6 +163,7 @@ impl Tree {
     }
 
     /// Makes a text, loose.
+    #[inline(always)]
     fn create_run(&mut self, run: &str, at: u64) -> Result<NodeId, Refusal>
         ensures { Makes (text run.now) at self.old self.new result }
     {
@@ -289,6 +291,7 @@ impl Tree {
 
     /// Inserts a text at a place, as `put_char` inserts its characters one by one: at the end of the text right before the place,
     /// or in a new text there. An empty text changes nothing.
+    #[inline(always)]
     pub fn put_text(&mut self, text: &str, place: Place, at: u64) -> Result<(), Refusal>
         requires { IsPlace place self.old }
         ensures ok { OnOk result (self.new ≡ add_chars (chars text.now) place self.old) }

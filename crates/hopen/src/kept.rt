@@ -148,6 +148,7 @@ impl LastPlaces {
     }
 
     /// The item of a node that is opened at a place, right below a node with these places of sets.
+    #[inline(always)]
     pub(crate) fn item(&self, opened: Open, above: &SetPlaces, place: u32) -> KeptNode
         ensures opened { result.opened ≡ opened }
         ensures same_name { result.same_name ≡ slice_index self.now.names.items opened.name }
@@ -214,6 +215,7 @@ fn rewind(last: &mut LastPlaces, items: &mut [KeptNode], from: usize)
 }
 
 /// Pushes an item for a node. On an error the items stay; the tables may have grown.
+#[inline(always)]
 pub(crate) fn push(
     last: &mut LastPlaces,
     items: &mut Vec<KeptNode>,

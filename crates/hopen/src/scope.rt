@@ -77,6 +77,7 @@ pub enum Group {
 
 impl Group {
     /// Whether a name is of the group.
+    #[inline(always)]
     pub fn has(self, tag: Tag) -> bool
         ensures { result ≡ is_of_group self tag }
     {

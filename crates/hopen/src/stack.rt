@@ -84,6 +84,7 @@ impl OpenStack {
     }
 
     /// Opens a node, which becomes the current one. `at` is the byte offset of the token.
+    #[inline(always)]
     pub fn push(&mut self, opened: Open, at: u64) -> Result<(), Refusal>
         ensures ok { OnOk result (self.new ≡ record self.old { stack = open_of opened ∷ self.old.stack }) }
         ensures full { (result ≡ Err (TooDeep at)) ↔ (self.old.limit ≤ length self.old.stack) }
