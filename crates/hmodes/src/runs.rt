@@ -1,4 +1,4 @@
-//! Characters that are put as they are, one alone or a run.
+//! Characters of text, one alone or a run.
 
 ghost use Rattle.std.specs.Prelude.{◌≡◌, ◌<◌};
 ghost use Rattle.std.specs.Str.{chars};
