@@ -18,7 +18,7 @@ use Rattle.hmodes.specs.Runs.{is_for_text, char_rule, takes_char}
 use Rattle.hmodes.specs.declared.token_kind.TokenKind.TheVariants.{Ws, Char, Nul}
 use Rattle.hmodes.specs.declared.mode.Mode.{Mode}
 use Rattle.hmodes.specs.declared.mode.Mode.TheVariants as mode
-use Rattle.hmodes.proofs.PlainRun.{err_is}
+use Rattle.hmodes.proofs.TextRun.{err_is}
 
 rule_is : (m : Mode) (space : Bool) → is_for_text m ≡ true → rule_of m (if space then Ws else Char) ≡ char_rule m
 rule_is mode.Text true h = refl

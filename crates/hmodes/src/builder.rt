@@ -9,7 +9,7 @@ ghost use Rattle.hadopt.specs.Naming.{numbers};
 ghost use Rattle.hmodes.specs.Beginning.{document_begins, fragment_begins};
 ghost use Rattle.hmodes.specs.Tokens.{token_of, place_of};
 ghost use Rattle.hmodes.specs.Building.{Takes, TakesToken, puts_run};
-ghost use Rattle.htext.specs.Run.{is_plain};
+ghost use Rattle.htext.specs.Run.{is_clean};
 ghost use Rattle.htext.specs.declared.decoder.TheConstants.{MAX_INPUT};
 ghost use Rattle.htoken.specs.Run.{run_tokens};
 ghost use Rattle.names.specs.Placed.{placed};
@@ -139,7 +139,7 @@ impl<'q> Builder<'q> {
     /// Takes the first character of a run by itself. If what is left can be put whole then, as after a character that reconstructs
     /// formatting elements, it is; otherwise its characters are taken one by one.
     fn take_first(&mut self, run: &str, at: u64) -> Result<(), Refusal>
-        requires plain { list_all is_plain (chars run.now) ≡ true }
+        requires clean { list_all is_clean (chars run.now) ≡ true }
         requires within { at + length run.now ≤ MAX_INPUT }
         ensures { Hands TakesToken self.old (run_tokens (placed at (chars run.now))) result self.new }
     {
@@ -167,7 +167,7 @@ impl<'q> Builder<'q> {
     /// Puts a run whole.
     #[inline(always)]
     fn put_run(&mut self, run: &str, at: u64) -> Result<(), Refusal>
-        requires plain { list_all is_plain (chars run.now) ≡ true }
+        requires clean { list_all is_clean (chars run.now) ≡ true }
         requires puts { puts_run run.now self.old ≡ true }
         ensures { Hands TakesToken self.old (run_tokens (placed at (chars run.now))) result self.new }
     {

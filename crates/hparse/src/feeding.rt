@@ -142,17 +142,6 @@ impl<'t, S: TokenSink> CharSink for Feeding<'t, S> {
         answer
     }
 
-    fn take_text(&mut self, run: &str, at: u64) -> Result<(), Refusal> {
-        if run.is_empty() {
-            return Ok(());
-        }
-        let answer = self
-            .tokenizer
-            .feed_text(&mut self.names, run, at, &mut self.sink);
-        self.stopped = answer.is_err();
-        answer
-    }
-
     fn take_bad(&mut self, count: usize, at: u64) -> Result<(), Refusal> {
         if count == 0 || !self.tokenizer.takes_bad() {
             return self.take_bad_by_one(count, at);

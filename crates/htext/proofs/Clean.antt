@@ -1,19 +1,17 @@
 -- Where a text is cut by the count of bytes that pass a test.
-use Rattle.std.proofs.Common.{◌≡◌, ℕ, ◌<◌, ◌≤◌, ◌+◌, zero, suc, Bool, true, false, not, cond, ◌⊎◌, List, [], ◌∷◌, ◌++◌, length, take, drop, get_or, sym, refl, ap, ◌∙◌, subst, arith, append_assoc, inl, inr}
+use Rattle.std.proofs.Common.{◌≡◌, ℕ, ◌<◌, ◌≤◌, ◌+◌, zero, suc, Bool, true, false, not, cond, List, [], ◌∷◌, ◌++◌, length, take, drop, sym, refl, ap, ◌∙◌, subst, arith, append_assoc, inl, inr}
 use Rattle.std.specs.Prelude.{encode_utf8_all}
 use Rattle.std.specs.List.{list_all, prefix_len}
 use Rattle.std.proofs.lemmas.Bool.{and_parts, and_from, cases_lt, not-true}
 use Rattle.std.proofs.lemmas.Bool.Decides.{nat_tests}
 use Rattle.std.proofs.lemmas.List.{take_at, drop_at, take-append-drop, length-append}
 use Rattle.std.proofs.lemmas.List.Folds.{list_all-append}
-use Rattle.std.proofs.lemmas.List.Sums.{prefix_len_stops}
 use Rattle.std.proofs.lemmas.Str.{chars-encodes, encodes-chars, chars-nil, encode_ascii, IsUtf8-nil}
 use Rattle.std.specs.Str.{all_scalars as scalars}
 use Rattle.std.specs.Str.{chars, IsUtf8}
 use Rattle.std.specs.Char.{encode_utf8}
-use Rattle.htext.specs.Run.{is_plain_byte, is_plain, is_clean, is_clean_byte, is_text_byte, is_of, IsCut, IsCleanFront}
-use Rattle.htext.specs.declared.run.RunBytes.TheVariants.{Plain, Text}
-use Rattle.htext.proofs.Plain.{BeginsOutside, clean_bytes, other_bytes, long_bytes, begins_anew, plain_of_text, plain_of_ascii, mark_is}
+use Rattle.htext.specs.Run.{is_plain_byte, is_plain, is_clean, is_clean_byte, is_text_byte, is_inner_byte, IsCut, IsCleanFront}
+use Rattle.htext.proofs.Plain.{BeginsOutside, clean_bytes, other_bytes, long_bytes, begins_anew, plain_of_text, plain_of_inner}
 use Rattle.htext.proofs.Runs.{counted, plain_bytes}
 use Rattle.htext.proofs.Wide.{chars_cut}
 
@@ -98,46 +96,43 @@ both_pass first second third joined (c ∷ cs) f s =
 of_long : (byte : ℕ) → 128 ≤ byte → is_text_byte byte ≡ true
 of_long byte l = grind (arith, nat_tests)
 
-text_bytes : (c : ℕ) → is_of Text c ≡ true → list_all (is_of Text) (encode_utf8 c) ≡ true
+text_bytes : (c : ℕ) → is_text_byte c ≡ true → list_all is_text_byte (encode_utf8 c) ≡ true
 text_bytes c h = elim (cases_lt c 128) [
-  | inl one ↦ ap (list_all (is_of Text)) (encode_ascii c one) ∙ and_from _ _ h refl
-  | inr above ↦ long_bytes (is_of Text) of_long c above
+  | inl one ↦ ap (list_all is_text_byte) (encode_ascii c one) ∙ and_from _ _ h refl
+  | inr above ↦ long_bytes is_text_byte of_long c above
 ]
 
-mark_bytes : (c : ℕ) → is_of Text c ≡ false → BeginsOutside (is_of Text) (encode_utf8 c)
+mark_bytes : (c : ℕ) → is_text_byte c ≡ false → BeginsOutside is_text_byte (encode_utf8 c)
 mark_bytes c h = elim (cases_lt c 128) [
   | inl one ↦ (c, [], encode_ascii c one, h)
   | inr above ↦ (let no : is_text_byte c ≡ true = of_long c above in absurd cc)
 ]
 
-ascii_bytes : (c : ℕ) → is_of Plain c ≡ true → list_all (is_of Plain) (encode_utf8 c) ≡ true
-ascii_bytes c h = let one : c < 128 = grind (arith, nat_tests) in ap (list_all (is_of Plain)) (encode_ascii c one) ∙ and_from _ _ h refl
+inner_bytes : (c : ℕ) → is_inner_byte c ≡ true → list_all is_inner_byte (encode_utf8 c) ≡ true
+inner_bytes c h = let one : c < 128 = grind (arith, nat_tests) in ap (list_all is_inner_byte) (encode_ascii c one) ∙ and_from _ _ h refl
 
-long_is_other : (byte : ℕ) → 128 ≤ byte → not (is_of Plain byte) ≡ true
+long_is_other : (byte : ℕ) → 128 ≤ byte → not (is_inner_byte byte) ≡ true
 long_is_other byte l = grind (arith, nat_tests)
 
-other_plain : (c : ℕ) → is_of Plain c ≡ false → BeginsOutside (is_of Plain) (encode_utf8 c)
-other_plain c h = elim (cases_lt c 128) [
+outer_bytes : (c : ℕ) → is_inner_byte c ≡ false → BeginsOutside is_inner_byte (encode_utf8 c)
+outer_bytes c h = elim (cases_lt c 128) [
   | inl one ↦ (c, [], encode_ascii c one, h)
   | inr above ↦ (
       let (b, bs, is, _) = begins_anew c in
-      let first = and_parts _ (list_all (λ byte. not (is_of Plain byte)) bs) (sym (ap (list_all (λ byte. not (is_of Plain byte))) is) ∙ long_bytes (λ byte. not (is_of Plain byte)) long_is_other c above) in
+      let first = and_parts _ (list_all (λ byte. not (is_inner_byte byte)) bs) (sym (ap (list_all (λ byte. not (is_inner_byte byte))) is) ∙ long_bytes (λ byte. not (is_inner_byte byte)) long_is_other c above) in
       (b, bs, is, not-true _ first.0))
 ]
 
-pub text_stops : (run : List ℕ) → prefix_len (is_of Text) run < length run → (get_or run (prefix_len (is_of Text) run) 0 ≡ 60) ⊎ (get_or run (prefix_len (is_of Text) run) 0 ≡ 38)
-text_stops run l = mark_is (get_or run (prefix_len (is_of Text) run) 0) (prefix_len_stops (is_of Text) run 0 l)
-
 module _ (run : List ℕ) (utf8 : IsUtf8 run) (clean : list_all is_clean (chars run) ≡ true) where
-  pub text_front : IsCut (prefix_len (is_of Text) run) run × (list_all is_plain (chars (take (prefix_len (is_of Text) run) run)) ≡ true)
+  pub text_front : IsCut (prefix_len is_text_byte run) run × (list_all is_plain (chars (take (prefix_len is_text_byte run) run)) ≡ true)
   text_front =
-      let n : ℕ = prefix_len (is_of Text) run in
-      let (cut, text) = front (is_of Text) (is_of Text) text_bytes mark_bytes run utf8 in
-      (cut, both_pass is_clean (is_of Text) is_plain plain_of_text (chars (take n run)) (clean_rest n run cut clean).0 text)
+      let n : ℕ = prefix_len is_text_byte run in
+      let (cut, text) = front is_text_byte is_text_byte text_bytes mark_bytes run utf8 in
+      (cut, both_pass is_clean is_text_byte is_plain plain_of_text (chars (take n run)) (clean_rest n run cut clean).0 text)
 
-  pub plain_front : IsCut (prefix_len (is_of Plain) run) run × (list_all is_plain_byte (take (prefix_len (is_of Plain) run) run) ≡ true)
-  plain_front =
-      let n : ℕ = prefix_len (is_of Plain) run in
-      let (cut, ascii) = front (is_of Plain) (is_of Plain) ascii_bytes other_plain run utf8 in
-      let plain = both_pass is_clean (is_of Plain) is_plain_byte plain_of_ascii (chars (take n run)) (clean_rest n run cut clean).0 ascii in
+  pub inner_front : IsCut (prefix_len is_inner_byte run) run × (list_all is_plain_byte (take (prefix_len is_inner_byte run) run) ≡ true)
+  inner_front =
+      let n : ℕ = prefix_len is_inner_byte run in
+      let (cut, ascii) = front is_inner_byte is_inner_byte inner_bytes outer_bytes run utf8 in
+      let plain = both_pass is_clean is_inner_byte is_plain_byte plain_of_inner (chars (take n run)) (clean_rest n run cut clean).0 ascii in
       (cut, subst (λ (l : List ℕ). list_all is_plain_byte l ≡ true) (sym (plain_bytes (chars (take n run)) plain) ∙ encodes-chars (take n run) cut.front) plain)

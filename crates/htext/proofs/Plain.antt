@@ -13,7 +13,7 @@ use Rattle.htext.specs.declared.Bom.{Bom}
 use Rattle.htext.specs.declared.Bom.TheVariants.{Drop, Keep}
 use Rattle.htext.specs.Text.{Whole, read_as}
 use Rattle.htext.specs.Items.{Character, items_of, is_stray_control}
-use Rattle.htext.specs.Run.{is_plain_byte, is_plain, is_clean, is_clean_byte, is_text_byte}
+use Rattle.htext.specs.Run.{is_plain_byte, is_plain, is_clean, is_clean_byte, is_inner_byte, is_text_byte}
 
 -- a plain byte is ASCII, and a plain character
 pub plain_small : (x : ℕ) → is_plain_byte x ≡ true → x < 127
@@ -29,14 +29,8 @@ byte_plain x h = or_left (is_plain_byte x) (nat_le 0xC0 x && nat_le x 0xEFFF) h
 pub plain_of_text : (c : ℕ) → is_clean c ≡ true → is_text_byte c ≡ true → is_plain c ≡ true
 plain_of_text c h m = grind (arith, nat_tests)
 
-pub plain_of_ascii : (c : ℕ) → is_clean c ≡ true → (is_ascii c && is_text_byte c) ≡ true → is_plain_byte c ≡ true
-plain_of_ascii c h m = grind (arith, nat_tests)
-
-pub mark_is : (byte : ℕ) → is_text_byte byte ≡ false → (byte ≡ 60) ⊎ (byte ≡ 38)
-mark_is byte h = elim (cases_eq byte 60) [
-  | inl is ↦ inl is
-  | inr not_it ↦ inr (let no : eqb byte 60 ≡ false = ne_eqb byte 60 not_it in grind (arith, nat_tests))
-]
+pub plain_of_inner : (c : ℕ) → is_clean c ≡ true → is_inner_byte c ≡ true → is_plain_byte c ≡ true
+plain_of_inner c h m = grind (arith, nat_tests)
 
 -- IN A TEXT
 

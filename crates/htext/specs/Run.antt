@@ -6,7 +6,7 @@ use Rattle.std.specs.Str.{chars, IsUtf8}
 use Rattle.names.specs.Placed.{placed}
 use Rattle.htext.specs.Items.{CharItem, Character}
 use Rattle.htext.specs.declared.run.RunBytes.{RunBytes}
-use Rattle.htext.specs.declared.run.RunBytes.TheVariants.{Plain, Text, Clean}
+use Rattle.htext.specs.declared.run.RunBytes.TheVariants.{Inner, Text, Clean}
 
 -- a byte that is a character by itself, is in the text as it came but for an LF after a CR, raises no error, and is neither `<` nor `&`
 abbrev pub is_plain_byte : ℕ → Bool
@@ -29,9 +29,13 @@ is_clean_byte byte = is_plain_byte byte || byte == 60 || byte == 38 || (nat_le 0
 abbrev pub is_text_byte : ℕ → Bool
 is_text_byte byte = not (byte == 60 || byte == 38)
 
+-- such a byte in ASCII other than `>`
+abbrev pub is_inner_byte : ℕ → Bool
+is_inner_byte byte = is_ascii byte && is_text_byte byte && not (byte == 62)
+
 -- the bytes of a run of each kind
 abbrev pub is_of : RunBytes → ℕ → Bool
-is_of Plain byte = is_ascii byte && is_text_byte byte
+is_of Inner byte = is_inner_byte byte
 is_of Text byte = is_text_byte byte
 is_of Clean byte = is_clean_byte byte
 

@@ -5,15 +5,15 @@ ghost use Rattle.std.specs.List.{prefix_len};
 ghost use Rattle.std.specs.Simd.Lanes.{mask_l};
 ghost use Rattle.std.specs.Str.Lossy.{utf8_valid_len, utf8_error_len};
 ghost use Rattle.htext.specs.Next.{AreBad};
-ghost use Rattle.htext.specs.Run.{is_of, is_not_of, is_text_byte};
+ghost use Rattle.htext.specs.Run.{is_inner_byte, is_clean_byte, is_of, is_not_of, is_text_byte};
 
 use std::simd::prelude::*;
 
 /// Which bytes make up a run.
 #[derive(Clone, Copy)]
 pub(crate) enum RunBytes {
-    /// Those in ASCII but `<` and `&`.
-    Plain,
+    /// Those in ASCII but `<`, `>` and `&`.
+    Inner,
     /// All but `<` and `&`.
     Text,
     /// Those of clean characters.
@@ -28,18 +28,18 @@ const BY_LOW: [u8; 16] = [
 
 const BY_HIGH: [u8; 16] = [1, 0, 2, 2, 2, 2, 2, 4, 8, 8, 8, 8, 16, 8, 32, 0];
 
-/// Counts the bytes before the first `<`, `&` or byte of a character that is not ASCII.
+/// Counts the bytes before the first `<`, `>`, `&` or byte of a character that is not ASCII: inside a tag, before what may end it.
 #[inline(always)]
-pub fn plain_run(bytes: &[u8]) -> usize
-    ensures { result ≡ prefix_len (is_of RunBytes.Plain) bytes.now }
+pub fn inner_run(bytes: &[u8]) -> usize
+    ensures { result ≡ prefix_len is_inner_byte bytes.now }
 {
-    run(RunBytes::Plain, bytes)
+    run(RunBytes::Inner, bytes)
 }
 
 /// Counts the bytes before the first `<` or `&`.
 #[inline(always)]
 pub fn text_run(bytes: &[u8]) -> usize
-    ensures { result ≡ prefix_len (is_of RunBytes.Text) bytes.now }
+    ensures { result ≡ prefix_len is_text_byte bytes.now }
 {
     run(RunBytes::Text, bytes)
 }
@@ -48,7 +48,7 @@ pub fn text_run(bytes: &[u8]) -> usize
 /// of these is in the text as it came, unless it is an LF after a CR, and raises no error.
 #[inline(always)]
 pub fn clean_run(bytes: &[u8]) -> usize
-    ensures { result ≡ prefix_len (is_of RunBytes.Clean) bytes.now }
+    ensures { result ≡ prefix_len is_clean_byte bytes.now }
 {
     run(RunBytes::Clean, bytes)
 }
@@ -115,7 +115,9 @@ fn stops(kind: RunBytes, bytes: u8x16) -> u64
 {
     let marks = bytes.simd_eq(u8x16::splat(b'<')) | bytes.simd_eq(u8x16::splat(b'&'));
     match kind {
-        RunBytes::Plain => (marks | bytes.simd_ge(u8x16::splat(0x80))).to_bitmask(),
+        RunBytes::Inner => (marks
+            | bytes.simd_eq(u8x16::splat(b'>'))
+            | bytes.simd_ge(u8x16::splat(0x80))).to_bitmask(),
         RunBytes::Text => marks.to_bitmask(),
         RunBytes::Clean => unclean(bytes),
     }
@@ -137,7 +139,7 @@ fn is_in_run(kind: RunBytes, byte: u8) -> bool
     ensures { result ≡ is_of kind byte }
 {
     match kind {
-        RunBytes::Plain => byte.is_ascii() && is_text(byte),
+        RunBytes::Inner => byte.is_ascii() && is_text(byte) && byte != b'>',
         RunBytes::Text => is_text(byte),
         RunBytes::Clean => matches!(
             byte,

@@ -36,7 +36,7 @@ taken_in_run table start t names text taken amp is (holds h) = absurd (subst (λ
 taken_in_run table start t names text taken amp is (in_run h) = h
 
 -- letters and digits leave the error as it is
-later_same : (at : ℕ) (run more : List Placed) → all is_alphanumeric run ≡ true → later_errors at (run ++ more) ≡ later_errors at more
+pub later_same : (at : ℕ) (run more : List Placed) → all is_alphanumeric run ≡ true → later_errors at (run ++ more) ≡ later_errors at more
 later_same at [] more h = refl
 later_same at (p ∷ ps) more h = let k = and_parts (is_alphanumeric p.ch) (all is_alphanumeric ps) h in later_on at p (ps ++ more) k.0 ∙ later_same at ps more k.1
 

@@ -16,7 +16,7 @@ use Rattle.names.specs.declared.refusal.Refusal.{Refusal}
 use Rattle.names.specs.declared.refusal.Refusal.TheVariants.{Memory}
 use Rattle.names.specs.Names.{Texts, Grows}
 use Rattle.names.specs.Placed.{all, placed, null_errors}
-use Rattle.htext.specs.Run.{is_plain_byte, is_plain, IsCut}
+use Rattle.htext.specs.Run.{is_clean, is_plain_byte, is_plain, IsCut}
 use Rattle.htext.proofs.Runs.{one_long, plain_take}
 use Rattle.htext.proofs.Wide.{last_char}
 use Rattle.charref.specs.Reference.{Entities}
@@ -49,6 +49,10 @@ use Rattle.htoken.proofs.Scripting.{all_followed}
 -- a character that stands for itself, whatever kind of text it is in
 abbrev pub is_itself : ℕ → Bool
 is_itself c = not (c == 60 || c == 38 || c == 0)
+
+pub plain_is_clean : (cs : List ℕ) → list_all is_plain cs ≡ true → list_all is_clean cs ≡ true
+plain_is_clean [] h = refl
+plain_is_clean (c ∷ cs) h = let k = and_parts (is_plain c) (list_all is_plain cs) h in and_from _ _ (ap (λ (b : Bool). b || c == 60 || c == 38) k.0) (plain_is_clean cs k.1)
 
 plain_itself : (c : ℕ) → is_plain c ≡ true → is_itself c ≡ true
 plain_itself c h = grind (arith, nat_tests)
@@ -154,7 +158,7 @@ module _ (table : Entities) (end : ℕ) (here : Standing) (rest : List Placed) (
   of_kind kind.Script = in_raw
   of_kind kind.Plaintext = in_raw
 
-run_stands : (table : Entities) (start : RawKind) (end : ℕ) (run front rest : List Placed) (here : Standing) (taken : List Event) → all is_itself run ≡ true → Stands table start end front (run ++ rest) here taken []
+pub run_stands : (table : Entities) (start : RawKind) (end : ℕ) (run front rest : List Placed) (here : Standing) (taken : List Event) → all is_itself run ≡ true → Stands table start end front (run ++ rest) here taken []
     → Stands table start end (front ++ run) rest (after_characters here run) (taken ++ run_events run) []
 run_stands table start end [] front rest here taken plain s =
     subst (λ (x : List Placed). Stands table start end x rest here (taken ++ []) []) (sym (append-nil front)) (subst (λ (x : List Event). Stands table start end front rest here x []) (sym (append-nil taken)) s)

@@ -10,7 +10,7 @@ ghost use Rattle.names.specs.declared.refusal.Refusal.{Refusal as Refused};
 ghost use Rattle.names.specs.Names.{Texts, Grows};
 ghost use Rattle.names.specs.Placed.{is_alphanumeric, placed};
 ghost use Rattle.htext.specs.declared.decoder.TheConstants.{MAX_INPUT};
-ghost use Rattle.htext.specs.Run.{is_plain, is_plain_byte, IsCut};
+ghost use Rattle.htext.specs.Run.{is_clean, is_plain, is_plain_byte, IsCut};
 ghost use Rattle.charref.specs.Reference.{Entities};
 ghost use Rattle.hmarkup.specs.Comment.{is_only_data};
 ghost use Rattle.htoken.specs.Raw.{is_script};
@@ -20,11 +20,12 @@ ghost use Rattle.htoken.specs.Steps.{TakesFront, TakesPart};
 ghost use Rattle.htoken.specs.Token.{Event, gives_item};
 ghost use Rattle.htoken.specs.Tokenizing.{HasTaken, IsInRun, Takes};
 
+use crate::front::count_alphanumerics;
 use crate::hand::tell_unknown;
 use crate::sink::TokenSink;
 use crate::state::State;
 use crate::tokenizer::{Tokenizer, after};
-use htext::plain_run;
+use htext::inner_run;
 use names::{Names, Refusal};
 
 /// How many bytes are before the first one that may end a comment, or is a fault in it.
@@ -34,19 +35,6 @@ fn count_data(run: &str) -> usize
 {
     for (index, byte) in run.as_bytes().iter().enumerate() {
         if matches!(*byte, b'-' | b'!' | b'<' | b'>' | 0) {
-            return index;
-        }
-    }
-    run.len()
-}
-
-/// How many bytes come before the first one that is neither an ASCII letter nor a digit.
-fn count_alphanumerics(run: &str) -> usize
-    ensures counted { result ≡ prefix_len is_alphanumeric run.now }
-    ensures few { result ≤ length run.now }
-{
-    for (index, byte) in run.as_bytes().iter().enumerate() {
-        if !(byte.is_ascii_alphabetic() || byte.is_ascii_digit()) {
             return index;
         }
     }
@@ -64,7 +52,7 @@ fn first(text: &str) -> char
 
 /// Where the last character of a text begins.
 #[inline]
-fn last_start(text: &str) -> usize
+pub(crate) fn last_start(text: &str) -> usize
     requires { 0 < length text.now }
     ensures cut { IsCut result text.now }
     ensures last { (c : ℕ) × (drop result text.now ≡ encode_utf8 c) }
@@ -75,9 +63,22 @@ fn last_start(text: &str) -> usize
     }
 }
 
+/// How many bytes at the front of a run are ASCII up to the next `<` or `&`, or past the next `>`.
+#[inline(always)]
+fn inner_part(run: &str) -> usize
+    requires clean { list_all is_clean (chars run.now) ≡ true }
+    ensures cut { IsCut result run.now }
+    ensures plain { list_all is_plain_byte (take result run.now) ≡ true }
+{
+    let count = inner_run(run.as_bytes());
+    if count < run.len() && run.as_bytes()[count] == b'>' {
+        return count + 1;
+    }
+    count
+}
+
 impl<'t> Tokenizer<'t> {
-    /// Takes a run of plain characters, each a byte, the first of which is at `place`. It is the same as feeding them one by
-    /// one.
+    /// Takes a run of clean characters, the first byte of which is at `place`. It is the same as feeding them one by one.
     pub fn feed_run<S: TokenSink>(
         &mut self,
         names: &mut Names,
@@ -85,36 +86,7 @@ impl<'t> Tokenizer<'t> {
         place: u64,
         sink: &mut S,
     ) -> Result<(), Refusal>
-        requires plain { list_all is_plain_byte run.now ≡ true }
-        requires within { place + length run.now ≤ MAX_INPUT }
-        ensures takes { (table : Entities) (start : Kind) (before : Texts) (text : List Character) (taken : List Event) → Grows before names.old
-            → HasTaken table start self.old before text taken
-            → Takes (gives_item S.gives S.gives_token) table start text (placed place run.now) taken names.new sink.old result sink.new self.new }
-        ensures grows { Grows names.old names.new }
-
-        // After a refusal every later call returns the same one, and hands over nothing.
-        ensures refused { IfErr result (λ refusal. self.new.refused ≡ Some refusal) }
-        ensures again { (refusal : Refused) → self.old.refused ≡ Some refusal → (result ≡ Err refusal) × (sink.new ≡ sink.old) × (names.new ≡ names.old) }
-    {
-        if let Some(refusal) = self.refused {
-            return Err(refusal);
-        }
-        let answer = self.take_fronts(names, run, place, sink);
-        if let Err(refusal) = answer {
-            self.refused = Some(refusal);
-        }
-        answer
-    }
-
-    /// Takes a run of any plain characters, the first byte of which is at `place`. It is the same as feeding them one by one.
-    pub fn feed_text<S: TokenSink>(
-        &mut self,
-        names: &mut Names,
-        run: &str,
-        place: u64,
-        sink: &mut S,
-    ) -> Result<(), Refusal>
-        requires plain { list_all is_plain (chars run.now) ≡ true }
+        requires clean { list_all is_clean (chars run.now) ≡ true }
         requires within { place + length run.now ≤ MAX_INPUT }
         ensures takes { (table : Entities) (start : Kind) (before : Texts) (text : List Character) (taken : List Event) → Grows before names.old
             → HasTaken table start self.old before text taken
@@ -165,7 +137,7 @@ impl<'t> Tokenizer<'t> {
         }
     }
 
-    /// Takes a run of any plain characters, a part after another.
+    /// Takes a run of clean characters, a part after another.
     fn take_parts<S: TokenSink>(
         &mut self,
         names: &mut Names,
@@ -173,7 +145,7 @@ impl<'t> Tokenizer<'t> {
         place: u64,
         sink: &mut S,
     ) -> Result<(), Refusal>
-        requires plain { list_all is_plain (chars run.now) ≡ true }
+        requires clean { list_all is_clean (chars run.now) ≡ true }
         requires within { place + length run.now ≤ MAX_INPUT }
         ensures takes { (table : Entities) (start : Kind) (before : Texts) (text : List Character) (taken : List Event) → Grows before names.old
             → HasTaken table start self.old before text taken
@@ -188,7 +160,9 @@ impl<'t> Tokenizer<'t> {
         Ok(())
     }
 
-    /// Takes the whole run where nothing is held, or else what is ASCII at its front, or else one character. Returns the length.
+    /// Takes a part of a run: where nothing is held, the text at its front and what ends that; where something is, what is ASCII up to what
+    /// may end it, or else one character. Returns the length.
+    #[inline(always)]
     fn take_part<S: TokenSink>(
         &mut self,
         names: &mut Names,
@@ -197,7 +171,7 @@ impl<'t> Tokenizer<'t> {
         sink: &mut S,
     ) -> Result<usize, Refusal>
         requires some { 0 < length run.now }
-        requires plain { list_all is_plain (chars run.now) ≡ true }
+        requires clean { list_all is_clean (chars run.now) ≡ true }
         requires within { at + length run.now ≤ MAX_INPUT }
         ensures takes { (table : Entities) (start : Kind) (before : Texts) (text : List Character) (taken : List Event) → Grows before names.old
             → HasTaken table start self.old before text taken
@@ -205,11 +179,31 @@ impl<'t> Tokenizer<'t> {
         ensures few { IfOk result (λ count. (0 < count) × IsCut count run.now) }
         ensures grows { Grows names.old names.new }
     {
-        if let State::Text = self.state {
-            self.run_of_text(run, at, sink)?;
-            return Ok(run.len());
+        match self.state {
+            State::Text => self.part_of_text(run, at, sink),
+            _ => self.part_of_markup(names, run, at, sink),
         }
-        let count = plain_run(run.as_bytes());
+    }
+
+    /// Takes what is ASCII up to the next `<` or `&`, or past the next `>`, or else one character. Returns the length.
+    #[inline(always)]
+    fn part_of_markup<S: TokenSink>(
+        &mut self,
+        names: &mut Names,
+        run: &str,
+        at: u64,
+        sink: &mut S,
+    ) -> Result<usize, Refusal>
+        requires some { 0 < length run.now }
+        requires clean { list_all is_clean (chars run.now) ≡ true }
+        requires within { at + length run.now ≤ MAX_INPUT }
+        ensures takes { (table : Entities) (start : Kind) (before : Texts) (text : List Character) (taken : List Event) → Grows before names.old
+            → HasTaken table start self.old before text taken
+            → TakesPart (gives_item S.gives S.gives_token) table start text at run.now taken names.new sink.old result sink.new self.new }
+        ensures few { IfOk result (λ count. (0 < count) × IsCut count run.now) }
+        ensures grows { Grows names.old names.new }
+    {
+        let count = inner_part(run);
         if count == 0 {
             return self.take_one(names, run, at, sink);
         }
@@ -497,7 +491,7 @@ impl<'t> Tokenizer<'t> {
     }
 
     /// Follows the level of script data.
-    fn follow_run(&mut self, run: &str)
+    pub(crate) fn follow_run(&mut self, run: &str)
         ensures then { self.new ≡ record self.old { script = self.new.script } }
         ensures follows { (at : ℕ) → is_script self.old.kind ≡ true → FollowsAll self.old.script (placed at (chars run.now)) self.new.script }
     {

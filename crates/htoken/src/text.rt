@@ -125,7 +125,7 @@ impl<'t> Tokenizer<'t> {
     }
 
     /// Whether references may be here.
-    fn has_references(&self) -> bool
+    pub(crate) fn has_references(&self) -> bool
         ensures { result ≡ has_references self.now.kind }
     {
         matches!(self.kind, RawKind::None | RawKind::Rcdata)

@@ -1,6 +1,6 @@
 //! Runs of bytes.
 
-use htext::{clean_run, plain_run, text_run};
+use htext::{clean_run, inner_run, text_run};
 
 /// A byte that is not in a run ends it at each place, for lengths below and above those of a step.
 #[test]
@@ -8,12 +8,12 @@ fn a_run_ends_at_each_place(rt: HostRuntime) {
     for length in 0..=40usize {
         let mut text = [b'a'; 40];
         let letters = &text[..length];
-        let whole = plain_run(letters) == length && text_run(letters) == length;
+        let whole = inner_run(letters) == length && text_run(letters) == length;
         assert!(rt; whole && clean_run(letters) == length);
         for place in 0..length {
             text[place] = b'&';
             let marked = &text[..length];
-            assert!(rt; plain_run(marked) == place && text_run(marked) == place);
+            assert!(rt; inner_run(marked) == place && text_run(marked) == place);
             text[place] = 0;
             assert!(rt; clean_run(&text[..length]) == place);
             text[place] = b'a';
@@ -27,7 +27,7 @@ fn each_byte_is_in_a_run_or_not(rt: HostRuntime) {
         let bytes = [byte; 20];
         let is_text = byte != b'<' && byte != b'&';
         assert!(rt; text_run(&bytes) == wanted(is_text));
-        assert!(rt; plain_run(&bytes) == wanted(is_text && byte < 0x80));
+        assert!(rt; inner_run(&bytes) == wanted(is_text && byte != b'>' && byte < 0x80));
         assert!(rt; clean_run(&bytes) == wanted(is_clean(byte)));
     }
 }

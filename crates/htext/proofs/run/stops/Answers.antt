@@ -2,7 +2,7 @@ use Rattle.std.proofs.Common.{◌≡◌, ℕ, List, bit_or, cond, leb, length, m
 use Rattle.std.proofs.lemmas.Simd.{zip2_splat, zip2_splat_left, zip2_of_maps}
 use lib.Lanes.{zip2}
 use Rattle.htext.specs.Run.{is_not_of}
-use Rattle.htext.specs.declared.run.RunBytes.TheVariants.{Plain, Text}
+use Rattle.htext.specs.declared.run.RunBytes.TheVariants.{Inner, Text}
 use Rattle.htext.proofs.Lanes.{hit, masked}
 use Rattle.htext.proofs.run.stops.Goals as goal
 
@@ -16,11 +16,12 @@ marks v long = zip2_of_maps bit_or _ _ v (zip2_splat hit v 16 60 long) (zip2_spl
 abbrev at_most : ℕ → ℕ → ℕ
 at_most a b = cond (leb a b) 255 0
 
-pub returns-in-Plain : goal.returns-in-Plain
-returns-in-Plain c =
+pub returns-in-Inner : goal.returns-in-Inner
+returns-in-Inner c =
     let v = c.args.bytes in
     let long = c.fits-bytes.0 in
-    rw c.in-Plain.is (masked (λ x. bit_or (mark x) (at_most 128 x)) (is_not_of Plain) v _ (omega arith) c.fits-bytes.1 (zip2_of_maps bit_or _ _ v (marks v long) (zip2_splat_left at_most 128 16 v long)) tt)
+    rw c.in-Inner.is (masked (λ x. bit_or (bit_or (mark x) (hit x 62)) (at_most 128 x)) (is_not_of Inner) v _ (omega arith) c.fits-bytes.1
+    (zip2_of_maps bit_or _ _ v (zip2_of_maps bit_or _ _ v (marks v long) (zip2_splat hit v 16 62 long)) (zip2_splat_left at_most 128 16 v long)) tt)
 
 pub returns-in-Text : goal.returns-in-Text
 returns-in-Text c = rw c.in-Text.is (masked mark (is_not_of Text) c.args.bytes _ (omega arith) c.fits-bytes.1 (marks c.args.bytes c.fits-bytes.0) tt)

@@ -10,7 +10,7 @@ use Rattle.hadopt.specs.Site.{SiteOf}
 use Rattle.hmodes.specs.States.{state_of}
 use Rattle.hmodes.specs.Building.{Building, Stands, TakesToken}
 use Rattle.htext.proofs.Wide.{has_characters}
-use Rattle.hmodes.proofs.PlainRun.{run_taken, run_parts, gives-of, left_is, stands_by_run}
+use Rattle.hmodes.proofs.TextRun.{run_taken, run_parts, gives-of, left_is, stands_by_run}
 use Rattle.hmodes.proofs.builder.Builder.put_run.Goals as goal
 
 pub returns : goal.returns
@@ -21,7 +21,7 @@ returns c =
     let parts = run_parts c.args.run.now b c.requires.puts in
     subst (λ (o : Building). Hands TakesToken b (run_tokens (placed c.args.at (chars c.args.run.now))) answer o)
     (sym (left_is b _ (state_of c.begin.new.self) (state_of c.put_run-answer.new.self) x c.err-self-inside.result answer c.self.view_is c.begin.ensures c.put_run-answer.ensures.rest c.err-self-inside.ensures.value))
-    (run_taken b parts.1 parts.2 c.args.at (chars c.args.run.now) (has_characters c.args.run.now c.utf8.run parts.0) c.requires.plain answer x
+    (run_taken b parts.1 parts.2 c.args.at (chars c.args.run.now) (has_characters c.args.run.now c.utf8.run parts.0) c.requires.clean answer x
     (gives-of b _ (state_of c.begin.new.self) x answer (λ (y : SiteOf ℕ). put_each (placed c.args.at (chars c.args.run.now)) (place numbers y) y) c.self.view_is c.begin.ensures c.put_run-answer.ensures.gives))
 
 pub invariant_of-self : goal.invariant_of-self

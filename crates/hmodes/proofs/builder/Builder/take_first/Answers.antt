@@ -8,7 +8,7 @@ use Rattle.names.specs.Placed.{placed}
 use Rattle.names.specs.Sink.{Hands}
 use Rattle.htoken.specs.Run.{run_tokens}
 use Rattle.hmodes.specs.Building.{TakesToken}
-use Rattle.hmodes.proofs.PlainRun.{first_refused, rest_plain, rest_taken}
+use Rattle.hmodes.proofs.TextRun.{first_refused, rest_clean, rest_taken}
 use Rattle.hmodes.proofs.builder.Builder.take_first.Goals as goal
 
 pub returns-in_default : goal.returns-in_default
@@ -22,10 +22,10 @@ returns-in_err-take_text c =
     rw (e.1, e.2)
     (first_refused c.args.self.now c.take_text.new.self c.args.at c.args.run.now _ c.in-Some.ch c.utf8.run (sym c.chars-chars.ensures.rest ∙ c.in-Some.ensures.steps.0) c.in_err-take_text.field-0.0 c.in_err-take_text.ensures)
 
-pub put_run-requires-clause-plain : goal.put_run-requires-clause-plain
-put_run-requires-clause-plain c =
+pub put_run-requires-clause-clean : goal.put_run-requires-clause-clean
+put_run-requires-clause-clean c =
     let is : c.args.run.now ≡ encode_utf8 c.in-Some.ch ++ c.as_str-rest.result.now = sym c.chars-chars.ensures.rest ∙ c.in-Some.ensures.steps.0 ∙ ap (λ (l : List ℕ). encode_utf8 c.in-Some.ch ++ l) (sym c.as_str-rest.ensures) in
-    rest_plain c.args.run.now c.as_str-rest.result.now c.in-Some.ch c.utf8.run is c.requires.plain
+    rest_clean c.args.run.now c.as_str-rest.result.now c.in-Some.ch c.utf8.run is c.requires.clean
 
 pub returns-then-puts_run : goal.returns-then-puts_run
 returns-then-puts_run c =

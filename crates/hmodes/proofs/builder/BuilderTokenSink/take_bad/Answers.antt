@@ -8,7 +8,7 @@ use Rattle.hadopt.specs.Site.{SiteOf}
 use Rattle.hmodes.specs.States.{state_of}
 use Rattle.hmodes.specs.Building.{Building, Stands, TakesToken}
 use Rattle.hmodes.specs.Runs.{puts_each}
-use Rattle.hmodes.proofs.PlainRun.{bad_taken, free-of, puts-of, gives-of, left_is, stands_by_run}
+use Rattle.hmodes.proofs.TextRun.{bad_taken, free-of, puts-of, gives-of, left_is, stands_by_run}
 use Rattle.hmodes.proofs.builder.BuilderTokenSink.take_bad.Goals as goal
 
 pub returns : goal.returns

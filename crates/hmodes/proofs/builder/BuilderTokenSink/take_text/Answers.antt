@@ -5,7 +5,7 @@ use Rattle.hmodes.specs.States.{state_of}
 use Rattle.hmodes.specs.Building.{Building, Stands, Takes}
 use Rattle.hmodes.specs.Runs.{takes_char}
 use Rattle.hmodes.proofs.OneChar.{taken_by_rule, left_by_rule, gives_by_rule, takes-of}
-use Rattle.hmodes.proofs.PlainRun.{free-of, stands_by_token}
+use Rattle.hmodes.proofs.TextRun.{free-of, stands_by_token}
 use Rattle.hmodes.proofs.builder.BuilderTokenSink.take_text.Goals as goal
 
 pub returns : goal.returns

@@ -7,7 +7,7 @@ use Rattle.htoken.specs.Run.{replaced}
 use Rattle.hadopt.specs.Gives.{Gives}
 use Rattle.hadopt.specs.Inserts.{put_each}
 use Rattle.hadopt.specs.Site.{Outcome, SiteOf}
-use Rattle.hmodes.proofs.PlainRun.{bad_bytes, bad_put}
+use Rattle.hmodes.proofs.TextRun.{bad_bytes, bad_put}
 use Rattle.hmodes.proofs.tree_construction.TreeConstruction.put_bad.Goals as goal
 
 pub returns-clause-gives : goal.returns-clause-gives

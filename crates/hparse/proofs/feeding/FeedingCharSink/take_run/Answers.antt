@@ -1,8 +1,10 @@
-use Rattle.std.proofs.Common.{[], subst, refl}
+use Rattle.std.proofs.Common.{[], List, ℕ, Ok, subst, sym, refl}
+use Rattle.std.specs.Str.{chars}
 use Rattle.names.specs.Sink.{Hands}
 use Rattle.names.proofs.Handing.{grows_not}
 use Rattle.htext.specs.Items.{characters_among}
 use Rattle.htext.specs.Run.{run_items}
+use Rattle.htext.proofs.Wide.{has_characters, no_characters}
 use Rattle.htoken.specs.Standing.{start_kind}
 use Rattle.htoken.specs.Token.{gives_item}
 use Rattle.hparse.specs.Holding.{Proceeds}
@@ -10,11 +12,15 @@ use Rattle.hparse.specs.Intake.{Intake}
 use Rattle.hparse.proofs.Held.{run_taken}
 use Rattle.hparse.proofs.feeding.FeedingCharSink.take_run.Goals as goal
 
+pub returns-then-is_empty : goal.returns-then-is_empty
+returns-then-is_empty g c =
+    subst (λ (l : List ℕ). Hands (Proceeds (gives_item g.S.ErrorSink.gives g.S.TokenSink.gives_token)) c.args.self.now (run_items c.args.at l) (Ok tt) c.args.self.now) (sym (no_characters c.args.run.now c.if-is_empty.ensures)) (refl, refl)
+
 pub returns : goal.returns
 returns g c =
     let gives = gives_item g.S.ErrorSink.gives g.S.TokenSink.gives_token in
     let old : Intake _ = record { names = c.self.inside.names; tokenizer = c.self.inside.tokenizer; sink = c.self.inside.sink; stopped = c.self.inside.stopped; unfed = [] } in
     let new : Intake _ = record { names = c.feed_run-answer.new.names; tokenizer = c.feed_run-answer.new.self; sink = c.feed_run-answer.new.sink; stopped = c.is_err-self-inside.result; unfed = [] } in
-    subst (λ s. Hands (Proceeds gives) s (run_items c.args.at c.args.run.now) c.feed_run-answer.result new) c.self.view_is
-    (run_taken gives old new c.feed_run-answer.result refl refl c.args.at c.args.run.now c.if-is_empty.ensures c.feed_run-answer.ensures.grows c.is_err-self-inside.ensures.value
+    subst (λ s. Hands (Proceeds gives) s (run_items c.args.at (chars c.args.run.now)) c.feed_run-answer.result new) c.self.view_is
+    (run_taken gives old new c.feed_run-answer.result refl refl c.args.at (chars c.args.run.now) (has_characters c.args.run.now c.utf8.run c.if-is_empty.ensures) c.feed_run-answer.ensures.grows c.is_err-self-inside.ensures.value
     (λ m began before h. c.feed_run-answer.ensures.takes m.table (start_kind m.start) old.names (characters_among before) h.taken (grows_not old.names) h.has_taken))

@@ -1,6 +1,7 @@
 use Rattle.std.proofs.Common.{◌+◌, ℕ, List, [], refl, sym, ap, ◌∙◌, subst, length, arith}
 use Rattle.std.proofs.lemmas.Result.{err_from_is_err_and}
 use Rattle.std.specs.Prelude.{slice_index}
+use Rattle.std.specs.Str.{chars}
 use Rattle.names.specs.Placed.{placed}
 use Rattle.names.specs.Sink.{Hands}
 use Rattle.htext.specs.Run.{is_plain_byte}
@@ -10,12 +11,12 @@ use Rattle.htoken.specs.Run.{run_tokens}
 use Rattle.htoken.specs.declared.state.State.TheVariants as state
 use Rattle.htoken.specs.Token.{gives_item}
 use Rattle.htoken.proofs.AfterRun.{taken_in_run, later_settled, plain_all, end_refused, text_after}
-use Rattle.htoken.proofs.InRun.{next_run}
+use Rattle.htoken.proofs.InRun.{next_run, plain_is_clean}
 use Rattle.htoken.proofs.Running.{run_given}
 use Rattle.htoken.proofs.tokenizer.Tokenizer.end_run_before.Goals as goal
 
-pub take_run-requires-clause-plain : goal.take_run-requires-clause-plain
-take_run-requires-clause-plain g c = run_plain c.args.run.now c.requires.plain c.utf8.run
+pub take_run-requires-clause-clean : goal.take_run-requires-clause-clean
+take_run-requires-clause-clean g c = plain_is_clean (chars c.args.run.now) (run_plain c.args.run.now c.requires.plain c.utf8.run)
 
 pub returns-in_err-tell_unknown : goal.returns-in_err-tell_unknown
 returns-in_err-tell_unknown g c =

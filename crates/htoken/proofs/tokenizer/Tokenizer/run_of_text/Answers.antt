@@ -6,10 +6,13 @@ use Rattle.htext.proofs.Runs.{all_placed}
 use Rattle.htoken.specs.Token.{gives_item}
 use Rattle.htoken.specs.declared.tokenizer.Tokenizer.{Tokenizer}
 use Rattle.htoken.specs.Tokenizing.{next_place}
-use Rattle.htoken.proofs.InRun.{all_itself, next_last, text_taken}
+use Rattle.htoken.proofs.InRun.{all_itself, next_last, plain_is_clean, text_taken}
 use Rattle.htoken.proofs.Running.{run_given}
 use Rattle.htoken.proofs.Taking.{IsCalm, in_state}
 use Rattle.htoken.proofs.tokenizer.Tokenizer.run_of_text.Goals as goal
+
+pub take_run-requires-clause-clean : goal.take_run-requires-clause-clean
+take_run-requires-clause-clean g c = plain_is_clean (chars c.args.run.now) c.requires.plain
 
 pub returns : goal.returns
 returns g c = λ table start names text taken h.

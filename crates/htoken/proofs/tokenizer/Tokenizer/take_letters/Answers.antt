@@ -1,4 +1,5 @@
 use Rattle.std.proofs.Common.{◌+◌, List, ℕ, refl, sym, subst, length, arith}
+use Rattle.std.specs.Str.{chars}
 use Rattle.names.specs.Placed.{is_alphanumeric, placed}
 use Rattle.names.specs.Sink.{Hands}
 use Rattle.htext.proofs.Runs.{all_placed, plain_chars}
@@ -6,12 +7,12 @@ use Rattle.htext.proofs.Wide.{run_plain}
 use Rattle.htoken.specs.Run.{run_tokens}
 use Rattle.htoken.specs.Token.{gives_item}
 use Rattle.htoken.proofs.AfterRun.{letters_taken}
-use Rattle.htoken.proofs.InRun.{next_run}
+use Rattle.htoken.proofs.InRun.{next_run, plain_is_clean}
 use Rattle.htoken.proofs.Running.{run_given}
 use Rattle.htoken.proofs.tokenizer.Tokenizer.take_letters.Goals as goal
 
-pub take_run-requires-clause-plain : goal.take_run-requires-clause-plain
-take_run-requires-clause-plain g c = run_plain c.args.letters.now c.requires.plain c.utf8.letters
+pub take_run-requires-clause-clean : goal.take_run-requires-clause-clean
+take_run-requires-clause-clean g c = plain_is_clean (chars c.args.letters.now) (run_plain c.args.letters.now c.requires.plain c.utf8.letters)
 
 pub returns-clause-takes : goal.returns-clause-takes
 returns-clause-takes g c = λ table start names text ahead others taken is h.

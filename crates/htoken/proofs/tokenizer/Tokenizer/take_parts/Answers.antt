@@ -5,8 +5,9 @@ use Rattle.std.proofs.lemmas.Result.{err_from_is_err_and}
 use Rattle.std.proofs.lemmas.Str.{IsCharBoundary-from_drop, IsUtf8-nil, chars-nil}
 use Rattle.names.specs.Placed.{placed}
 use Rattle.names.proofs.Handing.{grows_not, grows_on}
-use Rattle.htext.specs.Run.{is_plain, IsCut}
-use Rattle.htext.proofs.Wide.{plain_after, cut_more}
+use Rattle.htext.specs.Run.{is_clean, IsCut}
+use Rattle.htext.proofs.Clean.{clean_rest}
+use Rattle.htext.proofs.Wide.{cut_more}
 use Rattle.htoken.specs.Token.{gives_item}
 use Rattle.htoken.specs.Tokenizing.{Takes}
 use Rattle.htoken.proofs.Fronts.{takes_nothing, cut_more_taken, cut_more_refused, cut_all_taken}
@@ -25,8 +26,8 @@ loop-count-init g c = record {
 pub range_from-requires : goal.range_from-requires
 range_from-requires g c = λ _. IsCharBoundary-from_drop c.args.run.now c.loop-count.count c.loop-count.invariant.cut.within c.loop-count.invariant.cut.back
 
-pub take_part-requires-clause-plain : goal.take_part-requires-clause-plain
-take_part-requires-clause-plain g c = ap (λ (l : List ℕ). list_all is_plain (chars l)) c.range_from.ensures.value ∙ plain_after c.loop-count.count c.args.run.now c.loop-count.invariant.cut c.requires.plain
+pub take_part-requires-clause-clean : goal.take_part-requires-clause-clean
+take_part-requires-clause-clean g c = ap (λ (l : List ℕ). list_all is_clean (chars l)) c.range_from.ensures.value ∙ (clean_rest c.loop-count.count c.args.run.now c.loop-count.invariant.cut c.requires.clean).1
 
 pub loop-count-preserved : goal.loop-count-preserved
 loop-count-preserved g c =

@@ -10,7 +10,7 @@ use Rattle.names.specs.Placed.{placed}
 use Rattle.names.specs.declared.placed.Placed.{Placed}
 use Rattle.names.proofs.Handing.{Continues-all}
 use Rattle.htext.proofs.Wide.{one_more, one_refused}
-use Rattle.htext.specs.Run.{is_plain}
+use Rattle.htext.specs.Run.{is_clean}
 use Rattle.std.specs.Char.{len_utf8, encode_utf8}
 use Rattle.std.specs.List.{repeat}
 use Rattle.std.specs.Str.{chars, IsUtf8}
@@ -36,14 +36,14 @@ use Rattle.hmodes.specs.Runs.{puts_in, puts_each}
 use Rattle.hmodes.proofs.OnePut.{place-here}
 use Rattle.hmodes.proofs.InRun.{AreSome, run_put, taken, stands-on, stands-run}
 
-plain_some : (x : ℕ) → is_plain x ≡ true → (x == 0) ≡ false
-plain_some x h = grind (arith, nat_tests)
+clean_some : (x : ℕ) → is_clean x ≡ true → (x == 0) ≡ false
+clean_some x h = grind (arith, nat_tests)
 
-pub some_plain : (at : ℕ) (cs : List ℕ) → list_all is_plain cs ≡ true → AreSome (placed at cs)
-some_plain at [] h = tt
-some_plain at (c ∷ cs) h =
-    let k = and_parts (is_plain c) (list_all is_plain cs) h in
-    (plain_some c k.0, some_plain (at + len_utf8 c) cs k.1)
+pub some_clean : (at : ℕ) (cs : List ℕ) → list_all is_clean cs ≡ true → AreSome (placed at cs)
+some_clean at [] h = tt
+some_clean at (c ∷ cs) h =
+    let k = and_parts (is_clean c) (list_all is_clean cs) h in
+    (clean_some c k.0, some_clean (at + len_utf8 c) cs k.1)
 
 -- what the test of a state says
 off-of : (a b c : Bool) → (not a && not b && c) ≡ true → (a ≡ false) × (b ≡ false) × (c ≡ true)
@@ -61,13 +61,13 @@ abbrev pub after_put : Building → SiteOf ℕ → Result (Unit {0}) Refusal →
 after_put b x answer = record { state = with_site x (begun b.state); root = b.root; told = b.told; refused = refused_by answer }
 
 -- a run that is put as a whole is taken character by character
-pub run_taken : (b : Building) → b.refused ≡ None → puts_each b.state ≡ true → (at : ℕ) (run : List ℕ) → false ≡ (length run == 0) → list_all is_plain run ≡ true
+pub run_taken : (b : Building) → b.refused ≡ None → puts_each b.state ≡ true → (at : ℕ) (run : List ℕ) → false ≡ (length run == 0) → list_all is_clean run ≡ true
     → (answer : Result (Unit {0}) Refusal) (x : SiteOf ℕ) → Gives answer x (put_each (placed at run) (place numbers b.state.site) b.state.site)
     → Hands TakesToken b (run_tokens (placed at run)) answer (after_put b x answer)
 run_taken b free puts at [] some plain answer x g = absurd cc
 run_taken b free puts at (c ∷ cs) some plain answer x g =
     let facts = off-of b.state.site.foster b.state.control.drop_lf (puts_in b.state.control.mode b.state.site) puts in
-    run_put b free facts.0 facts.1 facts.2 x (record { ch = c; at = at }) (placed (at + len_utf8 c) cs) (some_plain at (c ∷ cs) plain) answer
+    run_put b free facts.0 facts.1 facts.2 x (record { ch = c; at = at }) (placed (at + len_utf8 c) cs) (some_clean at (c ∷ cs) plain) answer
     (subst (λ (to : Place). Gives answer x (put_each (placed at (c ∷ cs)) to b.state.site)) (place-here b.state.site facts.0) g)
 
 -- and so is one of characters that replace bad parts
@@ -160,8 +160,8 @@ run_parts run b h = go (length run == 0) b.refused (puts_each b.state) h
     go false None puts h = (refl, refl, h)
 
 -- what is left of a run of plain characters is one
-pub rest_plain : (run rest : List ℕ) (c : ℕ) → IsUtf8 run → run ≡ encode_utf8 c ++ rest → list_all is_plain (chars run) ≡ true → list_all is_plain (chars rest) ≡ true
-rest_plain run rest c u is h = (and_parts (is_plain c) (list_all is_plain (chars rest)) (sym (ap (list_all is_plain) (chars_past_char run rest c u is)) ∙ h)).1
+pub rest_clean : (run rest : List ℕ) (c : ℕ) → IsUtf8 run → run ≡ encode_utf8 c ++ rest → list_all is_clean (chars run) ≡ true → list_all is_clean (chars rest) ≡ true
+rest_clean run rest c u is h = (and_parts (is_clean c) (list_all is_clean (chars rest)) (sym (ap (list_all is_clean) (chars_past_char run rest c u is)) ∙ h)).1
 
 -- A run is taken whose first character was taken by itself, and then what is left.
 abbrev token : Placed → Given

@@ -1,0 +1,44 @@
+use Rattle.std.proofs.Common.{[], List, ℕ, sym, ap, ◌∙◌, subst, refl, arith, Ok, Err}
+use Rattle.std.proofs.lemmas.Result.{err_from_is_err_and}
+use Rattle.std.specs.Prelude.{slice_index}
+use Rattle.names.specs.declared.placed.Placed.{Placed}
+use Rattle.htoken.specs.Token.{gives_item}
+use Rattle.htoken.specs.Tokenizing.{Reads, Takes}
+use Rattle.htoken.proofs.Bare.{mark_first, whole_cut, whole_read, whole_refused}
+use Rattle.htoken.proofs.Fronts.{cut_refused}
+use Rattle.htoken.proofs.tokenizer.Tokenizer.take_end.Goals as goal
+
+pub returns-in_err-give_piece-clause-takes : goal.returns-in_err-give_piece-clause-takes
+returns-in_err-give_piece-clause-takes g c =
+    let e = err_from_is_err_and c.from_residual.result c.from_residual.ensures.1 in
+    rw (e.1, e.2) (λ table start names text taken h.
+    whole_refused (gives_item g.S.ErrorSink.gives g.S.TokenSink.gives_token) table start names text taken c.args.self.now c.args.run.now c.args.at c.utf8.run c.in-Some.found c.in-Some.count c.in-Some.ensures c.requires.text h _ refl c.after-self.ensures _ _ _ (c.in_err-give_piece.ensures names))
+
+pub returns-in-Some-clause-takes : goal.returns-in-Some-clause-takes
+returns-in-Some-clause-takes g c = λ table start names text taken h.
+    whole_read (gives_item g.S.ErrorSink.gives g.S.TokenSink.gives_token) table start names text taken c.args.self.now c.args.run.now c.args.at c.utf8.run c.in-Some.found c.in-Some.count c.in-Some.ensures c.requires.text h _ refl c.after-self.ensures _ _ (c.in_ok-give_piece.ensures names)
+
+pub returns-in-Some-clause-few : goal.returns-in-Some-clause-few
+returns-in-Some-clause-few g c =
+    (omega arith, whole_cut (gives_item g.S.ErrorSink.gives g.S.TokenSink.gives_token) c.args.self.now.table.now c.args.self.now.kind [] [] [] c.args.self.now c.args.run.now c.args.at c.utf8.run c.in-Some.found c.in-Some.count c.in-Some.ensures c.requires.text)
+
+pub returns-in_err-in_text-clause-takes : goal.returns-in_err-in_text-clause-takes
+returns-in_err-in_text-clause-takes g c =
+    let e = err_from_is_err_and c.from_residual-in_err-in_text.result c.from_residual-in_err-in_text.ensures.1 in
+    let run = c.args.run.now in
+    let first = mark_first run c.args.at c.from.result c.utf8.run c.requires.some (c.from.ensures ∙ ap (λ (bs : List ℕ). slice_index bs 0) c.as_bytes.ensures.value) c.requires.ends in
+    rw (e.1, e.2) (λ table start names text taken h.
+    cut_refused (gives_item g.S.ErrorSink.gives g.S.TokenSink.gives_token) table start text c.args.at 1 run first.2 taken _ _ _ _ c.in_text.new.self _
+    (subst (λ (x : List Placed). Takes (gives_item g.S.ErrorSink.gives g.S.TokenSink.gives_token) table start text x taken names c.args.sink.now (Err c.in_err-in_text.field-0.0) c.in_text.new.sink c.in_text.new.self) (sym first.1)
+    (c.in_err-in_text.ensures table start names text taken (subst (λ (x : List Placed). Reads table start c.args.self.now names text x taken) first.0 h))))
+
+pub returns-clause-takes : goal.returns-clause-takes
+returns-clause-takes g c = λ table start names text taken h.
+    let run = c.args.run.now in
+    let first = mark_first run c.args.at c.from.result c.utf8.run c.requires.some (c.from.ensures ∙ ap (λ (bs : List ℕ). slice_index bs 0) c.as_bytes.ensures.value) c.requires.ends in
+    subst (λ (x : List Placed). Takes (gives_item g.S.ErrorSink.gives g.S.TokenSink.gives_token) table start text x taken names c.args.sink.now (Ok tt) c.in_text.new.sink c.in_text.new.self) (sym first.1)
+    (c.in_ok-in_text.ensures table start names text taken (subst (λ (x : List Placed). Reads table start c.args.self.now names text x taken) first.0 h))
+
+pub returns-clause-few : goal.returns-clause-few
+returns-clause-few g c =
+    (omega arith, (mark_first c.args.run.now c.args.at c.from.result c.utf8.run c.requires.some (c.from.ensures ∙ ap (λ (bs : List ℕ). slice_index bs 0) c.as_bytes.ensures.value) c.requires.ends).2)

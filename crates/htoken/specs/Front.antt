@@ -1,0 +1,69 @@
+-- The text at the front of a run, and what ends it: contracts of the tokenizer's own functions.
+use Rattle.std.specs.Prelude.{◌≡◌, ℕ, ◌+◌, ◌<◌, ◌==◌, true, false, List, [], ◌∷◌, ◌++◌, map, length, take, drop, Result, Ok}
+use Rattle.std.specs.Char.{is_ascii}
+use Rattle.std.specs.List.{list_all}
+use Rattle.std.specs.Str.{chars}
+use Rattle.names.specs.declared.error.ErrorCode.TheVariants.{UnknownNamedCharacterReference}
+use Rattle.names.specs.declared.error.ParseError.{ParseError}
+use Rattle.names.specs.declared.placed.Placed.{Placed}
+use Rattle.names.specs.declared.raw.RawKind.{RawKind}
+use Rattle.names.specs.declared.refusal.Refusal.{Refusal}
+use Rattle.names.specs.Names.{Texts}
+use Rattle.names.specs.Placed.{placed, error_if, is_alphanumeric}
+use Rattle.charref.specs.declared.reference.Reference.{Reference}
+use Rattle.charref.specs.Pieces.{IsRead}
+use Rattle.charref.specs.Reference.{Entities, IsReference, IsTable, ampersand}
+use Rattle.htoken.specs.declared.tokenizer.Tokenizer.{Tokenizer}
+use Rattle.htoken.specs.Token.{Item, Event, Reports}
+use Rattle.htoken.specs.Handing.{HandsEvents}
+use Rattle.htoken.specs.Raw.{is_script}
+use Rattle.htoken.specs.Run.{run_events}
+use Rattle.htoken.specs.Script.{FollowsAll}
+use Rattle.htoken.specs.Spans.{has_references}
+use Rattle.htoken.specs.Tokenizing.{Reads, next_place}
+
+-- the error of an `&` that is text, with these letters and digits after it and this character after those (13.2.5.72 to 13.2.5.74)
+abbrev pub bare_errors : List ℕ → ℕ → ℕ → List ParseError
+bare_errors [] next at = []
+bare_errors (letter ∷ letters) next at = error_if (next == 59) UnknownNamedCharacterReference at
+
+-- At the front of this run is an `&` that is text, whatever comes after the run: with the letters and digits after it, it has this length.
+pub record IsBare (table : Entities) (kind : RawKind) (run : List ℕ) (count : ℕ) : Type 0 where
+  pub may : has_references kind ≡ true
+  pub letters : List ℕ
+  pub next : ℕ
+  pub others : List ℕ
+  pub run_is : run ≡ 38 ∷ letters ++ next ∷ others
+  pub count_is : count ≡ 1 + length letters
+  pub alphanumeric : list_all is_alphanumeric letters ≡ true
+  pub ascii : is_ascii next ≡ true
+  pub is_text : (at : ℕ) (more : List Placed) → IsReference table false (placed (at + 1) letters ++ record { ch = next; at = at + count } ∷ more)
+      (ampersand (record { ch = 38; at = at }) (bare_errors letters next at))
+
+-- At the front of this run is a whole reference, whatever comes after it: its `&`, and this many bytes.
+pub record IsWhole (table : Entities) (kind : RawKind) (run : List ℕ) (found : Reference) (count : ℕ) : Type 0 where
+  pub may : has_references kind ≡ true
+  pub is_table : IsTable table
+  pub name : List ℕ
+  pub others : List ℕ
+  pub run_is : run ≡ 38 ∷ name ++ others
+  pub count_is : count ≡ length name
+  pub ascii : list_all is_ascii name ≡ true
+  pub some : 0 < count
+  pub left : found.left ≡ 0
+  pub reads : (at : ℕ) (after : List Placed) → IsRead table false (placed at name) after found
+
+-- the first character of a text, if it has one
+abbrev pub first_placed : ℕ → List ℕ → List Placed
+first_placed at text = placed at (take 1 (chars text))
+
+-- This many bytes at the front of a run are text, whose errors were handed over: after them, what comes next in the run is known to.
+pub record IsTextFront {S : Type 0} (gives : S → Item → Result (Unit {0}) Refusal → S → Type 0) (table : Entities) (start : RawKind) (t : Tokenizer)
+    (names : Texts) (text : List Placed) (taken : List Event) (run : List ℕ) (at count : ℕ) (old new : S) : Type 0 where
+  pub errors : List ParseError
+  pub handed : HandsEvents gives names old (map Reports errors) (Ok tt) new
+  pub reads : (next : Tokenizer) → next ≡ record t { next = next.next; script = next.script }
+      → next.next ≡ next_place ((text ++ placed at (chars (take count run))) ++ first_placed (at + count) (drop count run))
+      → (is_script t.kind ≡ true → FollowsAll t.script (placed at (chars (take count run))) next.script)
+      → Reads table start next names (text ++ placed at (chars (take count run))) (first_placed (at + count) (drop count run))
+      (taken ++ (map Reports errors ++ run_events (placed at (chars (take count run)))))

@@ -1,0 +1,209 @@
+//! The text at the front of a run, and the `<` or `&` that ends it (HTML Standard, 13.2.5.1 to 13.2.5.5 and 13.2.5.72 to 13.2.5.74).
+
+ghost use Rattle.std.specs.Prelude.{◌≡◌, ◌≤◌, ◌<◌, ◌+◌, List, map, true, false, IfOk, IfSome, MatchResult, Err, length, slice_index};
+ghost use Rattle.std.specs.List.{list_all, prefix_len};
+ghost use Rattle.std.specs.Str.{chars};
+ghost use Rattle.names.specs.declared.placed.Placed.{Placed as Character};
+ghost use Rattle.names.specs.declared.raw.RawKind.{RawKind as Kind};
+ghost use Rattle.names.specs.Names.{Texts};
+ghost use Rattle.names.specs.Placed.{is_alphanumeric, placed};
+ghost use Rattle.names.specs.Sink.{Hands};
+ghost use Rattle.htext.specs.declared.decoder.TheConstants.{MAX_INPUT};
+ghost use Rattle.htext.specs.Run.{is_clean, is_text_byte, IsCut};
+ghost use Rattle.charref.specs.Reference.{Entities};
+ghost use Rattle.htoken.specs.Front.{bare_errors, first_placed, IsBare, IsTextFront, IsWhole};
+ghost use Rattle.htoken.specs.Raw.{is_script};
+ghost use Rattle.htoken.specs.Run.{run_tokens};
+ghost use Rattle.htoken.specs.Script.{FollowsAll};
+ghost use Rattle.htoken.specs.Steps.{TakesPart};
+ghost use Rattle.htoken.specs.Handing.{HandsEvents};
+ghost use Rattle.htoken.specs.Token.{Event, Reports, gives_item};
+ghost use Rattle.htoken.specs.Tokenizing.{HasTaken, Reads, Takes};
+
+use crate::hand::{give_piece, tell_unknown};
+use crate::run::last_start;
+use crate::sink::TokenSink;
+use crate::state::State;
+use crate::tokenizer::{Tokenizer, after};
+use charref::{Reference, Walk};
+use htext::text_run;
+use names::Refusal;
+
+/// How many bytes come before the first one that is neither an ASCII letter nor a digit.
+pub(crate) fn count_alphanumerics(run: &str) -> usize
+    ensures counted { result ≡ prefix_len is_alphanumeric run.now }
+    ensures few { result ≤ length run.now }
+{
+    for (index, byte) in run.as_bytes().iter().enumerate() {
+        if !(byte.is_ascii_alphabetic() || byte.is_ascii_digit()) {
+            return index;
+        }
+    }
+    run.len()
+}
+
+/// Hands over the error of an `&` that is text, if it has one: it is of this length with the letters and digits after it.
+#[inline(always)]
+fn tell_bare<S: TokenSink>(run: &str, size: usize, at: u64, sink: &mut S) -> Result<(), Refusal>
+    requires some { 0 < size }
+    requires within { size < length run.now }
+    ensures { (table : Entities) (kind : Kind) (names : Texts) (is : IsBare table kind run.now size)
+        → HandsEvents (gives_item S.gives S.gives_token) names sink.old (map Reports (bare_errors is.letters is.next at)) result sink.new }
+{
+    if size == 1 {
+        return Ok(());
+    }
+    tell_unknown(char::from(run.as_bytes()[size]), at, sink)
+}
+
+impl<'t> Tokenizer<'t> {
+    /// Takes the text at the front of a run where nothing is held, and what ends it: a `<`, or an `&`, and with it the whole reference if the
+    /// run shows it. Returns the length.
+    pub(crate) fn part_of_text<S: TokenSink>(
+        &mut self,
+        run: &str,
+        at: u64,
+        sink: &mut S,
+    ) -> Result<usize, Refusal>
+        requires text { self.old.state ≡ State.Text }
+        requires some { 0 < length run.now }
+        requires clean { list_all is_clean (chars run.now) ≡ true }
+        requires within { at + length run.now ≤ MAX_INPUT }
+        ensures takes { (table : Entities) (start : Kind) (names : Texts) (text : List Character) (taken : List Event)
+            → HasTaken table start self.old names text taken
+            → TakesPart (gives_item S.gives S.gives_token) table start text at run.now taken names sink.old result sink.new self.new }
+        ensures few { IfOk result (λ count. (0 < count) × IsCut count run.now) }
+    {
+        let count = self.text_before(run, at, sink)?;
+        if count == run.len() {
+            self.next = after(at + last_start(run) as u64);
+            self.give_front(run, at, sink)?;
+            return Ok(count);
+        }
+        let end = at + count as u64;
+        self.next = after(end);
+        self.give_front(&run[..count], at, sink)?;
+        let more = self.take_end(&run[count..], end, sink)?;
+        Ok(count + more)
+    }
+
+    /// How many bytes at the front of a run are text: plain characters, and each `&` that is text, with the letters and digits after it.
+    /// Hands over the errors of these.
+    #[inline(always)]
+    fn text_before<S: TokenSink>(&self, run: &str, at: u64, sink: &mut S) -> Result<usize, Refusal>
+        requires text { self.now.state ≡ State.Text }
+        requires clean { list_all is_clean (chars run.now) ≡ true }
+        requires within { at + length run.now ≤ MAX_INPUT }
+        ensures front { (table : Entities) (start : Kind) (names : Texts) (text : List Character) (taken : List Event)
+            → HasTaken table start self.now names text taken → MatchResult result
+            (λ count. IsTextFront (gives_item S.gives S.gives_token) table start self.now names text taken run.now at count sink.old sink.new)
+            (λ e. Takes (gives_item S.gives S.gives_token) table start text (placed at (chars run.now)) taken names sink.old (Err e) sink.new self.now) }
+        ensures cut { IfOk result (λ count. IsCut count run.now) }
+        ensures ends { IfOk result (λ count. count < length run.now → is_text_byte (slice_index run.now count) ≡ false) }
+    {
+        let mut count = text_run(run.as_bytes());
+        while count < run.len() {
+            let rest = &run[count..];
+            let size = self.bare_ampersand(rest);
+            if size == 0 {
+                return Ok(count);
+            }
+            tell_bare(rest, size, at + count as u64, sink)?;
+            count += size;
+            count += text_run((&run[count..]).as_bytes());
+        }
+        Ok(count)
+    }
+
+    /// How long an `&` at the front of a run is with the letters and digits after it, if no key begins it; 0 if the run does not show that.
+    #[inline(always)]
+    fn bare_ampersand(&self, run: &str) -> usize
+        requires { 0 < length run.now }
+        ensures { 0 < result → IsBare self.now.table.now self.now.kind run.now result }
+    {
+        let bytes = run.as_bytes();
+        if bytes[0] != b'&' || bytes.len() < 2 || !self.has_references() {
+            return 0;
+        }
+        let first = bytes[1];
+        if first == b'#' {
+            return 0;
+        }
+        if !first.is_ascii() {
+            return 0;
+        }
+        if !first.is_ascii_alphanumeric() {
+            return 1;
+        }
+        match Walk::settled(self.table, &bytes[1..]) {
+            Some((found, _)) if found.in_run => {
+                let size = 1 + count_alphanumerics(&run[1..]);
+                if size == bytes.len() {
+                    return 0;
+                }
+                if bytes[size].is_ascii() { size } else { 0 }
+            }
+            _ => 0,
+        }
+    }
+
+    /// Gives the text at the front of a run, if there is any.
+    #[inline(always)]
+    fn give_front<S: TokenSink>(
+        &mut self,
+        front: &str,
+        at: u64,
+        sink: &mut S,
+    ) -> Result<(), Refusal>
+        requires clean { list_all is_clean (chars front.now) ≡ true }
+        requires within { at + length front.now ≤ MAX_INPUT }
+        ensures handed { Hands S.gives_token sink.old (run_tokens (placed at (chars front.now))) result sink.new }
+        ensures then { self.new ≡ record self.old { script = self.new.script } }
+        ensures follows { is_script self.old.kind ≡ true → FollowsAll self.old.script (placed at (chars front.now)) self.new.script }
+    {
+        if front.is_empty() {
+            return Ok(());
+        }
+        self.follow_run(front);
+        sink.take_run(front, at)
+    }
+
+    /// Takes the `<` or the `&` at the front of a run, and the whole reference if the run shows it. Returns the length.
+    #[inline(always)]
+    fn take_end<S: TokenSink>(&mut self, run: &str, at: u64, sink: &mut S) -> Result<usize, Refusal>
+        requires text { self.old.state ≡ State.Text }
+        requires some { 0 < length run.now }
+        requires ends { is_text_byte (slice_index run.now 0) ≡ false }
+        requires within { at + length run.now ≤ MAX_INPUT }
+        ensures takes { (table : Entities) (start : Kind) (names : Texts) (text : List Character) (taken : List Event)
+            → Reads table start self.old names text (first_placed at run.now) taken
+            → TakesPart (gives_item S.gives S.gives_token) table start text at run.now taken names sink.old result sink.new self.new }
+        ensures few { IfOk result (λ count. (0 < count) × IsCut count run.now) }
+    {
+        if let Some((found, count)) = self.whole_reference(run) {
+            self.next = after(at + count as u64);
+            give_piece(&found, at, sink)?;
+            return Ok(count + 1);
+        }
+        self.in_text(char::from(run.as_bytes()[0]), at, sink)?;
+        Ok(1)
+    }
+
+    /// The reference at the front of a run, and how many bytes of it come after the `&`, if the run shows that it ends with these.
+    #[inline(always)]
+    fn whole_reference(&self, run: &str) -> Option<(Reference<'t>, usize)>
+        requires { 0 < length run.now }
+        ensures { IfSome result (λ it. IsWhole self.now.table.now self.now.kind run.now it.0 it.1) }
+    {
+        let bytes = run.as_bytes();
+        if bytes[0] != b'&' || !self.has_references() {
+            return None;
+        }
+        let (found, count) = Walk::settled(self.table, &bytes[1..])?;
+        if found.left == 0 {
+            Some((found, count))
+        } else {
+            None
+        }
+    }
+}
