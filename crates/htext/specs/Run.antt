@@ -3,10 +3,10 @@ use Rattle.std.specs.Prelude.{◌≡◌, ℕ, ◌≤◌, Bool, true, not, ◌&&�
 use Rattle.std.specs.List.{list_all}
 use Rattle.std.specs.Char.{is_ascii}
 use Rattle.std.specs.Str.{chars, IsUtf8}
-use Rattle.names.specs.Placed.{placed}
+use Rattle.names.specs.Placed.{placed, is_alphanumeric}
 use Rattle.htext.specs.Items.{CharItem, Character}
 use Rattle.htext.specs.declared.run.RunBytes.{RunBytes}
-use Rattle.htext.specs.declared.run.RunBytes.TheVariants.{Inner, Text, Clean}
+use Rattle.htext.specs.declared.run.RunBytes.TheVariants.{Inner, Text, Clean, Alphanumeric}
 
 -- a byte that is a character by itself, is in the text as it came but for an LF after a CR, raises no error, and is neither `<` nor `&`
 abbrev pub is_plain_byte : ℕ → Bool
@@ -38,6 +38,7 @@ abbrev pub is_of : RunBytes → ℕ → Bool
 is_of Inner byte = is_inner_byte byte
 is_of Text byte = is_text_byte byte
 is_of Clean byte = is_clean_byte byte
+is_of Alphanumeric byte = is_alphanumeric byte
 
 abbrev pub is_not_of : RunBytes → ℕ → Bool
 is_not_of kind byte = not (is_of kind byte)

@@ -4,6 +4,7 @@ ghost use Rattle.std.specs.Prelude.{◌≡◌, ◌<◌, ◌≤◌, map, length, 
 ghost use Rattle.std.specs.List.{prefix_len};
 ghost use Rattle.std.specs.Simd.Lanes.{mask_l};
 ghost use Rattle.std.specs.Str.Lossy.{utf8_valid_len, utf8_error_len};
+ghost use Rattle.names.specs.Placed.{is_alphanumeric};
 ghost use Rattle.htext.specs.Next.{AreBad};
 ghost use Rattle.htext.specs.Run.{is_inner_byte, is_clean_byte, is_of, is_not_of, is_text_byte};
 
@@ -18,6 +19,8 @@ pub(crate) enum RunBytes {
     Text,
     /// Those of clean characters.
     Clean,
+    /// ASCII letters and digits.
+    Alphanumeric,
 }
 
 /// The bytes of clean characters by their halves: a bit for each kind of high half, 1 for 0, 2 for 2 to 6, 4 for 7, 8 for 8 to B and D,
@@ -51,6 +54,14 @@ pub fn clean_run(bytes: &[u8]) -> usize
     ensures { result ≡ prefix_len is_clean_byte bytes.now }
 {
     run(RunBytes::Clean, bytes)
+}
+
+/// Counts the ASCII letters and digits before the first other byte.
+#[inline(always)]
+pub fn alphanumeric_run(bytes: &[u8]) -> usize
+    ensures { result ≡ prefix_len is_alphanumeric bytes.now }
+{
+    run(RunBytes::Alphanumeric, bytes)
 }
 
 /// Counts bytes at the front, at most this many, each of which is a bad part by itself.
@@ -120,7 +131,19 @@ fn stops(kind: RunBytes, bytes: u8x16) -> u64
             | bytes.simd_ge(u8x16::splat(0x80))).to_bitmask(),
         RunBytes::Text => marks.to_bitmask(),
         RunBytes::Clean => unclean(bytes),
+        RunBytes::Alphanumeric => others_than_alphanumerics(bytes),
     }
+}
+
+/// Which of these bytes are neither ASCII letters nor digits.
+#[inline(always)]
+fn others_than_alphanumerics(bytes: u8x16) -> u64
+    ensures { result ≡ mask_l (map (is_not_of RunBytes.Alphanumeric) bytes) }
+{
+    let small = bytes | u8x16::splat(0x20);
+    let no_letter = small.simd_lt(u8x16::splat(b'a')) | small.simd_gt(u8x16::splat(b'z'));
+    let no_digit = bytes.simd_lt(u8x16::splat(b'0')) | bytes.simd_gt(u8x16::splat(b'9'));
+    (no_letter & no_digit).to_bitmask()
 }
 
 /// Which of these bytes are not clean.
@@ -145,6 +168,7 @@ fn is_in_run(kind: RunBytes, byte: u8) -> bool
             byte,
             b'\t' | b'\n' | 0x0C | b' '..=b'~' | 0x80..=0xBF | 0xC3..=0xEE
         ),
+        RunBytes::Alphanumeric => byte.is_ascii_alphanumeric(),
     }
 }
 
