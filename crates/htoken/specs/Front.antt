@@ -13,6 +13,8 @@ use Rattle.names.specs.Placed.{placed, error_if, is_alphanumeric}
 use Rattle.charref.specs.declared.reference.Reference.{Reference}
 use Rattle.charref.specs.Pieces.{IsRead}
 use Rattle.charref.specs.Reference.{Entities, IsReference, IsTable, ampersand}
+use Rattle.htoken.specs.declared.front.Ampersand.{Ampersand}
+use Rattle.htoken.specs.declared.front.Ampersand.TheVariants.{Text, Whole, Open}
 use Rattle.htoken.specs.declared.tokenizer.Tokenizer.{Tokenizer}
 use Rattle.htoken.specs.Token.{Item, Event, Reports}
 use Rattle.htoken.specs.Handing.{HandsEvents}
@@ -52,6 +54,12 @@ pub record IsWhole (table : Entities) (kind : RawKind) (run : List ℕ) (found :
   pub some : 0 < count
   pub left : found.left ≡ 0
   pub reads : (at : ℕ) (after : List Placed) → IsRead table false (placed at name) after found
+
+-- what an `&` at the front of this run is, where the run shows it
+abbrev pub Shows : Entities → RawKind → List ℕ → Ampersand → Type 0
+Shows table kind run (Text size) = IsBare table kind run size
+Shows table kind run (Whole found count) = IsWhole table kind run found count
+Shows table kind run Open = Unit {0}
 
 -- the first character of a text, if it has one
 abbrev pub first_placed : ℕ → List ℕ → List Placed

@@ -1,17 +1,17 @@
 //! The text at the front of a run, and the `<` or `&` that ends it (HTML Standard, 13.2.5.1 to 13.2.5.5 and 13.2.5.72 to 13.2.5.74).
 
-ghost use Rattle.std.specs.Prelude.{◌≡◌, ◌≤◌, ◌<◌, ◌+◌, List, map, true, false, IfOk, IfSome, MatchResult, Err, length, slice_index};
-ghost use Rattle.std.specs.List.{list_all, prefix_len};
+ghost use Rattle.std.specs.Prelude.{◌≡◌, ◌≤◌, ◌<◌, ◌+◌, List, map, true, false, IfOk, IfSome, MatchResult, Err, drop, length, slice_index};
+ghost use Rattle.std.specs.List.{list_all};
 ghost use Rattle.std.specs.Str.{chars};
 ghost use Rattle.names.specs.declared.placed.Placed.{Placed as Character};
 ghost use Rattle.names.specs.declared.raw.RawKind.{RawKind as Kind};
 ghost use Rattle.names.specs.Names.{Texts};
-ghost use Rattle.names.specs.Placed.{is_alphanumeric, placed};
+ghost use Rattle.names.specs.Placed.{placed};
 ghost use Rattle.names.specs.Sink.{Hands};
 ghost use Rattle.htext.specs.declared.decoder.TheConstants.{MAX_INPUT};
 ghost use Rattle.htext.specs.Run.{is_clean, is_text_byte, IsCut};
 ghost use Rattle.charref.specs.Reference.{Entities};
-ghost use Rattle.htoken.specs.Front.{bare_errors, first_placed, IsBare, IsTextFront, IsWhole};
+ghost use Rattle.htoken.specs.Front.{bare_errors, first_placed, IsBare, IsTextFront, IsWhole, Shows};
 ghost use Rattle.htoken.specs.Raw.{is_script};
 ghost use Rattle.htoken.specs.Run.{run_tokens};
 ghost use Rattle.htoken.specs.Script.{FollowsAll};
@@ -26,20 +26,17 @@ use crate::sink::TokenSink;
 use crate::state::State;
 use crate::tokenizer::{Tokenizer, after};
 use charref::{Reference, Walk};
-use htext::text_run;
+use htext::{alphanumeric_run, text_run};
 use names::Refusal;
 
-/// How many bytes come before the first one that is neither an ASCII letter nor a digit.
-pub(crate) fn count_alphanumerics(run: &str) -> usize
-    ensures counted { result ≡ prefix_len is_alphanumeric run.now }
-    ensures few { result ≤ length run.now }
-{
-    for (index, byte) in run.as_bytes().iter().enumerate() {
-        if !(byte.is_ascii_alphabetic() || byte.is_ascii_digit()) {
-            return index;
-        }
-    }
-    run.len()
+/// What the run after an `&` shows of it.
+enum Ampersand<'t> {
+    /// It is text: its length with the letters and digits after it.
+    Text(usize),
+    /// It begins a whole reference: that, and how many bytes of it come after the `&`.
+    Whole(Reference<'t>, usize),
+    /// The run does not show how it ends, or no references may be here.
+    Open,
 }
 
 /// Hands over the error of an `&` that is text, if it has one: it is of this length with the letters and digits after it.
@@ -74,7 +71,7 @@ impl<'t> Tokenizer<'t> {
             → TakesPart (gives_item S.gives S.gives_token) table start text at run.now taken names sink.old result sink.new self.new }
         ensures few { IfOk result (λ count. (0 < count) × IsCut count run.now) }
     {
-        let count = self.text_before(run, at, sink)?;
+        let (count, whole) = self.text_before(run, at, sink)?;
         if count == run.len() {
             self.next = after(at + last_start(run) as u64);
             self.give_front(run, at, sink)?;
@@ -83,67 +80,73 @@ impl<'t> Tokenizer<'t> {
         let end = at + count as u64;
         self.next = after(end);
         self.give_front(&run[..count], at, sink)?;
-        let more = self.take_end(&run[count..], end, sink)?;
+        let more = self.take_end(whole, &run[count..], end, sink)?;
         Ok(count + more)
     }
 
     /// How many bytes at the front of a run are text: plain characters, and each `&` that is text, with the letters and digits after it.
-    /// Hands over the errors of these.
+    /// Hands over the errors of these. With it the whole reference that comes next, if the run shows one.
     #[inline(always)]
-    fn text_before<S: TokenSink>(&self, run: &str, at: u64, sink: &mut S) -> Result<usize, Refusal>
+    fn text_before<S: TokenSink>(
+        &self,
+        run: &str,
+        at: u64,
+        sink: &mut S,
+    ) -> Result<(usize, Option<(Reference<'t>, usize)>), Refusal>
         requires text { self.now.state ≡ State.Text }
         requires clean { list_all is_clean (chars run.now) ≡ true }
         requires within { at + length run.now ≤ MAX_INPUT }
         ensures front { (table : Entities) (start : Kind) (names : Texts) (text : List Character) (taken : List Event)
             → HasTaken table start self.now names text taken → MatchResult result
-            (λ count. IsTextFront (gives_item S.gives S.gives_token) table start self.now names text taken run.now at count sink.old sink.new)
+            (λ it. IsTextFront (gives_item S.gives S.gives_token) table start self.now names text taken run.now at it.0 sink.old sink.new)
             (λ e. Takes (gives_item S.gives S.gives_token) table start text (placed at (chars run.now)) taken names sink.old (Err e) sink.new self.now) }
-        ensures cut { IfOk result (λ count. IsCut count run.now) }
-        ensures ends { IfOk result (λ count. count < length run.now → is_text_byte (slice_index run.now count) ≡ false) }
+        ensures cut { IfOk result (λ it. IsCut it.0 run.now) }
+        ensures ends { IfOk result (λ it. it.0 < length run.now → is_text_byte (slice_index run.now it.0) ≡ false) }
+        ensures whole { IfOk result (λ it. IfSome it.1 (λ next. IsWhole self.now.table.now self.now.kind (drop it.0 run.now) next.0 next.1)) }
     {
         let mut count = text_run(run.as_bytes());
         while count < run.len() {
             let rest = &run[count..];
-            let size = self.bare_ampersand(rest);
-            if size == 0 {
-                return Ok(count);
+            match self.ampersand(rest) {
+                Ampersand::Text(size) => {
+                    tell_bare(rest, size, at + count as u64, sink)?;
+                    count += size;
+                    count += text_run((&run[count..]).as_bytes());
+                }
+                Ampersand::Whole(found, size) => return Ok((count, Some((found, size)))),
+                Ampersand::Open => return Ok((count, None)),
             }
-            tell_bare(rest, size, at + count as u64, sink)?;
-            count += size;
-            count += text_run((&run[count..]).as_bytes());
         }
-        Ok(count)
+        Ok((count, None))
     }
 
-    /// How long an `&` at the front of a run is with the letters and digits after it, if no key begins it; 0 if the run does not show that.
+    /// What an `&` at the front of a run is, as far as the run shows it.
     #[inline(always)]
-    fn bare_ampersand(&self, run: &str) -> usize
+    fn ampersand(&self, run: &str) -> Ampersand<'t>
         requires { 0 < length run.now }
-        ensures { 0 < result → IsBare self.now.table.now self.now.kind run.now result }
+        ensures { Shows self.now.table.now self.now.kind run.now result }
     {
         let bytes = run.as_bytes();
         if bytes[0] != b'&' || bytes.len() < 2 || !self.has_references() {
-            return 0;
+            return Ampersand::Open;
         }
         let first = bytes[1];
-        if first == b'#' {
-            return 0;
-        }
         if !first.is_ascii() {
-            return 0;
+            return Ampersand::Open;
         }
-        if !first.is_ascii_alphanumeric() {
-            return 1;
+        if !first.is_ascii_alphanumeric() && first != b'#' {
+            return Ampersand::Text(1);
         }
         match Walk::settled(self.table, &bytes[1..]) {
             Some((found, _)) if found.in_run => {
-                let size = 1 + count_alphanumerics(&run[1..]);
-                if size == bytes.len() {
-                    return 0;
+                let size = 1 + alphanumeric_run(&bytes[1..]);
+                if size < bytes.len() && bytes[size].is_ascii() {
+                    return Ampersand::Text(size);
                 }
-                if bytes[size].is_ascii() { size } else { 0 }
+                Ampersand::Open
             }
-            _ => 0,
+            Some((found, count)) if found.left == 0 => Ampersand::Whole(found, count),
+            _ => Ampersand::Open,
         }
     }
 
@@ -168,10 +171,17 @@ impl<'t> Tokenizer<'t> {
         sink.take_run(front, at)
     }
 
-    /// Takes the `<` or the `&` at the front of a run, and the whole reference if the run shows it. Returns the length.
+    /// Takes the `<` or the `&` at the front of a run, and the whole reference if one is there. Returns the length.
     #[inline(always)]
-    fn take_end<S: TokenSink>(&mut self, run: &str, at: u64, sink: &mut S) -> Result<usize, Refusal>
+    fn take_end<S: TokenSink>(
+        &mut self,
+        whole: Option<(Reference<'t>, usize)>,
+        run: &str,
+        at: u64,
+        sink: &mut S,
+    ) -> Result<usize, Refusal>
         requires text { self.old.state ≡ State.Text }
+        requires whole { IfSome whole (λ it. IsWhole self.old.table.now self.old.kind run.now it.0 it.1) }
         requires some { 0 < length run.now }
         requires ends { is_text_byte (slice_index run.now 0) ≡ false }
         requires within { at + length run.now ≤ MAX_INPUT }
@@ -180,30 +190,12 @@ impl<'t> Tokenizer<'t> {
             → TakesPart (gives_item S.gives S.gives_token) table start text at run.now taken names sink.old result sink.new self.new }
         ensures few { IfOk result (λ count. (0 < count) × IsCut count run.now) }
     {
-        if let Some((found, count)) = self.whole_reference(run) {
+        if let Some((found, count)) = whole {
             self.next = after(at + count as u64);
             give_piece(&found, at, sink)?;
             return Ok(count + 1);
         }
         self.in_text(char::from(run.as_bytes()[0]), at, sink)?;
         Ok(1)
-    }
-
-    /// The reference at the front of a run, and how many bytes of it come after the `&`, if the run shows that it ends with these.
-    #[inline(always)]
-    fn whole_reference(&self, run: &str) -> Option<(Reference<'t>, usize)>
-        requires { 0 < length run.now }
-        ensures { IfSome result (λ it. IsWhole self.now.table.now self.now.kind run.now it.0 it.1) }
-    {
-        let bytes = run.as_bytes();
-        if bytes[0] != b'&' || !self.has_references() {
-            return None;
-        }
-        let (found, count) = Walk::settled(self.table, &bytes[1..])?;
-        if found.left == 0 {
-            Some((found, count))
-        } else {
-            None
-        }
     }
 }

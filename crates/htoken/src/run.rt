@@ -20,12 +20,11 @@ ghost use Rattle.htoken.specs.Steps.{TakesFront, TakesPart};
 ghost use Rattle.htoken.specs.Token.{Event, gives_item};
 ghost use Rattle.htoken.specs.Tokenizing.{HasTaken, IsInRun, Takes};
 
-use crate::front::count_alphanumerics;
 use crate::hand::tell_unknown;
 use crate::sink::TokenSink;
 use crate::state::State;
 use crate::tokenizer::{Tokenizer, after};
-use htext::inner_run;
+use htext::{alphanumeric_run, inner_run};
 use names::{Names, Refusal};
 
 /// How many bytes are before the first one that may end a comment, or is a fault in it.
@@ -431,7 +430,7 @@ impl<'t> Tokenizer<'t> {
             → TakesFront (gives_item S.gives S.gives_token) table start text at run.now taken names sink.old result sink.new self.new }
         ensures few { IfOk result (λ count. (0 < count) × (count ≤ length run.now)) }
     {
-        let count = count_alphanumerics(run);
+        let count = alphanumeric_run(run.as_bytes());
         if count == 0 {
             self.end_run_before(amp, run, at, sink)?;
             return Ok(run.len());

@@ -1,26 +1,34 @@
-use Rattle.std.proofs.Common.{[], List, ℕ, sym, ap, ◌∙◌, subst, refl, arith, Ok, Err}
+use Rattle.std.proofs.Common.{◌≡◌, [], List, ℕ, Option, Some, IfSome, sym, ap, ◌∙◌, subst, refl, arith, Ok, Err}
 use Rattle.std.proofs.lemmas.Result.{err_from_is_err_and}
 use Rattle.std.specs.Prelude.{slice_index}
 use Rattle.names.specs.declared.placed.Placed.{Placed}
+use Rattle.names.specs.declared.raw.RawKind.{RawKind}
+use Rattle.charref.specs.Reference.{Entities}
+use Rattle.charref.specs.declared.reference.Reference.{Reference}
+use Rattle.htoken.specs.Front.{IsWhole}
 use Rattle.htoken.specs.Token.{gives_item}
 use Rattle.htoken.specs.Tokenizing.{Reads, Takes}
 use Rattle.htoken.proofs.Bare.{mark_first, whole_cut, whole_read, whole_refused}
 use Rattle.htoken.proofs.Fronts.{cut_refused}
 use Rattle.htoken.proofs.tokenizer.Tokenizer.take_end.Goals as goal
 
+whole_of : (table : Entities) (kind : RawKind) (run : List ℕ) (whole : Option (Reference × ℕ)) (found : Reference) (count : ℕ) → whole ≡ Some (found, count) → IfSome whole (λ it. IsWhole table kind run it.0 it.1)
+    → IsWhole table kind run found count
+whole_of table kind run whole found count is may = subst (λ w. IfSome w (λ it. IsWhole table kind run it.0 it.1)) is may
+
 pub returns-in_err-give_piece-clause-takes : goal.returns-in_err-give_piece-clause-takes
 returns-in_err-give_piece-clause-takes g c =
     let e = err_from_is_err_and c.from_residual.result c.from_residual.ensures.1 in
     rw (e.1, e.2) (λ table start names text taken h.
-    whole_refused (gives_item g.S.ErrorSink.gives g.S.TokenSink.gives_token) table start names text taken c.args.self.now c.args.run.now c.args.at c.utf8.run c.in-Some.found c.in-Some.count c.in-Some.ensures c.requires.text h _ refl c.after-self.ensures _ _ _ (c.in_err-give_piece.ensures names))
+    whole_refused (gives_item g.S.ErrorSink.gives g.S.TokenSink.gives_token) table start names text taken c.args.self.now c.args.run.now c.args.at c.utf8.run c.in-Some.found c.in-Some.count (whole_of c.args.self.now.table.now c.args.self.now.kind c.args.run.now c.args.whole c.in-Some.found c.in-Some.count c.in-Some.is c.requires.whole) c.requires.text h _ refl c.after-self.ensures _ _ _ (c.in_err-give_piece.ensures names))
 
 pub returns-in-Some-clause-takes : goal.returns-in-Some-clause-takes
 returns-in-Some-clause-takes g c = λ table start names text taken h.
-    whole_read (gives_item g.S.ErrorSink.gives g.S.TokenSink.gives_token) table start names text taken c.args.self.now c.args.run.now c.args.at c.utf8.run c.in-Some.found c.in-Some.count c.in-Some.ensures c.requires.text h _ refl c.after-self.ensures _ _ (c.in_ok-give_piece.ensures names)
+    whole_read (gives_item g.S.ErrorSink.gives g.S.TokenSink.gives_token) table start names text taken c.args.self.now c.args.run.now c.args.at c.utf8.run c.in-Some.found c.in-Some.count (whole_of c.args.self.now.table.now c.args.self.now.kind c.args.run.now c.args.whole c.in-Some.found c.in-Some.count c.in-Some.is c.requires.whole) c.requires.text h _ refl c.after-self.ensures _ _ (c.in_ok-give_piece.ensures names)
 
 pub returns-in-Some-clause-few : goal.returns-in-Some-clause-few
 returns-in-Some-clause-few g c =
-    (omega arith, whole_cut (gives_item g.S.ErrorSink.gives g.S.TokenSink.gives_token) c.args.self.now.table.now c.args.self.now.kind [] [] [] c.args.self.now c.args.run.now c.args.at c.utf8.run c.in-Some.found c.in-Some.count c.in-Some.ensures c.requires.text)
+    (omega arith, whole_cut (gives_item g.S.ErrorSink.gives g.S.TokenSink.gives_token) c.args.self.now.table.now c.args.self.now.kind [] [] [] c.args.self.now c.args.run.now c.args.at c.utf8.run c.in-Some.found c.in-Some.count (whole_of c.args.self.now.table.now c.args.self.now.kind c.args.run.now c.args.whole c.in-Some.found c.in-Some.count c.in-Some.is c.requires.whole) c.requires.text)
 
 pub returns-in_err-in_text-clause-takes : goal.returns-in_err-in_text-clause-takes
 returns-in_err-in_text-clause-takes g c =

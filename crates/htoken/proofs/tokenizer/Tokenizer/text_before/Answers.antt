@@ -29,29 +29,34 @@ pub loop-count-preserved : goal.loop-count-preserved
 loop-count-preserved g c =
     let run = c.args.run.now in
     let count = c.loop-count.count in
-    let size = c.bare_ampersand-size.result in
-    let n = c.text_run-count-in-loop-count.result in
+    let size = c.in-Text.size in
+    let n = c.text_run-count-in-Text.result in
     let so = c.loop-count.invariant in
     let r_is = c.range_from-rest.ensures.value in
-    let is = c.bare_ampersand-size.ensures (omega (arith, c.if-size-eq0.false)) in
+    let is = c.in-Text.ensures in
     let cut : IsCut (count + size) run = cut_more count size run so.cut (bare_again c.args.self.now.table.now c.args.self.now.kind c.range_from-rest.result.now size is count run so.cut r_is) in
     let rest : List ℕ = drop (count + size) run in
-    let n_is : n ≡ prefix_len is_text_byte rest = c.text_run-count-in-loop-count.ensures ∙ ap (prefix_len is_text_byte) (c.as_bytes-in-loop-count.ensures.value ∙ c.range_from.ensures.value) in
+    let n_is : n ≡ prefix_len is_text_byte rest = c.text_run-count-in-Text.ensures ∙ ap (prefix_len is_text_byte) (c.as_bytes-in-Text.ensures.value ∙ c.range_from.ensures.value) in
     let again : IsCut n rest = subst (λ (k : ℕ). IsCut k rest) (sym n_is) (text_front rest cut.back (clean_rest (count + size) run cut c.requires.clean).1).0 in
     record {
       so = λ table start names text taken h.
           let gives = gives_item g.S.ErrorSink.gives g.S.TokenSink.gives_token in
           text_part gives table start names text taken c.args.self.now h run c.args.at c.args.sink.now c.requires.clean (count + size) n c.tell_bare.new.sink cut n_is
           (bare_part gives table start names text taken c.args.self.now h run c.args.at c.args.sink.now count size c.loop-count.sink c.tell_bare.new.sink so.cut c.range_from-rest.result.now r_is is (so.so table start names text taken h)
-          (c.in_ok-tell_bare.ensures c.args.self.now.table.now c.args.self.now.kind names is));
+          (c.in_ok-tell_bare-in-Text.ensures c.args.self.now.table.now c.args.self.now.kind names is));
       cut = cut_more (count + size) n run cut again;
       ends = λ l.
           let left : n < length rest = omega (arith, l, length_left (count + size) run cut.within) in
           sym (ap is_text_byte (get_or-drop (count + size) run n 0)) ∙ ap (λ (k : ℕ). is_text_byte (slice_index rest k)) n_is ∙ prefix_len_stops is_text_byte rest 0 (subst (λ (k : ℕ). k < length rest) n_is left);
     }
 
-pub returns-then-size-eq0-clause-front : goal.returns-then-size-eq0-clause-front
-returns-then-size-eq0-clause-front g c = λ table start names text taken h.
+pub returns-in-Whole-clause-front : goal.returns-in-Whole-clause-front
+returns-in-Whole-clause-front g c = λ table start names text taken h.
+    let k = in_state table start c.args.self.now names text taken (subst IsCalm (sym c.requires.text) tt) h in
+    is_front (gives_item g.S.ErrorSink.gives g.S.TokenSink.gives_token) table start names text taken c.args.self.now k c.args.run.now c.args.at c.args.sink.now c.requires.text c.loop-count.count c.loop-count.sink (c.loop-count.invariant.so table start names text taken k)
+
+pub returns-in-Open-clause-front : goal.returns-in-Open-clause-front
+returns-in-Open-clause-front g c = λ table start names text taken h.
     let k = in_state table start c.args.self.now names text taken (subst IsCalm (sym c.requires.text) tt) h in
     is_front (gives_item g.S.ErrorSink.gives g.S.TokenSink.gives_token) table start names text taken c.args.self.now k c.args.run.now c.args.at c.args.sink.now c.requires.text c.loop-count.count c.loop-count.sink (c.loop-count.invariant.so table start names text taken k)
 
@@ -60,23 +65,23 @@ returns-clause-front g c = λ table start names text taken h.
     let k = in_state table start c.args.self.now names text taken (subst IsCalm (sym c.requires.text) tt) h in
     is_front (gives_item g.S.ErrorSink.gives g.S.TokenSink.gives_token) table start names text taken c.args.self.now k c.args.run.now c.args.at c.args.sink.now c.requires.text c.loop-count.count c.loop-count.sink (c.loop-count.invariant.so table start names text taken k)
 
-pub returns-in_err-tell_bare-clause-front : goal.returns-in_err-tell_bare-clause-front
-returns-in_err-tell_bare-clause-front g c =
+pub returns-in_err-tell_bare-in-Text-clause-front : goal.returns-in_err-tell_bare-in-Text-clause-front
+returns-in_err-tell_bare-in-Text-clause-front g c =
     let e = err_from_is_err_and c.from_residual.result c.from_residual.ensures.1 in
-    let is = c.bare_ampersand-size.ensures (omega (arith, c.if-size-eq0.false)) in
+    let is = c.in-Text.ensures in
     rw (e.1, e.2) (λ table start names text taken h.
     let k = in_state table start c.args.self.now names text taken (subst IsCalm (sym c.requires.text) tt) h in
     error_refused (gives_item g.S.ErrorSink.gives g.S.TokenSink.gives_token) table start names text taken c.args.self.now k c.args.run.now c.args.at c.args.sink.now c.requires.text c.loop-count.count c.loop-count.sink c.tell_bare.new.sink _ (bare_errors is.letters is.next (c.args.at + c.loop-count.count))
-    (c.loop-count.invariant.so table start names text taken k) (c.in_err-tell_bare.ensures c.args.self.now.table.now c.args.self.now.kind names is))
+    (c.loop-count.invariant.so table start names text taken k) (c.in_err-tell_bare-in-Text.ensures c.args.self.now.table.now c.args.self.now.kind names is))
 
 pub range_from-requires : goal.range_from-requires
 range_from-requires g c = λ _.
     let so = c.loop-count.invariant in
-    let is = c.bare_ampersand-size.ensures (omega (arith, c.if-size-eq0.false)) in
-    let cut = cut_more c.loop-count.count c.bare_ampersand-size.result c.args.run.now so.cut (bare_again c.args.self.now.table.now c.args.self.now.kind c.range_from-rest.result.now c.bare_ampersand-size.result is c.loop-count.count c.args.run.now so.cut c.range_from-rest.ensures.value) in
-    IsCharBoundary-from_drop c.args.run.now (c.loop-count.count + c.bare_ampersand-size.result) cut.within cut.back
+    let is = c.in-Text.ensures in
+    let cut = cut_more c.loop-count.count c.in-Text.size c.args.run.now so.cut (bare_again c.args.self.now.table.now c.args.self.now.kind c.range_from-rest.result.now c.in-Text.size is c.loop-count.count c.args.run.now so.cut c.range_from-rest.ensures.value) in
+    IsCharBoundary-from_drop c.args.run.now (c.loop-count.count + c.in-Text.size) cut.within cut.back
 
-pub overflow_add-count-in-loop-count : goal.overflow_add-count-in-loop-count
-overflow_add-count-in-loop-count g c =
-    let few = c.text_run-count-in-loop-count.ensures ∙ ap (prefix_len is_text_byte) c.as_bytes-in-loop-count.ensures.value in
+pub overflow_add-count-in-Text : goal.overflow_add-count-in-Text
+overflow_add-count-in-Text g c =
+    let few = c.text_run-count-in-Text.ensures ∙ ap (prefix_len is_text_byte) c.as_bytes-in-Text.ensures.value in
     omega (arith, few, prefix_len-le-length is_text_byte c.range_from.result.now, c.range_from.ensures.len)

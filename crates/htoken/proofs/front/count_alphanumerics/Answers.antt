@@ -1,6 +1,0 @@
-use Rattle.std.proofs.Common.{arith}
-use Rattle.std.proofs.lemmas.Grind.{common_steps}
-use Rattle.htoken.proofs.front.count_alphanumerics.Goals as goal
-
-pub loop-index-preserved : goal.loop-index-preserved
-loop-index-preserved c = grind (arith, common_steps)
