@@ -40,6 +40,15 @@ fn count_data(run: &str) -> usize
     run.len()
 }
 
+/// How many bytes come before the first one that is neither an ASCII letter nor a digit.
+#[inline(always)]
+fn count_alphanumerics(run: &str) -> usize
+    ensures counted { result ≡ prefix_len is_alphanumeric run.now }
+    ensures few { result ≤ length run.now }
+{
+    alphanumeric_run(run.as_bytes())
+}
+
 /// The first character of a text.
 #[inline]
 fn first(text: &str) -> char
@@ -430,7 +439,7 @@ impl<'t> Tokenizer<'t> {
             → TakesFront (gives_item S.gives S.gives_token) table start text at run.now taken names sink.old result sink.new self.new }
         ensures few { IfOk result (λ count. (0 < count) × (count ≤ length run.now)) }
     {
-        let count = alphanumeric_run(run.as_bytes());
+        let count = count_alphanumerics(run);
         if count == 0 {
             self.end_run_before(amp, run, at, sink)?;
             return Ok(run.len());

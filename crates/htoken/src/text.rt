@@ -20,6 +20,7 @@ use names::{ErrorCode, RawKind, Refusal};
 
 impl<'t> Tokenizer<'t> {
     /// Takes a character where nothing is held.
+    #[inline(always)]
     pub(crate) fn in_text<S: TokenSink>(
         &mut self,
         ch: char,
@@ -66,6 +67,7 @@ impl<'t> Tokenizer<'t> {
     }
 
     /// Takes a character in RCDATA, RAWTEXT, script data or PLAINTEXT (13.2.5.2 to 13.2.5.5).
+    #[inline(never)]
     fn in_raw<S: TokenSink>(&mut self, ch: char, at: u64, sink: &mut S) -> Result<(), Refusal>
         requires text { self.old.state ≡ State.Text }
         requires raw { is_raw self.old.kind ≡ true }
