@@ -1,6 +1,6 @@
 //! References in text, and the runs of alphanumerics after an `&` (HTML Standard, 13.2.5.72 to 13.2.5.80).
 
-ghost use Rattle.std.specs.Prelude.{◌≡◌, ◌≤◌, ◌<◌, ◌∷◌, ◌+◌, ◌-◌, List, [], true, false, length, take, IfOk, OnOk};
+ghost use Rattle.std.specs.Prelude.{◌≡◌, ◌∷◌, ◌+◌, ◌-◌, List, [], true, false, length, take, IfOk, OnOk};
 ghost use Rattle.std.specs.List.{list_all};
 ghost use Rattle.names.specs.declared.placed.Placed.{Placed as Character};
 ghost use Rattle.names.specs.declared.raw.RawKind.{RawKind as Kind};
@@ -64,63 +64,6 @@ impl<'t> Tokenizer<'t> {
             self.held.push(Placed { ch, at })?;
         }
         Ok(())
-    }
-
-    /// Takes the first character of a run after `&`, or the whole run where it shows that no key begins it.
-    #[inline(always)]
-    pub(crate) fn front_of_reference<S: TokenSink>(
-        &mut self,
-        run: &str,
-        at: u64,
-        sink: &mut S,
-    ) -> Result<usize, Refusal>
-        requires in_reference { self.old.state ≡ State.Reference }
-        requires some { 0 < length run.now }
-        requires plain { list_all is_plain_byte run.now ≡ true }
-        requires within { at + length run.now ≤ MAX_INPUT }
-        ensures takes { (table : Entities) (start : Kind) (names : Texts) (text : List Character) (taken : List Event)
-            → HasTaken table start self.old names text taken
-            → TakesFront (gives_item S.gives S.gives_token) table start text at run.now taken names sink.old result sink.new self.new }
-        ensures few { IfOk result (λ count. (0 < count) × (count ≤ length run.now)) }
-    {
-        let ch = char::from(run.as_bytes()[0]);
-        self.next = after(at);
-        match self.reference.take(ch) {
-            Some(found) if found.in_run => self.begin_run(&found, run, at, sink),
-            Some(found) => {
-                self.end_known(&found, ch, at, sink)?;
-                Ok(1)
-            }
-            None => {
-                self.hold_in_reference(ch, at)?;
-                Ok(1)
-            }
-        }
-    }
-
-    /// Begins the run of alphanumerics after an `&` that no key begins, as the first character of this run has shown, and takes the run.
-    #[inline(always)]
-    fn begin_run<S: TokenSink>(
-        &mut self,
-        found: &Reference,
-        run: &str,
-        at: u64,
-        sink: &mut S,
-    ) -> Result<usize, Refusal>
-        requires in_reference { self.old.state ≡ State.Reference }
-        requires in_run { found.now.in_run ≡ true }
-        requires some { 0 < length run.now }
-        requires plain { list_all is_plain_byte run.now ≡ true }
-        requires within { at + length run.now ≤ MAX_INPUT }
-        ensures takes { (table : Entities) (start : Kind) (names : Texts) (text : List Character) (taken : List Event) (p : Character)
-            → p ∷ [] ≡ placed at (take 1 run.now) → Finds table self.old.reference p found.now → Reads table start self.old names text (p ∷ []) taken
-            → TakesFront (gives_item S.gives S.gives_token) table start text at run.now taken names sink.old result sink.new self.new }
-        ensures few { IfOk result (λ count. (0 < count) × (count ≤ length run.now)) }
-    {
-        let amp = self.at;
-        self.state = State::Run(amp);
-        self.give_reference(found, 0, sink)?;
-        self.run_of_alphanumerics(amp, run, at, sink)
     }
 
     /// Ends the reference that this character has shown, and reads again what does not belong to it.

@@ -20,7 +20,6 @@ ghost use Rattle.htoken.specs.Steps.{TakesFront, TakesPart};
 ghost use Rattle.htoken.specs.Token.{Event, gives_item};
 ghost use Rattle.htoken.specs.Tokenizing.{HasTaken, IsInRun, Takes};
 
-use crate::hand::tell_unknown;
 use crate::sink::TokenSink;
 use crate::state::State;
 use crate::tokenizer::{Tokenizer, after};
@@ -286,8 +285,7 @@ impl<'t> Tokenizer<'t> {
             }
             State::Comment => self.run_of_comment(names, run, at, sink),
             State::Tag => self.run_of_tag(names, run, at, sink),
-            State::Reference => self.run_of_reference(run, at, sink),
-            State::Run(amp) => self.run_of_alphanumerics(amp, run, at, sink),
+            State::Run(_) => self.run_of_alphanumerics(names, run, at, sink),
             State::Less => self.first_after_less(run, at, sink),
             State::LessSolidus(_) => self.first_after_solidus(run, at, sink),
             _ => self.take_first(names, run, at, sink),
@@ -395,107 +393,32 @@ impl<'t> Tokenizer<'t> {
         sink.take_run(run, at)
     }
 
-    /// Takes the characters at the front of a run with which a reference goes on, and the one that ends it; the whole run where that one
-    /// shows that no key begins it.
+    /// Takes the letters and digits at the front of a run with which the run after an `&` goes on, or the first character, which ends it.
     #[inline(never)]
-    fn run_of_reference<S: TokenSink>(
+    fn run_of_alphanumerics<S: TokenSink>(
         &mut self,
+        names: &mut Names,
         run: &str,
         at: u64,
         sink: &mut S,
     ) -> Result<usize, Refusal>
-        requires in_reference { self.old.state ≡ State.Reference }
+        requires in_run { (amp : ℕ) × (self.old.state ≡ State.Run amp) }
         requires some { 0 < length run.now }
         requires plain { list_all is_plain_byte run.now ≡ true }
         requires within { at + length run.now ≤ MAX_INPUT }
-        ensures takes { (table : Entities) (start : Kind) (names : Texts) (text : List Character) (taken : List Event)
-            → HasTaken table start self.old names text taken
-            → TakesFront (gives_item S.gives S.gives_token) table start text at run.now taken names sink.old result sink.new self.new }
+        ensures takes { (table : Entities) (start : Kind) (before : Texts) (text : List Character) (taken : List Event) → Grows before names.old
+            → HasTaken table start self.old before text taken
+            → TakesFront (gives_item S.gives S.gives_token) table start text at run.now taken names.new sink.old result sink.new self.new }
         ensures few { IfOk result (λ count. (0 < count) × (count ≤ length run.now)) }
-    {
-        let mut count = 0;
-        while count < run.len() && matches!(self.state, State::Reference) {
-            let more = self.front_of_reference(&run[count..], at + count as u64, sink)?;
-            count += more;
-        }
-        Ok(count)
-    }
-
-    /// Takes a run in the run of alphanumerics after an `&`: the letters and digits at its front, with which that goes on, and what is
-    /// left, before which that ends, as text. The first `known` letters may be known to come next.
-    pub(crate) fn run_of_alphanumerics<S: TokenSink>(
-        &mut self,
-        amp: u64,
-        run: &str,
-        at: u64,
-        sink: &mut S,
-    ) -> Result<usize, Refusal>
-        requires in_run { self.old.state ≡ State.Run amp }
-        requires some { 0 < length run.now }
-        requires plain { list_all is_plain_byte run.now ≡ true }
-        requires within { at + length run.now ≤ MAX_INPUT }
-        ensures takes { (table : Entities) (start : Kind) (names : Texts) (text : List Character) (taken : List Event) (known : ℕ)
-            → known ≤ prefix_len is_alphanumeric run.now → IsInRun table start self.old names text (placed at (take known run.now)) taken
-            → TakesFront (gives_item S.gives S.gives_token) table start text at run.now taken names sink.old result sink.new self.new }
-        ensures few { IfOk result (λ count. (0 < count) × (count ≤ length run.now)) }
+        ensures grows { Grows names.old names.new }
     {
         let count = count_alphanumerics(run);
         if count == 0 {
-            self.end_run_before(amp, run, at, sink)?;
-            return Ok(run.len());
+            return self.take_first(names, run, at, sink);
         }
-        self.take_letters(amp, &run[..count], at, sink)?;
-        if count == run.len() {
-            return Ok(count);
-        }
-        self.end_run_before(amp, &run[count..], at + count as u64, sink)?;
-        Ok(run.len())
-    }
-
-    /// Takes letters and digits with which the run after an `&` goes on, of which some may be known to come next.
-    #[inline(always)]
-    fn take_letters<S: TokenSink>(
-        &mut self,
-        amp: u64,
-        letters: &str,
-        at: u64,
-        sink: &mut S,
-    ) -> Result<(), Refusal>
-        requires in_run { self.old.state ≡ State.Run amp }
-        requires some { 0 < length letters.now }
-        requires alphanumeric { list_all is_alphanumeric letters.now ≡ true }
-        requires plain { list_all is_plain_byte letters.now ≡ true }
-        requires within { at + length letters.now ≤ MAX_INPUT }
-        ensures takes { (table : Entities) (start : Kind) (names : Texts) (text ahead others : List Character) (taken : List Event)
-            → placed at letters.now ≡ ahead ++ others → IsInRun table start self.old names text ahead taken
-            → Takes (gives_item S.gives S.gives_token) table start text (placed at letters.now) taken names sink.old result sink.new self.new }
-        ensures state { self.new.state ≡ self.old.state }
-    {
-        self.next = at + letters.len() as u64;
-        sink.take_run(letters, at)
-    }
-
-    /// Ends the run after an `&` before plain characters, the first of which does not belong to it, and takes them as text.
-    fn end_run_before<S: TokenSink>(
-        &mut self,
-        amp: u64,
-        run: &str,
-        at: u64,
-        sink: &mut S,
-    ) -> Result<(), Refusal>
-        requires in_run { self.old.state ≡ State.Run amp }
-        requires some { 0 < length run.now }
-        requires plain { list_all is_plain_byte run.now ≡ true }
-        requires ends { prefix_len is_alphanumeric run.now ≡ 0 }
-        requires within { at + length run.now ≤ MAX_INPUT }
-        ensures { (table : Entities) (start : Kind) (names : Texts) (text : List Character) (taken : List Event)
-            → HasTaken table start self.old names text taken
-            → Takes (gives_item S.gives S.gives_token) table start text (placed at run.now) taken names sink.old result sink.new self.new }
-    {
-        self.state = State::Text;
-        self.next = at + run.len() as u64;
-        tell_unknown(char::from(run.as_bytes()[0]), amp, sink)?;
-        sink.take_run(run, at)
+        self.next = at + count as u64;
+        sink.take_run(&run[..count], at)?;
+        Ok(count)
     }
 
     /// Follows the level of script data.

@@ -6,7 +6,6 @@ use Rattle.htext.proofs.Runs.{plain_chars}
 use Rattle.htext.proofs.Wide.{run_plain}
 use Rattle.htoken.specs.Token.{gives_item}
 use Rattle.htoken.specs.Tokenizing.{Takes}
-use Rattle.htoken.proofs.AfterRun.{taken_in_run}
 use Rattle.htoken.proofs.Taking.{taken_kept}
 use Rattle.htoken.proofs.tokenizer.Tokenizer.take_front.Goals as goal
 
@@ -27,15 +26,6 @@ returns-in_err-run_of_text-in-Text-clause-takes g c =
     subst (λ (x : List ℕ). Takes (gives_item g.S.ErrorSink.gives g.S.TokenSink.gives_token) table start text (placed c.args.at x) taken c.args.names.now c.args.sink.now (Err c.in_err-run_of_text-in-Text.field-0.0) c.run_of_text.new.sink c.run_of_text.new.self)
     (plain_chars c.args.run.now c.requires.plain c.utf8.run)
     (c.in_err-run_of_text-in-Text.ensures table start c.args.names.now text taken (taken_kept table start c.args.self.now before c.args.names.now text taken grows h)))
-
-pub returns-in-Run-clause-takes : goal.returns-in-Run-clause-takes
-returns-in-Run-clause-takes g c = λ table start before text taken grows h.
-    c.run_of_alphanumerics.ensures.takes table start c.args.names.now text taken 0 (omega arith)
-    (taken_in_run table start c.args.self.now c.args.names.now text taken c.in-Run.amp c.in-Run.is (taken_kept table start c.args.self.now before c.args.names.now text taken grows h))
-
-pub returns-in-Reference-clause-takes : goal.returns-in-Reference-clause-takes
-returns-in-Reference-clause-takes g c = λ table start before text taken grows h.
-    c.run_of_reference.ensures.takes table start c.args.names.now text taken (taken_kept table start c.args.self.now before c.args.names.now text taken grows h)
 
 pub returns-in-Less-clause-takes : goal.returns-in-Less-clause-takes
 returns-in-Less-clause-takes g c = λ table start before text taken grows h.
