@@ -32,27 +32,27 @@ pub later_same : (at : ℕ) (run more : List Placed) → all is_alphanumeric run
 later_same at [] more h = refl
 later_same at (p ∷ ps) more h = let k = and_parts (is_alphanumeric p.ch) (all is_alphanumeric ps) h in later_on at p (ps ++ more) k.0 ∙ later_same at ps more k.1
 
+-- the sink refused what stands for these characters
+pub refused_after : {S : Type 0} (gives : S → Item → Result (Unit {0}) Refusal → S → Type 0) (table : Entities) (start : RawKind) (text run : List Placed) (names : Texts) (taken : List Event) (there : Standing) (events : List Event) (after : List Placed → List ParseError)
+    → ((end : ℕ) (more : List Placed) → Stands table start end (text ++ run) more there (taken ++ events) (after more)) → (old s : S) (e : Refusal) (new : Tokenizer) → HandsEvents gives names old events (Err e) s → Takes gives table start text run taken names old (Err e) s new
+refused_after gives table start text run names taken there events after stands old s e new handed = take_sink_refused e events refl handed (λ more end.
+    let then = stands end more in
+    record {
+      spans = then.spans;
+      rest = more;
+      others = eof_of end more;
+      text_is = sym (append_assoc text run more) ∙ ap (λ (x : List Placed). x ++ more) then.front_is;
+      cut = then.cut;
+      in_profile = then.in_profile;
+      front_is = ap (λ (x : List Tok). x ++ eof_of end more) then.tokens_are;
+    })
+
 module _ {S : Type 0} (gives : S → Item → Result (Unit {0}) Refusal → S → Type 0) (table : Entities) (start : RawKind) (text : List Placed) (names : Texts) (taken : List Event) (t : Tokenizer) (amp : ℕ) (same : t.state ≡ state.Run amp) (h : IsInRun table start t names text [] taken) (run : List Placed) where
   amp_is : h.amp ≡ amp
   amp_is = let e : state.Run h.amp ≡ state.Run amp = sym h.state_is ∙ same in cc
 
   stands_now : (end : ℕ) (more : List Placed) → Stands table start end text (run ++ more) h.here taken (later_errors amp (run ++ more))
   stands_now end more = subst (λ (a : ℕ). Stands table start end text (run ++ more) h.here taken (later_errors a (run ++ more))) amp_is (h.stands end (run ++ more))
-
-  -- the sink refused what it was handed, after which `rest` is left
-  front_refused : (others rest : List Placed) (events : List Event) (old s : S) (e : Refusal) (new : Tokenizer) (there : Standing) (after : List Placed → List ParseError) → text ++ run ≡ others ++ rest
-      → ((end : ℕ) (more : List Placed) → Stands table start end others (rest ++ more) there (taken ++ events) (after more)) → HandsEvents gives names old events (Err e) s → Takes gives table start text run taken names old (Err e) s new
-  front_refused others rest events old s e new there after is goes handed = take_sink_refused e events refl handed (λ more end.
-      let then = goes end more in
-      record {
-        spans = then.spans;
-        rest = rest ++ more;
-        others = eof_of end (rest ++ more);
-        text_is = sym (append_assoc text run more) ∙ ap (λ (x : List Placed). x ++ more) is ∙ append_assoc others rest more ∙ ap (λ (x : List Placed). x ++ (rest ++ more)) then.front_is;
-        cut = then.cut;
-        in_profile = then.in_profile;
-        front_is = ap (λ (x : List Tok). x ++ eof_of end (rest ++ more)) then.tokens_are;
-      })
 
   -- the run goes on
   module _ (letters : all is_alphanumeric run ≡ true) where
@@ -75,4 +75,4 @@ module _ {S : Type 0} (gives : S → Item → Result (Unit {0}) Refusal → S �
       raises_none = ap (λ (x : Tokenizer). x.raised.errors.items) then ∙ h.raises_none;
       between = same_between h.here (after_characters h.here run) t new h.may refl refl (ap (λ (x : Tokenizer). x.tag) then) h.between;
     }))
-    letters_taken new then next old s (Err e) handed = front_refused (text ++ run) [] (run_events run) old s e new (after_characters h.here run) (later_errors amp) (sym (append-nil (text ++ run))) stands_on handed
+    letters_taken new then next old s (Err e) handed = refused_after gives table start text run names taken (after_characters h.here run) (run_events run) (later_errors amp) stands_on old s e new handed

@@ -32,10 +32,9 @@ use Rattle.htoken.specs.Giving.{piece_events, read_events}
 use Rattle.htoken.specs.Handing.{HandsEvents}
 use Rattle.htoken.specs.Run.{run_events}
 use Rattle.htoken.specs.Spans.{has_references}
-use Rattle.htoken.specs.Token.{Tok, Item, Event}
-use Rattle.htoken.specs.Tokens.{eof_of}
-use Rattle.htoken.specs.Tokenizing.{after_place, holds, later_errors, next_place, IsBetween, IsHeld, IsIn, IsLast, Reads, Stands, Takes, take_took, take_sink_refused}
-use Rattle.htoken.proofs.AfterRun.{later_same}
+use Rattle.htoken.specs.Token.{Item, Event}
+use Rattle.htoken.specs.Tokenizing.{after_place, holds, later_errors, next_place, IsBetween, IsHeld, IsIn, IsLast, Reads, Stands, Takes, take_took}
+use Rattle.htoken.proofs.AfterRun.{later_same, refused_after}
 use Rattle.htoken.proofs.Fronts.{cut_refused}
 use Rattle.htoken.proofs.Going.{next_place-snoc}
 use Rattle.htoken.proofs.InReference.{same_between}
@@ -330,17 +329,8 @@ module _ {S : Type 0} (gives : S → Item → Result (Unit {0}) Refusal → S �
       is_held = subst (λ (x : State). IsHeld x table names (after_reference h.here at read (length read)) new [] []) (sym (ap (λ (x : Tokenizer). x.state) then ∙ in_text))
           (refl, ap (λ (x : Tokenizer). x.raised.errors.items) then ∙ none.1, same_between h.here (after_reference h.here at read (length read)) t new may refl refl (ap (λ (x : Tokenizer). x.tag) then) none.2);
     }))
-    whole_takes new then next old s (Err e) handed = take_sink_refused e (piece_events found at) refl handed (λ more end.
-        let st = stands_whole end more in
-        record {
-          spans = st.spans;
-          rest = more;
-          others = eof_of end more;
-          text_is = sym (append_assoc text (sign ∷ read) more) ∙ ap (λ (x : List Placed). x ++ more) st.front_is;
-          cut = st.cut;
-          in_profile = st.in_profile;
-          front_is = ap (λ (x : List Tok). x ++ eof_of end more) st.tokens_are;
-        })
+    whole_takes new then next old s (Err e) handed =
+        refused_after gives table start text (sign ∷ read) names taken (after_reference h.here at read (length read)) (piece_events found at) (λ more. []) stands_whole old s e new handed
 
     pub whole_read : (new : Tokenizer) → new ≡ record t { next = new.next } → new.next ≡ after_place (at + count) → (old s : S) → HandsEvents gives names old (piece_events found at) (Ok tt) s
         → Takes gives table start text (placed at (chars (take (count + 1) run))) taken names old (Ok tt) s new
