@@ -111,12 +111,6 @@ module _ {S : Type 0} (gives : S → Item → Result (Unit {0}) Refusal → S �
   first_front at run p is plain some taken names old new next (Err e) h =
       front_refused at 1 run plain (omega (arith, some)) taken names old new e next next (subst (λ (x : List Placed). Takes gives table start text x taken names old (Err e) new next) is h)
 
-  -- a front that is taken after events have been handed over
-  pub front_after : (at : ℕ) (run : List ℕ) (taken events : List Event) (names : Texts) (old mid new : S) (answer : Result ℕ Refusal) (next : Tokenizer) → HandsEvents gives names old events (Ok tt) mid
-      → TakesFront gives table start text at run (taken ++ events) names mid answer new next → TakesFront gives table start text at run taken names old answer new next
-  front_after at run taken events names old mid new (Ok n) next given h = takes_after gives table start text (placed at (take n run)) names taken events old mid new (Ok tt) next given h
-  front_after at run taken events names old mid new (Err e) next given h = takes_after gives table start text (placed at run) names taken events old mid new (Err e) next given h
-
   -- A LOOP OVER A RUN, of which a front has been taken
 
   module _ (front : List Placed) (taken : List Event) (before names : Texts) (grows : Grows before names) (old mid : S) (t : Tokenizer) where
