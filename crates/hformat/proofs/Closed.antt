@@ -1,5 +1,5 @@
 -- The holes of a list taken out, and the numbers of what is left.
-use Rattle.std.proofs.Common.{◌≡◌, ℕ, zero, suc, ◌+◌, ◌-◌, ◌<◌, ◌≤◌, ◌==◌, Bool, true, false, not, cond, eqb, List, [], ◌∷◌, ◌++◌, length, get_or, take, drop, set, map, filter, refl, sym, ◌∙◌, ap, arith, subst}
+use Rattle.std.proofs.Common.{◌≡◌, ℕ, zero, suc, ◌+◌, ◌-◌, ◌<◌, ◌≤◌, ◌==◌, Bool, true, false, not, cond, eqb, is_some, List, [], ◌∷◌, ◌++◌, length, get_or, take, drop, set, map, filter, refl, sym, ◌∙◌, ap, arith, subst}
 use Rattle.std.specs.List.{All, between, swap}
 use Rattle.std.proofs.lemmas.Bool.{eqb-true}
 use Rattle.std.proofs.lemmas.List.{append-nil, append_assoc, drop-map, drop-set-lt, drop_more, get_or-append_right, length-append, length-take-le, map-append, take-map, take-set-le, take_more}
@@ -72,7 +72,7 @@ solid-closed items from h k above l x =
 -- what is kept of the list
 pub listed-closed : (from : ℕ) (old new : Slots) → IsListed old → new.keys ≡ old.keys → from ≤ length old.items.items
     → new.names ≡ take from old.names ++ filter (λ n. not (n == none)) (drop from old.names)
-    → new.hashes ≡ take from old.hashes ++ filter (λ n. not (n == none)) (drop from old.hashes)
+    → (is_some old.keys ≡ true → new.hashes ≡ take from old.hashes ++ filter (λ n. not (n == none)) (drop from old.hashes))
     → new.nodes ≡ take from old.nodes ++ filter (λ n. not (n == none)) (drop from old.nodes)
     → new.solid ≡ from → new.items.items ≡ closed old.items.items from → IsListed new
 listed-closed from old new listed keys h names hashes nodes solid items =
@@ -80,7 +80,8 @@ listed-closed from old new listed keys h names hashes nodes solid items =
     let kept = filter stays (drop from xs) in
     record {
       names = names ∙ numbers-closed (λ e. e.name) xs from old.names listed.stored listed.names ∙ ap (numbers_by by_name) (sym items);
-      hashes = hashes ∙ numbers-closed (entry_hash old.keys) xs from old.hashes listed.stored listed.hashes
+      hashes = λ some. let there = ap is_some (sym keys) ∙ some in
+          hashes there ∙ numbers-closed (entry_hash old.keys) xs from old.hashes listed.stored (listed.hashes there)
           ∙ (λ i. numbers_by (by_hash (sym keys i)) (sym items i));
       nodes = nodes ∙ numbers-closed (λ e. e.node) xs from old.nodes listed.stored listed.nodes ∙ ap (numbers_by by_node) (sym items);
       stored = subst (All IsStored) (sym items) (All-append IsStored (take from xs) kept (All-take IsStored from xs listed.stored) (All-filter stays IsStored (drop from xs) (All-drop IsStored from xs listed.stored)));

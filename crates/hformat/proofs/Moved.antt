@@ -161,7 +161,7 @@ listed-renewed node i old new listed keys h some low names hashes nodes solid it
     ∙ sym (map-set (λ y. number_by by_node (item_of y)) xs i (renamed node x)) in
     record {
       names = names ∙ listed.names ∙ sym (same-by node xs i h some (λ y. number_by by_name (item_of y)) (renamed-name node x)) ∙ ap (numbers_by by_name) (sym items);
-      hashes = hashes ∙ listed.hashes ∙ sym (same-by node xs i h some (λ y. number_by (by_hash old.keys) (item_of y)) (renamed-hash node old.keys x))
+      hashes = λ there. hashes ∙ listed.hashes (ap is_some (sym keys) ∙ there) ∙ sym (same-by node xs i h some (λ y. number_by (by_hash old.keys) (item_of y)) (renamed-hash node old.keys x))
           ∙ (λ j. numbers_by (by_hash (sym keys j)) (sym items j));
       nodes = nodes ∙ ns ∙ ap (numbers_by by_node) (sym items);
       stored = subst (All IsStored) (sym items) (All-set IsStored xs i (renamed node x) (renamed-stored node x low stored) listed.stored);

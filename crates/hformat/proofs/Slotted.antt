@@ -1,6 +1,7 @@
 -- The items of a list and their numbers, where the last ones leave, and where one becomes a hole.
-use Rattle.std.proofs.Common.{◌≡◌, ◌≢◌, ℕ, zero, suc, ◌+◌, ◌<◌, ◌≤◌, false, List, [], ◌∷◌, ◌++◌, length, take, set, get_or, min, max, subst, sym, ◌∙◌, ap, arith}
+use Rattle.std.proofs.Common.{◌≡◌, ◌≢◌, ℕ, zero, suc, ◌+◌, ◌<◌, ◌≤◌, true, false, List, [], ◌∷◌, ◌++◌, length, take, set, get_or, min, max, subst, sym, ◌∙◌, ap, arith}
 use Rattle.std.specs.List.{All}
+use Rattle.std.specs.Option.{is_some}
 use Rattle.std.proofs.lemmas.List.{length-append, map-append, take-map, map-set, length-set, length-take-le, get_or-take, get_or-set_other}
 use Rattle.std.proofs.lemmas.List.Elements.{All-append, All-take, All-set}
 use Rattle.hformat.specs.Hashes.{entry_hash}
@@ -12,17 +13,21 @@ use Rattle.hformat.specs.declared.entry.Slot.{Slot as Stored}
 use Rattle.hformat.specs.declared.entry.Slot.TheVariants as stored
 use Rattle.hformat.specs.declared.slots.Slots.{Slots}
 
+-- Where only the hashes have changed, all else is as it was.
+pub all-but-hashes : (s t : Slots) (hashes : List ℕ) → t ≡ record s { hashes = hashes } → t ≡ record s { hashes = t.hashes }
+all-but-hashes s t hashes is = is ∙ ap (λ h. record s { hashes = h }) (sym (ap (λ x. x.hashes) is))
+
 module _ (old new : Slots) (listed : IsListed old) (n : ℕ) where
   -- this many items are left
   pub listed-take : new.keys ≡ old.keys → n ≤ length old.items.items → new.items.items ≡ take n old.items.items
-      → new.names ≡ take n old.names → new.hashes ≡ take n old.hashes → new.nodes ≡ take n old.nodes → new.solid ≡ min old.solid n → IsListed new
+      → new.names ≡ take n old.names → (is_some old.keys ≡ true → new.hashes ≡ take n old.hashes) → new.nodes ≡ take n old.nodes → new.solid ≡ min old.solid n → IsListed new
   listed-take keys h items names hashes nodes least =
       let xs = old.items.items in
       let size : length new.items.items ≡ n = ap length items ∙ length-take-le n xs h in
       let numbers = λ (of : EntryOf ℕ → ℕ). take-map (λ i. number_by of (item_of i)) n xs ∙ ap (numbers_by of) (sym items) in
       record {
         names = names ∙ ap (take n) listed.names ∙ numbers by_name;
-        hashes = hashes ∙ ap (take n) listed.hashes ∙ numbers (by_hash old.keys) ∙ ap (λ k. numbers_by (by_hash k) new.items.items) (sym keys);
+        hashes = λ some. let there = ap is_some (sym keys) ∙ some in hashes there ∙ ap (take n) (listed.hashes there) ∙ numbers (by_hash old.keys) ∙ ap (λ k. numbers_by (by_hash k) new.items.items) (sym keys);
         nodes = nodes ∙ ap (take n) listed.nodes ∙ numbers by_node;
         stored = subst (All IsStored) (sym items) (All-take IsStored n xs listed.stored);
         within = omega (arith, listed.within);
@@ -33,14 +38,14 @@ module _ (old new : Slots) (listed : IsListed old) (n : ℕ) where
 
   -- a hole is left
   pub listed-hide : new.keys ≡ old.keys → n < length old.items.items → new.items.items ≡ set old.items.items n stored.Hole
-      → new.names ≡ set old.names n none → new.hashes ≡ set old.hashes n none → new.nodes ≡ set old.nodes n none → new.solid ≡ max old.solid (n + 1) → IsListed new
+      → new.names ≡ set old.names n none → (is_some old.keys ≡ true → new.hashes ≡ set old.hashes n none) → new.nodes ≡ set old.nodes n none → new.solid ≡ max old.solid (n + 1) → IsListed new
   listed-hide keys h items names hashes nodes most =
       let xs = old.items.items in
       let size : length new.items.items ≡ length xs = ap length items ∙ length-set xs n stored.Hole in
       let numbers = λ (number : EntryOf ℕ → ℕ). sym (map-set (λ i. number_by (unless_hole number) (item_of i)) xs n stored.Hole) ∙ ap (numbers_by (unless_hole number)) (sym items) in
       record {
         names = names ∙ ap (λ ns. set ns n none) listed.names ∙ numbers (λ e. e.name);
-        hashes = hashes ∙ ap (λ ns. set ns n none) listed.hashes ∙ numbers (entry_hash old.keys) ∙ ap (λ k. numbers_by (by_hash k) new.items.items) (sym keys);
+        hashes = λ some. let there = ap is_some (sym keys) ∙ some in hashes there ∙ ap (λ ns. set ns n none) (listed.hashes there) ∙ numbers (entry_hash old.keys) ∙ ap (λ k. numbers_by (by_hash k) new.items.items) (sym keys);
         nodes = nodes ∙ ap (λ ns. set ns n none) listed.nodes ∙ numbers (λ e. e.node);
         stored = subst (All IsStored) (sym items) (All-set IsStored xs n stored.Hole tt listed.stored);
         within = omega (arith, listed.within);
@@ -63,7 +68,7 @@ module _ (old new : Slots) (listed : IsListed old) where
   listed-same keys items names hashes nodes solid =
       record {
         names = names ∙ listed.names ∙ ap (numbers_by by_name) (sym items);
-        hashes = hashes ∙ listed.hashes ∙ (λ i. numbers_by (by_hash (sym keys i)) (sym items i));
+        hashes = λ some. hashes ∙ listed.hashes (ap is_some (sym keys) ∙ some) ∙ (λ i. numbers_by (by_hash (sym keys i)) (sym items i));
         nodes = nodes ∙ listed.nodes ∙ ap (numbers_by by_node) (sym items);
         stored = subst (All IsStored) (sym items) listed.stored;
         within = omega (arith, solid, ap length items, listed.within);
@@ -72,7 +77,7 @@ module _ (old new : Slots) (listed : IsListed old) where
 
   -- one more
   pub listed-put : (item : Stored) → IsStored item → is_gone item ≡ false → new.keys ≡ old.keys → new.items.items ≡ old.items.items ++ item ∷ []
-      → new.names ≡ old.names ++ number_by by_name (item_of item) ∷ [] → new.hashes ≡ old.hashes ++ number_by (by_hash old.keys) (item_of item) ∷ []
+      → new.names ≡ old.names ++ number_by by_name (item_of item) ∷ [] → (is_some old.keys ≡ true → new.hashes ≡ old.hashes ++ number_by (by_hash old.keys) (item_of item) ∷ [])
       → new.nodes ≡ old.nodes ++ number_by by_node (item_of item) ∷ [] → new.solid ≡ old.solid → IsListed new
   listed-put item is there keys items names hashes nodes solid =
       let xs = old.items.items in
@@ -81,7 +86,8 @@ module _ (old new : Slots) (listed : IsListed old) where
       let size : length new.items.items ≡ suc (length xs) = ap length items ∙ length-append xs (item ∷ []) ∙ (omega arith) in
       record {
         names = names ∙ ap (λ ns. ns ++ number_by by_name (item_of item) ∷ []) listed.names ∙ numbers by_name;
-        hashes = hashes ∙ ap (λ ns. ns ++ number_by (by_hash old.keys) (item_of item) ∷ []) listed.hashes ∙ numbers (by_hash old.keys)
+        hashes = λ some. let there = ap is_some (sym keys) ∙ some in
+            hashes there ∙ ap (λ ns. ns ++ number_by (by_hash old.keys) (item_of item) ∷ []) (listed.hashes there) ∙ numbers (by_hash old.keys)
             ∙ ap (λ k. numbers_by (by_hash k) new.items.items) (sym keys);
         nodes = nodes ∙ ap (λ ns. ns ++ number_by by_node (item_of item) ∷ []) listed.nodes ∙ numbers by_node;
         stored = subst (All IsStored) (sym items) (All-append IsStored xs (item ∷ []) listed.stored one);

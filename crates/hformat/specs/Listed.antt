@@ -1,6 +1,7 @@
 -- What is kept of the list of active formatting elements besides its items.
-use Rattle.std.specs.Prelude.{◌≡◌, ℕ, zero, suc, ◌<◌, ◌≤◌, ◌==◌, false, List, Option, length, map, slice_index_or, if◌then◌else◌}
+use Rattle.std.specs.Prelude.{◌≡◌, ℕ, zero, suc, ◌<◌, ◌≤◌, ◌==◌, true, false, List, Option, length, map, slice_index_or, if◌then◌else◌}
 use Rattle.std.specs.List.{All}
+use Rattle.std.specs.Option.{is_some}
 use Rattle.std.specs.declared.hash.DefaultHasher.{DefaultHasher}
 use Rattle.hformat.specs.Hashes.{entry_hash}
 use Rattle.hformat.specs.Formatting.{EntryOf, Listed, marker, entry}
@@ -29,10 +30,10 @@ by_node = unless_hole (λ e. e.node)
 abbrev pub numbers_by : (EntryOf ℕ → ℕ) → List Stored → List ℕ
 numbers_by number items = map (λ i. number_by number (item_of i)) items
 
--- The numbers that are kept are those of the items, and from an index on there is no hole.
+-- The numbers that are kept are those of the items, those of the hashes only where there are keys, and from an index on there is no hole.
 pub record IsListed (s : Slots) : Type 0 where
   pub names : s.names ≡ numbers_by by_name s.items.items
-  pub hashes : s.hashes ≡ numbers_by (by_hash s.keys) s.items.items
+  pub hashes : is_some s.keys ≡ true → s.hashes ≡ numbers_by (by_hash s.keys) s.items.items
   pub nodes : s.nodes ≡ numbers_by by_node s.items.items
   pub stored : All IsStored s.items.items
   pub within : s.solid ≤ length s.items.items

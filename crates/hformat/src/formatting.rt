@@ -135,7 +135,7 @@ impl Formatting {
     {
         let attrs = copy_attrs(self.alloc, attrs)?;
         make_room(&mut self.slots)?;
-        self.slots.hash_if_crowded(self.alloc, self.keys, name)?;
+        self.slots.hash_if_crowded(self.alloc, &self.keys, name)?;
         let hash = find_hash(self.alloc, self.slots.keys, name, &attrs)?;
         let earliest = self.slots.giving_way(self.alloc, hash, name, &attrs)?;
         let numbers = Numbers {

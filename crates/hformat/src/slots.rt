@@ -49,6 +49,7 @@ pub(crate) struct Numbers {
 pub(crate) struct Slots {
     pub(crate) items: Vec<Slot>,
     pub(crate) names: Chains,
+    /// Kept only where there are keys.
     pub(crate) hashes: Chains,
     pub(crate) nodes: Chains,
     /// The keys of the hashes; `None` while no name has many entries, and then the name is the hash.
@@ -57,25 +58,30 @@ pub(crate) struct Slots {
     pub(crate) solid: usize,
 }
 
-/// Adds the numbers of the hash and of the node of an item that comes after this many. On an error nothing changes.
+/// Adds the numbers of the hash, where hashes are kept, and of the node of an item that comes after this many. On an error nothing
+/// changes.
 #[inline(always)]
 fn push_numbers(
     hashes: &mut Chains,
     nodes: &mut Chains,
+    hashed: bool,
     numbers: Numbers,
     len: usize,
 ) -> Result<(), AllocError>
     requires hash { numbers.hash ≢ none }
     requires node { numbers.node ≢ none }
-    requires len { length hashes.old ≡ len }
-    ensures hashes { OnOk result (hashes.new ≡ hashes.old ++ numbers.hash ∷ []) }
+    requires len { length nodes.old ≡ len }
+    ensures hashes { OnOk result (hashed ≡ true → hashes.new ≡ hashes.old ++ numbers.hash ∷ []) }
     ensures nodes { OnOk result (nodes.new ≡ nodes.old ++ numbers.node ∷ []) }
     ensures same_hashes { OnErr result (hashes.new ≡ hashes.old) }
     ensures same_nodes { OnErr result (nodes.new ≡ nodes.old) }
 {
-    hashes.push(numbers.hash)?;
-    if let Err(error) = nodes.push(numbers.node) {
-        hashes.truncate(len);
+    nodes.push(numbers.node)?;
+    if !hashed {
+        return Ok(());
+    }
+    if let Err(error) = hashes.push(numbers.hash) {
+        nodes.truncate(len);
         return Err(error);
     }
     Ok(())
@@ -119,7 +125,7 @@ impl Slots {
     pub(crate) fn hash_if_crowded(
         &mut self,
         alloc: Global,
-        keys: Keys,
+        keys: &Keys,
         name: NameId,
     ) -> Result<(), AllocError>
         requires listed { IsListed self.old }
@@ -127,10 +133,21 @@ impl Slots {
         ensures items { self.new.items.items ≡ self.old.items.items }
     {
         if self.keys.is_none() && self.is_crowded(name) {
-            self.hashes = hash_items(alloc, Some(keys), &self.items)?;
-            self.keys = Some(keys);
+            self.hashes = hash_items(alloc, Some(*keys), &self.items)?;
+            self.keys = Some(*keys);
         }
         Ok(())
+    }
+
+    /// Where the hash of each item is.
+    fn by_hash(&self) -> &Chains
+        requires { IsListed self.now }
+        ensures { result.now ≡ numbers_by (by_hash self.now.keys) self.now.items.items }
+    {
+        match self.keys {
+            Some(_) => &self.hashes,
+            None => &self.names,
+        }
     }
 
     /// How many items come after the entry that gives way to a new one: the earliest of the equal entries after the last marker, if
@@ -148,8 +165,9 @@ impl Slots {
         ensures room { IfOk result (λ earliest. option_map_or (remove (items_of self.now.items.items)) earliest (items_of self.now.items.items)
             ≡ with_room nat_eq (record { node = 0; name = name; attrs = map attribute_of attrs.now }) (items_of self.now.items.items)) }
     {
-        let marker = self.hashes.last(MARKER);
-        let mut place = self.hashes.last(number);
+        let hashes = self.by_hash();
+        let marker = hashes.last(MARKER);
+        let mut place = hashes.last(number);
         let mut equal = 0;
         let mut earliest = None;
         while place > marker {
@@ -157,7 +175,7 @@ impl Slots {
                 equal += 1;
                 earliest = Some(self.items.len() - place);
             }
-            place = self.hashes.before(place);
+            place = hashes.before(place);
         }
         Ok(if equal < MOST_EQUAL { None } else { earliest })
     }
@@ -175,15 +193,17 @@ impl Slots {
         ensures ok { OnOk result (self.new.items.items ≡ self.old.items.items ++ item ∷ []) }
         ensures err { OnErr result (self.new.items.items ≡ self.old.items.items) }
     {
-        self.items.reserve(1)?;
-        self.names.push(numbers.name)?;
         let len = self.items.len();
-        if let Err(error) = push_numbers(&mut self.hashes, &mut self.nodes, numbers, len) {
-            self.names.truncate(len);
+        let hashed = self.keys.is_some();
+        self.items.push(item)?;
+        if let Err(error) = self.names.push(numbers.name) {
+            self.items.truncate(len);
             return Err(error);
         }
-        if self.items.push(item).is_err() {
-            unreachable!()
+        if let Err(error) = push_numbers(&mut self.hashes, &mut self.nodes, hashed, numbers, len) {
+            self.names.truncate(len);
+            self.items.truncate(len);
+            return Err(error);
         }
         Ok(())
     }
@@ -195,8 +215,10 @@ impl Slots {
         ensures listed { IsListed self.new }
         ensures items { self.new.items.items ≡ take len self.old.items.items }
     {
+        if self.keys.is_some() {
+            self.hashes.truncate(len);
+        }
         self.names.truncate(len);
-        self.hashes.truncate(len);
         self.nodes.truncate(len);
         self.items.truncate(len);
         self.solid = self.solid.min(len);
@@ -209,8 +231,10 @@ impl Slots {
         ensures listed { IsListed self.new }
         ensures items { self.new.items.items ≡ slice_set self.old.items.items index stored.Hole }
     {
+        if self.keys.is_some() {
+            self.hashes.clear(index);
+        }
         self.names.clear(index);
-        self.hashes.clear(index);
         self.nodes.clear(index);
         self.items[index] = Slot::Hole;
         self.solid = self.solid.max(index + 1);
@@ -239,8 +263,10 @@ impl Slots {
             ≡ slice_set (slice_set self.old.items.items index (slice_index_or self.old.items.items (index + 1) stored.Hole))
             (index + 1) (slice_index_or self.old.items.items index stored.Hole) }
     {
+        if self.keys.is_some() {
+            self.hashes.swap(index);
+        }
         self.names.swap(index);
-        self.hashes.swap(index);
         self.nodes.swap(index);
         self.items.swap(index, index + 1);
         self.solid = self.solid.max(index + 2);
@@ -314,8 +340,10 @@ impl Slots {
         ensures listed { IsListed self.new }
         ensures items { self.new.items.items ≡ take from self.old.items.items ++ filter (λ i. not (is_gone i)) (drop from self.old.items.items) }
     {
+        if self.keys.is_some() {
+            self.hashes.compact(from);
+        }
         self.names.compact(from);
-        self.hashes.compact(from);
         self.nodes.compact(from);
         take_holes(&mut self.items, from);
         self.solid = from;

@@ -20,13 +20,13 @@ use Rattle.hformat.proofs.slots.Slots.giving_way.Goals.{then-branch, else-branch
 pub loop-place-init : goal.loop-place-init
 loop-place-init c =
     let items = c.args.self.now.items.items in
-    let hashes = c.args.self.now.hashes in
+    let hashes = c.by_hash-hashes.result.now in
     let view = items_of items in
     let new : EntryOf ℕ = record { node = 0; name = c.args.name; attrs = map attribute_of c.args.attrs.now } in
     let sought = is_equal nat_eq new in
     let entries = after_marker view in
     let named : c.args.name < nowhere = omega arith in
-    let numbers : reverse hashes ≡ map (number_by (by_hash c.args.self.now.keys)) view = ap reverse c.requires.listed.hashes ∙ numbers-back (by_hash c.args.self.now.keys) items in
+    let numbers : reverse hashes ≡ map (number_by (by_hash c.args.self.now.keys)) view = ap reverse c.by_hash-hashes.ensures ∙ numbers-back (by_hash c.args.self.now.keys) items in
     let at : place (by_hash c.args.self.now.keys) c.args.number view ≡ c.last-place.result = sym (c.last-place.ensures ∙ last-is c.args.number hashes ∙ ap (last_of c.args.number) numbers) in
     let up : length (map (number_by (by_hash c.args.self.now.keys)) view) - c.last-place.result ≡ length view - c.last-place.result = ap (λ k. k - c.last-place.result) (length-map view (number_by (by_hash c.args.self.now.keys))) in
     let skipped = skips (by_hash c.args.self.now.keys) sought c.args.number (λ e equal. same-number new e equal c.args.self.now.keys named ∙ sym c.requires.number) view 0 in
@@ -47,8 +47,8 @@ number-there of items hashes number p is some within there =
 
 pub before-place-requires-clause-number : goal.before-place-requires-clause-number
 before-place-requires-clause-number c =
-    let there : get_or c.args.self.now.hashes (c.loop-place.place - 1) 0 ≡ c.args.number =
-    number-there (by_hash c.args.self.now.keys) c.args.self.now.items.items c.args.self.now.hashes c.args.number c.loop-place.place c.requires.listed.hashes (omega arith) (omega (arith, c.loop-place.invariant.room)) c.loop-place.invariant.number
+    let there : get_or c.by_hash-hashes.result.now (c.loop-place.place - 1) 0 ≡ c.args.number =
+    number-there (by_hash c.args.self.now.keys) c.args.self.now.items.items c.by_hash-hashes.result.now c.args.number c.loop-place.place c.by_hash-hashes.ensures (omega arith) (omega (arith, c.loop-place.invariant.room)) c.loop-place.invariant.number
     in
     λ is. omega (arith, c.requires.number, there, is)
 
@@ -77,16 +77,16 @@ module _ (c : goal.After-before-place) where
 
   stepped : Steps (by_hash c.args.self.now.keys) sought c.args.number law view c.loop-place.place c.before-place.result here
   stepped =
-      let hashes = c.args.self.now.hashes in
+      let hashes = c.by_hash-hashes.result.now in
       let p = c.loop-place.place in
       let some : 0 < p = omega arith in
       let within : p ≤ length items = omega (arith, c.loop-place.invariant.room) in
       let size : length view ≡ length items = length-items_of items in
-      let kept : length hashes ≡ length items = ap length c.requires.listed.hashes ∙ length-map items (λ i. number_by (by_hash c.args.self.now.keys) (item_of i)) in
+      let kept : length hashes ≡ length items = ap length c.by_hash-hashes.ensures ∙ length-map items (λ i. number_by (by_hash c.args.self.now.keys) (item_of i)) in
       let at : (p - 1) + suc (length view - p) ≡ length items = omega arith in
-      let number : get_or hashes (p - 1) 0 ≡ c.args.number = number-there (by_hash c.args.self.now.keys) items hashes c.args.number p c.requires.listed.hashes some within c.loop-place.invariant.number in
+      let number : get_or hashes (p - 1) 0 ≡ c.args.number = number-there (by_hash c.args.self.now.keys) items hashes c.args.number p c.by_hash-hashes.ensures some within c.loop-place.invariant.number in
       let numbers : reverse (take (p - 1) hashes) ≡ map (number_by (by_hash c.args.self.now.keys)) (drop (suc (length view - p)) view) =
-      ap (λ ns. reverse (take (p - 1) ns)) c.requires.listed.hashes ∙ numbers-before (by_hash c.args.self.now.keys) items p some within ∙ ap (λ k. map (number_by (by_hash c.args.self.now.keys)) (drop (suc (k - p)) view)) (sym size)
+      ap (λ ns. reverse (take (p - 1) ns)) c.by_hash-hashes.ensures ∙ numbers-before (by_hash c.args.self.now.keys) items p some within ∙ ap (λ k. map (number_by (by_hash c.args.self.now.keys)) (drop (suc (k - p)) view)) (sym size)
       in
       steps (by_hash c.args.self.now.keys) sought c.args.number law view p c.before-place.result (item_of c.index.result.now) (omega arith) (omega (arith, c.loop-place.invariant.marked))
       (slice_get_nearest item_of items (p - 1) (length view - p) c.index.result.now at ∙ ap (λ y. Some (item_of y)) (sym c.index.ensures))

@@ -1,7 +1,21 @@
-use Rattle.std.proofs.Common.{refl}
-use Rattle.hformat.proofs.Slotted.{listed-hide}
+use Rattle.std.proofs.Common.{◌≡◌, ◌+◌, true, is_some, set, max, ap, sym, ◌∙◌}
+use Rattle.std.proofs.lemmas.Bool.{false≢true}
+use Rattle.hchain.specs.Chains.{none}
+use Rattle.hformat.specs.declared.entry.Slot.TheVariants as stored
+use Rattle.hformat.proofs.Slotted.{all-but-hashes, listed-hide}
 use Rattle.hformat.proofs.slots.Slots.hide.Goals as goal
+use Rattle.hformat.proofs.slots.Slots.hide.Goals.{then-is_some, else-is_some}
 
 pub returns-clause-listed : goal.returns-clause-listed
 returns-clause-listed c =
-    listed-hide c.args.self.now _ c.requires.listed c.args.index refl c.requires.within refl c.clear.ensures c.clear-2.ensures c.clear-3.ensures c.max-self.ensures
+    let s = c.args.self.now in
+    let i = c.args.index in
+    let mid = c.if-is_some.self in
+    let is : mid ≡ record s { hashes = mid.hashes } = elim c.if-is_some.branch [ then-is_some w ↦ all-but-hashes s mid _ w.self-is | else-is_some w ↦ all-but-hashes s mid _ w.self-is ] in
+    let hashes : is_some s.keys ≡ true → mid.hashes ≡ set s.hashes i none =
+    elim c.if-is_some.branch [
+      | then-is_some w ↦ λ some. ap (λ t. t.hashes) w.self-is ∙ w.clear.ensures
+      | else-is_some w ↦ λ some. absurd (false≢true (sym w.if-is_some.false ∙ c.is_some.ensures ∙ some))
+    ] in
+    listed-hide s _ c.requires.listed i (ap (λ t. t.keys) is) c.requires.within (ap (λ t. set t.items.items i stored.Hole) is)
+    (c.clear-2.ensures ∙ ap (λ t. set t.names i none) is) hashes (c.clear-3.ensures ∙ ap (λ t. set t.nodes i none) is) (c.max-self.ensures ∙ ap (λ t. max t.solid (i + 1)) is)
