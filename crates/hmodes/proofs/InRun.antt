@@ -21,9 +21,8 @@ use Rattle.hmodes.specs.State.{State, Token, character}
 use Rattle.hmodes.specs.Step.{Rule, Chain, ends, refuses, Step, goes, begun}
 use Rattle.hmodes.specs.Tokens.{token_of, place_of}
 use Rattle.hmodes.specs.Building.{Building, Takes, TakesToken, TakesOn, StaysRefused, Stands, refused_by}
-use Rattle.hmodes.specs.Runs.{puts_in}
 use Rattle.hmodes.proofs.Looping.{stands-after}
-use Rattle.hmodes.proofs.OnePut.{here, rule_puts, puts-nodes, place-here}
+use Rattle.hmodes.proofs.OnePut.{here, rule_puts, puts_now, puts-nodes, place-here}
 
 -- what an operation goes to, or this state
 abbrev went : SiteOf ℕ → Outcome (SiteOf ℕ) → SiteOf ℕ
@@ -38,7 +37,7 @@ abbrev pub AreSome : List Placed → Type 0
 AreSome ps = AllByRecursion (λ p. (p.ch == 0) ≡ false) ps
 
 -- In a state in which no LF is dropped, nothing is reconstructed or foster parented. What is put makes other nodes, and nothing else.
-module _ (b : Building) (free : b.refused ≡ None) (off : b.state.site.foster ≡ false) (keeps_lf : b.state.control.drop_lf ≡ false) (puts : puts_in b.state.control.mode b.state.site ≡ true) where
+module _ (b : Building) (free : b.refused ≡ None) (off : b.state.site.foster ≡ false) (keeps_lf : b.state.control.drop_lf ≡ false) (puts : puts_now b.state.control.mode b.state.site ≡ true) where
   abbrev begin : State ℕ
   begin = begun b.state
 

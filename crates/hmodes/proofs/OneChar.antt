@@ -1,4 +1,4 @@
--- A character by the rules of a mode that puts it, maybe after the formatting elements.
+-- A character by the rules of a mode that puts it, maybe after the formatting elements, or keeps it as pending.
 use Rattle.std.proofs.Common.{◌≡◌, inl, inr, ℕ, Bool, true, false, Option, Some, None, Result, Ok, Err, refl, sym, ◌∙◌, ap, subst}
 use Rattle.std.specs.Prelude.{◌&&◌, ◌==◌, not, if◌then◌else◌, MatchOption}
 use Rattle.std.specs.Result.{result_err}
@@ -25,6 +25,8 @@ rule_is mode.Text true h = refl
 rule_is mode.Text false h = refl
 rule_is mode.InBody true h = refl
 rule_is mode.InBody false h = refl
+rule_is mode.InTableText true h = refl
+rule_is mode.InTableText false h = refl
 rule_is mode.InCaption true h = refl
 rule_is mode.InCaption false h = refl
 rule_is mode.InCell true h = refl

@@ -23,7 +23,18 @@ use Rattle.hmodes.specs.Words.{put}
 use Rattle.hmodes.specs.declared.token_kind.TokenKind.TheVariants.{Ws, Char, Nul}
 use Rattle.hmodes.specs.declared.mode.Mode.{Mode}
 use Rattle.hmodes.specs.declared.mode.Mode.TheVariants as mode
-use Rattle.hmodes.specs.Runs.{is_reconstructed, puts_in}
+
+-- there is nothing to reconstruct
+abbrev pub is_reconstructed : SiteOf ℕ → Bool
+is_reconstructed x = length (before (stops_going_back x) x.items) == 0
+
+-- whether a character is put as it is by the rules of a mode
+abbrev pub puts_now : Mode → SiteOf ℕ → Bool
+puts_now mode.Text x = true
+puts_now mode.InBody x = is_reconstructed x
+puts_now mode.InCaption x = is_reconstructed x
+puts_now mode.InCell x = is_reconstructed x
+puts_now _ x = false
 
 -- the place of a character: the end of the current node
 abbrev pub here : SiteOf ℕ → Place
@@ -38,7 +49,7 @@ module _ (at c : ℕ) (s : State ℕ) where
   abbrev IsPut : Mode → Bool → Type 0
   IsPut m space = perform numbers at (character c) (rule_of m (if space then Ws else Char)) s ≡ flow_of s (inserts.put at c (place numbers s.site) s.site)
 
-  is_put : (m : Mode) (space : Bool) → puts_in m s.site ≡ true → IsPut m space
+  is_put : (m : Mode) (space : Bool) → puts_now m s.site ≡ true → IsPut m space
   is_put mode.Text true h = refl
   is_put mode.Text false h = refl
   is_put mode.InBody true h = in_body at c s h
@@ -49,7 +60,7 @@ module _ (at c : ℕ) (s : State ℕ) where
   is_put mode.InCell false h = in_body at c s h
   is_put _ space h = absurd (false≢true h)
 
-  pub rule_puts : (c == 0) ≡ false → puts_in s.control.mode s.site ≡ true → Rule numbers at (character c) s ≡ flow_of s (inserts.put at c (place numbers s.site) s.site)
+  pub rule_puts : (c == 0) ≡ false → puts_now s.control.mode s.site ≡ true → Rule numbers at (character c) s ≡ flow_of s (inserts.put at c (place numbers s.site) s.site)
   rule_puts some h =
       ap (λ (b : Bool). perform numbers at (character c) (rule_of s.control.mode (if b then Nul else if is_space c then Ws else Char)) s) some
       ∙ is_put s.control.mode (is_space c) h
@@ -63,7 +74,7 @@ before-nodes x v (entry e ∷ items) = ap (λ (r : List (Listed ℕ)). if is_ope
 reconstructed-nodes : (x : SiteOf ℕ) (v : Nodes ℕ) → is_reconstructed (record x { nodes = v }) ≡ is_reconstructed x
 reconstructed-nodes x v = ap (λ (r : List (Listed ℕ)). length r == 0) (before-nodes x v x.items)
 
-pub puts-nodes : (m : Mode) (x : SiteOf ℕ) (v : Nodes ℕ) → puts_in m x ≡ true → puts_in m (record x { nodes = v }) ≡ true
+pub puts-nodes : (m : Mode) (x : SiteOf ℕ) (v : Nodes ℕ) → puts_now m x ≡ true → puts_now m (record x { nodes = v }) ≡ true
 puts-nodes mode.Text x v h = refl
 puts-nodes mode.InBody x v h = reconstructed-nodes x v ∙ h
 puts-nodes mode.InCaption x v h = reconstructed-nodes x v ∙ h

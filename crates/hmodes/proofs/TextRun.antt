@@ -25,16 +25,14 @@ use Rattle.htoken.specs.declared.token.Token.{Token as Given}
 use Rattle.htoken.specs.declared.token.Token.TheVariants.{Char}
 use Rattle.hadopt.specs.Gives.{Gives}
 use Rattle.hadopt.specs.Inserts.{put_each}
-use Rattle.hadopt.specs.Naming.{numbers}
-use Rattle.hadopt.specs.Places.{place}
 use Rattle.hadopt.specs.Site.{Outcome, SiteOf}
 use Rattle.hmodes.specs.Perform.{with_site}
 use Rattle.hmodes.specs.State.{State, Token}
 use Rattle.hmodes.specs.Step.{begun}
 use Rattle.hmodes.specs.Building.{Building, Stands, Takes, TakesToken, puts_run, refused_by}
-use Rattle.hmodes.specs.Runs.{puts_in, puts_each}
-use Rattle.hmodes.proofs.OnePut.{place-here}
-use Rattle.hmodes.proofs.InRun.{AreSome, run_put, taken, stands-on, stands-run}
+use Rattle.hmodes.specs.Runs.{puts_in, puts_each, put_all}
+use Rattle.hmodes.proofs.Begins.{begun_put}
+use Rattle.hmodes.proofs.InRun.{AreSome, taken, stands-on, stands-run}
 
 clean_some : (x : ℕ) → is_clean x ≡ true → (x == 0) ≡ false
 clean_some x h = grind (arith, nat_tests)
@@ -62,13 +60,13 @@ after_put b x answer = record { state = with_site x (begun b.state); root = b.ro
 
 -- a run that is put as a whole is taken character by character
 pub run_taken : (b : Building) → b.refused ≡ None → puts_each b.state ≡ true → (at : ℕ) (run : List ℕ) → false ≡ (length run == 0) → list_all is_clean run ≡ true
-    → (answer : Result (Unit {0}) Refusal) (x : SiteOf ℕ) → Gives answer x (put_each (placed at run) (place numbers b.state.site) b.state.site)
+    → (answer : Result (Unit {0}) Refusal) (x : SiteOf ℕ) → Gives answer x (put_all at (placed at run) b.state)
     → Hands TakesToken b (run_tokens (placed at run)) answer (after_put b x answer)
 run_taken b free puts at [] some plain answer x g = absurd cc
 run_taken b free puts at (c ∷ cs) some plain answer x g =
-    let facts = off-of b.state.site.foster b.state.control.drop_lf (puts_in b.state.control.mode b.state.site) puts in
-    run_put b free facts.0 facts.1 facts.2 x (record { ch = c; at = at }) (placed (at + len_utf8 c) cs) (some_clean at (c ∷ cs) plain) answer
-    (subst (λ (to : Place). Gives answer x (put_each (placed at (c ∷ cs)) to b.state.site)) (place-here b.state.site facts.0) g)
+    let facts = off-of b.state.site.foster b.state.control.drop_lf (puts_in b.state.control.mode) puts in
+    let all = some_clean at (c ∷ cs) plain in
+    begun_put b free facts.0 facts.1 facts.2 (record { ch = c; at = at }) all.0 (placed (at + len_utf8 c) cs) answer x all g
 
 -- and so is one of characters that replace bad parts
 pub some_replaced : (count at : ℕ) → AreSome (replaced at count)
@@ -76,12 +74,12 @@ some_replaced zero at = tt
 some_replaced (suc n) at = (refl, some_replaced n (at + 1))
 
 pub bad_taken : (b : Building) → b.refused ≡ None → puts_each b.state ≡ true → (at count : ℕ) → 0 < count → (answer : Result (Unit {0}) Refusal) (x : SiteOf ℕ)
-    → Gives answer x (put_each (replaced at count) (place numbers b.state.site) b.state.site) → Hands TakesToken b (run_tokens (replaced at count)) answer (after_put b x answer)
+    → Gives answer x (put_all at (replaced at count) b.state) → Hands TakesToken b (run_tokens (replaced at count)) answer (after_put b x answer)
 bad_taken b free puts at zero some answer x g = absurd (omega (arith, some))
 bad_taken b free puts at (suc n) some answer x g =
-    let facts = off-of b.state.site.foster b.state.control.drop_lf (puts_in b.state.control.mode b.state.site) puts in
-    run_put b free facts.0 facts.1 facts.2 x (record { ch = 0xFFFD; at = at }) (replaced (at + 1) n) (some_replaced (suc n) at) answer
-    (subst (λ (to : Place). Gives answer x (put_each (replaced at (suc n)) to b.state.site)) (place-here b.state.site facts.0) g)
+    let facts = off-of b.state.site.foster b.state.control.drop_lf (puts_in b.state.control.mode) puts in
+    let all = some_replaced (suc n) at in
+    begun_put b free facts.0 facts.1 facts.2 (record { ch = 0xFFFD; at = at }) all.0 (replaced (at + 1) n) answer x all g
 
 -- as their text is put
 pub bad_bytes : 0xEF ∷ 0xBF ∷ 0xBD ∷ [] ≡ encode_utf8 0xFFFD
@@ -134,10 +132,9 @@ pub puts-of : (b old : Building) (r : Bool) → old ≡ b → r ≡ puts_each ol
 puts-of b old r is says on = sym (ap (λ (o : Building). puts_each o.state) is) ∙ sym says ∙ on
 
 -- the site that characters are put in is that of the building
-pub gives-of : (b old : Building) (s : State ℕ) (x : SiteOf ℕ) (answer : Result (Unit {0}) Refusal) (f : SiteOf ℕ → Outcome (SiteOf ℕ)) → old ≡ b → s ≡ begun old.state → Gives answer x (f s.site)
-    → Gives answer x (f b.state.site)
-gives-of b old s x answer f is begins g =
-    subst (λ (y : SiteOf ℕ). Gives answer x (f y)) (ap (λ (t : State ℕ). t.site) (begins ∙ ap (λ (o : Building). begun o.state) is)) g
+pub gives-of : (b old : Building) (s : State ℕ) (x : SiteOf ℕ) (answer : Result (Unit {0}) Refusal) (f : State ℕ → Outcome (SiteOf ℕ)) → old ≡ b → s ≡ begun old.state → Gives answer x (f s)
+    → Gives answer x (f (begun b.state))
+gives-of b old s x answer f is begins g = subst (λ (t : State ℕ). Gives answer x (f t)) (begins ∙ ap (λ (o : Building). begun o.state) is) g
 
 -- what an unrefused building is after tokens, or after one
 pub stands_by_run : (ts : List Given) (old new : Building) (answer : Result (Unit {0}) Refusal) → (old.refused ≡ None → Stands old.root old.state) → old.refused ≡ None → result_err answer ≡ None → Hands TakesToken old ts answer new

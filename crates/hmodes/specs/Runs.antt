@@ -1,43 +1,49 @@
 -- Where the characters of a run go one and the same way.
-use Rattle.std.specs.Prelude.{ℕ, Bool, true, false, not, ◌&&◌, ◌==◌, length}
-use Rattle.hopen.specs.Nearest.{before}
-use Rattle.hadopt.specs.Reconstructs.{stops_going_back}
-use Rattle.hadopt.specs.Site.{SiteOf}
+use Rattle.std.specs.Prelude.{ℕ, Bool, true, false, not, ◌&&◌, List}
+use Rattle.names.specs.declared.placed.Placed.{Placed}
+use Rattle.hadopt.specs.Inserts.{put_each}
+use Rattle.hadopt.specs.Naming.{numbers}
+use Rattle.hadopt.specs.Places.{place}
+use Rattle.hadopt.specs.Reconstructs.{reconstructed}
+use Rattle.hadopt.specs.Site.{Outcome, Goes, SiteOf, and_then}
 use Rattle.hmodes.specs.Body.{character_in_body}
 use Rattle.hmodes.specs.State.{State}
-use Rattle.hmodes.specs.Words.{Do, put}
+use Rattle.hmodes.specs.Words.{Do, put, pend}
 use Rattle.hmodes.specs.declared.mode.Mode.{Mode}
-use Rattle.hmodes.specs.declared.mode.Mode.TheVariants.{InBody, Text, InCaption, InCell}
+use Rattle.hmodes.specs.declared.mode.Mode.TheVariants.{InBody, Text, InTableText, InCaption, InCell}
 
--- there is nothing to reconstruct
-abbrev pub is_reconstructed : SiteOf ℕ → Bool
-is_reconstructed x = length (before (stops_going_back x) x.items) == 0
-
--- whether a character is put as it is by the rules of a mode
-abbrev pub puts_in : Mode → SiteOf ℕ → Bool
-puts_in Text x = true
-puts_in InBody x = is_reconstructed x
-puts_in InCaption x = is_reconstructed x
-puts_in InCell x = is_reconstructed x
-puts_in _ x = false
+-- whether the rules of a mode put a character, maybe after the formatting elements
+abbrev pub puts_in : Mode → Bool
+puts_in Text = true
+puts_in InBody = true
+puts_in InCaption = true
+puts_in InCell = true
+puts_in _ = false
 
 -- the same, and it goes to the current node, where no LF is dropped before it
 abbrev pub puts_each : State ℕ → Bool
-puts_each s = not s.site.foster && not s.control.drop_lf && puts_in s.control.mode s.site
+puts_each s = not s.site.foster && not s.control.drop_lf && puts_in s.control.mode
 
--- whether a mode puts a character, maybe after the formatting elements
+-- what comes before the first of them: the text of an element is put as it is
+abbrev pub before_text : ℕ → Mode → SiteOf ℕ → Outcome (SiteOf ℕ)
+before_text at Text x = Goes x
+before_text at _ x = reconstructed numbers at x
+
+-- characters of such a mode, the first of which is at this place
+abbrev pub put_all : ℕ → List Placed → State ℕ → Outcome (SiteOf ℕ)
+put_all at cs s = and_then (before_text at s.control.mode s.site) (λ x. put_each cs (place numbers x) x)
+
+-- whether a mode puts a character, or keeps it as pending
 abbrev pub is_for_text : Mode → Bool
-is_for_text Text = true
-is_for_text InBody = true
-is_for_text InCaption = true
-is_for_text InCell = true
-is_for_text _ = false
+is_for_text InTableText = true
+is_for_text m = puts_in m
 
 -- how it does that
 abbrev pub char_rule : Mode → Do
 char_rule Text = put
+char_rule InTableText = pend
 char_rule _ = character_in_body
 
--- whether a character is put so, where no LF is dropped before it
+-- whether a character goes so, where no LF is dropped before it
 abbrev pub takes_char : State ℕ → Bool
 takes_char s = not s.control.drop_lf && is_for_text s.control.mode

@@ -4,61 +4,71 @@ ghost use Rattle.std.specs.Prelude.{◌≡◌, ◌<◌};
 ghost use Rattle.std.specs.Str.{chars};
 ghost use Rattle.names.specs.Placed.{placed};
 ghost use Rattle.hadopt.specs.Gives.{Gives};
-ghost use Rattle.hadopt.specs.Inserts.{put_each};
 ghost use Rattle.hadopt.specs.Naming.{numbers};
-ghost use Rattle.hadopt.specs.Places.{place};
 ghost use Rattle.hmodes.specs.Flows.{StateGives};
 ghost use Rattle.hmodes.specs.Perform.{perform, with_site};
 ghost use Rattle.hmodes.specs.State.{character};
 ghost use Rattle.hmodes.specs.States.{state_of};
 ghost use Rattle.htoken.specs.Run.{replaced};
-ghost use Rattle.hmodes.specs.Runs.{puts_each, takes_char, char_rule};
+ghost use Rattle.hmodes.specs.Runs.{puts_each, before_text, put_all, takes_char, char_rule};
 
 use crate::mode::Mode;
 use crate::tree_construction::TreeConstruction;
 use names::Refusal;
 
 impl<'q> TreeConstruction<'q> {
-    /// Whether a character other than NUL is put at the appropriate place as it is, and so is each of a run: nothing is dropped,
-    /// reconstructed or foster parented.
+    /// Whether a character other than NUL is put at the current node, maybe after the formatting elements, and so is each of a run:
+    /// nothing is dropped or foster parented.
     #[inline(always)]
     pub(crate) fn puts_each(&self) -> bool
         ensures { result ≡ puts_each (state_of self.now) }
     {
         let control = &self.control;
-        if self.site.fosters() || control.drop_lf {
-            return false;
-        }
-        match control.mode {
-            Mode::Text => true,
-            Mode::InBody | Mode::InCaption | Mode::InCell => self.site.is_reconstructed(),
-            _ => false,
+        !self.site.fosters()
+            && !control.drop_lf
+            && matches!(
+                control.mode,
+                Mode::Text | Mode::InBody | Mode::InCaption | Mode::InCell
+            )
+    }
+
+    /// Reconstructs the formatting elements before text, but not before the text of an element of text alone.
+    #[inline(always)]
+    fn begin_text(&mut self, at: u64) -> Result<(), Refusal>
+        ensures gives { Gives result self.new.site (before_text at self.old.control.mode self.old.site) }
+        ensures rest { state_of self.new ≡ with_site self.new.site (state_of self.old) }
+    {
+        match self.control.mode {
+            Mode::Text => Ok(()),
+            _ => self.site.reconstruct(at),
         }
     }
 
-    /// Puts the characters of a run at the appropriate place.
+    /// Puts the characters of a run at the current node, after the formatting elements.
     #[inline(always)]
     pub(crate) fn put_run(&mut self, run: &str, at: u64) -> Result<(), Refusal>
-        ensures gives { Gives result self.new.site (put_each (placed at (chars run.now)) (place numbers self.old.site) self.old.site) }
+        ensures gives { Gives result self.new.site (put_all at (placed at (chars run.now)) (state_of self.old)) }
         ensures rest { state_of self.new ≡ with_site self.new.site (state_of self.old) }
     {
+        self.begin_text(at)?;
         let place = self.site.place();
         self.site.put_text(run, place, at)
     }
 
-    /// Puts the characters that replace this many bad parts at the appropriate place.
+    /// Puts the characters that replace this many bad parts at the current node, after the formatting elements.
     pub(crate) fn put_bad(&mut self, count: usize, at: u64) -> Result<(), Refusal>
         requires { 0 < count }
-        ensures gives { Gives result self.new.site (put_each (replaced at count) (place numbers self.old.site) self.old.site) }
+        ensures gives { Gives result self.new.site (put_all at (replaced at count) (state_of self.old)) }
         ensures rest { state_of self.new ≡ with_site self.new.site (state_of self.old) }
     {
+        self.begin_text(at)?;
         self.site.tree().are_nodes();
         let run = "\u{FFFD}".repeat(self.alloc, count)?;
         let place = self.site.place();
         self.site.put_text(&run, place, at)
     }
 
-    /// Whether the rules put a character other than NUL, maybe after the formatting elements, and drop no LF.
+    /// Whether the rules put a character other than NUL, maybe after the formatting elements, or keep it as pending, and drop no LF.
     #[inline(always)]
     pub(crate) fn takes_char(&self) -> bool
         ensures { result ≡ takes_char (state_of self.now) }
@@ -67,11 +77,11 @@ impl<'q> TreeConstruction<'q> {
         !control.drop_lf
             && matches!(
                 control.mode,
-                Mode::Text | Mode::InBody | Mode::InCaption | Mode::InCell
+                Mode::Text | Mode::InBody | Mode::InTableText | Mode::InCaption | Mode::InCell
             )
     }
 
-    /// Puts a character by the rules of such a mode.
+    /// Puts a character by the rules of such a mode, or keeps it.
     #[inline(always)]
     pub(crate) fn put_one(&mut self, ch: char, at: u64) -> Result<(), Refusal>
         ensures { StateGives result (state_of self.new)
@@ -79,6 +89,7 @@ impl<'q> TreeConstruction<'q> {
     {
         match self.control.mode {
             Mode::Text => self.put_char(ch, at),
+            Mode::InTableText => self.pend_char(ch, at),
             _ => self.put_in_body(ch, at),
         }
     }

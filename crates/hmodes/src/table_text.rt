@@ -17,7 +17,7 @@ ghost use Rattle.hmodes.specs.Words.{Char, ◌▸◌, choose, each_pending, agai
 use crate::mode::Mode;
 use crate::token::token_char;
 use crate::token_kind::TokenKind;
-use crate::tree_construction::{Flow, TreeConstruction};
+use crate::tree_construction::{Flow, TreeConstruction, done};
 use htoken::Token;
 use names::{Placed, Refusal};
 use std::mem;
@@ -50,9 +50,16 @@ impl<'q> TreeConstruction<'q> {
     pub(crate) fn pend(&mut self, token: &Token, at: u64) -> Result<Flow, Refusal>
         ensures { FlowGives result (token_of token.now) (state_of self.new) (perform numbers at (token_of token.now) (pend) (state_of self.old)) }
     {
-        let ch = token_char(token);
+        done(self.pend_char(token_char(token), at))
+    }
+
+    /// A character is pending.
+    #[inline(always)]
+    pub(crate) fn pend_char(&mut self, ch: char, at: u64) -> Result<(), Refusal>
+        ensures { StateGives result (state_of self.new) (perform numbers at (character ch) pend (state_of self.old)) }
+    {
         self.control.pending.push(Placed { ch, at })?;
-        Ok(Flow::Done)
+        Ok(())
     }
 
     /// The pending characters are put: where all are white space as they are, else as anything else in a table.

@@ -3,10 +3,8 @@ use Rattle.std.specs.Str.{chars}
 use Rattle.names.specs.Placed.{placed}
 use Rattle.names.specs.Sink.{Hands}
 use Rattle.htoken.specs.Run.{run_tokens}
-use Rattle.hadopt.specs.Inserts.{put_each}
-use Rattle.hadopt.specs.Naming.{numbers}
-use Rattle.hadopt.specs.Places.{place}
 use Rattle.hadopt.specs.Site.{SiteOf}
+use Rattle.hmodes.specs.Runs.{put_all}
 use Rattle.hmodes.specs.States.{state_of}
 use Rattle.hmodes.specs.Building.{Building, Stands, TakesToken}
 use Rattle.htext.proofs.Wide.{has_characters}
@@ -22,7 +20,7 @@ returns c =
     subst (λ (o : Building). Hands TakesToken b (run_tokens (placed c.args.at (chars c.args.run.now))) answer o)
     (sym (left_is b _ (state_of c.begin.new.self) (state_of c.put_run-answer.new.self) x c.err-self-inside.result answer c.self.view_is c.begin.ensures c.put_run-answer.ensures.rest c.err-self-inside.ensures.value))
     (run_taken b parts.1 parts.2 c.args.at (chars c.args.run.now) (has_characters c.args.run.now c.utf8.run parts.0) c.requires.clean answer x
-    (gives-of b _ (state_of c.begin.new.self) x answer (λ (y : SiteOf ℕ). put_each (placed c.args.at (chars c.args.run.now)) (place numbers y) y) c.self.view_is c.begin.ensures c.put_run-answer.ensures.gives))
+    (gives-of b _ (state_of c.begin.new.self) x answer (put_all c.args.at (placed c.args.at (chars c.args.run.now))) c.self.view_is c.begin.ensures c.put_run-answer.ensures.gives))
 
 pub invariant_of-self : goal.invariant_of-self
 invariant_of-self c = λ none.

@@ -1,13 +1,10 @@
 use Rattle.std.proofs.Common.{◌≡◌, arith, true, None, ap, sym, subst, ◌∙◌}
 use Rattle.names.specs.Sink.{Hands}
 use Rattle.htoken.specs.Run.{run_tokens, replaced}
-use Rattle.hadopt.specs.Inserts.{put_each}
-use Rattle.hadopt.specs.Naming.{numbers}
-use Rattle.hadopt.specs.Places.{place}
 use Rattle.hadopt.specs.Site.{SiteOf}
 use Rattle.hmodes.specs.States.{state_of}
 use Rattle.hmodes.specs.Building.{Building, Stands, TakesToken}
-use Rattle.hmodes.specs.Runs.{puts_each}
+use Rattle.hmodes.specs.Runs.{puts_each, put_all}
 use Rattle.hmodes.proofs.TextRun.{bad_taken, free-of, puts-of, gives-of, left_is, stands_by_run}
 use Rattle.hmodes.proofs.builder.BuilderTokenSink.take_bad.Goals as goal
 
@@ -21,7 +18,7 @@ returns c =
     subst (λ (o : Building). Hands TakesToken b (run_tokens (replaced c.args.at c.args.count)) answer o)
     (sym (left_is b _ (state_of c.begin.new.self) (state_of c.put_bad-answer.new.self) x c.err-self-inside.result answer c.self-2.view_is c.begin.ensures c.put_bad-answer.ensures.rest c.err-self-inside.ensures.value))
     (bad_taken b free puts c.args.at c.args.count (omega (arith, c.if-count-eq0.false)) answer x
-    (gives-of b _ (state_of c.begin.new.self) x answer (λ (y : SiteOf _). put_each (replaced c.args.at c.args.count) (place numbers y) y) c.self-2.view_is c.begin.ensures c.put_bad-answer.ensures.gives))
+    (gives-of b _ (state_of c.begin.new.self) x answer (put_all c.args.at (replaced c.args.at c.args.count)) c.self-2.view_is c.begin.ensures c.put_bad-answer.ensures.gives))
 
 pub invariant_of-self : goal.invariant_of-self
 invariant_of-self c = λ none.

@@ -1,0 +1,143 @@
+-- Characters that are put after the formatting elements were reconstructed: the first of them reconstructs these.
+use Rattle.std.proofs.Common.{◌≡◌, ◌≢◌, inl, inr, ℕ, Bool, true, false, List, ◌∷◌, Option, None, Result, Ok, Err, refl, sym, ◌∙◌, ap, subst}
+use Rattle.std.specs.Prelude.{◌&&◌, ◌==◌, if◌then◌else◌, MatchOption}
+use Rattle.std.proofs.lemmas.Bool.{false≢true}
+use Rattle.names.specs.Placed.{is_space}
+use Rattle.names.specs.Sink.{Hands}
+use Rattle.names.specs.declared.placed.Placed.{Placed}
+use Rattle.names.specs.declared.refusal.Refusal.{Refusal}
+use Rattle.htoken.specs.Run.{run_tokens}
+use Rattle.htoken.specs.declared.token.Token.TheVariants as code
+use Rattle.hnodes.specs.declared.node.Place.{Place}
+use Rattle.hadopt.specs.Gives.{Gives}
+use Rattle.hadopt.specs.Inserts.{put_each}
+use Rattle.hadopt.specs.Naming.{numbers}
+use Rattle.hadopt.specs.Places.{place}
+use Rattle.hadopt.specs.Reconstructs.{reconstructed}
+use Rattle.hadopt.specs.Site.{Outcome, Goes, SiteOf, and_then}
+use Rattle.hadopt.specs.Site as site
+use Rattle.hadopt.proofs.Climbing.{OnGoes}
+use Rattle.hmodes.specs.Perform.{perform, flow_of, with_site}
+use Rattle.hmodes.specs.Rules.{rule_of}
+use Rattle.hmodes.specs.State.{State, Token, character, flow_then}
+use Rattle.hmodes.specs.Step.{Rule, Chain, ends, refuses, goes_again, Step, drops, goes, is_dropped, begun}
+use Rattle.hmodes.specs.Words.{put}
+use Rattle.hmodes.specs.Building.{Building, TakesToken, TakesOn, StaysRefused, StepGives, refused_by}
+use Rattle.hmodes.specs.Runs.{before_text, puts_in, put_all}
+use Rattle.hmodes.specs.declared.mode.Mode.{Mode}
+use Rattle.hmodes.specs.declared.mode.Mode.TheVariants as mode
+use Rattle.hmodes.specs.declared.token_kind.TokenKind.TheVariants.{Ws, Char, Nul}
+use Rattle.hmodes.proofs.InRun.{AreSome, run_put, taken}
+use Rattle.hmodes.proofs.OnePut.{rule_puts, puts_now, place-here}
+use Rattle.hmodes.proofs.Renewed.{text-begins}
+
+-- a mode whose text is not that of an element reconstructs the formatting elements
+pub before-other : (at : ℕ) (m : Mode) (x : SiteOf ℕ) → m ≢ mode.Text → before_text at m x ≡ reconstructed numbers at x
+before-other at mode.Text x other = absurd (other refl)
+before-other at _ x other = refl
+
+-- what comes of characters whose formatting elements were reconstructed, or not
+pub begun-gives : (at : ℕ) (cs : List Placed) (s : State ℕ) (y : SiteOf ℕ) (answer : Result (Unit {0}) Refusal) (x : SiteOf ℕ) → before_text at s.control.mode s.site ≡ Goes y
+    → Gives answer x (put_each cs (place numbers y) y) → Gives answer x (put_all at cs s)
+begun-gives at cs s y answer x is g = subst (λ (o : Outcome (SiteOf ℕ)). Gives answer x (and_then o (λ z. put_each cs (place numbers z) z))) (sym is) g
+
+-- a token whose rule gives the same in two states
+chain-same : (at : ℕ) (t : Token ℕ) (s s' : State ℕ) (o : Outcome (State ℕ)) → Rule numbers at t s' ≡ Rule numbers at t s → Chain numbers at t s o → Chain numbers at t s' o
+chain-same at t s s' o same (ends rule) = ends (same ∙ rule)
+chain-same at t s s' o same (refuses rule) = refuses (same ∙ rule)
+chain-same at t s s' o same (goes_again rule rest) = goes_again (same ∙ rule) rest
+
+step-same : (at : ℕ) (t : Token ℕ) (s s' : State ℕ) (o : Outcome (State ℕ)) → is_dropped t s ≡ false → is_dropped t s' ≡ false → Rule numbers at t (begun s') ≡ Rule numbers at t (begun s)
+    → Step numbers at t s o → Step numbers at t s' o
+step-same at t s s' o kept kept' same (drops is) = absurd (false≢true (sym kept ∙ is))
+step-same at t s s' o kept kept' same (goes isnt rest) = goes kept' (chain-same at t (begun s) (begun s') o same rest)
+
+gives-same : (at : ℕ) (t : Token ℕ) (s s' new : State ℕ) (answer : Result (Unit {0}) Refusal) → ((o : Outcome (State ℕ)) → Step numbers at t s o → Step numbers at t s' o)
+    → StepGives at t s answer new → StepGives at t s' answer new
+gives-same at t s s' new (Ok u) steps h = steps (Goes new) h
+gives-same at t s s' new (Err e) steps (inl m) = inl m
+gives-same at t s s' new (Err e) steps (inr h) = inr (steps (site.Refused e) h)
+
+-- what the rule of a character is made of
+module _ (at c : ℕ) (s : State ℕ) where
+  starts : (m : Mode) (space : Bool) → puts_in m ≡ true
+      → perform numbers at (character c) (rule_of m (if space then Ws else Char)) s ≡ flow_then (flow_of s (before_text at m s.site)) (perform numbers at (character c) put)
+  starts mode.Text true h = refl
+  starts mode.Text false h = refl
+  starts mode.InBody true h = refl
+  starts mode.InBody false h = refl
+  starts mode.InCaption true h = refl
+  starts mode.InCaption false h = refl
+  starts mode.InCell true h = refl
+  starts mode.InCell false h = refl
+  starts _ space h = absurd (false≢true h)
+
+  rule-starts : (c == 0) ≡ false → puts_in s.control.mode ≡ true
+      → Rule numbers at (character c) s ≡ flow_then (flow_of s (before_text at s.control.mode s.site)) (perform numbers at (character c) put)
+  rule-starts some h =
+      ap (λ (b : Bool). perform numbers at (character c) (rule_of s.control.mode (if b then Nul else if is_space c then Ws else Char)) s) some ∙ starts s.control.mode (is_space c) h
+
+module _ (b : Building) (free : b.refused ≡ None) (off : b.state.site.foster ≡ false) (keeps_lf : b.state.control.drop_lf ≡ false) (puts : puts_in b.state.control.mode ≡ true) (p : Placed) (some : (p.ch == 0) ≡ false) where
+  abbrev begin : State ℕ
+  begin = begun b.state
+
+  abbrev after : SiteOf ℕ → Result (Unit {0}) Refusal → Building
+  after x answer = record { state = with_site x begin; root = b.root; told = b.told; refused = refused_by answer }
+
+  taking : (answer : Result (Unit {0}) Refusal) (new : Building) → TakesOn p.at (character p.ch) b answer new → TakesToken b (code.Char p.ch p.at) answer new
+  taking answer new t = subst (λ (r : Option Refusal). MatchOption r (TakesOn p.at (character p.ch) b answer new) (λ q. StaysRefused q b answer new)) (sym free) t
+
+  kept : is_dropped (character p.ch) b.state ≡ false
+  kept = ap (λ (d : Bool). d && (p.ch == 10)) keeps_lf
+
+  abbrev before : Outcome (SiteOf ℕ)
+  before = before_text p.at b.state.control.mode b.state.site
+
+  rule-is : (o : Outcome (SiteOf ℕ)) → before ≡ o → Rule numbers p.at (character p.ch) begin ≡ flow_then (flow_of begin o) (perform numbers p.at (character p.ch) put)
+  rule-is o is = rule-starts p.at p.ch begin some puts ∙ ap (λ (q : Outcome (SiteOf ℕ)). flow_then (flow_of begin q) (perform numbers p.at (character p.ch) put)) is
+
+  -- one that is refused
+  wrong : (e : Refusal) (x : SiteOf ℕ) (ps : List Placed) → StepGives p.at (character p.ch) b.state (Err e) (with_site x begin) → Hands TakesToken b (run_tokens (p ∷ ps)) (Err e) (after x (Err e))
+  wrong e x ps step = (Err e, after x (Err e), taking (Err e) (after x (Err e)) (record { step = step; told = refl; root = refl; refused = refl }), (refl, refl))
+
+  -- the building with the formatting elements
+  abbrev now : SiteOf ℕ → Building
+  now y = record b { state = with_site y begin }
+
+  module _ (y : SiteOf ℕ) (is : before ≡ Goes y) where
+    begins : (y.foster ≡ b.state.site.foster) × (puts_now b.state.control.mode y ≡ true)
+    begins = subst (OnGoes (λ t. (t.foster ≡ b.state.site.foster) × (puts_now b.state.control.mode t ≡ true))) is (text-begins p.at b.state.control.mode b.state.site puts)
+
+    same : Rule numbers p.at (character p.ch) begin ≡ Rule numbers p.at (character p.ch) (begun (now y).state)
+    same = rule-is (Goes y) is ∙ sym (rule_puts p.at p.ch (with_site y begin) some begins.1)
+
+    from-now : (answer : Result (Unit {0}) Refusal) (mid : Building) → TakesToken (now y) (code.Char p.ch p.at) answer mid → TakesToken b (code.Char p.ch p.at) answer mid
+    from-now answer mid given =
+        let on = taken p.at (character p.ch) (now y) mid answer free given in
+        taking answer mid (record {
+          step = gives-same p.at (character p.ch) (now y).state b.state mid.state answer (λ o. step-same p.at (character p.ch) (now y).state b.state o refl kept same) on.step;
+          told = on.told;
+          root = on.root;
+          refused = on.refused;
+        })
+
+    whole : (ps : List Placed) (answer : Result (Unit {0}) Refusal) (x : SiteOf ℕ) → AreSome (p ∷ ps) → Gives answer x (put_each (p ∷ ps) (place numbers y) y) → Hands TakesToken b (run_tokens (p ∷ ps)) answer (after x answer)
+    whole ps answer x all g =
+        let off-now : y.foster ≡ false = begins.0 ∙ off in
+        let h = run_put (now y) free off-now refl begins.1 x p ps all answer (subst (λ (to : Place). Gives answer x (put_each (p ∷ ps) to y)) (place-here y off-now) g) in
+        (h.0, h.1, from-now h.0 h.1 h.2, h.3)
+
+  -- all of them
+  pub begun_put : (ps : List Placed) (answer : Result (Unit {0}) Refusal) (x : SiteOf ℕ) → AreSome (p ∷ ps) → Gives answer x (put_all p.at (p ∷ ps) b.state) → Hands TakesToken b (run_tokens (p ∷ ps)) answer (after x answer)
+  begun_put ps answer x all g = go before refl answer g
+    where
+      rest : SiteOf ℕ → Outcome (SiteOf ℕ)
+      rest y = put_each (p ∷ ps) (place numbers y) y
+
+      go : (o : Outcome (SiteOf ℕ)) → before ≡ o → (answer : Result (Unit {0}) Refusal) → Gives answer x (and_then before rest) → Hands TakesToken b (run_tokens (p ∷ ps)) answer (after x answer)
+      go (Goes y) is answer g = whole y is ps answer x all (subst (λ (o : Outcome (SiteOf ℕ)). Gives answer x (and_then o rest)) is g)
+      go (site.Refused r) is (Ok u) g = absurd cc
+      go (site.Refused r) is (Err e) (inl m) = wrong e x ps (inl m)
+      go (site.Refused r) is (Err e) (inr h) =
+          let same : site.Refused r ≡ site.Refused e = sym (ap (λ (o : Outcome (SiteOf ℕ)). and_then o rest) is) ∙ h in
+          wrong e x ps (inr (goes kept (refuses (rule-is (site.Refused e) (is ∙ same)))))

@@ -1,0 +1,117 @@
+-- Where the formatting elements are reconstructed, none is left to be.
+use Rattle.std.proofs.Common.{◌≡◌, ℕ, zero, suc, Bool, true, false, cond, leb, List, [], ◌∷◌, Option, Some, None, length, refl, ap, ◌∙◌}
+use Rattle.std.specs.Prelude.{◌==◌, ◌||◌, if◌then◌else◌}
+use Rattle.std.specs.Option.{option_map_or}
+use Rattle.std.proofs.lemmas.Bool.{eq-eqb}
+use Rattle.hnodes.specs.Edits.{make}
+use Rattle.hnodes.specs.Forest.{Attribute, element}
+use Rattle.hnodes.specs.declared.node.Place.{Place}
+use Rattle.hopen.specs.Nearest.{before, changed_at}
+use Rattle.hopen.specs.Stack.{is_open}
+use Rattle.hformat.specs.Formatting.{EntryOf, Listed, marker, entry, entry_at, for_node}
+use Rattle.names.specs.declared.refusal.Refusal.TheVariants.{TooManyNodes, TooDeep}
+use Rattle.hadopt.specs.Inserts.{made, added, pushed, inserted}
+use Rattle.hadopt.specs.Naming.{numbers}
+use Rattle.hadopt.specs.Places.{place}
+use Rattle.hadopt.specs.Reconstructs.{stops_going_back, renewed, renewed_each, reconstructed}
+use Rattle.hadopt.specs.Site.{Outcome, Goes, SiteOf, and_then, stack, trees, with_stack, with_items}
+use Rattle.hadopt.specs.Site as site
+use Rattle.hadopt.proofs.Climbing.{OnGoes, goes-then}
+use Rattle.hmodes.specs.Runs.{before_text, puts_in}
+use Rattle.hmodes.specs.declared.mode.Mode.{Mode}
+use Rattle.hmodes.specs.declared.mode.Mode.TheVariants as mode
+use Rattle.hmodes.proofs.OnePut.{is_reconstructed, puts_now}
+
+-- a new element leaves foster parenting as it is, and is open then
+module _ (s : SiteOf ℕ) where
+  abbrev Same : SiteOf ℕ → Type 0
+  Same t = t.foster ≡ s.foster
+
+  abbrev Opened : SiteOf ℕ → Type 0
+  Opened t = Same t × (is_open s.nodes.made (stack t) ≡ true)
+
+module _ (at : ℕ) (name : ℕ) (attrs : List (Attribute ℕ)) (p : Place) (s : SiteOf ℕ) where
+  made-same : OnGoes (Same s) (made at (element name attrs) s)
+  made-same = go (leb s.nodes.limit s.nodes.made)
+    where
+      go : (v : Bool) → OnGoes (Same s) (cond v (site.Refused (TooManyNodes at)) (Goes (record s { nodes = make (element name attrs) s.nodes })))
+      go true = tt
+      go false = refl
+
+  added-same : OnGoes (Same s) (added at (element name attrs) p s)
+  added-same = goes-then (Same s) (Same s) (made at (element name attrs) s) _ made-same (λ t g. g)
+
+  pushed-opened : (t : SiteOf ℕ) → Same s t → OnGoes (Opened s) (pushed at (record { node = s.nodes.made; name = name }) t)
+  pushed-opened t g = go (leb t.open_nodes.limit (length (stack t)))
+    where
+      go : (v : Bool) → OnGoes (Opened s) (cond v (site.Refused (TooDeep at)) (Goes (with_stack (record { node = s.nodes.made; name = name } ∷ stack t) t)))
+      go true = tt
+      go false = (g, ap (λ (b : Bool). b || is_open s.nodes.made (stack t)) (eq-eqb s.nodes.made s.nodes.made refl))
+
+  inserted-opened : OnGoes (Opened s) (inserted at name attrs p s)
+  inserted-opened = goes-then (Same s) (Opened s) (added at (element name attrs) p s) _ added-same pushed-opened
+
+-- a list whose last item is a marker, or an entry whose node is open, has nothing to be renewed
+abbrev stops_first : SiteOf ℕ → List (Listed ℕ) → Type 0
+stops_first s items = (length (before (stops_going_back s) items) == 0) ≡ true
+
+first-renewed : (t : SiteOf ℕ) (new : ℕ) (items : List (Listed ℕ)) → is_open new (stack t) ≡ true → stops_first t (changed_at 0 (for_node new) items)
+first-renewed t new [] there = refl
+first-renewed t new (marker ∷ items) there = refl
+first-renewed t new (entry e ∷ items) there =
+    ap (λ (b : Bool). length (if b then [] else entry (record e { node = new }) ∷ before (stops_going_back t) items) == 0) there
+
+no-entry : (s : SiteOf ℕ) (items : List (Listed ℕ)) → entry_at 0 items ≡ None → stops_first s items
+no-entry s [] none = refl
+no-entry s (marker ∷ items) none = refl
+no-entry s (entry e ∷ items) none = absurd cc
+
+module _ (at : ℕ) where
+  abbrev Done : SiteOf ℕ → SiteOf ℕ → Type 0
+  Done s t = (t.foster ≡ s.foster) × (is_reconstructed t ≡ true)
+
+  renewed-same : (back : ℕ) (e : EntryOf ℕ) (s : SiteOf ℕ) → OnGoes (Same s) (renewed numbers at back e s)
+  renewed-same back e s = goes-then (Opened s) (Same s) (inserted at e.name e.attrs (place numbers s) s) _ (inserted-opened at e.name e.attrs (place numbers s) s) (λ t g. g.0)
+
+  renewed-done : (e : EntryOf ℕ) (s : SiteOf ℕ) → OnGoes (Done s) (renewed numbers at 0 e s)
+  renewed-done e s =
+      goes-then (Opened s) (Done s) (inserted at e.name e.attrs (place numbers s) s) _ (inserted-opened at e.name e.attrs (place numbers s) s)
+      (λ t g. (g.0, first-renewed t s.nodes.made t.items g.1))
+
+  one-same : (back : ℕ) (s : SiteOf ℕ) (o : Option (EntryOf ℕ)) → OnGoes (Same s) (option_map_or (λ e. renewed numbers at back e s) o (Goes s))
+  one-same back s None = refl
+  one-same back s (Some e) = renewed-same back e s
+
+  one-done : (s : SiteOf ℕ) (o : Option (EntryOf ℕ)) → entry_at 0 s.items ≡ o → OnGoes (Done s) (option_map_or (λ e. renewed numbers at 0 e s) o (Goes s))
+  one-done s None none = (refl, no-entry s s.items none)
+  one-done s (Some e) is = renewed-done e s
+
+  each-done : (back : ℕ) (s : SiteOf ℕ) → OnGoes (Done s) (renewed_each numbers at (suc back) s)
+  each-done zero s =
+      goes-then (Done s) (Done s) (option_map_or (λ e. renewed numbers at 0 e s) (entry_at 0 s.items) (Goes s)) (renewed_each numbers at 0) (one-done s (entry_at 0 s.items) refl) (λ t g. g)
+  each-done (suc back) s =
+      goes-then (Same s) (Done s) (option_map_or (λ e. renewed numbers at (suc back) e s) (entry_at (suc back) s.items) (Goes s)) (renewed_each numbers at (suc back))
+      (one-same (suc back) s (entry_at (suc back) s.items))
+      (λ t g. goes-on t g (renewed_each numbers at (suc back) t) (each-done back t))
+    where
+      goes-on : (t : SiteOf ℕ) → Same s t → (o : Outcome (SiteOf ℕ)) → OnGoes (Done t) o → OnGoes (Done s) o
+      goes-on t g (Goes u) d = (d.0 ∙ g, d.1)
+      goes-on t g (site.Refused r) d = tt
+
+  reconstructed-done : (s : SiteOf ℕ) → OnGoes (Done s) (reconstructed numbers at s)
+  reconstructed-done s = go (length (before (stops_going_back s) s.items)) refl
+    where
+      go : (k : ℕ) → length (before (stops_going_back s) s.items) ≡ k → OnGoes (Done s) (renewed_each numbers at k s)
+      go zero is = (refl, ap (λ (n : ℕ). n == 0) is)
+      go (suc back) is = each-done back s
+
+  abbrev Begins : Mode → SiteOf ℕ → SiteOf ℕ → Type 0
+  Begins m s t = (t.foster ≡ s.foster) × (puts_now m t ≡ true)
+
+  -- so a character is put as it is
+  pub text-begins : (m : Mode) (s : SiteOf ℕ) → puts_in m ≡ true → OnGoes (Begins m s) (before_text at m s)
+  text-begins mode.Text s h = (refl, refl)
+  text-begins mode.InBody s h = reconstructed-done s
+  text-begins mode.InCaption s h = reconstructed-done s
+  text-begins mode.InCell s h = reconstructed-done s
+  text-begins _ s h = absurd cc

@@ -1,0 +1,12 @@
+use Rattle.std.proofs.Common.{◌∙◌, ℕ, rules, ap, sym, subst}
+use Rattle.hadopt.specs.Gives.{Gives}
+use Rattle.hadopt.specs.Site.{Outcome, SiteOf}
+use Rattle.hmodes.specs.Runs.{before_text}
+use Rattle.hmodes.proofs.Begins.{before-other}
+use Rattle.hmodes.proofs.tree_construction.TreeConstruction.begin_text.Goals as goal
+
+pub returns-in_default : goal.returns-in_default
+returns-in_default c = record {
+  gives = subst (λ (o : Outcome (SiteOf ℕ)). Gives c.reconstruct.result c.reconstruct.new.self o) (sym (ap (λ s. before_text c.args.at s.control.mode s.site) (sym c.self.view_is) ∙ before-other c.args.at _ _ c.in_default.not-Text)) c.reconstruct.ensures.done;
+  rest = search rules;
+}
