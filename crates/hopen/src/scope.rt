@@ -33,6 +33,7 @@ impl Scope {
 }
 
 /// Whether a name stops the search for an open li, dd or dt (13.2.6.4.7): a special name other than address, div and p.
+#[inline(always)]
 pub(crate) fn stops_item(tag: Tag) -> bool
     ensures { result ≡ stops_item tag }
 {
@@ -43,6 +44,7 @@ pub(crate) fn stops_item(tag: Tag) -> bool
 }
 
 /// Whether an element of a name determines the insertion mode when it is reset.
+#[inline(always)]
 fn tells_mode(tag: Tag) -> bool
     ensures { result ≡ tells_mode tag }
 {

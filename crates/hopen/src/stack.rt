@@ -392,6 +392,7 @@ impl OpenStack {
     }
 
     /// Pops nodes up to and including the nearest that is sought; all of them if there is none.
+    #[inline(always)]
     fn close_to(&mut self, sought: Sought)
         ensures { self.new ≡ record self.old { stack = after (is_sought sought) self.old.stack } }
     {
