@@ -115,6 +115,7 @@ fn rewind(last: &mut [u32], links: &mut [Link], from: usize)
 }
 
 /// Makes a larger table where there are as many numbers as groups.
+#[inline(always)]
 fn make_room(alloc: Global, last: &mut Vec<u32>, links: &mut [Link]) -> Result<(), AllocError>
     requires chained { IsChained last.old.items links.old }
     requires places { length links.old < 2 ^ 32 }

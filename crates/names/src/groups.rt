@@ -7,6 +7,7 @@ use crate::tag::Tag;
 
 impl Tag {
     /// Whether an element of the name may be open where the body ends (13.2.6.4.7).
+    #[inline(always)]
     pub fn may_stay_open(self) -> bool
         ensures { result ≡ may_stay_open self }
     {
@@ -32,6 +33,7 @@ impl Tag {
     }
 
     /// Whether the name is one of h1 to h6.
+    #[inline(always)]
     pub fn is_heading(self) -> bool
         ensures { result ≡ is_heading self }
     {
@@ -42,6 +44,7 @@ impl Tag {
     }
 
     /// Whether the name is tbody, tfoot or thead.
+    #[inline(always)]
     pub fn is_table_section(self) -> bool
         ensures { result ≡ is_table_section self }
     {

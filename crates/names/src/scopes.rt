@@ -17,6 +17,7 @@ impl Tag {
     }
 
     /// Whether the name ends the search for an element in scope (13.2.4.2).
+    #[inline(always)]
     pub fn stops_scope(self) -> bool
         ensures { result ≡ stops_scope self }
     {
@@ -41,6 +42,7 @@ impl Tag {
     }
 
     /// Whether the name ends the search for an element in list item scope (13.2.4.2).
+    #[inline(always)]
     pub fn stops_list_item_scope(self) -> bool
         ensures { result ≡ stops_list_item_scope self }
     {
@@ -55,6 +57,7 @@ impl Tag {
     }
 
     /// Whether the name ends the search for an element in button scope (13.2.4.2).
+    #[inline(always)]
     pub fn stops_button_scope(self) -> bool
         ensures { result ≡ stops_button_scope self }
     {
@@ -62,6 +65,7 @@ impl Tag {
     }
 
     /// Whether the name ends the search for an element in table scope (13.2.4.2).
+    #[inline(always)]
     pub fn stops_table_scope(self) -> bool
         ensures { result ≡ stops_table_scope self }
     {

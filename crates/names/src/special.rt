@@ -7,6 +7,7 @@ use crate::tag::Tag;
 
 impl Tag {
     /// Whether the name is special (HTML Standard, 13.2.4.2).
+    #[inline(always)]
     pub fn is_special(self) -> bool
         ensures { result ≡ is_special self }
     {
