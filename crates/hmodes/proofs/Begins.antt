@@ -8,11 +8,9 @@ use Rattle.names.specs.declared.placed.Placed.{Placed}
 use Rattle.names.specs.declared.refusal.Refusal.{Refusal}
 use Rattle.htoken.specs.Run.{run_tokens}
 use Rattle.htoken.specs.declared.token.Token.TheVariants as code
-use Rattle.hnodes.specs.declared.node.Place.{Place}
 use Rattle.hadopt.specs.Gives.{Gives}
 use Rattle.hadopt.specs.Inserts.{put_each}
 use Rattle.hadopt.specs.Naming.{numbers}
-use Rattle.hadopt.specs.Places.{place}
 use Rattle.hadopt.specs.Reconstructs.{reconstructed}
 use Rattle.hadopt.specs.Site.{Outcome, Goes, SiteOf, and_then}
 use Rattle.hadopt.specs.Site as site
@@ -28,7 +26,7 @@ use Rattle.hmodes.specs.declared.mode.Mode.{Mode}
 use Rattle.hmodes.specs.declared.mode.Mode.TheVariants as mode
 use Rattle.hmodes.specs.declared.token_kind.TokenKind.TheVariants.{Ws, Char, Nul}
 use Rattle.hmodes.proofs.InRun.{AreSome, run_put, taken}
-use Rattle.hmodes.proofs.OnePut.{rule_puts, puts_now, place-here}
+use Rattle.hmodes.proofs.OnePut.{here, rule_puts, puts_now}
 use Rattle.hmodes.proofs.Renewed.{text-begins}
 
 -- a mode whose text is not that of an element reconstructs the formatting elements
@@ -38,8 +36,8 @@ before-other at _ x other = refl
 
 -- what comes of characters whose formatting elements were reconstructed, or not
 pub begun-gives : (at : ℕ) (cs : List Placed) (s : State ℕ) (y : SiteOf ℕ) (answer : Result (Unit {0}) Refusal) (x : SiteOf ℕ) → before_text at s.control.mode s.site ≡ Goes y
-    → Gives answer x (put_each cs (place numbers y) y) → Gives answer x (put_all at cs s)
-begun-gives at cs s y answer x is g = subst (λ (o : Outcome (SiteOf ℕ)). Gives answer x (and_then o (λ z. put_each cs (place numbers z) z))) (sym is) g
+    → Gives answer x (put_each cs (here y) y) → Gives answer x (put_all at cs s)
+begun-gives at cs s y answer x is g = subst (λ (o : Outcome (SiteOf ℕ)). Gives answer x (and_then o (λ z. put_each cs (here z) z))) (sym is) g
 
 -- a token whose rule gives the same in two states
 chain-same : (at : ℕ) (t : Token ℕ) (s s' : State ℕ) (o : Outcome (State ℕ)) → Rule numbers at t s' ≡ Rule numbers at t s → Chain numbers at t s o → Chain numbers at t s' o
@@ -121,10 +119,10 @@ module _ (b : Building) (free : b.refused ≡ None) (off : b.state.site.foster �
           refused = on.refused;
         })
 
-    whole : (ps : List Placed) (answer : Result (Unit {0}) Refusal) (x : SiteOf ℕ) → AreSome (p ∷ ps) → Gives answer x (put_each (p ∷ ps) (place numbers y) y) → Hands TakesToken b (run_tokens (p ∷ ps)) answer (after x answer)
+    whole : (ps : List Placed) (answer : Result (Unit {0}) Refusal) (x : SiteOf ℕ) → AreSome (p ∷ ps) → Gives answer x (put_each (p ∷ ps) (here y) y) → Hands TakesToken b (run_tokens (p ∷ ps)) answer (after x answer)
     whole ps answer x all g =
         let off-now : y.foster ≡ false = begins.0 ∙ off in
-        let h = run_put (now y) free off-now refl begins.1 x p ps all answer (subst (λ (to : Place). Gives answer x (put_each (p ∷ ps) to y)) (place-here y off-now) g) in
+        let h = run_put (now y) free off-now refl begins.1 x p ps all answer g in
         (h.0, h.1, from-now h.0 h.1 h.2, h.3)
 
   -- all of them
@@ -132,7 +130,7 @@ module _ (b : Building) (free : b.refused ≡ None) (off : b.state.site.foster �
   begun_put ps answer x all g = go before refl answer g
     where
       rest : SiteOf ℕ → Outcome (SiteOf ℕ)
-      rest y = put_each (p ∷ ps) (place numbers y) y
+      rest y = put_each (p ∷ ps) (here y) y
 
       go : (o : Outcome (SiteOf ℕ)) → before ≡ o → (answer : Result (Unit {0}) Refusal) → Gives answer x (and_then before rest) → Hands TakesToken b (run_tokens (p ∷ ps)) answer (after x answer)
       go (Goes y) is answer g = whole y is ps answer x all (subst (λ (o : Outcome (SiteOf ℕ)). Gives answer x (and_then o rest)) is g)

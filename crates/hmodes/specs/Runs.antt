@@ -1,12 +1,13 @@
 -- Where the characters of a run go one and the same way.
 use Rattle.std.specs.Prelude.{ℕ, Bool, true, false, not, ◌&&◌, List}
 use Rattle.names.specs.declared.placed.Placed.{Placed}
+use Rattle.hnodes.specs.declared.node.Place.TheVariants.{LastIn}
 use Rattle.hadopt.specs.Inserts.{put_each}
 use Rattle.hadopt.specs.Naming.{numbers}
-use Rattle.hadopt.specs.Places.{place}
 use Rattle.hadopt.specs.Reconstructs.{reconstructed}
 use Rattle.hadopt.specs.Site.{Outcome, Goes, SiteOf, and_then}
 use Rattle.hmodes.specs.Body.{character_in_body}
+use Rattle.hmodes.specs.Perform.{current_node}
 use Rattle.hmodes.specs.State.{State}
 use Rattle.hmodes.specs.Words.{Do, put, pend}
 use Rattle.hmodes.specs.declared.mode.Mode.{Mode}
@@ -29,9 +30,9 @@ abbrev pub before_text : ℕ → Mode → SiteOf ℕ → Outcome (SiteOf ℕ)
 before_text at Text x = Goes x
 before_text at _ x = reconstructed numbers at x
 
--- characters of such a mode, the first of which is at this place
+-- characters of such a mode at the end of the current node, the first of which is at this place
 abbrev pub put_all : ℕ → List Placed → State ℕ → Outcome (SiteOf ℕ)
-put_all at cs s = and_then (before_text at s.control.mode s.site) (λ x. put_each cs (place numbers x) x)
+put_all at cs s = and_then (before_text at s.control.mode s.site) (λ x. put_each cs (LastIn (current_node x)) x)
 
 -- whether a mode puts a character, or keeps it as pending
 abbrev pub is_for_text : Mode → Bool

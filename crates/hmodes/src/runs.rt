@@ -51,7 +51,7 @@ impl<'q> TreeConstruction<'q> {
         ensures rest { state_of self.new ≡ with_site self.new.site (state_of self.old) }
     {
         self.begin_text(at)?;
-        let place = self.site.place();
+        let place = self.site.place_in_current();
         self.site.put_text(run, place, at)
     }
 
@@ -64,7 +64,7 @@ impl<'q> TreeConstruction<'q> {
         self.begin_text(at)?;
         self.site.tree().are_nodes();
         let run = "\u{FFFD}".repeat(self.alloc, count)?;
-        let place = self.site.place();
+        let place = self.site.place_in_current();
         self.site.put_text(&run, place, at)
     }
 

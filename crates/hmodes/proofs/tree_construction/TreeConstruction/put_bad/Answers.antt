@@ -16,7 +16,7 @@ pub returns-clause-gives : goal.returns-clause-gives
 returns-clause-gives c =
     let site = c.begin_text.new.self.site in
     let is : c.deref.result.now ≡ repeat c.args.count (encode_utf8 0xFFFD) = c.deref.ensures ∙ c.in_ok-run.ensures.bytes ∙ ap (repeat c.args.count) bad_bytes in
-    let same = bad_put c.args.count c.args.at c.deref.result.now c.place-place.result site c.requires is (subst AreNodes c.tree.ensures c.are_nodes.ensures) c.place-place.ensures.within in
+    let same = bad_put c.args.count c.args.at c.deref.result.now c.place_in_current-place.result site c.requires is (subst AreNodes c.tree.ensures c.are_nodes.ensures) c.place_in_current-place.ensures.within in
     begun-gives c.args.at (replaced c.args.at c.args.count) (state_of c.args.self.now) site c.put_text.result c.put_text.new.self c.in_ok-begin_text.ensures.gives
-    (subst (λ (p : Place). Gives c.put_text.result c.put_text.new.self (put_each (replaced c.args.at c.args.count) p site)) c.place-place.ensures.place
+    (subst (λ (p : Place). Gives c.put_text.result c.put_text.new.self (put_each (replaced c.args.at c.args.count) p site)) c.place_in_current-place.ensures.place
     (subst (λ (o : Outcome (SiteOf ℕ)). Gives c.put_text.result c.put_text.new.self o) same c.put_text.ensures.done))

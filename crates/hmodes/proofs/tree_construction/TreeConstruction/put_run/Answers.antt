@@ -12,4 +12,4 @@ pub returns-clause-gives : goal.returns-clause-gives
 returns-clause-gives c =
     let site = c.begin_text.new.self.site in
     begun-gives c.args.at (placed c.args.at (chars c.args.run.now)) (state_of c.args.self.now) site c.put_text.result c.put_text.new.self c.in_ok-begin_text.ensures.gives
-    (subst (λ (p : Place). Gives c.put_text.result c.put_text.new.self (put_each (placed c.args.at (chars c.args.run.now)) p site)) c.place-place.ensures.place c.put_text.ensures.done)
+    (subst (λ (p : Place). Gives c.put_text.result c.put_text.new.self (put_each (placed c.args.at (chars c.args.run.now)) p site)) c.place_in_current-place.ensures.place c.put_text.ensures.done)
