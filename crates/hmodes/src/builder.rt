@@ -2,6 +2,7 @@
 
 ghost use Rattle.std.specs.Prelude.{◌≡◌, ◌+◌, ◌<◌, ◌≤◌, ◌++◌, [], Some, None, true, Err, length, IfErr, IfOk, MatchResult};
 ghost use Rattle.std.specs.List.{list_all};
+ghost use Rattle.std.specs.Result.{result_err};
 ghost use Rattle.std.specs.Str.{chars};
 ghost use Rattle.names.specs.declared.refusal.Refusal.{Refusal as Refused};
 ghost use Rattle.names.specs.declared.refusal.Refusal.TheVariants.{Memory};
@@ -100,7 +101,7 @@ impl<'q> Builder<'q> {
     }
 
     /// The tree, its root, and the parse errors. A builder that has refused gives the same refusal and no tree, since its tree may
-    /// are between two edits of a token. Any other error is `Memory`.
+    /// be between two edits of a token. Any other error is `Memory`.
     pub fn finish(self) -> Result<Built, Refusal>
         ensures tree { IfOk result (λ built. built.tree ≡ self.entry.state.site.nodes) }
         ensures root { IfOk result (λ built. (built.root ≡ self.entry.root) × (built.root < built.tree.made)) }
@@ -173,7 +174,7 @@ impl<'q> Builder<'q> {
     {
         self.state.begin();
         let answer = self.state.put_run(run, at);
-        self.refused = answer.err();
+        keep(&mut self.refused, answer);
         answer
     }
 
@@ -208,6 +209,17 @@ fn joined(
     second.append(&mut first)?;
     second.rotate_right(count);
     Ok(second)
+}
+
+/// Keeps the refusal of an answer. A call that refuses nothing writes nothing.
+#[inline(always)]
+fn keep(refused: &mut Option<Refusal>, answer: Result<(), Refusal>)
+    requires { refused.old ≡ None }
+    ensures { refused.new ≡ result_err answer }
+{
+    if let Err(refusal) = answer {
+        *refused = Some(refusal);
+    }
 }
 
 /// The place of a token's first byte.
@@ -259,7 +271,7 @@ impl<'q> TokenSink for Builder<'q> {
         }
         self.state.begin();
         let answer = self.state.put_one(ch, at);
-        self.refused = answer.err();
+        keep(&mut self.refused, answer);
         answer
     }
 
@@ -276,7 +288,7 @@ impl<'q> TokenSink for Builder<'q> {
         }
         self.state.begin();
         let answer = self.state.put_bad(count, at);
-        self.refused = answer.err();
+        keep(&mut self.refused, answer);
         answer
     }
 }

@@ -18,7 +18,7 @@ returns c =
     let x : SiteOf ℕ = c.put_run-answer.new.self.site in
     let parts = run_parts c.args.run.now b c.requires.puts in
     subst (λ (o : Building). Hands TakesToken b (run_tokens (placed c.args.at (chars c.args.run.now))) answer o)
-    (sym (left_is b _ (state_of c.begin.new.self) (state_of c.put_run-answer.new.self) x c.err-self-inside.result answer c.self.view_is c.begin.ensures c.put_run-answer.ensures.rest c.err-self-inside.ensures.value))
+    (sym (left_is b _ (state_of c.begin.new.self) (state_of c.put_run-answer.new.self) x c.keep.new.refused answer c.self.view_is c.begin.ensures c.put_run-answer.ensures.rest c.keep.ensures))
     (run_taken b parts.1 parts.2 c.args.at (chars c.args.run.now) (has_characters c.args.run.now c.utf8.run parts.0) c.requires.clean answer x
     (gives-of b _ (state_of c.begin.new.self) x answer (put_all c.args.at (placed c.args.at (chars c.args.run.now))) c.self.view_is c.begin.ensures c.put_run-answer.ensures.gives))
 
@@ -27,4 +27,4 @@ invariant_of-self c = λ none.
     let b : Building = c.args.self.now in
     let parts = run_parts c.args.run.now b c.requires.puts in
     let stands : b.refused ≡ None → Stands b.root b.state = λ u. subst (λ (o : Building). Stands o.root o.state) c.self.view_is (c.self.invariant (ap (λ (o : Building). o.refused) c.self.view_is ∙ u)) in
-    stands_by_run (run_tokens (placed c.args.at (chars c.args.run.now))) b _ c.put_run-answer.result stands parts.1 (sym c.err-self-inside.ensures.value ∙ none) (returns c)
+    stands_by_run (run_tokens (placed c.args.at (chars c.args.run.now))) b _ c.put_run-answer.result stands parts.1 (sym c.keep.ensures ∙ none) (returns c)

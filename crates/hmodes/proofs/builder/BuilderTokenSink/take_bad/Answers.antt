@@ -16,7 +16,7 @@ returns c =
     let free : b.refused ≡ None = free-of b _ c.is_some.result c.self.view_is c.is_some.ensures c.if-is_some.false in
     let puts : puts_each b.state ≡ true = puts-of b _ c.puts_each.result c.self.view_is c.puts_each.ensures c.if-not-puts_each.false in
     subst (λ (o : Building). Hands TakesToken b (run_tokens (replaced c.args.at c.args.count)) answer o)
-    (sym (left_is b _ (state_of c.begin.new.self) (state_of c.put_bad-answer.new.self) x c.err-self-inside.result answer c.self-2.view_is c.begin.ensures c.put_bad-answer.ensures.rest c.err-self-inside.ensures.value))
+    (sym (left_is b _ (state_of c.begin.new.self) (state_of c.put_bad-answer.new.self) x c.keep.new.refused answer c.self-2.view_is c.begin.ensures c.put_bad-answer.ensures.rest c.keep.ensures))
     (bad_taken b free puts c.args.at c.args.count (omega (arith, c.if-count-eq0.false)) answer x
     (gives-of b _ (state_of c.begin.new.self) x answer (put_all c.args.at (replaced c.args.at c.args.count)) c.self-2.view_is c.begin.ensures c.put_bad-answer.ensures.gives))
 
@@ -25,4 +25,4 @@ invariant_of-self c = λ none.
     let b : Building = c.args.self.now in
     let free : b.refused ≡ None = free-of b _ c.is_some.result c.self.view_is c.is_some.ensures c.if-is_some.false in
     let stands : b.refused ≡ None → Stands b.root b.state = λ u. subst (λ (o : Building). Stands o.root o.state) c.self.view_is (c.self.invariant (ap (λ (o : Building). o.refused) c.self.view_is ∙ u)) in
-    stands_by_run (run_tokens (replaced c.args.at c.args.count)) b _ c.put_bad-answer.result stands free (sym c.err-self-inside.ensures.value ∙ none) (returns c)
+    stands_by_run (run_tokens (replaced c.args.at c.args.count)) b _ c.put_bad-answer.result stands free (sym c.keep.ensures ∙ none) (returns c)

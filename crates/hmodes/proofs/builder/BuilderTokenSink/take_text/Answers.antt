@@ -15,7 +15,7 @@ returns c =
     let free : b.refused ≡ None = free-of b _ c.is_some.result c.self.view_is c.is_some.ensures c.if-is_some.false in
     let takes : takes_char b.state ≡ true = takes-of b _ c.takes_char.result c.self.view_is c.takes_char.ensures c.if-not-takes_char.false in
     subst (λ (o : Building). Takes c.args.at (character c.args.ch) b answer o)
-    (sym (left_by_rule b _ (state_of c.put_one-answer.new.self) c.err-self-inside.result answer c.self-2.view_is c.err-self-inside.ensures.value))
+    (sym (left_by_rule b _ (state_of c.put_one-answer.new.self) c.keep.new.refused answer c.self-2.view_is c.keep.ensures))
     (taken_by_rule b free takes c.args.at c.args.ch (ne_eqb c.args.ch 0 c.if-ch-eq0.false) answer (state_of c.put_one-answer.new.self)
     (gives_by_rule b _ (state_of c.begin.new.self) (state_of c.put_one-answer.new.self) c.args.at c.args.ch answer c.self-2.view_is c.begin.ensures c.put_one-answer.ensures))
 
@@ -25,4 +25,4 @@ invariant_of-self c = λ none.
     let answer = c.put_one-answer.result in
     let free : b.refused ≡ None = free-of b _ c.is_some.result c.self.view_is c.is_some.ensures c.if-is_some.false in
     let stands : b.refused ≡ None → Stands b.root b.state = λ u. subst (λ (o : Building). Stands o.root o.state) c.self.view_is (c.self.invariant (ap (λ (o : Building). o.refused) c.self.view_is ∙ u)) in
-    stands_by_token c.args.at (character c.args.ch) b _ answer stands free (sym c.err-self-inside.ensures.value ∙ none) (returns c)
+    stands_by_token c.args.at (character c.args.ch) b _ answer stands free (sym c.keep.ensures ∙ none) (returns c)
