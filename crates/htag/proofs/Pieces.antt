@@ -1,5 +1,5 @@
 -- Pieces of a value, one after another.
-use Rattle.std.proofs.Common.{◌≡◌, ℕ, Bool, true, false, ◌||◌, eqb, List, [], ◌∷◌, ◌++◌, sym, refl, ap, ◌∙◌, subst, append_assoc, append-nil, arith}
+use Rattle.std.proofs.Common.{◌≡◌, ℕ, Bool, true, false, not, ◌&&◌, ◌||◌, eqb, List, [], ◌∷◌, ◌++◌, sym, refl, ap, ◌∙◌, subst, append_assoc, append-nil, arith}
 use Rattle.std.specs.Prelude.{encode_utf8_all}
 use Rattle.std.specs.Char.{encode_utf8}
 use Rattle.std.specs.List.{flat_map}
@@ -9,7 +9,7 @@ use Rattle.std.proofs.lemmas.Str.{encodes-append}
 use Rattle.names.specs.declared.error.ErrorCode.TheVariants.{UnexpectedCharacterInUnquotedAttributeValue}
 use Rattle.names.specs.declared.error.ParseError.{ParseError}
 use Rattle.names.specs.declared.placed.Placed.{Placed}
-use Rattle.names.specs.Placed.{characters, all, is_alphanumeric, errors_at, without_null}
+use Rattle.names.specs.Placed.{characters, all, is_alphanumeric, errors_at, error_if, null_errors, without_null}
 use Rattle.hmarkup.proofs.Marks.{and_parts, and_both}
 use Rattle.charref.specs.Reference.{Entities, Piece}
 use Rattle.htag.specs.Value.{IsPiece, AreValue, pieces_text, plain_piece, value_bytes}
@@ -31,6 +31,10 @@ value_bytes-one xs piece = value_bytes-append xs (piece ∷ []) ∙ ap (λ (x : 
 pub pieces_errors-append : (quoted : Bool) (xs ys : List Piece) → pieces_errors quoted (xs ++ ys) ≡ pieces_errors quoted xs ++ pieces_errors quoted ys
 pieces_errors-append true xs ys = flat_map-append (λ (x : Piece). x.errors) xs ys
 pieces_errors-append false xs ys = flat_map-append (λ (x : Piece). errors_at UnexpectedCharacterInUnquotedAttributeValue is_odd x.text ++ x.errors) xs ys
+
+pub plain_raises : (quoted : Bool) (p : Placed) → pieces_errors quoted (plain_piece p ∷ []) ≡ error_if (not quoted && is_odd p.ch) UnexpectedCharacterInUnquotedAttributeValue p.at ++ null_errors (p ∷ [])
+plain_raises true p = append-nil (null_errors (p ∷ []))
+plain_raises false p = append-nil (errors_at UnexpectedCharacterInUnquotedAttributeValue is_odd (p ∷ []) ++ null_errors (p ∷ [])) ∙ ap (λ (x : List ParseError). x ++ null_errors (p ∷ [])) (append-nil (error_if (is_odd p.ch) UnexpectedCharacterInUnquotedAttributeValue p.at))
 
 -- a text without the characters that are faults in a value
 abbrev pub is_even : List Placed → Type 0

@@ -1,5 +1,7 @@
 -- Stamps of the names that a tag has had.
-use Rattle.std.proofs.Common.{◌≡◌, ℕ, zero, suc, ◌<◌, ◌≤◌, Bool, true, false, not, ◌||◌, eqb, List, [], ◌∷◌, ◌++◌, length, replicate, get_or, sym, refl, ap, ◌∙◌, arith}
+use Rattle.std.proofs.Common.{◌≡◌, ℕ, zero, suc, ◌<◌, ◌≤◌, Bool, true, false, not, ◌||◌, eqb, List, [], ◌∷◌, ◌++◌, length, replicate, take, get_or, sym, refl, ap, ◌∙◌, arith}
+use Rattle.std.specs.Prelude.{slice_set}
+use Rattle.std.proofs.lemmas.List.{take_all}
 use Rattle.std.proofs.lemmas.Bool.{eqb-true}
 use Rattle.std.proofs.lemmas.Bool.Decides.{nat_tests}
 use Rattle.hmarkup.proofs.Marks.{eqb_self}
@@ -11,10 +13,22 @@ zeros zero m = refl
 zeros (suc k) zero = refl
 zeros (suc k) (suc m) = zeros k m
 
-pub grown : (xs : List ℕ) (k m : ℕ) → get_or (xs ++ replicate k 0) m 0 ≡ get_or xs m 0
+grown : (xs : List ℕ) (k m : ℕ) → get_or (xs ++ replicate k 0) m 0 ≡ get_or xs m 0
 grown [] k m = zeros k m
 grown (x ∷ xs) k zero = refl
 grown (x ∷ xs) k (suc m) = grown xs k m
+
+-- stamps for more names are none
+pub resized : (xs ys : List ℕ) (n k : ℕ) → length xs ≤ n → ys ≡ take n xs ++ replicate k 0 → (m : ℕ) → get_or ys m 0 ≡ get_or xs m 0
+resized xs ys n k h is m = ap (λ (x : List ℕ). get_or x m 0) (is ∙ ap (λ (x : List ℕ). x ++ replicate k 0) (take_all n xs h)) ∙ grown xs k m
+
+-- a tag's stamp is not after the tag
+pub stamped : (xs : List ℕ) (n tag : ℕ) → ((m : ℕ) → get_or xs m 0 ≤ tag) → (m : ℕ) → get_or (slice_set xs n tag) m 0 ≤ tag
+stamped [] n tag h m = h m
+stamped (x ∷ xs) zero tag h zero = omega arith
+stamped (x ∷ xs) zero tag h (suc m) = h (suc m)
+stamped (x ∷ xs) (suc n) tag h zero = h zero
+stamped (x ∷ xs) (suc n) tag h (suc m) = stamped xs n tag (λ k. h (suc k)) m
 
 past_all : (xs : List ℕ) (n : ℕ) → length xs ≤ n → get_or xs n 0 ≡ 0
 past_all [] n h = refl

@@ -1,9 +1,11 @@
 //! An attribute of a tag.
 
-ghost use Rattle.std.specs.Prelude.{◌≡◌, OnOk, MatchResult};
-ghost use Rattle.names.specs.Names.{Grows};
+ghost use Rattle.std.specs.Prelude.{◌≡◌, ◌∷◌, ◌++◌, List, [], OnOk, MatchResult};
+ghost use Rattle.names.specs.declared.placed.Placed.{Placed as Character};
+ghost use Rattle.names.specs.Names.{Texts, Grows};
+ghost use Rattle.charref.specs.Reference.{Entities};
 ghost use Rattle.htag.specs.Steps.{EndsAttribute, EndsAttributeValue, BeginsAttribute, AddsToName};
-ghost use Rattle.htag.specs.TagWalk.{StepsInTag};
+ghost use Rattle.htag.specs.TagWalk.{IsInTag, StepsInTag, TakesInTag};
 ghost use Rattle.names.specs.declared.refusal.Refusal.TheVariants.{Memory};
 
 use crate::push::{ends_name, keep_if, keep_null, push_lowered};
@@ -66,14 +68,13 @@ impl<'t> TagWalk<'t> {
     #[inline(always)]
     pub(crate) fn in_attribute_name(
         &mut self,
-        table: &'t Table,
         names: &mut Names,
         ch: char,
         at: u64,
         errors: &mut Vec<ParseError>,
     ) -> Result<bool, Refusal>
         requires { self.old.phase ≡ TagState.AttributeName }
-        ensures takes { StepsInTag table.now names.old names.new self.old (record { ch = ch; at = at }) errors.old.items result self.new errors.new.items }
+        ensures takes { (table : Entities) → StepsInTag table names.old names.new self.old (record { ch = ch; at = at }) errors.old.items result self.new errors.new.items }
         ensures grows { Grows names.old names.new }
         ensures kind { OnOk result (self.new.kind ≡ self.old.kind) }
     {
@@ -86,8 +87,7 @@ impl<'t> TagWalk<'t> {
             return Ok(false);
         }
         if ch == '/' || ch == '>' {
-            self.end_attribute(names, errors)?;
-            return self.before_attribute(table, names, ch, at, errors);
+            return self.past_attribute(names, ch, at, errors);
         }
         self.add_to_name(ch, at, errors)?;
         Ok(false)
@@ -97,14 +97,13 @@ impl<'t> TagWalk<'t> {
     #[inline(always)]
     pub(crate) fn after_attribute_name(
         &mut self,
-        table: &'t Table,
         names: &mut Names,
         ch: char,
         at: u64,
         errors: &mut Vec<ParseError>,
     ) -> Result<bool, Refusal>
         requires { self.old.phase ≡ TagState.AfterAttributeName }
-        ensures takes { StepsInTag table.now names.old names.new self.old (record { ch = ch; at = at }) errors.old.items result self.new errors.new.items }
+        ensures takes { (table : Entities) → StepsInTag table names.old names.new self.old (record { ch = ch; at = at }) errors.old.items result self.new errors.new.items }
         ensures grows { Grows names.old names.new }
         ensures kind { OnOk result (self.new.kind ≡ self.old.kind) }
     {
@@ -115,8 +114,7 @@ impl<'t> TagWalk<'t> {
             self.phase = TagState::BeforeValue;
             return Ok(false);
         }
-        self.end_attribute(names, errors)?;
-        self.before_attribute(table, names, ch, at, errors)
+        self.past_attribute(names, ch, at, errors)
     }
 
     /// Before a value (13.2.5.35).
@@ -143,8 +141,7 @@ impl<'t> TagWalk<'t> {
         }
         if ch == '>' {
             keep_if(true, ErrorCode::MissingAttributeValue, at, errors)?;
-            self.end_attribute(names, errors)?;
-            return self.before_attribute(table, names, ch, at, errors);
+            return self.past_attribute(names, ch, at, errors);
         }
         self.phase = TagState::Unquoted;
         self.value.take(table, false, ch, at, errors)?;
@@ -157,14 +154,12 @@ impl<'t> TagWalk<'t> {
         &mut self,
         table: &'t Table,
         mark: char,
-        names: &mut Names,
         ch: char,
         at: u64,
         errors: &mut Vec<ParseError>,
     ) -> Result<bool, Refusal>
         requires { self.old.phase ≡ TagState.Quoted mark }
-        ensures takes { StepsInTag table.now names.old names.new self.old (record { ch = ch; at = at }) errors.old.items result self.new errors.new.items }
-        ensures grows { Grows names.old names.new }
+        ensures takes { (names : Texts) → StepsInTag table.now names names self.old (record { ch = ch; at = at }) errors.old.items result self.new errors.new.items }
         ensures kind { OnOk result (self.new.kind ≡ self.old.kind) }
     {
         if ch == mark {
@@ -192,7 +187,7 @@ impl<'t> TagWalk<'t> {
     {
         if ch == '>' || ch.is_ascii_whitespace() {
             self.end_value(names, errors)?;
-            return self.before_attribute(table, names, ch, at, errors);
+            return self.before_attribute(ch, at, errors);
         }
         self.value.take(table, false, ch, at, errors)?;
         Ok(false)
@@ -202,14 +197,13 @@ impl<'t> TagWalk<'t> {
     #[inline(always)]
     pub(crate) fn after_quotes(
         &mut self,
-        table: &'t Table,
         names: &mut Names,
         ch: char,
         at: u64,
         errors: &mut Vec<ParseError>,
     ) -> Result<bool, Refusal>
         requires { self.old.phase ≡ TagState.AfterQuoted }
-        ensures takes { StepsInTag table.now names.old names.new self.old (record { ch = ch; at = at }) errors.old.items result self.new errors.new.items }
+        ensures takes { (table : Entities) → StepsInTag table names.old names.new self.old (record { ch = ch; at = at }) errors.old.items result self.new errors.new.items }
         ensures grows { Grows names.old names.new }
         ensures kind { OnOk result (self.new.kind ≡ self.old.kind) }
     {
@@ -220,8 +214,27 @@ impl<'t> TagWalk<'t> {
             at,
             errors,
         )?;
+        self.past_attribute(names, ch, at, errors)
+    }
+
+    /// An attribute has been read, and this character after it.
+    #[inline(always)]
+    fn past_attribute(
+        &mut self,
+        names: &mut Names,
+        ch: char,
+        at: u64,
+        errors: &mut Vec<ParseError>,
+    ) -> Result<bool, Refusal>
+        ensures takes { (table : Entities) (body : List Character)
+            → ((after : Texts) (walk : TagWalk) (later : List ParseError) → EndsAttribute names.old after self.old errors.old.items walk later
+            → IsInTag table after walk body (record { ch = ch; at = at } ∷ []) later)
+            → TakesInTag table names.new (body ++ record { ch = ch; at = at } ∷ []) result self.new errors.new.items }
+        ensures grows { Grows names.old names.new }
+        ensures kind { OnOk result (self.new.kind ≡ self.old.kind) }
+    {
         self.end_attribute(names, errors)?;
-        self.before_attribute(table, names, ch, at, errors)
+        self.before_attribute(ch, at, errors)
     }
 
     /// A value without quotes, or one that the input cuts off, has been read, and its attribute with it.

@@ -9,7 +9,7 @@ ghost use Rattle.htag.specs.ValueWalk.{TakesInValue, EndsValue, TellsReference, 
 ghost use Rattle.htag.specs.ValueSteps.{AddsPlain, GivesBack};
 
 use crate::pending::Pending;
-use crate::push::{keep_if, keep_null, push_all, push_value};
+use crate::push::{is_fault, keep_if, keep_null, push_all, push_value};
 use crate::value::ValueWalk;
 use charref::{Reference, Table, Walk};
 use names::{ErrorCode, ParseError};
@@ -105,21 +105,14 @@ impl<'t> ValueWalk<'t> {
     ) -> Result<(), AllocError>
         ensures { OnOk result (AddsPlain quoted self.old (record { ch = ch; at = at }) errors.old.items self.new errors.new.items) }
     {
-        if !quoted {
-            let odd = ch == '"' || ch == '\'' || ch == '<' || ch == '=' || ch == '`';
-            keep_if(
-                odd,
-                ErrorCode::UnexpectedCharacterInUnquotedAttributeValue,
-                at,
-                errors,
-            )?;
-            keep_null(ch, at, errors)?;
-            push_value(&mut self.text, ch)?;
-            return Ok(());
-        }
+        keep_if(
+            is_fault(quoted, ch),
+            ErrorCode::UnexpectedCharacterInUnquotedAttributeValue,
+            at,
+            errors,
+        )?;
         keep_null(ch, at, errors)?;
-        push_value(&mut self.text, ch)?;
-        Ok(())
+        push_value(&mut self.text, ch)
     }
 
     /// After an `&` that may be a reference's.

@@ -1,12 +1,12 @@
 //! Characters and errors, added to what was read.
 
-ghost use Rattle.std.specs.Prelude.{◌≡◌, ◌≤◌, ◌==◌, ◌∷◌, ◌++◌, [], true, drop, length, take, not, OnOk, string_bytes, encode_utf8_all};
+ghost use Rattle.std.specs.Prelude.{◌≡◌, ◌≤◌, ◌==◌, ◌&&◌, ◌∷◌, ◌++◌, [], true, drop, length, take, not, OnOk, string_bytes, encode_utf8_all};
 ghost use Rattle.std.specs.List.{list_all, prefix_len};
 ghost use Rattle.std.specs.Char.{encode_utf8, to_ascii_lowercase};
 ghost use Rattle.names.specs.Placed.{error_if, null_errors, without_null};
 ghost use Rattle.htext.specs.Run.{is_plain_byte};
 ghost use Rattle.htag.specs.Run.{is_word_byte};
-ghost use Rattle.htag.specs.Tag.{ends_name};
+ghost use Rattle.htag.specs.Tag.{ends_name, is_odd};
 
 use names::{ErrorCode, ParseError};
 use std::alloc::AllocError;
@@ -16,6 +16,14 @@ pub(crate) fn ends_name(ch: char) -> bool
     ensures { result ≡ ends_name ch }
 {
     ch.is_ascii_whitespace() || ch == '/' || ch == '>'
+}
+
+/// Whether a character is a fault in a value, in quotes or not.
+#[inline(always)]
+pub(crate) fn is_fault(quoted: bool, ch: char) -> bool
+    ensures { result ≡ not quoted && is_odd ch }
+{
+    !quoted && matches!(ch, '"' | '\'' | '<' | '=' | '`')
 }
 
 /// A character of a name: lowered, NUL as U+FFFD.

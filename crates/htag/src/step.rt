@@ -1,34 +1,31 @@
 //! A tag's name, and what is between its attributes.
 
 ghost use Rattle.std.specs.Prelude.{◌≡◌, OnOk};
-ghost use Rattle.names.specs.Names.{Grows};
+ghost use Rattle.names.specs.Names.{Texts};
+ghost use Rattle.charref.specs.Reference.{Entities};
 ghost use Rattle.htag.specs.TagWalk.{StepsInTag};
 
 use crate::push::{keep_if, keep_null, push_lowered};
 use crate::tag_state::TagState;
 use crate::walk::TagWalk;
-use charref::Table;
-use names::{ErrorCode, Names, ParseError, Refusal};
+use names::{ErrorCode, ParseError, Refusal};
 
 impl<'t> TagWalk<'t> {
     /// In the tag's name (13.2.5.8).
     #[inline(always)]
     pub(crate) fn in_name(
         &mut self,
-        table: &'t Table,
-        names: &mut Names,
         ch: char,
         at: u64,
         errors: &mut Vec<ParseError>,
     ) -> Result<bool, Refusal>
         requires { self.old.phase ≡ TagState.Name }
-        ensures takes { StepsInTag table.now names.old names.new self.old (record { ch = ch; at = at }) errors.old.items result self.new errors.new.items }
-        ensures grows { Grows names.old names.new }
+        ensures takes { (table : Entities) (names : Texts) → StepsInTag table names names self.old (record { ch = ch; at = at }) errors.old.items result self.new errors.new.items }
         ensures kind { OnOk result (self.new.kind ≡ self.old.kind) }
     {
         if ch == '>' || ch == '/' || ch.is_ascii_whitespace() {
             self.phase = TagState::BeforeAttribute;
-            return self.before_attribute(table, names, ch, at, errors);
+            return self.before_attribute(ch, at, errors);
         }
         keep_null(ch, at, errors)?;
         push_lowered(&mut self.name, ch)?;
@@ -39,15 +36,12 @@ impl<'t> TagWalk<'t> {
     #[inline(always)]
     pub(crate) fn before_attribute(
         &mut self,
-        table: &'t Table,
-        names: &mut Names,
         ch: char,
         at: u64,
         errors: &mut Vec<ParseError>,
     ) -> Result<bool, Refusal>
         requires { self.old.phase ≡ TagState.BeforeAttribute }
-        ensures takes { StepsInTag table.now names.old names.new self.old (record { ch = ch; at = at }) errors.old.items result self.new errors.new.items }
-        ensures grows { Grows names.old names.new }
+        ensures takes { (table : Entities) (names : Texts) → StepsInTag table names names self.old (record { ch = ch; at = at }) errors.old.items result self.new errors.new.items }
         ensures kind { OnOk result (self.new.kind ≡ self.old.kind) }
     {
         if ch == '>' {
@@ -68,15 +62,12 @@ impl<'t> TagWalk<'t> {
     /// After a `/` (13.2.5.40).
     pub(crate) fn after_solidus(
         &mut self,
-        table: &'t Table,
-        names: &mut Names,
         ch: char,
         at: u64,
         errors: &mut Vec<ParseError>,
     ) -> Result<bool, Refusal>
         requires { self.old.phase ≡ TagState.Solidus }
-        ensures takes { StepsInTag table.now names.old names.new self.old (record { ch = ch; at = at }) errors.old.items result self.new errors.new.items }
-        ensures grows { Grows names.old names.new }
+        ensures takes { (table : Entities) (names : Texts) → StepsInTag table names names self.old (record { ch = ch; at = at }) errors.old.items result self.new errors.new.items }
         ensures kind { OnOk result (self.new.kind ≡ self.old.kind) }
     {
         if ch == '>' {
@@ -85,6 +76,6 @@ impl<'t> TagWalk<'t> {
         }
         keep_if(true, ErrorCode::UnexpectedSolidusInTag, at, errors)?;
         self.phase = TagState::BeforeAttribute;
-        self.before_attribute(table, names, ch, at, errors)
+        self.before_attribute(ch, at, errors)
     }
 }

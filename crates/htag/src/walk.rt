@@ -106,15 +106,15 @@ impl<'t> TagWalk<'t> {
         ensures kind { OnOk result (self.new.kind ≡ self.old.kind) }
     {
         match self.phase {
-            TagState::Name => self.in_name(table, names, ch, at, errors),
-            TagState::BeforeAttribute => self.before_attribute(table, names, ch, at, errors),
-            TagState::Solidus => self.after_solidus(table, names, ch, at, errors),
-            TagState::AttributeName => self.in_attribute_name(table, names, ch, at, errors),
-            TagState::AfterAttributeName => self.after_attribute_name(table, names, ch, at, errors),
+            TagState::Name => self.in_name(ch, at, errors),
+            TagState::BeforeAttribute => self.before_attribute(ch, at, errors),
+            TagState::Solidus => self.after_solidus(ch, at, errors),
+            TagState::AttributeName => self.in_attribute_name(names, ch, at, errors),
+            TagState::AfterAttributeName => self.after_attribute_name(names, ch, at, errors),
             TagState::BeforeValue => self.before_value(table, names, ch, at, errors),
-            TagState::Quoted(mark) => self.in_quotes(table, mark, names, ch, at, errors),
+            TagState::Quoted(mark) => self.in_quotes(table, mark, ch, at, errors),
             TagState::Unquoted => self.in_unquoted(table, names, ch, at, errors),
-            TagState::AfterQuoted => self.after_quotes(table, names, ch, at, errors),
+            TagState::AfterQuoted => self.after_quotes(names, ch, at, errors),
         }
     }
 

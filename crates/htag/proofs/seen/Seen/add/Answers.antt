@@ -1,15 +1,17 @@
-use Rattle.std.proofs.Common.{◌≡◌, ◌≤◌, ◌+◌, ◌-◌, ◌++◌, ℕ, List, length, replicate, get_or, take, ◌∙◌, ap, refl, arith, get_or-set_same, get_or-set_other}
-use Rattle.std.specs.Prelude.{vec_len}
-use Rattle.std.proofs.lemmas.List.{take_all}
-use Rattle.htag.proofs.Stamps.{grown, marked, no_stamp}
+use Rattle.std.proofs.Common.{◌≡◌, ◌≤◌, ◌+◌, ◌∙◌, ℕ, length, get_or, refl, arith, get_or-set_same, get_or-set_other}
+use Rattle.htag.proofs.Stamps.{resized, stamped, marked, no_stamp}
 use Rattle.htag.proofs.seen.Seen.add.Goals as goal
+
+pub invariant_of-self-2 : goal.invariant_of-self-2
+invariant_of-self-2 c =
+    let old = c.args.self.now in
+    let items = resized old.stamps.items c.resize.new.self.items (c.args.number + 1) _ (omega (arith, c.if-number-len.false)) c.in_ok-resize.ensures.items in
+    record { begun = old.begun; older = stamped c.resize.new.self.items c.args.number old.tag (λ m. omega (arith, items m, old.older m)) }
 
 pub returns : goal.returns
 returns c = λ numbers h.
     let past : length c.args.self.now.stamps.items ≤ c.args.number = omega arith in
-    let same : take (c.args.number + 1) c.args.self.now.stamps.items ≡ c.args.self.now.stamps.items = take_all (c.args.number + 1) c.args.self.now.stamps.items (omega (arith, past)) in
-    let items : (m : ℕ) → get_or c.resize.new.self.items m 0 ≡ get_or c.args.self.now.stamps.items m 0 = λ m.
-    ap (λ (x : List ℕ). get_or x m 0) (c.in_ok-resize.ensures.items ∙ ap (λ (x : List ℕ). x ++ replicate (c.args.number + 1 - vec_len c.args.self.now.stamps) 0) same) ∙ grown c.args.self.now.stamps.items (c.args.number + 1 - vec_len c.args.self.now.stamps) m in (
+    let items : (m : ℕ) → get_or c.resize.new.self.items m 0 ≡ get_or c.args.self.now.stamps.items m 0 = resized c.args.self.now.stamps.items c.resize.new.self.items (c.args.number + 1) _ (omega (arith, past)) c.in_ok-resize.ensures.items in (
       no_stamp c.args.self.now c.args.number numbers (omega arith) h past,
       marked c.args.self.now _ c.args.number numbers h refl
           (get_or-set_same c.resize.new.self.items c.args.number c.args.self.now.tag 0 (omega (arith, c.in_ok-resize.ensures.len)))

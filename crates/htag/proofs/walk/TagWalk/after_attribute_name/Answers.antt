@@ -3,23 +3,19 @@ use Rattle.std.proofs.lemmas.Bool.Decides.{nat_tests}
 use Rattle.names.specs.Placed.{is_space, is_equals}
 use Rattle.htag.proofs.Ahead.{bare_ends_early}
 use Rattle.htag.proofs.Values.{space_again, equals_after_space}
-use Rattle.names.proofs.Handing.{grows_on}
 use Rattle.htag.proofs.walk.TagWalk.after_attribute_name.Goals as goal
 
 pub returns-then-is_ascii_whitespace-clause-takes : goal.returns-then-is_ascii_whitespace-clause-takes
-returns-then-is_ascii_whitespace-clause-takes c = λ body h.
+returns-then-is_ascii_whitespace-clause-takes c = λ table body h.
     let is : is_space c.args.ch ≡ true = grind (arith, nat_tests) in
     space_again _ _ _ body _ _ h _ refl refl refl refl refl refl refl c.requires c.requires is
 
 pub returns-then-ch-eq61-clause-takes : goal.returns-then-ch-eq61-clause-takes
-returns-then-ch-eq61-clause-takes c = λ body h.
+returns-then-ch-eq61-clause-takes c = λ table body h.
     equals_after_space _ _ _ body _ _ h _ refl refl refl refl refl refl refl c.requires refl c.if-ch-eq61.true
 
 pub returns-clause-takes : goal.returns-clause-takes
-returns-clause-takes c = λ body h.
+returns-clause-takes c = λ table body h.
     let no_space : is_space c.args.ch ≡ false = grind (arith, nat_tests) in
     let no_equals : is_equals c.args.ch ≡ false = grind (arith, nat_tests) in
-    c.before_attribute.ensures.takes body (bare_ends_early _ _ _ body _ _ h c.requires _ _ _ c.in_ok-end_attribute.ensures.ended no_space no_equals)
-
-pub returns-clause-grows : goal.returns-clause-grows
-returns-clause-grows c = grows_on _ _ _ c.end_attribute.ensures.grows c.before_attribute.ensures.grows
+    c.past_attribute.ensures.takes table body (λ after walk later ends. bare_ends_early _ _ _ body _ _ h c.requires after walk later ends no_space no_equals)

@@ -6,17 +6,17 @@ use Rattle.htag.proofs.Phases.{tag_ends, space_follows, solidus_follows, attribu
 use Rattle.htag.proofs.walk.TagWalk.before_attribute.Goals as goal
 
 pub returns-then-ch-eq62-clause-takes : goal.returns-then-ch-eq62-clause-takes
-returns-then-ch-eq62-clause-takes c = λ body h. tag_ends _ _ _ body _ _ h c.requires _ refl refl refl refl refl c.if-ch-eq62.true
+returns-then-ch-eq62-clause-takes c = λ table names body h. tag_ends _ _ _ body _ _ h c.requires _ refl refl refl refl refl c.if-ch-eq62.true
 
 pub returns-then-is_ascii_whitespace-clause-takes : goal.returns-then-is_ascii_whitespace-clause-takes
-returns-then-is_ascii_whitespace-clause-takes c = λ body h.
+returns-then-is_ascii_whitespace-clause-takes c = λ table names body h.
     let is : is_space c.args.ch ≡ true = grind (arith, nat_tests) in
     space_follows _ _ _ body _ _ h c.requires is
 
 pub returns-then-ch-eq47-clause-takes : goal.returns-then-ch-eq47-clause-takes
-returns-then-ch-eq47-clause-takes c = λ body h. solidus_follows _ _ _ body _ _ h c.requires _ refl refl refl refl refl c.if-ch-eq47.true
+returns-then-ch-eq47-clause-takes c = λ table names body h. solidus_follows _ _ _ body _ _ h c.requires _ refl refl refl refl refl c.if-ch-eq47.true
 
 pub returns-clause-takes : goal.returns-clause-takes
-returns-clause-takes c = λ body h.
+returns-clause-takes c = λ table names body h.
     let other : ends_name c.args.ch ≡ false = grind (arith, nat_tests) in
     attribute_begins _ _ _ body _ _ h c.requires _ _ c.in_ok-begin_attribute.ensures other

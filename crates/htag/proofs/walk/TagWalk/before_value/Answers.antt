@@ -3,7 +3,6 @@ use Rattle.std.proofs.lemmas.Bool.Decides.{nat_tests}
 use Rattle.names.specs.Placed.{is_space, is_quote, is_greater}
 use Rattle.htag.specs.Tag.{ends_unquoted}
 use Rattle.htag.proofs.Values.{space_after_equals, quote_follows, no_value_ends, unquoted_begins}
-use Rattle.names.proofs.Handing.{grows_on}
 use Rattle.htag.proofs.walk.TagWalk.before_value.Goals as goal
 
 pub returns-then-is_ascii_whitespace-clause-takes : goal.returns-then-is_ascii_whitespace-clause-takes
@@ -19,13 +18,10 @@ returns-then-ch-eq34-clause-takes c = λ body h.
 pub returns-then-ch-eq62-clause-takes : goal.returns-then-ch-eq62-clause-takes
 returns-then-ch-eq62-clause-takes c = λ body h.
     let is : is_greater c.args.ch ≡ true = grind (arith, nat_tests) in
-    c.before_attribute.ensures.takes body (no_value_ends _ _ _ body _ _ h _ _ _ _ c.requires c.in_ok-keep_if.ensures is c.in_ok-end_attribute.ensures.ended)
+    c.past_attribute.ensures.takes c.args.table.now body (λ after walk later ends. no_value_ends _ _ _ body _ _ h _ after walk later c.requires c.in_ok-keep_if.ensures is ends)
 
 pub returns-clause-takes : goal.returns-clause-takes
 returns-clause-takes c = λ body h.
     let first : not (ends_unquoted c.args.ch || is_quote c.args.ch) ≡ true = grind (arith, nat_tests) in
     let stays : not (ends_unquoted c.args.ch) ≡ true = grind (arith, nat_tests) in
     unquoted_begins _ _ _ body _ _ h _ _ (record { kind_is = refl; name_is = refl; attrs_are = refl; seen_is = refl; any_is = refl }) refl refl c.in_ok-take.ensures c.requires refl first stays
-
-pub returns-then-ch-eq62-clause-grows : goal.returns-then-ch-eq62-clause-grows
-returns-then-ch-eq62-clause-grows c = grows_on _ _ _ c.end_attribute.ensures.grows c.before_attribute.ensures.grows

@@ -1,4 +1,4 @@
-use Rattle.std.proofs.Common.{rules, ◌≡◌, false, eqb, ◌+◌, ◌++◌, ◌∷◌, [], ℕ, List, ap, ◌∙◌, subst, take, arith}
+use Rattle.std.proofs.Common.{◌≡◌, false, eqb, ◌+◌, ◌++◌, ◌∷◌, [], ℕ, List, ap, ◌∙◌, subst, take, arith}
 use Rattle.std.specs.Prelude.{slice_index}
 use Rattle.std.proofs.lemmas.Bool.Decides.{nat_tests}
 use Rattle.std.proofs.lemmas.Result.{err_from_is_err_and}
@@ -31,4 +31,10 @@ returns-clause-takes c = λ body h.
     (subst (λ (x : List Placed). IsInTag c.args.table.now c.take_char.new.names c.take_char.new.self (front ++ x) [] c.take_char.new.errors.items) (one_at (c.args.at + count) count run c.from-ch.result (omega (arith, c.in_ok-count.ensures.few, c.if-count-run.false)) ch) took)
 
 pub returns-clause-few : goal.returns-clause-few
-returns-clause-few c = search rules
+returns-clause-few c = omega (arith, c.in_ok-count.ensures.few, c.if-count-run.false)
+
+pub returns-then-count-run-clause-takes : goal.returns-then-count-run-clause-takes
+returns-then-count-run-clause-takes c = λ body h. part_taken _ _ _ _ _ c.in_ok-count.ensures c.args.table.now c.args.names.now body c.args.errors.now.items h
+
+pub returns-then-ch-eq62-clause-takes : goal.returns-then-ch-eq62-clause-takes
+returns-then-ch-eq62-clause-takes c = λ body h. part_taken _ _ _ _ _ c.in_ok-count.ensures c.args.table.now c.args.names.now body c.args.errors.now.items h

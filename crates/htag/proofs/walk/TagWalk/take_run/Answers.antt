@@ -1,8 +1,9 @@
-use Rattle.std.proofs.Common.{◌+◌, ◌++◌, [], ℕ, List, ap, ◌∙◌, subst, length, take, arith}
+use Rattle.std.proofs.Common.{◌+◌, ◌++◌, [], ℕ, List, refl, sym, ap, ◌∙◌, append-nil, subst, length, take, arith}
 use Rattle.std.proofs.lemmas.List.{length-drop}
 use Rattle.std.proofs.lemmas.Result.{err_from_is_err_and}
+use Rattle.names.specs.declared.placed.Placed.{Placed}
 use Rattle.names.specs.Placed.{placed}
-use Rattle.names.proofs.Handing.{grows_on}
+use Rattle.names.proofs.Handing.{grows_not, grows_on}
 use Rattle.htag.specs.TagWalk.{IsInTag}
 use Rattle.htag.proofs.InRun.{more_taken}
 use Rattle.htag.proofs.walk.TagWalk.take_run.Goals as goal
@@ -23,3 +24,26 @@ loop-count-preserved c = record {
   grows = grows_on _ _ _ c.loop-count.invariant.grows c.take_front.ensures.grows;
   kind = c.in_ok-more.ensures.kind ∙ c.loop-count.invariant.kind;
 }
+
+pub loop-count-init : goal.loop-count-init
+loop-count-init c = record {
+  takes = λ body h. subst (λ (x : List Placed). IsInTag c.args.table.now c.args.names.now c.args.self.now x [] c.args.errors.now.items) (sym (append-nil body)) h;
+  within = omega arith;
+  grows = grows_not _;
+  kind = refl;
+}
+
+pub take_front-requires-clause-within : goal.take_front-requires-clause-within
+take_front-requires-clause-within c = omega (arith, ap length c.rest_of.ensures.value, length-drop c.loop-count.count c.args.run.now, c.loop-count.invariant.within, c.requires.within)
+
+pub returns-then-more-eq0-clause-takes : goal.returns-then-more-eq0-clause-takes
+returns-then-more-eq0-clause-takes c = λ body h.
+    let front = body ++ placed c.args.at (take c.loop-count.count c.args.run.now) in
+    subst (λ (x : List Placed). IsInTag c.args.table.now c.take_front.new.names c.take_front.new.self x [] c.take_front.new.errors.items)
+    (ap (λ (n : ℕ). front ++ placed (c.args.at + c.loop-count.count) (take n c.rest_of.result.now)) c.if-more-eq0.true ∙ append-nil front) (c.in_ok-more.ensures.takes front (c.loop-count.invariant.takes body h))
+
+pub returns-then-more-eq0-clause-grows : goal.returns-then-more-eq0-clause-grows
+returns-then-more-eq0-clause-grows c = grows_on _ _ _ c.loop-count.invariant.grows c.take_front.ensures.grows
+
+pub returns-in_err-more-clause-grows : goal.returns-in_err-more-clause-grows
+returns-in_err-more-clause-grows c = grows_on _ _ _ c.loop-count.invariant.grows c.take_front.ensures.grows
