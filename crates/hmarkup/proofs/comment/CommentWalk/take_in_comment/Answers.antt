@@ -1,4 +1,6 @@
-use Rattle.std.proofs.Common.{◌≡◌, refl, eqb, false, arith, [], ◌∷◌, ◌++◌, length, string_bytes}
+use Rattle.std.proofs.lemmas.Bool.{eqb-true, eqb-false}
+use Rattle.std.proofs.Common.{◌∙◌, sym}
+use Rattle.std.proofs.Common.{string_len, ◌≡◌, refl, eqb, false, arith, [], ◌∷◌, ◌++◌, length, string_bytes}
 use Rattle.std.proofs.lemmas.Result.{err_from_is_err_and}
 use Rattle.std.proofs.lemmas.Bool.Decides.{nat_tests}
 use Rattle.names.specs.declared.error.ErrorCode.TheVariants.{AbruptClosingOfEmptyComment, IncorrectlyClosedComment}
@@ -47,7 +49,7 @@ returns-in_err-tell-in-Plain g c =
     let e = err_from_is_err_and c.from_residual-in_err-tell-in-Plain.result c.from_residual-in_err-tell-in-Plain.ensures.1 in
     rw (e.1, e.2) (rw (← c.self.view_is) (λ text raised h.
     let none : closes c.self.inside.ending ≡ false = closes_not c.self.inside.ending c.in-Plain.is in
-    let nothing : length (string_bytes c.self.inside.text) ≡ 0 = grind (arith, nat_tests) in
+    let nothing : length (string_bytes c.self.inside.text) ≡ 0 = omega (arith, eqb-true (string_len c.self.inside.text) 0 (sym c.is_empty.ensures ∙ c.if-is_empty.true)) in
     sink_refused c.in_err-tell-in-Plain.field-0.0 (errors_here c.is_whole.result (record { ch = c.args.ch; at = c.args.at }) ++ error AbruptClosingOfEmptyComment c.args.at ∷ []) refl
     (hand_too g.S.ErrorSink.gives _ _ _ _ _ _ c.in_ok-report.ensures c.in_err-tell-in-Plain.ensures)
     (begins_whole IsComment one_comment (text ++ record { ch = c.args.ch; at = c.args.at } ∷ []) _ _
@@ -57,7 +59,7 @@ pub returns-then-is_empty : goal.returns-then-is_empty
 returns-then-is_empty g c =
     rw (← c.self.view_is) (λ text raised h.
     let none : closes c.self.inside.ending ≡ false = closes_not c.self.inside.ending c.in-Plain.is in
-    let nothing : length (string_bytes c.self.inside.text) ≡ 0 = grind (arith, nat_tests) in
+    let nothing : length (string_bytes c.self.inside.text) ≡ 0 = omega (arith, eqb-true (string_len c.self.inside.text) 0 (sym c.is_empty.ensures ∙ c.if-is_empty.true)) in
     ended (errors_here c.is_whole.result (record { ch = c.args.ch; at = c.args.at }) ++ error AbruptClosingOfEmptyComment c.args.at ∷ []) refl
     (hand_too g.S.ErrorSink.gives _ _ _ _ _ _ c.in_ok-report.ensures c.in_ok-tell-in-Plain.ensures)
     (λ end rest. empty_now _ text raised c.args.ch c.args.at c.is_whole.result c.is_whole.ensures h c.if-ch-eq62.true none nothing end rest))
@@ -76,7 +78,7 @@ returns g c =
     (elim c.if-ch-eq62.branch [
       | then-ch-eq62+in-Plain+else-is_empty w ↦
           let none : closes c.self.inside.ending ≡ false = closes_not c.self.inside.ending w.in-Plain.is in
-          let some : length (string_bytes c.self.inside.text) ≡ 0 → ⊥ = (λ z. absurd (grind (arith, nat_tests))) in
+          let some : length (string_bytes c.self.inside.text) ≡ 0 → ⊥ = (λ z. eqb-false (string_len c.self.inside.text) 0 (sym w.is_empty.ensures ∙ w.if-is_empty.false) (omega (arith, z))) in
           kept_past _ text raised c.args.ch c.args.at c.is_whole.result c.is_whole.ensures h none some
       | else-ch-eq62 w ↦
           let other : eqb c.args.ch 62 ≡ false = grind (arith, nat_tests) in

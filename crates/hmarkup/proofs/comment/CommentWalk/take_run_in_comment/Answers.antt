@@ -1,5 +1,6 @@
-use Rattle.std.proofs.Common.{◌≡◌, [], refl, length, append-nil, arith}
-use Rattle.std.proofs.lemmas.Bool.Decides.{nat_tests}
+use Rattle.std.proofs.lemmas.Bool.{eqb-true, eqb-false}
+use Rattle.std.proofs.Common.{◌∙◌, sym}
+use Rattle.std.proofs.Common.{◌≡◌, [], refl, length, append-nil}
 use Rattle.std.proofs.lemmas.List.{nil_from_length}
 use Rattle.std.proofs.lemmas.Result.{err_from_is_err_and}
 use Rattle.std.proofs.lemmas.Str.{chars-nil}
@@ -14,13 +15,13 @@ use Rattle.hmarkup.proofs.comment.CommentWalk.take_run_in_comment.Goals as goal
 
 pub returns-then-is_empty : goal.returns-then-is_empty
 returns-then-is_empty g c =
-    let none : c.args.run.now ≡ [] = nil_from_length c.args.run.now (grind (arith, nat_tests)) in
+    let none : c.args.run.now ≡ [] = nil_from_length c.args.run.now (eqb-true _ 0 (sym c.is_empty.ensures ∙ c.if-is_empty.true)) in
     λ text raised h. rw (none, chars-nil) (run_goes_on [] refl (refl, refl) (rw (append-nil text, append-nil raised) h))
 
 pub returns-in_err-tell_if : goal.returns-in_err-tell_if
 returns-in_err-tell_if g c =
     let e = err_from_is_err_and c.from_residual.result c.from_residual.ensures.1 in
-    let some : length c.args.run.now ≡ 0 → ⊥ = (λ z. absurd (grind (arith, nat_tests))) in
+    let some = eqb-false (length c.args.run.now) 0 (sym c.is_empty.ensures ∙ c.if-is_empty.false) in
     rw (e.1, e.2) (rw (← c.self.view_is) (λ text raised h.
     run_refused c.in_err-tell_if.field-0.0 (error_if (is_whole c.self.inside.opening) NestedComment c.args.at) refl (rw c.is_whole-nested.ensures at c.in_err-tell_if.ensures)
     (begins_of Comment _ _ _ (run_in_comment c.args.at c.args.run.now c.utf8.run c.requires _ text raised some h))))
@@ -28,14 +29,14 @@ returns-in_err-tell_if g c =
 pub returns-in_err-keep_run : goal.returns-in_err-keep_run
 returns-in_err-keep_run g c =
     let e = err_from_is_err_and c.from_residual-in_err-keep_run.result c.from_residual-in_err-keep_run.ensures.1 in
-    let some : length c.args.run.now ≡ 0 → ⊥ = (λ z. absurd (grind (arith, nat_tests))) in
+    let some = eqb-false (length c.args.run.now) 0 (sym c.is_empty.ensures ∙ c.if-is_empty.false) in
     rw (e.1, e.2) (rw (← c.self.view_is) (λ text raised h.
     run_ran_out (error_if (is_whole c.self.inside.opening) NestedComment c.args.at) refl (rw c.is_whole-nested.ensures at c.in_ok-tell_if.ensures)
     (begins_of Comment _ _ _ (run_in_comment c.args.at c.args.run.now c.utf8.run c.requires _ text raised some h))))
 
 pub returns : goal.returns
 returns g c =
-    let some : length c.args.run.now ≡ 0 → ⊥ = (λ z. absurd (grind (arith, nat_tests))) in
+    let some = eqb-false (length c.args.run.now) 0 (sym c.is_empty.ensures ∙ c.if-is_empty.false) in
     rw c.in_ok-keep_run.ensures (rw (← c.self.view_is) (λ text raised h.
     run_goes_on (error_if (is_whole c.self.inside.opening) NestedComment c.args.at) refl (rw c.is_whole-nested.ensures at c.in_ok-tell_if.ensures)
     (run_in_comment c.args.at c.args.run.now c.utf8.run c.requires _ text raised some h)))
