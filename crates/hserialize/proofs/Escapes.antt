@@ -41,8 +41,12 @@ module _ (how : Escaping) (setting : Setting) (source : List ℕ) (done at : ℕ
       count : end - done ≡ length s.run
       count = omega (arith, s.done_is, s.at_is, here)
 
-  pub in_order : done ≤ at
-  in_order = omega (arith, s.done_is, s.at_is)
+  -- they are in order, within what is lent
+  pub in_order : (lent : List ℕ) → lent ≡ source → (done ≤ at) × (at ≤ length lent)
+  in_order lent same =
+      let whole : length lent ≡ length s.before + (length s.run + length rest) =
+      ap length (same ∙ s.parts) ∙ length-append s.before (s.run ++ rest) ∙ ap (λ n. length s.before + n) (length-append s.run rest) in
+      (omega (arith, s.done_is, s.at_is), omega (arith, whole, s.at_is))
 
   module _ (ch : ℕ) (next : List ℕ) (split : rest ≡ encode_utf8 ch ++ next) where
     escaped_next : escaped how setting rest ≡ written_char how setting ch ++ escaped how setting next
@@ -65,19 +69,19 @@ module _ (how : Escaping) (setting : Setting) (source : List ℕ) (done at : ℕ
     }
 
     -- one that is not, after the run before it
-    module _ (mid : Taken) (part : List ℕ) (is : part ≡ s.run) (first : Adds now mid part) (text : List ℕ) (same : written_char how setting ch ≡ text) where
-      run_put : HasLeft old mid (escaped how setting source) (text ++ escaped how setting next)
-      run_put = part_put old now mid _ _ part _ s.left ((λ i. sym is i ++ escaped_next i) ∙ ap (λ t. part ++ (t ++ escaped how setting next)) same) first
+    module _ (part : List ℕ) (is : part ≡ s.run) (text : List ℕ) (same : written_char how setting ch ≡ text) where
+      parted : s.run ++ escaped how setting rest ≡ (part ++ text) ++ escaped how setting next
+      parted = (λ i. sym is i ++ escaped_next i) ∙ ap (λ t. part ++ (t ++ escaped how setting next)) same ∙ sym (append_assoc part text (escaped how setting next))
 
-      pub replaced : (new : Taken) (past later : ℕ) → past ≡ at + length (encode_utf8 ch) → later ≡ at + length (encode_utf8 ch) → Adds mid new text → IsEscaping how setting source past later next old new
-      replaced new past later stands moved second = record {
+      pub replaced : (new : Taken) (past later : ℕ) → past ≡ at + length (encode_utf8 ch) → later ≡ at + length (encode_utf8 ch) → Adds now new (part ++ text) → IsEscaping how setting source past later next old new
+      replaced new past later stands moved put = record {
         before = s.before ++ (s.run ++ encode_utf8 ch);
         run = [];
         parts = s.parts ∙ ap (λ r. s.before ++ (s.run ++ r)) split ∙ ap (λ r. s.before ++ r) (sym (append_assoc s.run (encode_utf8 ch) next)) ∙ sym (append_assoc s.before (s.run ++ encode_utf8 ch) next);
         done_is = omega (arith, place, stands);
         at_is = omega (arith, place, moved);
         utf8 = next_utf8;
-        left = part_put old mid new _ _ text _ run_put refl second;
+        left = part_put old now new _ _ _ _ s.left parted put;
       }
         where
           place : at + length (encode_utf8 ch) ≡ length (s.before ++ (s.run ++ encode_utf8 ch))
@@ -86,11 +90,8 @@ module _ (how : Escaping) (setting : Setting) (source : List ℕ) (done at : ℕ
               length-append s.before (s.run ++ encode_utf8 ch) ∙ ap (λ n. length s.before + n) (length-append s.run (encode_utf8 ch)) in
               omega (arith, a, s.at_is)
 
-      pub reference_failed : (new : Taken) {e : Refusal} → Fails e mid new text → Fails e old new (escaped how setting source)
-      reference_failed new second = part_failed old mid new _ _ text _ run_put refl second
-
-  pub run_failed : (new : Taken) {e : Refusal} (part : List ℕ) → part ≡ s.run → Fails e now new part → Fails e old new (escaped how setting source)
-  run_failed new part is first = part_failed old now new _ _ part _ s.left (ap (λ l. l ++ escaped how setting rest) (sym is)) first
+      pub put_failed : (new : Taken) {e : Refusal} → Fails e now new (part ++ text) → Fails e old new (escaped how setting source)
+      put_failed new = part_failed old now new _ _ _ _ s.left parted
 
   -- the last run
   pub last_is : length rest ≡ 0 → (lent : List ℕ) → lent ≡ source → s.run ++ escaped how setting rest ≡ take (length lent - done) (drop done lent)

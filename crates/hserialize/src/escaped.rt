@@ -6,7 +6,7 @@ ghost use Rattle.hserialize.specs.Escaping.{escaped, written_char};
 ghost use Rattle.hserialize.specs.Output.{Puts, taken};
 
 use crate::escaping::{Escaping, Setting};
-use crate::sink::{Sink, put};
+use crate::sink::{Sink, put, put_before};
 use crate::target::Target;
 use names::Refusal;
 
@@ -39,8 +39,7 @@ pub(crate) fn put_escaped<W: Target>(
     let mut done = 0;
     for (at, ch) in source.char_indices() {
         if let Some(reference) = reference(ch, escaping, setting) {
-            put(out, &bytes[done..at])?;
-            put(out, reference.as_bytes())?;
+            put_before(out, &bytes[done..at], reference)?;
             done = at + ch.len_utf8();
         }
     }

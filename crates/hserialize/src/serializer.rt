@@ -20,7 +20,7 @@ use crate::escaped::put_escaped;
 use crate::escaping::{Escaping, Setting};
 use crate::gathered::Gathered;
 use crate::node_view::{NodeView, name_text};
-use crate::sink::{Sink, put, put_parts, room};
+use crate::sink::{Sink, put, put_before, put_between, room};
 use crate::target::Target;
 use crate::walk::{Reach, TreeWalk, Visit};
 use hnodes::{NodeId, Tree};
@@ -36,7 +36,7 @@ fn put_attribute<W: Target>(
 ) -> Result<(), Refusal>
     ensures { Puts (taken W.written W.failed out.old) (taken W.written W.failed out.new) (attribute_text escaping (name.now, value.now)) result }
 {
-    put_parts(out, &[b" ", name.as_bytes(), b"=\""])?;
+    put_between(out, b" ", name, b"=\"")?;
     put_escaped(out, value, escaping, Setting::Value)?;
     put(out, b"\"")
 }
@@ -53,7 +53,7 @@ fn put_start_tag<W: Target>(
     ensures { Puts (taken W.written W.failed out.old) (taken W.written W.failed out.new)
         (start_tag_text escaping (text_of names.now name) (map (spelled_attribute (text_of names.now)) (map attribute_of attrs.now))) result }
 {
-    put_parts(out, &[b"<", name_text(names, name).as_bytes()])?;
+    put_before(out, b"<", name_text(names, name))?;
     for attr in attrs {
         put_attribute(out, escaping, name_text(names, attr.name), &attr.value)?;
     }
@@ -64,21 +64,7 @@ fn put_start_tag<W: Target>(
 fn put_end_tag<W: Target>(out: &mut Sink<'_, W>, name: &str) -> Result<(), Refusal>
     ensures { Puts (taken W.written W.failed out.old) (taken W.written W.failed out.new) (end_tag_text name.now) result }
 {
-    put_parts(out, &[b"</", name.as_bytes(), b">"])
-}
-
-/// Writes a comment.
-fn put_comment<W: Target>(out: &mut Sink<'_, W>, comment: &str) -> Result<(), Refusal>
-    ensures { Puts (taken W.written W.failed out.old) (taken W.written W.failed out.new) (codes "<!--" ++ comment.now ++ codes "-->") result }
-{
-    put_parts(out, &[b"<!--", comment.as_bytes(), b"-->"])
-}
-
-/// Writes a doctype.
-fn put_doctype<W: Target>(out: &mut Sink<'_, W>, name: &str) -> Result<(), Refusal>
-    ensures { Puts (taken W.written W.failed out.old) (taken W.written W.failed out.new) (codes "<!DOCTYPE " ++ name.now ++ codes ">") result }
-{
-    put_parts(out, &[b"<!DOCTYPE ", name.as_bytes(), b">"])
+    put_between(out, b"</", name, b">")
 }
 
 /// Writes a text, raw or escaped.
@@ -135,9 +121,9 @@ fn put_opening<W: Target>(
 {
     match NodeView::of(tree, node) {
         NodeView::Document => Ok(()),
-        NodeView::Doctype(texts) => put_doctype(out, &texts.name),
+        NodeView::Doctype(texts) => put_between(out, b"<!DOCTYPE ", &texts.name, b">"),
         NodeView::Element(name, attrs) => put_start_tag(out, escaping, names, name, attrs),
-        NodeView::Comment(data) => put_comment(out, data),
+        NodeView::Comment(data) => put_between(out, b"<!--", data, b"-->"),
         NodeView::Text(data) => put_text(out, escaping, data, stands_raw(tree, node)),
     }
 }

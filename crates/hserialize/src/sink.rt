@@ -1,6 +1,6 @@
 //! Bytes to a target by way of a buffer, part by part.
 
-ghost use Rattle.std.specs.Prelude.{◌≡◌, ◌+◌, ◌≤◌, [], IfOk, OnOk, flat_map, length, vec_capacity};
+ghost use Rattle.std.specs.Prelude.{◌≡◌, ◌+◌, ◌++◌, ◌≤◌, [], IfOk, OnOk, flat_map, length, vec_capacity};
 ghost use Rattle.hserialize.specs.Output.{Adds, Ends, Puts, taken};
 
 use crate::target::{Target, write_all};
@@ -102,4 +102,29 @@ pub fn put_parts<W: Target>(out: &mut Sink<'_, W>, parts: &[&[u8]]) -> Result<()
         put(out, part)?;
     }
     Ok(())
+}
+
+/// Writes bytes, and then a text.
+#[inline(always)]
+pub(crate) fn put_before<W: Target>(
+    out: &mut Sink<'_, W>,
+    before: &[u8],
+    text: &str,
+) -> Result<(), Refusal>
+    ensures { Puts (taken W.written W.failed out.old) (taken W.written W.failed out.new) (before.now ++ text.now) result }
+{
+    put_parts(out, &[before, text.as_bytes()])
+}
+
+/// Writes a text between bytes.
+#[inline(always)]
+pub(crate) fn put_between<W: Target>(
+    out: &mut Sink<'_, W>,
+    before: &[u8],
+    text: &str,
+    after: &[u8],
+) -> Result<(), Refusal>
+    ensures { Puts (taken W.written W.failed out.old) (taken W.written W.failed out.new) (before.now ++ text.now ++ after.now) result }
+{
+    put_parts(out, &[before, text.as_bytes(), after])
 }

@@ -1,26 +1,30 @@
-use Rattle.std.proofs.Common.{◌∙◌, sym, ap, ◌+◌}
+use Rattle.std.proofs.Common.{◌∙◌, ap, ◌+◌, arith}
 use Rattle.std.specs.declared.str.CharIndices.{CharIndices}
 use Rattle.hserialize.proofs.Output.{last_put, passed_on}
-use Rattle.hserialize.proofs.Escapes.{begins_at, run_is, kept, replaced, reference_failed, run_failed, last_is}
+use Rattle.hserialize.proofs.Escapes.{begins_at, in_order, run_is, kept, replaced, put_failed, last_is}
 use Rattle.hserialize.proofs.escaped.put_escaped.Goals as goal
 
-pub returns-in_err-put : goal.returns-in_err-put
-returns-in_err-put g c =
-    let s = c.loop-at.invariant in
-    passed_on _ _ _ _ c.from_residual.ensures.1 (run_failed _ _ _ _ _ _ _ _ s _ _ (run_is _ _ _ _ _ _ _ _ s _ _ c.as_bytes-bytes.ensures.value c.in-Some.ensures.steps.0) c.in_err-put.ensures)
+pub slice_bounds-put_before-end : goal.slice_bounds-put_before-end
+slice_bounds-put_before-end g c = let (order, within) = in_order _ _ _ _ _ _ _ _ c.loop-at.invariant _ c.as_bytes-bytes.ensures.value in omega (arith, within, c.in-Some.ensures.steps.0)
 
-pub returns-in_err-put-2 : goal.returns-in_err-put-2
-returns-in_err-put-2 g c =
+pub slice_bounds-put-count : goal.slice_bounds-put-count
+slice_bounds-put-count g c = let (order, within) = in_order _ _ _ _ _ _ _ _ c.loop-at.invariant _ c.as_bytes-bytes.ensures.value in omega (arith, order, within)
+
+pub slice_bounds-put-start : goal.slice_bounds-put-start
+slice_bounds-put-start g c = let (order, within) = in_order _ _ _ _ _ _ _ _ c.loop-at.invariant _ c.as_bytes-bytes.ensures.value in omega (arith, order, within)
+
+pub returns-in_err-put_before : goal.returns-in_err-put_before
+returns-in_err-put_before g c =
     let s = c.loop-at.invariant in
-    passed_on _ _ _ _ c.from_residual-in_err-put-2.ensures.1
-    (reference_failed _ _ _ _ _ _ _ _ s c.in-Some.ch _ c.in-Some.ensures.steps.1 _ _ (run_is _ _ _ _ _ _ _ _ s _ _ c.as_bytes-bytes.ensures.value c.in-Some.ensures.steps.0) c.in_ok-put.ensures _
-    (c.in-Some-reference.ensures.some ∙ sym c.as_bytes.ensures.value) _ c.in_err-put-2.ensures)
+    passed_on _ _ _ _ c.from_residual.ensures.1
+    (put_failed _ _ _ _ _ _ _ _ s c.in-Some.ch _ c.in-Some.ensures.steps.1 _ (run_is _ _ _ _ _ _ _ _ s _ _ c.as_bytes-bytes.ensures.value c.in-Some.ensures.steps.0) _
+    c.in-Some-reference.ensures.some _ c.in_err-put_before.ensures)
 
 pub loop-at-preserved-in-Some-reference : goal.loop-at-preserved-in-Some-reference
 loop-at-preserved-in-Some-reference g c =
     let s = c.loop-at.invariant in
-    replaced _ _ _ _ _ _ _ _ s c.in-Some.ch _ c.in-Some.ensures.steps.1 _ _ (run_is _ _ _ _ _ _ _ _ s _ _ c.as_bytes-bytes.ensures.value c.in-Some.ensures.steps.0) c.in_ok-put.ensures _
-    (c.in-Some-reference.ensures.some ∙ sym c.as_bytes.ensures.value) _ _ _ (λ i. c.in-Some.ensures.steps.0 i + c.len_utf8.ensures.len i) c.in-Some.ensures.steps.2 c.in_ok-put-2.ensures
+    replaced _ _ _ _ _ _ _ _ s c.in-Some.ch _ c.in-Some.ensures.steps.1 _ (run_is _ _ _ _ _ _ _ _ s _ _ c.as_bytes-bytes.ensures.value c.in-Some.ensures.steps.0) _
+    c.in-Some-reference.ensures.some _ _ _ (λ i. c.in-Some.ensures.steps.0 i + c.len_utf8.ensures.len i) c.in-Some.ensures.steps.2 c.in_ok-put_before.ensures
 
 pub loop-at-preserved : goal.loop-at-preserved
 loop-at-preserved g c = kept _ _ _ _ _ _ _ _ c.loop-at.invariant c.in-Some.ch _ c.in-Some.ensures.steps.1 _ c.in-Some.ensures.steps.2 (c.reference.ensures.none c.in_default.is)
@@ -28,7 +32,7 @@ loop-at-preserved g c = kept _ _ _ _ _ _ _ _ c.loop-at.invariant c.in-Some.ch _ 
 pub returns : goal.returns
 returns g c =
     let s = c.loop-at.invariant in
-    last_put _ _ _ _ _ _ _ s.left (last_is _ _ _ _ _ _ _ _ s c.in-None.ensures.steps.0 _ c.as_bytes-bytes.ensures.value) c.put-2.ensures
+    last_put _ _ _ _ _ _ _ s.left (last_is _ _ _ _ _ _ _ _ s c.in-None.ensures.steps.0 _ c.as_bytes-bytes.ensures.value) c.put.ensures
 
 pub loop-at-init : goal.loop-at-init
 loop-at-init g c =

@@ -1,4 +1,4 @@
-use Rattle.std.proofs.Common.{◌≡◌, ◌∙◌, ℕ, List, [], ◌∷◌, ◌++◌, codes, refl, sym, ap}
+use Rattle.std.proofs.Common.{◌≡◌, ℕ, List, [], ◌∷◌, ◌++◌, codes, refl}
 use Rattle.std.proofs.lemmas.List.{append_assoc}
 use Rattle.hserialize.specs.Output.{taken}
 use Rattle.hserialize.specs.Escaping.{escaped}
@@ -9,19 +9,19 @@ use Rattle.hserialize.proofs.Output.{none_put, part_put, part_failed, last_put, 
 use Rattle.hserialize.proofs.serializer.put_attribute.Goals as goal
 
 -- what comes before the value, and then the value and the quote
-parted : (how : Escaping) (name lent value : List ℕ) → lent ≡ name → attribute_text how (name, value) ≡ (32 ∷ (lent ++ 61 ∷ 34 ∷ [])) ++ (escaped how Value value ++ codes "\"")
-parted how name lent value same = ap (λ n. attribute_text how (n, value)) (sym same) ∙ append_assoc (32 ∷ (lent ++ 61 ∷ 34 ∷ [])) (escaped how Value value) (codes "\"")
+parted : (how : Escaping) (name value : List ℕ) → attribute_text how (name, value) ≡ (32 ∷ (name ++ 61 ∷ 34 ∷ [])) ++ (escaped how Value value ++ codes "\"")
+parted how name value = append_assoc (32 ∷ (name ++ 61 ∷ 34 ∷ [])) (escaped how Value value) (codes "\"")
 
-pub returns-in_err-put_parts : goal.returns-in_err-put_parts
-returns-in_err-put_parts g c =
+pub returns-in_err-put_between : goal.returns-in_err-put_between
+returns-in_err-put_between g c =
     passed_on _ _ _ _ c.from_residual.ensures.1
-    (part_failed _ _ _ _ _ _ _ (none_put _ _) (parted c.args.escaping c.args.name.now c.as_bytes.result.now c.args.value.now c.as_bytes.ensures.value) c.in_err-put_parts.ensures)
+    (part_failed _ _ _ _ _ _ _ (none_put _ _) (parted c.args.escaping c.args.name.now c.args.value.now) c.in_err-put_between.ensures)
 
 pub returns-in_err-put_escaped : goal.returns-in_err-put_escaped
 returns-in_err-put_escaped g c =
     passed_on _ _ _ _ c.from_residual-in_err-put_escaped.ensures.1
     (part_failed _ _ _ _ _ (escaped c.args.escaping Value c.args.value.now) (codes "\"")
-    (part_put _ _ _ _ _ _ _ (none_put _ _) (parted c.args.escaping c.args.name.now c.as_bytes.result.now c.args.value.now c.as_bytes.ensures.value) c.in_ok-put_parts.ensures) refl c.in_err-put_escaped.ensures)
+    (part_put _ _ _ _ _ _ _ (none_put _ _) (parted c.args.escaping c.args.name.now c.args.value.now) c.in_ok-put_between.ensures) refl c.in_err-put_escaped.ensures)
 
 pub returns : goal.returns
 returns g c =
@@ -29,5 +29,5 @@ returns g c =
     let new = taken g.W.Target.written g.W.Target.failed c.put.new.out in
     last_put old _ new _ _ (codes "\"") c.put.result
     (part_put old _ _ _ _ (escaped c.args.escaping Value c.args.value.now) (codes "\"")
-    (part_put old _ _ _ _ _ _ (none_put _ _) (parted c.args.escaping c.args.name.now c.as_bytes.result.now c.args.value.now c.as_bytes.ensures.value) c.in_ok-put_parts.ensures) refl c.in_ok-put_escaped.ensures)
+    (part_put old _ _ _ _ _ _ (none_put _ _) (parted c.args.escaping c.args.name.now c.args.value.now) c.in_ok-put_between.ensures) refl c.in_ok-put_escaped.ensures)
     refl c.put.ensures

@@ -1,5 +1,5 @@
-use Rattle.std.proofs.Common.{◌≡◌, ◌∙◌, ℕ, List, [], ◌∷◌, ◌++◌, codes, map, sym, ap}
-use Rattle.std.proofs.lemmas.List.{append_assoc, append-nil, drop_all}
+use Rattle.std.proofs.Common.{◌≡◌, ◌∙◌, ℕ, List, ◌∷◌, ◌++◌, codes, map, sym, ap}
+use Rattle.std.proofs.lemmas.List.{append_assoc, drop_all}
 use Rattle.std.specs.List.{flat_map}
 use Rattle.names.specs.Names.{text_of}
 use Rattle.names.specs.declared.attr.Attr.{Attr}
@@ -13,22 +13,20 @@ use Rattle.hserialize.proofs.Output.{none_put, part_put, part_failed, last_put, 
 use Rattle.hserialize.proofs.serializer.put_start_tag.Goals as goal
 
 -- the name, and then the attributes and the end
-parted : (how : Escaping) (name lent : List ℕ) (attrs : List (Attribute (List ℕ))) → lent ≡ name → start_tag_text how name attrs ≡ (60 ∷ (lent ++ [])) ++ (flat_map (attribute_text how) attrs ++ codes ">")
-parted how name lent attrs same =
-    ap (λ n. start_tag_text how n attrs) (sym same) ∙ append_assoc (60 ∷ lent) (flat_map (attribute_text how) attrs) (codes ">")
-    ∙ ap (λ n. (60 ∷ n) ++ (flat_map (attribute_text how) attrs ++ codes ">")) (sym (append-nil lent))
+parted : (how : Escaping) (name lent : List ℕ) (attrs : List (Attribute (List ℕ))) → lent ≡ name → start_tag_text how name attrs ≡ (60 ∷ lent) ++ (flat_map (attribute_text how) attrs ++ codes ">")
+parted how name lent attrs same = ap (λ n. start_tag_text how n attrs) (sym same) ∙ append_assoc (60 ∷ lent) (flat_map (attribute_text how) attrs) (codes ">")
 
 pub name_text-requires-in-loop-attr : goal.name_text-requires-in-loop-attr
 name_text-requires-in-loop-attr g c = attributes-head c.args.names.now c.args.attrs.now c.loop-attr.attr-index c.attr-item.result c.loop-attr-test.true c.attr-item.is c.loop-attr.invariant.of
 
-pub returns-in_err-put_parts : goal.returns-in_err-put_parts
-returns-in_err-put_parts g c =
-    passed_on _ _ _ _ c.from_residual.ensures.1 (part_failed _ _ _ _ _ _ _ (none_put _ _) (parted _ _ _ _ (c.as_bytes.ensures.value ∙ c.name_text.ensures)) c.in_err-put_parts.ensures)
+pub returns-in_err-put_before : goal.returns-in_err-put_before
+returns-in_err-put_before g c =
+    passed_on _ _ _ _ c.from_residual.ensures.1 (part_failed _ _ _ _ _ _ _ (none_put _ _) (parted _ _ _ _ c.name_text.ensures) c.in_err-put_before.ensures)
 
 pub loop-attr-init : goal.loop-attr-init
 loop-attr-init g c = record {
   of = c.requires.1;
-  left = part_put _ _ _ _ _ _ _ (none_put _ _) (parted _ _ _ _ (c.as_bytes.ensures.value ∙ c.name_text.ensures)) c.in_ok-put_parts.ensures;
+  left = part_put _ _ _ _ _ _ _ (none_put _ _) (parted _ _ _ _ c.name_text.ensures) c.in_ok-put_before.ensures;
 }
 
 pub returns-in_err-put_attribute : goal.returns-in_err-put_attribute

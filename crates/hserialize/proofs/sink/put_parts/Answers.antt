@@ -1,4 +1,6 @@
-use Rattle.hserialize.proofs.Output.{part_put, part_failed, passed_on, next_part}
+use Rattle.std.proofs.Common.{ap}
+use Rattle.std.proofs.lemmas.List.{drop_all}
+use Rattle.hserialize.proofs.Output.{all_parts, all_put, part_put, part_failed, passed_on, next_part}
 use Rattle.hserialize.proofs.sink.put_parts.Goals as goal
 
 pub returns-in_err-put : goal.returns-in_err-put
@@ -8,3 +10,6 @@ returns-in_err-put g c =
 pub loop-part-preserved : goal.loop-part-preserved
 loop-part-preserved g c =
     part_put _ _ _ _ _ _ _ c.loop-part.invariant (next_part c.args.parts.now c.loop-part.part-index _ c.loop-part-test.true) c.in_ok-put.ensures
+
+pub returns : goal.returns
+returns g c = all_put _ _ _ _ c.loop-part.invariant (ap all_parts (drop_all _ _ c.loop-part-test.false))
