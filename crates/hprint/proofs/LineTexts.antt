@@ -1,7 +1,7 @@
 -- Lines that are put together of parts.
-use Rattle.std.proofs.Common.{◌≡◌, ℕ, suc, ◌+◌, ◌-◌, ◌<◌, ◌≤◌, ◌&&◌, true, false, cond, refl, take, replicate, length-append, List, [], ◌∷◌, ◌++◌, length, drop, get_or, map, sym, ap, ◌∙◌, drop-cons, add-one, arith}
+use Rattle.std.proofs.Common.{◌≡◌, ℕ, suc, ◌+◌, ◌-◌, ◌<◌, ◌≤◌, ◌&&◌, true, false, cond, refl, take, replicate, length-append, List, [], ◌∷◌, ◌++◌, length, drop, get_or, map, sym, ap, subst, ◌∙◌, drop-cons, add-one, arith}
 use Rattle.std.proofs.lemmas.Bool.{leb-true}
-use Rattle.std.proofs.lemmas.List.{append_assoc, drop-replicate}
+use Rattle.std.proofs.lemmas.List.{append_assoc, drop-replicate, length-drop, length-take-le}
 use Rattle.std.proofs.Math.Dec.{leb}
 use Rattle.std.proofs.Math.Seq.{take-append_seam}
 use Rattle.std.specs.List.{flat_map, repeat}
@@ -61,6 +61,16 @@ short _ = refl
 
 pub text_fits : (code : ErrorCode) → length (code_text code) ≤ 64
 text_fits code = leb-true (length (code_text code)) 64 (short code)
+
+pub lent_fits : (code : ErrorCode) (lent : List ℕ) → lent ≡ code_text code → length lent ≤ 64
+lent_fits code lent same = subst (λ t. length t ≤ 64) (sym same) (text_fits code)
+
+-- its place among the 86 bytes of a line
+pub copied : (xs : List ℕ) (n : ℕ) → length xs ≡ 86 → n ≤ 64 → length (take (21 + n - 21) (drop 21 xs)) ≡ n
+copied xs n all fits =
+    let left : length (drop 21 xs) ≡ length xs - 21 = length-drop 21 xs in
+    let same : 21 + n - 21 ≡ n = omega arith in
+    length-take-le (21 + n - 21) (drop 21 xs) (omega (arith, left, all, fits)) ∙ same
 
 one_end : (n m : ℕ) → n < m → drop n (replicate m 10) ≡ codes "\n" ++ replicate (m - suc n) 10
 one_end n m h = let left : m - n ≡ suc (m - suc n) = omega (arith, h) in drop-replicate n m 10 ∙ ap (λ k. replicate k 10) left

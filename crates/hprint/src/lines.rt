@@ -266,6 +266,26 @@ fn put_nodes<'a, W: Target>(
     Ok(())
 }
 
+/// Prints the nodes inside a node, where there is room for the attributes of each.
+fn print_nodes<'a, W: Target>(
+    alloc: Global,
+    entries: &mut Vec<NamedAttr<'a>>,
+    tree: &'a Tree,
+    names: &'a Names,
+    root: NodeId,
+    target: &mut W,
+) -> Result<(), Refusal>
+    requires made { root < tree.now.made }
+    requires room { (n : ℕ) → n < tree.now.made → attribute_count (what_of n tree.now.trees) ≤ vec_capacity entries.old }
+    requires names { AreOf names.now (children_of root tree.now.trees) }
+    ensures { WritesText W.written W.failed (tree_text (spelled (text_of names.now) (children_of root tree.now.trees))) target.old target.new result }
+{
+    let mut held = room(alloc)?;
+    let mut out = Sink::new(target, &mut held);
+    put_nodes(&mut out, entries, tree, names, root)?;
+    out.finish()
+}
+
 /// Prints the nodes inside a node, and flushes: a line each, two spaces deeper than the line of its parent, and a line each for
 /// the attributes of an element. All memory is taken before the first write: `Memory` comes before it, and nothing is written
 /// then. Where a write fails, what was taken before is a beginning of the text, and `Write` is returned; no write follows.
@@ -281,10 +301,7 @@ pub fn print_tree<W: Target>(
     ensures { WritesText W.written W.failed (tree_text (spelled (text_of names.now) (children_of root tree.now.trees))) target.old target.new result }
 {
     let mut entries = Vec::with_capacity(alloc, most_attributes(tree))?;
-    let mut held = room(alloc)?;
-    let mut out = Sink::new(target, &mut held);
-    put_nodes(&mut out, &mut entries, tree, names, root)?;
-    out.finish()
+    print_nodes(alloc, &mut entries, tree, names, root, target)
 }
 
 /// The text that [`print_tree`] writes. An error is `Memory`.

@@ -118,6 +118,10 @@ passed_over old new bytes (Err e) none none' name count all why beginning =
 pub next_part : (parts : List (Bor (List ℕ))) (i : ℕ) (d : Bor (List ℕ)) → i < length parts → all_parts (drop i parts) ≡ (get_or parts i d).now ++ all_parts (drop (i + 1) parts)
 next_part parts i d h = ap all_parts (drop-cons parts i d h ∙ (λ k. get_or parts i d ∷ drop (sym (add-one i) k) parts))
 
+-- a text between bytes, as it is lent
+pub between : (before lent text after : List ℕ) → lent ≡ text → before ++ (lent ++ (after ++ [])) ≡ before ++ text ++ after
+between before lent text after same = ap (λ t. before ++ (lent ++ t)) (append-nil after) ∙ ap (λ t. before ++ (t ++ after)) same ∙ sym (append_assoc before text after)
+
 -- what was put for what a node is was put for the node
 pub put_for : (old new : Taken) (bytes : Option (What ℕ) → List ℕ) (r : Result (Unit {0}) Refusal) (at n : NodeView) (o : Option (What ℕ)) → at ≡ n → Some (what_is at) ≡ o → Puts old new (bytes (Some (what_is n))) r
     → Puts old new (bytes o) r

@@ -1,7 +1,10 @@
+use Rattle.std.proofs.Common.{ap, map}
+use Rattle.std.proofs.lemmas.List.{drop_all}
+use Rattle.std.specs.List.{flat_map}
 use Rattle.hprint.specs.Entries.{pair_of}
 use Rattle.hprint.specs.Lines.{attribute_line}
 use Rattle.hprint.proofs.LineTexts.{next_items}
-use Rattle.hserialize.proofs.Output.{part_put, part_failed, passed_on}
+use Rattle.hserialize.proofs.Output.{all_put, part_put, part_failed, passed_on}
 use Rattle.hprint.proofs.lines.put_attributes.Goals as goal
 
 pub returns-in_err-put_attribute : goal.returns-in_err-put_attribute
@@ -12,3 +15,6 @@ returns-in_err-put_attribute g c =
 pub loop-entry-preserved : goal.loop-entry-preserved
 loop-entry-preserved g c =
     part_put _ _ _ _ _ _ _ c.loop-entry.invariant (next_items (attribute_line c.args.depth) pair_of c.args.entries.now c.loop-entry.entry-index _ c.loop-entry-test.true) c.in_ok-put_attribute.ensures
+
+pub returns : goal.returns
+returns g c = all_put _ _ _ _ c.loop-entry.invariant (ap (λ l. flat_map (attribute_line c.args.depth) (map pair_of l)) (drop_all _ _ c.loop-entry-test.false))

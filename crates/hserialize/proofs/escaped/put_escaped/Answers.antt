@@ -4,6 +4,9 @@ use Rattle.hserialize.proofs.Output.{last_put, passed_on}
 use Rattle.hserialize.proofs.Escapes.{begins_at, in_order, run_is, kept, replaced, put_failed, last_is}
 use Rattle.hserialize.proofs.escaped.put_escaped.Goals as goal
 
+pub slice_bounds-put_before-count : goal.slice_bounds-put_before-count
+slice_bounds-put_before-count g c = let (order, within) = in_order _ _ _ _ _ _ _ _ c.loop-at.invariant _ c.as_bytes-bytes.ensures.value in omega (arith, order, c.in-Some.ensures.steps.0)
+
 pub slice_bounds-put_before-end : goal.slice_bounds-put_before-end
 slice_bounds-put_before-end g c = let (order, within) = in_order _ _ _ _ _ _ _ _ c.loop-at.invariant _ c.as_bytes-bytes.ensures.value in omega (arith, within, c.in-Some.ensures.steps.0)
 

@@ -9,8 +9,8 @@ use Rattle.hserialize.proofs.Output.{none_put, part_put, part_failed, last_put, 
 use Rattle.hserialize.proofs.serializer.put_attribute.Goals as goal
 
 -- what comes before the value, and then the value and the quote
-parted : (how : Escaping) (name value : List ℕ) → attribute_text how (name, value) ≡ (32 ∷ (name ++ 61 ∷ 34 ∷ [])) ++ (escaped how Value value ++ codes "\"")
-parted how name value = append_assoc (32 ∷ (name ++ 61 ∷ 34 ∷ [])) (escaped how Value value) (codes "\"")
+parted : (how : Escaping) (name value : List ℕ) → attribute_text how (name, value) ≡ (codes " " ++ name ++ codes "=\"") ++ (escaped how Value value ++ codes "\"")
+parted how name value = append_assoc (codes " " ++ name ++ codes "=\"") (escaped how Value value) (codes "\"")
 
 pub returns-in_err-put_between : goal.returns-in_err-put_between
 returns-in_err-put_between g c =

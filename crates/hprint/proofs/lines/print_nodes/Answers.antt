@@ -1,6 +1,6 @@
 use Rattle.std.proofs.Common.{◌∙◌, ap, rules}
 use Rattle.hserialize.proofs.Finished.{cut_short, finished}
-use Rattle.hprint.proofs.lines.print_tree.Goals as goal
+use Rattle.hprint.proofs.lines.print_nodes.Goals as goal
 
 pub returns-in_err-put_nodes : goal.returns-in_err-put_nodes
 returns-in_err-put_nodes g c =
