@@ -297,6 +297,12 @@ pub found : (names : Texts) (made : ℕ) (f : Forest ℕ) (root : ℕ) (context 
     → true ≡ is_plain context (spelled (text_of names) (children_of root f))
 found names made f root context in_form left is s = (subst (IsFinding names made f root context in_form) is s).same
 
+-- no list is plain where none is at the top
+pub none_plain : (context : List ℕ) (t : Tag) (f : Forest (List ℕ)) → in_context_of (row t).1 (is_form t) ≡ in_context context → top_content (row t).1 ≡ None → false ≡ is_plain context f
+none_plain context t f named missing =
+    ap (λ o. are_content_if (option_map (λ own. record { content = own; texts = texts_at_top own; in_a = false; in_button = false; in_form = is_form t }) o) f) (sym missing)
+    ∙ ap (λ o. are_content_if o f) (sym (top_is (row t).1 (is_form t)) ∙ named)
+
 -- a top region that is not content
 pub not_plain : (context : List ℕ) (t : Tag) (top : Content) (f : Forest (List ℕ)) → in_context_of (row t).1 (is_form t) ≡ in_context context → Some top ≡ top_content (row t).1
     → false ≡ are_region_content (in_region top) f → false ≡ is_plain context f

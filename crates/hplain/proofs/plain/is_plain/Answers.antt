@@ -7,7 +7,7 @@ use Rattle.hnodes.specs.Spelled.{spelled}
 use Rattle.hplain.specs.ContentTable.{row}
 use Rattle.hplain.specs.Plain.{in_context, in_context_of, is_form}
 use Rattle.hplain.specs.Testing.{top_content}
-use Rattle.hplain.proofs.Regions.{begun, fails, found, goes_on, next_is, not_plain, top_other}
+use Rattle.hplain.proofs.Regions.{begun, fails, found, goes_on, next_is, none_plain, not_plain, top_other}
 use Rattle.hplain.proofs.plain.is_plain.Goals as goal
 
 -- the plain lists in an element whose known name is that of the context
@@ -16,6 +16,10 @@ of_context context t h = ap (λ u. in_context_of (row u).1 (is_form u)) h
 
 pub is_plain_region-requires-clause-not_phrasing : goal.is_plain_region-requires-clause-not_phrasing
 is_plain_region-requires-clause-not_phrasing c = top_other _ c.in-Some.top (sym c.in-Some.is ∙ c.at_top.ensures ∙ ap (λ r. top_content r.1) c.row.ensures)
+
+pub returns-in_default : goal.returns-in_default
+returns-in_default c =
+    none_plain c.args.context.now c.named-tag.result _ (of_context c.args.context.now c.named-tag.result c.named-tag.ensures) (sym (c.at_top.ensures ∙ ap (λ r. top_content r.1) c.row.ensures) ∙ c.in_default.is)
 
 pub returns-then-not-is_plain_region : goal.returns-then-not-is_plain_region
 returns-then-not-is_plain_region c =
