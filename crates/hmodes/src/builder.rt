@@ -137,8 +137,8 @@ impl<'q> Builder<'q> {
         Ok(())
     }
 
-    /// Takes the first character of a run by itself. If what is left can be put whole then, as after a character that reconstructs
-    /// formatting elements, it is; otherwise its characters are taken one by one.
+    /// Takes the first character of a run by itself. If what is left can be put whole then, as after one that changes the mode, or an LF
+    /// that is dropped, it is; otherwise its characters are taken one by one.
     fn take_first(&mut self, run: &str, at: u64) -> Result<(), Refusal>
         requires clean { list_all is_clean (chars run.now) ≡ true }
         requires within { at + length run.now ≤ MAX_INPUT }
