@@ -15,3 +15,4 @@ pub mod Opening
 pub mod OneReference
 pub mod SomeReference
 pub mod AtOnce
+pub mod WholeNumbers

@@ -5,17 +5,18 @@ ghost use Rattle.std.specs.Char.{is_ascii};
 ghost use Rattle.std.specs.List.{list_all, starts_with};
 ghost use Rattle.names.specs.declared.placed.Placed.{Placed};
 ghost use Rattle.names.specs.Placed.{placed};
-ghost use Rattle.charref.specs.Reference.{IsTable};
+ghost use Rattle.charref.specs.Reference.{Entities, IsTable};
 ghost use Rattle.charref.specs.Table.{entry};
 ghost use Rattle.charref.specs.Pieces.{IsRead};
-ghost use Rattle.charref.specs.AtOnce.{HasTakenBytes, HasWhole, Settles};
+ghost use Rattle.charref.specs.AtOnce.{HasTakenBytes, HasSign, HasWhole, Settles};
 
 use crate::entity::Entity;
+use crate::number::Base;
 use crate::reference::{Characters, Reference};
 use crate::reference_state::ReferenceState;
 use crate::table::Table;
 use crate::walk::Walk;
-use crate::walking::ends_in_semicolon;
+use crate::walking::{ends_in_semicolon, number};
 
 impl<'t> Walk<'t> {
     /// What is at an `&` outside an attribute value after which these bytes come, and how many of them settle it; `None`
@@ -45,6 +46,9 @@ impl<'t> Walk<'t> {
         requires { HasTakenBytes self self.table.now bytes.now 1 }
         ensures { IfSome result (λ it. Settles self.entry.table.now bytes.now it.1 it.0) }
     {
+        if let ReferenceState::NumberSign = self.state {
+            return settled_number(bytes);
+        }
         let Some(entity) = self.only_key(bytes) else {
             return self.settled_by_steps(bytes);
         };
@@ -112,4 +116,40 @@ fn begin_with(bytes: &[u8], name: &[u8]) -> bool
         }
     }
     true
+}
+
+/// A numeric reference, if these bytes, the first of them a `#`, begin with the rest of it after its `&`, and it has a digit
+/// and a `;`; and how many of the bytes are its own.
+#[inline(never)]
+fn settled_number<'t>(bytes: &[u8]) -> Option<(Reference<'t>, usize)>
+    requires { HasSign Base.Decimal bytes.now 1 }
+    ensures { IfSome result (λ it. (table : Entities) → Settles table bytes.now it.1 it.0) }
+{
+    let second = *bytes.get(1)?;
+    if second == b'x' || second == b'X' {
+        return number_after(Base::Hexadecimal, bytes, 2);
+    }
+    number_after(Base::Decimal, bytes, 1)
+}
+
+/// The same, in this base, where the digits begin at `start`.
+#[inline(always)]
+fn number_after<'t>(base: Base, bytes: &[u8], start: usize) -> Option<(Reference<'t>, usize)>
+    requires { HasSign base bytes.now start }
+    ensures { IfSome result (λ it. (table : Entities) → Settles table bytes.now it.1 it.0) }
+{
+    let mut value = 0;
+    let mut count = start;
+    while count < bytes.len() {
+        let ch = char::from(bytes[count]);
+        let Some(digit) = base.digit(ch) else {
+            break;
+        };
+        value = base.more(value, digit);
+        count += 1;
+    }
+    if count == start || count == bytes.len() || bytes[count] != b';' {
+        return None;
+    }
+    Some((number(value, 0, false), count + 1))
 }

@@ -163,7 +163,7 @@ fn decided<'t>(
 }
 
 /// A numeric reference (13.2.5.80).
-fn number<'t>(value: u32, left: usize, missing_semicolon: bool) -> Reference<'t>
+pub(crate) fn number<'t>(value: u32, left: usize, missing_semicolon: bool) -> Reference<'t>
     ensures { result ≡ number_of value left missing_semicolon }
 {
     Reference {

@@ -1,0 +1,117 @@
+-- A numeric reference that stands whole in a run of the input, outside a value.
+use Rattle.std.proofs.Common.{arith, ◌≡◌, ℕ, ◌+◌, ◌*◌, ◌≤◌, ◌<◌, min, Bool, true, false, nat_eq, List, [], ◌∷◌, ◌++◌, length, take, get_or, inl, inr, ◌⊎◌, refl, sym, ap, ◌∙◌, subst}
+use Rattle.std.proofs.lemmas.Bool.{and_from}
+use Rattle.std.proofs.lemmas.Bool.Decides.{nat_tests}
+use Rattle.std.proofs.lemmas.List.{take_more}
+use Rattle.std.proofs.lemmas.List.Folds.{list_all_more}
+use Rattle.std.specs.Char.{is_ascii}
+use Rattle.std.specs.List.{list_all}
+use Rattle.names.specs.declared.placed.Placed.{Placed}
+use Rattle.names.specs.Placed.{placed}
+use Rattle.charref.specs.declared.number.Base.{Base}
+use Rattle.charref.specs.declared.number.Base.TheVariants.{Decimal, Hexadecimal}
+use Rattle.charref.specs.declared.reference.Reference.{Reference}
+use Rattle.charref.specs.declared.reference_state.ReferenceState.TheVariants.{NumberSign, Number}
+use Rattle.charref.specs.declared.walk.Walk.{Walk}
+use Rattle.charref.specs.Reference.{Entities, digit_value}
+use Rattle.charref.specs.Number.{is_digit_of, radix}
+use Rattle.charref.specs.Held.{IsHeld, IsSign}
+use Rattle.charref.specs.Pieces.{IsRead, number_of}
+use Rattle.charref.specs.AtOnce.{HasTakenBytes, HasSign, Settles}
+use Rattle.charref.proofs.Numbers.{two_signs, first_digit, next_digit, number_closed}
+use Rattle.charref.proofs.Taking.{held_sign, held_x, own}
+use Rattle.charref.proofs.AtOnce.{Last, last_placed}
+
+-- one byte more
+more_bytes : (bytes : List ℕ) (count : ℕ) → count < length bytes → (at : ℕ) (last : Last at (take count bytes) (get_or bytes count 0)) → placed at (take (count + 1) bytes) ≡ placed at (take count bytes) ++ last.p ∷ []
+more_bytes bytes count within at last = ap (placed at) (take_more bytes count 0 within) ∙ last.is
+
+more_ascii : (bytes : List ℕ) (count : ℕ) → count < length bytes → list_all is_ascii (take count bytes) ≡ true → is_ascii (get_or bytes count 0) ≡ true → list_all is_ascii (take (count + 1) bytes) ≡ true
+more_ascii bytes count within before ascii = list_all_more is_ascii bytes count 0 within ∙ and_from _ _ before ascii
+
+-- SIGNS
+
+pub number_sign_taken : (walk : Walk) (table : Entities) (bytes : List ℕ) → HasTakenBytes walk table bytes 1 → walk.state ≡ NumberSign → HasSign Decimal bytes 1
+number_sign_taken walk table bytes taken is = record {
+  few = taken.few;
+  ascii = taken.ascii;
+  sign = λ at. held_sign walk.table.now walk.in_value (placed at (take 1 bytes)) (own walk table false (placed at (take 1 bytes)) NumberSign (taken.taken at) is);
+}
+
+is_x : (c d : ℕ) → c ≡ d → (d ≡ 120) ⊎ (d ≡ 88) → (c ≡ 120) ⊎ (c ≡ 88)
+is_x c d same (inl h) = inl (same ∙ h)
+is_x c d same (inr h) = inr (same ∙ h)
+
+x_ascii : (c : ℕ) → (c ≡ 120) ⊎ (c ≡ 88) → is_ascii c ≡ true
+x_ascii c (inl h) = ap is_ascii h
+x_ascii c (inr h) = ap is_ascii h
+
+pub x_taken : (bytes : List ℕ) (x : ℕ) → HasSign Decimal bytes 1 → 1 < length bytes → x ≡ get_or bytes 1 0 → (x ≡ 120) ⊎ (x ≡ 88) → HasSign Hexadecimal bytes 2
+x_taken bytes x before within same is = record {
+  few = omega arith;
+  ascii = more_ascii bytes 1 within before.ascii (x_ascii (get_or bytes 1 0) (is_x (get_or bytes 1 0) x (sym same) is));
+  sign = λ at. let last : Last at (take 1 bytes) (get_or bytes 1 0) = last_placed at (take 1 bytes) (get_or bytes 1 0) in
+      subst (IsSign Hexadecimal) (sym (more_bytes bytes 1 within at last))
+      (held_x [] false (placed at (take 1 bytes) ++ last.p ∷ []) (two_signs [] false (placed at (take 1 bytes)) last.p (before.sign at) (is_x last.p.ch x (last.ch ∙ sym same) is)));
+}
+
+-- DIGITS
+
+digit_ascii : (base : Base) (c : ℕ) → is_digit_of base c ≡ true → is_ascii c ≡ true
+digit_ascii Decimal c h = grind (arith, nat_tests)
+digit_ascii Hexadecimal c h = grind (arith, nat_tests)
+
+-- The bytes from `start` up to `count` are digits, and this is their number.
+pub record HasDigits (base : Base) (bytes : List ℕ) (start count value : ℕ) : Type 0 where
+  pub after : start ≤ count
+  pub few : count ≤ length bytes
+  pub small : value ≤ 0x110000
+  pub ascii : list_all is_ascii (take count bytes) ≡ true
+  pub none : count ≡ start → value ≡ 0
+  pub some : start < count → (table : Entities) (at : ℕ) → IsHeld table false (Number base value) (placed at (take count bytes))
+
+pub no_digits_yet : (base : Base) (bytes : List ℕ) (start : ℕ) → HasSign base bytes start → HasDigits base bytes start start 0
+no_digits_yet base bytes start sign =
+    record { after = omega arith; few = sign.few; small = omega arith; ascii = sign.ascii; none = λ same. refl; some = λ less. absurd (omega arith) }
+
+pub one_digit_more : (base : Base) (bytes : List ℕ) (start count value byte d next : ℕ) → HasSign base bytes start → HasDigits base bytes start count value → count < length bytes → byte ≡ get_or bytes count 0
+    → is_digit_of base byte ≡ true → d ≡ digit_value byte → d < 16 → next ≡ min (value * radix base + d) 0x110000 → HasDigits base bytes start (count + 1) next
+one_digit_more base bytes start count value byte d next sign before within is digit d-is small next-is =
+    let after : start ≤ count = before.after in
+    record {
+      after = omega arith;
+      few = omega arith;
+      small = omega arith;
+      ascii = more_ascii bytes count within before.ascii (ap is_ascii (sym is) ∙ digit_ascii base byte digit);
+      none = λ same. absurd (omega arith);
+      some = λ less table at. let last : Last at (take count bytes) (get_or bytes count 0) = last_placed at (take count bytes) (get_or bytes count 0) in
+          subst (IsHeld table false (Number base next)) (sym (more_bytes bytes count within at last))
+          (held table at last.p (last.ch ∙ sym is) (nat_eq count start) refl);
+    }
+  where
+    first : (b : Base) → next ≡ min (0 * radix b + d) 0x110000 → next ≡ d
+    first Decimal h = omega arith
+    first Hexadecimal h = omega arith
+
+    held : (table : Entities) (at : ℕ) (p : Placed) → p.ch ≡ byte → (b : Bool) → nat_eq count start ≡ b → IsHeld table false (Number base next) (placed at (take count bytes) ++ p ∷ [])
+    held table at p ch true test =
+        let same : count ≡ start = grind (arith, nat_tests) in
+        let next-d : next ≡ d = first base (next-is ∙ ap (λ v. min (v * radix base + d) 0x110000) (before.none same)) in
+        first_digit table false base (placed at (take count bytes)) p next (subst (λ n. IsSign base (placed at (take n bytes))) (sym same) (sign.sign at))
+        (ap (is_digit_of base) ch ∙ digit) (next-d ∙ d-is ∙ ap digit_value (sym ch)) (omega arith)
+    held table at p ch false test =
+        let less : start < count = (let le : start ≤ count = before.after in grind (arith, nat_tests)) in
+        next_digit table false base value (placed at (take count bytes)) p d next (before.some less table at) (ap (is_digit_of base) ch ∙ digit) (d-is ∙ ap digit_value (sym ch)) next-is
+
+-- and their `;`
+pub number_settles : (base : Base) (bytes : List ℕ) (start count value : ℕ) (found : Reference) → HasDigits base bytes start count value → start < count → count < length bytes → get_or bytes count 0 ≡ 59
+    → found ≡ number_of value 0 false → (table : Entities) → Settles table bytes (count + 1) found
+number_settles base bytes start count value found digits some within semicolon is table = record {
+  some = omega arith;
+  few = omega arith;
+  ascii = more_ascii bytes count within digits.ascii (ap is_ascii semicolon);
+  read = λ at after. let last : Last at (take count bytes) (get_or bytes count 0) = last_placed at (take count bytes) (get_or bytes count 0) in
+      subst (λ text. IsRead table false text after found) (sym (more_bytes bytes count within at last))
+      (subst (λ r. IsRead table false (placed at (take count bytes) ++ last.p ∷ []) after r) (sym is)
+      (number_closed table false base value (placed at (take count bytes)) after last.p (digits.some some table at) (last.ch ∙ semicolon)));
+}

@@ -1,0 +1,9 @@
+use Rattle.std.proofs.Common.{◌-◌, length}
+use Rattle.charref.proofs.WholeNumbers.{HasDigits}
+use Rattle.charref.proofs.at_once.number_after.Given as goal
+
+abbrev pub invariant-loop-count : goal.invariant-loop-count
+invariant-loop-count l = HasDigits l.base l.bytes l.start l.count l.value
+
+abbrev pub decreases-loop-count : goal.decreases-loop-count
+decreases-loop-count l = length l.bytes - l.count
