@@ -1,4 +1,5 @@
 pub mod Sorting
 pub mod Ordered
 pub mod LineTexts
+pub mod ErrorTexts
 pub mod Printed

@@ -1,4 +1,5 @@
 pub mod Lines
+pub mod ErrorLines
 pub mod LineRows
 pub mod Printing
 pub mod Entries

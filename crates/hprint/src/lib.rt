@@ -1,6 +1,7 @@
 //! Trees and errors as the program prints them.
 #![tactic(auto)]
 
+mod error_line;
 mod lines;
 mod sorted;
 

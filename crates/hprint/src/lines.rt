@@ -9,7 +9,7 @@ ghost use Rattle.hnodes.specs.Rows.{attribute_of};
 ghost use Rattle.hnodes.specs.Spots.{what_of};
 ghost use Rattle.hnodes.specs.Spelled.{spelled, spelled_what};
 ghost use Rattle.hprint.specs.Entries.{pair_of};
-ghost use Rattle.hprint.specs.Lines.{indented, attribute_line, identifiers, node_lines, error_line, error_lines, tree_text};
+ghost use Rattle.hprint.specs.Lines.{indented, attribute_line, identifiers, node_lines, error_lines, tree_text};
 ghost use Rattle.hnodes.specs.Named.{NodeIsOf, AreOf, IsLent};
 ghost use Rattle.hserialize.specs.Gathered.{Holds};
 ghost use Rattle.hserialize.specs.Output.{Puts, WritesText, taken};
@@ -17,12 +17,12 @@ ghost use Rattle.hprint.specs.Printing.{IsOpen, attribute_count, depth_after, li
 ghost use Rattle.hserialize.specs.Words.{is_empty};
 ghost use Rattle.hserialize.specs.Walk.{node_of};
 
+use crate::error_line::{ErrorLine, put_error};
 use crate::sorted::{NamedAttr, in_order};
 use hnodes::{DocumentType, NodeId, Tree};
 use hserialize::{
     Gathered, NodeView, Reach, Sink, Target, TreeWalk, Visit, name_text, put, put_parts, room,
 };
-use itoa::write_digits;
 use names::{Attr, NameId, Names, ParseError, Refusal};
 use std::alloc::Global;
 
@@ -320,31 +320,16 @@ pub fn tree_text(
     text.into_text(answer)
 }
 
-/// The most digits of an error's place.
-const DIGITS: usize = 20;
-
-/// The most bytes of an error's line: the digits, a space, the longest text and the end.
-const LINE: usize = DIGITS + 1 + 64 + 1;
-
-/// Writes the line of an error, which is put together first: one write is cheaper than four.
-fn put_error<W: Target>(out: &mut Sink<'_, W>, error: &ParseError) -> Result<(), Refusal>
-    ensures { Puts (taken W.written W.failed out.old) (taken W.written W.failed out.new) (error_line error.now) result }
-{
-    let text = error.code.text().as_bytes();
-    let end = DIGITS + 1 + text.len();
-    let mut line = [b'\n'; LINE];
-    line[DIGITS] = b' ';
-    line[DIGITS + 1..end].copy_from_slice(text);
-    let start = write_digits(error.at, &mut line, DIGITS);
-    put(out, &line[start..=end])
-}
-
 /// Writes the lines of errors. Nothing is handed on.
 fn put_errors<W: Target>(out: &mut Sink<'_, W>, errors: &[ParseError]) -> Result<(), Refusal>
     ensures { Puts (taken W.written W.failed out.old) (taken W.written W.failed out.new) (error_lines errors.now) result }
 {
+    let Some(first) = errors.first() else {
+        return Ok(());
+    };
+    let mut line = ErrorLine::of(first.code);
     for error in errors {
-        put_error(out, error)?;
+        put_error(out, &mut line, error)?;
     }
     Ok(())
 }

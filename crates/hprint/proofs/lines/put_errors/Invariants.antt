@@ -1,4 +1,5 @@
 use Rattle.std.proofs.Common.{drop}
+use Rattle.hprint.specs.ErrorLines.{IsLine}
 use Rattle.hprint.specs.Lines.{error_lines}
 use Rattle.hserialize.specs.Output.{taken}
 use Rattle.hserialize.proofs.Output.{HasLeft}
@@ -7,4 +8,4 @@ use Rattle.hprint.proofs.lines.put_errors.Given as goal
 -- the lines that are left
 abbrev pub invariant-loop-error : goal.invariant-loop-error
 invariant-loop-error g l =
-    HasLeft (taken g.W.Target.written g.W.Target.failed l.initial.out) (taken g.W.Target.written g.W.Target.failed l.out) (error_lines l.errors) (error_lines (drop l.error-index l.errors))
+    HasLeft (taken g.W.Target.written g.W.Target.failed l.initial.out) (taken g.W.Target.written g.W.Target.failed l.out) (error_lines l.errors) (error_lines (drop l.error-index l.errors)) × IsLine l.line
