@@ -240,7 +240,7 @@ fn put_joined(
     Ok(())
 }
 
-/// A short text and what follows it. What is too long to be short is allocated once, with room for 32 bytes or more.
+/// A short text and what follows it. What is too long to be short is allocated once, with room for 64 bytes or more.
 fn joined(start: ArrayString<SHORT>, more: &str, alloc: Global) -> Result<NodeData, AllocError>
     ensures { IfOk result (λ content. content_is content ≡ text (start.bytes ++ more.now)) }
 {
@@ -248,7 +248,7 @@ fn joined(start: ArrayString<SHORT>, more: &str, alloc: Global) -> Result<NodeDa
     if short.try_push_str(more).is_ok() {
         return Ok(NodeData::Short(short));
     }
-    let mut long = String::with_capacity(alloc, more.len().saturating_add(SHORT).max(2 * SHORT))?;
+    let mut long = String::with_capacity(alloc, more.len().saturating_add(SHORT).max(4 * SHORT))?;
     long.push_str(&short)?;
     long.push_str(more)?;
     Ok(NodeData::Text(long))

@@ -422,6 +422,7 @@ impl<'t> Tokenizer<'t> {
     }
 
     /// Follows the level of script data.
+    #[inline(always)]
     pub(crate) fn follow_run(&mut self, run: &str)
         ensures then { self.new ≡ record self.old { script = self.new.script } }
         ensures follows { (at : ℕ) → is_script self.old.kind ≡ true → FollowsAll self.old.script (placed at (chars run.now)) self.new.script }
