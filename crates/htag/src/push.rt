@@ -88,20 +88,6 @@ pub(crate) fn push_all(text: &mut String, characters: &[char]) -> Result<(), All
     Ok(())
 }
 
-/// How many bytes of an ASCII text are before the first one that is this character.
-#[inline(always)]
-pub(crate) fn count_before(text: &str, mark: char) -> usize
-    ensures counted { result ≡ prefix_len (λ c. not (c == mark)) text.now }
-    ensures few { result ≤ length text.now }
-{
-    for (index, byte) in text.as_bytes().iter().enumerate() {
-        if char::from(*byte) == mark {
-            return index;
-        }
-    }
-    text.len()
-}
-
 /// Whether a byte has no meaning of its own in a name and in a value without quotes: a small letter, first of all.
 #[inline(always)]
 fn is_word(byte: u8) -> bool

@@ -10,10 +10,11 @@ ghost use Rattle.htag.specs.Run.{TakesPart, TakesRun};
 ghost use Rattle.htag.specs.TagWalk.{IsInTag};
 
 use crate::pending::Pending;
-use crate::push::{count_before, count_word, push_front, rest_of};
+use crate::push::{count_word, push_front, rest_of};
 use crate::tag_state::TagState;
 use crate::walk::TagWalk;
 use charref::Table;
+use htext::run_before;
 use names::{Names, ParseError, Refusal};
 use std::alloc::AllocError;
 
@@ -256,8 +257,11 @@ impl<'t> TagWalk<'t> {
         requires within { from ≤ length run.now }
         ensures { IfOk result (λ to. (at : ℕ) → TakesPart self.old run.now at from to self.new) }
     {
+        let Ok(mark) = u8::try_from(mark) else {
+            return Ok(from);
+        };
         let rest = rest_of(run, from);
-        let count = count_before(rest, mark);
+        let count = run_before(mark, rest.as_bytes());
         push_front(&mut self.value.text, rest, count)?;
         Ok(from + count)
     }

@@ -91,6 +91,23 @@ pub masked : (f : ℕ → ℕ) (p : ℕ → Bool) (v z : List ℕ) → length v 
 masked f p v z short fits e all =
     ap (λ l. mask_l l % 2 ^ 64) (ap (map (top 7)) e ∙ each_byte f p all v fits) ∙ mask_l-mod (map p v) 64 (omega (arith, length-map v p))
 
+-- the same where the two agree at every number
+pub masked_by : (f : ℕ → ℕ) (p : ℕ → Bool) (v z : List ℕ) → length v ≤ 64 → z ≡ map f v → ((x : ℕ) → top 7 (f x) ≡ p x)
+    → mask_l (map (top 7) z) % 2 ^ 64 ≡ mask_l (map p v)
+masked_by f p v z short e agree = ap (λ l. mask_l l % 2 ^ 64) (ap (map (top 7)) e ∙ each v) ∙ mask_l-mod (map p v) 64 (omega (arith, length-map v p))
+  where
+    each : (xs : List ℕ) → map (top 7) (map f xs) ≡ map p xs
+    each [] = refl
+    each (x ∷ xs) = ap₂ (λ a b. a ∷ b) (agree x) (each xs)
+
+-- the top bit of a comparison
+pub hit_top : (x y : ℕ) → top 7 (hit x y) ≡ not (not (eqb x y))
+hit_top x y = by (eqb x y)
+  where
+    by : (b : Bool) → top 7 (cond b 255 0) ≡ not (not b)
+    by true = refl
+    by false = refl
+
 -- RUNS
 
 none_fails : (b : Bool) (n l m : ℕ) → n ≤ l → cond (not b) (1 + n) 0 ≡ 1 + l → (n ≡ l → m ≡ 0) → cond b 1 0 + 2 * m ≡ 0

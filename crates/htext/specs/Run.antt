@@ -6,7 +6,7 @@ use Rattle.std.specs.Str.{chars, IsUtf8}
 use Rattle.names.specs.Placed.{placed, is_alphanumeric}
 use Rattle.htext.specs.Items.{CharItem, Character}
 use Rattle.htext.specs.declared.run.RunBytes.{RunBytes}
-use Rattle.htext.specs.declared.run.RunBytes.TheVariants.{Inner, Text, Clean, Alphanumeric}
+use Rattle.htext.specs.declared.run.RunBytes.TheVariants.{Inner, Text, Clean, Alphanumeric, Other}
 
 -- a byte that is a character by itself, is in the text as it came but for an LF after a CR, raises no error, and is neither `<` nor `&`
 abbrev pub is_plain_byte : ℕ → Bool
@@ -39,6 +39,7 @@ is_of Inner byte = is_inner_byte byte
 is_of Text byte = is_text_byte byte
 is_of Clean byte = is_clean_byte byte
 is_of Alphanumeric byte = is_alphanumeric byte
+is_of (Other mark) byte = not (byte == mark)
 
 abbrev pub is_not_of : RunBytes → ℕ → Bool
 is_not_of kind byte = not (is_of kind byte)

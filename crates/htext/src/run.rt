@@ -1,6 +1,6 @@
 //! Runs of bytes.
 
-ghost use Rattle.std.specs.Prelude.{◌≡◌, ◌<◌, ◌≤◌, map, length, Some, MatchBool};
+ghost use Rattle.std.specs.Prelude.{◌≡◌, ◌<◌, ◌≤◌, ◌==◌, not, map, length, Some, MatchBool};
 ghost use Rattle.std.specs.List.{prefix_len};
 ghost use Rattle.std.specs.Simd.Lanes.{mask_l};
 ghost use Rattle.std.specs.Str.Lossy.{utf8_valid_len, utf8_error_len};
@@ -21,6 +21,8 @@ pub(crate) enum RunBytes {
     Clean,
     /// ASCII letters and digits.
     Alphanumeric,
+    /// All but this one.
+    Other(u8),
 }
 
 /// The bytes of clean characters by their halves: a bit for each kind of high half, 1 for 0, 2 for 2 to 6, 4 for 7, 8 for 8 to B and D,
@@ -62,6 +64,15 @@ pub fn alphanumeric_run(bytes: &[u8]) -> usize
     ensures { result ≡ prefix_len is_alphanumeric bytes.now }
 {
     run(RunBytes::Alphanumeric, bytes)
+}
+
+/// Counts the bytes before the first one that is `mark`.
+#[inline(always)]
+pub fn run_before(mark: u8, bytes: &[u8]) -> usize
+    ensures counted { result ≡ prefix_len (λ byte. not (byte == mark)) bytes.now }
+    ensures few { result ≤ length bytes.now }
+{
+    run(RunBytes::Other(mark), bytes)
 }
 
 /// Counts bytes at the front, at most this many, each of which is a bad part by itself.
@@ -132,6 +143,7 @@ fn stops(kind: RunBytes, bytes: u8x16) -> u64
         RunBytes::Text => marks.to_bitmask(),
         RunBytes::Clean => unclean(bytes),
         RunBytes::Alphanumeric => others_than_alphanumerics(bytes),
+        RunBytes::Other(mark) => bytes.simd_eq(u8x16::splat(mark)).to_bitmask(),
     }
 }
 
@@ -169,6 +181,7 @@ fn is_in_run(kind: RunBytes, byte: u8) -> bool
             b'\t' | b'\n' | 0x0C | b' '..=b'~' | 0x80..=0xBF | 0xC3..=0xEE
         ),
         RunBytes::Alphanumeric => byte.is_ascii_alphanumeric(),
+        RunBytes::Other(mark) => byte != mark,
     }
 }
 

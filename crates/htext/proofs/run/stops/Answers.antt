@@ -2,8 +2,8 @@ use Rattle.std.proofs.Common.{◌≡◌, ℕ, List, bit_or, cond, leb, length, m
 use Rattle.std.proofs.lemmas.Simd.{zip2_splat, zip2_splat_left, zip2_of_maps}
 use lib.Lanes.{zip2}
 use Rattle.htext.specs.Run.{is_not_of}
-use Rattle.htext.specs.declared.run.RunBytes.TheVariants.{Inner, Text}
-use Rattle.htext.proofs.Lanes.{hit, masked}
+use Rattle.htext.specs.declared.run.RunBytes.TheVariants.{Inner, Text, Other}
+use Rattle.htext.proofs.Lanes.{hit, hit_top, masked, masked_by}
 use Rattle.htext.proofs.run.stops.Goals as goal
 
 abbrev mark : ℕ → ℕ
@@ -25,3 +25,8 @@ returns-in-Inner c =
 
 pub returns-in-Text : goal.returns-in-Text
 returns-in-Text c = rw c.in-Text.is (masked mark (is_not_of Text) c.args.bytes _ (omega arith) c.fits-bytes.1 (marks c.args.bytes c.fits-bytes.0) tt)
+
+pub returns-in-Other : goal.returns-in-Other
+returns-in-Other c =
+    let v = c.args.bytes in
+    rw c.in-Other.is (masked_by (λ x. hit x c.in-Other.mark) (is_not_of (Other c.in-Other.mark)) v _ (omega (arith, c.fits-bytes.0)) (zip2_splat hit v 16 c.in-Other.mark c.fits-bytes.0) (λ x. hit_top x c.in-Other.mark))

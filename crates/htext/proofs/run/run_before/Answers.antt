@@ -1,0 +1,6 @@
+use Rattle.std.proofs.Common.{◌==◌, not, arith}
+use Rattle.std.proofs.lemmas.List.Sums.{prefix_len-le-length}
+use Rattle.htext.proofs.run.run_before.Goals as goal
+
+pub returns-clause-few : goal.returns-clause-few
+returns-clause-few c = omega (arith, c.run.ensures, prefix_len-le-length (λ byte. not (byte == c.args.mark)) c.args.bytes.now)
