@@ -11,3 +11,4 @@ pub mod ExchangedItems
 pub mod ExchangedTables
 pub mod ExchangedStack
 pub mod WrittenBack
+pub mod SetsOf

@@ -6,6 +6,7 @@ mod kept;
 pub mod laws;
 mod name_sets;
 pub mod scope;
+mod sets_of;
 mod sought;
 pub mod stack;
 mod window;

@@ -4,7 +4,11 @@ ghost use Rattle.std.specs.Prelude.{◌≡◌, false, if◌then◌else◌};
 ghost use Rattle.hopen.specs.NameSets.{is_in_set, set_place};
 ghost use Rattle.hopen.specs.Exchanged.{IsOutside, AreDropped, AreRenewed};
 
-use crate::scope::{Group, Scope, stops_item};
+use crate::scope::{Group, Scope};
+use crate::sets_of::{
+    BUTTON_SCOPE, CELL, HEADING, ITEM_STOP, LIST_ITEM_SCOPE, MUST_CLOSE, SCOPE, SPECIAL,
+    TABLE_SCOPE, TABLE_SECTION, TELLS_MODE, sets_of,
+};
 use crate::window::Window;
 use names::Tag;
 
@@ -90,26 +94,19 @@ impl SetPlaces {
     pub(crate) fn with(&self, tag: Tag, place: u32) -> SetPlaces
         ensures { (set : NameSet) → set_place set result ≡ (if is_in_set set tag then place else set_place set self.now) }
     {
-        let must_close = place_if(!tag.may_stay_open(), place, self.must_close);
-        // every other set holds special names alone
-        if !tag.is_special() {
-            return SetPlaces {
-                must_close,
-                ..*self
-            };
-        }
+        let sets = sets_of(tag);
         SetPlaces {
-            scope: place_if(tag.stops_scope(), place, self.scope),
-            list_item_scope: place_if(tag.stops_list_item_scope(), place, self.list_item_scope),
-            button_scope: place_if(tag.stops_button_scope(), place, self.button_scope),
-            table_scope: place_if(tag.stops_table_scope(), place, self.table_scope),
-            special: place,
-            item_stop: place_if(stops_item(tag), place, self.item_stop),
-            must_close,
-            heading: place_if(Group::Heading.has(tag), place, self.heading),
-            table_section: place_if(Group::TableSection.has(tag), place, self.table_section),
-            cell: place_if(Group::Cell.has(tag), place, self.cell),
-            tells_mode: place_if(Group::TellsMode.has(tag), place, self.tells_mode),
+            scope: place_if(sets & SCOPE != 0, place, self.scope),
+            list_item_scope: place_if(sets & LIST_ITEM_SCOPE != 0, place, self.list_item_scope),
+            button_scope: place_if(sets & BUTTON_SCOPE != 0, place, self.button_scope),
+            table_scope: place_if(sets & TABLE_SCOPE != 0, place, self.table_scope),
+            special: place_if(sets & SPECIAL != 0, place, self.special),
+            item_stop: place_if(sets & ITEM_STOP != 0, place, self.item_stop),
+            must_close: place_if(sets & MUST_CLOSE != 0, place, self.must_close),
+            heading: place_if(sets & HEADING != 0, place, self.heading),
+            table_section: place_if(sets & TABLE_SECTION != 0, place, self.table_section),
+            cell: place_if(sets & CELL != 0, place, self.cell),
+            tells_mode: place_if(sets & TELLS_MODE != 0, place, self.tells_mode),
         }
     }
 

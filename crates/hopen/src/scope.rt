@@ -1,7 +1,7 @@
 //! What stops a search among the open elements, and the groups of names that are sought there (HTML Standard, 13.2.4.2).
 
 ghost use Rattle.std.specs.Prelude.{◌≡◌};
-ghost use Rattle.hopen.specs.Scopes.{stops_in, stops_item, tells_mode, is_of_group};
+ghost use Rattle.hopen.specs.Scopes.{stops_in, tells_mode, is_of_group};
 
 use names::Tag;
 
@@ -29,17 +29,6 @@ impl Scope {
             Scope::Button => tag.stops_button_scope(),
             Scope::Table => tag.stops_table_scope(),
         }
-    }
-}
-
-/// Whether a name stops the search for an open li, dd or dt (13.2.6.4.7): a special name other than address, div and p.
-#[inline(always)]
-pub(crate) fn stops_item(tag: Tag) -> bool
-    ensures { result ≡ stops_item tag }
-{
-    match tag {
-        Tag::Address | Tag::Div | Tag::P => false,
-        _ => tag.is_special(),
     }
 }
 

@@ -1,37 +1,11 @@
 //! The sets of names that the rules of the body and the serializer use (HTML Standard, 13.2.6.4.7 and 13.3).
 
 ghost use Rattle.std.specs.Prelude.{◌≡◌};
-ghost use Rattle.names.specs.Sets.{may_stay_open, is_heading, is_table_section, is_void};
+ghost use Rattle.names.specs.Sets.{is_heading, is_table_section, is_void};
 
 use crate::tag::Tag;
 
 impl Tag {
-    /// Whether an element of the name may be open where the body ends (13.2.6.4.7).
-    #[inline(always)]
-    pub fn may_stay_open(self) -> bool
-        ensures { result ≡ may_stay_open self }
-    {
-        matches!(
-            self,
-            Tag::Body
-                | Tag::Dd
-                | Tag::Dt
-                | Tag::Html
-                | Tag::Li
-                | Tag::P
-                | Tag::Rb
-                | Tag::Rp
-                | Tag::Rt
-                | Tag::Rtc
-                | Tag::Tbody
-                | Tag::Td
-                | Tag::Tfoot
-                | Tag::Th
-                | Tag::Thead
-                | Tag::Tr
-        )
-    }
-
     /// Whether the name is one of h1 to h6.
     #[inline(always)]
     pub fn is_heading(self) -> bool

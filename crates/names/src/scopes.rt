@@ -35,6 +35,7 @@ impl Tag {
     }
 
     /// Whether the name is ol or ul.
+    #[inline(always)]
     fn is_list(self) -> bool
         ensures { result ≡ is_list self }
     {
@@ -50,6 +51,7 @@ impl Tag {
     }
 
     /// Whether the name is button.
+    #[inline(always)]
     fn is_button(self) -> bool
         ensures { result ≡ is_button self }
     {
