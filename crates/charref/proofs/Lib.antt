@@ -7,6 +7,7 @@ pub mod Members
 pub mod Core
 pub mod Naming
 pub mod Telling
+pub mod Digits
 pub mod Numbers
 pub mod Extending
 pub mod Taking

@@ -17,16 +17,39 @@ pub(crate) enum Base {
 /// One more than the greatest code point. Greater numbers mean the same, and are stored as this one.
 pub(crate) const TOO_GREAT: u32 = 0x11_0000;
 
+/// The value of each ASCII character as a digit; 16 where it is none. A table, since what is read next cannot be foretold.
+const DIGITS: [u8; 128] = [
+    16, 16, 16, 16, 16, 16, 16, 16, 16, 16, 16, 16, 16, 16, 16, 16, 16, 16, 16, 16, 16, 16, 16, 16,
+    16, 16, 16, 16, 16, 16, 16, 16, 16, 16, 16, 16, 16, 16, 16, 16, 16, 16, 16, 16, 16, 16, 16, 16,
+    0, 1, 2, 3, 4, 5, 6, 7, 8, 9, 16, 16, 16, 16, 16, 16, 16, 10, 11, 12, 13, 14, 15, 16, 16, 16,
+    16, 16, 16, 16, 16, 16, 16, 16, 16, 16, 16, 16, 16, 16, 16, 16, 16, 16, 16, 16, 16, 16, 16, 10,
+    11, 12, 13, 14, 15, 16, 16, 16, 16, 16, 16, 16, 16, 16, 16, 16, 16, 16, 16, 16, 16, 16, 16, 16,
+    16, 16, 16, 16, 16, 16,
+];
+
 impl Base {
+    fn radix(self) -> u32
+        ensures { result ≡ radix self }
+    {
+        match self {
+            Base::Decimal => 10,
+            Base::Hexadecimal => 16,
+        }
+    }
+
     /// The value of a digit.
+    #[inline(always)]
     pub(crate) fn digit(self, ch: char) -> Option<u32>
         ensures { MatchOption result (is_digit_of self ch ≡ false) (λ digit. (is_digit_of self ch ≡ true) × (digit ≡ digit_value ch) × (digit < 16)) }
     {
-        match (self, ch) {
-            (_, '0'..='9') => Some(ch as u32 - '0' as u32),
-            (Base::Hexadecimal, 'A'..='F') => Some(ch as u32 - 'A' as u32 + 10),
-            (Base::Hexadecimal, 'a'..='f') => Some(ch as u32 - 'a' as u32 + 10),
-            _ => None,
+        if !ch.is_ascii() {
+            return None;
+        }
+        let digit = u32::from(DIGITS[ch as usize]);
+        if digit < self.radix() {
+            Some(digit)
+        } else {
+            None
         }
     }
 
@@ -36,11 +59,7 @@ impl Base {
         requires digit { digit < 16 }
         ensures { result ≡ min (value * radix self + digit) TOO_GREAT }
     {
-        let radix = match self {
-            Base::Decimal => 10,
-            Base::Hexadecimal => 16,
-        };
-        (value * radix + digit).min(TOO_GREAT)
+        (value * self.radix() + digit).min(TOO_GREAT)
     }
 }
 
