@@ -1,7 +1,7 @@
 //! What stops a search among the open elements, and the groups of names that are sought there (HTML Standard, 13.2.4.2).
 
 ghost use Rattle.std.specs.Prelude.{◌≡◌};
-ghost use Rattle.hopen.specs.Scopes.{stops_in, tells_mode, is_of_group};
+ghost use Rattle.hopen.specs.Scopes.{tells_mode, is_of_group};
 
 use names::Tag;
 
@@ -16,20 +16,6 @@ pub enum Scope {
     Button,
     /// "In table scope".
     Table,
-}
-
-impl Scope {
-    /// Whether a name stops the search.
-    pub fn stops(self, tag: Tag) -> bool
-        ensures { result ≡ stops_in self tag }
-    {
-        match self {
-            Scope::Default => tag.stops_scope(),
-            Scope::ListItem => tag.stops_list_item_scope(),
-            Scope::Button => tag.stops_button_scope(),
-            Scope::Table => tag.stops_table_scope(),
-        }
-    }
 }
 
 /// Whether an element of a name determines the insertion mode when it is reset.

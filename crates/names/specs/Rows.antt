@@ -1,7 +1,7 @@
 -- The sets, as the lists that they are.
 use Rattle.std.specs.Prelude.{◌≡◌, [], ◌∷◌, filter, refl, is_some}
 use Rattle.names.specs.declared.tag.Tag.TheVariants.{A, Address, Applet, Area, Article, Aside, B, Base, Basefont, Bgsound, Big, Blockquote, Body, Br, Button}
-use Rattle.names.specs.declared.tag.Tag.TheVariants.{Caption, Center, Code, Col, Colgroup, Dd, Details, Dialog, Dir, Div, Dl, Dt, Em, Embed, Fieldset}
+use Rattle.names.specs.declared.tag.Tag.TheVariants.{Caption, Center, Code, Col, Colgroup, Dd, Details, Dir, Div, Dl, Dt, Em, Embed, Fieldset}
 use Rattle.names.specs.declared.tag.Tag.TheVariants.{Figcaption, Figure, Font, Footer, Form, Frame, Frameset, H1, H2, H3, H4, H5, H6, Head, Header, Hgroup}
 use Rattle.names.specs.declared.tag.Tag.TheVariants.{Hr, Html, I, Iframe, Img, Input, Keygen, Li, Link, Listing, Main, Marquee, Math, Menu, Meta, Nav, Nobr}
 use Rattle.names.specs.declared.tag.Tag.TheVariants.{Noembed, Noframes, Noscript, Object, Ol, Optgroup, Option, P, Param, Plaintext, Pre, Rb, Rp, Rt, Rtc, S}

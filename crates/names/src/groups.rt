@@ -1,11 +1,21 @@
-//! The sets of names that the rules of the body and the serializer use (HTML Standard, 13.2.6.4.7 and 13.3).
+//! The sets of names that the rules of the body and the serializer use (HTML Standard, 13.2.6.3, 13.2.6.4.7 and 13.3).
 
 ghost use Rattle.std.specs.Prelude.{◌≡◌};
-ghost use Rattle.names.specs.Sets.{is_heading, is_table_section, is_void};
+ghost use Rattle.names.specs.Sets.{has_implied_end, is_heading, is_table_section, is_void};
 
 use crate::tag::Tag;
 
 impl Tag {
+    /// Whether an end tag of the name is generated where end tags are implied (13.2.6.3).
+    pub fn has_implied_end(self) -> bool
+        ensures { result ≡ has_implied_end self }
+    {
+        matches!(
+            self,
+            Tag::Dd | Tag::Dt | Tag::Li | Tag::P | Tag::Rb | Tag::Rp | Tag::Rt | Tag::Rtc
+        )
+    }
+
     /// Whether the name is one of h1 to h6.
     #[inline(always)]
     pub fn is_heading(self) -> bool

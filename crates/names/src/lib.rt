@@ -11,7 +11,6 @@ pub mod laws;
 pub mod placed;
 pub mod raw;
 pub mod refusal;
-pub mod scopes;
 pub mod special;
 pub mod table;
 pub mod tag;

@@ -1,7 +1,7 @@
-//! Special and formatting names (HTML Standard, 13.2.4.2 and 13.2.4.3).
+//! Special names (HTML Standard, 13.2.4.2).
 
 ghost use Rattle.std.specs.Prelude.{◌≡◌};
-ghost use Rattle.names.specs.Sets.{is_special, is_formatting};
+ghost use Rattle.names.specs.Sets.{is_special};
 
 use crate::tag::Tag;
 
@@ -147,28 +147,5 @@ impl Tag {
             | Tag::Template
             | Tag::Other => false,
         }
-    }
-
-    /// Whether elements of the name go into the list of active formatting elements (13.2.4.3).
-    pub fn is_formatting(self) -> bool
-        ensures { result ≡ is_formatting self }
-    {
-        matches!(
-            self,
-            Tag::A
-                | Tag::B
-                | Tag::Big
-                | Tag::Code
-                | Tag::Em
-                | Tag::Font
-                | Tag::I
-                | Tag::Nobr
-                | Tag::S
-                | Tag::Small
-                | Tag::Strike
-                | Tag::Strong
-                | Tag::Tt
-                | Tag::U
-        )
     }
 }
