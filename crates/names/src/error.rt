@@ -3,9 +3,11 @@
 ghost use Rattle.std.specs.Prelude.{◌≡◌};
 ghost use Rattle.names.specs.Codes.{code_rank, code_text};
 
+use std::fmt;
+
 /// The code of a parse error: those of the input stream, then those of the tokenizer (HTML Standard, 13.2.2), then those of
 /// the tree rules, each in the order of their texts.
-#[derive(Clone, Copy, Debug, PartialEq, Eq)]
+#[derive(Clone, Copy, PartialEq, Eq)]
 pub enum ErrorCode {
     ControlCharacterInInputStream,
     NoncharacterInInputStream,
@@ -164,5 +166,12 @@ impl ErrorCode {
         ensures { result ≡ code_rank self }
     {
         self as u8
+    }
+}
+
+/// Its text.
+impl fmt::Debug for ErrorCode {
+    fn fmt<W: fmt::Write>(&self, f: &mut fmt::Formatter<W>) -> fmt::Result {
+        f.write_str(self.text())
     }
 }

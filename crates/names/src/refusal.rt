@@ -26,7 +26,7 @@ pub enum TableFault {
 
 /// Why there is no result. `at` is a byte offset of the input, from 0. It is displayed as its name, what it names, and its offset
 /// or line: `NotUtf8 at 1`, `OutOfProfile svg at 4`, `BadTable Codepoints`, `BadQuirks line 2`, `Memory`.
-#[derive(Clone, Copy, Debug, PartialEq, Eq)]
+#[derive(Clone, Copy, PartialEq, Eq)]
 pub enum Refusal {
     /// The input is not UTF-8: `at` is the first byte of the first sequence that is invalid, or that the input cuts off.
     NotUtf8 { at: u64 },
@@ -160,5 +160,12 @@ impl fmt::Display for Refusal {
         f.write_str(self.name())?;
         self.write_detail(f)?;
         self.write_number(f)
+    }
+}
+
+/// As it is displayed.
+impl fmt::Debug for Refusal {
+    fn fmt<W: fmt::Write>(&self, f: &mut fmt::Formatter<W>) -> fmt::Result {
+        fmt::Display::fmt(self, f)
     }
 }

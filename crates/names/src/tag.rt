@@ -3,8 +3,10 @@
 ghost use Rattle.std.specs.Prelude.{◌≡◌};
 ghost use Rattle.names.specs.Tags.{tag_text};
 
+use std::fmt;
+
 /// The name of a tag: one that a parsing rule, a set of names or the table of plain content mentions, or any other.
-#[derive(Clone, Copy, Debug, PartialEq, Eq)]
+#[derive(Clone, Copy, PartialEq, Eq)]
 pub enum Tag {
     A,
     Abbr,
@@ -405,5 +407,12 @@ impl Tag {
         ensures { result.now ≡ tag_text self }
     {
         TEXTS[self as usize]
+    }
+}
+
+/// Its text.
+impl fmt::Debug for Tag {
+    fn fmt<W: fmt::Write>(&self, f: &mut fmt::Formatter<W>) -> fmt::Result {
+        f.write_str(self.text())
     }
 }
