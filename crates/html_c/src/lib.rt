@@ -1,11 +1,23 @@
-//! The parser for C: each export calls the library and states its clauses again. `include/jeanzircon.h` is its header.
+//! The parser for C, over numbers and bytes alone: a text or a tree of an input into the caller's memory.
+//! `include/jeanzircon.h` is its header.
 #![tactic(auto)]
 
 ghost use Rattle.std.specs.Prelude.{◌≡◌};
-ghost use Rattle.hflat.specs.Exports.{AnswersText, AnswersTree};
+ghost use Rattle.html_c.specs.Exports.{AnswersText, AnswersTree};
 
-use hflat::answer::{Answer, Given, NodeRow};
-use hflat::{write_text, write_tree};
+mod answer;
+mod fault;
+mod given;
+mod input;
+mod room;
+mod rows;
+mod text;
+mod tree;
+
+use crate::answer::{Answer, Given, NodeRow};
+use crate::room::{fault_answer, put_rows, put_text};
+use crate::text::text_of;
+use crate::tree::rows_of;
 use std::alloc::Global;
 
 /// Makes the text of a task of an input, and writes it to the beginning of `output` where it fits. Returns the
@@ -22,7 +34,10 @@ pub extern "C" fn jz_text(
     ensures answers { AnswersText task input.now given.now output.old output.new answer.new }
     ensures status { result ≡ answer.new.status }
 {
-    *answer = write_text(alloc, task, input, given, output);
+    *answer = match text_of(alloc, task, input, given) {
+        Ok(text) => put_text(&text, output),
+        Err(fault) => fault_answer(fault),
+    };
     answer.status
 }
 
@@ -40,6 +55,9 @@ pub extern "C" fn jz_tree(
     ensures answers { AnswersTree input.now given.now rows.old rows.new words.old words.new answer.new }
     ensures status { result ≡ answer.new.status }
 {
-    *answer = write_tree(alloc, input, given, rows, words);
+    *answer = match rows_of(alloc, input, given) {
+        Ok(tree) => put_rows(&tree.nodes, &tree.words, rows, words),
+        Err(fault) => fault_answer(fault),
+    };
     answer.status
 }

@@ -1,5 +1,0 @@
-use Rattle.hflat.proofs.Listing.{IsListing}
-use Rattle.hflat.proofs.rows.rows_inside.Given as goal
-
-abbrev pub invariant-loop-node : goal.invariant-loop-node
-invariant-loop-node l = IsListing l.names l.tree.made l.tree.trees l.fn.root l.rows.nodes.items l.rows.words.items l.node-iterator

@@ -1,0 +1,23 @@
+-- What comes of a call that is passed up.
+use Rattle.std.proofs.Common.{◌≡◌, ℕ, true, false, List, Result, Ok, Err, MatchResult, length, sym, subst}
+use Rattle.std.specs.Prelude.{IsErrAnd, ◌==◌}
+use Rattle.names.specs.declared.refusal.Refusal.{Refusal}
+use Rattle.names.specs.declared.refusal.Refusal.TheVariants.{Memory}
+use Rattle.charref.specs.Reading.{table_of, IsRefusedWith}
+use Rattle.html_c.specs.Given.{table_told}
+use Rattle.html_c.specs.declared.fault.CallFault.{CallFault}
+
+pub fails : {T : Type 0} (r : Result T CallFault) (f : CallFault) (P : T → Type 0) (Q : CallFault → Type 0) → IsErrAnd r (λ g. g ≡ f) → Q f → MatchResult r P Q
+fails (Ok x) f P Q is h = absurd is
+fails (Err g) f P Q is h = subst Q (sym is) h
+
+pub passes : {T : Type 0} (r : Result T Refusal) (e : Refusal) (P : T → Type 0) (Q : Refusal → Type 0) → IsErrAnd r (λ g. g ≡ e) → Q e → MatchResult r P Q
+passes (Ok x) e P Q is h = absurd is
+passes (Err g) e P Q is h = subst Q (sym is) h
+
+-- the core table is refused for memory alone, and another for what its text is
+pub core_refused : (bytes : List ℕ) (e : Refusal) → (length bytes == 0) ≡ true → e ≡ Memory → IsRefusedWith (table_told bytes) e
+core_refused bytes e empty is = rw empty is
+
+pub text_refused : (bytes text : List ℕ) (e : Refusal) → (length bytes == 0) ≡ false → text ≡ bytes → IsRefusedWith (table_of text) e → IsRefusedWith (table_told bytes) e
+text_refused bytes text e filled same is = rw filled (subst (λ t. IsRefusedWith (table_of t) e) same is)

@@ -1,0 +1,77 @@
+-- What a run does whose reads do not fail, and whose writer keeps in memory what it takes.
+use Rattle.std.proofs.Common.{◌≡◌, ℕ, List, [], ◌++◌, Option, Some, Result, Ok, Err, sym, subst, ap, ◌∙◌, refl}
+use Rattle.std.proofs.lemmas.List.{append-nil}
+use Rattle.names.specs.declared.refusal.Refusal.{Refusal}
+use Rattle.names.specs.declared.refusal.Refusal.TheVariants.{Memory, Write, BadContext}
+use Rattle.hwrite.specs.Running.{Runs, RunsIn, context_refused, ran, run_ran_out, read_failed, stopped, refused, write_failed, wrote}
+use Rattle.html_c.specs.Exports.{ComesToNone, none_for_memory, none_in_context, none_of_bytes}
+use Rattle.html_c.specs.Faults.{kept}
+use Rattle.names.specs.declared.refusal.Refusal.TheVariants as refusal
+
+-- a text, or a refusal; Write where memory ran out for the text
+pub data Came (prints : List ℕ → Result (List ℕ) Refusal → Type 0) (context : Option (List ℕ)) (bytes text : List ℕ) (answer : Result (Unit {0}) Refusal) : Type 0 where
+  came_to_text : answer ≡ Ok tt → prints bytes (Ok text) → Came prints context bytes text answer
+  came_to_none : (refusal : Refusal) → answer ≡ Err refusal → ComesToNone prints context bytes refusal → Came prints context bytes text answer
+  came_too_long : answer ≡ Err Write → Came prints context bytes text answer
+
+module _ {S W : Type 0} (left : S → List ℕ) (written : W → List ℕ) (writes : W → ℕ) (context : Option (List ℕ)) (prints : List ℕ → Result (List ℕ) Refusal → Type 0)
+    (unrefused : List ℕ → Type 0) (piece : ℕ) (source source' : S) (target target' : W) (answer : Result (Unit {0}) Refusal) (empty : written target ≡ []) where
+  whole : (bytes rest : List ℕ) → left source ≡ bytes ++ rest → rest ≡ [] → bytes ≡ left source
+  whole bytes rest is end = sym (is ∙ ap (λ r. bytes ++ r) end ∙ append-nil bytes)
+
+  came_of : Runs (λ s. Some (left s)) (λ s. 0) (λ w. Some (written w)) writes prints unrefused piece source source' target target' answer
+      → Came prints context (left source) (written target') answer
+  came_of (run_ran_out is unread unwritten) = came_to_none Memory is (none_for_memory refl)
+  came_of (read_failed bytes is un gave counted unwritten) = absurd cc
+  came_of (stopped refusal before last is un gave from short unwritten) =
+      came_to_none refusal is (none_of_bytes (subst (λ bs. prints bs (Err refusal)) (sym gave.given) (from (left source'))))
+  came_of (refused refusal bytes is un gave end its unwritten) =
+      came_to_none refusal is (none_of_bytes (subst (λ bs. prints bs (Err refusal)) (whole bytes (left source') gave.given end) its))
+  came_of (write_failed bytes beginning rest is gave end text appends counted) = came_too_long is
+  came_of (wrote bytes text is gave end printed appends unfailed) =
+      came_to_text is (subst (λ bs. prints bs (Ok (written target'))) (whole bytes (left source') gave.given end)
+      (subst (λ t. prints bytes (Ok t)) (sym (appends ∙ ap (λ w. w ++ text) empty)) printed))
+
+  pub came : RunsIn (λ s. Some (left s)) (λ s. 0) (λ w. Some (written w)) writes context prints unrefused piece source source' target target' answer
+      → Came prints context (left source) (written target') answer
+  came (context_refused refuses is unread unwritten) = came_to_none BadContext is (none_in_context refuses refl)
+  came (ran allows run) = came_of run
+
+abbrev the_err : Refusal → Result (Unit {0}) Refusal
+the_err e = Err e
+
+module _ (prints : List ℕ → Result (List ℕ) Refusal → Type 0) (context : Option (List ℕ)) (bytes text : List ℕ) where
+  kept_none : (why : Refusal) → ComesToNone prints context bytes why → ComesToNone prints context bytes (kept why)
+  kept_none (refusal.NotUtf8 at) h = h
+  kept_none (refusal.OutOfProfile name at) h = h
+  kept_none (refusal.TooLarge at) h = h
+  kept_none (refusal.TooManyNodes at) h = h
+  kept_none (refusal.TooDeep at) h = h
+  kept_none refusal.Memory h = h
+  kept_none refusal.Read h = h
+  kept_none refusal.BadContext h = h
+  kept_none (refusal.BadTable cause) h = h
+  kept_none (refusal.BadQuirks line) h = h
+  kept_none refusal.BadLimits h = h
+  kept_none refusal.Write h = none_for_memory refl
+
+  of_err : (e r : Refusal) → the_err e ≡ Err r → e ≡ r
+  of_err e r is = cc
+
+  none_came : (e : Refusal) → Came prints context bytes text (Err e) → ComesToNone prints context bytes (kept e)
+  none_came e (came_to_text is its) = absurd cc
+  none_came e (came_to_none r is why) = kept_none e (subst (ComesToNone prints context bytes) (sym (of_err e r is)) why)
+  none_came e (came_too_long is) = subst (λ r. ComesToNone prints context bytes (kept r)) (sym (of_err e Write is)) (none_for_memory refl)
+
+  -- with the answer of a call, and what its input is
+  pub gives_none : (answer : Result (Unit {0}) Refusal) (input : List ℕ) (e : Refusal) → answer ≡ Err e → bytes ≡ input → Came prints context bytes text answer → ComesToNone prints context input (kept e)
+  gives_none answer input e is same_bytes h = subst (λ bs. ComesToNone prints context bs (kept e)) same_bytes (none_came e (subst (Came prints context bytes text) is h))
+
+  text_came : Came prints context bytes text (Ok tt) → prints bytes (Ok text)
+  text_came (came_to_text is its) = its
+  text_came (came_to_none refusal is why) = absurd cc
+  text_came (came_too_long is) = absurd cc
+
+  -- and the text, where there is one
+  pub gives_text : (answer : Result (Unit {0}) Refusal) (input : List ℕ) → answer ≡ Ok tt → bytes ≡ input → Came prints context bytes text answer → prints input (Ok text)
+  gives_text answer input is same_bytes h = subst (λ bs. prints bs (Ok text)) same_bytes (text_came (subst (Came prints context bytes text) is h))

@@ -1,0 +1,86 @@
+-- What a reading does whose reads do not fail, and the rows of what it gives.
+use Rattle.std.proofs.Common.{◌≡◌, ℕ, List, [], ◌∷◌, ◌++◌, Option, Some, None, Result, Ok, Err, inl, inr, sym, subst, ap, ap₂, ◌∙◌, refl}
+use Rattle.std.proofs.lemmas.List.{append-nil}
+use Rattle.std.specs.Prelude.{IsErrAnd, ◌⊎◌}
+use Rattle.names.specs.declared.refusal.Refusal.{Refusal}
+use Rattle.names.specs.declared.refusal.Refusal.TheVariants.{Memory, BadContext}
+use Rattle.names.specs.Names.{text_of}
+use Rattle.names.specs.Spelling.{spelling}
+use Rattle.hnodes.specs.Forest.{What, document, doctype, element, comment, text, Forest, none, tree, children_of}
+use Rattle.hnodes.specs.Spelled.{spelled, spelled_what}
+use Rattle.hnodes.specs.Spots.{first_or, kind_in}
+use Rattle.hnodes.proofs.Spellings.{spelled-children_of}
+use Rattle.hparse.specs.declared.parsed.Parsed.{Parsed}
+use Rattle.hparse.specs.Parse.{Parse, Parses, ParseCase, ParseOptions, root_of}
+use Rattle.hparse.specs.Parsing.{AnswersParse, IsParse}
+use Rattle.hparse.specs.Reader.{ReadsInput, reading_ran_out, reading_failed, reading_stopped, read_to_end}
+use Rattle.hwrite.specs.Context.{AllowsContext, case_in}
+use Rattle.hwrite.proofs.Alike.{spelled-alike}
+use Rattle.html_c.specs.Exports.{ComesToNone, none_for_memory, none_in_context, none_of_bytes}
+use Rattle.html_c.specs.Rows.{kind_number, link_to, rows_of, words_of}
+use Rattle.html_c.specs.Trees.{ComesToParse, HasRows}
+use Rattle.html_c.specs.declared.rows.Rows.{Rows}
+
+module _ {S : Type 0} (left : S → List ℕ) (opts : ParseOptions) (context : Option (List ℕ)) (unrefused : List ℕ → Type 0) (piece : ℕ) (source source' : S) where
+  answered : (bytes : List ℕ) (answer : Result Parsed Refusal) → left source ≡ bytes → AnswersParse opts (case_in context) bytes answer → ComesToParse opts context (left source) answer
+  answered bytes (Ok parsed) is its = subst (λ bs. AnswersParse opts (case_in context) bs (Ok parsed)) (sym is) its
+  answered bytes (Err refusal) is its = none_of_bytes (subst (λ bs. Parses opts (case_in context) bs (Err refusal)) (sym is) its)
+
+  failing : (answer : Result Parsed Refusal) (refusal : Refusal) → answer ≡ Err refusal → ComesToNone (Parses opts (case_in context)) context (left source) refusal
+      → ComesToParse opts context (left source) answer
+  failing answer refusal is why = subst (ComesToParse opts context (left source)) (sym is) why
+
+  pub parse_of : (answer : Result Parsed Refusal) → ReadsInput (λ s. Some (left s)) (λ s. 0) (AnswersParse opts (case_in context)) unrefused piece [] source source' answer
+      → ComesToParse opts context (left source) answer
+  parse_of answer (reading_ran_out is unread) = failing answer Memory is (none_for_memory refl)
+  parse_of answer (reading_failed bytes is un gave counted) = absurd cc
+  parse_of answer (reading_stopped refusal before last is un gave from short) =
+      failing answer refusal is (none_of_bytes (subst (λ bs. Parses opts (case_in context) bs (Err refusal)) (sym gave.given) (from (left source'))))
+  parse_of answer (read_to_end bytes un gave end its) = answered bytes answer (gave.given ∙ ap (λ r. bytes ++ r) end ∙ append-nil bytes) its
+
+module _ {N M : Type 0} (g : N → M) where
+  same_first : (f : Forest N) → first_or (spelled g f) None ≡ first_or f None
+  same_first none = refl
+  same_first (tree n w kids rest) = refl
+
+  same_kind : (w : What N) → kind_in (spelled_what g w) ≡ kind_in w
+  same_kind document = refl
+  same_kind (doctype n p s) = refl
+  same_kind (element x attrs) = refl
+  same_kind (comment t) = refl
+  same_kind (text t) = refl
+
+  -- rows know no names
+  pub same_rows : (p : ℕ) (f : Forest N) → rows_of p (spelled g f) ≡ rows_of p f
+  same_rows p none = refl
+  same_rows p (tree n w kids rest) =
+      (λ i. record {
+        number = n;
+        kind = kind_number (same_kind w i);
+        parent = link_to (Some p);
+        first_child = link_to (same_first kids i);
+        next = link_to (same_first rest i);
+      } ∷ (same_rows n kids i ++ same_rows p rest i))
+
+children_are : (parse_case : ParseCase) (parsed : Parsed) (parse : Parse) → IsParse parse_case parsed parse
+    → spelled (text_of parsed.names) (children_of parsed.root parsed.tree.trees) ≡ children_of (root_of parse_case) parse.trees
+children_are parse_case parsed parse is =
+    spelled-alike parsed.names (children_of parsed.root parsed.tree.trees) is.names_are ∙ spelled-children_of (spelling parsed.names) parsed.root parsed.tree.trees
+    ∙ ap₂ (λ (n : ℕ) (f : Forest (List ℕ)). children_of n f) is.root is.trees
+
+pub has_rows : (opts : ParseOptions) (context : Option (List ℕ)) (bytes : List ℕ) (parsed : Parsed) (rows : Rows) → AnswersParse opts (case_in context) bytes (Ok parsed)
+    → rows.nodes.items ≡ rows_of parsed.root (children_of parsed.root parsed.tree.trees)
+    → rows.words.items ≡ words_of (spelled (text_of parsed.names) (children_of parsed.root parsed.tree.trees)) → HasRows opts context bytes rows
+has_rows opts context bytes parsed rows (parse, is, its) same_nodes same_words = record {
+  parse = parse;
+  parses = its;
+  rows_are = same_nodes ∙ sym (same_rows (text_of parsed.names) parsed.root (children_of parsed.root parsed.tree.trees))
+      ∙ ap₂ (λ (p : ℕ) (f : Forest (List ℕ)). rows_of p f) is.root (children_are (case_in context) parsed parse is);
+  words_are = same_words ∙ ap words_of (children_are (case_in context) parsed parse is);
+}
+
+pub not_begun : (opts : ParseOptions) (context : Option (List ℕ)) (bytes : List ℕ) (r : Result Parsed Refusal) (e : Refusal) → IsErrAnd r (λ g. g ≡ e)
+    → (AllowsContext context × (e ≡ Memory)) ⊎ ((AllowsContext context → ⊥) × (e ≡ BadContext)) → ComesToParse opts context bytes r
+not_begun opts context bytes (Ok parsed) e is why = absurd is
+not_begun opts context bytes (Err g) e is (inl (allowed, memory)) = none_for_memory (is ∙ memory)
+not_begun opts context bytes (Err g) e is (inr (not_allowed, refuses)) = none_in_context not_allowed (is ∙ refuses)

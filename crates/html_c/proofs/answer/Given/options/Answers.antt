@@ -1,0 +1,13 @@
+use Rattle.std.proofs.Common.{ap}
+use Rattle.hmodes.specs.Bounds.{Bounds}
+use Rattle.html_c.proofs.answer.Given.options.Goals as goal
+
+pub returns : goal.returns
+returns c = record {
+  table = c.requires.lists.0;
+  quirks = c.requires.lists.1;
+  bad_bytes = c.requires.bad_bytes;
+  input_limit = ap (λ (b : Bounds). b.input) c.requires.limits.1;
+  limits = ap (λ (b : Bounds). b.tree) c.requires.limits.1;
+  in_range = c.requires.limits.0;
+}

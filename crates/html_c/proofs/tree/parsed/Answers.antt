@@ -1,0 +1,20 @@
+use Rattle.std.proofs.Common.{[], subst}
+use Rattle.hparse.specs.Parsing.{IsUnrefused}
+use Rattle.hparse.specs.Parsing.{options_of}
+use Rattle.hwrite.specs.Command.{name_of}
+use Rattle.hwrite.specs.Context.{case_in}
+use Rattle.html_c.specs.Input.{left_in}
+use Rattle.html_c.specs.Trees.{ComesToParse}
+use Rattle.html_c.proofs.Trees.{not_begun, parse_of}
+use Rattle.html_c.proofs.tree.parsed.Goals as goal
+
+pub returns-in_err-parser : goal.returns-in_err-parser
+returns-in_err-parser c =
+    not_begun (options_of c.args.options.now) (name_of c.args.context) c.args.input.now c.from_residual.result c.in_err-parser.field-0.0 c.from_residual.ensures.1 c.in_err-parser.ensures
+
+pub returns : goal.returns
+returns c =
+    let opts = options_of c.args.options.now in let context = name_of c.args.context in
+    subst (λ bytes. ComesToParse opts context bytes c.parse_reader.result) c.new-source.ensures
+    (parse_of left_in opts context (IsUnrefused opts (case_in context)) c.args.piece c.new-source.result c.parse_reader.new.source c.parse_reader.result
+    (c.parse_reader.ensures.reads opts (case_in context) [] c.in_ok-parser.ensures.1))

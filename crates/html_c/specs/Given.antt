@@ -1,0 +1,94 @@
+-- The options of a call: the meaning of what a caller hands in, and why it is not accepted.
+use Rattle.std.specs.Prelude.{◌≡◌, ◌<◌, ◌≤◌, ◌==◌, if◌then◌else◌, ℕ, List, length, [], ◌∷◌, Option, None, Some, Result, Ok, Err}
+use Rattle.std.specs.Str.{IsUtf8}
+use Rattle.names.specs.declared.refusal.Refusal.{Refusal}
+use Rattle.names.specs.declared.refusal.Refusal.TheVariants.{BadLimits}
+use Rattle.names.specs.declared.refusal.TableFault.{TableFault}
+use Rattle.charref.specs.Reference.{Entities, core}
+use Rattle.charref.specs.Reading.{table_of, IsRefusedWith}
+use Rattle.hmarkup.specs.Quirks.{ReadsQuirks}
+use Rattle.htext.specs.declared.BadBytes.{BadBytes}
+use Rattle.htext.specs.declared.BadBytes.TheVariants as bad
+use Rattle.htext.specs.declared.decoder.TheConstants.{MAX_INPUT}
+use Rattle.hmodes.specs.Bounds.{AreLimits, Bounds}
+use Rattle.hparse.specs.Parse.{ParseOptions}
+use Rattle.hwrite.specs.Command.{name_of}
+use Rattle.hwrite.specs.declared.command.Command.{Command}
+use Rattle.hwrite.specs.declared.command.Task.{Task}
+use Rattle.hwrite.specs.declared.command.Task.TheVariants as task
+use Rattle.hserialize.specs.declared.escaping.Escaping.{Escaping}
+use Rattle.hserialize.specs.declared.escaping.Escaping.TheVariants.{One, Two}
+use Rattle.html_c.specs.declared.answer.Given.{Given}
+use Rattle.html_c.specs.declared.given.Lists.{Lists}
+use Rattle.html_c.specs.declared.fault.CallFault.{CallFault}
+use Rattle.html_c.specs.declared.fault.CallFault.TheVariants as fault
+
+abbrev pub task_told : ℕ → Option Task
+task_told number =
+    if number == 0 then Some task.Tokens else (if number == 1 then Some task.Tree else (if number == 2 then Some task.Errors
+    else (if number == 3 then Some task.Write else (if number == 4 then Some task.Plain else None))))
+
+abbrev pub escaping_told : ℕ → Option Escaping
+escaping_told number = if number == 1 then Some One else (if number == 2 then Some Two else None)
+
+abbrev pub bad_told : ℕ → Option BadBytes
+bad_told number = if number == 0 then Some bad.Refuse else (if number == 1 then Some bad.Replace else None)
+
+-- the element in which the input is: none where its name is empty
+abbrev pub context_told : List ℕ → Option (List ℕ)
+context_told [] = None
+context_told (b ∷ bs) = Some (b ∷ bs)
+
+-- the table of character references: the core table where its text is empty
+abbrev pub table_told : List ℕ → Result Entities TableFault
+table_told bytes = if length bytes == 0 then Ok core else table_of bytes
+
+-- this many bytes may be fed at a time
+abbrev pub IsPiece : ℕ → Type 0
+IsPiece piece = (0 < piece) × (piece ≤ 65536)
+
+-- the most bytes, nodes and open elements
+abbrev pub bounds_told : Given → Bounds
+bounds_told given = record { input = MAX_INPUT; tree = record { nodes = given.nodes; depth = given.open } }
+
+-- What is given, where all of it is accepted.
+pub record Tells (given : Given) (opts : ParseOptions) : Type 0 where
+  pub table : table_told given.entities.now ≡ Ok opts.table
+  pub quirks : ReadsQuirks given.quirks.now (Ok opts.quirks)
+  pub bad_bytes : bad_told given.bad_bytes ≡ Some opts.bad
+  pub input_limit : opts.input ≡ (bounds_told given).input
+  pub limits : opts.limits ≡ (bounds_told given).tree
+  pub in_range : AreLimits (bounds_told given)
+
+-- Something that is given is not accepted, for this reason.
+pub data Unmet (given : Given) (why : CallFault) : Type 0 where
+  no_escaping : escaping_told given.escaping ≡ None → why ≡ fault.BadNumber → Unmet given why
+  no_bad_bytes : bad_told given.bad_bytes ≡ None → why ≡ fault.BadNumber → Unmet given why
+  no_piece : (IsPiece given.piece → ⊥) → why ≡ fault.BadNumber → Unmet given why
+  no_context : (IsUtf8 given.context.now → ⊥) → why ≡ fault.NotText → Unmet given why
+  no_table : (IsUtf8 given.entities.now → ⊥) → why ≡ fault.NotText → Unmet given why
+  no_quirks : (IsUtf8 given.quirks.now → ⊥) → why ≡ fault.NotText → Unmet given why
+  table_refused : (refusal : Refusal) → IsRefusedWith (table_told given.entities.now) refusal → why ≡ fault.Refused refusal → Unmet given why
+  quirks_refused : (refusal : Refusal) → ReadsQuirks given.quirks.now (Err refusal) → why ≡ fault.Refused refusal → Unmet given why
+  limits_refused : (AreLimits (bounds_told given) → ⊥) → why ≡ fault.Refused BadLimits → Unmet given why
+
+-- These are the lists that are given.
+abbrev pub HasLists : Given → Lists → Type 0
+HasLists given lists = (table_told given.entities.now ≡ Ok lists.table) × ReadsQuirks given.quirks.now (Ok lists.quirks)
+
+-- These are the limits that are given.
+abbrev pub HasLimits : Given → Bounds → Type 0
+HasLimits given limits = AreLimits (bounds_told given) × (limits ≡ bounds_told given)
+
+-- A command is what is given, with the task of this number.
+pub record IsCommand (number : ℕ) (given : Given) (command : Command) : Type 0 where
+  pub task : task_told number ≡ Some command.task
+  pub escaping : escaping_told given.escaping ≡ Some command.escaping
+  pub context : name_of command.context ≡ context_told given.context.now
+  pub piece : command.piece ≡ given.piece
+  pub is_piece : IsPiece command.piece
+
+-- There is none, for this reason.
+pub data NoCommand (number : ℕ) (given : Given) (why : CallFault) : Type 0 where
+  no_task : task_told number ≡ None → why ≡ fault.BadNumber → NoCommand number given why
+  unmet : Unmet given why → NoCommand number given why

@@ -1,0 +1,17 @@
+-- What is written to a caller's room, and what is answered.
+use Rattle.std.specs.Prelude.{ℕ, Bool, List, ◌++◌, length, drop, if◌then◌else◌}
+use Rattle.html_c.specs.Faults.{at_of, detail_of, status_of}
+use Rattle.html_c.specs.declared.answer.Answer.{Answer}
+use Rattle.html_c.specs.declared.fault.CallFault.{CallFault}
+
+-- items over the beginning of a room, if they fit
+abbrev pub put_over : {A : Type 0} → Bool → List A → List A → List A
+put_over fits items room = if fits then items ++ drop (length items) room else room
+
+-- the answer to this many bytes and nodes, which fit or do not
+abbrev pub room_answer : Bool → (bytes nodes : ℕ) → Answer
+room_answer fits bytes nodes = record { status = if fits then 0 else 13; detail = 0; at = 0; length = bytes; nodes = nodes }
+
+-- the answer to none
+abbrev pub fault_answer : CallFault → Answer
+fault_answer fault = record { status = status_of fault; detail = detail_of fault; at = at_of fault; length = 0; nodes = 0 }

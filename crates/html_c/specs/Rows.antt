@@ -1,0 +1,76 @@
+-- A tree as rows of numbers, and as the words of its nodes.
+use Rattle.std.specs.Prelude.{ℕ, List, [], ◌∷◌, ◌++◌, flat_map, Option, None, Some}
+use Rattle.std.specs.Option.{option_map_or}
+use Rattle.hnodes.specs.Forest.{Attribute, What, document, doctype, element, comment, text, Forest, none, tree}
+use Rattle.hnodes.specs.Spelled.{spelled_what}
+use Rattle.hnodes.specs.Spots.{first_or, parent_of, first_child_of, kind_in, kind_of, next_of}
+use Rattle.hnodes.specs.declared.node.NodeKind.{NodeKind}
+use Rattle.hnodes.specs.declared.node.NodeKind.TheVariants as kind
+use Rattle.html_c.specs.declared.answer.NodeRow.{NodeRow}
+
+-- a word with what ends it
+abbrev pub ended : List ℕ → List ℕ
+ended word = word ++ 255 ∷ []
+
+-- an attribute: its name and its value
+abbrev pub attribute_words : Attribute (List ℕ) → List ℕ
+attribute_words a = ended a.0 ++ ended a.1
+
+-- a node: the name of an element and its attributes, the name and the identifiers of a doctype, the data of a comment, the characters of a text
+abbrev pub words_in : What (List ℕ) → List ℕ
+words_in document = []
+words_in (doctype name public_id system_id) = ended name ++ (ended public_id ++ ended system_id)
+words_in (element name attrs) = ended name ++ flat_map attribute_words attrs
+words_in (comment t) = ended t
+words_in (text t) = ended t
+
+-- the same with what ends them
+abbrev pub node_words : What (List ℕ) → List ℕ
+node_words w = words_in w ++ 254 ∷ []
+
+abbrev pub words_at : (ℕ → List ℕ) → Option (What ℕ) → List ℕ
+words_at texts None = []
+words_at texts (Some w) = words_in (spelled_what texts w)
+
+abbrev pub node_words_at : (ℕ → List ℕ) → Option (What ℕ) → List ℕ
+node_words_at texts w = words_at texts w ++ 254 ∷ []
+
+abbrev pub kind_number : NodeKind → ℕ
+kind_number kind.Document = 0
+kind_number kind.Doctype = 1
+kind_number kind.Element = 2
+kind_number kind.Comment = 3
+kind_number kind.Text = 4
+
+-- a link to a node, or to none
+abbrev pub link_to : Option ℕ → ℕ
+link_to None = 4294967295
+link_to (Some n) = n
+
+-- the row of a node where it is
+abbrev pub row_at : {N : Type 0} → ℕ → Forest N → NodeRow
+row_at n f = record {
+  number = n;
+  kind = option_map_or kind_number (kind_of n f) 0;
+  parent = link_to (parent_of n f);
+  first_child = link_to (first_child_of n f);
+  next = link_to (next_of n f);
+}
+
+abbrev pub row_of : {N : Type 0} → ℕ → Option ℕ → What N → (children rest : Forest N) → NodeRow
+row_of n parent w children rest = record {
+  number = n;
+  kind = kind_number (kind_in w);
+  parent = link_to parent;
+  first_child = link_to (first_or children None);
+  next = link_to (first_or rest None);
+}
+
+-- the rows and the words of trees below a node, in tree order
+abbrev pub rows_of : {N : Type 0} → (parent : ℕ) → Forest N → List NodeRow
+rows_of parent none = []
+rows_of parent (tree n w children rest) = row_of n (Some parent) w children rest ∷ (rows_of n children ++ rows_of parent rest)
+
+abbrev pub words_of : Forest (List ℕ) → List ℕ
+words_of none = []
+words_of (tree n w children rest) = node_words w ++ (words_of children ++ words_of rest)

@@ -1,0 +1,55 @@
+//! What crosses between C and the library.
+
+/// The options of a call. A context or a list that is empty is none: a document, the core table of character references,
+/// no quirks by a list.
+#[repr(C)]
+#[derive(Clone, Copy)]
+pub struct Given<'a> {
+    /// The name of the element in which a fragment is.
+    pub context: &'a [u8],
+    /// The table of character references, as JSON.
+    pub entities: &'a [u8],
+    /// The quirks list.
+    pub quirks: &'a [u8],
+    /// The most nodes: 16 to 16,777,216.
+    pub nodes: u64,
+    /// The most open elements: 16 to 1,048,576.
+    pub open: u64,
+    /// How many bytes are fed at a time: 1 to 65,536. No answer depends on it.
+    pub piece: u64,
+    /// The keys of the hashes: 16 random bytes where the input is not trusted. No answer depends on them.
+    pub key_low: u64,
+    pub key_high: u64,
+    /// 1, or 2, which escapes `<` and `>` in attribute values.
+    pub escaping: u32,
+    /// 0 refuses bytes that are not UTF-8, 1 replaces them.
+    pub bad_bytes: u32,
+}
+
+/// How a call went.
+#[repr(C)]
+#[derive(Clone, Copy)]
+pub struct Answer {
+    /// 0 where all was written, else the number of a refusal or of a fault of the call.
+    pub status: u32,
+    /// What a refusal names, from 1: an element that is left out of the profile, or what is wrong with a table of references.
+    pub detail: u32,
+    /// The byte of a refusal, from 0, or the line of a quirks list, from 1.
+    pub at: u64,
+    /// The bytes of the text, or of the words of a tree, whether there was room for them or not.
+    pub length: u64,
+    /// The nodes of a tree, whether there was room for them or not.
+    pub nodes: u64,
+}
+
+/// A node of a tree: its number, its kind, and the nodes around it. A link to no node is 0xFFFFFFFF.
+#[repr(C)]
+#[derive(Clone, Copy)]
+pub struct NodeRow {
+    pub number: u32,
+    /// 1 a doctype, 2 an element, 3 a comment, 4 a text.
+    pub kind: u32,
+    pub parent: u32,
+    pub first_child: u32,
+    pub next: u32,
+}

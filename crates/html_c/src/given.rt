@@ -1,0 +1,194 @@
+//! The options of a call.
+
+ghost use Rattle.std.specs.Prelude.{◌≡◌, ◌<◌, ◌≤◌, MatchResult, IfOk, Some, None, Ok};
+ghost use Rattle.hmarkup.specs.Quirks.{ReadsQuirks};
+ghost use Rattle.hparse.specs.Parsing.{options_of};
+ghost use Rattle.hwrite.specs.Command.{name_of};
+ghost use Rattle.html_c.specs.Given.{bad_told, context_told, escaping_told, table_told, task_told, HasLimits, HasLists, IsCommand, IsPiece, NoCommand, Tells};
+ghost use Rattle.html_c.specs.Given.{Unmet};
+ghost use Rattle.html_c.specs.declared.fault.CallFault.TheVariants as fault;
+
+use crate::answer::Given;
+use crate::fault::CallFault;
+use charref::Table;
+use hmarkup::Quirks;
+use hmodes::Limits;
+use hparse::Options;
+use htext::{BadBytes, MAX_INPUT};
+use hwrite::{Command, Escaping, Task};
+use names::Keys;
+use std::alloc::Global;
+
+/// The most bytes that are fed at a time.
+const MOST_PIECE: u64 = 65_536;
+
+/// The task of a number.
+pub(crate) fn task_of(number: u32) -> Option<Task>
+    ensures { result ≡ task_told number }
+{
+    match number {
+        0 => Some(Task::Tokens),
+        1 => Some(Task::Tree),
+        2 => Some(Task::Errors),
+        3 => Some(Task::Write),
+        4 => Some(Task::Plain),
+        _ => None,
+    }
+}
+
+/// The way of escaping of a number.
+fn escaping_of(number: u32) -> Option<Escaping>
+    ensures { result ≡ escaping_told number }
+{
+    match number {
+        1 => Some(Escaping::One),
+        2 => Some(Escaping::Two),
+        _ => None,
+    }
+}
+
+/// What becomes of bad bytes, by its number.
+fn bad_bytes_of(number: u32) -> Option<BadBytes>
+    ensures { result ≡ bad_told number }
+{
+    match number {
+        0 => Some(BadBytes::Refuse),
+        1 => Some(BadBytes::Replace),
+        _ => None,
+    }
+}
+
+/// The lists that are given.
+#[derive(Drop)]
+pub(crate) struct Lists {
+    pub(crate) table: Table,
+    pub(crate) quirks: Quirks,
+}
+
+impl<'a> Given<'a> {
+    /// How `Write` escapes.
+    pub(crate) fn escaping(&self) -> Result<Escaping, CallFault>
+        ensures { MatchResult result (λ how. escaping_told self.now.escaping ≡ Some how) (Unmet self.now) }
+    {
+        match escaping_of(self.escaping) {
+            Some(escaping) => Ok(escaping),
+            None => Err(CallFault::BadNumber),
+        }
+    }
+
+    /// How many bytes are fed at a time.
+    pub(crate) fn piece(&self) -> Result<usize, CallFault>
+        ensures { MatchResult result (λ piece. (piece ≡ self.now.piece) × IsPiece piece) (Unmet self.now) }
+    {
+        if 0 < self.piece && self.piece <= MOST_PIECE {
+            Ok(self.piece as usize)
+        } else {
+            Err(CallFault::BadNumber)
+        }
+    }
+
+    /// The name of the element in which the input is, if it is a fragment.
+    pub(crate) fn context(&self) -> Result<Option<&'a str>, CallFault>
+        ensures { MatchResult result (λ name. name_of name ≡ context_told self.now.context.now) (Unmet self.now) }
+    {
+        if self.context.is_empty() {
+            return Ok(None);
+        }
+        match str::from_utf8(self.context) {
+            Ok(name) => Ok(Some(name)),
+            Err(_) => Err(CallFault::NotText),
+        }
+    }
+
+    /// The table of character references.
+    fn table(&self, alloc: Global) -> Result<Table, CallFault>
+        ensures { MatchResult result (λ table. table_told self.now.entities.now ≡ Ok table) (Unmet self.now) }
+    {
+        if self.entities.is_empty() {
+            return Ok(Table::core(alloc)?);
+        }
+        match str::from_utf8(self.entities) {
+            Ok(text) => Ok(Table::read(alloc, text)?),
+            Err(_) => Err(CallFault::NotText),
+        }
+    }
+
+    /// The quirks list.
+    fn quirks(&self, alloc: Global) -> Result<Quirks, CallFault>
+        ensures { MatchResult result (λ quirks. ReadsQuirks self.now.quirks.now (Ok quirks)) (Unmet self.now) }
+    {
+        match str::from_utf8(self.quirks) {
+            Ok(text) => Ok(Quirks::read(alloc, text)?),
+            Err(_) => Err(CallFault::NotText),
+        }
+    }
+
+    /// The command that is given, with the task of this number.
+    pub(crate) fn command(&self, number: u32) -> Result<Command<'a>, CallFault>
+        ensures says { MatchResult result (IsCommand number self.now) (NoCommand number self.now) }
+        ensures piece { IfOk result (λ command. 0 < command.piece) }
+    {
+        let Some(task) = task_of(number) else {
+            return Err(CallFault::BadNumber);
+        };
+        Ok(Command {
+            task,
+            context: self.context()?,
+            escaping: self.escaping()?,
+            piece: self.piece()?,
+            is_last: false,
+        })
+    }
+
+    /// The lists that are given.
+    pub(crate) fn lists(&self, alloc: Global) -> Result<Lists, CallFault>
+        ensures { MatchResult result (HasLists self.now) (Unmet self.now) }
+    {
+        let table = self.table(alloc)?;
+        let quirks = self.quirks(alloc)?;
+        Ok(Lists { table, quirks })
+    }
+
+    /// What becomes of bytes that are not UTF-8.
+    pub(crate) fn bad_bytes(&self) -> Result<BadBytes, CallFault>
+        ensures { MatchResult result (λ bad. bad_told self.now.bad_bytes ≡ Some bad) (Unmet self.now) }
+    {
+        match bad_bytes_of(self.bad_bytes) {
+            Some(bad_bytes) => Ok(bad_bytes),
+            None => Err(CallFault::BadNumber),
+        }
+    }
+
+    /// How large a tree may become.
+    pub(crate) fn limits(&self) -> Result<Limits, CallFault>
+        ensures { MatchResult result (HasLimits self.now) (Unmet self.now) }
+    {
+        Ok(Limits::new(MAX_INPUT, self.nodes, self.open)?)
+    }
+
+    /// The keys of the hashes.
+    fn keys(&self) -> Keys {
+        Keys::new((u128::from(self.key_high) << 64) | u128::from(self.key_low))
+    }
+
+    /// The options, which lend the lists.
+    pub(crate) fn options<'t>(
+        &self,
+        lists: &'t Lists,
+        bad_bytes: BadBytes,
+        limits: Limits,
+    ) -> Options<'t>
+        requires lists { HasLists self.now lists.now }
+        requires bad_bytes { bad_told self.now.bad_bytes ≡ Some bad_bytes }
+        requires limits { HasLimits self.now limits }
+        ensures { Tells self.now (options_of result) }
+    {
+        Options {
+            table: &lists.table,
+            quirks: &lists.quirks,
+            bad_bytes,
+            limits,
+            keys: self.keys(),
+        }
+    }
+}
