@@ -3,9 +3,9 @@
    At each call of a swept kind the process makes a child in which the call fails, waits for it, reports what came of it, and goes on
    with the call as if nothing had been. So one run shows what comes of each call's failure. The environment's REFUSE is letters:
    `m` sweeps the allocations, `l` those from the first read of standard input on, `e` those from its end on, each alone, `r` the reads,
-   `w` the writes on standard output; `1` makes reads and writes take one byte a call, and `n` gives no random
-   bytes. The parent and the children have the open files 100, for the reports, and 101
-   and 102, which a child writes on in place of standard output and standard error. */
+   `w` the writes on standard output, `s` those on standard error; `1` makes reads and writes take one byte a call, and `n` gives no
+   random bytes. The parent and the children have the open files 100, for the reports, and 101 and 102, which a child writes on in place
+   of standard output and standard error. */
 #define _GNU_SOURCE
 #include <errno.h>
 #include <stddef.h>
@@ -146,7 +146,7 @@ ssize_t read(int file, void *bytes, size_t size)
 /* A write finds no room, is interrupted, or takes nothing. */
 ssize_t write(int file, const void *bytes, size_t size)
 {
-    if (file == 1 && fails('w', 3)) {
+    if ((file == 1 && fails('w', 3)) || (file == 2 && fails('s', 3))) {
         errno = way ? EINTR : ENOSPC;
         return way == 2 ? 0 : -1;
     }
