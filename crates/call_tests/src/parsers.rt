@@ -1,10 +1,9 @@
-//! Refusals that stay, and errors that are handed out.
+//! The builder and the parser: refusals that stay, errors that are handed out, contexts.
 
 use charref::Table;
 use hmarkup::{ErrorSink, Quirks};
 use hmodes::{Builder, Limits};
 use hparse::{Options, Parser, is_context};
-use hprogram::line::line;
 use htoken::{Token, TokenSink};
 use names::{ErrorCode, Keys, Names, ParseError, Refusal, RefusedName};
 use std::alloc::Global;
@@ -129,16 +128,4 @@ fn of_contexts(rt: HostRuntime) {
     for name in ["", "Td", "1a", "a b", "colgroup", "svg", "select"] {
         assert!(rt; !is_context(name));
     }
-}
-
-/// A command line that lacks the program's own name lacks a command.
-#[test]
-fn of_no_words(rt: HostRuntime) -> Result<(), Fail> {
-    let fault = line(rt.alloc(), &[]).err().ok_or("no fault")?;
-    let text = fault.to_string(rt.alloc())?;
-    assert!(rt;
-        text.as_str()
-            .starts_with("error: 'htmlp' requires a subcommand")
-    );
-    Ok(())
 }
