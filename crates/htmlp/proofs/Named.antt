@@ -1,0 +1,86 @@
+-- What the words say, where they are read.
+use Rattle.std.proofs.Common.{◌≡◌, ◌∙◌, ap, ap₂, sym, subst, codes, Option, option_map, ℕ, List, Ok, Err}
+use Rattle.std.specs.Borrow.{Bor}
+use Rattle.clap.specs.Words.{Text}
+use Rattle.charref.specs.Reference.{Entities}
+use Rattle.hmarkup.specs.Quirks.{QuirkLine}
+use Rattle.names.specs.declared.refusal.Refusal.TheVariants.{BadContext, BadLimits}
+use Rattle.htext.specs.declared.decoder.TheConstants.{MAX_INPUT}
+use Rattle.hmodes.specs.Bounds.{AreLimits, Bounds}
+use Rattle.hwrite.specs.Context.{AllowsContext}
+use Rattle.htmlp.specs.declared.fault.Fault.{Fault}
+use Rattle.htmlp.specs.declared.fault.Fault.TheVariants as fault
+use Rattle.htmlp.specs.declared.said.Line.{Line}
+use Rattle.htmlp.specs.Line.{Says, task_of, value_of}
+use Rattle.htmlp.specs.Program.{FindsTable, FindsQuirks, FirstFault, no_table, no_quirks, no_limits, no_context, Tells, ParseOptions, limits_of}
+
+abbrev name_of : Option (Bor (List ℕ)) → Option Text
+name_of = option_map (λ s. s.now)
+
+abbrev told_with : Line → Entities → List QuirkLine → Bounds → ParseOptions
+told_with line table quirks limits = record {
+  task = line.command.task;
+  context = name_of line.command.context;
+  escaping = line.command.escaping;
+  piece = line.command.piece;
+  settings = record { table = table; quirks = quirks; bad = line.bad_bytes; input = limits.input; limits = limits.tree };
+}
+
+abbrev limits_from : ℕ → ℕ → Bounds
+limits_from nodes depth = record { input = MAX_INPUT; tree = record { nodes = nodes; depth = depth } }
+
+module _ {R : Type 0} (has_text : R → List ℕ → List ℕ → Type 0) (lacks_text : R → List ℕ → Fault → Type 0) (surroundings : R) (words : List Text) (line : Line)
+    (says : Says (task_of words) (value_of words) line) where
+  abbrev IsTable : Entities → Type 0
+  IsTable table = FindsTable has_text lacks_text surroundings (name_of line.entities) (Ok table)
+
+  abbrev IsQuirks : List QuirkLine → Type 0
+  IsQuirks quirks = FindsQuirks has_text lacks_text surroundings (name_of line.quirks) (Ok quirks)
+
+  table_found : (table : Entities) → IsTable table → FindsTable has_text lacks_text surroundings (value_of words (codes "entities")) (Ok table)
+  table_found table is = subst (λ name. FindsTable has_text lacks_text surroundings name (Ok table)) says.entities_is is
+
+  quirks_found : (quirks : List QuirkLine) → IsQuirks quirks → FindsQuirks has_text lacks_text surroundings (value_of words (codes "quirks")) (Ok quirks)
+  quirks_found quirks is = subst (λ name. FindsQuirks has_text lacks_text surroundings name (Ok quirks)) says.quirks_is is
+
+  limits_are : limits_from line.nodes line.open ≡ limits_of words
+  limits_are = ap₂ limits_from says.nodes_is says.open_is
+
+  limits_found : AreLimits (limits_from line.nodes line.open) → AreLimits (limits_of words)
+  limits_found are = subst AreLimits limits_are are
+
+  limits_said : AreLimits (limits_of words) → AreLimits (limits_from line.nodes line.open)
+  limits_said are = subst AreLimits (sym limits_are) are
+
+  pub table_missing : (why : Fault) → FindsTable has_text lacks_text surroundings (name_of line.entities) (Err why) → FirstFault has_text lacks_text surroundings words why
+  table_missing why is = no_table (subst (λ name. FindsTable has_text lacks_text surroundings name (Err why)) says.entities_is is)
+
+  pub quirks_missing : (table : Entities) (why : Fault) → IsTable table → FindsQuirks has_text lacks_text surroundings (name_of line.quirks) (Err why)
+      → FirstFault has_text lacks_text surroundings words why
+  quirks_missing table why found is = no_quirks table (table_found table found) (subst (λ name. FindsQuirks has_text lacks_text surroundings name (Err why)) says.quirks_is is)
+
+  pub limits_refused : (table : Entities) (quirks : List QuirkLine) (why : Fault) → IsTable table → IsQuirks quirks → (AreLimits (limits_from line.nodes line.open) → ⊥)
+      → why ≡ fault.Refused BadLimits → FirstFault has_text lacks_text surroundings words why
+  limits_refused table quirks why found listed none is = no_limits table quirks (table_found table found) (quirks_found quirks listed) (λ are. none (limits_said are)) is
+
+  pub context_refused : (table : Entities) (quirks : List QuirkLine) (why : Fault) → IsTable table → IsQuirks quirks → AreLimits (limits_from line.nodes line.open)
+      → (AllowsContext (name_of line.command.context) → ⊥) → why ≡ fault.Refused BadContext → FirstFault has_text lacks_text surroundings words why
+  context_refused table quirks why found listed are none is =
+      no_context table quirks (table_found table found) (quirks_found quirks listed) (limits_found are) (λ allows. none (subst AllowsContext (sym says.context_is) allows)) is
+
+  pub tells : (table : Entities) (quirks : List QuirkLine) (limits : Bounds) → IsTable table → IsQuirks quirks → AreLimits (limits_from line.nodes line.open)
+      → AllowsContext (name_of line.command.context) → limits ≡ limits_from line.nodes line.open → Tells has_text lacks_text surroundings words (told_with line table quirks limits)
+  tells table quirks limits found listed are allows is =
+      record {
+        task = says.task_is;
+        context = says.context_is;
+        escaping = says.escaping_is;
+        allowed = allows;
+        piece = says.piece_is;
+        table = table_found table found;
+        quirks = quirks_found quirks listed;
+        bad_bytes = says.bad_bytes_is;
+        input_limit = ap (λ (b : Bounds). b.input) (is ∙ limits_are);
+        limits = ap (λ (b : Bounds). b.tree) (is ∙ limits_are);
+        in_range = limits_found are;
+      }

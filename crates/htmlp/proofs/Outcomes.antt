@@ -1,0 +1,18 @@
+-- What comes of a call that is passed up.
+use Rattle.std.proofs.Common.{◌≡◌, Result, Ok, Err, MatchResult, ap, sym, subst}
+use Rattle.std.specs.Prelude.{IsErrAnd}
+use Rattle.names.specs.declared.refusal.Refusal.{Refusal}
+use Rattle.htmlp.specs.declared.fault.Fault.{Fault}
+use Rattle.htmlp.specs.declared.fault.Fault.TheVariants as fault
+
+pub refused : (outcome : Result (Unit {0}) Fault) (refusal : Refusal) → IsErrAnd outcome (λ f. f ≡ fault.Refused refusal) → outcome ≡ Err (fault.Refused refusal)
+refused (Ok _) refusal is = absurd is
+refused (Err f) refusal is = ap (λ x. Err x) is
+
+pub passed_on : (outcome : Result (Unit {0}) Fault) (f : Fault) → IsErrAnd outcome (λ g. g ≡ f) → outcome ≡ Err f
+passed_on (Ok _) f is = absurd is
+passed_on (Err g) f is = ap (λ x. Err x) is
+
+pub fails : {T : Type 0} (r : Result T Fault) (f : Fault) (P : T → Type 0) (Q : Fault → Type 0) → IsErrAnd r (λ g. g ≡ f) → Q f → MatchResult r P Q
+fails (Ok x) f P Q is h = absurd is
+fails (Err g) f P Q is h = subst Q (sym is) h

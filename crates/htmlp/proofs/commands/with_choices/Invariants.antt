@@ -1,0 +1,12 @@
+use Rattle.std.proofs.Common.{◌≡◌, map, drop, false}
+use Rattle.clap.specs.Words.{app_of}
+use Rattle.clap.specs.declared.builder.command.Command.TheViews.{out-Command as fields_of}
+use Rattle.htmlp.specs.Line.{choice_rule, with_rules}
+use Rattle.htmlp.proofs.commands.with_choices.Given as goal
+
+-- with those that are still to come, the command is what it is to be
+abbrev pub invariant-loop-choice : goal.invariant-loop-choice
+invariant-loop-choice l = record {
+  shape : with_rules (map choice_rule (drop l.choice-index l.choices)) (app_of l.command) ≡ with_rules (map choice_rule l.choices) (app_of l.initial.command);
+  local : (fields_of l.command).has_globals ≡ false;
+}

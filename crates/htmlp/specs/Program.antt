@@ -1,0 +1,188 @@
+-- What the program does in its surroundings. `has_words`, `cannot_begin` (there are no words, or no keys), `opens` and `cannot_open` say
+-- what calls of the surroundings returned; of a reader `left` says the bytes that it has left, where it says, and of a writer `written`
+-- those that it has taken; `failed` says how many of their calls have failed.
+use Rattle.std.specs.Prelude.{◌≡◌, ◌⊎◌, ℕ, List, [], true, false, Option, None, Some, Result, Ok, Err, IfSome, MatchResult, option_map, codes}
+use Rattle.clap.specs.Words.{Text, takes}
+use Rattle.names.specs.declared.refusal.Refusal.{Refusal}
+use Rattle.names.specs.declared.refusal.Refusal.TheVariants.{Memory, BadLimits, BadContext}
+use Rattle.charref.specs.Reference.{Entities, core}
+use Rattle.charref.specs.Reading.{table_of, IsRefusedWith}
+use Rattle.hmarkup.specs.Quirks.{QuirkLine, ReadsQuirks}
+use Rattle.htext.specs.declared.decoder.TheConstants.{MAX_INPUT}
+use Rattle.hmodes.specs.Bounds.{AreLimits, Bounds}
+use Rattle.hwrite.specs.declared.command.Task.{Task}
+use Rattle.hserialize.specs.declared.escaping.Escaping.{Escaping}
+use Rattle.hserialize.specs.Output.{WritesText}
+use Rattle.hwrite.specs.Calls.{EndsWith}
+use Rattle.hwrite.specs.declared.command.Command.{Command}
+use Rattle.hparse.specs.declared.options.Options.{Options}
+use Rattle.hparse.specs.Parse.{ParseOptions as Settings}
+use Rattle.hparse.specs.Parsing.{options_of}
+use Rattle.hwrite.specs.Context.{AllowsContext}
+use Rattle.hwrite.specs.Running.{RunsTask}
+use Rattle.htmlp.specs.declared.fault.Fault.{Fault}
+use Rattle.htmlp.specs.declared.fault.Fault.TheVariants as fault
+use Rattle.htmlp.specs.Ending.{ending_text, status_of}
+use Rattle.htmlp.specs.Line.{program, task_of, value_of, asks_version, escaping_of, number_or, bad_bytes_of, AreGood, FaultOf}
+use Rattle.htmlp.specs.declared.version.TheConstants.{VERSION}
+
+-- what a run of the engine is for the program
+abbrev pub outcome_of : Result (Unit {0}) Refusal → Result (Unit {0}) Fault
+outcome_of (Ok _) = Ok tt
+outcome_of (Err refusal) = Err (fault.Refused refusal)
+
+-- what the program is to do, with what
+pub record ParseOptions : Type 0 where
+  pub task : Task
+  pub context : Option Text
+  pub escaping : Escaping
+  pub piece : ℕ
+  pub settings : Settings
+
+abbrev pub told_of : Command → Options → ParseOptions
+told_of command options = record {
+  task = command.task;
+  context = option_map (λ s. s.now) command.context;
+  escaping = command.escaping;
+  piece = command.piece;
+  settings = options_of options;
+}
+
+-- the most bytes, the most nodes, and the most open elements
+abbrev pub limits_of : List Text → Bounds
+limits_of words = record {
+  input = MAX_INPUT;
+  tree = record { nodes = number_or 16777216 (value_of words (codes "nodes")); depth = number_or 1048576 (value_of words (codes "open")) };
+}
+
+-- The engine ran over an input.
+abbrev pub AnswersInput : {S W : Type 0} → (S → Option (List ℕ)) → (S → ℕ) → (W → Option (List ℕ)) → (W → ℕ) → ParseOptions → S → S → W → W
+    → Result (Unit {0}) Fault
+    → Type 0
+AnswersInput left reads written writes opts source source' target target' outcome =
+    (answer : Result (Unit {0}) Refusal)
+    × RunsTask left reads written writes opts.escaping opts.task opts.context opts.settings opts.piece source source' target target' answer
+    × (outcome ≡ outcome_of answer)
+
+-- The version was written.
+pub record WritesVersion {W : Type 0} (written : W → Option (List ℕ)) (writes : W → ℕ) (target target' : W) (outcome : Result (Unit {0}) Fault) : Type 0 where
+  pub answer : Result (Unit {0}) Refusal
+  pub writes_text : WritesText written writes VERSION.now target target' answer
+  pub outcome_is : outcome ≡ outcome_of answer
+
+-- what is read of the text of a table of character references
+abbrev pub ReadsTable : List ℕ → Result Entities Refusal → Type 0
+ReadsTable text answer = MatchResult answer (λ table. table_of text ≡ Ok table) (IsRefusedWith (table_of text))
+
+module _ {R : Type 0} (has_text : R → List ℕ → List ℕ → Type 0) (lacks_text : R → List ℕ → Fault → Type 0) where
+  -- What is found of a list: what is read of the text of the named file, or the default, or why there is none.
+  abbrev pub Finds : {A : Type 0} → A → (List ℕ → Result A Refusal → Type 0) → R → Option Text → Result A Fault → Type 0
+  Finds default reads surroundings None (Ok found) = found ≡ default
+  Finds default reads surroundings None (Err why) = why ≡ fault.Refused Memory
+  Finds default reads surroundings (Some name) (Ok found) = (text : List ℕ) × has_text surroundings name text × reads text (Ok found)
+  Finds default reads surroundings (Some name) (Err why) = lacks_text surroundings name why
+      ⊎ ((text : List ℕ) × (refusal : Refusal) × has_text surroundings name text × reads text (Err refusal) × (why ≡ fault.Refused refusal))
+
+  -- the table of character references, or the core table; the quirks list, or the empty one
+  abbrev pub FindsTable : R → Option Text → Result Entities Fault → Type 0
+  FindsTable = Finds core ReadsTable
+
+  abbrev pub FindsQuirks : R → Option Text → Result (List QuirkLine) Fault → Type 0
+  FindsQuirks = Finds [] ReadsQuirks
+
+  -- What the words say, where all that they name is found and accepted.
+  pub record Tells (surroundings : R) (words : List Text) (opts : ParseOptions) : Type 0 where
+    pub task : task_of words ≡ Some opts.task
+    pub context : opts.context ≡ value_of words (codes "in")
+    pub allowed : AllowsContext opts.context
+    pub escaping : opts.escaping ≡ escaping_of (number_or 1 (value_of words (codes "escape")))
+    pub piece : opts.piece ≡ number_or 65536 (value_of words (codes "piece"))
+    pub table : FindsTable surroundings (value_of words (codes "entities")) (Ok opts.settings.table)
+    pub quirks : FindsQuirks surroundings (value_of words (codes "quirks")) (Ok opts.settings.quirks)
+    pub bad_bytes : bad_bytes_of (value_of words (codes "bad-bytes")) ≡ Some opts.settings.bad
+    pub input_limit : opts.settings.input ≡ (limits_of words).input
+    pub limits : opts.settings.limits ≡ (limits_of words).tree
+    pub in_range : AreLimits (limits_of words)
+
+  -- The first of the things that the words name that is not found or not accepted.
+  pub data FirstFault (surroundings : R) (words : List Text) (why : Fault) : Type 0 where
+    no_table : FindsTable surroundings (value_of words (codes "entities")) (Err why) → FirstFault surroundings words why
+    no_quirks : (table : Entities) → FindsTable surroundings (value_of words (codes "entities")) (Ok table)
+        → FindsQuirks surroundings (value_of words (codes "quirks")) (Err why) → FirstFault surroundings words why
+    no_limits : (table : Entities) (quirks : List QuirkLine) → FindsTable surroundings (value_of words (codes "entities")) (Ok table)
+        → FindsQuirks surroundings (value_of words (codes "quirks")) (Ok quirks)
+        → (AreLimits (limits_of words) → ⊥) → why ≡ fault.Refused BadLimits → FirstFault surroundings words why
+    no_context : (table : Entities) (quirks : List QuirkLine) → FindsTable surroundings (value_of words (codes "entities")) (Ok table)
+        → FindsQuirks surroundings (value_of words (codes "quirks")) (Ok quirks) → AreLimits (limits_of words)
+        → (AllowsContext (value_of words (codes "in")) → ⊥) → why ≡ fault.Refused BadContext → FirstFault surroundings words why
+
+module _ {R F : Type 0} (opens : R → List ℕ → F → Type 0) (cannot_open : R → List ℕ → Type 0) (left_in_file : F → Option (List ℕ))
+    (failed_in_file : F → ℕ) where
+  -- The engine ran over the file of this name, or that cannot be opened.
+  pub data AnswersFile {W : Type 0} (written : W → Option (List ℕ)) (writes : W → ℕ)
+      (opts : ParseOptions) (surroundings : R) (name : List ℕ) (output output' : W)
+      (outcome : Result (Unit {0}) Fault) : Type 0 where
+    file_missing : cannot_open surroundings name → outcome ≡ Err fault.CannotRead → output' ≡ output
+        → AnswersFile written writes opts surroundings name output output' outcome
+    file_answered : (file file' : F) → opens surroundings name file
+        → AnswersInput left_in_file failed_in_file written writes opts file file' output output' outcome
+        → AnswersFile written writes opts surroundings name output output' outcome
+
+  module _ {S W : Type 0} (has_text : R → List ℕ → List ℕ → Type 0) (lacks_text : R → List ℕ → Fault → Type 0)
+      (left : S → Option (List ℕ)) (reads : S → ℕ) (written : W → Option (List ℕ)) (writes : W → ℕ) where
+    -- What these words say is done.
+    pub data AnswersWords (surroundings : R) (words : List Text) (input input' : S) (output output' : W)
+        (outcome : Result (Unit {0}) Fault) : Type 0 where
+      -- the words are wrong or ask for help; where they are right memory ran out
+      words_refused : (why : Fault) → outcome ≡ Err why → FaultOf words why
+          → (takes program words ≡ true → AreGood (value_of words) → why ≡ fault.Memory) → input' ≡ input → output' ≡ output
+          → AnswersWords surroundings words input input' output output' outcome
+      -- something that they name is not there, or is refused
+      words_without : (why : Fault) → FirstFault has_text lacks_text surroundings words why → outcome ≡ Err why → input' ≡ input → output' ≡ output
+          → AnswersWords surroundings words input input' output output' outcome
+      -- they name a file
+      words_with_file : (opts : ParseOptions) (name : Text) → Tells has_text lacks_text surroundings words opts → value_of words (codes "file") ≡ Some name
+          → AnswersFile written writes opts surroundings name output output' outcome → input' ≡ input
+          → AnswersWords surroundings words input input' output output' outcome
+      -- they name none: the input is the standard input
+      words_without_file : (opts : ParseOptions) → Tells has_text lacks_text surroundings words opts → value_of words (codes "file") ≡ None
+          → AnswersInput left reads written writes opts input input' output output' outcome
+          → AnswersWords surroundings words input input' output output' outcome
+
+module _ {R F S W : Type 0} (has_words : R → List Text → Type 0) (cannot_begin : R → Fault → Type 0) (opens : R → List ℕ → F → Type 0)
+    (cannot_open : R → List ℕ → Type 0)
+    (has_text : R → List ℕ → List ℕ → Type 0) (lacks_text : R → List ℕ → Fault → Type 0)
+    (left_in_file : F → Option (List ℕ)) (failed_in_file : F → ℕ) (left : S → Option (List ℕ)) (reads : S → ℕ) (written : W → Option (List ℕ))
+    (writes : W → ℕ) where
+  -- What the command line says is done.
+  pub data Answers (surroundings : R) (input input' : S) (output output' : W) (outcome : Result (Unit {0}) Fault) : Type 0 where
+    line_missing : (why : Fault) → cannot_begin surroundings why → outcome ≡ Err why → input' ≡ input → output' ≡ output
+        → Answers surroundings input input' output output' outcome
+    line_for_version : (words : List Text) → has_words surroundings words → asks_version words ≡ true
+        → WritesVersion written writes output output' outcome → input' ≡ input
+        → Answers surroundings input input' output output' outcome
+    line_answered : (words : List Text) → has_words surroundings words → asks_version words ≡ false
+        → AnswersWords opens cannot_open left_in_file failed_in_file has_text lacks_text left reads written writes surroundings words input input' output
+        output' outcome
+        → Answers surroundings input input' output output' outcome
+
+  -- The program does what its command line says, writes the line of its ending to standard error, and returns its status.
+  pub record Ends {E : Type 0} (errors_written : E → Option (List ℕ)) (errors_failed : E → ℕ) (surroundings : R) (input input' : S)
+      (output output' : W)
+      (errors errors' : E) (status : ℕ) : Type 0 where
+    pub outcome : Result (Unit {0}) Fault
+    pub answered : Answers surroundings input input' output output' outcome
+    pub told : IfSome (ending_text outcome) (EndsWith (errors_written errors) (errors_failed errors) (errors_written errors') (errors_failed errors'))
+    pub status_is : status ≡ status_of outcome
+
+-- The program ran, and this was its status.
+pub record HasRun {R F S W E : Type 0} (has_words : R → List Text → Type 0) (cannot_begin : R → Fault → Type 0) (opens : R → List ℕ → F → Type 0)
+    (cannot_open : R → List ℕ → Type 0) (has_text : R → List ℕ → List ℕ → Type 0) (lacks_text : R → List ℕ → Fault → Type 0)
+    (left_in_file : F → Option (List ℕ)) (failed_in_file : F → ℕ) (left : S → Option (List ℕ)) (reads : S → ℕ)
+    (written : W → Option (List ℕ)) (writes : W → ℕ) (errors_written : E → Option (List ℕ)) (errors_failed : E → ℕ) (surroundings : R)
+    (status : ℕ) : Type 0 where
+  pub input : S × S
+  pub output : W × W
+  pub errors : E × E
+  pub ends : Ends has_words cannot_begin opens cannot_open has_text lacks_text left_in_file failed_in_file left reads written writes
+      errors_written errors_failed surroundings input.0 input.1 output.0 output.1 errors.0 errors.1 status

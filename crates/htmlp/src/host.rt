@@ -1,0 +1,112 @@
+//! The system as the program's surroundings.
+
+ghost use Rattle.std.specs.Prelude.{◌≡◌, ◌≢◌};
+ghost use Rattle.std.specs.Process.{exit_status};
+ghost use Rattle.htmlp.specs.declared.fault.Fault.TheVariants as fault;
+ghost use Rattle.htmlp.specs.Program.{HasRun};
+
+use crate::fault::Fault;
+use crate::program::run_program;
+use crate::surroundings::Surroundings;
+use hparse::Source;
+use hwrite::{Counted, Target};
+use names::Keys;
+use std::alloc::Global;
+use std::fs::File;
+use std::io::{ErrorKind, Stderr, Stdin, Stdout};
+use std::process::ExitCode;
+use std::random::RandomSource;
+use std::{env, fs};
+
+// No clause knows what the system holds: stored runs show that these calls hand on its words and files.
+impl Surroundings for HostRuntime {
+    ghost use Rattle.std.specs.Prelude.{⊤};
+
+    type File = Counted<File>;
+
+    ghost has_words = { λ _ _. ⊤ };
+
+    ghost cannot_begin = { λ _ _. ⊤ };
+
+    ghost opens = { λ _ _ _. ⊤ };
+
+    ghost cannot_open = { λ _ _. ⊤ };
+
+    ghost has_text = { λ _ _ _. ⊤ };
+
+    ghost lacks_text = { λ _ _ _. ⊤ };
+
+    fn alloc(&self) -> Global {
+        Alloc::alloc(self)
+    }
+
+    fn words(&self) -> Result<Vec<String>, Fault> {
+        match env::args(self) {
+            Ok(words) => Ok(words.collect(Alloc::alloc(self))?),
+            Err(error) => Err(words_fault(error.kind())),
+        }
+    }
+
+    fn keys(&self) -> Result<Keys, Fault> {
+        let mut secret = [0; 16];
+        match self.fill_bytes(&mut secret) {
+            Ok(()) => Ok(Keys::new(u128::from_le_bytes(secret))),
+            Err(_) => Err(Fault::NoRandomBytes),
+        }
+    }
+
+    fn open(&self, name: &str) -> Option<Counted<File>> {
+        match File::open(self, name) {
+            Ok(file) => Some(Counted::new(file)),
+            Err(_) => None,
+        }
+    }
+
+    fn text(&self, name: &str) -> Result<String, Fault> {
+        match fs::read_to_string(self, name) {
+            Ok(text) => Ok(text),
+            Err(error) => Err(text_fault(error.kind())),
+        }
+    }
+}
+
+/// Why there are no words.
+fn words_fault(kind: ErrorKind) -> Fault
+    ensures not_text { kind ≡ ErrorKind.InvalidData → result ≡ fault.NotUtf8 }
+    ensures memory { kind ≢ ErrorKind.InvalidData → result ≡ fault.Memory }
+{
+    if kind == ErrorKind::InvalidData {
+        Fault::NotUtf8
+    } else {
+        Fault::Memory
+    }
+}
+
+/// Why a file's text cannot be read.
+fn text_fault(kind: ErrorKind) -> Fault
+    ensures memory { kind ≡ ErrorKind.OutOfMemory → result ≡ fault.Memory }
+    ensures unread { kind ≢ ErrorKind.OutOfMemory → result ≡ fault.CannotRead }
+{
+    if kind == ErrorKind::OutOfMemory {
+        Fault::Memory
+    } else {
+        Fault::CannotRead
+    }
+}
+
+/// The program over the system's streams.
+pub fn start(rt: &HostRuntime) -> ExitCode
+    ensures { HasRun ⟦<HostRuntime as Surroundings>⟧.has_words ⟦<HostRuntime as Surroundings>⟧.cannot_begin
+        ⟦<HostRuntime as Surroundings>⟧.opens ⟦<HostRuntime as Surroundings>⟧.cannot_open
+        ⟦<HostRuntime as Surroundings>⟧.has_text ⟦<HostRuntime as Surroundings>⟧.lacks_text
+        ⟦<Counted<File> as Source>⟧.left ⟦<Counted<File> as Source>⟧.failed
+        ⟦<Counted<Stdin> as Source>⟧.left ⟦<Counted<Stdin> as Source>⟧.failed
+        ⟦<Counted<Stdout> as Target>⟧.written ⟦<Counted<Stdout> as Target>⟧.failed
+        ⟦<Counted<Stderr> as Target>⟧.written ⟦<Counted<Stderr> as Target>⟧.failed
+        rt.now (exit_status result) }
+{
+    let mut input = Counted::new(rt.stdin());
+    let mut output = Counted::new(rt.stdout());
+    let mut errors = Counted::new(rt.stderr());
+    ExitCode::from(run_program(rt, &mut input, &mut output, &mut errors))
+}
