@@ -109,6 +109,14 @@ impl Answers {
         self.add("\"");
     }
 
+    /// The text of bytes in quotes.
+    pub fn bytes(&mut self, bytes: &[u8]) {
+        match str::from_utf8(bytes) {
+            Ok(text) => self.quoted(text),
+            Err(_) => self.word("not UTF-8"),
+        }
+    }
+
     pub fn name(&mut self, name: NameId) {
         self.begin_word();
         self.add_name(name);
@@ -156,7 +164,7 @@ impl Answers {
         }
     }
 
-    fn refusal(&mut self, refusal: Refusal) {
+    pub fn refusal(&mut self, refusal: Refusal) {
         self.word("refused ");
         if write!(self.text, "{refusal}").is_err() {
             self.is_lost = true;

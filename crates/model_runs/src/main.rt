@@ -1,6 +1,7 @@
 //! Makes the calls of a script, one a line, and prints a line for each: what it answers, `ok` where it answers nothing, `refused` and
 //! why where it is refused, and `-` where it is not made, since there is no such call or its condition is not met. The first word of a
-//! line says what is called. Lines that are empty or begin with `#` are skipped.
+//! line says what is called. Lines that are empty or begin with `#` are skipped. `model_runs tokens FILE..` and `model_runs tree FILE..`
+//! count what is in files, in pieces of 65,536 bytes, without printing it.
 //!
 //! What the calls are made on, and the room for the answers, is there before the script is read. So after its end memory is asked for by
 //! its calls alone, unless the answers are longer than that room.
@@ -12,6 +13,9 @@ ghost use Rattle.hadopt.specs.Naming.{numbers};
 
 mod answers;
 mod chain;
+mod count;
+mod engine;
+mod grown;
 mod hand;
 mod list;
 mod making;
@@ -26,19 +30,33 @@ mod sums;
 mod texts;
 mod tree;
 mod words;
+mod written;
 
+use crate::count::print_count;
 use crate::site::{Run, call_site};
 use crate::structures::{Reply, Structures};
 use crate::words::word;
 use hopen::Open;
 use names::Refusal;
-use std::io;
+use std::{env, io};
 
 const _: () = prove!(std::mem::size_of::<Open>() == 8);
 
 fn main(rt: HostRuntime) -> io::Result<()> {
+    let mut words = env::args(&rt)?.skip(1);
+    let Some(task) = words.next() else {
+        return run_script(&rt);
+    };
+    for name in words {
+        print_count(&rt, &task, &name)?;
+    }
+    Ok(())
+}
+
+/// Makes the calls of the script.
+fn run_script(rt: &HostRuntime) -> io::Result<()> {
     let mut structures = Structures::new(rt.alloc())?;
-    let done = begin(&rt, &mut structures);
+    let done = begin(rt, &mut structures);
     drop(structures);
     done
 }
@@ -105,6 +123,9 @@ fn call(structures: &mut Structures, line: &str) -> Result<Reply, Refusal> {
         "stack" => stack::call(&mut structures.stack, &mut structures.hand, line),
         "list" => list::call(&mut structures.list, &mut structures.hand, line),
         "names" => texts::call_names(&mut structures.hand, line),
+        "run" => engine::call(structures, line),
+        "quirks" => engine::call_quirks(structures, line),
+        "trees" => written::call(&mut structures.hand, line),
         "table" => texts::call_table(&mut structures.table, &mut structures.hand, line),
         _ => Ok(Reply::NotMade),
     }

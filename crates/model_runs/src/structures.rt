@@ -4,6 +4,7 @@ use crate::hand::Hand;
 use charref::Table;
 use hchain::Chains;
 use hformat::Formatting;
+use hmarkup::Quirks;
 use hopen::OpenStack;
 use names::{Keys, Refusal};
 use std::alloc::{AllocError, Global};
@@ -30,7 +31,7 @@ pub fn done(outcome: Result<(), Refusal>) -> Result<Reply, Refusal> {
     }
 }
 
-/// A list of numbers, a stack of open elements, a list of active formatting elements, a table of references, and a tree, names and
+/// A list of numbers, a stack of open elements, a list of active formatting elements, a table of references, a quirks list, and a tree, names and
 /// answers for all calls.
 #[derive(Drop)]
 pub struct Structures {
@@ -39,6 +40,7 @@ pub struct Structures {
     pub stack: OpenStack,
     pub list: Formatting,
     pub table: Option<Table>,
+    pub quirks: Option<Quirks>,
 }
 
 impl Structures {
@@ -50,6 +52,7 @@ impl Structures {
             stack: OpenStack::new(alloc, 0),
             list: Formatting::new(alloc, Keys::fixed()),
             table: None,
+            quirks: None,
         })
     }
 }

@@ -25,10 +25,16 @@ pub fn call_table(
 ) -> Result<Reply, Refusal> {
     let text = after(line, 2);
     match word(line, 1) {
+        "core" => begin(table, hand.alloc),
         "read" => read(table, hand.alloc, text),
         "longest" => Ok(look_up(table, text, &mut hand.out)),
         _ => Ok(Reply::NotMade),
     }
+}
+
+fn begin(table: &mut Option<Table>, alloc: Global) -> Result<Reply, Refusal> {
+    *table = Some(Table::core(alloc)?);
+    Ok(Reply::Done)
 }
 
 fn read(table: &mut Option<Table>, alloc: Global, text: &str) -> Result<Reply, Refusal> {

@@ -1,6 +1,7 @@
 //! The words of a line.
 
 use hopen::{Group, Scope};
+use std::alloc::{AllocError, Global};
 
 /// The first word of a text, and what comes after it.
 fn cut(text: &str) -> (&str, &str) {
@@ -32,6 +33,21 @@ pub fn number(line: &str, index: usize) -> Option<usize> {
 /// The number that a word is; 0 if it is none.
 pub fn count(line: &str, index: usize) -> u32 {
     word(line, index).parse::<u32>().unwrap_or(0)
+}
+
+/// The bytes that a word is: each is the character of its number, or the one 256 after it, which no line or word ends at.
+pub fn bytes(alloc: Global, word: &str) -> Result<Vec<u8>, AllocError> {
+    let mut bytes = Vec::new(alloc);
+    for c in word.chars() {
+        bytes.push((c as u32 % 256) as u8)?;
+    }
+    Ok(bytes)
+}
+
+/// The text of the bytes that a word is; an empty one if they are none.
+pub fn text(alloc: Global, word: &str) -> Result<String, AllocError> {
+    let bytes = bytes(alloc, word)?;
+    Ok(String::from_utf8(bytes).unwrap_or(String::new(alloc)))
 }
 
 /// The scope that a word is; the default one of any other.

@@ -4,7 +4,7 @@ use Rattle.names.specs.Names.{Texts, AreNames}
 use Rattle.hnodes.specs.Edits.{Nodes}
 use Rattle.hnodes.specs.Forest.{children_of}
 use Rattle.hnodes.specs.Named.{AreOf}
-use Rattle.cases.specs.declared.grow.Grown.{Grown}
+use Rattle.model_runs.specs.declared.grown.Grown.{Grown}
 
 -- a table of names, and nodes whose names are of it
 abbrev pub AreNamed : Texts → Nodes ℕ → Type 0

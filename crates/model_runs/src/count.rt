@@ -7,6 +7,7 @@ use hwrite::{
 };
 use std::alloc::Global;
 use std::fs::File;
+use std::io;
 
 /// How many bytes are read at a time.
 const PIECE: usize = 65_536;
@@ -53,7 +54,7 @@ impl TokenSink for Counter {
 }
 
 /// How many tokens a file has, and how many parse errors.
-pub fn count_tokens(alloc: Global, file: File) -> Result<(u64, u64), Refusal> {
+fn count_tokens(alloc: Global, file: File) -> Result<(u64, u64), Refusal> {
     let table = Table::core(alloc)?;
     let quirks = Quirks::read(alloc, "")?;
     let options = Options::new(&table, &quirks);
@@ -66,10 +67,24 @@ pub fn count_tokens(alloc: Global, file: File) -> Result<(u64, u64), Refusal> {
 }
 
 /// How many nodes its tree has, and how many parse errors.
-pub fn count_nodes(alloc: Global, file: File) -> Result<(u64, u64), Refusal> {
+fn count_nodes(alloc: Global, file: File) -> Result<(u64, u64), Refusal> {
     let table = Table::core(alloc)?;
     let quirks = Quirks::read(alloc, "")?;
     let parser = Parser::document(alloc, &Options::new(&table, &quirks))?;
     let parsed = parse_reader(alloc, parser, PIECE, &mut Counted::new(file))?;
     Ok((u64::from(parsed.tree.made()), parsed.errors.len() as u64))
+}
+
+/// Prints how many tokens or nodes a file has, and how many parse errors.
+pub fn print_count(rt: &HostRuntime, task: &str, name: &str) -> io::Result<()> {
+    let file = File::open(rt, name)?;
+    let counts = match task {
+        "tokens" => count_tokens(rt.alloc(), file),
+        _ => count_nodes(rt.alloc(), file),
+    };
+    let what = if task == "tokens" { "tokens" } else { "nodes" };
+    match counts {
+        Ok((count, errors)) => println!(rt; "{count} {what}, {errors} errors"),
+        Err(refusal) => println!(rt; "refused: {refusal}"),
+    }
 }

@@ -1,0 +1,242 @@
+#!/usr/bin/env python3
+"""The stored cases of data/cases as scripts of calls for model_runs, and what it must print of them.
+
+A line of a file X.jsonl is what comes of an input: the words of a command line of htmlp, the input, the text that is printed, the line
+of the refusal, and where they are not the program's own the table of references, the quirks list and the limit of the input; `at_once`
+says that the refusal comes with the last byte. The engine reads each input whole, in small pieces, and cut in two at each byte.
+
+A file X.dat has records in the form of html5lib's tests of trees: a line with the name of a section, and then the section's lines. An
+empty line is between two records. A page has `#data`, `#errors`, `#document-fragment` with the name of its context if it is a fragment,
+and `#document`, its tree. A list of trees has `#written`, its HTML, `#document-fragment`, `#document`, and if it does not come back
+`#limit`, which limit of plain content it breaks, and `#back`, the tree that comes back or the refusal. In it \\r and \\0 are CR and NUL.
+
+    python3 cases.py FOLDER [BEGINNING]
+
+writes FOLDER/NAME.in, a script, and FOLDER/NAME.out, its answers, for each file with this beginning; of page.html NAME.words, words for
+model_runs, in place of a script."""
+import glob
+import json
+import os
+import sys
+
+DATA = os.path.join(os.path.dirname(os.path.realpath(__file__)), "..", "..", "data", "cases")
+MOST = {"--nodes": 16_777_216, "--open": 1_048_576, "limit": 1_073_741_824}
+SECTIONS = {"#data", "#errors", "#document-fragment", "#document", "#written", "#limit", "#back"}
+# frame and keygen are void too, and not in the profile.
+VOID = set("area base basefont bgsound br col embed hr img input link meta param source track wbr".split())
+# What has its text as it is, since its text has no references.
+RAW = set("iframe noembed noframes plaintext script style xmp".split())
+QUOTE, ANGLES = {'"': "&quot;"}, {"<": "&lt;", ">": "&gt;"}
+PAGE = {"tokens": "44 tokens, 1 errors\n", "tree": "14 nodes, 2 errors\n"}
+
+
+def coded(text):
+    """A text or bytes as a word: a byte that could not stand there is the character 256 after its own."""
+    given = text.encode() if isinstance(text, str) else text
+    return "".join(chr(byte) if 0x2D < byte < 0x7F else chr(byte + 256) for byte in given)
+
+
+def refused(line):
+    return "refused " + line.removeprefix("refused: ").removesuffix("\n")
+
+
+class Script:
+    """Calls, each with its answer."""
+
+    def __init__(self):
+        self.calls, self.answers, self.lists = [], [], {}
+
+    def say(self, call, answer):
+        self.calls.append(call)
+        self.answers.append(answer)
+
+    def read_list(self, call, why, refusal):
+        """Reads a table or a quirks list, unless the last one was the same, and says whether it is accepted."""
+        kind, is_good = call.split(" ")[0], why not in refusal
+        if self.lists.get(kind) != call:
+            self.say(call, "ok" if is_good else refused(refusal))
+            if is_good:
+                self.lists[kind] = call
+        return is_good
+
+    def run(self, words, given, text, refusal, told):
+        """Runs the engine as the words of a command line say, and what a case tells besides."""
+        table = f"table read {told['entities']}" if "entities" in told else "table core"
+        quirks = f"quirks {coded(told.get('quirks', ''))}"
+        if not self.read_list(table, "BadTable", refusal) or not self.read_list(quirks, "BadQuirks", refusal):
+            return
+        options = options_of(words[1:])
+        most = [told.get(name, options.pop(name, most)) for name, most in MOST.items()]
+        escape, bad = options.pop("--escape", 1), options.pop("--bad-bytes", "refuse")
+        at_once = "yes" if told.get("at_once") else "no"
+        context = coded(options.pop("--in")) if "--in" in options else "-"
+        if options:
+            raise SystemExit(f"{words}: what is told the engine?")
+        came = " ".join([f'"{text}"', *([refused(refusal)] if refusal else []), "- -", *(["yes"] if at_once == "yes" else [])])
+        self.say(
+            " ".join(map(str, ["run", words[0], *most, escape, bad, at_once, context, coded(given)])),
+            refused(refusal) if "BadLimits" in refusal else came,
+        )
+
+    def write(self, folder, name):
+        for end, lines in (("in", self.calls), ("out", self.answers)):
+            with open(f"{folder}/{name}.{end}", "wb") as file:
+                file.write("".join(f"{line}\n" for line in lines).encode())
+
+
+def options_of(words):
+    """The options of a command line, each with its value."""
+    found, rest = {}, iter(words)
+    for word in rest:
+        name, mark, value = word.partition("=")
+        found[name] = value if mark else next(rest)
+    return found
+
+
+def of_lines(path):
+    script = Script()
+    with open(path, encoding="utf-8", newline="\n") as file:
+        for case in map(json.loads, file):
+            given = case["text"] if "text" in case else bytes.fromhex(case["input"])
+            script.run(case["words"], given, case["stdout"], case.get("stderr", ""), case)
+    return script
+
+
+def records(path):
+    """The records of a file, each as its sections."""
+    found = []
+    with open(path, encoding="utf-8", newline="\n") as file:
+        for line in file:
+            if line.rstrip("\n") in ("#data", "#written"):
+                found.append({})
+            if line.rstrip("\n") in SECTIONS:
+                section = line.rstrip("\n")
+                found[-1][section] = ""
+            else:
+                found[-1][section] += line
+    for record in found[:-1]:
+        last = list(record)[-1]
+        if f"\n{record[last]}".endswith("\n\n"):
+            record[last] = record[last].removesuffix("\n")
+    return found
+
+
+def of_records(path):
+    script = Script()
+    for record in records(path):
+        (page if "#data" in record else trees)(script, record)
+    return script
+
+
+def page(script, record):
+    data, context = record["#data"].removesuffix("\n"), record.get("#document-fragment")
+    words = [] if context is None else ["--in", context.removesuffix("\n")]
+    script.run(["tree", *words], data, record["#document"], "", {})
+    script.run(["errors", *words], data, record["#errors"], "", {})
+
+
+class Node:
+    def __init__(self, number, name=None, text=None, comment=None):
+        self.number, self.name, self.text, self.comment, self.attrs, self.children = number, name, text, comment, [], []
+
+
+class Grower:
+    """The words that make a list of trees, whose root is node 1, and the list."""
+
+    def __init__(self, context):
+        self.root, self.made, self.words = Node(1, name=context), 2, []
+
+    def make(self, parent, kind, text):
+        self.words.append(f"{parent.number}:{kind}:{coded(text)}")
+        node = Node(self.made, **{"name" if kind == "element" else kind: text})
+        self.made += 1
+        return node
+
+    def add(self, parent, line):
+        """Adds what a line of a tree's text says, and returns the node that what stands deeper is in."""
+        if line.startswith("<!-- "):
+            data = line.removeprefix("<!-- ").removesuffix(" -->")
+            parent.children.append(self.make(parent, "comment", data))
+        elif line.startswith("<"):
+            parent.children.append(self.make(parent, "element", line[1:-1]))
+        elif line.startswith('"'):
+            self.add_text(parent, line[1:-1])
+        else:
+            self.words.append(f"{parent.number}:attr:{coded(line[:-1])}")
+            parent.attrs.append(line[:-1].split('="', 1))
+            return None
+        return parent.children[-1]
+
+    def add_text(self, parent, text):
+        """Adds a text of its own, also after a text: a comment is between them while it is put."""
+        is_next = bool(parent.children) and parent.children[-1].text is not None
+        between = self.make(parent, "comment", "") if is_next else None
+        parent.children.append(self.make(parent, "text", text))
+        if between:
+            self.words.append(f"{between.number}:out:")
+
+    def grow(self, text):
+        """The root, with what the text of a tree says in it."""
+        deepest = [self.root]
+        for line in filter(None, text.removeprefix("| ").removesuffix("\n").split("\n| ")):
+            words = line.lstrip(" ")
+            del deepest[(len(line) - len(words)) // 2 + 1 :]
+            node = self.add(deepest[-1], words)
+            if node:
+                deepest.append(node)
+        return self.root
+
+
+def escaped(text, more):
+    """A text with references for what must have them (HTML Standard, 13.3), and for more."""
+    for character, reference in {"&": "&amp;", "\xa0": "&nbsp;", **more}.items():
+        text = text.replace(character, reference)
+    return text
+
+
+def html(parent, in_values):
+    """What is written of a node's children (13.3). `in_values` are the references in values of attributes."""
+    written = ""
+    for node in parent.children:
+        if node.text is not None:
+            written += node.text if parent.name in RAW else escaped(node.text, ANGLES)
+        elif node.comment is not None:
+            written += f"<!--{node.comment}-->"
+        else:
+            attrs = "".join(f' {name}="{escaped(value, in_values)}"' for name, value in node.attrs)
+            written += f"<{node.name}{attrs}>" + ("" if node.name in VOID else f"{html(node, in_values)}</{node.name}>")
+    return written
+
+
+def trees(script, record):
+    """A list is written so, is plain exactly if it comes back, and what comes back of both ways of writing it is what the record says."""
+    it = {name: text.replace("\\r", "\r").replace("\\0", "\0") for name, text in record.items()}
+    context, tree, written = (it[name] for name in ("#document-fragment", "#document", "#written"))
+    context, written, back = context.removesuffix("\n"), written.removesuffix("\n"), it.get("#back", tree)
+    grower = Grower(context)
+    root = grower.grow(tree)
+    if html(root, QUOTE) != written:
+        raise SystemExit(f"{written!r} is stored, and {html(root, QUOTE)!r} should be written")
+    is_plain = "yes" if back == tree else "no"
+    answer = f'{is_plain} "{tree}" "{written}" "{html(root, QUOTE | ANGLES)}" -'
+    script.say(" ".join(["trees", coded(context), *grower.words]), answer)
+    text, refusal = ("", back) if back.startswith("refused: ") else (back, "")
+    for given in (written, html(root, QUOTE | ANGLES)):
+        script.run(["fragment", "--in", context], given, text, refusal, {})
+
+
+def main():
+    folder, beginning = (*sys.argv[1:], "")[:2]
+    for path in sorted(glob.glob(f"{DATA}/{beginning}*")):
+        name, end = os.path.basename(path).split(".")
+        if end == "html":
+            for task, answer in PAGE.items():
+                for ending, text in (("in", ""), ("words", f"{task}\n{path}"), ("out", answer)):
+                    with open(f"{folder}/{name}-{task}.{ending}", "w", encoding="utf-8") as file:
+                        file.write(text)
+        else:
+            (of_lines if end == "jsonl" else of_records)(path).write(folder, name)
+
+
+if __name__ == "__main__":
+    main()
