@@ -1,5 +1,5 @@
 //! Tests by what only calls can show: numbers of names, sinks that refuse, walks that are begun in the middle, what is held, refusals
-//! that stay, calls that are counted. What comes of an input is in the stored cases of `cases`, what comes of a command line in the
+//! that stay, calls that are counted. What comes of an input is in the stored cases of `data/cases`, what comes of a command line in the
 //! stored runs of `htmlp`, and what comes of each read and each write that fails in `.ci/refused-calls`.
 #![tactic(auto)]
 
