@@ -40,10 +40,9 @@ impl<'q> TreeConstruction<'q> {
     pub(crate) fn text_unended(&mut self, at: u64) -> Result<Flow, Refusal>
         ensures { (t : TokenOf ℕ) → FlowGives result t (state_of self.new) (perform numbers at t (error Text ▸ pop ▸ to_saved ▸ again) (state_of self.old)) }
     {
-        let saved = self.control.saved;
         self.error(Mode::Text, at)?;
         self.site.pop();
-        self.control.mode = saved;
+        self.control.mode = self.control.saved;
         Ok(Flow::Again)
     }
 

@@ -8,11 +8,12 @@ ghost use Rattle.hmodes.specs.State.{Token as TokenOf};
 ghost use Rattle.hmodes.specs.States.{state_of};
 ghost use Rattle.hmodes.specs.Tokens.{token_of};
 ghost use Rattle.hmodes.specs.Head.{before_html, html_unwritten, before_head, head_unwritten};
-ghost use Rattle.hmodes.specs.Words.{Start, ◌▸◌, to, insert, head_pointer};
-ghost use Rattle.hmodes.specs.declared.mode.Mode.TheVariants.{InHead};
+ghost use Rattle.hmodes.specs.Words.{◌▸◌, to, insert, insert_root, head_pointer};
+ghost use Rattle.hmodes.specs.declared.mode.Mode.TheVariants.{BeforeHead, InHead};
 
 use crate::family::Family;
 use crate::mode::Mode;
+use crate::token::{take_attrs, token_name};
 use crate::token_kind::TokenKind;
 use crate::tree_construction::{Flow, TreeConstruction};
 use htoken::Token;
@@ -31,11 +32,7 @@ impl<'q> TreeConstruction<'q> {
         match kind {
             TokenKind::Comment => self.comment_in_document(token, at),
             TokenKind::Ws => Ok(Flow::Done),
-            TokenKind::Start(Family::Html) => {
-                self.insert_root(token, at)?;
-                self.control.mode = Mode::BeforeHead;
-                Ok(Flow::Done)
-            }
+            TokenKind::Start(Family::Html) => self.html(token, at),
             TokenKind::End(Family::Head | Family::Body | Family::Html | Family::Br) => {
                 self.html_unwritten(at)
             }
@@ -44,11 +41,26 @@ impl<'q> TreeConstruction<'q> {
         }
     }
 
+    /// The start tag html, the first.
+    fn html(&mut self, token: &mut Token, at: u64) -> Result<Flow, Refusal>
+        ensures { FlowGives result (token_of token.new) (state_of self.new)
+            (perform numbers at (token_of token.old) (insert_root ▸ to BeforeHead) (state_of self.old)) }
+    {
+        let name = token_name(token);
+        let attrs = take_attrs(self.alloc, token);
+        let place = self.site.place_in_document();
+        self.site.insert_element(name, attrs, place, at)?;
+        self.control.mode = Mode::BeforeHead;
+        Ok(Flow::Done)
+    }
+
     /// An html that no tag began.
     fn html_unwritten(&mut self, at: u64) -> Result<Flow, Refusal>
         ensures { (t : TokenOf ℕ) → FlowGives result t (state_of self.new) (perform numbers at t html_unwritten (state_of self.old)) }
     {
-        self.insert_root_named(Tag::Html.number(), at)?;
+        let place = self.site.place_in_document();
+        self.site
+            .insert_element(Tag::Html.number(), Vec::new(self.alloc), place, at)?;
         self.control.mode = Mode::BeforeHead;
         Ok(Flow::Again)
     }

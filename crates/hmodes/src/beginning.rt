@@ -40,8 +40,14 @@ fn fragment_site(alloc: Global, keys: Keys, limits: Limits) -> Result<(Site, Nod
 {
     let mut site = Site::new(alloc, keys, limits.nodes(), limits.depth())?;
     let place = site.place_in_document();
-    let root = site.insert_element(Tag::Html.number(), Vec::new(alloc), place, 0)?;
-    Ok((site, root))
+    let root = site.insert_element(Tag::Html.number(), Vec::new(alloc), place, 0);
+    match root {
+        Ok(root) => Ok((site, root)),
+        Err(refusal) => {
+            drop(site);
+            Err(refusal)
+        }
+    }
 }
 
 /// The form pointer in a context: the document stands for a form that is the context.

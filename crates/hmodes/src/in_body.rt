@@ -5,13 +5,14 @@ ghost use Rattle.hadopt.specs.Kept.{Kept};
 ghost use Rattle.hadopt.specs.Naming.{numbers};
 ghost use Rattle.hopen.specs.declared.scope.Scope.TheVariants as scope;
 ghost use Rattle.names.specs.declared.tag.Tag.TheVariants as tag;
+ghost use Rattle.hmodes.specs.Ended.{ended};
 ghost use Rattle.hmodes.specs.Flows.{FlowGives, StateGives, performed};
 ghost use Rattle.hmodes.specs.Perform.{perform};
 ghost use Rattle.hmodes.specs.State.{Token as TokenOf, character};
 ghost use Rattle.hmodes.specs.States.{state_of};
 ghost use Rattle.hmodes.specs.Tokens.{token_of};
 ghost use Rattle.hmodes.specs.Body.{in_body, body_ends, character_in_body};
-ghost use Rattle.hmodes.specs.Words.{Start, End, ◌▸◌, when, choose, error, again, to, insert, reconstruct, add_missing_to_second, second_is_body, has_in};
+ghost use Rattle.hmodes.specs.Words.{Start, End, ◌▸◌, when, choose, error, to, insert, reconstruct, add_missing_to_second, second_is_body, has_in};
 ghost use Rattle.hmodes.specs.Words.{other_end};
 ghost use Rattle.hmodes.specs.declared.mode.Mode.TheVariants.{InBody, AfterBody};
 
@@ -99,8 +100,8 @@ impl<'q> TreeConstruction<'q> {
             (perform numbers at (token_of token.old) (in_body (End family)) (state_of self.old)) }
     {
         match family {
-            Family::Body => self.end_body(at),
-            Family::Html => self.end_html(at),
+            Family::Body => self.end_body(Flow::Done, at),
+            Family::Html => self.end_body(Flow::Again, at),
             Family::Block | Family::Button | Family::Pre => self.close_block(token, at),
             Family::Form => self.end_form(at),
             Family::P => self.end_p(at),
@@ -146,36 +147,23 @@ impl<'q> TreeConstruction<'q> {
             (perform numbers at (token_of token.old) (error InBody ▸ when second_is_body add_missing_to_second) (state_of self.old)) }
     {
         self.error(Mode::InBody, at)?;
-        if self.second_is_body() {
-            self.add_missing(1, token)?;
+        if !self.second_is_body() {
+            return Ok(Flow::Done);
         }
-        Ok(Flow::Done)
+        done(self.add_missing(1, token))
     }
 
-    /// The end tag body.
-    pub(crate) fn end_body(&mut self, at: u64) -> Result<Flow, Refusal>
+    /// The end tags body and html, of which the latter is reprocessed then.
+    pub(crate) fn end_body(&mut self, flow: Flow, at: u64) -> Result<Flow, Refusal>
         ensures { (t : TokenOf ℕ) → FlowGives result t (state_of self.new)
-            (perform numbers at t (choose (has_in scope.Default tag.Body) (body_ends ▸ to AfterBody) (error InBody)) (state_of self.old)) }
+            (perform numbers at t (choose (has_in scope.Default tag.Body) (body_ends ▸ to AfterBody ▸ ended flow) (error InBody)) (state_of self.old)) }
     {
         if !self.site.in_scope(Scope::Default, Tag::Body.number()) {
             return self.ignore(Mode::InBody, at);
         }
         self.check_open(at)?;
         self.control.mode = Mode::AfterBody;
-        Ok(Flow::Done)
-    }
-
-    /// The end tag html.
-    pub(crate) fn end_html(&mut self, at: u64) -> Result<Flow, Refusal>
-        ensures { (t : TokenOf ℕ) → FlowGives result t (state_of self.new)
-            (perform numbers at t (choose (has_in scope.Default tag.Body) (body_ends ▸ to AfterBody ▸ again) (error InBody)) (state_of self.old)) }
-    {
-        if !self.site.in_scope(Scope::Default, Tag::Body.number()) {
-            return self.ignore(Mode::InBody, at);
-        }
-        self.check_open(at)?;
-        self.control.mode = Mode::AfterBody;
-        Ok(Flow::Again)
+        Ok(flow)
     }
 
     /// Any other start tag.

@@ -15,7 +15,6 @@ use crate::family::Family;
 use crate::mode::Mode;
 use crate::token_kind::TokenKind;
 use crate::tree_construction::{Flow, TreeConstruction, done};
-use hadopt::Passing;
 use hopen::Scope;
 use htoken::Token;
 use names::{Refusal, Tag};
@@ -40,8 +39,8 @@ impl<'q> TreeConstruction<'q> {
                 | Family::Section
                 | Family::Cell
                 | Family::Row,
-            )
-            | TokenKind::End(Family::Table) => self.close_caption(Flow::Again, at),
+            ) => self.close_caption(Flow::Again, at),
+            TokenKind::End(Family::Table) => self.close_caption(Flow::Again, at),
             TokenKind::End(
                 Family::Body
                 | Family::Col
@@ -63,9 +62,7 @@ impl<'q> TreeConstruction<'q> {
         if !self.site.in_scope(Scope::Table, caption) {
             return self.ignore(Mode::InCaption, at);
         }
-        self.site.pop_past(Passing::Implied(None));
-        self.pop_to(Mode::InCaption, caption, at)?;
-        self.site.clear_to_marker();
+        self.close_marked(Mode::InCaption, caption, at)?;
         self.control.mode = Mode::InTable;
         Ok(flow)
     }

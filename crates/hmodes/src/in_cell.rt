@@ -67,9 +67,7 @@ impl<'q> TreeConstruction<'q> {
         if !self.site.in_scope(Scope::Table, name) {
             return self.ignore(Mode::InCell, at);
         }
-        self.site.pop_past(Passing::Implied(None));
-        self.pop_to(Mode::InCell, name, at)?;
-        self.site.clear_to_marker();
+        self.close_marked(Mode::InCell, name, at)?;
         self.control.mode = Mode::InRow;
         Ok(Flow::Done)
     }

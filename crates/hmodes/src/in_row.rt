@@ -41,8 +41,8 @@ impl<'q> TreeConstruction<'q> {
             TokenKind::End(Family::Row) => self.close_row(Flow::Done, at),
             TokenKind::Start(
                 Family::Caption | Family::Col | Family::Colgroup | Family::Section | Family::Row,
-            )
-            | TokenKind::End(Family::Table) => self.close_row(Flow::Again, at),
+            ) => self.close_row(Flow::Again, at),
+            TokenKind::End(Family::Table) => self.close_row(Flow::Again, at),
             TokenKind::End(Family::Section) => self.end_section_in_row(token, at),
             TokenKind::End(
                 Family::Body
@@ -75,9 +75,7 @@ impl<'q> TreeConstruction<'q> {
             return self.ignore(Mode::InRow, at);
         }
         self.site.pop_past(Passing::Row);
-        self.site.pop();
-        self.control.mode = Mode::InTableBody;
-        Ok(flow)
+        self.pop_and_go(Mode::InTableBody, flow)
     }
 
     /// The end tag of a table body in a row.

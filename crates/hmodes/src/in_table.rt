@@ -220,9 +220,8 @@ impl<'q> TreeConstruction<'q> {
         ensures { FlowGives result (token_of token.new) (state_of self.new)
             (perform numbers at (token_of token.old) (error InTable ▸ unless form_is_set (insert ▸ form_pointer ▸ pop)) (state_of self.old)) }
     {
-        let is_set = self.control.form.is_some();
         self.error(Mode::InTable, at)?;
-        if is_set {
+        if self.control.form.is_some() {
             return Ok(Flow::Done);
         }
         self.insert(token, at)?;

@@ -129,8 +129,7 @@ impl<'q> TreeConstruction<'q> {
     {
         self.site.reconstruct(at)?;
         self.close_nobr(token_name(token), at)?;
-        self.insert_formatting(token, at)?;
-        Ok(Flow::Done)
+        done(self.insert_formatting(token, at))
     }
 
     /// The end tag of a formatting element.
@@ -162,10 +161,7 @@ impl<'q> TreeConstruction<'q> {
         if !self.site.in_scope(Scope::Default, name) {
             return self.ignore(Mode::InBody, at);
         }
-        self.site.pop_past(Passing::Implied(None));
-        self.pop_to(Mode::InBody, name, at)?;
-        self.site.clear_to_marker();
-        Ok(Flow::Done)
+        done(self.close_marked(Mode::InBody, name, at))
     }
 
     /// A p is closed before a table, but not in quirks mode.
@@ -194,17 +190,9 @@ impl<'q> TreeConstruction<'q> {
     {
         self.error(Mode::InBody, at)?;
         self.site.reconstruct(at)?;
-        self.br_unwritten(at)?;
-        Ok(Flow::Done)
-    }
-
-    /// A br without attributes.
-    fn br_unwritten(&mut self, at: u64) -> Result<(), Refusal>
-        ensures { StateGives result (state_of self.new) (performed at (insert_named tag.Br ▸ pop) (state_of self.old)) }
-    {
         self.insert_named(Tag::Br.number(), at)?;
         self.site.pop();
-        Ok(())
+        Ok(Flow::Done)
     }
 
     /// A void element among formatting elements.

@@ -67,11 +67,11 @@ impl<'q> TreeConstruction<'q> {
     fn end(&mut self, closing: bool, at: u64) -> Result<(), Refusal>
         ensures { (token : TokenOf ℕ) → is_self_closing token ≡ closing → Gives result (state_of self.new) (Goes (finished at token (state_of self.old))) }
     {
-        if closing && !self.control.acknowledged {
-            let code = ErrorCode::NonVoidHtmlElementStartTagWithTrailingSolidus;
-            self.site.error(code, at)?;
+        if !closing || self.control.acknowledged {
+            return Ok(());
         }
-        Ok(())
+        let code = ErrorCode::NonVoidHtmlElementStartTagWithTrailingSolidus;
+        self.site.error(code, at)
     }
 }
 

@@ -39,8 +39,9 @@ impl<'q> TreeConstruction<'q> {
             TokenKind::Start(Family::Row) => self.row(token, at),
             TokenKind::Start(Family::Cell) => self.row_unwritten_in_body(at),
             TokenKind::End(Family::Section) => self.end_section(token, at),
-            TokenKind::Start(Family::Caption | Family::Col | Family::Colgroup | Family::Section)
-            | TokenKind::End(Family::Table) => self.section_ends(at),
+            TokenKind::Start(Family::Caption | Family::Col | Family::Colgroup | Family::Section) =>
+                self.section_ends(at),
+            TokenKind::End(Family::Table) => self.section_ends(at),
             TokenKind::End(
                 Family::Body
                 | Family::Caption

@@ -4,8 +4,6 @@ ghost use Rattle.std.specs.Prelude.{ℕ, IfOk, []};
 ghost use Rattle.hadopt.specs.Kept.{Kept};
 ghost use Rattle.hadopt.specs.Naming.{numbers};
 ghost use Rattle.hadopt.specs.Site.{from_top};
-ghost use Rattle.hnodes.specs.declared.node.Place.TheVariants.{LastIn};
-ghost use Rattle.hadopt.specs.Inserts.{inserted};
 ghost use Rattle.hmodes.specs.Flows.{FlowGives, StateGives, performed, performed_for};
 ghost use Rattle.hmodes.specs.Perform.{perform, on_site, site_becomes, inserted_here, completed};
 ghost use Rattle.hmodes.specs.Programs.{void, raw, html_again, close_p_in_scope};
@@ -13,8 +11,8 @@ ghost use Rattle.hmodes.specs.State.{Token as TokenOf, character, token_attrs};
 ghost use Rattle.hmodes.specs.States.{state_of};
 ghost use Rattle.hmodes.specs.Tokens.{token_of};
 ghost use Rattle.hmodes.specs.declared.mode.Mode.TheVariants.{InBody};
-ghost use Rattle.hmodes.specs.Words.{error, insert, insert_root, insert_comment, comment_in_document, comment_in_first, put, unless, current_is_name};
-ghost use Rattle.hmodes.specs.Words.{pop_to_name, implied_except_name, ◌▸◌};
+ghost use Rattle.hmodes.specs.Words.{error, insert, insert_comment, comment_in_document, comment_in_first, put, unless, current_is_name};
+ghost use Rattle.hmodes.specs.Words.{pop_to_name, implied, implied_except_name, clear_to_marker, ◌▸◌};
 
 use crate::mode::Mode;
 use crate::token::{take_attrs, take_text, token_char, token_name};
@@ -58,27 +56,6 @@ impl<'q> TreeConstruction<'q> {
         ensures kept { Kept numbers self.old.site → IfOk result (λ _. Kept numbers self.new.site) }
     {
         let place = self.site.place();
-        self.site
-            .insert_element(name, Vec::new(self.alloc), place, at)?;
-        Ok(())
-    }
-
-    /// An element for a start tag in the document.
-    pub(crate) fn insert_root(&mut self, token: &mut Token, at: u64) -> Result<(), Refusal>
-        ensures done { StateGives result (state_of self.new) (perform numbers at (token_of token.old) insert_root (state_of self.old)) }
-    {
-        let name = token_name(token);
-        let attrs = take_attrs(self.alloc, token);
-        let place = self.site.place_in_document();
-        self.site.insert_element(name, attrs, place, at)?;
-        Ok(())
-    }
-
-    /// An element of a name in the document, without attributes.
-    pub(crate) fn insert_root_named(&mut self, name: NameId, at: u64) -> Result<(), Refusal>
-        ensures { StateGives result (state_of self.new) (on_site (inserted at name [] (LastIn 0)) (state_of self.old)) }
-    {
-        let place = self.site.place_in_document();
         self.site
             .insert_element(name, Vec::new(self.alloc), place, at)?;
         Ok(())
@@ -195,6 +172,17 @@ impl<'q> TreeConstruction<'q> {
             self.error(mode, at)?;
         }
         self.site.pop_to(name);
+        Ok(())
+    }
+
+    /// Closes the nearest element of a name, and the formatting elements up to its marker.
+    pub(crate) fn close_marked(&mut self, mode: Mode, name: NameId, at: u64) -> Result<(), Refusal>
+        ensures { StateGives result (state_of self.new)
+            (performed_for name at (implied ▸ unless current_is_name (error mode) ▸ pop_to_name ▸ clear_to_marker) (state_of self.old)) }
+    {
+        self.site.pop_past(Passing::Implied(None));
+        self.pop_to(mode, name, at)?;
+        self.site.clear_to_marker();
         Ok(())
     }
 

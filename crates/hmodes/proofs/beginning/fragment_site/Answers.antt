@@ -1,17 +1,15 @@
 use Rattle.std.proofs.Common.{ℕ, inl, inr, ap, ◌∙◌, length}
 use Rattle.std.specs.Prelude.{nat_le}
-use Rattle.std.proofs.lemmas.Result.{err_from_is_err_and}
 use Rattle.hadopt.specs.Site.{SiteOf, stack}
 use Rattle.hmodes.proofs.Root.{above_one, above_none, fits}
 use Rattle.hmodes.proofs.beginning.fragment_site.Goals as goal
 
-pub returns-in_err-root : goal.returns-in_err-root
-returns-in_err-root c =
-    let e = err_from_is_err_and c.from_residual-in_err-root.result c.from_residual-in_err-root.ensures.1 in
+pub returns-in-Err : goal.returns-in-Err
+returns-in-Err c =
     let is = c.in_ok-site.ensures.site in
-    rw (e.1, e.2) (elim c.in_err-root.ensures.done [
+    elim c.in-Err.ensures.done [
       | inl m ↦ m
       | inr wrong ↦ absurd (fits _ _ _ _ c.in_ok-site.site _
           (ap (λ (s : SiteOf ℕ). nat_le s.nodes.limit s.nodes.made) is ∙ above_one c.nodes.result c.nodes.ensures.some)
           (ap (λ (s : SiteOf ℕ). nat_le s.open_nodes.limit (length (stack s))) is ∙ above_none c.depth.result c.depth.ensures.some) wrong)
-    ])
+    ]

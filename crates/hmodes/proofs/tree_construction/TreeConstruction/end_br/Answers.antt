@@ -1,17 +1,36 @@
-use Rattle.std.proofs.Common.{ℕ, ap, ◌∙◌}
+use Rattle.std.proofs.Common.{◌≡◌, ℕ, [], sym, subst, ap, ◌∙◌}
+use Rattle.std.specs.Prelude.{◌⊎◌}
+use Rattle.names.specs.declared.refusal.Refusal.TheVariants.{Memory}
+use Rattle.hadopt.specs.Naming.{numbers}
+use Rattle.hadopt.specs.Site.{SiteOf}
 use Rattle.names.specs.declared.tag.Tag.TheVariants.{Br}
-use Rattle.hmodes.specs.Perform.{flow_of, with_site}
-use Rattle.hmodes.specs.State.{State}
+use Rattle.hmodes.specs.Perform.{perform, flow_of, with_site, on_site, inserted_here}
+use Rattle.hmodes.specs.State.{State, Done, Refused}
 use Rattle.hmodes.specs.States.{state_of}
 use Rattle.hmodes.specs.Words.{◌▸◌, error, reconstruct, insert_named, pop}
 use Rattle.hmodes.specs.declared.mode.Mode.TheVariants.{InBody}
-use Rattle.hmodes.proofs.Flowing.{goes-on}
+use Rattle.hmodes.proofs.Flowing.{goes-on, refused-as, refused-then, err-flow}
 use Rattle.hmodes.proofs.tree_construction.TreeConstruction.end_br.Goals as goal
+
+pub returns-in_err-insert_named : goal.returns-in_err-insert_named
+returns-in_err-insert_named c = λ t.
+    let e = c.in_err-insert_named.field-0.0 in
+    let s = state_of c.error.new.self in
+    let s' : State ℕ = with_site c.reconstruct.new.self s in
+    err-flow c.from_residual-in_err-insert_named.result e _ _ _ c.from_residual-in_err-insert_named.ensures.1
+    (refused-as e _ _
+    (goes-on c.args.at t (error InBody) (reconstruct ▸ insert_named Br ▸ pop) (state_of c.args.self.now) s c.in_ok-error.ensures.done
+    ∙ goes-on c.args.at t reconstruct (insert_named Br ▸ pop) s s' (ap (flow_of s) c.in_ok-reconstruct.ensures.done))
+    (refused-then e _ (perform numbers c.args.at t pop)
+    (subst (λ (m : ℕ). (e ≡ Memory) ⊎ (on_site (inserted_here numbers c.args.at m []) s' ≡ Refused e)) c.number.ensures.number c.in_err-insert_named.ensures.done)))
 
 pub returns : goal.returns
 returns c = λ t.
     let s = state_of c.error.new.self in
     let s' : State ℕ = with_site c.reconstruct.new.self s in
+    let s'' : State ℕ = state_of c.insert_named.new.self in
     goes-on c.args.at t (error InBody) (reconstruct ▸ insert_named Br ▸ pop) (state_of c.args.self.now) s c.in_ok-error.ensures.done
     ∙ goes-on c.args.at t reconstruct (insert_named Br ▸ pop) s s' (ap (flow_of s) c.in_ok-reconstruct.ensures.done)
-    ∙ c.in_ok-br_unwritten.ensures
+    ∙ goes-on c.args.at t (insert_named Br) pop s' s''
+    (subst (λ (m : ℕ). on_site (inserted_here numbers c.args.at m []) s' ≡ Done s'') c.number.ensures.number c.in_ok-insert_named.ensures.done)
+    ∙ ap (λ (x : SiteOf ℕ). Done (with_site x s'')) (sym c.pop.ensures.site)

@@ -1,12 +1,12 @@
-use Rattle.std.proofs.Common.{◌≡◌, ℕ, subst, ap, ◌∙◌}
+use Rattle.std.proofs.Common.{◌≡◌, ℕ, sym, subst, ap, ◌∙◌}
 use Rattle.std.specs.Prelude.{◌⊎◌}
 use Rattle.names.specs.declared.tag.Tag.TheVariants.{Nobr}
 use Rattle.names.specs.declared.refusal.Refusal.TheVariants.{Memory}
 use Rattle.hopen.specs.declared.scope.Scope.TheVariants.{Default}
 use Rattle.hadopt.specs.Naming.{numbers}
-use Rattle.hmodes.specs.Flows.{performed_for}
+use Rattle.hmodes.specs.Flows.{FlowGives, performed_for}
 use Rattle.hmodes.specs.Perform.{perform, flow_of, with_site}
-use Rattle.hmodes.specs.State.{State, Done, Refused}
+use Rattle.hmodes.specs.State.{State, Flow, Done, Refused}
 use Rattle.hmodes.specs.States.{state_of}
 use Rattle.hmodes.specs.Tokens.{token_of}
 use Rattle.hmodes.specs.Words.{Do, ◌▸◌, when, has_in, error, adopt, reconstruct, insert, push_to_list}
@@ -31,25 +31,14 @@ returns-in_err-close_nobr c =
     (refused-then e _ (perform numbers c.args.at t adds)
     (subst (λ (m : ℕ). (e ≡ Memory) ⊎ (performed_for m c.args.at closes s' ≡ Refused e)) c.token_name.ensures c.in_err-close_nobr.ensures)))
 
-pub returns-in_err-insert_formatting : goal.returns-in_err-insert_formatting
-returns-in_err-insert_formatting c =
-    let e = c.in_err-insert_formatting.field-0.0 in
-    let s = state_of c.args.self.now in
-    let s' : State ℕ = with_site c.reconstruct.new.self s in
-    let t = token_of c.args.token.now in
-    err-flow c.from_residual-in_err-insert_formatting.result e _ _ _ c.from_residual-in_err-insert_formatting.ensures.1
-    (refused-as e _ _
-    (goes-on c.args.at t reconstruct (closes ▸ adds) s s' (ap (flow_of s) c.in_ok-reconstruct.ensures.done)
-    ∙ goes-on c.args.at t closes adds s' (state_of c.close_nobr.new.self)
-    (subst (λ (m : ℕ). performed_for m c.args.at closes s' ≡ Done (state_of c.close_nobr.new.self)) c.token_name.ensures c.in_ok-close_nobr.ensures))
-    c.in_err-insert_formatting.ensures)
-
 pub returns : goal.returns
 returns c =
     let s = state_of c.args.self.now in
     let s' : State ℕ = with_site c.reconstruct.new.self s in
     let t = token_of c.args.token.now in
-    goes-on c.args.at t reconstruct (closes ▸ adds) s s' (ap (flow_of s) c.in_ok-reconstruct.ensures.done)
+    subst (λ (x : Flow ℕ). FlowGives c.done.result (token_of c.insert_formatting.new.token) (state_of c.insert_formatting.new.self) x)
+    (sym
+    (goes-on c.args.at t reconstruct (closes ▸ adds) s s' (ap (flow_of s) c.in_ok-reconstruct.ensures.done)
     ∙ goes-on c.args.at t closes adds s' (state_of c.close_nobr.new.self)
-    (subst (λ (m : ℕ). performed_for m c.args.at closes s' ≡ Done (state_of c.close_nobr.new.self)) c.token_name.ensures c.in_ok-close_nobr.ensures)
-    ∙ c.in_ok-insert_formatting.ensures
+    (subst (λ (m : ℕ). performed_for m c.args.at closes s' ≡ Done (state_of c.close_nobr.new.self)) c.token_name.ensures c.in_ok-close_nobr.ensures)))
+    (c.done.ensures (token_of c.insert_formatting.new.token) (state_of c.insert_formatting.new.self) _ c.insert_formatting.ensures)

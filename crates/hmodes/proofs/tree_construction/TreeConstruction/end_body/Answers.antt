@@ -1,6 +1,6 @@
 use Rattle.std.proofs.Common.{rules}
 use Rattle.hmodes.proofs.Ended.{ends-as}
-use Rattle.hmodes.proofs.tree_construction.TreeConstruction.close_row.Goals as goal
+use Rattle.hmodes.proofs.tree_construction.TreeConstruction.end_body.Goals as goal
 
 pub returns : goal.returns
 returns c = search (rules, ends-as)
