@@ -1,9 +1,12 @@
 -- A run of characters, a part after another.
-use Rattle.std.proofs.Common.{◌≡◌, ◌≤◌, ◌<◌, ℕ, ◌+◌, List, [], ◌∷◌, ◌++◌, length, take, drop, sym, refl, ap, ◌∙◌, subst, Result, Ok, Err, append_assoc, append-nil, arith}
-use Rattle.std.specs.Prelude.{true, slice_index, MatchResult}
+use Rattle.std.proofs.Common.{◌≡◌, ◌≤◌, ◌<◌, ℕ, zero, suc, ◌+◌, List, [], ◌∷◌, ◌++◌, length, take, drop, sym, refl, ap, ◌∙◌, subst, Result, Ok, Err, append_assoc, append-nil, arith}
+use Rattle.std.specs.Prelude.{true, slice_index, IfOk, MatchResult}
 use Rattle.std.specs.List.{list_all}
-use Rattle.std.specs.Str.{chars}
-use Rattle.std.proofs.lemmas.List.{take_all}
+use Rattle.std.specs.Str.{chars, IsAscii, IsCharBoundary}
+use Rattle.std.proofs.lemmas.Bool.{and_parts}
+use Rattle.std.proofs.lemmas.Bool.Decides.{nat_tests}
+use Rattle.std.proofs.lemmas.List.{length-take-le, take_all}
+use Rattle.std.proofs.lemmas.Str.{IsCharBoundary-from_drop, IsUtf8-from_ascii}
 use Rattle.names.specs.declared.placed.Placed.{Placed}
 use Rattle.names.specs.declared.raw.RawKind.{RawKind}
 use Rattle.names.specs.declared.refusal.Refusal.{Refusal}
@@ -11,7 +14,7 @@ use Rattle.names.specs.Names.{Texts, Grows}
 use Rattle.names.specs.Placed.{placed}
 use Rattle.names.proofs.Handing.{text_kept}
 use Rattle.htext.specs.Run.{is_plain_byte, IsCut}
-use Rattle.htext.proofs.Runs.{placed_part, placed_rest}
+use Rattle.htext.proofs.Runs.{placed_part, placed_rest, plain_chars, plain_drop}
 use Rattle.htext.proofs.Wide.{placed_cut, placed_more}
 use Rattle.charref.specs.Reference.{Entities}
 use Rattle.htag.proofs.Naming.{attrs_kept}
@@ -21,7 +24,7 @@ use Rattle.htoken.specs.declared.tokenizer.Tokenizer.{Tokenizer}
 use Rattle.htoken.specs.Token.{Tok, Item, ItemToken, ItemError, Event, Gives, Reports, TokenMeans, Mean}
 use Rattle.htoken.specs.Tokens.{tokens_in, IsRefused, AreFront}
 use Rattle.htoken.specs.Handing.{HandsEvents}
-use Rattle.htoken.specs.Steps.{TakesFront}
+use Rattle.htoken.specs.Steps.{TakesFront, TakesPart}
 use Rattle.htoken.specs.Tokenizing.{HasTaken, Takes, take_ran_out, take_refused, take_sink_refused, take_took}
 use Rattle.htoken.proofs.Going.{takes_after}
 use Rattle.htoken.proofs.Handing.{HandsEvents-append}
@@ -48,6 +51,23 @@ mean_kept old new grows (i ∷ items) [] h = absurd h
 pub first_of : (at : ℕ) (run bytes : List ℕ) (c : ℕ) → 0 < length run → c ≡ slice_index bytes 0 → bytes ≡ run → record { ch = c; at = at } ∷ [] ≡ placed at (take 1 run)
 first_of at [] bytes c some is same = absurd (omega (arith, some))
 first_of at (x ∷ xs) bytes c some is same = ap (λ (n : ℕ). record { ch = n; at = at } ∷ []) (is ∙ ap (λ (bs : List ℕ). slice_index bs 0) same)
+
+-- a run of plain bytes may be cut anywhere
+plain_ascii : (xs : List ℕ) → list_all is_plain_byte xs ≡ true → IsAscii xs
+plain_ascii [] h i = omega arith
+plain_ascii (x ∷ xs) h zero = let k = and_parts (is_plain_byte x) (list_all is_plain_byte xs) h in grind (arith, k.0, nat_tests)
+plain_ascii (x ∷ xs) h (suc i) = plain_ascii xs (and_parts (is_plain_byte x) (list_all is_plain_byte xs) h).1 i
+
+pub plain_boundary : (n : ℕ) (run : List ℕ) → list_all is_plain_byte run ≡ true → n ≤ length run → IsCharBoundary run n
+plain_boundary n run plain within = IsCharBoundary-from_drop run n within (IsUtf8-from_ascii (drop n run) (plain_ascii (drop n run) (plain_drop n run plain)))
+
+-- a part of a run, taken whole
+taken_whole : (n k : ℕ) (run part : List ℕ) → n ≤ length run → part ≡ take n run → k ≡ length part → k ≡ n
+taken_whole n k run part within is all = all ∙ ap length is ∙ length-take-le n run within
+
+pub few_of : (n : ℕ) (run : List ℕ) → 0 < n → IsCut n run → (part : List ℕ) → part ≡ take n run → (answer : Result ℕ Refusal) → IfOk answer (λ count. count ≡ length part) → IfOk answer (λ count. (0 < count) × IsCut count run)
+few_of n run some cut part is (Ok k) all = subst (λ (m : ℕ). (0 < m) × IsCut m run) (sym (taken_whole n k run part cut.within is all)) (some, cut)
+few_of n run some cut part is (Err e) all = tt
 
 module _ {S : Type 0} (gives : S → Item → Result (Unit {0}) Refusal → S → Type 0) (table : Entities) (start : RawKind) (text : List Placed) where
   -- a refusal is one whatever follows
@@ -142,6 +162,13 @@ module _ {S : Type 0} (gives : S → Item → Result (Unit {0}) Refusal → S �
         part_taken (placed at (take count run)) taken before names grows old mid t (placed (at + count) (take n (drop count run))) (placed at (take (count + n) run)) (placed_part at count n run plain within) (Ok tt) new next so
         (subst (λ (x : List ℕ). ThenTakes (placed at (take count run)) taken before names grows old mid t (placed (at + count) (take n x)) (Ok tt) new next) is then)
 
+    -- one character more, whatever the answer
+    pub one_taken : (part : List ℕ) → part ≡ drop count run → (answer : Result (Unit {0}) Refusal) (new : S) (next : Tokenizer) → SoFar
+        → ThenTakes (placed at (take count run)) taken before names grows old mid t (placed (at + count) (take 1 part)) answer new next → Takes gives table start text (placed at (take (count + 1) run)) taken names old answer new next
+    one_taken part is answer new next so then =
+        part_taken (placed at (take count run)) taken before names grows old mid t (placed (at + count) (take 1 (drop count run))) (placed at (take (count + 1) run)) (placed_part at count 1 run plain within) answer new next so
+        (subst (λ (x : List ℕ). ThenTakes (placed at (take count run)) taken before names grows old mid t (placed (at + count) (take 1 x)) answer new next) is then)
+
     -- all that is left
     pub rest_taken : (part : List ℕ) → part ≡ drop count run → (answer : Result (Unit {0}) Refusal) (new : S) (next : Tokenizer) → SoFar
         → ThenTakes (placed at (take count run)) taken before names grows old mid t (placed (at + count) part) answer new next → Takes gives table start text (placed at run) taken names old answer new next
@@ -163,6 +190,15 @@ module _ {S : Type 0} (gives : S → Item → Result (Unit {0}) Refusal → S �
   cut_refused at count run cut taken names old new e next then h =
       subst (λ (x : List Placed). Takes gives table start text x taken names old (Err e) new then) (sym (placed_cut count run cut at))
       (refused_longer (placed at (chars (take count run))) (placed (at + count) (chars (drop count run))) taken names old new e next then h)
+
+  -- a part that is ASCII
+  pub part_of : (at n : ℕ) (run : List ℕ) → IsCut n run → list_all is_plain_byte (take n run) ≡ true → (part : List ℕ) → part ≡ take n run → (taken : List Event) (names : Texts) (old new : S) (answer : Result ℕ Refusal) (next : Tokenizer)
+      → IfOk answer (λ count. count ≡ length part) → TakesFront gives table start text at part taken names old answer new next → TakesPart gives table start text at run taken names old answer new next
+  part_of at n run cut plain part is taken names old new (Ok k) next all h =
+      let same : take k part ≡ chars (take k run) = take_all k part (omega (arith, all)) ∙ is ∙ sym (plain_chars (take n run) plain cut.front) ∙ ap (λ (m : ℕ). chars (take m run)) (sym (taken_whole n k run part cut.within is all)) in
+      subst (λ (x : List ℕ). Takes gives table start text (placed at x) taken names old (Ok tt) new next) same h
+  part_of at n run cut plain part is taken names old new (Err e) next all h =
+      cut_refused at n run cut taken names old new e next next (subst (λ (x : List ℕ). Takes gives table start text (placed at x) taken names old (Err e) new next) (is ∙ sym (plain_chars (take n run) plain cut.front)) h)
 
   module _ (at count : ℕ) (run : List ℕ) (cut : IsCut count run) (taken : List Event) (before names : Texts) (grows : Grows before names) (old mid : S) (t : Tokenizer) where
     abbrev pub SoFarCut : Type 0

@@ -17,8 +17,8 @@ use Rattle.names.specs.declared.refusal.Refusal.TheVariants.{Memory}
 use Rattle.names.specs.Names.{Texts, Grows}
 use Rattle.names.specs.Placed.{all, placed, null_errors}
 use Rattle.htext.specs.Run.{is_clean, is_plain_byte, is_plain, IsCut}
-use Rattle.htext.proofs.Runs.{one_long, plain_take}
-use Rattle.htext.proofs.Wide.{last_char}
+use Rattle.htext.proofs.Runs.{all_placed, one_long, plain_take}
+use Rattle.htext.proofs.Wide.{bytes_plain, last_char}
 use Rattle.charref.specs.Reference.{Entities}
 use Rattle.hmarkup.proofs.Marks.{and_parts, and_no}
 use Rattle.hmarkup.proofs.Characters.{no_null_error}
@@ -357,3 +357,14 @@ tag_untouched table start names later grows text taken t h in_tag new then kind 
     subst (λ (x : List Placed). HasTaken table start new later x taken) (append-nil text)
     (holds (tag_reads {S = Unit {0}} (λ s i r u. Unit {0}) table start names later grows text taken t h in_tag [] new
     (then ∙ ap (λ (n : ℕ). record t { next = n; tag = new.tag; raised = new.raised }) (sym (ap (λ (x : Tokenizer). x.next) then))) (ap (λ (x : Tokenizer). x.next) then ∙ h.next_is) kind more))
+
+-- A RUN OF BYTES WHERE NOTHING IS HELD, of which the sink has taken what it took
+
+pub bytes_taken : {S : Type 0} (gives : S → Item → Result (Unit {0}) Refusal → S → Type 0) (table : Entities) (start : RawKind) (names : Texts) (text : List Placed) (taken : List Event) (t : Tokenizer) → Reads table start t names text [] taken → t.state ≡ state.Text
+    → (at : ℕ) (run : List ℕ) → list_all is_plain_byte run ≡ true → 0 < length run → at + length run ≤ 0xFFFFFFFFFFFFFFFF
+    → (new : Tokenizer) → new ≡ record t { next = at + length run; script = new.script } → (is_script t.kind ≡ true → FollowsAll t.script (placed at run) new.script)
+    → (old s : S) (answer : Result (Unit {0}) Refusal) → HandsEvents gives names old (run_events (placed at run)) answer s → Takes gives table start text (placed at run) taken names old answer s new
+bytes_taken gives table start names text taken t h in_text at run plain some within new then follows old s answer handed =
+    let next = ap (λ (x : Tokenizer). x.next) then in
+    text_taken gives table start names text taken t h (placed at run) in_text (all_itself (placed at run) (all_placed is_plain at run (bytes_plain run plain))) new
+    (then ∙ ap (λ (n : ℕ). record t { next = n; script = new.script }) (sym next)) (next ∙ sym (next_run text at run plain some within)) follows old s answer handed

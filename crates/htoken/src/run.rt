@@ -8,9 +8,9 @@ ghost use Rattle.names.specs.declared.placed.Placed.{Placed as Character};
 ghost use Rattle.names.specs.declared.raw.RawKind.{RawKind as Kind};
 ghost use Rattle.names.specs.declared.refusal.Refusal.{Refusal as Refused};
 ghost use Rattle.names.specs.Names.{Texts, Grows};
-ghost use Rattle.names.specs.Placed.{is_alphanumeric, placed};
+ghost use Rattle.names.specs.Placed.{placed};
 ghost use Rattle.htext.specs.declared.decoder.TheConstants.{MAX_INPUT};
-ghost use Rattle.htext.specs.Run.{is_clean, is_plain, is_plain_byte, IsCut};
+ghost use Rattle.htext.specs.Run.{is_clean, is_plain_byte, IsCut};
 ghost use Rattle.charref.specs.Reference.{Entities};
 ghost use Rattle.hmarkup.specs.Comment.{is_only_data};
 ghost use Rattle.htoken.specs.Raw.{is_script};
@@ -18,12 +18,12 @@ ghost use Rattle.htoken.specs.Run.{replaced, takes_bad};
 ghost use Rattle.htoken.specs.Script.{FollowsAll};
 ghost use Rattle.htoken.specs.Steps.{TakesFront, TakesPart};
 ghost use Rattle.htoken.specs.Token.{Event, gives_item};
-ghost use Rattle.htoken.specs.Tokenizing.{HasTaken, IsInRun, Takes};
+ghost use Rattle.htoken.specs.Tokenizing.{HasTaken, Takes};
 
 use crate::sink::TokenSink;
 use crate::state::State;
 use crate::tokenizer::{Tokenizer, after};
-use htext::{alphanumeric_run, inner_run};
+use htext::inner_run;
 use names::{Names, Refusal};
 
 /// How many bytes are before the first one that may end a comment, or is a fault in it.
@@ -37,15 +37,6 @@ fn count_data(run: &str) -> usize
         }
     }
     run.len()
-}
-
-/// How many bytes come before the first one that is neither an ASCII letter nor a digit.
-#[inline(always)]
-fn count_alphanumerics(run: &str) -> usize
-    ensures counted { result ≡ prefix_len is_alphanumeric run.now }
-    ensures few { result ≤ length run.now }
-{
-    alphanumeric_run(run.as_bytes())
 }
 
 /// The first character of a text.
@@ -214,8 +205,7 @@ impl<'t> Tokenizer<'t> {
         if count == 0 {
             return self.take_one(names, run, at, sink);
         }
-        self.take_fronts(names, &run[..count], at, sink)?;
-        Ok(count)
+        self.take_fronts(names, &run[..count], at, sink)
     }
 
     /// Takes the first character of a run, and returns its length.
@@ -238,27 +228,28 @@ impl<'t> Tokenizer<'t> {
         Ok(ch.len_utf8())
     }
 
-    /// Takes a run, a front of what is left of it after another.
+    /// Takes a run, a front of what is left of it after another. Returns its length.
     fn take_fronts<S: TokenSink>(
         &mut self,
         names: &mut Names,
         run: &str,
-        place: u64,
+        at: u64,
         sink: &mut S,
-    ) -> Result<(), Refusal>
+    ) -> Result<usize, Refusal>
         requires plain { list_all is_plain_byte run.now ≡ true }
-        requires within { place + length run.now ≤ MAX_INPUT }
+        requires within { at + length run.now ≤ MAX_INPUT }
         ensures takes { (table : Entities) (start : Kind) (before : Texts) (text : List Character) (taken : List Event) → Grows before names.old
             → HasTaken table start self.old before text taken
-            → Takes (gives_item S.gives S.gives_token) table start text (placed place run.now) taken names.new sink.old result sink.new self.new }
+            → TakesFront (gives_item S.gives S.gives_token) table start text at run.now taken names.new sink.old result sink.new self.new }
+        ensures all { IfOk result (λ count. count ≡ length run.now) }
         ensures grows { Grows names.old names.new }
     {
         let mut count = 0;
         while count < run.len() {
-            let more = self.take_front(names, &run[count..], place + count as u64, sink)?;
+            let more = self.take_front(names, &run[count..], at + count as u64, sink)?;
             count += more;
         }
-        Ok(())
+        Ok(count)
     }
 
     /// Takes one character or more at the front of a run, and returns how many.
@@ -279,15 +270,11 @@ impl<'t> Tokenizer<'t> {
         ensures grows { Grows names.old names.new }
     {
         match self.state {
-            State::Text => {
-                self.run_of_text(run, at, sink)?;
-                Ok(run.len())
-            }
+            State::Text => self.run_of_text(run, at, sink),
             State::Comment => self.run_of_comment(names, run, at, sink),
             State::Tag => self.run_of_tag(names, run, at, sink),
-            State::Run(_) => self.run_of_alphanumerics(names, run, at, sink),
-            State::Less => self.first_after_less(run, at, sink),
-            State::LessSolidus(_) => self.first_after_solidus(run, at, sink),
+            State::Less => self.take_first(names, run, at, sink),
+            State::LessSolidus(_) => self.take_first(names, run, at, sink),
             _ => self.take_first(names, run, at, sink),
         }
     }
@@ -313,7 +300,7 @@ impl<'t> Tokenizer<'t> {
         Ok(1)
     }
 
-    /// Takes the first character of a run in a tag, and returns 1.
+    /// Takes the first character of a run in a tag, wherever the one before it was.
     #[inline(always)]
     fn first_in_tag<S: TokenSink>(
         &mut self,
@@ -321,104 +308,38 @@ impl<'t> Tokenizer<'t> {
         run: &str,
         at: u64,
         sink: &mut S,
-    ) -> Result<usize, Refusal>
+    ) -> Result<(), Refusal>
         requires tag { self.old.state ≡ State.Tag }
         requires some { 0 < length run.now }
-        requires plain { list_all is_plain_byte run.now ≡ true }
-        ensures takes { (table : Entities) (start : Kind) (before : Texts) (text : List Character) (taken : List Event) → Grows before names.old
-            → HasTaken table start self.old before text taken
-            → TakesFront (gives_item S.gives S.gives_token) table start text at run.now taken names.new sink.old result sink.new self.new }
-        ensures one { IfOk result (λ count. count ≡ 1) }
+        ensures takes { (table : Entities) (start : Kind) (before : Texts) (text : List Character) (taken : List Event) (next : ℕ) → Grows before names.old
+            → HasTaken table start (record self.old { next = next }) before text taken
+            → Takes (gives_item S.gives S.gives_token) table start text (placed at (take 1 run.now)) taken names.new sink.old result sink.new self.new }
         ensures grows { Grows names.old names.new }
     {
         self.next = after(at);
-        self.in_tag(names, char::from(run.as_bytes()[0]), at, sink)?;
-        Ok(1)
+        self.in_tag(names, char::from(run.as_bytes()[0]), at, sink)
     }
 
-    /// Takes the first character of a run after `<`, and returns 1.
-    #[inline(always)]
-    fn first_after_less<S: TokenSink>(
+    /// Takes a run where nothing is held: the sink takes it as a whole. Returns its length.
+    fn run_of_text<S: TokenSink>(
         &mut self,
         run: &str,
         at: u64,
         sink: &mut S,
     ) -> Result<usize, Refusal>
-        requires less { self.old.state ≡ State.Less }
-        requires some { 0 < length run.now }
-        requires plain { list_all is_plain_byte run.now ≡ true }
-        ensures takes { (table : Entities) (start : Kind) (names : Texts) (text : List Character) (taken : List Event)
-            → HasTaken table start self.old names text taken
-            → TakesFront (gives_item S.gives S.gives_token) table start text at run.now taken names sink.old result sink.new self.new }
-        ensures one { IfOk result (λ count. count ≡ 1) }
-    {
-        self.next = after(at);
-        self.after_less(char::from(run.as_bytes()[0]), at, sink)?;
-        Ok(1)
-    }
-
-    /// Takes the first character of a run after `</`, and returns 1.
-    #[inline(always)]
-    fn first_after_solidus<S: TokenSink>(
-        &mut self,
-        run: &str,
-        at: u64,
-        sink: &mut S,
-    ) -> Result<usize, Refusal>
-        requires solidus { (solidus : ℕ) × (self.old.state ≡ State.LessSolidus solidus) }
-        requires some { 0 < length run.now }
-        requires plain { list_all is_plain_byte run.now ≡ true }
-        ensures takes { (table : Entities) (start : Kind) (names : Texts) (text : List Character) (taken : List Event)
-            → HasTaken table start self.old names text taken
-            → TakesFront (gives_item S.gives S.gives_token) table start text at run.now taken names sink.old result sink.new self.new }
-        ensures one { IfOk result (λ count. count ≡ 1) }
-    {
-        self.next = after(at);
-        self.after_solidus(char::from(run.as_bytes()[0]), at, sink)?;
-        Ok(1)
-    }
-
-    /// Takes a run where nothing is held: the sink takes it as a whole.
-    fn run_of_text<S: TokenSink>(&mut self, run: &str, at: u64, sink: &mut S) -> Result<(), Refusal>
         requires text { self.old.state ≡ State.Text }
         requires some { 0 < length run.now }
-        requires plain { list_all is_plain (chars run.now) ≡ true }
-        requires within { at + length run.now ≤ MAX_INPUT }
-        ensures { (table : Entities) (start : Kind) (names : Texts) (text : List Character) (taken : List Event)
-            → HasTaken table start self.old names text taken
-            → Takes (gives_item S.gives S.gives_token) table start text (placed at (chars run.now)) taken names sink.old result sink.new self.new }
-    {
-        self.next = after(at + last_start(run) as u64);
-        self.follow_run(run);
-        sink.take_run(run, at)
-    }
-
-    /// Takes the letters and digits at the front of a run with which the run after an `&` goes on, or the first character, which ends it.
-    #[inline(never)]
-    fn run_of_alphanumerics<S: TokenSink>(
-        &mut self,
-        names: &mut Names,
-        run: &str,
-        at: u64,
-        sink: &mut S,
-    ) -> Result<usize, Refusal>
-        requires in_run { (amp : ℕ) × (self.old.state ≡ State.Run amp) }
-        requires some { 0 < length run.now }
         requires plain { list_all is_plain_byte run.now ≡ true }
         requires within { at + length run.now ≤ MAX_INPUT }
-        ensures takes { (table : Entities) (start : Kind) (before : Texts) (text : List Character) (taken : List Event) → Grows before names.old
-            → HasTaken table start self.old before text taken
-            → TakesFront (gives_item S.gives S.gives_token) table start text at run.now taken names.new sink.old result sink.new self.new }
-        ensures few { IfOk result (λ count. (0 < count) × (count ≤ length run.now)) }
-        ensures grows { Grows names.old names.new }
+        ensures takes { (table : Entities) (start : Kind) (names : Texts) (text : List Character) (taken : List Event)
+            → HasTaken table start self.old names text taken
+            → TakesFront (gives_item S.gives S.gives_token) table start text at run.now taken names sink.old result sink.new self.new }
+        ensures all { IfOk result (λ count. count ≡ length run.now) }
     {
-        let count = count_alphanumerics(run);
-        if count == 0 {
-            return self.take_first(names, run, at, sink);
-        }
-        self.next = at + count as u64;
-        sink.take_run(&run[..count], at)?;
-        Ok(count)
+        self.next = at + run.len() as u64;
+        self.follow_run(run);
+        sink.take_run(run, at)?;
+        Ok(run.len())
     }
 
     /// Follows the level of script data.
@@ -480,11 +401,8 @@ impl<'t> Tokenizer<'t> {
         let count = self
             .tag
             .take_run(self.table, names, run, at, &mut self.raised.errors)?;
-        if count == 0 {
-            return self.first_in_tag(names, run, at, sink);
-        }
-        self.next = at + count as u64;
         if count == run.len() {
+            self.next = at + count as u64;
             return Ok(count);
         }
         self.first_in_tag(names, &run[count..], at + count as u64, sink)?;

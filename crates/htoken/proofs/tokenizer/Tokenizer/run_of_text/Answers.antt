@@ -1,27 +1,45 @@
-use Rattle.std.proofs.Common.{◌≡◌, ◌++◌, ℕ, sym, ap, ◌∙◌, subst}
+use Rattle.std.proofs.Common.{◌≡◌, List, ℕ, Ok, Err, true, length, sym, ap, ◌∙◌, subst, arith}
 use Rattle.std.specs.Str.{chars}
+use Rattle.std.proofs.lemmas.List.{take_all}
+use Rattle.std.proofs.lemmas.Result.{err_from_is_err_and}
 use Rattle.names.specs.Placed.{placed}
-use Rattle.htext.specs.Run.{is_plain}
-use Rattle.htext.proofs.Runs.{all_placed}
+use Rattle.names.specs.Sink.{Hands}
+use Rattle.htext.proofs.Runs.{plain_chars}
+use Rattle.htext.proofs.Wide.{run_plain}
+use Rattle.htoken.specs.Raw.{is_script}
+use Rattle.htoken.specs.Run.{run_tokens}
+use Rattle.htoken.specs.Script.{FollowsAll}
 use Rattle.htoken.specs.Token.{gives_item}
-use Rattle.htoken.specs.declared.tokenizer.Tokenizer.{Tokenizer}
-use Rattle.htoken.specs.Tokenizing.{next_place}
-use Rattle.htoken.proofs.InRun.{all_itself, next_last, plain_is_clean, text_taken}
+use Rattle.htoken.specs.Tokenizing.{Takes}
+use Rattle.htoken.proofs.InRun.{bytes_taken, plain_is_clean}
 use Rattle.htoken.proofs.Running.{run_given}
 use Rattle.htoken.proofs.Taking.{IsCalm, in_state}
 use Rattle.htoken.proofs.tokenizer.Tokenizer.run_of_text.Goals as goal
 
 pub take_run-requires-clause-clean : goal.take_run-requires-clause-clean
-take_run-requires-clause-clean g c = plain_is_clean (chars c.args.run.now) c.requires.plain
+take_run-requires-clause-clean g c = plain_is_clean (chars c.args.run.now) (run_plain c.args.run.now c.requires.plain c.utf8.run)
 
-pub returns : goal.returns
-returns g c = λ table start names text taken h.
+pub returns-clause-takes : goal.returns-clause-takes
+returns-clause-takes g c = λ table start names text taken h.
+    let gives = gives_item g.S.ErrorSink.gives g.S.TokenSink.gives_token in
     let run = c.args.run.now in
-    let last = c.last_start.ensures in
-    let here = next_last text c.args.at c.last_start.result run last.last.0 last.cut last.last.1 in
-    let next : c.follow_run.new.self.next ≡ next_place (text ++ placed c.args.at (chars run)) = ap (λ (x : Tokenizer). x.next) c.follow_run.ensures.then ∙ c.after-self.ensures ∙ here in
-    let then = c.follow_run.ensures.then ∙ ap (λ (n : ℕ). record c.args.self.now { next = n; script = c.follow_run.new.self.script }) (sym (ap (λ (x : Tokenizer). x.next) c.follow_run.ensures.then)) in
-    let k = in_state table start c.args.self.now names text taken (subst IsCalm (sym c.requires.text) tt) h in
-    let given = run_given g.S.ErrorSink.gives g.S.TokenSink.gives_token names _ _ (placed c.args.at (chars run)) _ c.take_run.ensures in
-    text_taken (gives_item g.S.ErrorSink.gives g.S.TokenSink.gives_token) table start names text taken c.args.self.now k (placed c.args.at (chars run)) c.requires.text (all_itself (placed c.args.at (chars run)) (all_placed is_plain c.args.at (chars run) c.requires.plain)) c.follow_run.new.self
-    then next (c.follow_run.ensures.follows c.args.at) _ _ _ given
+    let is = plain_chars run c.requires.plain c.utf8.run in
+    let follows : is_script c.args.self.now.kind ≡ true → FollowsAll c.args.self.now.script (placed c.args.at run) c.follow_run.new.self.script = λ script.
+        subst (λ (x : List ℕ). FollowsAll c.args.self.now.script (placed c.args.at x) c.follow_run.new.self.script) is (c.follow_run.ensures.follows c.args.at script) in
+    let handed = subst (λ (x : List ℕ). Hands g.S.TokenSink.gives_token c.args.sink.now (run_tokens (placed c.args.at x)) (Ok tt) c.take_run.new.self) is c.in_ok-take_run.ensures in
+    subst (λ (x : List ℕ). Takes gives table start text (placed c.args.at x) taken names c.args.sink.now (Ok tt) c.take_run.new.self c.follow_run.new.self) (sym (take_all (length run) run (omega arith)))
+    (bytes_taken gives table start names text taken c.args.self.now (in_state table start c.args.self.now names text taken (subst IsCalm (sym c.requires.text) tt) h) c.requires.text c.args.at run c.requires.plain
+    c.requires.some (omega (arith, c.requires.within)) c.follow_run.new.self c.follow_run.ensures.then follows _ _ _ (run_given g.S.ErrorSink.gives g.S.TokenSink.gives_token names _ _ (placed c.args.at run) _ handed))
+
+pub returns-in_err-take_run-clause-takes : goal.returns-in_err-take_run-clause-takes
+returns-in_err-take_run-clause-takes g c =
+    let e = err_from_is_err_and c.from_residual.result c.from_residual.ensures.1 in
+    rw (e.1, e.2) (λ table start names text taken h.
+    let gives = gives_item g.S.ErrorSink.gives g.S.TokenSink.gives_token in
+    let run = c.args.run.now in
+    let is = plain_chars run c.requires.plain c.utf8.run in
+    let follows : is_script c.args.self.now.kind ≡ true → FollowsAll c.args.self.now.script (placed c.args.at run) c.follow_run.new.self.script = λ script.
+        subst (λ (x : List ℕ). FollowsAll c.args.self.now.script (placed c.args.at x) c.follow_run.new.self.script) is (c.follow_run.ensures.follows c.args.at script) in
+    let handed = subst (λ (x : List ℕ). Hands g.S.TokenSink.gives_token c.args.sink.now (run_tokens (placed c.args.at x)) (Err c.in_err-take_run.field-0.0) c.take_run.new.self) is c.in_err-take_run.ensures in
+    bytes_taken gives table start names text taken c.args.self.now (in_state table start c.args.self.now names text taken (subst IsCalm (sym c.requires.text) tt) h) c.requires.text c.args.at run c.requires.plain
+    c.requires.some (omega (arith, c.requires.within)) c.follow_run.new.self c.follow_run.ensures.then follows _ _ _ (run_given g.S.ErrorSink.gives g.S.TokenSink.gives_token names _ _ (placed c.args.at run) _ handed))

@@ -6,7 +6,7 @@ use Rattle.names.proofs.Handing.{grows_not, grows_on}
 use Rattle.htext.specs.Run.{is_plain_byte}
 use Rattle.htext.proofs.Runs.{plain_drop}
 use Rattle.htoken.specs.Token.{gives_item}
-use Rattle.htoken.proofs.Fronts.{takes_nothing, more_taken, more_refused, all_taken}
+use Rattle.htoken.proofs.Fronts.{plain_boundary, takes_nothing, more_taken, more_refused}
 use Rattle.htoken.proofs.Taking.{taken_kept}
 use Rattle.htoken.proofs.tokenizer.Tokenizer.take_fronts.Goals as goal
 
@@ -23,7 +23,7 @@ take_front-requires-clause-plain g c = ap (list_all is_plain_byte) c.range_from.
 pub loop-count-preserved : goal.loop-count-preserved
 loop-count-preserved g c = record {
   takes = λ table start before text taken grows h.
-      more_taken (gives_item g.S.ErrorSink.gives g.S.TokenSink.gives_token) table start text c.args.place c.loop-count.count c.args.run.now c.requires.plain c.loop-count.invariant.within taken c.loop-count.names c.take_front.new.names c.take_front.ensures.grows
+      more_taken (gives_item g.S.ErrorSink.gives g.S.TokenSink.gives_token) table start text c.args.at c.loop-count.count c.args.run.now c.requires.plain c.loop-count.invariant.within taken c.loop-count.names c.take_front.new.names c.take_front.ensures.grows
       c.args.sink.now c.loop-count.sink c.loop-count.self _ c.range_from.ensures.value c.in_ok-more.more c.take_front.new.sink c.take_front.new.self (c.loop-count.invariant.takes table start before text taken grows h)
       (λ fed events has. c.in_ok-more.ensures.takes table start c.loop-count.names fed events (grows_not _) has);
   within = omega (arith, c.in_ok-more.ensures.few.1, ap length c.range_from.ensures.value, length-drop c.loop-count.count c.args.run.now, c.loop-count.invariant.within);
@@ -34,11 +34,12 @@ pub returns-in_err-more-clause-takes : goal.returns-in_err-more-clause-takes
 returns-in_err-more-clause-takes g c =
     let e = err_from_is_err_and c.from_residual.result c.from_residual.ensures.1 in
     rw (e.1, e.2) (λ table start before text taken grows h.
-    more_refused (gives_item g.S.ErrorSink.gives g.S.TokenSink.gives_token) table start text c.args.place c.loop-count.count c.args.run.now c.requires.plain c.loop-count.invariant.within taken c.loop-count.names c.take_front.new.names c.take_front.ensures.grows
+    more_refused (gives_item g.S.ErrorSink.gives g.S.TokenSink.gives_token) table start text c.args.at c.loop-count.count c.args.run.now c.requires.plain c.loop-count.invariant.within taken c.loop-count.names c.take_front.new.names c.take_front.ensures.grows
     c.args.sink.now c.loop-count.sink c.loop-count.self _ c.range_from.ensures.value c.in_err-more.field-0.0 c.take_front.new.sink c.take_front.new.self (c.loop-count.invariant.takes table start before text taken grows h)
     (λ fed events has. c.in_err-more.ensures.takes table start c.loop-count.names fed events (grows_not _) has))
 
 pub returns-clause-takes : goal.returns-clause-takes
-returns-clause-takes g c = λ table start before text taken grows h.
-    all_taken (gives_item g.S.ErrorSink.gives g.S.TokenSink.gives_token) table start text c.args.place c.loop-count.count c.args.run.now c.requires.plain c.loop-count.invariant.within taken c.loop-count.names c.loop-count.names (grows_not _)
-    c.args.sink.now c.loop-count.sink c.loop-count.self (omega arith) (c.loop-count.invariant.takes table start before text taken grows h)
+returns-clause-takes g c = λ table start before text taken grows h. c.loop-count.invariant.takes table start before text taken grows h
+
+pub range_from-requires : goal.range_from-requires
+range_from-requires g c = λ _. plain_boundary c.loop-count.count c.args.run.now c.requires.plain c.loop-count.invariant.within
