@@ -169,18 +169,11 @@ module _ {S : Type 0} (gives : S → Item → Result (Unit {0}) Refusal → S �
         part_taken (placed at (take count run)) taken before names grows old mid t (placed (at + count) (take 1 (drop count run))) (placed at (take (count + 1) run)) (placed_part at count 1 run plain within) answer new next so
         (subst (λ (x : List ℕ). ThenTakes (placed at (take count run)) taken before names grows old mid t (placed (at + count) (take 1 x)) answer new next) is then)
 
-    -- all that is left
-    pub rest_taken : (part : List ℕ) → part ≡ drop count run → (answer : Result (Unit {0}) Refusal) (new : S) (next : Tokenizer) → SoFar
-        → ThenTakes (placed at (take count run)) taken before names grows old mid t (placed (at + count) part) answer new next → Takes gives table start text (placed at run) taken names old answer new next
-    rest_taken part is answer new next so then =
-        part_taken (placed at (take count run)) taken before names grows old mid t (placed (at + count) (drop count run)) (placed at run) (placed_rest at count run plain within) answer new next so
-        (subst (λ (x : List ℕ). ThenTakes (placed at (take count run)) taken before names grows old mid t (placed (at + count) x) answer new next) is then)
-
+    -- a refusal in all that is left
     pub more_refused : (part : List ℕ) → part ≡ drop count run → (e : Refusal) (new : S) (next : Tokenizer) → SoFar → Then part (Err e) new next → Takes gives table start text (placed at run) taken names old (Err e) new next
-    more_refused part is e = rest_taken part is (Err e)
-
-    pub all_taken : length run ≤ count → SoFar → Takes gives table start text (placed at run) taken before old (Ok tt) mid t
-    all_taken l h = subst (λ (x : List ℕ). Takes gives table start text (placed at x) taken before old (Ok tt) mid t) (take_all count run l) h
+    more_refused part is e new next so then =
+        part_taken (placed at (take count run)) taken before names grows old mid t (placed (at + count) (drop count run)) (placed at run) (placed_rest at count run plain within) (Err e) new next so
+        (subst (λ (x : List ℕ). ThenTakes (placed at (take count run)) taken before names grows old mid t (placed (at + count) x) (Err e) new next) is then)
 
   -- or each a part of one
 

@@ -349,15 +349,6 @@ module _ {S : Type 0} (gives : S → Item → Result (Unit {0}) Refusal → S �
     unfolding now reads_kept
     tag_goes_on s = taken_so gives table start later text taken t now run new s tag_reads
 
--- where the walk has taken nothing
-pub tag_untouched : (table : Entities) (start : RawKind) (names later : Texts) (grows : Grows names later) (text : List Placed) (taken : List Event) (t : Tokenizer) (h : Reads table start t names text [] taken) (in_tag : t.state ≡ state.Tag) (new : Tokenizer)
-    → new ≡ record t { tag = new.tag; raised = new.raised } → new.tag.kind ≡ t.tag.kind
-    → IsInTag t.table.now later new.tag ((tag_here {S = Unit {0}} (λ s i r u. Unit {0}) table start names later grows text taken t h in_tag []).body ++ []) [] new.raised.errors.items → HasTaken table start new later text taken
-tag_untouched table start names later grows text taken t h in_tag new then kind more =
-    subst (λ (x : List Placed). HasTaken table start new later x taken) (append-nil text)
-    (holds (tag_reads {S = Unit {0}} (λ s i r u. Unit {0}) table start names later grows text taken t h in_tag [] new
-    (then ∙ ap (λ (n : ℕ). record t { next = n; tag = new.tag; raised = new.raised }) (sym (ap (λ (x : Tokenizer). x.next) then))) (ap (λ (x : Tokenizer). x.next) then ∙ h.next_is) kind more))
-
 -- A RUN OF BYTES WHERE NOTHING IS HELD, of which the sink has taken what it took
 
 pub bytes_taken : {S : Type 0} (gives : S → Item → Result (Unit {0}) Refusal → S → Type 0) (table : Entities) (start : RawKind) (names : Texts) (text : List Placed) (taken : List Event) (t : Tokenizer) → Reads table start t names text [] taken → t.state ≡ state.Text

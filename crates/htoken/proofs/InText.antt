@@ -432,6 +432,9 @@ reads_front table start t names text ahead taken h end more =
 pub both_then : (t new : Tokenizer) (next : ℕ) → new ≡ record t { next = next; script = new.script } → new ≡ record t { next = new.next; script = new.script }
 both_then t new next then = then ∙ ap (λ (n : ℕ). record t { next = n; script = new.script }) (sym (ap (λ (x : Tokenizer). x.next) then))
 
+pub both_next : (t new : Tokenizer) (next : ℕ) → new ≡ record t { next = next; script = new.script } → new.next ≡ next
+both_next t new next then = ap (λ (x : Tokenizer). x.next) then
+
 first_then : (at : ℕ) (cs : List ℕ) → placed at cs ≡ placed at (take 1 cs) ++ drop 1 (placed at cs)
 first_then at [] = refl
 first_then at (c ∷ cs) = refl

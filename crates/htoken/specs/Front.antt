@@ -22,6 +22,7 @@ use Rattle.htoken.specs.Raw.{is_script}
 use Rattle.htoken.specs.Run.{run_events}
 use Rattle.htoken.specs.Script.{FollowsAll}
 use Rattle.htoken.specs.Spans.{has_references}
+use Rattle.htoken.specs.Steps.{TakesPart}
 use Rattle.htoken.specs.Tokenizing.{Reads, next_place}
 
 -- the error of an `&` that is text, with these letters and digits after it and this character after those (13.2.5.72 to 13.2.5.74)
@@ -75,3 +76,8 @@ pub record IsTextFront {S : Type 0} (gives : S → Item → Result (Unit {0}) Re
       → (is_script t.kind ≡ true → FollowsAll t.script (placed at (chars (take count run))) next.script)
       → Reads table start next names (text ++ placed at (chars (take count run))) (first_placed (at + count) (drop count run))
       (taken ++ (map Reports errors ++ run_events (placed at (chars (take count run)))))
+
+-- how a run is taken on, whose text at the front has this length, where the errors of that text were handed over
+abbrev pub TakesOn : {S : Type 0} → (S → Item → Result (Unit {0}) Refusal → S → Type 0) → Tokenizer → List ℕ → ℕ → ℕ → S → Result ℕ Refusal → S → Tokenizer → Type 0
+TakesOn {S} gives t run at count mid answer new next = (table : Entities) (start : RawKind) (names : Texts) (text : List Placed) (taken : List Event) (old : S)
+    → IsTextFront gives table start t names text taken run at count old mid → TakesPart gives table start text at run taken names old answer new next

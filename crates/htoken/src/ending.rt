@@ -19,7 +19,7 @@ ghost use Rattle.htoken.specs.Tokenizing.{Reads, HasTaken, Finishes, EndsHeld, l
 ghost use Rattle.htoken.specs.Steps.{script_errors, CutsOff};
 
 use crate::declaration::Opened;
-use crate::hand::{give, give_faulty, hand_over};
+use crate::hand::{give, give_faulty, hand_errors};
 use crate::sink::TokenSink;
 use crate::state::State;
 use crate::token::Token;
@@ -155,7 +155,7 @@ impl<'t> Tokenizer<'t> {
             code: ErrorCode::EofInTag,
             at: end,
         })?;
-        hand_over(&self.raised.errors, None, sink)
+        hand_errors(&self.raised.errors, sink)
     }
 
     /// A `<` of raw text right before the end is text.

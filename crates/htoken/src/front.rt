@@ -11,7 +11,7 @@ ghost use Rattle.names.specs.Sink.{Hands};
 ghost use Rattle.htext.specs.declared.decoder.TheConstants.{MAX_INPUT};
 ghost use Rattle.htext.specs.Run.{is_clean, is_text_byte, IsCut};
 ghost use Rattle.charref.specs.Reference.{Entities};
-ghost use Rattle.htoken.specs.Front.{bare_errors, first_placed, IsBare, IsTextFront, IsWhole, Shows};
+ghost use Rattle.htoken.specs.Front.{bare_errors, first_placed, IsBare, IsTextFront, IsWhole, Shows, TakesOn};
 ghost use Rattle.htoken.specs.Raw.{is_script};
 ghost use Rattle.htoken.specs.Run.{run_tokens};
 ghost use Rattle.htoken.specs.Script.{FollowsAll};
@@ -73,10 +73,51 @@ impl<'t> Tokenizer<'t> {
     {
         let (count, whole) = self.text_before(run, at, sink)?;
         if count == run.len() {
-            self.next = after(at + last_start(run) as u64);
-            self.give_front(run, at, sink)?;
-            return Ok(count);
+            self.give_run(run, at, sink)
+        } else {
+            self.give_to_end(count, whole, run, at, sink)
         }
+    }
+
+    /// Gives a run that is text as a whole. Returns its length.
+    #[inline(always)]
+    fn give_run<S: TokenSink>(
+        &mut self,
+        run: &str,
+        at: u64,
+        sink: &mut S,
+    ) -> Result<usize, Refusal>
+        requires some { 0 < length run.now }
+        requires clean { list_all is_clean (chars run.now) ≡ true }
+        requires within { at + length run.now ≤ MAX_INPUT }
+        ensures takes { TakesOn (gives_item S.gives S.gives_token) self.old run.now at (length run.now) sink.old result sink.new self.new }
+        ensures few { IfOk result (λ count. (0 < count) × IsCut count run.now) }
+    {
+        self.next = after(at + last_start(run) as u64);
+        self.give_front(run, at, sink)?;
+        Ok(run.len())
+    }
+
+    /// Gives this many bytes at the front of a run, which are text, and takes what ends them. Returns the length of both.
+    #[inline(always)]
+    fn give_to_end<S: TokenSink>(
+        &mut self,
+        count: usize,
+        whole: Option<(Reference<'t>, usize)>,
+        run: &str,
+        at: u64,
+        sink: &mut S,
+    ) -> Result<usize, Refusal>
+        requires text { self.old.state ≡ State.Text }
+        requires clean { list_all is_clean (chars run.now) ≡ true }
+        requires within { at + length run.now ≤ MAX_INPUT }
+        requires cut { IsCut count run.now }
+        requires less { count < length run.now }
+        requires ends { is_text_byte (slice_index run.now count) ≡ false }
+        requires whole { IfSome whole (λ it. IsWhole self.old.table.now self.old.kind (drop count run.now) it.0 it.1) }
+        ensures takes { TakesOn (gives_item S.gives S.gives_token) self.old run.now at count sink.old result sink.new self.new }
+        ensures few { IfOk result (λ all. (0 < all) × IsCut all run.now) }
+    {
         let end = at + count as u64;
         self.next = after(end);
         self.give_front(&run[..count], at, sink)?;

@@ -239,7 +239,7 @@ impl<'t> Tokenizer<'t> {
         ensures handed { Hands (gives_item S.gives S.gives_token) sink.old (items_of self.old.raised.errors.items (Some token)) result sink.new }
         ensures then { EndsSpan self.old self.new }
     {
-        let answer = hand_over(&self.raised.errors, Some(token), sink);
+        let answer = hand_over(&self.raised.errors, token, sink);
         self.raised.errors.clear();
         self.state = State::Text;
         answer

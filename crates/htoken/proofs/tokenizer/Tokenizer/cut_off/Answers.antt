@@ -6,6 +6,7 @@ use Rattle.names.specs.Sink.{Hands}
 use Rattle.htoken.specs.Giving.{items_of}
 use Rattle.htoken.specs.Token.{gives_item}
 use Rattle.htoken.specs.Steps.{cut_ran_out, cut_given}
+use Rattle.htoken.proofs.Handing.{no_token}
 use Rattle.htoken.proofs.tokenizer.Tokenizer.cut_off.Goals as goal
 
 pub returns-in_err-end-clause-cuts : goal.returns-in_err-end-clause-cuts
@@ -15,4 +16,5 @@ returns-in_err-end-clause-cuts g c =
 
 pub returns-clause-cuts : goal.returns-clause-cuts
 returns-clause-cuts g c = λ table body h. cut_given _ (c.in_ok-end.ensures.cut table body h)
-    (subst (λ (x : List ParseError). Hands (gives_item g.S.ErrorSink.gives g.S.TokenSink.gives_token) c.args.sink.now (items_of x None) c.hand_over.result c.hand_over.new.sink) (c.deref.ensures.value ∙ c.in_ok-push.ensures.items) c.hand_over.ensures) refl
+    (subst (λ (x : List ParseError). Hands (gives_item g.S.ErrorSink.gives g.S.TokenSink.gives_token) c.args.sink.now (items_of x None) c.hand_errors.result c.hand_errors.new.sink) (c.deref.ensures.value ∙ c.in_ok-push.ensures.items)
+    (no_token g.S.ErrorSink.gives g.S.TokenSink.gives_token _ _ _ _ c.hand_errors.ensures)) refl
