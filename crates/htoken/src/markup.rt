@@ -19,7 +19,7 @@ use crate::state::State;
 use crate::token::Token;
 use crate::tokenizer::Tokenizer;
 use hmarkup::{CommentWalk, DoctypeWalk};
-use names::{ErrorCode, ParseError, Placed, Refusal};
+use names::{ErrorCode, ParseError, Refusal};
 use std::alloc::AllocError;
 use std::mem;
 
@@ -41,8 +41,7 @@ impl<'t> Tokenizer<'t> {
         match so.after(self.held_count(), ch) {
             Opens::Front(so) => {
                 self.state = State::Declaration(bang, so);
-                self.held.push(Placed { ch, at })?;
-                Ok(())
+                self.hold(ch, at)
             }
             Opens::Comment => {
                 self.begin_comment();
@@ -53,7 +52,7 @@ impl<'t> Tokenizer<'t> {
                 Ok(())
             }
             Opens::Cdata => {
-                self.held.push(Placed { ch, at })?;
+                self.hold(ch, at)?;
                 self.begin_held(ErrorCode::CdataInHtmlContent, at)
             }
             Opens::Bogus => self.begin_held_at(ErrorCode::IncorrectlyOpenedComment, ch, at, sink),

@@ -82,8 +82,8 @@ impl<'t> Tokenizer<'t> {
         }
     }
 
-    /// Holds a letter of the name.
-    fn hold(&mut self, ch: char, at: u64) -> Result<(), Refusal>
+    /// Holds a character.
+    pub(crate) fn hold(&mut self, ch: char, at: u64) -> Result<(), Refusal>
         ensures { MatchResult result (λ _. Holds self.old (record { ch = ch; at = at }) self.new) (λ refusal. refusal ≡ Refusal.Memory) }
     {
         self.held.push(Placed { ch, at })?;
