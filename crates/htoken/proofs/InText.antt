@@ -116,6 +116,9 @@ module _ (letters others : List ℕ) (next : ℕ) (plain : list_all is_alphanume
   pub bare_next : (at : ℕ) → first_placed at (next ∷ others) ≡ record { ch = next; at = at } ∷ []
   bare_next at = ap (λ (cs : List ℕ). placed at (take 1 cs)) (ascii_chars (next ∷ []) others (and_from _ _ ascii refl) bare_parts.0).1
 
+pub bare_within : (table : Entities) (kind : RawKind) (r : List ℕ) (size : ℕ) → IsBare table kind r size → size < length r
+bare_within table kind r size is = omega (arith, is.count_is, ap length is.run_is, length-append is.letters (is.next ∷ is.others))
+
 pub bare_again : (table : Entities) (kind : RawKind) (r : List ℕ) (size : ℕ) (is : IsBare table kind r size) (count : ℕ) (run : List ℕ) → IsCut count run → r ≡ drop count run → IsCut size (drop count run)
 bare_again table kind r size is count run cut r_is =
     let run_is : drop count run ≡ 38 ∷ is.letters ++ is.next ∷ is.others = sym r_is ∙ is.run_is in

@@ -11,7 +11,7 @@ use Rattle.htoken.specs.Token.{gives_item}
 use Rattle.htoken.proofs.InMarkup.{keeps}
 use Rattle.htag.proofs.InRun.{prefix_all}
 use Rattle.htoken.proofs.InRun.{next_front, comment_here, comment_stopped, comment_goes_on}
-use Rattle.htoken.proofs.Fronts.{front_refused}
+use Rattle.htoken.proofs.Fronts.{front_refused, plain_boundary}
 use Rattle.htoken.proofs.Taking.{IsCalm, taken_now}
 use Rattle.htoken.proofs.tokenizer.Tokenizer.run_of_comment.Goals as goal
 
@@ -46,3 +46,6 @@ returns-in_err-take_run-clause-takes g c =
     front_refused (gives_item g.S.ErrorSink.gives g.S.TokenSink.gives_token) table start text c.args.at count run c.requires.plain c.count_data-count.ensures.few taken _ _ _ _ c.args.self.now _
     (comment_stopped (gives_item g.S.ErrorSink.gives g.S.TokenSink.gives_token) table start c.args.names.now text taken c.args.self.now k (placed c.args.at (take count run)) c.requires.comment _
     (record c.args.self.now { comment = c.take_run.new.self; raised = c.take_run.new.errors }) _ _ took))
+
+pub range-requires-clause-end_boundary : goal.range-requires-clause-end_boundary
+range-requires-clause-end_boundary g c = plain_boundary c.count_data-count.result c.args.run.now c.requires.plain c.count_data-count.ensures.few

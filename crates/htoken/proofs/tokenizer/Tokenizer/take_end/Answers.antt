@@ -1,4 +1,5 @@
-use Rattle.std.proofs.Common.{◌≡◌, [], List, ℕ, Option, Some, IfSome, sym, ap, ◌∙◌, subst, refl, arith, Ok, Err}
+use Rattle.std.proofs.Common.{◌≡◌, ◌<◌, [], length, List, ℕ, Option, Some, IfSome, sym, ap, ◌∙◌, subst, refl, arith, Ok, Err}
+use Rattle.std.proofs.lemmas.List.{length-append}
 use Rattle.std.proofs.lemmas.Result.{err_from_is_err_and}
 use Rattle.std.specs.Prelude.{slice_index}
 use Rattle.names.specs.declared.placed.Placed.{Placed}
@@ -15,6 +16,10 @@ use Rattle.htoken.proofs.tokenizer.Tokenizer.take_end.Goals as goal
 whole_of : (table : Entities) (kind : RawKind) (run : List ℕ) (whole : Option (Reference × ℕ)) (found : Reference) (count : ℕ) → whole ≡ Some (found, count) → IfSome whole (λ it. IsWhole table kind run it.0 it.1)
     → IsWhole table kind run found count
 whole_of table kind run whole found count is may = subst (λ w. IfSome w (λ it. IsWhole table kind run it.0 it.1)) is may
+
+-- it is longer than what comes after its `&`
+whole_long : (table : Entities) (kind : RawKind) (run : List ℕ) (found : Reference) (count : ℕ) → IsWhole table kind run found count → count < length run
+whole_long table kind run found count is = omega (arith, is.count_is, ap length is.run_is, length-append is.name is.others)
 
 pub returns-in_err-give_piece-clause-takes : goal.returns-in_err-give_piece-clause-takes
 returns-in_err-give_piece-clause-takes g c =
@@ -50,3 +55,9 @@ returns-clause-takes g c = λ table start names text taken h.
 pub returns-clause-few : goal.returns-clause-few
 returns-clause-few g c =
     (omega arith, (mark_first c.args.run.now c.args.at c.from.result c.utf8.run c.requires.some (c.from.ensures ∙ ap (λ (bs : List ℕ). slice_index bs 0) c.as_bytes.ensures.value) c.requires.ends).2)
+
+pub overflow_add-at : goal.overflow_add-at
+overflow_add-at g c = omega (arith, whole_long _ _ _ _ _ (whole_of c.args.self.now.table.now c.args.self.now.kind c.args.run.now c.args.whole c.in-Some.found c.in-Some.count c.in-Some.is c.requires.whole), c.requires.within)
+
+pub overflow_add-result : goal.overflow_add-result
+overflow_add-result g c = omega (arith, whole_long _ _ _ _ _ (whole_of c.args.self.now.table.now c.args.self.now.kind c.args.run.now c.args.whole c.in-Some.found c.in-Some.count c.in-Some.is c.requires.whole), c.requires.within)

@@ -10,7 +10,7 @@ use Rattle.htext.proofs.Clean.{clean_rest, text_front}
 use Rattle.htext.proofs.Wide.{cut_more}
 use Rattle.htoken.specs.Front.{bare_errors}
 use Rattle.htoken.specs.Token.{gives_item}
-use Rattle.htoken.proofs.InText.{bare_again, bare_part, error_refused, first_text, is_front, length_left, text_part}
+use Rattle.htoken.proofs.InText.{bare_again, bare_part, bare_within, error_refused, first_text, is_front, length_left, text_part}
 use Rattle.htoken.proofs.Taking.{IsCalm, in_state}
 use Rattle.htoken.proofs.tokenizer.Tokenizer.text_before.Goals as goal
 
@@ -85,3 +85,9 @@ pub overflow_add-count-in-Text : goal.overflow_add-count-in-Text
 overflow_add-count-in-Text g c =
     let few = c.text_run-count-in-Text.ensures ∙ ap (prefix_len is_text_byte) c.as_bytes-in-Text.ensures.value in
     omega (arith, few, prefix_len-le-length is_text_byte c.range_from.result.now, c.range_from.ensures.len)
+
+pub tell_bare-requires-clause-within : goal.tell_bare-requires-clause-within
+tell_bare-requires-clause-within g c = bare_within _ _ _ _ c.in-Text.ensures
+
+pub overflow_add-count : goal.overflow_add-count
+overflow_add-count g c = omega (arith, bare_within _ _ _ _ c.in-Text.ensures, c.range_from-rest.ensures.len, c.loop-count.invariant.cut.within)

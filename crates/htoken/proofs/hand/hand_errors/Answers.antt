@@ -1,0 +1,13 @@
+use Rattle.std.proofs.Common.{refl}
+use Rattle.std.proofs.lemmas.Result.{err_from_is_err_and}
+use Rattle.htoken.proofs.Running.{item_next, item_refused, item_taken}
+use Rattle.htoken.proofs.hand.hand_errors.Goals as goal
+
+pub loop-error-preserved : goal.loop-error-preserved
+loop-error-preserved g c =
+    item_taken g.S.ErrorSink.gives _ _ c.args.errors.now _ _ _ (item_next c.args.errors.now c.loop-error.error-index _ _ c.loop-error-test.true refl) c.loop-error.invariant _ c.in_ok-take_error.ensures
+
+pub returns-in_err-take_error : goal.returns-in_err-take_error
+returns-in_err-take_error g c =
+    let e = err_from_is_err_and c.from_residual.result c.from_residual.ensures.1 in
+    rw (e.1, e.2) (item_refused g.S.ErrorSink.gives _ _ c.args.errors.now _ _ _ (item_next c.args.errors.now c.loop-error.error-index _ _ c.loop-error-test.true refl) c.loop-error.invariant _ _ c.in_err-take_error.ensures)
