@@ -27,7 +27,7 @@ use Rattle.htoken.specs.declared.tokenizer.Tokenizer.{Tokenizer}
 use Rattle.htoken.specs.Token.{Span, Item, Event, Gives, Reports, Char, piece_span}
 use Rattle.htoken.specs.Standing.{Standing}
 use Rattle.htag.specs.Value.{plain_piece}
-use Rattle.htoken.specs.Raw.{is_raw, is_script, ends_by, may_end, is_raw_end}
+use Rattle.htoken.specs.Raw.{is_raw, is_script, ends_by, may_end, is_raw_end, name_ends}
 use Rattle.htoken.specs.Spans.{IsSpan, IsSpanOf, IsRawSpan, has_references, raw_character, raw_end}
 use Rattle.htoken.specs.Tokens.{events_of, tokens_in, tokens_of}
 use Rattle.htoken.specs.Handing.{HandsEvents}
@@ -42,7 +42,7 @@ use Rattle.htoken.proofs.Cutting.{stands_more}
 use Rattle.htoken.proofs.Going.{ran_out, goes_on, span_ends}
 use Rattle.htag.proofs.Parts.{all-snoc}
 use Rattle.htoken.proofs.RawNames.{is_word, raw_word, word_letter, some_held}
-use Rattle.htoken.proofs.RawEnds.{name_ends, differs, goes_past, is_whole, left_some, left_none, letter_not, name_is_lowered, no_solidus, no_name, a_name, other_goes_on, nameless_goes_on, inner_goes_on}
+use Rattle.htoken.proofs.RawEnds.{differs, goes_past, is_whole, left_some, left_none, letter_not, name_is_lowered, no_solidus, no_name, a_name, other_goes_on, nameless_goes_on, inner_goes_on}
 
 -- a span of raw text is one where raw text is
 raw_of : (k : RawKind) (table : Entities) (end : ℕ) (here : Standing) (rest : List Placed) (span : Span) → is_raw k ≡ true → IsRawSpan table end here rest span → IsSpanOf k table end here rest span

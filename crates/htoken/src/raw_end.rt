@@ -1,6 +1,6 @@
 //! The end tag of raw text (HTML Standard, 13.2.5.9 to 13.2.5.17).
 
-ghost use Rattle.std.specs.Prelude.{◌≡◌, ◌∷◌, List, [], slice_get, true, length, string_bytes, MatchResult};
+ghost use Rattle.std.specs.Prelude.{◌≡◌, ◌∷◌, ◌++◌, List, [], slice_get, true, false, length, string_bytes, MatchResult};
 ghost use Rattle.names.specs.declared.placed.Placed.{Placed as Character};
 ghost use Rattle.names.specs.declared.raw.RawKind.{RawKind as Kind};
 ghost use Rattle.names.specs.Names.{Texts, Grows};
@@ -9,7 +9,7 @@ ghost use Rattle.htoken.specs.Script.{HasFront};
 ghost use Rattle.hmarkup.specs.CommentWalk.{backwards};
 ghost use Rattle.htoken.specs.Token.{Event, gives_item};
 ghost use Rattle.htoken.specs.Handing.{HandsEvents};
-ghost use Rattle.htoken.specs.Raw.{is_script};
+ghost use Rattle.htoken.specs.Raw.{is_script, name_ends};
 ghost use Rattle.htoken.specs.Run.{run_events};
 ghost use Rattle.htoken.specs.Tokenizing.{Reads, Takes};
 ghost use Rattle.htoken.specs.Steps.{held_in_raw, Holds};
@@ -65,8 +65,7 @@ impl<'t> Tokenizer<'t> {
                 if agrees(ch, byte) {
                     self.hold(ch, at)
                 } else {
-                    self.give_held(solidus, sink)?;
-                    self.in_text(ch, at, sink)
+                    self.after_held(solidus, ch, at, sink)
                 }
             }
             None => {
@@ -75,11 +74,28 @@ impl<'t> Tokenizer<'t> {
                     self.state = State::Tag;
                     self.in_tag(names, ch, at, sink)
                 } else {
-                    self.give_held(solidus, sink)?;
-                    self.in_text(ch, at, sink)
+                    self.after_held(solidus, ch, at, sink)
                 }
             }
         }
+    }
+
+    /// Takes a character that shows what is held in raw text to be no end tag.
+    fn after_held<S: TokenSink>(
+        &mut self,
+        solidus: u64,
+        ch: char,
+        at: u64,
+        sink: &mut S,
+    ) -> Result<(), Refusal>
+        requires { self.old.state ≡ State.RawName solidus }
+        ensures { (table : Entities) (start : Kind) (names : Texts) (text : List Character) (taken : List Event)
+            → ((more : List Character) → name_ends (string_bytes self.old.tag.name) (self.old.held.items ++ record { ch = ch; at = at } ∷ more) ≡ false)
+            → Reads table start self.old names text (record { ch = ch; at = at } ∷ []) taken
+            → Takes (gives_item S.gives S.gives_token) table start text (record { ch = ch; at = at } ∷ []) taken names sink.old result sink.new self.new }
+    {
+        self.give_held(solidus, sink)?;
+        self.in_text(ch, at, sink)
     }
 
     /// Holds a character.
