@@ -69,6 +69,15 @@ pub few_of : (n : ℕ) (run : List ℕ) → 0 < n → IsCut n run → (part : Li
 few_of n run some cut part is (Ok k) all = subst (λ (m : ℕ). (0 < m) × IsCut m run) (sym (taken_whole n k run part cut.within is all)) (some, cut)
 few_of n run some cut part is (Err e) all = tt
 
+-- one character of a run, or all of it
+pub one_is_few : (run : List ℕ) → 0 < length run → (answer : Result ℕ Refusal) → IfOk answer (λ count. count ≡ 1) → IfOk answer (λ count. (0 < count) × (count ≤ length run))
+one_is_few run some (Ok n) one = (omega (arith, one), omega (arith, one, some))
+one_is_few run some (Err e) one = tt
+
+pub all_is_few : (run : List ℕ) → 0 < length run → (answer : Result ℕ Refusal) → IfOk answer (λ count. count ≡ length run) → IfOk answer (λ count. (0 < count) × (count ≤ length run))
+all_is_few run some (Ok n) all = (omega (arith, all, some), omega (arith, all))
+all_is_few run some (Err e) all = tt
+
 module _ {S : Type 0} (gives : S → Item → Result (Unit {0}) Refusal → S → Type 0) (table : Entities) (start : RawKind) (text : List Placed) where
   -- a refusal is one whatever follows
   pub refused_longer : (fed more : List Placed) (taken : List Event) (names : Texts) (old new : S) (e : Refusal) (next then : Tokenizer) → Takes gives table start text fed taken names old (Err e) new next

@@ -15,7 +15,6 @@ ghost use Rattle.htoken.specs.Front.{bare_errors, first_placed, IsBare, IsTextFr
 ghost use Rattle.htoken.specs.Raw.{is_script};
 ghost use Rattle.htoken.specs.Run.{run_tokens};
 ghost use Rattle.htoken.specs.Script.{FollowsAll};
-ghost use Rattle.htoken.specs.Spans.{has_references};
 ghost use Rattle.htoken.specs.Steps.{TakesPart};
 ghost use Rattle.htoken.specs.Handing.{HandsEvents};
 ghost use Rattle.htoken.specs.Token.{Event, Reports, gives_item};
@@ -82,12 +81,7 @@ impl<'t> Tokenizer<'t> {
 
     /// Gives a run that is text as a whole. Returns its length.
     #[inline(always)]
-    fn give_run<S: TokenSink>(
-        &mut self,
-        run: &str,
-        at: u64,
-        sink: &mut S,
-    ) -> Result<usize, Refusal>
+    fn give_run<S: TokenSink>(&mut self, run: &str, at: u64, sink: &mut S) -> Result<usize, Refusal>
         requires some { 0 < length run.now }
         requires clean { list_all is_clean (chars run.now) ≡ true }
         requires within { at + length run.now ≤ MAX_INPUT }
@@ -179,18 +173,6 @@ impl<'t> Tokenizer<'t> {
         if !first.is_ascii_alphanumeric() && first != b'#' {
             return Ampersand::Text(1);
         }
-        self.named_or_numbered(run)
-    }
-
-    /// The same where a letter, a digit or a `#` is after the `&`, and references may be here.
-    #[inline(always)]
-    fn named_or_numbered(&self, run: &str) -> Ampersand<'t>
-        requires may { has_references self.now.kind ≡ true }
-        requires amp { slice_index run.now 0 ≡ 38 }
-        requires long { 1 < length run.now }
-        ensures { Shows self.now.table.now self.now.kind run.now result }
-    {
-        let bytes = run.as_bytes();
         match Walk::settled(self.table, &bytes[1..]) {
             Some((found, _)) if found.in_run => {
                 let size = 1 + alphanumeric_run(&bytes[1..]);

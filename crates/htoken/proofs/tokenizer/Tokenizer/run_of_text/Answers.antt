@@ -25,7 +25,7 @@ returns-clause-takes g c = λ table start names text taken h.
     let run = c.args.run.now in
     let is = plain_chars run c.requires.plain c.utf8.run in
     let follows : is_script c.args.self.now.kind ≡ true → FollowsAll c.args.self.now.script (placed c.args.at run) c.follow_run.new.self.script = λ script.
-        subst (λ (x : List ℕ). FollowsAll c.args.self.now.script (placed c.args.at x) c.follow_run.new.self.script) is (c.follow_run.ensures.follows c.args.at script) in
+    subst (λ (x : List ℕ). FollowsAll c.args.self.now.script (placed c.args.at x) c.follow_run.new.self.script) is (c.follow_run.ensures.follows c.args.at script) in
     let handed = subst (λ (x : List ℕ). Hands g.S.TokenSink.gives_token c.args.sink.now (run_tokens (placed c.args.at x)) (Ok tt) c.take_run.new.self) is c.in_ok-take_run.ensures in
     subst (λ (x : List ℕ). Takes gives table start text (placed c.args.at x) taken names c.args.sink.now (Ok tt) c.take_run.new.self c.follow_run.new.self) (sym (take_all (length run) run (omega arith)))
     (bytes_taken gives table start names text taken c.args.self.now (in_state table start c.args.self.now names text taken (subst IsCalm (sym c.requires.text) tt) h) c.requires.text c.args.at run c.requires.plain
@@ -39,7 +39,7 @@ returns-in_err-take_run-clause-takes g c =
     let run = c.args.run.now in
     let is = plain_chars run c.requires.plain c.utf8.run in
     let follows : is_script c.args.self.now.kind ≡ true → FollowsAll c.args.self.now.script (placed c.args.at run) c.follow_run.new.self.script = λ script.
-        subst (λ (x : List ℕ). FollowsAll c.args.self.now.script (placed c.args.at x) c.follow_run.new.self.script) is (c.follow_run.ensures.follows c.args.at script) in
+    subst (λ (x : List ℕ). FollowsAll c.args.self.now.script (placed c.args.at x) c.follow_run.new.self.script) is (c.follow_run.ensures.follows c.args.at script) in
     let handed = subst (λ (x : List ℕ). Hands g.S.TokenSink.gives_token c.args.sink.now (run_tokens (placed c.args.at x)) (Err c.in_err-take_run.field-0.0) c.take_run.new.self) is c.in_err-take_run.ensures in
     bytes_taken gives table start names text taken c.args.self.now (in_state table start c.args.self.now names text taken (subst IsCalm (sym c.requires.text) tt) h) c.requires.text c.args.at run c.requires.plain
     c.requires.some (omega (arith, c.requires.within)) c.follow_run.new.self c.follow_run.ensures.then follows _ _ _ (run_given g.S.ErrorSink.gives g.S.TokenSink.gives_token names _ _ (placed c.args.at run) _ handed))

@@ -1,6 +1,19 @@
+use Rattle.htoken.proofs.Fronts.{all_is_few, one_is_few}
 use Rattle.htoken.proofs.Taking.{taken_kept}
 use Rattle.htoken.proofs.tokenizer.Tokenizer.take_front.Goals as goal
 
 pub returns-in-Text-clause-takes : goal.returns-in-Text-clause-takes
 returns-in-Text-clause-takes g c = λ table start before text taken grows h.
     c.run_of_text.ensures.takes table start c.args.names.now text taken (taken_kept table start c.args.self.now before c.args.names.now text taken grows h)
+
+pub returns-in-Text-clause-few : goal.returns-in-Text-clause-few
+returns-in-Text-clause-few g c = all_is_few c.args.run.now c.requires.some _ c.run_of_text.ensures.all
+
+pub returns-in-Less-clause-few : goal.returns-in-Less-clause-few
+returns-in-Less-clause-few g c = one_is_few c.args.run.now c.requires.some _ c.take_first.ensures.one
+
+pub returns-in-LessSolidus-clause-few : goal.returns-in-LessSolidus-clause-few
+returns-in-LessSolidus-clause-few g c = one_is_few c.args.run.now c.requires.some _ c.take_first-in-LessSolidus.ensures.one
+
+pub returns-in_default-clause-few : goal.returns-in_default-clause-few
+returns-in_default-clause-few g c = one_is_few c.args.run.now c.requires.some _ c.take_first-in_default.ensures.one

@@ -43,3 +43,9 @@ returns-clause-takes g c = λ table start before text taken grows h. c.loop-coun
 
 pub range_from-requires : goal.range_from-requires
 range_from-requires g c = λ _. plain_boundary c.loop-count.count c.args.run.now c.requires.plain c.loop-count.invariant.within
+
+pub returns-clause-all : goal.returns-clause-all
+returns-clause-all g c = omega (arith, c.loop-count.invariant.within)
+
+pub returns-in_err-more-clause-grows : goal.returns-in_err-more-clause-grows
+returns-in_err-more-clause-grows g c = grows_on _ _ _ c.loop-count.invariant.grows c.take_front.ensures.grows
