@@ -3,7 +3,8 @@
 use hmarkup::ErrorSink;
 use htoken::TokenSink;
 use hwrite::{
-    Counted, Options, ParseError, Parser, Quirks, Refusal, Table, Token, parse_reader, read_into,
+    Counted, Options, ParseError, Parser, Quirks, Refusal, Source, Table, Token, parse_reader,
+    read_into,
 };
 use std::alloc::Global;
 use std::fs::File;
@@ -53,37 +54,50 @@ impl TokenSink for Counter {
     }
 }
 
-/// How many tokens a file has, and how many parse errors.
-fn count_tokens(alloc: Global, file: File) -> Result<(u64, u64), Refusal> {
-    let table = Table::core(alloc)?;
-    let quirks = Quirks::read(alloc, "")?;
-    let options = Options::new(&table, &quirks);
+/// How many tokens an input has, and how many parse errors.
+fn count_tokens<S: Source>(
+    alloc: Global,
+    options: &Options,
+    source: &mut S,
+) -> Result<(u64, u64), Refusal> {
     let counter = Counter {
         tokens: 0,
         errors: 0,
     };
-    let (_, counter) = read_into(alloc, PIECE, &options, counter, &mut Counted::new(file))?;
+    let (_, counter) = read_into(alloc, PIECE, options, counter, source)?;
     Ok((counter.tokens, counter.errors))
 }
 
 /// How many nodes its tree has, and how many parse errors.
-fn count_nodes(alloc: Global, file: File) -> Result<(u64, u64), Refusal> {
+fn count_nodes<S: Source>(
+    alloc: Global,
+    options: &Options,
+    source: &mut S,
+) -> Result<(u64, u64), Refusal> {
+    let parser = Parser::document(alloc, options)?;
+    let parsed = parse_reader(alloc, parser, PIECE, source)?;
+    Ok((u64::from(parsed.tree.made()), parsed.errors.len() as u64))
+}
+
+/// One of the two of a file.
+fn count(alloc: Global, are_tokens: bool, file: File) -> Result<(u64, u64), Refusal> {
     let table = Table::core(alloc)?;
     let quirks = Quirks::read(alloc, "")?;
-    let parser = Parser::document(alloc, &Options::new(&table, &quirks))?;
-    let parsed = parse_reader(alloc, parser, PIECE, &mut Counted::new(file))?;
-    Ok((u64::from(parsed.tree.made()), parsed.errors.len() as u64))
+    let options = Options::new(&table, &quirks);
+    let mut source = Counted::new(file);
+    if are_tokens {
+        count_tokens(alloc, &options, &mut source)
+    } else {
+        count_nodes(alloc, &options, &mut source)
+    }
 }
 
 /// Prints how many tokens or nodes a file has, and how many parse errors.
 pub fn print_count(rt: &HostRuntime, task: &str, name: &str) -> io::Result<()> {
     let file = File::open(rt, name)?;
-    let counts = match task {
-        "tokens" => count_tokens(rt.alloc(), file),
-        _ => count_nodes(rt.alloc(), file),
-    };
-    let what = if task == "tokens" { "tokens" } else { "nodes" };
-    match counts {
+    let are_tokens = task == "tokens";
+    let what = if are_tokens { "tokens" } else { "nodes" };
+    match count(rt.alloc(), are_tokens, file) {
         Ok((count, errors)) => println!(rt; "{count} {what}, {errors} errors"),
         Err(refusal) => println!(rt; "refused: {refusal}"),
     }

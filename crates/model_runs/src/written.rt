@@ -17,11 +17,12 @@ use std::alloc::Global;
 pub fn call(hand: &mut Hand, line: &str) -> Result<Reply, Refusal> {
     let context = text(hand.alloc, word(line, 1))?;
     let grown = grow(hand.alloc, &context, after(line, 2))?;
-    say(hand.alloc, &grown, &context, &mut hand.out)?;
-    Ok(Reply::Said)
+    let said = say(hand.alloc, &grown, &context, &mut hand.out);
+    drop(grown);
+    said
 }
 
-fn say(alloc: Global, grown: &Grown, context: &str, out: &mut Answers) -> Result<(), Refusal>
+fn say(alloc: Global, grown: &Grown, context: &str, out: &mut Answers) -> Result<Reply, Refusal>
     requires { IsGrown grown.now }
 {
     out.flag(is_plain(&grown.tree, &grown.names, grown.root, context));
@@ -30,7 +31,7 @@ fn say(alloc: Global, grown: &Grown, context: &str, out: &mut Answers) -> Result
     out.bytes(&written);
     out.bytes(&html(alloc, grown, Escaping::Two)?);
     out.place(wrong_room(alloc, grown, &written)?);
-    Ok(())
+    Ok(Reply::Said)
 }
 
 /// The tree's text.
