@@ -45,7 +45,7 @@ impl<'t> Tokenizer<'t> {
                 let code = ErrorCode::UnexpectedQuestionMarkInsteadOfTagName;
                 self.begin_bogus_at(code, ch, at, sink)
             }
-            _ if ch.is_ascii_alphabetic() => self.begin_tag(TagKind::Start, ch),
+            _ if ch.is_ascii_alphabetic() => Ok(self.begin_tag(TagKind::Start, ch)?),
             _ => self.less_is_text(ch, at, sink),
         }
     }
@@ -90,7 +90,7 @@ impl<'t> Tokenizer<'t> {
                     at,
                 })
             }
-            _ if ch.is_ascii_alphabetic() => self.begin_tag(TagKind::End, ch),
+            _ if ch.is_ascii_alphabetic() => Ok(self.begin_tag(TagKind::End, ch)?),
             _ => {
                 let code = ErrorCode::InvalidFirstCharacterOfTagName;
                 self.begin_bogus_at(code, ch, at, sink)

@@ -1,6 +1,6 @@
 //! References in text, and the runs of alphanumerics after an `&` (HTML Standard, 13.2.5.72 to 13.2.5.80).
 
-ghost use Rattle.std.specs.Prelude.{◌≡◌, ◌∷◌, ◌+◌, ◌-◌, List, [], true, false, length, take, MatchResult};
+ghost use Rattle.std.specs.Prelude.{◌≡◌, ◌∷◌, ◌+◌, ◌-◌, List, [], true, false, length, take, IfOk, OnOk};
 ghost use Rattle.std.specs.List.{list_all};
 ghost use Rattle.names.specs.declared.placed.Placed.{Placed as Character};
 ghost use Rattle.names.specs.declared.raw.RawKind.{RawKind as Kind};
@@ -21,6 +21,7 @@ use crate::state::State;
 use crate::tokenizer::{Tokenizer, after};
 use charref::{Reference, Walk};
 use names::{Placed, Refusal};
+use std::alloc::AllocError;
 
 impl<'t> Tokenizer<'t> {
     /// Begins a reference at an `&`.
@@ -48,14 +49,14 @@ impl<'t> Tokenizer<'t> {
     {
         match self.reference.take(ch) {
             Some(found) => self.end_reference(&found, ch, at, sink),
-            None => self.hold_in_reference(ch, at),
+            None => Ok(self.hold_in_reference(ch, at)?),
         }
     }
 
     /// Holds a character with which a reference goes on. Of a number nothing is held.
     #[inline(always)]
-    fn hold_in_reference(&mut self, ch: char, at: u64) -> Result<(), Refusal>
-        ensures { MatchResult result (λ _. HoldsInReference self.old (record { ch = ch; at = at }) self.new) (λ refusal. refusal ≡ Refusal.Memory) }
+    fn hold_in_reference(&mut self, ch: char, at: u64) -> Result<(), AllocError>
+        ensures { OnOk result (HoldsInReference self.old (record { ch = ch; at = at }) self.new) }
     {
         if self.reference.is_number() {
             self.held.clear();

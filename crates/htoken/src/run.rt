@@ -273,6 +273,7 @@ impl<'t> Tokenizer<'t> {
             State::Text => self.run_of_text(run, at, sink),
             State::Comment => self.run_of_comment(names, run, at, sink),
             State::Tag => self.run_of_tag(names, run, at, sink),
+            // With arms of their own, so that the state is not asked for again after each `<`.
             State::Less => self.take_first(names, run, at, sink),
             State::LessSolidus(_) => self.take_first(names, run, at, sink),
             _ => self.take_first(names, run, at, sink),

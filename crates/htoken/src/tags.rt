@@ -1,6 +1,6 @@
 //! Tags (HTML Standard, 13.2.5.8 and 13.2.5.32 to 13.2.5.40).
 
-ghost use Rattle.std.specs.Prelude.{◌≡◌, ◌∷◌, ℕ, List, [], slice_get, Some, MatchResult, OnOk};
+ghost use Rattle.std.specs.Prelude.{◌≡◌, ◌∷◌, ℕ, List, [], slice_get, Some, OnOk};
 ghost use Rattle.names.specs.declared.placed.Placed.{Placed as Character};
 ghost use Rattle.names.specs.declared.raw.RawKind.{RawKind as Kind};
 ghost use Rattle.names.specs.Names.{Texts, Grows};
@@ -22,8 +22,8 @@ use std::alloc::AllocError;
 impl<'t> Tokenizer<'t> {
     /// Begins a tag with the first letter of its name.
     #[inline(always)]
-    pub(crate) fn begin_tag(&mut self, kind: TagKind, ch: char) -> Result<(), Refusal>
-        ensures { MatchResult result (λ _. BeginsTag self.old kind ch self.new) (λ refusal. refusal ≡ Refusal.Memory) }
+    pub(crate) fn begin_tag(&mut self, kind: TagKind, ch: char) -> Result<(), AllocError>
+        ensures { OnOk result (BeginsTag self.old kind ch self.new) }
     {
         self.tag.begin(kind, ch)?;
         self.state = State::Tag;
