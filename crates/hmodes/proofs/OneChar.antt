@@ -1,6 +1,6 @@
 -- A character by the rules of a mode that puts it, maybe after the formatting elements, or keeps it as pending.
 use Rattle.std.proofs.Common.{◌≡◌, inl, inr, ℕ, Bool, true, false, Option, Some, None, Result, Ok, Err, refl, sym, ◌∙◌, ap, subst}
-use Rattle.std.specs.Prelude.{◌&&◌, ◌==◌, not, if◌then◌else◌, MatchOption}
+use Rattle.std.specs.Prelude.{◌&&◌, ◌==◌, not, is_none, if◌then◌else◌, MatchOption}
 use Rattle.std.specs.Result.{result_err}
 use Rattle.std.proofs.lemmas.Bool.{false≢true}
 use Rattle.names.specs.Placed.{is_space}
@@ -71,5 +71,11 @@ pub gives_by_rule : (b old : Building) (s t : State ℕ) (at c : ℕ) (answer : 
 gives_by_rule b old s t at c answer is begins g =
     subst (λ (w : State ℕ). StateGives answer t (perform numbers at (character c) (char_rule w.control.mode) w)) (begins ∙ ap (λ (o : Building). begun o.state) is) g
 
-pub takes-of : (b old : Building) (r : Bool) → old ≡ b → r ≡ takes_char old.state → r ≡ true → takes_char b.state ≡ true
-takes-of b old r is says on = sym (ap (λ (o : Building). takes_char o.state) is) ∙ sym says ∙ on
+-- what the test of a character says
+pub char_parts : (c : ℕ) (b : Building) → (not (c == 0) && is_none b.refused && takes_char b.state) ≡ true → ((c == 0) ≡ false) × (b.refused ≡ None) × (takes_char b.state ≡ true)
+char_parts c b h = go (c == 0) b.refused (takes_char b.state) h
+  where
+    go : (nul : Bool) (o : Option Refusal) (takes : Bool) → (not nul && is_none o && takes) ≡ true → (nul ≡ false) × (o ≡ None) × (takes ≡ true)
+    go true o takes h = absurd cc
+    go false (Some r) takes h = absurd cc
+    go false None takes h = (refl, refl, h)

@@ -110,7 +110,7 @@ pub err_is : (answer : Result (Unit {0}) Refusal) → result_err answer ≡ refu
 err_is (Ok u) = refl
 err_is (Err e) = refl
 
-ok-of : (answer : Result (Unit {0}) Refusal) → result_err answer ≡ None → answer ≡ Ok tt
+pub ok-of : (answer : Result (Unit {0}) Refusal) → result_err answer ≡ None → answer ≡ Ok tt
 ok-of (Ok u) h = refl
 ok-of (Err e) h = absurd cc
 

@@ -1,10 +1,11 @@
 //! Where a document and a fragment begin (HTML Standard, 13.4).
 
-ghost use Rattle.std.specs.Prelude.{◌≡◌, IfOk, MatchResult};
+ghost use Rattle.std.specs.Prelude.{◌≡◌, [], Some, IfOk, MatchResult};
 ghost use Rattle.names.specs.declared.refusal.Refusal.TheVariants.{Memory};
 ghost use Rattle.names.specs.Tags.{tag_of};
 ghost use Rattle.hadopt.specs.Naming.{numbers};
 ghost use Rattle.hmodes.specs.Beginning.{control_in, form_of, document_begins, fragment_begins, fragment_site};
+ghost use Rattle.hmodes.specs.Reset.{context_mode};
 ghost use Rattle.hmodes.specs.States.{state_of};
 
 use crate::control::Control;
@@ -89,14 +90,25 @@ impl<'q> TreeConstruction<'q> {
         ensures { MatchResult result (λ r. (state_of r.0 ≡ fragment_begins numbers context limits.tree) × (r.1 ≡ 1)) (λ e. e ≡ Memory) }
     {
         let (site, root) = fragment_site(alloc, keys, limits)?;
+        Ok((TreeConstruction::in_context(alloc, context, site), root))
+    }
+
+    /// The state in a context element of a name, over the tree in which a fragment begins.
+    fn in_context(alloc: Global, context: NameId, site: Site) -> TreeConstruction<'q>
+        ensures { state_of result ≡ record {
+          site = site;
+          control = control_in (context_mode (tag_of context)) (form_of (tag_of context));
+          context = Some context;
+          quirks_list = [];
+        } }
+    {
         let form = form_pointer(&site, context);
-        let state = TreeConstruction {
+        TreeConstruction {
             site,
             control: control_in(alloc, context_mode(context.tag()), form),
             context: Some(context),
             quirks_list: None,
             alloc,
-        };
-        Ok((state, root))
+        }
     }
 }

@@ -170,8 +170,24 @@ impl<'q> TreeConstruction<'q> {
         done(self.pop_to(Mode::InBody, name, at))
     }
 
-    /// The end tags li, dd and dt.
-    pub(crate) fn end_item(&mut self, scope: Scope, token: &Token, at: u64) -> Result<Flow, Refusal>
+    /// The end tag li.
+    pub(crate) fn end_li(&mut self, token: &Token, at: u64) -> Result<Flow, Refusal>
+        ensures { FlowGives result (token_of token.now) (state_of self.new)
+            (perform numbers at (token_of token.now) (end_item scope.ListItem) (state_of self.old)) }
+    {
+        self.end_item(Scope::ListItem, token, at)
+    }
+
+    /// The end tags dd and dt.
+    pub(crate) fn end_dd(&mut self, token: &Token, at: u64) -> Result<Flow, Refusal>
+        ensures { FlowGives result (token_of token.now) (state_of self.new)
+            (perform numbers at (token_of token.now) (end_item scope.Default) (state_of self.old)) }
+    {
+        self.end_item(Scope::Default, token, at)
+    }
+
+    /// The end tag of an item, in a scope.
+    fn end_item(&mut self, scope: Scope, token: &Token, at: u64) -> Result<Flow, Refusal>
         ensures { FlowGives result (token_of token.now) (state_of self.new) (perform numbers at (token_of token.now) (end_item scope) (state_of self.old)) }
     {
         let name = token_name(token);

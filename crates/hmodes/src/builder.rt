@@ -1,6 +1,6 @@
 //! The builder of a tree.
 
-ghost use Rattle.std.specs.Prelude.{◌≡◌, ◌+◌, ◌<◌, ◌≤◌, ◌++◌, [], Some, None, true, Err, length, IfErr, IfOk, MatchResult};
+ghost use Rattle.std.specs.Prelude.{◌≡◌, ◌+◌, ◌-◌, ◌<◌, ◌≤◌, ◌++◌, ◌==◌, ◌&&◌, not, [], Some, None, true, Err, length, is_none, IfErr, IfOk, MatchResult};
 ghost use Rattle.std.specs.List.{list_all};
 ghost use Rattle.std.specs.Result.{result_err};
 ghost use Rattle.std.specs.Str.{chars};
@@ -10,6 +10,7 @@ ghost use Rattle.hadopt.specs.Naming.{numbers};
 ghost use Rattle.hmodes.specs.Beginning.{document_begins, fragment_begins};
 ghost use Rattle.hmodes.specs.Tokens.{token_of, place_of};
 ghost use Rattle.hmodes.specs.Building.{Takes, TakesToken, puts_run};
+ghost use Rattle.hmodes.specs.Runs.{takes_char};
 ghost use Rattle.htext.specs.Run.{is_clean};
 ghost use Rattle.htext.specs.declared.decoder.TheConstants.{MAX_INPUT};
 ghost use Rattle.htoken.specs.Run.{run_tokens};
@@ -115,7 +116,7 @@ impl<'q> Builder<'q> {
             told,
             refused,
         } = self;
-        if let Some(refusal) = refused {
+        if let Err(refusal) = again(refused) {
             drop(state);
             drop(told);
             return Err(refusal);
@@ -150,7 +151,7 @@ impl<'q> Builder<'q> {
         };
         self.take_text(ch, at)?;
         let rest = chars.as_str();
-        let next = at + (run.len() - rest.len()) as u64;
+        let next = rest_place(run, rest, at);
         if self.puts_run(rest) {
             return self.put_run(rest, next);
         }
@@ -163,6 +164,14 @@ impl<'q> Builder<'q> {
         ensures { result ≡ puts_run run.now self.now }
     {
         !run.is_empty() && self.refused.is_none() && self.state.puts_each()
+    }
+
+    /// Whether a character is not NUL, nothing was refused, and the rules put or keep it at once.
+    #[inline(always)]
+    fn puts_char(&self, ch: char) -> bool
+        ensures { result ≡ (not (ch == 0) && is_none self.now.refused && takes_char self.now.state) }
+    {
+        ch != '\0' && self.refused.is_none() && self.state.takes_char()
     }
 
     /// Puts a run whole.
@@ -183,13 +192,9 @@ impl<'q> Builder<'q> {
     fn take(&mut self, token: &mut Token, at: u64) -> Result<(), Refusal>
         ensures { Takes at (token_of token.old) self.old result self.new }
     {
-        if let Some(refusal) = self.refused {
-            return Err(refusal);
-        }
+        again(self.refused)?;
         let answer = self.state.step(token, at);
-        if let Err(refusal) = answer {
-            self.refused = Some(refusal);
-        }
+        keep(&mut self.refused, answer);
         answer
     }
 }
@@ -211,6 +216,17 @@ fn joined(
     Ok(second)
 }
 
+/// What a call answers first: a refusal is answered again.
+#[inline(always)]
+fn again(refused: Option<Refusal>) -> Result<(), Refusal>
+    ensures { MatchResult result (λ u. refused ≡ None) (λ refusal. refused ≡ Some refusal) }
+{
+    match refused {
+        Some(refusal) => Err(refusal),
+        None => Ok(()),
+    }
+}
+
 /// Keeps the refusal of an answer. A call that refuses nothing writes nothing.
 #[inline(always)]
 fn keep(refused: &mut Option<Refusal>, answer: Result<(), Refusal>)
@@ -220,6 +236,16 @@ fn keep(refused: &mut Option<Refusal>, answer: Result<(), Refusal>)
     if let Err(refusal) = answer {
         *refused = Some(refusal);
     }
+}
+
+/// The place of what is left of a run, whose first byte is at this place.
+#[inline(always)]
+fn rest_place(run: &str, rest: &str, at: u64) -> u64
+    requires within { at + length run.now ≤ MAX_INPUT }
+    requires rest { length rest.now ≤ length run.now }
+    ensures { result ≡ at + (length run.now - length rest.now) }
+{
+    at + (run.len() - rest.len()) as u64
 }
 
 /// The place of a token's first byte.
@@ -243,9 +269,7 @@ impl<'q> ErrorSink for Builder<'q> {
     ghost gives = { TakesError };
 
     fn take_error(&mut self, error: ParseError) -> Result<(), Refusal> {
-        if let Some(refusal) = self.refused {
-            return Err(refusal);
-        }
+        again(self.refused)?;
         if self.told.push(error).is_err() {
             self.refused = Some(Refusal::Memory);
             return Err(Refusal::Memory);
@@ -265,7 +289,7 @@ impl<'q> TokenSink for Builder<'q> {
     }
 
     fn take_text(&mut self, ch: char, at: u64) -> Result<(), Refusal> {
-        if ch == '\0' || self.refused.is_some() || !self.state.takes_char() {
+        if !self.puts_char(ch) {
             let mut token = Token::Char { ch, at };
             return self.take(&mut token, at);
         }

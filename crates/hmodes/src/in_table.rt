@@ -1,13 +1,13 @@
 //! The "in table" insertion mode (HTML Standard, 13.2.6.4.9).
 
-ghost use Rattle.std.specs.Prelude.{ℕ};
+ghost use Rattle.std.specs.Prelude.{◌≡◌, ℕ};
 ghost use Rattle.hadopt.specs.Kept.{Kept};
 ghost use Rattle.hadopt.specs.Naming.{numbers};
 ghost use Rattle.hopen.specs.declared.scope.Scope.TheVariants as scope;
 ghost use Rattle.names.specs.declared.tag.Tag.TheVariants as tag;
-ghost use Rattle.hmodes.specs.Flows.{FlowGives};
+ghost use Rattle.hmodes.specs.Flows.{FlowGives, performed};
 ghost use Rattle.hmodes.specs.Perform.{perform};
-ghost use Rattle.hmodes.specs.State.{Token as TokenOf};
+ghost use Rattle.hmodes.specs.State.{Token as TokenOf, Done as DoneOf};
 ghost use Rattle.hmodes.specs.States.{state_of};
 ghost use Rattle.hmodes.specs.Tokens.{token_of};
 ghost use Rattle.hmodes.specs.declared.family.Family.TheVariants as family;
@@ -178,13 +178,11 @@ impl<'q> TreeConstruction<'q> {
         ensures { (t : TokenOf ℕ) → FlowGives result t (state_of self.new)
             (perform numbers at t (error InTable ▸ when (has_in scope.Table tag.Table) (pop_to tag.Table ▸ reset ▸ again)) (state_of self.old)) }
     {
-        let table = Tag::Table.number();
         self.error(Mode::InTable, at)?;
-        if !self.site.in_scope(Scope::Table, table) {
+        if !self.site.in_scope(Scope::Table, Tag::Table.number()) {
             return Ok(Flow::Done);
         }
-        self.site.pop_to(table);
-        self.control.mode = self.reset_mode();
+        self.close_table();
         Ok(Flow::Again)
     }
 
@@ -193,13 +191,19 @@ impl<'q> TreeConstruction<'q> {
         ensures { (t : TokenOf ℕ) → FlowGives result t (state_of self.new)
             (perform numbers at t (choose (has_in scope.Table tag.Table) (pop_to tag.Table ▸ reset) (error InTable)) (state_of self.old)) }
     {
-        let table = Tag::Table.number();
-        if !self.site.in_scope(Scope::Table, table) {
+        if !self.site.in_scope(Scope::Table, Tag::Table.number()) {
             return self.ignore(Mode::InTable, at);
         }
-        self.site.pop_to(table);
-        self.control.mode = self.reset_mode();
+        self.close_table();
         Ok(Flow::Done)
+    }
+
+    /// The nearest table is closed, and the mode is the one that fits then.
+    fn close_table(&mut self)
+        ensures { performed 0 (pop_to tag.Table ▸ reset) (state_of self.old) ≡ DoneOf (state_of self.new) }
+    {
+        self.site.pop_to(Tag::Table.number());
+        self.control.mode = self.reset_mode();
     }
 
     /// The start tag input in a table.
