@@ -91,14 +91,7 @@ impl<'t> Parser<'t> {
             → ShowsParse opts parse_case bytes result }
         ensures again { (refusal : Refused) → self.entry.refused ≡ Some refusal → result ≡ Err refusal }
     {
-        let Parser {
-            mut reading,
-            refused,
-        } = self;
-        if let Some(refusal) = refused {
-            drop(reading);
-            return Err(refusal);
-        }
+        let mut reading = self.into_reading()?;
         let answer = reading.end();
         reading.feeding.are_names();
         match answer {
@@ -108,6 +101,19 @@ impl<'t> Parser<'t> {
                 Err(refusal)
             }
         }
+    }
+
+    /// What it reads, or what it has refused.
+    fn into_reading(self) -> Result<Reading<'t, Builder<'t>>, Refusal>
+        ensures { MatchResult result (λ reading. (self.entry.refused ≡ None) × (reading ≡ self.entry.reading))
+            (λ refusal. self.entry.refused ≡ Some refusal) }
+    {
+        let Parser { reading, refused } = self;
+        if let Some(refusal) = refused {
+            drop(reading);
+            return Err(refusal);
+        }
+        Ok(reading)
     }
 }
 
@@ -126,14 +132,7 @@ pub fn parse_reader<R: Source>(
     // After a refusal of the parser nothing is read.
     ensures again { (refusal : Refused) → parser.entry.refused ≡ Some refusal → (result ≡ Err refusal) × (source.new ≡ source.old) }
 {
-    let Parser {
-        mut reading,
-        refused,
-    } = parser;
-    if let Some(refusal) = refused {
-        drop(reading);
-        return Err(refusal);
-    }
+    let mut reading = parser.into_reading()?;
     let answer = read_to_end(alloc, piece, &mut reading, source);
     reading.feeding.are_names();
     match answer {
