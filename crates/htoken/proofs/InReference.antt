@@ -343,21 +343,27 @@ module _ {S : Type 0} (gives : S → Item → Result (Unit {0}) Refusal → S �
     stands_told_now : (end : ℕ) (more : List Placed) → Stands table start end text (p ∷ more) h.here (taken ++ map Reports told) []
     stands_told_now end more = stands_told table start end text (p ∷ more) h.here taken told (subst (Stands table start end text (p ∷ more) h.here taken) (later_told amp p more other) (stands_now end more))
 
-    pub run_ended : (new : Tokenizer) → Stays t new → new.kind ≡ t.kind → new.last ≡ t.last → new.state ≡ state.Text → new.raised.errors.items ≡ t.raised.errors.items → new.tag ≡ t.tag → Reads table start new names text (p ∷ []) (taken ++ map Reports told)
-    run_ended new stays kind last in_text raised tag = record {
-      accepts = stays.0 ∙ h.accepts;
-      front = text;
-      held = [];
-      here = h.here;
-      table_is = ap (λ x. x.now) stays.1 ∙ h.table_is;
-      text_is = sym (append-nil text);
-      next_is = stays.2 ∙ h.next_is;
-      stands = λ end more. stands_told_now end more;
-      kind_is = kind ∙ h.kind_is;
-      name_is = subst (λ (x : Option ℕ). IsLast names x h.here.name) (sym last) h.name_is;
-      is_in = subst (λ (x : State). IsIn x h.here.kind) (sym in_text) tt;
-      is_held = subst (λ (x : State). IsHeld x table names h.here new [] (p ∷ [])) (sym in_text) (refl, raised ∙ h.raises_none, same_between h.here h.here t new h.may refl refl tag h.between);
-    }
+    pub run_ended : (new : Tokenizer) → new ≡ record t { state = state.Text } → Reads table start new names text (p ∷ []) (taken ++ map Reports told)
+    run_ended new then =
+        let in_text : new.state ≡ state.Text = ap (λ (x : Tokenizer). x.state) then in
+        record {
+          accepts = ap (λ (x : Tokenizer). x.refused) then ∙ h.accepts;
+          front = text;
+          held = [];
+          here = h.here;
+          table_is = ap (λ (x : Tokenizer). x.table.now) then ∙ h.table_is;
+          text_is = sym (append-nil text);
+          next_is = ap (λ (x : Tokenizer). x.next) then ∙ h.next_is;
+          stands = λ end more. stands_told_now end more;
+          kind_is = ap (λ (x : Tokenizer). x.kind) then ∙ h.kind_is;
+          name_is = subst (λ (x : Option ℕ). IsLast names x h.here.name) (sym (ap (λ (x : Tokenizer). x.last) then)) h.name_is;
+          is_in = subst (λ (x : State). IsIn x h.here.kind) (sym in_text) tt;
+          is_held = subst (λ (x : State). IsHeld x table names h.here new [] (p ∷ [])) (sym in_text) (
+            refl,
+            ap (λ (x : Tokenizer). x.raised.errors.items) then ∙ h.raises_none,
+            same_between h.here h.here t new h.may refl refl (ap (λ (x : Tokenizer). x.tag) then) h.between,
+          );
+        }
 
     pub run_refused : (new : Tokenizer) (old s : S) (e : Refusal) → HandsEvents gives names old (map Reports told) (Err e) s → Takes gives table start text (p ∷ []) taken names old (Err e) s new
     run_refused new old s e handed = take_sink_refused e (map Reports told) refl handed (λ more end.

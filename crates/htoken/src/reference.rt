@@ -1,15 +1,16 @@
 //! References in text, and the runs of alphanumerics after an `&` (HTML Standard, 13.2.5.72 to 13.2.5.80).
 
-ghost use Rattle.std.specs.Prelude.{◌≡◌, ◌∷◌, ◌+◌, ◌-◌, List, [], true, false, length, take, IfOk, OnOk};
+ghost use Rattle.std.specs.Prelude.{◌≡◌, ◌==◌, ◌∷◌, ◌+◌, ◌-◌, List, [], true, false, length, map, take, IfOk, OnOk};
 ghost use Rattle.std.specs.List.{list_all};
 ghost use Rattle.names.specs.declared.placed.Placed.{Placed as Character};
 ghost use Rattle.names.specs.declared.raw.RawKind.{RawKind as Kind};
 ghost use Rattle.names.specs.Names.{Texts};
-ghost use Rattle.names.specs.Placed.{placed};
+ghost use Rattle.names.specs.Placed.{error_if, placed};
+ghost use Rattle.names.specs.declared.error.ErrorCode.TheVariants as error_code;
 ghost use Rattle.htext.specs.declared.decoder.TheConstants.{MAX_INPUT};
 ghost use Rattle.htext.specs.Run.{is_plain_byte};
 ghost use Rattle.charref.specs.Reference.{Entities};
-ghost use Rattle.htoken.specs.Token.{Event, gives_item};
+ghost use Rattle.htoken.specs.Token.{Event, Reports, gives_item};
 ghost use Rattle.htoken.specs.Giving.{read_events};
 ghost use Rattle.htoken.specs.Handing.{HandsEvents};
 ghost use Rattle.htoken.specs.Tokenizing.{HasTaken, IsInRun, Reads, Takes};
@@ -179,8 +180,18 @@ impl<'t> Tokenizer<'t> {
         if ch.is_ascii_alphanumeric() {
             return give(ch, at, sink);
         }
-        self.state = State::Text;
-        tell_unknown(ch, amp, sink)?;
+        self.end_run(amp, ch, sink)?;
         self.in_text(ch, at, sink)
+    }
+
+    /// Ends the run of alphanumerics after an `&` that no key begins, before this character.
+    #[inline(always)]
+    fn end_run<S: TokenSink>(&mut self, amp: u64, ch: char, sink: &mut S) -> Result<(), Refusal>
+        ensures then { self.new ≡ record self.old { state = State.Text } }
+        ensures handed { (names : Texts) → HandsEvents (gives_item S.gives S.gives_token) names sink.old
+            (map Reports (error_if (ch == 59) error_code.UnknownNamedCharacterReference amp)) result sink.new }
+    {
+        self.state = State::Text;
+        tell_unknown(ch, amp, sink)
     }
 }

@@ -1,4 +1,4 @@
-use Rattle.std.proofs.Common.{◌≡◌, true, false, refl, arith}
+use Rattle.std.proofs.Common.{◌≡◌, true, false, arith}
 use Rattle.std.proofs.lemmas.Bool.Decides.{nat_tests}
 use Rattle.std.proofs.lemmas.Result.{err_from_is_err_and}
 use Rattle.names.specs.Placed.{is_alphanumeric}
@@ -12,15 +12,15 @@ returns-then-is_ascii_alphanumeric g c = λ table start names text taken h.
     let letter : is_alphanumeric c.args.ch ≡ true = grind (arith, nat_tests) in
     run_goes_on (gives_item g.S.ErrorSink.gives g.S.TokenSink.gives_token) table start text (record { ch = c.args.ch; at = c.args.at }) names taken _ c.args.amp c.requires h letter _ _ _ (c.give.ensures names)
 
-pub returns-in_err-tell_unknown : goal.returns-in_err-tell_unknown
-returns-in_err-tell_unknown g c =
+pub returns-in_err-end_run : goal.returns-in_err-end_run
+returns-in_err-end_run g c =
     let e = err_from_is_err_and c.from_residual.result c.from_residual.ensures.1 in
     rw (e.1, e.2) (λ table start names text taken h.
     let other : is_alphanumeric c.args.ch ≡ false = grind (arith, nat_tests) in
-    run_refused (gives_item g.S.ErrorSink.gives g.S.TokenSink.gives_token) table start text (record { ch = c.args.ch; at = c.args.at }) names taken _ c.args.amp c.requires h other _ _ _ _ (c.in_err-tell_unknown.ensures names))
+    run_refused (gives_item g.S.ErrorSink.gives g.S.TokenSink.gives_token) table start text (record { ch = c.args.ch; at = c.args.at }) names taken _ c.args.amp c.requires h other _ _ _ _ (c.in_err-end_run.ensures.handed names))
 
 pub returns : goal.returns
 returns g c = λ table start names text taken h.
     let other : is_alphanumeric c.args.ch ≡ false = grind (arith, nat_tests) in
-    takes_after (gives_item g.S.ErrorSink.gives g.S.TokenSink.gives_token) table start text _ names taken _ _ _ _ _ _ (c.in_ok-tell_unknown.ensures names)
-    (c.in_text.ensures table start names text _ (run_ended (gives_item g.S.ErrorSink.gives g.S.TokenSink.gives_token) table start text (record { ch = c.args.ch; at = c.args.at }) names taken _ c.args.amp c.requires h other _ (refl, refl, refl) refl refl refl refl refl))
+    takes_after (gives_item g.S.ErrorSink.gives g.S.TokenSink.gives_token) table start text _ names taken _ _ _ _ _ _ (c.in_ok-end_run.ensures.handed names)
+    (c.in_text.ensures table start names text _ (run_ended (gives_item g.S.ErrorSink.gives g.S.TokenSink.gives_token) table start text (record { ch = c.args.ch; at = c.args.at }) names taken _ c.args.amp c.requires h other _ c.in_ok-end_run.ensures.then))
