@@ -5,7 +5,7 @@ ghost use Rattle.std.specs.Char.{is_ascii};
 ghost use Rattle.std.specs.List.{list_all, starts_with};
 ghost use Rattle.names.specs.declared.placed.Placed.{Placed};
 ghost use Rattle.names.specs.Placed.{placed};
-ghost use Rattle.charref.specs.Reference.{Entities, IsTable};
+ghost use Rattle.charref.specs.Reference.{Entities, IsTable, ends_in_semicolon};
 ghost use Rattle.charref.specs.Table.{entry};
 ghost use Rattle.charref.specs.Pieces.{IsRead};
 ghost use Rattle.charref.specs.AtOnce.{HasTakenBytes, HasSign, HasWhole, Settles};
@@ -49,17 +49,10 @@ impl<'t> Walk<'t> {
         if let ReferenceState::NumberSign = self.state {
             return settled_number(bytes);
         }
-        let Some(entity) = self.only_key(bytes) else {
-            return self.settled_by_steps(bytes);
-        };
-        let found = Reference {
-            characters: Characters::Named(&entity.characters),
-            left: 0,
-            missing_semicolon: false,
-            fault: None,
-            in_run: false,
-        };
-        Some((found, entity.key.len() - 1))
+        match self.only_key(bytes) {
+            Some(entity) => Some(whole_key(entity)),
+            None => self.settled_by_steps(bytes),
+        }
     }
 
     /// The only key that may still be read, if it ends in a `;` and these bytes have all of it after its `&`. No longer key
@@ -100,6 +93,22 @@ impl<'t> Walk<'t> {
         }
         None
     }
+}
+
+/// The reference that a key with its `;` is, and how many bytes of it come after the `&`.
+#[inline(always)]
+fn whole_key<'t>(entity: &'t Entity) -> (Reference<'t>, usize)
+    requires { ends_in_semicolon (entry entity.now).key ≡ true }
+    ensures { (table : Entities) (bytes : List ℕ) → HasWhole table bytes (entry entity.now) → Settles table bytes result.1 result.0 }
+{
+    let found = Reference {
+        characters: Characters::Named(&entity.characters),
+        left: 0,
+        missing_semicolon: false,
+        fault: None,
+        in_run: false,
+    };
+    (found, entity.key.len() - 1)
 }
 
 /// Whether these bytes begin with a name; by hand, since a name is too short for the groups that `starts_with` compares.
