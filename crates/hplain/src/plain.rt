@@ -1,6 +1,6 @@
 //! Whether a list of trees is plain.
 
-ghost use Rattle.std.specs.Prelude.{◌≡◌, ◌<◌, IfSome, Some, false, map};
+ghost use Rattle.std.specs.Prelude.{◌≡◌, ◌<◌, ◌&&◌, ◌||◌, IfSome, Some, false, map};
 ghost use Rattle.names.specs.Names.{AreNames, text_of};
 ghost use Rattle.names.specs.Tags.{tag_of};
 ghost use Rattle.hnodes.specs.Forest.{children_of, element};
@@ -52,6 +52,14 @@ fn is_text(tree: &Tree, node: Option<NodeId>) -> bool
         Some(node) => matches!(tree.kind(node), NodeKind::Text),
         None => false,
     }
+}
+
+/// Whether a text comes right after a node.
+fn is_before_text(tree: &Tree, node: NodeId) -> bool
+    requires { node < tree.now.made }
+    ensures { result ≡ is_text_at (next_of node tree.now.trees) tree.now.trees }
+{
+    is_text(tree, tree.next(node))
 }
 
 /// Whether there is a node, and it is a text that begins with LF.
@@ -120,7 +128,7 @@ fn is_plain_node(tree: &Tree, names: &Names, standing: Standing, node: NodeId) -
             tree, names, standing, node, name, attrs,
         ),
         NodeView::Text(text) => {
-            is_plain_text(standing.texts, text) && !is_text(tree, tree.next(node))
+            is_plain_text(standing.texts, text) && !is_before_text(tree, node)
         }
         NodeView::Comment(data) => standing.content.takes_comments() && is_plain_comment(data),
         NodeView::Document | NodeView::Doctype(_) => false,
@@ -178,8 +186,22 @@ fn is_form(tag: Tag) -> bool
     matches!(tag, Tag::Form)
 }
 
+/// Whether an element of this name is a form in a form, where a form is around it or not.
+fn is_form_in_form(in_form: bool, tag: Tag) -> bool
+    ensures { result ≡ (in_form && is_form tag) }
+{
+    in_form && is_form(tag)
+}
+
+/// Whether a form is around what is in an element of this name. No marker hides a form.
+fn has_form_around(in_form: bool, tag: Tag) -> bool
+    ensures { result ≡ (in_form || is_form tag) }
+{
+    in_form || is_form(tag)
+}
+
 /// Whether a form is around the nodes that come after a visit. None if a form is in a form, or if what is in an element
-/// that inserts a marker is not its content. No marker hides a form.
+/// that inserts a marker is not its content.
 fn form_after(tree: &Tree, names: &Names, in_form: bool, visit: Visit) -> Option<bool>
     requires made { node_of visit < tree.now.made }
     requires table { AreNames names.now }
@@ -189,13 +211,13 @@ fn form_after(tree: &Tree, names: &Names, in_form: bool, visit: Visit) -> Option
     match visit {
         Visit::Enter(node) => {
             let tag = tag_at(tree, node);
-            if in_form && is_form(tag) {
+            if is_form_in_form(in_form, tag) {
                 return None;
             }
             if inserts_marker(tag) && !is_plain_region(tree, names, node, Content::Flow) {
                 return None;
             }
-            Some(in_form || is_form(tag))
+            Some(has_form_around(in_form, tag))
         }
         Visit::Leave(node) => Some(in_form && !is_form(tag_at(tree, node))),
     }
