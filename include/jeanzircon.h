@@ -1,4 +1,5 @@
-/* Jeanzircon: HTML as a browser reads it. The header of the library for C.
+/* Jeanzircon: HTML as the WHATWG HTML Standard reads it, and so do browsers (known differences: docs/PROFILE.md). The header of the
+ * library for C.
  *
  * Two functions of the library, jz_text and jz_tree, are proved: what they promise is said at each. What else is here is plain C that
  * prepares their arguments and indexes what they wrote.
