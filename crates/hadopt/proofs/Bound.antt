@@ -9,7 +9,7 @@ use Rattle.hopen.specs.Stack.{OpenNode, is_node, is_open, above, current, in_sco
 use Rattle.hopen.specs.Scopes.{stops, is_named}
 use Rattle.hopen.specs.declared.scope.Scope.TheVariants.{Default}
 use Rattle.hformat.specs.declared.bookmark.Bookmark.TheVariants.{InPlace}
-use Rattle.hopen.specs.Nearest.{before}
+use Rattle.hchain.specs.Nearest.{before}
 use Rattle.hformat.specs.Formatting.{EntryOf, Listed, marker, entry, entries, is_of_node, entry_of, find_entry, without_entry}
 use Rattle.names.specs.declared.error.ErrorCode.TheVariants.{TreeInBody}
 use Rattle.names.specs.declared.refusal.Refusal.TheVariants.{TooManyNodes}

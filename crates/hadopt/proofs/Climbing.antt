@@ -6,7 +6,7 @@ use Rattle.std.specs.Option.{option_map_or}
 use Rattle.hnodes.specs.Forest.{What, element, Forest, none, tree, times, join, tree_at}
 use Rattle.hnodes.specs.Edits.{AreCounted, graft_last, make}
 use Rattle.hnodes.specs.declared.node.Place.TheVariants.{LastIn}
-use Rattle.hopen.specs.Nearest.{without}
+use Rattle.hchain.specs.Nearest.{without}
 use Rattle.hopen.specs.Stack.{OpenNode, is_node}
 use Rattle.hformat.specs.Formatting.{EntryOf, Listed, marker, entry, entries, is_of_node, entry_of, without_entry, for_node, with_node}
 use Rattle.names.specs.declared.tag.Tag.TheVariants.{Table}

@@ -6,7 +6,7 @@ use Rattle.std.proofs.lemmas.Bool.{eq-eqb, ne_eqb, le-leb, lt-leb}
 use Rattle.std.proofs.lemmas.List.{take_at, drop_at, drop-drop, append-nil, length-append, length-drop}
 use Rattle.hnodes.specs.Forest.{element}
 use Rattle.hnodes.specs.Edits.{make}
-use Rattle.hopen.specs.Nearest.{before, without}
+use Rattle.hchain.specs.Nearest.{before, without}
 use Rattle.hopen.specs.Stack.{OpenNode, is_node}
 use Rattle.hformat.specs.Formatting.{EntryOf, entry_of, without_entry}
 use Rattle.names.specs.declared.refusal.Refusal.TheVariants.{TooManyNodes}

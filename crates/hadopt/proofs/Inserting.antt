@@ -10,7 +10,7 @@ use Rattle.hnodes.specs.Edits.{AreCounted, place_node, graft, make, char_into, w
 use Rattle.hnodes.proofs.Inside.{tree_at-among}
 use Rattle.hnodes.specs.declared.node.Place.{Place}
 use Rattle.hnodes.specs.declared.node.Place.TheVariants.{LastIn, Before}
-use Rattle.hopen.specs.Nearest.{before, changed_at}
+use Rattle.hchain.specs.Nearest.{before, changed_at}
 use Rattle.hopen.specs.Stack.{OpenNode, current, above}
 use Rattle.hopen.specs.Scopes.{is_named}
 use Rattle.hformat.specs.declared.bookmark.Bookmark.TheVariants.{InPlace}

@@ -5,7 +5,7 @@ use Rattle.std.specs.Option.{option_map}
 use Rattle.std.specs.Prelude.{IfSome, OnOk, OnErr, Result, Ok, Err}
 use Rattle.hnodes.specs.Edits.{Nodes, AreNodes, make}
 use Rattle.hnodes.specs.Forest.{What}
-use Rattle.hopen.specs.Nearest.{changed, put_before}
+use Rattle.hchain.specs.Nearest.{changed, put_before}
 use Rattle.hopen.specs.Opens.{open_of}
 use Rattle.hopen.specs.Stack.{OpenNode, OpenNodes, current}
 use Rattle.hopen.specs.declared.stack.Open.{Open}

@@ -9,7 +9,7 @@ use Rattle.hnodes.specs.Spots.{parent_of}
 use Rattle.hnodes.proofs.Forests.{children-apart}
 use Rattle.hnodes.specs.declared.node.Place.{Place}
 use Rattle.hnodes.specs.declared.node.Place.TheVariants.{LastIn, Before}
-use Rattle.hopen.specs.Nearest.{after}
+use Rattle.hchain.specs.Nearest.{after}
 use Rattle.hopen.specs.Stack.{OpenNode, is_node, current, above}
 use Rattle.hopen.specs.Scopes.{is_named}
 use Rattle.names.specs.declared.tag.Tag.TheVariants.{Table}

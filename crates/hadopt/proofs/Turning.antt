@@ -6,7 +6,7 @@ use Rattle.std.specs.List.{list_any}
 use Rattle.std.specs.Option.{option_map_or}
 use Rattle.hnodes.specs.Forest.{What, element, Forest}
 use Rattle.hnodes.specs.Edits.{graft, make}
-use Rattle.hopen.specs.Nearest.{before, without, put_before}
+use Rattle.hchain.specs.Nearest.{before, without, put_before}
 use Rattle.hopen.specs.Stack.{OpenNode, is_node, is_open, current, above, below, in_scope, furthest_block}
 use Rattle.hopen.specs.Scopes.{is_named, stops}
 use Rattle.hopen.specs.declared.scope.Scope.TheVariants.{Default}

@@ -2,7 +2,7 @@
 use Rattle.std.specs.Prelude.{◌≡◌, ◌⊎◌, ℕ, ◌<◌, ◌≤◌, ◌+◌, ◌==◌, false, List, [], ◌∷◌, ◌++◌, Result, Ok, Err, length, drop}
 use Rattle.std.specs.List.{remove_range}
 use Rattle.hformat.specs.Formatting.{Listed, without_entry}
-use Rattle.hopen.specs.Nearest.{before}
+use Rattle.hchain.specs.Nearest.{before}
 use Rattle.hopen.specs.Stack.{OpenNode, is_node}
 use Rattle.names.specs.declared.refusal.Refusal.{Refusal}
 use Rattle.names.specs.declared.refusal.Refusal.TheVariants.{Memory}

@@ -1,6 +1,6 @@
 -- What is closed (13.2.6.3, 13.2.6.4.7).
 use Rattle.std.specs.Prelude.{ℕ, Bool, true, false, not, ◌&&◌, List, [], ◌∷◌, if◌then◌else◌}
-use Rattle.hopen.specs.Nearest.{after}
+use Rattle.hchain.specs.Nearest.{after}
 use Rattle.hopen.specs.Stack.{OpenNode, in_scope}
 use Rattle.hopen.specs.Scopes.{is_named}
 use Rattle.names.specs.Sets.{has_implied_end, is_special}

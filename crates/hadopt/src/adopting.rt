@@ -4,7 +4,7 @@ ghost use Rattle.std.specs.Prelude.{◌≡◌, ℕ, ◌<◌, ◌≤◌, ◌+◌,
 ghost use Rattle.std.specs.List.{slice_get};
 ghost use Rattle.std.specs.Option.{option_map};
 ghost use Rattle.hnodes.specs.Forest.{element};
-ghost use Rattle.hopen.specs.Nearest.{before};
+ghost use Rattle.hchain.specs.Nearest.{before};
 ghost use Rattle.hopen.specs.Stack.{is_node, is_open, above, in_scope, furthest_block};
 ghost use Rattle.hopen.specs.Scopes.{stops};
 ghost use Rattle.hopen.specs.declared.scope.Scope.TheVariants.{Default};

@@ -7,7 +7,7 @@ ghost use Rattle.hnodes.specs.Forest.{element, IsOutside};
 ghost use Rattle.hnodes.specs.Rows.{attribute_of};
 ghost use Rattle.hnodes.specs.Spots.{attributes_of};
 ghost use Rattle.hnodes.specs.declared.node.Place.{Place};
-ghost use Rattle.hopen.specs.Nearest.{without, changed, put_before};
+ghost use Rattle.hchain.specs.Nearest.{without, changed, put_before};
 ghost use Rattle.hopen.specs.Opens.{open_of};
 ghost use Rattle.hopen.specs.Stack.{is_node, is_open};
 ghost use Rattle.hadopt.specs.Gives.{Gives};

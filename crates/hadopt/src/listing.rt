@@ -5,7 +5,7 @@ ghost use Rattle.std.specs.List.{list_any};
 ghost use Rattle.std.specs.Option.{option_map};
 ghost use Rattle.hformat.specs.Formatting.{marker, cleared, entry_of, entry_at, find_entry, is_entry, without_entry, with_node, for_node, booked, has_bookmark};
 ghost use Rattle.hformat.specs.Items.{entry_is};
-ghost use Rattle.hopen.specs.Nearest.{changed_at};
+ghost use Rattle.hchain.specs.Nearest.{changed_at};
 ghost use Rattle.hadopt.specs.Gives.{Gives};
 ghost use Rattle.hadopt.specs.Kept.{Kept};
 ghost use Rattle.hadopt.specs.Naming.{numbers};

@@ -1,7 +1,7 @@
 //! What is popped (HTML Standard, 13.2.6.3, and the contexts of 13.2.6.4.9, 13.2.6.4.13 and 13.2.6.4.14).
 
 ghost use Rattle.std.specs.Prelude.{◌≡◌, drop, nat_eq};
-ghost use Rattle.hopen.specs.Nearest.{without};
+ghost use Rattle.hchain.specs.Nearest.{without};
 ghost use Rattle.hopen.specs.Opens.{open_of};
 ghost use Rattle.hopen.specs.Scopes.{is_named, is_of};
 ghost use Rattle.hopen.specs.Stack.{is_node};

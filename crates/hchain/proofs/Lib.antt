@@ -7,3 +7,7 @@ pub mod Relinked
 pub mod Edited
 pub mod Swapped
 pub mod Lent
+pub mod Images
+pub mod Nearest
+pub mod Places
+pub mod Tables

@@ -1,2 +1,4 @@
 pub mod Chains
 pub mod Linked
+pub mod Nearest
+pub mod Places

@@ -5,7 +5,7 @@ use Rattle.std.specs.Option.{option_map}
 use Rattle.std.proofs.lemmas.Bool.{eqb-true}
 use Rattle.hformat.specs.Formatting.{Listed, marker, entry, entry_of, is_entry, is_of_node, has_bookmark}
 use Rattle.hformat.specs.declared.bookmark.Bookmark.TheVariants.{After}
-use Rattle.hopen.specs.Nearest.{without}
+use Rattle.hchain.specs.Nearest.{without}
 
 module _ {N : Type 0} where
   pub any-is_entry : (n : ℕ) (items : List (Listed N)) → list_any (is_entry n) items ≡ is_some (entry_of n items)

@@ -13,9 +13,9 @@ use Rattle.hformat.proofs.Earliest.{farthest}
 use Rattle.hformat.specs.Items.{item_of, items_of}
 use Rattle.hformat.specs.declared.entry.Slot.{Slot as Stored}
 use Rattle.hformat.proofs.ItemLists.{length-items_of}
-use Rattle.hopen.proofs.Nearest.{drop_nearest}
+use Rattle.hchain.proofs.Nearest.{drop_nearest}
 use Rattle.hformat.proofs.Listed.{number as numbered, numbers-back, numbers-seen, place, place-le}
-use Rattle.hopen.proofs.Places.{last_place-le}
+use Rattle.hchain.proofs.Places.{last_place-le}
 
 -- what is at the last place of a number
 pub last-at : (n p : ℕ) (ns : List ℕ) → last_of n ns ≡ p → 0 < p → get_or ns (length ns - p) 0 ≡ n

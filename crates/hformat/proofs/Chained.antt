@@ -3,7 +3,7 @@ use Rattle.std.proofs.Common.{◌≡◌, ℕ, zero, suc, ◌≤◌, ◌==◌, Bo
 use Rattle.std.proofs.lemmas.List.{map-append, take-map, drop-map, reverse-append, length-reverse, length-take-le, take_all}
 use Rattle.std.specs.List.{insert, remove}
 use Rattle.hchain.specs.Chains.{last_up}
-use Rattle.hopen.specs.Places.{last_place}
+use Rattle.hchain.specs.Places.{last_place}
 
 -- where a number is last, in a list whose last member comes first
 abbrev pub last_of : ℕ → List ℕ → ℕ

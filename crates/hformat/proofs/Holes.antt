@@ -10,14 +10,14 @@ use Rattle.hformat.specs.Formatting.{EntryOf, Listed, marker, entry, as_entry, e
 use Rattle.hformat.specs.Holes.{nth_live}
 use Rattle.hformat.specs.Items.{AreSlots, IsSlot, IsStored, hole, is_gone, is_hole, item_of, items_of, live, nowhere, told}
 use Rattle.hformat.specs.Listed.{by_node, number_by, unless_hole}
-use Rattle.hopen.specs.Nearest.{changed_at}
+use Rattle.hchain.specs.Nearest.{changed_at}
 use Rattle.hformat.specs.declared.entry.Slot.{Slot as Stored}
 use Rattle.hformat.specs.declared.entry.Slot.TheVariants as stored
 use Rattle.hformat.proofs.ByHash.{last-at, number-at}
 use Rattle.hformat.proofs.ItemLists.{along_last, items_of_more, length-items_of}
 use Rattle.hformat.proofs.Live.{AllSolid, nth-none, nth-real, nth-within}
 use Rattle.hformat.proofs.Listed.{number-same, place, place-le}
-use Rattle.hopen.proofs.Nearest.{get_nearest, is_some-position, reverse_split, slice_get_nearest}
+use Rattle.hchain.proofs.Nearest.{get_nearest, is_some-position, reverse_split, slice_get_nearest}
 
 -- a smaller number is another
 pub apart : (a b : ℕ) → a < b → eqb a b ≡ false

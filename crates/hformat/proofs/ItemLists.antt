@@ -7,7 +7,7 @@ use Rattle.std.proofs.lemmas.List.Folds.{find_at}
 use Rattle.std.proofs.lemmas.Option.{cond_some}
 use Rattle.hformat.specs.Formatting.{Listed, is_entry}
 use Rattle.hformat.specs.Items.{items_of, item_of}
-use Rattle.hopen.proofs.Nearest.{reverse_push, is_some-position, slice_get_nearest}
+use Rattle.hchain.proofs.Nearest.{reverse_push, is_some-position, slice_get_nearest}
 
 module _ {X : Type 0} (P : List X → Type 0) (none : P []) (more : (front : List X) (x : X) → P front → P (front ++ x ∷ [])) where
   along_turned : (ys : List X) → P (reverse ys)

@@ -6,15 +6,15 @@ use Rattle.std.proofs.lemmas.List.{reverse-reverse, length-map}
 use Rattle.std.proofs.lemmas.Simd.{map-map}
 use Rattle.std.proofs.Math.Dec.{eqb-suc-zero, eqb-zero-suc}
 use Rattle.std.proofs.lemmas.Bool.{eqb-true, eqb-false, eq-eqb}
-use Rattle.hopen.specs.Nearest.{without}
+use Rattle.hchain.specs.Nearest.{without}
 use Rattle.hformat.specs.Formatting.{EntryOf, Listed, marker, entry, as_entry, cleared, find_entry}
 use Rattle.hformat.specs.Items.{item_of, items_of, nowhere}
 use Rattle.hformat.specs.Listed.{by_name, number_by, unless_hole}
 use Rattle.hformat.specs.declared.entry.Slot.{Slot as Stored}
-use Rattle.hopen.proofs.Nearest.{reverse-map, drop_nearest}
+use Rattle.hchain.proofs.Nearest.{reverse-map, drop_nearest}
 use Rattle.hformat.proofs.Chained.{last_of}
 use Rattle.hformat.proofs.ItemLists.{length-items_of}
-use Rattle.hopen.proofs.Places.{last_place-le}
+use Rattle.hchain.proofs.Places.{last_place-le}
 
 module _ (of : EntryOf ℕ → ℕ) where
   abbrev pub number : Stored → ℕ

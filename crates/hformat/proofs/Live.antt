@@ -3,7 +3,7 @@ use Rattle.std.proofs.Common.{◌≡◌, ℕ, zero, suc, ◌+◌, ◌<◌, ◌�
 use Rattle.std.specs.List.{find, list_any, slice_get}
 use Rattle.std.specs.Option.{option_map}
 use Rattle.std.proofs.lemmas.Bool.{eqb-true, ne_eqb, cases_Bool}
-use Rattle.hopen.specs.Nearest.{changed_at}
+use Rattle.hchain.specs.Nearest.{changed_at}
 use Rattle.hformat.specs.Formatting.{EntryOf, Listed, marker, entry, after_marker, is_of_node, is_entry, entry_of, for_node, find_entry}
 use Rattle.hformat.specs.Holes.{nth_live}
 use Rattle.hformat.specs.Items.{nowhere, is_hole, live, IsSlot, AreSlots}

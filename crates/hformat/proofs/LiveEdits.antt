@@ -3,7 +3,7 @@ use Rattle.std.proofs.Common.{◌≡◌, ℕ, zero, suc, ◌<◌, nat_eq, nat_le
 use Rattle.std.specs.List.{find, list_any, remove}
 use Rattle.std.specs.Option.{option_map_or}
 use Rattle.std.proofs.lemmas.Bool.{cases_Bool}
-use Rattle.hopen.specs.Nearest.{without, changed, put_before, changed_at}
+use Rattle.hchain.specs.Nearest.{without, changed, put_before, changed_at}
 use Rattle.hformat.specs.Formatting.{EntryOf, Listed, marker, entry, after_marker, cleared, is_entry, for_node, with_node, booked, has_bookmark, without_earliest, most_equal, is_equal, with_room}
 use Rattle.hformat.specs.Items.{nowhere, hole, is_hole, live, AreSlots}
 use Rattle.hformat.specs.declared.bookmark.Bookmark.{Bookmark}

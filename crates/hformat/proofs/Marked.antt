@@ -6,7 +6,7 @@ use Rattle.std.proofs.lemmas.List.{get_or_default}
 use Rattle.hformat.specs.Formatting.{booked, for_node, has_bookmark, is_entry}
 use Rattle.hformat.specs.Items.{AreSlots, IsStored, item_of, items_of, live, nowhere, told}
 use Rattle.hformat.specs.Listed.{by_node}
-use Rattle.hopen.specs.Nearest.{put_before, without}
+use Rattle.hchain.specs.Nearest.{put_before, without}
 use Rattle.hformat.specs.declared.bookmark.Bookmark.TheVariants.{After}
 use Rattle.hformat.specs.declared.entry.Slot.{Slot as Stored}
 use Rattle.hformat.specs.declared.entry.Slot.TheVariants as stored
@@ -15,7 +15,7 @@ use Rattle.hformat.proofs.ItemLists.{found_at, length-items_of}
 use Rattle.hformat.proofs.Listed.{place-le}
 use Rattle.hformat.proofs.Live.{any-live}
 use Rattle.hformat.proofs.LiveEdits.{booked-live, has_bookmark-live}
-use Rattle.hopen.proofs.Nearest.{remove_nearest}
+use Rattle.hchain.proofs.Nearest.{remove_nearest}
 
 module _ (items : List Stored) (all : All IsStored items) (node p : ℕ) (low : node < nowhere) (place : p ≡ node_place node (items_of items)) (there : list_any (is_entry node) (live (items_of items)) ≡ true) where
   slots : AreSlots (items_of items)

@@ -12,16 +12,16 @@ use Rattle.hformat.specs.Formatting.{EntryOf, for_node, is_entry}
 use Rattle.hformat.specs.Items.{IsStored, entry_is, is_gone, item_of, items_of, nowhere, renamed, told}
 use Rattle.std.specs.declared.hash.DefaultHasher.{DefaultHasher}
 use Rattle.hformat.specs.Listed.{IsListed, by_hash, by_name, by_node, number_by, numbers_by}
-use Rattle.hopen.specs.Nearest.{changed_at, put_before}
-use Rattle.hopen.specs.Places.{last_place}
+use Rattle.hchain.specs.Nearest.{changed_at, put_before}
+use Rattle.hchain.specs.Places.{last_place}
 use Rattle.hformat.specs.declared.entry.Slot.{Slot as Stored}
 use Rattle.hformat.specs.declared.entry.Slot.TheVariants as stored
 use Rattle.hformat.specs.declared.slots.Slots.{Slots}
 use Rattle.hformat.proofs.Chained.{last-is}
 use Rattle.hformat.proofs.ItemLists.{not_missing}
 use Rattle.hformat.proofs.Listed.{number-same}
-use Rattle.hopen.proofs.Nearest.{insert_nearest, position_nearest, reverse-map, set_nearest}
-use Rattle.hopen.proofs.Places.{last_place-le, position-none, position-some}
+use Rattle.hchain.proofs.Nearest.{insert_nearest, position_nearest, reverse-map, set_nearest}
+use Rattle.hchain.proofs.Places.{last_place-le, position-none, position-some}
 
 -- the members at an index and at the next one in each other's place
 abbrev pub exchanged : {X : Type 0} → List X → ℕ → X → List X

@@ -4,7 +4,7 @@ use Rattle.std.specs.List.{remove}
 use Rattle.std.specs.Option.{option_map_or}
 use Rattle.hformat.specs.Formatting.{EntryOf, Listed, entry, pushed, with_room}
 use Rattle.hformat.specs.Items.{hole, live, nowhere}
-use Rattle.hopen.specs.Nearest.{changed_at}
+use Rattle.hchain.specs.Nearest.{changed_at}
 use Rattle.hformat.proofs.Holes.{apart}
 use Rattle.hformat.proofs.LiveEdits.{hide-live, room-live}
 

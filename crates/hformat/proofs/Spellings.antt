@@ -5,8 +5,8 @@ use Rattle.std.specs.List.{list_any}
 use Rattle.std.specs.Option.{option_map, option_map_or}
 use Rattle.std.proofs.lemmas.List.{length-map}
 use Rattle.std.proofs.lemmas.Option.{slice_get-map}
-use Rattle.hopen.proofs.Images.{without-map, changed-map, put_before-map, filter-map, find-map, any-map, all-map, changed_at-map}
-use Rattle.hopen.specs.Nearest.{without, put_before}
+use Rattle.hchain.proofs.Images.{without-map, changed-map, put_before-map, filter-map, find-map, any-map, all-map, changed_at-map}
+use Rattle.hchain.specs.Nearest.{without, put_before}
 use Rattle.hformat.specs.Formatting.{EntryOf, Listed, marker, entry, entries, is_of_node, is_entry, as_entry, entry_at, entry_of, after_marker, cleared, for_node, with_node, booked, without_earliest, most_equal, same_attribute, are_among, is_equal, pushed, find_entry}
 use Rattle.hformat.specs.Spelled.{spelled_entry, spelled_item, spelled_items, FormattingKnowsNoNames}
 use Rattle.hformat.specs.declared.bookmark.Bookmark.{Bookmark}

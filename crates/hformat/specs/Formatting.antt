@@ -4,7 +4,7 @@ use Rattle.std.specs.Prelude.{ℕ, Bool, true, false, not, ◌&&◌, ◌==◌, n
 use Rattle.std.specs.Prelude.{find, if◌then◌else◌, bytes_eq}
 use Rattle.std.specs.List.{list_any, list_all}
 use Rattle.std.specs.Option.{option_map_or}
-use Rattle.hopen.specs.Nearest.{without, changed, put_before}
+use Rattle.hchain.specs.Nearest.{without, changed, put_before}
 use Rattle.hformat.specs.declared.bookmark.Bookmark.{Bookmark}
 use Rattle.hformat.specs.declared.bookmark.Bookmark.TheVariants.{InPlace, After}
 use Rattle.hnodes.specs.Forest.{Attribute}

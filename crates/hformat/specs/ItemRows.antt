@@ -1,6 +1,6 @@
 -- Worked rows of bookmarks, and of the entries after the last marker, which the prover computes.
 use Rattle.std.specs.Prelude.{◌≡◌, refl, ℕ, true, false, [], ◌∷◌}
-use Rattle.hopen.specs.Nearest.{changed_at}
+use Rattle.hchain.specs.Nearest.{changed_at}
 use Rattle.hformat.specs.Formatting.{EntryOf, Listed, marker, entry, after_marker, for_node, has_bookmark}
 use Rattle.hformat.specs.declared.bookmark.Bookmark.TheVariants.{InPlace, After}
 

@@ -2,7 +2,7 @@
 use Rattle.std.specs.Prelude.{◌≡◌, ℕ, Bool, List, map}
 use Rattle.std.specs.Option.{option_map}
 use Rattle.hnodes.specs.Spelled.{spelled_attribute}
-use Rattle.hopen.specs.Nearest.{changed_at}
+use Rattle.hchain.specs.Nearest.{changed_at}
 use Rattle.hformat.specs.Formatting.{EntryOf, Listed, marker, entry, entry_at, entry_of, cleared, without_entry, for_node, with_node, booked, pushed}
 use Rattle.hformat.specs.Formatting.{find_entry}
 use Rattle.hformat.specs.declared.bookmark.Bookmark.{Bookmark}

@@ -8,7 +8,7 @@ ghost use Rattle.hformat.specs.Formatting.{cleared, entry_at, entry_of, find_ent
 ghost use Rattle.hformat.specs.Formatting.{has_bookmark};
 ghost use Rattle.hformat.specs.Items.{IsStored, entry_is, items_of, live};
 ghost use Rattle.hformat.specs.Listed.{IsListed};
-ghost use Rattle.hopen.specs.Nearest.{changed_at, without};
+ghost use Rattle.hchain.specs.Nearest.{changed_at, without};
 ghost use Rattle.hformat.specs.Holes.{nth_live};
 
 use crate::attributes::copy_attrs;

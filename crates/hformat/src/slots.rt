@@ -10,7 +10,7 @@ ghost use Rattle.hchain.specs.Chains.{none};
 ghost use Rattle.hformat.specs.Formatting.{for_node, is_entry, with_room};
 ghost use Rattle.hformat.specs.Items.{IsStored, is_gone, item_of, items_of, live, told, renamed};
 ghost use Rattle.hformat.specs.Listed.{IsListed, by_hash, by_name, by_node, number_by, numbers_by};
-ghost use Rattle.hopen.specs.Nearest.{changed_at, put_before};
+ghost use Rattle.hchain.specs.Nearest.{changed_at, put_before};
 ghost use Rattle.hformat.specs.declared.entry.Slot.TheVariants as stored;
 
 use crate::entry::Slot;

@@ -2,7 +2,7 @@
 use Rattle.std.proofs.Common.{◌≡◌, ℕ, zero, suc, ◌+◌, ◌<◌, ◌≤◌, Bool, true, false, cond, if◌then◌else◌, List, [], ◌∷◌, Option, Some, leb, length, drop, refl, sym, ◌∙◌, ap, subst, arith}
 use Rattle.std.proofs.lemmas.Bool.{eqb-true, leb-true}
 use Rattle.std.specs.Prelude.{not, ◌&&◌, ◌||◌, ◌==◌}
-use Rattle.hopen.specs.Nearest.{after}
+use Rattle.hchain.specs.Nearest.{after}
 use Rattle.hopen.specs.Scopes.{stops}
 use Rattle.hopen.specs.Stack.{OpenNode, in_scope}
 use Rattle.hopen.specs.declared.scope.Scope.TheVariants as scope

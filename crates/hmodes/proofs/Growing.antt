@@ -13,7 +13,7 @@ use Rattle.hnodes.specs.Forest.{What, Attribute, element}
 use Rattle.hnodes.specs.Forest as forest
 use Rattle.hnodes.specs.declared.node.Place.{Place}
 use Rattle.hnodes.specs.declared.node.Place.TheVariants.{LastIn}
-use Rattle.hopen.specs.Nearest.{before}
+use Rattle.hchain.specs.Nearest.{before}
 use Rattle.hopen.specs.Scopes.{stops, is_named}
 use Rattle.hopen.specs.Stack.{OpenNode, is_node, is_open, current, above, in_scope, furthest_block}
 use Rattle.hopen.specs.declared.scope.Scope.TheVariants.{Default}

@@ -7,7 +7,7 @@ use Rattle.hnodes.specs.Forest as forest
 use Rattle.hnodes.specs.Edits.{graft, make, add_char, text_before}
 use Rattle.hnodes.specs.declared.node.Place.{Place}
 use Rattle.hnodes.specs.declared.node.Place.TheVariants.{LastIn}
-use Rattle.hopen.specs.Nearest.{before, changed_at}
+use Rattle.hchain.specs.Nearest.{before, changed_at}
 use Rattle.hopen.specs.Stack.{OpenNode}
 use Rattle.hformat.specs.Formatting.{EntryOf, entry_at, for_node}
 use Rattle.names.specs.declared.placed.Placed.{Placed}

@@ -6,7 +6,7 @@ use Rattle.names.specs.Placed.{is_space}
 use Rattle.hnodes.specs.Edits.{Nodes}
 use Rattle.hnodes.specs.declared.node.Place.{Place}
 use Rattle.hnodes.specs.declared.node.Place.TheVariants.{LastIn}
-use Rattle.hopen.specs.Nearest.{before}
+use Rattle.hchain.specs.Nearest.{before}
 use Rattle.hopen.specs.Stack.{is_open, current}
 use Rattle.hformat.specs.Formatting.{Listed, marker, entry}
 use Rattle.hadopt.specs.Naming.{numbers}

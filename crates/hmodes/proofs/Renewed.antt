@@ -6,7 +6,7 @@ use Rattle.std.proofs.lemmas.Bool.{eq-eqb}
 use Rattle.hnodes.specs.Edits.{make}
 use Rattle.hnodes.specs.Forest.{Attribute, element}
 use Rattle.hnodes.specs.declared.node.Place.{Place}
-use Rattle.hopen.specs.Nearest.{before, changed_at}
+use Rattle.hchain.specs.Nearest.{before, changed_at}
 use Rattle.hopen.specs.Stack.{is_open}
 use Rattle.hformat.specs.Formatting.{EntryOf, Listed, marker, entry, entry_at, for_node}
 use Rattle.names.specs.declared.refusal.Refusal.TheVariants.{TooManyNodes, TooDeep}

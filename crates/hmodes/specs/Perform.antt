@@ -4,7 +4,7 @@ use Rattle.std.specs.Option.{option_map_or}
 use Rattle.hnodes.specs.Forest.{Attribute}
 use Rattle.hnodes.specs.Forest as forest
 use Rattle.hnodes.specs.declared.node.Place.TheVariants.{LastIn}
-use Rattle.hopen.specs.Nearest.{without}
+use Rattle.hchain.specs.Nearest.{without}
 use Rattle.hopen.specs.Stack.{OpenNode, is_node, current}
 use Rattle.hopen.specs.Scopes.{is_of}
 use Rattle.hformat.specs.Formatting.{find_entry, without_entry, pushed, cleared}

@@ -4,9 +4,9 @@ use Rattle.std.proofs.lemmas.Bool.{cases_lt}
 use Rattle.std.proofs.lemmas.List.{reverse-append, length-reverse, length-take-le}
 use Rattle.std.proofs.lemmas.List.Edits.{get_or-insert_at, get_or-insert_below, get_or-insert_above, get_or-remove_below, get_or-remove_above, length-insert, length-remove}
 use Rattle.std.proofs.Math.Seq.{take-suc}
-use Rattle.hopen.specs.Places.{last_place}
+use Rattle.hchain.specs.Places.{last_place}
 use Rattle.hopen.specs.Exchanged.{exchanged, place_in, IsDropped, IsMended, IsRenewed}
-use Rattle.hopen.proofs.Places.{last_place-le}
+use Rattle.hchain.proofs.Places.{last_place-le}
 
 -- the places among the first this many members
 module _ {Y : Type 0} (sought : Y → Bool) (ys : List Y) (d : Y) where

@@ -4,7 +4,7 @@ use Rattle.std.proofs.lemmas.Bool.{cases_lt, eqb-true}
 use Rattle.std.proofs.lemmas.List.{reverse-append, take_all, get_or-map, length-map, take-map}
 use Rattle.std.proofs.Math.Seq.{take-suc}
 use Rattle.hopen.specs.Stack.{OpenNode}
-use Rattle.hopen.specs.Places.{last_place}
+use Rattle.hchain.specs.Places.{last_place}
 use Rattle.hopen.specs.NameSets.{is_in, is_in_set, set_place}
 use Rattle.hopen.specs.Kept.{opened_by, stack_of, IsKept, AreKept}
 use Rattle.hopen.specs.Exchanged.{exchanged, place_in, IsWindow, IsOutside, IsDropped, IsMended, IsRenewed, IsDone, AreDone, IsSettled, AreKeptIn}
@@ -12,7 +12,7 @@ use Rattle.hopen.specs.declared.kept.KeptNode.{KeptNode}
 use Rattle.hopen.specs.declared.stack.Open.{Open}
 use Rattle.hopen.specs.declared.name_sets.NameSet.{NameSet}
 use Rattle.names.specs.Tags.{tag_of}
-use Rattle.hopen.proofs.Tables.{same-eqb}
+use Rattle.hchain.proofs.Tables.{same-eqb}
 use Rattle.hopen.proofs.Standing.{kept-last, kept-more}
 use Rattle.hopen.proofs.Exchanged.{place-hit, place-found, place-later, place-mono, place-above, place-inside, place-new, place-below, place-mended, dropped-same, mended-same, renewed-same, exchanged-length, exchanged-above, exchanged-inside, exchanged-new, exchanged-below}
 

@@ -6,11 +6,11 @@ use Rattle.std.specs.Option.{unwrap_or}
 use Rattle.std.proofs.lemmas.Bool.{lt-ltb}
 use Rattle.std.proofs.lemmas.List.{map-append, take-map, drop-map, length-map, length-reverse}
 use Rattle.std.proofs.lemmas.List.Edits.{length-remove}
-use Rattle.hopen.specs.Nearest.{without, put_before}
+use Rattle.hchain.specs.Nearest.{without, put_before}
 use Rattle.hopen.specs.Kept.{opened_by}
 use Rattle.hopen.specs.Exchanged.{exchanged}
 use Rattle.hopen.specs.declared.kept.KeptNode.{KeptNode}
-use Rattle.hopen.proofs.Nearest.{position_is, remove_nearest, insert_nearest}
+use Rattle.hchain.proofs.Nearest.{position_is, remove_nearest, insert_nearest}
 
 module _ {Y : Type 0} (leaves sought : Y → Bool) where
   -- what is nearer than the one that leaves stays where it is

@@ -3,12 +3,12 @@ use Rattle.std.proofs.Common.{◌≡◌, ℕ, suc, ◌-◌, ◌<◌, ◌≤◌, 
 use Rattle.std.proofs.lemmas.Bool.{cases_lt, eqb-true, eqb-false}
 use Rattle.std.proofs.lemmas.List.{get_or-set_same, get_or-set_other, get_or_past, length-set, length-map, get_or-map}
 use Rattle.hopen.specs.Stack.{OpenNode}
-use Rattle.hopen.specs.Places.{last_place, SaysPlaces}
+use Rattle.hchain.specs.Places.{last_place, SaysPlaces}
 use Rattle.hopen.specs.Kept.{opened_by, Stands}
 use Rattle.hopen.specs.Exchanged.{exchanged, place_in, IsWindow, AreAlone, IsMended, IsRenewed, IsLowered, AreLowered}
 use Rattle.hopen.specs.declared.kept.KeptNode.{KeptNode}
 use Rattle.hopen.specs.declared.kept.LastPlaces.{LastPlaces}
-use Rattle.hopen.proofs.Tables.{same-eqb}
+use Rattle.hchain.proofs.Tables.{same-eqb}
 use Rattle.hopen.proofs.Exchanged.{place-hit, place-found, place-mono, place-inside, place-new, place-below, place-mended, exchanged-length}
 use Rattle.hopen.proofs.ExchangedItems.{place-all, alike-names, none-new, opened-at}
 

@@ -1,10 +1,7 @@
-pub mod Images
-pub mod Nearest
 pub mod Opened
 pub mod Searches
 pub mod Spellings
 pub mod Places
-pub mod Tables
 pub mod Standing
 pub mod Exchanged
 pub mod ExchangedItems

@@ -4,8 +4,8 @@ use Rattle.std.specs.List.{position}
 use Rattle.std.proofs.lemmas.List.{length-drop, length-map, length-reverse}
 use Rattle.std.proofs.Math.Seq.{drop-length}
 use Rattle.std.specs.Option.{unwrap_or, IfSome}
-use Rattle.hopen.specs.Nearest.{after}
-use Rattle.hopen.proofs.Nearest.{words, no_words}
+use Rattle.hchain.specs.Nearest.{after}
+use Rattle.hchain.proofs.Nearest.{words, no_words}
 use Rattle.hopen.specs.Stack.{OpenNode, OpenNodes}
 use Rattle.hopen.specs.Kept.{opened_by}
 use Rattle.hopen.specs.StackView.{open_nodes_of}

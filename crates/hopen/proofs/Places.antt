@@ -1,49 +1,9 @@
--- The place of the nearest that is sought, and the words on lists.
-use Rattle.std.proofs.Common.{◌≡◌, ℕ, suc, ◌+◌, ◌-◌, ◌<◌, ◌≤◌, Bool, true, false, cond, not, ltb, leb, ◌&&◌, ◌||◌, List, [], ◌∷◌, Some, None, length, refl, arith}
-use Rattle.std.specs.Prelude.{nat_eq}
-use Rattle.std.specs.List.{list_all, position, position_or_len}
-use Rattle.std.proofs.Math.Dec.{eqb-suc-zero}
-use Rattle.std.proofs.lemmas.Bool.{lt-ltb, le-ltb, le-leb, lt-leb}
-use Rattle.hopen.specs.Places.{last_place}
+-- A question of scope, and the places of the nodes that it is about.
+use Rattle.std.proofs.Common.{◌≡◌, suc, Bool, true, false, cond, not, ltb, leb, ◌&&◌, ◌||◌, List, [], ◌∷◌, length, refl, arith}
+use Rattle.std.proofs.lemmas.Bool.{lt-ltb, le-leb, lt-leb}
+use Rattle.hchain.specs.Places.{last_place}
 use Rattle.hopen.specs.Stack.{OpenNode, in_scope}
-
-module _ {X : Type 0} (sought : X → Bool) where
-  pub last_place-le : (xs : List X) → last_place sought xs ≤ length xs
-  last_place-le [] = omega arith
-  last_place-le (x ∷ xs) = go (sought x) (last_place-le xs)
-    where
-      go : (v : Bool) → last_place sought xs ≤ length xs → cond v (suc (length xs)) (last_place sought xs) ≤ suc (length xs)
-      go true i = omega arith
-      go false i = omega arith
-
-  -- what is nearer, and the place, make up the length
-  place-position : (xs : List X) → last_place sought xs + position_or_len sought xs ≡ length xs
-  place-position [] = omega arith
-  place-position (x ∷ xs) = go (sought x) (place-position xs)
-    where
-      go : (v : Bool) → last_place sought xs + position_or_len sought xs ≡ length xs → cond v (suc (length xs)) (last_place sought xs) + cond (not v) (1 + position_or_len sought xs) 0 ≡ suc (length xs)
-      go true i = omega arith
-      go false i = omega arith
-
-  pub position-none : (xs : List X) → last_place sought xs ≡ 0 → position sought xs ≡ None
-  position-none xs none =
-      let past : length xs ≤ position_or_len sought xs = omega (arith, place-position xs) in
-      rw (le-ltb (position_or_len sought xs) (length xs) past) refl
-
-  pub position-some : (xs : List X) (i : ℕ) → last_place sought xs ≡ suc i → position sought xs ≡ Some (length xs - 1 - i)
-  position-some xs i some =
-      let up : position_or_len sought xs ≡ length xs - 1 - i = omega (arith, place-position xs) in
-      let within : position_or_len sought xs < length xs = omega (arith, place-position xs) in
-      rw (lt-ltb (position_or_len sought xs) (length xs) within, up) refl
-
--- all members pass where there is no place of one that does not
-pub all-places : {X : Type 0} (passes : X → Bool) (xs : List X) → nat_eq (last_place (λ x. not (passes x)) xs) 0 ≡ list_all passes xs
-all-places passes [] = refl
-all-places passes (x ∷ xs) = go (passes x) (all-places passes xs)
-  where
-    go : (v : Bool) → nat_eq (last_place (λ y. not (passes y)) xs) 0 ≡ list_all passes xs → nat_eq (cond (not v) (suc (length xs)) (last_place (λ y. not (passes y)) xs)) 0 ≡ (v && list_all passes xs)
-    go true i = i
-    go false i = eqb-suc-zero (length xs)
+use Rattle.hchain.proofs.Places.{last_place-le}
 
 -- one that is sought is in scope where no stop is nearer
 pub in_scope-places : {N : Type 0} (stops sought : OpenNode N → Bool) (xs : List (OpenNode N)) → in_scope stops sought xs ≡ (ltb 0 (last_place sought xs) && leb (last_place stops xs) (last_place sought xs))

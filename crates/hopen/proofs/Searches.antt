@@ -2,8 +2,8 @@
 use Rattle.std.proofs.Common.{◌≡◌, ℕ, zero, suc, ◌<◌, ◌-◌, Bool, true, false, cond, List, [], ◌∷◌, ◌++◌, Option, Some, None, length, drop, map, reverse, subst, refl, sym, ◌∙◌, ap, arith}
 use Rattle.std.specs.List.{position, find, slice_get}
 use Rattle.std.specs.Option.{option_or, unwrap_or, IfSome}
-use Rattle.hopen.specs.Nearest.{before}
-use Rattle.hopen.proofs.Nearest.{words, no_words, take_nearest, position_within}
+use Rattle.hchain.specs.Nearest.{before}
+use Rattle.hchain.proofs.Nearest.{words, no_words, take_nearest, position_within}
 use Rattle.std.proofs.lemmas.List.{reverse-append, length-reverse, length-map}
 use Rattle.hopen.specs.Stack.{OpenNode, current, topmost_special, furthest_block, is_node}
 use Rattle.names.specs.declared.tag.Tag.{Tag}

@@ -3,8 +3,8 @@ use Rattle.std.proofs.Common.{◌≡◌, ℕ, Bool, true, false, cond, not, ◌&
 use Rattle.std.specs.Prelude.{if◌then◌else◌, slice_get, drop, reverse}
 use Rattle.std.specs.Option.{option_map, option_or}
 use Rattle.std.proofs.lemmas.Option.{slice_get-map}
-use Rattle.hopen.proofs.Images.{before-map, after-map, without-map, changed-map, put_before-map, find-map, any-map, position-map}
-use Rattle.hopen.proofs.Nearest.{reverse-map}
+use Rattle.hchain.proofs.Images.{before-map, after-map, without-map, changed-map, put_before-map, find-map, any-map, position-map}
+use Rattle.hchain.proofs.Nearest.{reverse-map}
 use Rattle.hopen.specs.Stack.{OpenNode, is_node, current, below, in_scope, topmost_special, furthest_block}
 use Rattle.hopen.specs.Scopes.{stops_in, is_named, is_of, is_of_group}
 use Rattle.hopen.specs.Spelled.{spelled_open, spelled_stack, StackKnowsNoNames}

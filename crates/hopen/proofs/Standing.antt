@@ -2,7 +2,7 @@
 use Rattle.std.proofs.Common.{◌≡◌, ℕ, zero, suc, ◌+◌, ◌-◌, add-one, ◌<◌, ◌≤◌, cond, List, [], ◌∷◌, ◌++◌, length, map, reverse, take, drop, get_or, set, refl, sym, ◌∙◌, ap, subst, arith}
 use Rattle.std.proofs.lemmas.List.{get_or_default, drop-set, drop-drop, drop_at, length-take-le, reverse-append, length-reverse, length-map}
 use Rattle.std.specs.List.{remove_range}
-use Rattle.hopen.specs.Places.{last_place}
+use Rattle.hchain.specs.Places.{last_place}
 use Rattle.hopen.specs.NameSets.{is_in, is_in_set, set_place}
 use Rattle.hopen.specs.Kept.{opened_by, stack_of, IsKept, AreKept, Stands, AreIn}
 use Rattle.hopen.specs.Stack.{OpenNodes}
@@ -13,8 +13,8 @@ use Rattle.hopen.specs.declared.kept.LastPlaces.{LastPlaces}
 use Rattle.hopen.specs.declared.name_sets.NameSet.{NameSet}
 use Rattle.hopen.specs.declared.name_sets.SetPlaces.{SetPlaces}
 use Rattle.names.specs.Tags.{tag_of}
-use Rattle.hopen.proofs.Nearest.{reverse_push, reverse-map}
-use Rattle.hopen.proofs.Tables.{says-in, says-more, says-less, take-more, drop-more}
+use Rattle.hchain.proofs.Nearest.{reverse_push, reverse-map}
+use Rattle.hchain.proofs.Tables.{says-in, says-more, says-less, take-more, drop-more}
 
 -- the last item of a vector
 pub stack-more : (items : List KeptNode) (x : KeptNode) → stack_of (items ++ x ∷ []) ≡ opened_by x ∷ stack_of items

@@ -2,7 +2,7 @@
 -- is last. The window is what is from the one that leaves down to that other one.
 use Rattle.std.specs.Prelude.{◌≡◌, ℕ, suc, ◌<◌, ◌≤◌, ◌==◌, Bool, true, false, List, length, get_or, map, take, reverse, insert, remove}
 use Rattle.hopen.specs.Stack.{OpenNode}
-use Rattle.hopen.specs.Places.{last_place}
+use Rattle.hchain.specs.Places.{last_place}
 use Rattle.hopen.specs.NameSets.{set_place}
 use Rattle.hopen.specs.Opens.{open_of}
 use Rattle.hopen.specs.Kept.{IsKept, opened_by}

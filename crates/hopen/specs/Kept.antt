@@ -2,7 +2,7 @@
 use Rattle.std.specs.Prelude.{◌≡◌, ℕ, ◌<◌, ◌==◌, List, [], ◌∷◌, map, reverse}
 use Rattle.hopen.specs.Stack.{OpenNode}
 use Rattle.hopen.specs.Opens.{open_of}
-use Rattle.hopen.specs.Places.{last_place, SaysPlaces}
+use Rattle.hchain.specs.Places.{last_place, SaysPlaces}
 use Rattle.hopen.specs.NameSets.{is_in, set_place}
 use Rattle.hopen.specs.declared.kept.KeptNode.{KeptNode}
 use Rattle.hopen.specs.declared.kept.LastPlaces.{LastPlaces}

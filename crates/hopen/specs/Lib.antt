@@ -1,4 +1,3 @@
-pub mod Nearest
 pub mod Stack
 pub mod Scopes
 pub mod Opens
@@ -6,7 +5,6 @@ pub mod StackView
 pub mod Coding
 pub mod Rows
 pub mod Spelled
-pub mod Places
 pub mod NameSets
 pub mod Kept
 pub mod Exchanged

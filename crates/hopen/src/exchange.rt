@@ -4,10 +4,10 @@
 ghost use Rattle.std.specs.Prelude.{◌≡◌, ℕ, ◌+◌, ◌-◌, ◌<◌, ◌≤◌, ◌^◌, ◌==◌, ◌⊎◌, suc, true, length, map, reverse, slice_index, slice_set, vec_capacity};
 ghost use Rattle.std.specs.Prelude.{vec_len, if◌then◌else◌};
 ghost use Rattle.std.specs.List.{remove_range};
-ghost use Rattle.hopen.specs.Nearest.{put_before};
+ghost use Rattle.hchain.specs.Nearest.{put_before};
 ghost use Rattle.hopen.specs.Opens.{open_of};
 ghost use Rattle.hopen.specs.Stack.{is_node};
-ghost use Rattle.hopen.specs.Places.{SaysPlaces, last_place};
+ghost use Rattle.hchain.specs.Places.{SaysPlaces, last_place};
 ghost use Rattle.hopen.specs.NameSets.{is_in, set_place};
 ghost use Rattle.hopen.specs.Kept.{AreKept, Stands, opened_by, stack_of};
 ghost use Rattle.hopen.specs.Exchanged.{AreAlone, AreDone, AreDropped, AreKeptIn, AreLowered, AreRenewed, AreSettled, IsDone, IsDropped, IsFor, IsMended};

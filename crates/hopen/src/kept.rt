@@ -6,7 +6,7 @@ ghost use Rattle.std.specs.List.{remove_range};
 ghost use Rattle.std.specs.Option.{option_map};
 ghost use Rattle.hopen.specs.Opens.{open_of};
 ghost use Rattle.hopen.specs.Stack.{current};
-ghost use Rattle.hopen.specs.Places.{last_place};
+ghost use Rattle.hchain.specs.Places.{last_place};
 ghost use Rattle.hopen.specs.NameSets.{is_in, is_in_set, set_place};
 ghost use Rattle.hopen.specs.Kept.{AreIn, AreKept, Stands, opened_by, stack_of};
 ghost use Rattle.names.specs.Tags.{tag_of};

@@ -4,11 +4,11 @@ ghost use Rattle.std.specs.Prelude.{◌≡◌, ◌≤◌, ◌↔◌, ◌⊎◌, 
 ghost use Rattle.std.specs.Prelude.{leb, if◌then◌else◌};
 ghost use Rattle.std.specs.List.{find, list_all, position, remove_range, slice_get};
 ghost use Rattle.std.specs.Option.{option_map};
-ghost use Rattle.hopen.specs.Nearest.{after, without, changed, put_before};
+ghost use Rattle.hchain.specs.Nearest.{after, without, changed, put_before};
 ghost use Rattle.hopen.specs.Stack.{is_node, is_open, current as current_of, above as above_of, in_scope as is_in_scope, furthest_block as furthest_block_of};
 ghost use Rattle.hopen.specs.Scopes.{stops as stops_node, stops_item, is_named, is_of};
 ghost use Rattle.hopen.specs.Opens.{open_of, is_sought};
-ghost use Rattle.hopen.specs.Places.{last_place};
+ghost use Rattle.hchain.specs.Places.{last_place};
 ghost use Rattle.hopen.specs.NameSets.{is_in};
 ghost use Rattle.names.specs.Tags.{tag_of};
 ghost use Rattle.names.specs.Sets.{is_special, may_stay_open};

@@ -3,7 +3,7 @@ use Rattle.std.proofs.lemmas.Iterator.{YieldsList-from_slice}
 use Rattle.std.proofs.lemmas.Iterator.Search.{any_from_yields_List}
 use Rattle.hnodes.specs.Rows.{attribute_of}
 use Rattle.hformat.specs.Formatting.{same_attribute}
-use Rattle.hopen.proofs.Images.{any-map}
+use Rattle.hchain.proofs.Images.{any-map}
 use Rattle.hformat.proofs.attributes.contains.Goals as goal
 
 pub returns : goal.returns

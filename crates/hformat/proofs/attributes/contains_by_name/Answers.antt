@@ -8,7 +8,7 @@ use Rattle.hnodes.specs.Rows.{attribute_of}
 use Rattle.names.specs.declared.attr.Attr.{Attr}
 use Rattle.hformat.specs.Formatting.{same_attribute}
 use Rattle.hformat.proofs.ByName.{Last, any-less, last-found}
-use Rattle.hopen.proofs.Images.{any-map}
+use Rattle.hchain.proofs.Images.{any-map}
 use Rattle.hformat.proofs.attributes.contains_by_name.Goals as goal
 
 abbrev sought : Attr → Attr → Bool

@@ -6,7 +6,7 @@ use Rattle.std.proofs.lemmas.List.Elements.{All-get_or}
 use Rattle.hnodes.specs.Rows.{attribute_of}
 use Rattle.hformat.specs.Hashes.{token_hash}
 use Rattle.hchain.specs.Chains.{none}
-use Rattle.hopen.proofs.Tables.{take-more}
+use Rattle.hchain.proofs.Tables.{take-more}
 use Rattle.hformat.specs.Formatting.{EntryOf}
 use Rattle.hformat.specs.Items.{IsStored, item_of, nowhere}
 use Rattle.hformat.specs.Listed.{by_hash, number_by, numbers_by}

@@ -1,7 +1,7 @@
 use Rattle.std.proofs.Common.{sym, refl, ap, ◌∙◌}
 use Rattle.std.specs.List.{list_any}
 use Rattle.hnodes.specs.Rows.{attribute_of}
-use Rattle.hopen.proofs.Images.{any-map}
+use Rattle.hchain.proofs.Images.{any-map}
 use Rattle.names.specs.declared.attr.Attr.{Attr}
 use Rattle.hadopt.specs.Naming.{numbers}
 use Rattle.htoken.specs.declared.token.Token.{Token as Given}

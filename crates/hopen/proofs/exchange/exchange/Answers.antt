@@ -4,7 +4,7 @@ use Rattle.hopen.specs.Exchanged.{AreKeptIn, IsWindow, exchanged, opened_after, 
 use Rattle.hopen.specs.Kept.{opened_by}
 use Rattle.hopen.specs.NameSets.{is_in}
 use Rattle.hopen.specs.Opens.{open_of}
-use Rattle.hopen.specs.Places.{last_place}
+use Rattle.hchain.specs.Places.{last_place}
 use Rattle.hopen.specs.Stack.{OpenNode}
 use Rattle.hopen.proofs.ExchangedItems.{kept-at}
 use Rattle.hopen.proofs.exchange.exchange.Goals as goal

@@ -1,11 +1,11 @@
 use Rattle.std.proofs.Common.{◌≡◌, ◌+◌, ◌-◌, ◌<◌, length, map, reverse, insert, sym, ◌∙◌, ap, subst, arith}
-use Rattle.hopen.specs.Nearest.{put_before}
+use Rattle.hchain.specs.Nearest.{put_before}
 use Rattle.hopen.specs.Opens.{open_of}
 use Rattle.hopen.specs.Stack.{is_node}
 use Rattle.hopen.specs.Kept.{opened_by, stack_of}
 use Rattle.hopen.specs.declared.stack.Open.{Open}
-use Rattle.hopen.proofs.Nearest.{insert_nearest, no_words}
-use Rattle.hopen.proofs.Places.{position-none, position-some, last_place-le}
+use Rattle.hchain.proofs.Nearest.{insert_nearest, no_words}
+use Rattle.hchain.proofs.Places.{position-none, position-some, last_place-le}
 use Rattle.hopen.proofs.Standing.{length-stack_of}
 use Rattle.hopen.proofs.ExchangedStack.{length-left}
 use Rattle.hopen.proofs.exchange.exchange_any.Goals as goal

@@ -1,6 +1,6 @@
 use Rattle.std.proofs.Common.{◌≡◌, ℕ, suc, ◌+◌, List, ◌<◌, length, get_or, set, cond, subst, sym, ap, ◌∙◌, arith, ◌∷◌}
 use Rattle.hopen.specs.Kept.{Stands, stack_of}
-use Rattle.hopen.specs.Places.{last_place}
+use Rattle.hchain.specs.Places.{last_place}
 use Rattle.hopen.specs.NameSets.{is_in, is_in_set, set_place}
 use Rattle.hopen.specs.declared.kept.KeptNode.{KeptNode}
 use Rattle.hopen.specs.declared.name_sets.NameSet.{NameSet}

@@ -5,7 +5,7 @@ use Rattle.hopen.specs.Kept.{Stands, opened_by, stack_of}
 use Rattle.hopen.specs.declared.kept.KeptNode.{KeptNode}
 use Rattle.hopen.specs.declared.stack.Open.{Open}
 use Rattle.hopen.specs.Opens.{open_of}
-use Rattle.hopen.specs.Places.{last_place}
+use Rattle.hchain.specs.Places.{last_place}
 use Rattle.hopen.specs.NameSets.{is_in, is_in_set, set_place}
 use Rattle.names.specs.Tags.{tag_of}
 use Rattle.hopen.proofs.Standing.{numbers-less, stands-more, stack-more, sets-more}

@@ -1,5 +1,5 @@
 use Rattle.std.proofs.Common.{◌≡◌, ◌≤◌, ◌-◌, length, map, take, drop}
-use Rattle.hopen.specs.Places.{last_place}
+use Rattle.hchain.specs.Places.{last_place}
 use Rattle.hopen.specs.NameSets.{is_in, set_place}
 use Rattle.hopen.specs.Kept.{Stands, AreIn, opened_by, stack_of}
 use Rattle.hopen.specs.declared.name_sets.NameSet.{NameSet}

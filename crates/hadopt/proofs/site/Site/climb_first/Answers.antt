@@ -2,7 +2,7 @@ use Rattle.std.proofs.Common.{◌≡◌, ◌-◌, ◌∙◌, sym, ap, arith, sub
 use Rattle.std.specs.Option.{option_map}
 use Rattle.hopen.specs.Opens.{open_of}
 use Rattle.hformat.specs.declared.bookmark.Bookmark.TheVariants.{InPlace}
-use Rattle.hopen.specs.Nearest.{before}
+use Rattle.hchain.specs.Nearest.{before}
 use Rattle.hopen.specs.Stack.{above, is_node}
 use Rattle.hadopt.specs.Adopts.{Climb, climbed}
 use Rattle.hadopt.specs.Climbs.{AreDifferent, IsHalfway, half_of}

@@ -1,5 +1,5 @@
 use Rattle.std.proofs.Common.{◌<◌, ◌≤◌, ◌+◌}
-use Rattle.hopen.specs.Nearest.{before}
+use Rattle.hchain.specs.Nearest.{before}
 use Rattle.hopen.specs.Stack.{is_node, above}
 use Rattle.hformat.specs.declared.bookmark.Bookmark.TheVariants.{InPlace}
 use Rattle.hadopt.specs.Naming.{numbers}

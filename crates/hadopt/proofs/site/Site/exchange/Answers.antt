@@ -2,7 +2,7 @@ use Rattle.hadopt.proofs.Lists.{each-among, among-without}
 use Rattle.hadopt.proofs.Turning.{each-put-any}
 use Rattle.std.proofs.Common.{◌≡◌, ap, arith, ℕ, Bool, ◌<◌, Result, Ok, Err}
 use Rattle.std.specs.Prelude.{OnOk, OnErr}
-use Rattle.hopen.specs.Nearest.{without, put_before}
+use Rattle.hchain.specs.Nearest.{without, put_before}
 use Rattle.hadopt.specs.Site.{SiteOf}
 use Rattle.hadopt.specs.Made.{AreMade}
 use Rattle.hopen.specs.Stack.{is_node, OpenNode, OpenNodes}

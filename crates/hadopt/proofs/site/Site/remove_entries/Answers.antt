@@ -1,7 +1,7 @@
 use Rattle.std.proofs.Common.{◌≡◌, ◌+◌, ◌∙◌, ap, sym, arith, ℕ, true, false, eqb, List, [], ◌∷◌, Some, slice_get, drop, length, refl}
 use Rattle.std.specs.Option.{option_map}
 use Rattle.hformat.specs.Formatting.{without_entry}
-use Rattle.hopen.specs.Nearest.{before}
+use Rattle.hchain.specs.Nearest.{before}
 use Rattle.hopen.specs.Opens.{open_of}
 use Rattle.hopen.specs.Stack.{OpenNode, is_node}
 use Rattle.hadopt.specs.Climbs.{without_entries}

@@ -1,5 +1,5 @@
 use Rattle.std.proofs.Common.{◌≡◌, ◌+◌, length, drop}
-use Rattle.hopen.specs.Nearest.{before}
+use Rattle.hchain.specs.Nearest.{before}
 use Rattle.hopen.specs.Stack.{is_node}
 use Rattle.hadopt.specs.Climbs.{way_after, without_entries}
 use Rattle.hadopt.specs.Site.{stack, with_items}

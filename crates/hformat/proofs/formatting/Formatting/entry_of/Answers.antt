@@ -8,7 +8,7 @@ use Rattle.hformat.proofs.Holes.{entry_of-is, no-position, node-at, node-none, n
 use Rattle.hformat.proofs.ItemLists.{length-items_of}
 use Rattle.hformat.proofs.Listed.{numbers-back, place-le}
 use Rattle.hformat.proofs.Live.{entry_of-live}
-use Rattle.hopen.proofs.Nearest.{no_words, slice_get_nearest, words}
+use Rattle.hchain.proofs.Nearest.{no_words, slice_get_nearest, words}
 use Rattle.hformat.proofs.formatting.Formatting.entry_of.Goals as goal
 
 pub returns-then-place-eq0 : goal.returns-then-place-eq0

@@ -8,7 +8,7 @@ use Rattle.hformat.proofs.Holes.{place-there, told-is}
 use Rattle.hformat.proofs.ItemLists.{length-items_of}
 use Rattle.hformat.proofs.Listed.{numbers-back, marker_place, name_place, place-le, find-none, find-at}
 use Rattle.hformat.proofs.Live.{find-live}
-use Rattle.hopen.proofs.Nearest.{slice_get_nearest}
+use Rattle.hchain.proofs.Nearest.{slice_get_nearest}
 use Rattle.hformat.proofs.formatting.Formatting.find.Goals as goal
 
 pub returns-then-place-last : goal.returns-then-place-last

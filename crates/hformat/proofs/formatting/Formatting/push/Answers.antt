@@ -2,10 +2,10 @@ use Rattle.std.proofs.Common.{◌≡◌, ℕ, suc, ◌+◌, ◌-◌, ◌∷◌, 
 use Rattle.hnodes.specs.Rows.{attribute_of}
 use Rattle.hformat.specs.Formatting.{EntryOf, entry, pushed}
 use Rattle.hformat.specs.Items.{hole, item_of, items_of, live}
-use Rattle.hopen.specs.Nearest.{changed_at}
+use Rattle.hchain.specs.Nearest.{changed_at}
 use Rattle.hformat.specs.declared.entry.Slot.TheVariants as stored
 use Rattle.hformat.proofs.ItemLists.{items_of_last, length-items_of}
-use Rattle.hopen.proofs.Nearest.{set_nearest}
+use Rattle.hchain.proofs.Nearest.{set_nearest}
 use Rattle.hformat.proofs.Pushed.{pushed-live}
 use Rattle.hformat.proofs.formatting.Formatting.push.Goals as goal
 

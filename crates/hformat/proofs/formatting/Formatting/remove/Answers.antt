@@ -3,7 +3,7 @@ use Rattle.std.specs.List.{list_any}
 use Rattle.hformat.specs.Formatting.{is_entry, without_entry}
 use Rattle.hformat.proofs.Holes.{no-position}
 use Rattle.hformat.proofs.Listed.{filter-all, filter-without}
-use Rattle.hopen.proofs.Nearest.{length-without, no_words}
+use Rattle.hchain.proofs.Nearest.{length-without, no_words}
 use Rattle.hformat.proofs.formatting.Formatting.remove.Goals as goal
 
 pub loop-node-smaller : goal.loop-node-smaller

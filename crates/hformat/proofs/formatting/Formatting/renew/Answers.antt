@@ -2,11 +2,11 @@ use Rattle.std.proofs.Common.{◌≡◌, ◌-◌, false, Some, length, sym, ◌�
 use Rattle.std.specs.Option.{is_some}
 use Rattle.hformat.specs.Formatting.{for_node}
 use Rattle.hformat.specs.Items.{entry_is, items_of, live, told}
-use Rattle.hopen.specs.Nearest.{changed_at}
+use Rattle.hchain.specs.Nearest.{changed_at}
 use Rattle.hformat.proofs.Bookmarks.{is_some-option_map}
 use Rattle.hformat.proofs.Holes.{changed-marker, marker-is, nth-index, nth-item, nth-missing, nth-there}
 use Rattle.hformat.proofs.Live.{is_hole-for_node, nth-changed}
-use Rattle.hopen.proofs.Nearest.{changed_at_past}
+use Rattle.hchain.proofs.Nearest.{changed_at_past}
 use Rattle.hformat.proofs.formatting.Formatting.renew.Goals as goal
 
 pub returns-then-is_some : goal.returns-then-is_some

@@ -12,7 +12,7 @@ use Rattle.hformat.proofs.Chained.{before-is, last-is, last_of}
 use Rattle.hformat.proofs.Earliest.{farthest, farthest-within, room-made, room-there}
 use Rattle.hformat.proofs.ItemLists.{length-items_of}
 use Rattle.hformat.proofs.Listed.{numbers-back, place, place-le}
-use Rattle.hopen.proofs.Nearest.{slice_get_nearest}
+use Rattle.hchain.proofs.Nearest.{slice_get_nearest}
 use Rattle.hformat.proofs.SameHash.{same-number, told-equal}
 use Rattle.hformat.proofs.slots.Slots.giving_way.Goals as goal
 use Rattle.hformat.proofs.slots.Slots.giving_way.Goals.{then-branch, else-branch}

@@ -5,11 +5,11 @@ use Rattle.std.proofs.lemmas.List.Edits.{length-remove}
 use Rattle.hchain.specs.Chains.{last_up}
 use Rattle.hformat.specs.Formatting.{is_entry}
 use Rattle.hformat.specs.Items.{item_of, items_of, nowhere, renamed}
-use Rattle.hopen.specs.Nearest.{put_before}
-use Rattle.hopen.specs.Places.{last_place}
+use Rattle.hchain.specs.Nearest.{put_before}
+use Rattle.hchain.specs.Places.{last_place}
 use Rattle.hformat.specs.declared.entry.Slot.TheVariants as stored
 use Rattle.hformat.proofs.Moved.{insert-after, listed-renewed, mark-place, remove-set, renamed-item}
-use Rattle.hopen.proofs.Places.{last_place-le}
+use Rattle.hchain.proofs.Places.{last_place-le}
 use Rattle.hformat.proofs.slots.Slots.move_after.Goals as goal
 use Rattle.hformat.proofs.slots.Slots.move_after.Goals.{then-place-index, else-place-index}
 

@@ -5,7 +5,7 @@ use Rattle.hopen.specs.Kept.{opened_by, stack_of}
 use Rattle.hopen.specs.declared.kept.KeptNode.{KeptNode}
 use Rattle.hopen.specs.Opens.{open_of}
 use Rattle.hopen.specs.Stack.{OpenNodes, is_node, current, above}
-use Rattle.hopen.proofs.Nearest.{words, no_words, slice_get_nearest}
+use Rattle.hchain.proofs.Nearest.{words, no_words, slice_get_nearest}
 use Rattle.hopen.proofs.Searches.{current-drop}
 use Rattle.hopen.proofs.Opened.{found}
 use Rattle.hopen.proofs.stack.OpenStack.above.Goals as goal

@@ -2,7 +2,7 @@ use Rattle.std.specs.Prelude.{nat_eq}
 use Rattle.std.proofs.Common.{ap, ◌∙◌}
 use Rattle.names.specs.Sets.{may_stay_open}
 use Rattle.names.specs.Tags.{tag_of}
-use Rattle.hopen.proofs.Places.{all-places}
+use Rattle.hchain.proofs.Places.{all-places}
 use Rattle.hopen.proofs.stack.OpenStack.all_may_stay_open.Goals as goal
 
 pub returns : goal.returns

@@ -3,7 +3,7 @@ use Rattle.std.proofs.lemmas.List.{with_items_is, length-map}
 use Rattle.std.specs.List.{position, remove_range}
 use Rattle.std.specs.Option.{is_some, unwrap_or, IfSome}
 use Rattle.std.specs.Vec.{with_items}
-use Rattle.hopen.specs.Nearest.{without, put_before}
+use Rattle.hchain.specs.Nearest.{without, put_before}
 use Rattle.hopen.specs.Opens.{open_of}
 use Rattle.hopen.specs.Stack.{OpenNodes, is_node, is_open}
 use Rattle.hopen.specs.Kept.{opened_by, stack_of, Stands}
@@ -11,7 +11,7 @@ use Rattle.hopen.specs.Exchanged.{IsWindow}
 use Rattle.hopen.specs.StackView.{open_nodes_of}
 use Rattle.hopen.specs.declared.kept.KeptNode.{KeptNode}
 use Rattle.hopen.proofs.Opened.{seen, found, none_found}
-use Rattle.hopen.proofs.Nearest.{remove_nearest, is_some-position}
+use Rattle.hchain.proofs.Nearest.{remove_nearest, is_some-position}
 use Rattle.hopen.proofs.Standing.{length-stack_of}
 use Rattle.hopen.proofs.WrittenBack.{stands_same}
 use Rattle.hopen.proofs.ExchangedStack.{exchanged-nearest, length-put-le, found-below, length-left}

@@ -9,7 +9,7 @@ use Rattle.hopen.specs.Kept.{opened_by}
 use Rattle.hopen.specs.Opens.{open_of}
 use Rattle.hopen.specs.Stack.{OpenNodes, is_node, furthest_block}
 use Rattle.hopen.specs.declared.kept.KeptNode.{KeptNode}
-use Rattle.hopen.proofs.Images.{find-map}
+use Rattle.hchain.proofs.Images.{find-map}
 use Rattle.hopen.proofs.Searches.{furthest-nearest}
 use Rattle.hopen.proofs.stack.OpenStack.furthest_block.Goals as goal
 

@@ -4,7 +4,7 @@ use Rattle.std.proofs.lemmas.Option.{slice_get_past}
 use Rattle.hopen.specs.Kept.{opened_by, stack_of}
 use Rattle.hopen.specs.declared.kept.KeptNode.{KeptNode}
 use Rattle.hopen.specs.Stack.{OpenNodes}
-use Rattle.hopen.proofs.Nearest.{slice_get_nearest}
+use Rattle.hchain.proofs.Nearest.{slice_get_nearest}
 use Rattle.hopen.proofs.Standing.{length-stack_of}
 use Rattle.hopen.proofs.stack.OpenStack.get.Goals as goal
 

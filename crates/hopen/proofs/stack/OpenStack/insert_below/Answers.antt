@@ -1,8 +1,8 @@
 use Rattle.std.proofs.Common.{◌<◌, ◌≤◌, ◌+◌, List, length, ◌∙◌, sym, ap, map, reverse, subst, arith, ℕ, ◌≡◌}
 use Rattle.hopen.proofs.Opened.{seen, found, none_found, kept, room-left}
 use Rattle.hopen.proofs.WrittenBack.{stands_same}
-use Rattle.hopen.proofs.Nearest.{insert_nearest, no_words}
-use Rattle.hopen.specs.Nearest.{put_before}
+use Rattle.hchain.proofs.Nearest.{insert_nearest, no_words}
+use Rattle.hchain.specs.Nearest.{put_before}
 use Rattle.hopen.specs.Stack.{is_node, OpenNodes}
 use Rattle.hopen.specs.Opens.{open_of}
 use Rattle.hopen.specs.Kept.{opened_by, stack_of}

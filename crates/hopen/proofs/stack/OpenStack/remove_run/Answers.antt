@@ -3,7 +3,7 @@ use Rattle.std.specs.List.{remove_range}
 use Rattle.hopen.specs.Stack.{OpenNodes}
 use Rattle.hopen.specs.Kept.{opened_by}
 use Rattle.hopen.proofs.Opened.{seen}
-use Rattle.hopen.proofs.Nearest.{remove_run_nearest}
+use Rattle.hchain.proofs.Nearest.{remove_run_nearest}
 use Rattle.hopen.proofs.Standing.{length-stack_of}
 use Rattle.hopen.proofs.stack.OpenStack.remove_run.Goals as goal
 

@@ -2,8 +2,8 @@ use Rattle.std.proofs.Common.{◌∙◌, ap, reverse, arith}
 use Rattle.std.proofs.lemmas.List.{with_items_is}
 use Rattle.std.specs.Vec.{with_items}
 use Rattle.hopen.proofs.Opened.{seen, found, none_found, kept}
-use Rattle.hopen.proofs.Nearest.{change_nearest, no_words}
-use Rattle.hopen.specs.Nearest.{changed}
+use Rattle.hchain.proofs.Nearest.{change_nearest, no_words}
+use Rattle.hchain.specs.Nearest.{changed}
 use Rattle.hopen.specs.Stack.{is_node}
 use Rattle.hopen.specs.Opens.{open_of}
 use Rattle.hopen.specs.Kept.{opened_by, stack_of}

@@ -4,7 +4,7 @@ use Rattle.std.specs.Prelude.{if◌then◌else◌, filter, find, nat_lt, positio
 use Rattle.std.specs.List.{list_any, list_all, prefix_len}
 use Rattle.std.specs.Option.{option_map}
 use Rattle.std.proofs.lemmas.List.{length-map}
-use Rattle.hopen.specs.Nearest.{before, after, without, changed, put_before, changed_at}
+use Rattle.hchain.specs.Nearest.{before, after, without, changed, put_before, changed_at}
 
 module _ {X Y : Type 0} (h : X → Y) (p : X → Bool) (q : Y → Bool) (e : (x : X) → q (h x) ≡ p x) where
   pub before-map : (xs : List X) → before q (map h xs) ≡ map h (before p xs)

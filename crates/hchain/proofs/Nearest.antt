@@ -5,8 +5,8 @@ use Rattle.std.specs.Option.{is_some, IfSome}
 use Rattle.std.proofs.lemmas.Bool.{ltb-true, ltb-false, lt-ltb, le-ltb, cases_lt}
 use Rattle.std.proofs.lemmas.List.{map-append, reverse-append, append_assoc, length-map, length-reverse, length-drop, take-append-drop, set_split, take_at, drop_at, get_or-map, get_or-reverse}
 use Rattle.std.proofs.lemmas.Option.{slice_get-get_or, cond_some}
-use Rattle.hopen.proofs.Images.{position-map}
-use Rattle.hopen.specs.Nearest.{before, after, without, changed, put_before, changed_at}
+use Rattle.hchain.proofs.Images.{position-map}
+use Rattle.hchain.specs.Nearest.{before, after, without, changed, put_before, changed_at}
 
 module _ {Y : Type 0} (sought : Y → Bool) where
   -- the words where the nearest that is sought has this many before it

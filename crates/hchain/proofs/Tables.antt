@@ -3,7 +3,7 @@ use Rattle.std.proofs.Common.{◌≡◌, ℕ, suc, ◌<◌, ◌≤◌, eqb, Bool
 use Rattle.std.proofs.lemmas.Bool.{eqb-true, eqb-false, cases_lt}
 use Rattle.std.proofs.lemmas.List.{get_or-set_same, get_or-set_other, get_or_past}
 use Rattle.std.proofs.Math.Seq.{take-suc, drop-cons}
-use Rattle.hopen.specs.Places.{last_place, SaysPlaces}
+use Rattle.hchain.specs.Places.{last_place, SaysPlaces}
 
 module _ {X : Type 0} (number : X → ℕ) (places : List ℕ) (x : X) (above : List X) where
   pub same-eqb : (n : ℕ) → eqb n n ≡ true
