@@ -1,13 +1,13 @@
 /* Jeanzircon: HTML as the WHATWG HTML Standard reads it, and so do browsers (known differences: docs/PROFILE.md). The header of the
  * library for C.
  *
- * Two functions of the library, jz_text and jz_tree, are proved: what they promise is said at each. What else is here is plain C that
- * prepares their arguments and indexes what they wrote.
+ * The functions of the library, jz_version, jz_text and jz_tree, are proved: what they promise is said at each. What else is here is
+ * plain C that prepares their arguments and indexes what they wrote.
  *
  * Who owns what. Every buffer is the caller's. The library keeps no pointer after a call, and has no state of its own: nothing is
  * opened, and nothing but a jz_doc (below) is to be freed.
  * Units. Lengths and places are bytes, from 0. Texts are UTF-8 and end with no NUL.
- * Errors. Every call returns a status: 0, a refusal of the input, or a fault of the call. A refusal has its place.
+ * Errors. Every call on an input returns a status: 0, a refusal of the input, or a fault of the call. A refusal has its place.
  * Threads. Any number of threads may call at once, each with buffers of its own. Not from a signal handler.
  * Memory. The library calls malloc, realloc and free, and frees all that it took before it returns. Where they give none the status is
  * JZ_MEMORY. It needs some 80 KB of stack, however the input is nested.
@@ -23,6 +23,13 @@
 #ifdef __cplusplus
 extern "C" {
 #endif
+
+/* The version of this header, and as a number: its major number * 10000 + its minor number * 100 + its patch number. */
+#define JZ_VERSION "0.1.0"
+#define JZ_VERSION_NUMBER 100
+
+/* The JZ_VERSION_NUMBER of the library that is linked. */
+uint32_t jz_version(void);
 
 /* The statuses. */
 enum {

@@ -6,3 +6,4 @@ pub mod Input
 pub mod Room
 pub mod Rows
 pub mod Trees
+pub mod Version

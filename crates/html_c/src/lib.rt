@@ -4,6 +4,7 @@
 
 ghost use Rattle.std.specs.Prelude.{◌≡◌};
 ghost use Rattle.html_c.specs.Exports.{AnswersText, AnswersTree};
+ghost use Rattle.html_c.specs.Version.{version};
 
 mod answer;
 mod fault;
@@ -60,4 +61,12 @@ pub extern "C" fn jz_tree(
         Err(fault) => fault_answer(fault),
     };
     answer.status
+}
+
+/// The version of the library as a number, `JZ_VERSION_NUMBER` of the header.
+#[unsafe(no_mangle)]
+pub extern "C" fn jz_version() -> u32
+    ensures { result ≡ version }
+{
+    100
 }
