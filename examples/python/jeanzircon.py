@@ -1,10 +1,11 @@
 """The library from Python, by ctypes over the shared object: texts of an input and its tree. As a program it prints the links of a
 page, each with its text, or with --in NAME whether a fragment is plain."""
 import ctypes
+import operator
 import os
 import sys
 
-LIBRARY = ctypes.CDLL(os.path.join(os.path.dirname(os.path.realpath(__file__)), "../../out/libjeanzircon.so"))
+SONAME = "libjeanzircon.so.0"
 TOKENS, TREE, ERRORS, WRITE, PLAIN = range(5)
 TOO_SHORT, NO_NODE = 13, 0xFFFFFFFF
 NAMES = "Ok NotUtf8 OutOfProfile TooLarge TooManyNodes TooDeep Memory Read BadContext BadTable BadQuirks BadLimits Write TooShort NotText BadNumber".split()
@@ -25,6 +26,33 @@ class Row(ctypes.Structure):
     _fields_ = [(name, ctypes.c_uint32) for name in ("number", "kind", "parent", "first_child", "next")]
 
 
+def opened():
+    """The shared object that JEANZIRCON_LIBRARY names; without it that of the checkout or the prefix which this file lies in, if it is there, and
+    else the one that the system finds by its name."""
+    here, told = os.path.dirname(os.path.realpath(__file__)), os.environ.get("JEANZIRCON_LIBRARY")
+    near = {"/examples/python": "../../out/libjeanzircon.so", "/share/jeanzircon/python": f"../../../lib/{SONAME}"}
+    beside = [os.path.normpath(f"{here}/{place}") for folder, place in near.items() if here.endswith(folder)]
+    places = [told] if told else [*beside, SONAME]
+    try:
+        return declared(ctypes.CDLL(next((it for it in places[:-1] if os.path.exists(it)), places[-1])))
+    except (OSError, AttributeError) as error:
+        raise ImportError(f"{error}; looked for {', then '.join(places)}; JEANZIRCON_LIBRARY may name another") from error
+
+
+def declared(library):
+    """The library with the types of its functions, as jeanzircon.h has them."""
+    number, size, output, answer = ctypes.c_uint32, ctypes.c_size_t, ctypes.POINTER(ctypes.c_char), ctypes.POINTER(Answer)
+    given = [ctypes.c_char_p, size, ctypes.POINTER(Options)]
+    library.jz_version.argtypes = []
+    library.jz_text.argtypes = [number, *given, output, size, answer]
+    library.jz_tree.argtypes = [*given, ctypes.POINTER(Row), size, output, size, answer]
+    library.jz_version.restype = library.jz_text.restype = library.jz_tree.restype = number
+    return library
+
+
+LIBRARY = opened()
+
+
 class Refused(Exception):
     """Why there is nothing: its status, the element or the cause that it names, and its byte (of a quirks list the line)."""
 
@@ -35,17 +63,38 @@ class Refused(Exception):
         super().__init__(" ".join(filter(None, words + places.get(answer.status, []))))
 
 
+def lent(value):
+    """The bytes of a value. A str has none, and is a TypeError."""
+    return value if isinstance(value, bytes) else bytes(memoryview(value))
+
+
+def whole(value, bits=64):
+    """A number of so many bits. ctypes would cut it to them."""
+    number = operator.index(value)
+    if not 0 <= number < 1 << bits:
+        raise ValueError(f"{number} has no place in {bits} bits")
+    return number
+
+
 def options(context=b"", entities=b"", quirks=b"", nodes=16777216, open=1048576, piece=65536, keys=0, escaping=1, bad_bytes=0):
-    lists = [it for text in (context, entities, quirks) for it in (text, len(text))]
-    return Options(*lists, nodes, open, piece, keys % 2**64, keys >> 64, escaping, bad_bytes)
+    lists = [it for text in map(lent, (context, entities, quirks)) for it in (text, len(text))]
+    keys = whole(keys, 128)
+    return Options(*lists, *map(whole, (nodes, open, piece)), keys % 2**64, keys >> 64, whole(escaping, 32), whole(bad_bytes, 32))
+
+
+def version():
+    """The version of the shared object, as "0.1.0"."""
+    number = LIBRARY.jz_version()
+    return f"{number // 10000}.{number // 100 % 100}.{number % 100}"
 
 
 def text(task, page, **settings):
     """The bytes of a task's text."""
+    page = lent(page)
     answer, room, given = Answer(), 2 * len(page) + 256, options(**settings)
     while True:
         output = ctypes.create_string_buffer(room)
-        LIBRARY.jz_text(task, page, ctypes.c_size_t(len(page)), ctypes.byref(given), output, ctypes.c_size_t(room), ctypes.byref(answer))
+        LIBRARY.jz_text(whole(task, 32), page, len(page), given, output, room, answer)
         if answer.status == 0:
             return output.raw[:answer.length]
         if answer.status != TOO_SHORT:
@@ -55,11 +104,11 @@ def text(task, page, **settings):
 
 def tree(page, **settings):
     """The nodes inside the root, in tree order: each a row and the list of its words."""
+    page = lent(page)
     answer, rooms, given = Answer(), (len(page) // 16 + 64, len(page) * 2 + 256), options(**settings)
     while True:
         rows, words = (Row * rooms[0])(), ctypes.create_string_buffer(rooms[1])
-        sizes = [ctypes.c_size_t(it) for it in (len(page), *rooms)]
-        LIBRARY.jz_tree(page, sizes[0], ctypes.byref(given), rows, sizes[1], words, sizes[2], ctypes.byref(answer))
+        LIBRARY.jz_tree(page, len(page), given, rows, rooms[0], words, rooms[1], answer)
         if answer.status == 0:
             each = words.raw[:answer.length].split(b"\xfe")
             return [(row, [word.decode() for word in node.split(b"\xff")[:-1]]) for row, node in zip(rows[:answer.nodes], each)]
@@ -80,6 +129,8 @@ def links(page):
 
 
 if __name__ == "__main__":
+    if len(sys.argv) != 2 and not (len(sys.argv) == 4 and sys.argv[1] == "--in"):
+        sys.exit("name a page, or --in NAME and a fragment")
     try:
         with open(sys.argv[-1], "rb") as file:
             page = file.read()
