@@ -1,11 +1,23 @@
 //! Safe Rust over the library for C: texts of an input, its tree, and why it is refused.
 //!
-//! The library's two functions are proved; this crate is not, and keeps what they require: slices are Rust's, and no buffer overlaps
+//! The library's functions are proved; this crate is not, and keeps what they require: slices are Rust's, and no buffer overlaps
 //! another.
 
 mod raw;
 
 use std::{error, fmt, str};
+
+/// The version of the library, as `0.1.0`.
+pub fn version() -> String {
+    // SAFETY: it takes nothing.
+    let number = unsafe { raw::jz_version() };
+    format!(
+        "{}.{}.{}",
+        number / 10_000,
+        number / 100 % 100,
+        number % 100
+    )
+}
 
 /// What is made of an input.
 #[derive(Clone, Copy, Debug, PartialEq, Eq)]

@@ -51,6 +51,8 @@ pub struct Row {
 }
 
 extern "C" {
+    pub fn jz_version() -> u32;
+
     pub fn jz_text(
         task: u32,
         input: *const u8,

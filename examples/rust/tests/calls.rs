@@ -1,6 +1,8 @@
 //! What the wrapper gives.
 
-use jeanzircon::{is_plain, links, text, BadBytes, Error, Kind, Options, Parser, Task, Tree};
+use jeanzircon::{
+    is_plain, links, text, version, BadBytes, Error, Kind, Options, Parser, Task, Tree,
+};
 
 const PAGE: &[u8] =
     b"<!DOCTYPE html><p title='a&lt;b'>x<a href=/one>one <b>two</b></a><!--c--><a>no link</a>";
@@ -83,4 +85,9 @@ fn refusals_have_places() {
 fn plain_fragments_are_told() {
     assert!(is_plain(b"<p>a<b>c</b></p>", &div()).unwrap());
     assert!(!is_plain(b"<form><div></form><form>x", &div()).unwrap());
+}
+
+#[test]
+fn the_library_has_the_version_of_the_crate() {
+    assert_eq!(version(), env!("CARGO_PKG_VERSION"));
 }
