@@ -1,14 +1,26 @@
 /* Calls the library where the Nth allocation and all that follow are refused, for each N: the status is then JZ_MEMORY, nothing is
- * written, and all that was taken is freed. Its argument names an input. The last line is 'N passed, M failed'. Linked with
- * -Wl,--wrap=malloc,--wrap=realloc,--wrap=free. */
-#include "jeanzircon.h"
+ * written, and all that was taken is freed. And what the plain C of the header costs in bytes looked at. Its argument names an input. The
+ * last line is 'N passed, M failed'. Linked with -Wl,--wrap=malloc,--wrap=realloc,--wrap=free. */
 #include <stdio.h>
+#include <string.h>
+
+/* The bytes that the header's plain C looks at where it searches words. */
+static size_t looked_at;
+
+static void *search(const void *bytes, int byte, size_t length) {
+    const void *found = memchr(bytes, byte, length);
+    looked_at += found ? (size_t)((const char *)found - (const char *)bytes) + 1 : length;
+    return (void *)found;
+}
+
+#define memchr search
+#include "jeanzircon.h"
 
 void *__real_malloc(size_t size);
 void *__real_realloc(void *block, size_t size);
 void __real_free(void *block);
 
-static long left = -1, alive, calls;
+static long left = -1, alive, calls, passed, failed;
 
 static int is_refused(void) {
     calls++;
@@ -32,15 +44,22 @@ void __wrap_free(void *block) {
     __real_free(block);
 }
 
-enum { ROOM = 1 << 16, ROWS = 1 << 12 };
+/* The tasks, and after them the tree of jz_tree. */
+enum { ROOM = 1 << 16, ROWS = 1 << 12, TASKS = 5, ALL = 6 };
 static uint8_t text[ROOM], plain[ROOM], input[ROOM];
 static jz_row rows[ROWS], plain_rows[ROWS];
+static jz_options options = JZ_DEFAULTS;
 
-static uint32_t call(uint32_t task, size_t length, const jz_options *options, jz_answer *answer) {
+static void check(int is_right, const char *what) {
+    is_right ? passed++ : failed++;
+    if (!is_right && failed < 20) printf("%s: FAILED\n", what);
+}
+
+static uint32_t call(uint32_t task, size_t length, jz_answer *answer) {
     memset(text, 'x', sizeof text);
     memset(rows, 'x', sizeof rows);
-    return task < 5 ? jz_text(task, input, length, options, text, sizeof text, answer)
-                    : jz_tree(input, length, options, rows, ROWS, text, sizeof text, answer);
+    return task < TASKS ? jz_text(task, input, length, &options, text, sizeof text, answer)
+                        : jz_tree(input, length, &options, rows, ROWS, text, sizeof text, answer);
 }
 
 /* Whether nothing was written. */
@@ -52,31 +71,92 @@ static int is_untouched(void) {
     return 1;
 }
 
-int main(int count, char **words) {
-    jz_options options = JZ_DEFAULTS;
+static void check_refused(uint32_t task, size_t length) {
     jz_answer answer;
-    long passed = 0, failed = 0;
+    calls = 0;
+    uint32_t wanted = call(task, length, &answer);
+    long all = calls;
+    memcpy(plain, text, sizeof text);
+    memcpy(plain_rows, rows, sizeof rows);
+    for (long at = 0; at <= all; at++) {
+        long before = alive;
+        left = at;
+        uint32_t status = call(task, length, &answer);
+        left = -1;
+        check(alive == before && status == answer.status
+                  && (status == JZ_MEMORY ? at < all && is_untouched()
+                                          : status == wanted && !memcmp(text, plain, ROOM) && !memcmp(rows, plain_rows, sizeof rows)),
+              "a call where memory is refused");
+    }
+}
+
+enum { ATTRIBUTES = 20000 };
+
+/* That going through attributes, and looking one up, look at each byte once. */
+static void check_attributes(void) {
+    static char page[24 * ATTRIBUTES];
+    char *end = page + sprintf(page, "x<p");
+    jz_bytes name, value, last;
+    size_t place = 0, looked;
+    jz_doc doc;
+    jz_answer answer;
+    int is_right = 1;
+    for (int i = 0; i < ATTRIBUTES; i++) end += sprintf(end, " a%d=%d", i, i);
+    end += sprintf(end, ">");
+    check(jz_parse((const uint8_t *)page, (size_t)(end - page), &options, &doc, &answer) == JZ_OK, "the parse of many attributes");
+    uint32_t first = jz_first_child(&doc, doc.root), node = jz_next(&doc, first);
+    looked_at = 0;
+    last = jz_attribute(&doc, node, "a19999");
+    check(jz_is(last, "19999") && looked_at <= answer.length, "a look-up among many attributes");
+    looked_at = 0;
+    check(!jz_attribute(&doc, node, "none").bytes && looked_at <= answer.length, "a look-up in vain");
+    looked_at = looked = 0;
+    for (jz_words to_come = jz_attributes(&doc, node); jz_next_attribute(&to_come, &name, &value); place++) {
+        looked = looked_at;
+        if (place % 1000 > 1) continue;
+        jz_bytes same_name = jz_attribute_name(&doc, node, place), same_value = jz_attribute_value(&doc, node, place);
+        is_right &= same_name.bytes == name.bytes && same_name.length == name.length && same_value.bytes == value.bytes
+            && same_value.length == value.length && name.length == value.length + 1;
+        looked_at = looked;
+    }
+    check(is_right && place == ATTRIBUTES && looked_at <= answer.length, "each of many attributes");
+    check(!name.bytes && !value.bytes, "what comes after the last attribute");
+    jz_free(&doc);
+}
+
+/* What is answered where there is no such attribute, or no such word. */
+static void check_none(void) {
+    jz_bytes name, value;
+    jz_doc tree;
+    jz_answer answer;
+    check(jz_parse((const uint8_t *)"x<p a=0 b>", 10, &options, &tree, &answer) == JZ_OK, "the parse of two attributes");
+    const jz_doc *doc = &tree;
+    uint32_t first = jz_first_child(doc, doc->root), node = jz_next(doc, first), without[] = { doc->root, first, doc->count, JZ_NONE };
+    for (size_t i = 0; i < sizeof without / sizeof *without; i++) {
+        jz_words none = jz_attributes(doc, without[i]);
+        check(!jz_next_attribute(&none, &name, &value) && !jz_attribute(doc, without[i], "a").bytes
+                  && !jz_attribute_name(doc, without[i], 0).bytes, "the attributes of what has none");
+    }
+    check(jz_is(jz_attribute_name(doc, node, 1), "b") && jz_is(jz_attribute_value(doc, node, 1), ""), "the last attribute");
+    for (int i = 0; i < 2; i++) {
+        size_t place = i ? SIZE_MAX / 2 + 1 : 2;
+        check(!jz_attribute_name(doc, node, place).bytes && !jz_attribute_value(doc, node, place).bytes, "a place after the last");
+    }
+    check(jz_is(jz_word(doc, node, 2), "0") && !jz_word(doc, node, 5).bytes && !jz_word(doc, node, SIZE_MAX).bytes, "a word by its place");
+    jz_free(&tree);
+}
+
+int main(int count, char **words) {
     FILE *file = count == 2 ? fopen(words[1], "rb") : NULL;
     if (!file) return 3;
     size_t length = fread(input, 1, ROOM, file);
     fclose(file);
     options.context = jz_lent((const uint8_t *)"div", 3);
-    for (uint32_t task = 0; task < 6; task++) {
-        left = -1, calls = 0;
-        uint32_t wanted = call(task, length, &options, &answer);
-        long all = calls;
-        memcpy(plain, text, sizeof text);
-        memcpy(plain_rows, rows, sizeof rows);
-        for (long at = 0; at <= all; at++) {
-            long before = alive;
-            left = at;
-            uint32_t status = call(task, length, &options, &answer);
-            int is_right = alive == before && status == answer.status
-                && (status == JZ_MEMORY ? at < all && is_untouched()
-                                        : status == wanted && !memcmp(text, plain, ROOM) && !memcmp(rows, plain_rows, sizeof rows));
-            is_right ? passed++ : failed++;
-        }
+    for (uint32_t task = 0; task < ALL; task++) {
+        check_refused(task, length);
     }
+    check_attributes();
+    check_none();
     printf("%ld passed, %ld failed\n", passed, failed);
     return failed != 0;
 }

@@ -272,15 +272,34 @@ static inline jz_bytes jz_lent(const uint8_t *bytes, size_t length) {
     return lent;
 }
 
+/* What is left of a node's words, or of an element's attributes, while they are gone through. */
+typedef struct jz_words {
+    const uint8_t *at;
+    const uint8_t *end;
+} jz_words;
+
+static inline jz_words jz_words_of(const jz_doc *doc, uint32_t node) {
+    jz_words left = { NULL, NULL };
+    if (jz_kind(doc, node) == JZ_NONE) return left;
+    left.at = doc->words + doc->nodes[node].words;
+    left.end = doc->words + doc->nodes[node].end;
+    return left;
+}
+
+/* The next word; its bytes are null where none is left. */
+static inline jz_bytes jz_next_word(jz_words *left) {
+    const uint8_t *start = left->at, *end;
+    if (start == left->end) return jz_lent(NULL, 0);
+    end = (const uint8_t *)memchr(start, 0xFF, (size_t)(left->end - start));
+    left->at = end + 1;
+    return jz_lent(start, (size_t)(end - start));
+}
+
 /* A word of a node, by its place from 0; its bytes are null where there is none. */
 static inline jz_bytes jz_word(const jz_doc *doc, uint32_t node, size_t place) {
-    if (node >= doc->count) return jz_lent(NULL, 0);
-    for (size_t at = doc->nodes[node].words; at < doc->nodes[node].end; place--) {
-        const uint8_t *start = doc->words + at, *end = (const uint8_t *)memchr(start, 0xFF, doc->nodes[node].end - at);
-        if (place == 0) return jz_lent(start, (size_t)(end - start));
-        at = (size_t)(end + 1 - doc->words);
-    }
-    return jz_lent(NULL, 0);
+    jz_words left = jz_words_of(doc, node);
+    while (place > 0 && jz_next_word(&left).bytes) place--;
+    return jz_next_word(&left);
 }
 
 /* The name of an element or a doctype. */
@@ -297,20 +316,47 @@ static inline int jz_is(jz_bytes bytes, const char *text) {
     return bytes.bytes && bytes.length == strlen(text) && memcmp(bytes.bytes, text, bytes.length) == 0;
 }
 
-/* The name and the value of an attribute of an element by its place from 0. */
+/* The attributes of an element, in their order:
+ *
+ *     jz_words left = jz_attributes(&doc, node);
+ *     jz_bytes name, value;
+ *     while (jz_next_attribute(&left, &name, &value)) ..
+ */
+static inline jz_words jz_attributes(const jz_doc *doc, uint32_t node) {
+    jz_words left = jz_words_of(doc, jz_kind(doc, node) == JZ_ELEMENT ? node : JZ_NONE);
+    jz_next_word(&left); /* the element's name */
+    return left;
+}
+
+/* The next attribute. Where none is left it returns 0, and the bytes of both are null. */
+static inline int jz_next_attribute(jz_words *left, jz_bytes *name, jz_bytes *value) {
+    *name = jz_next_word(left);
+    *value = jz_next_word(left);
+    return name->bytes != NULL;
+}
+
+/* The value of an element's attribute of this name; its bytes are null where there is none. It goes through the attributes before it,
+ * and so do the next two, which want a place from 0. */
+static inline jz_bytes jz_attribute(const jz_doc *doc, uint32_t node, const char *name) {
+    jz_words left = jz_attributes(doc, node);
+    jz_bytes found, value;
+    while (jz_next_attribute(&left, &found, &value))
+        if (jz_is(found, name)) break;
+    return value;
+}
+
 static inline jz_bytes jz_attribute_name(const jz_doc *doc, uint32_t node, size_t place) {
-    return jz_kind(doc, node) == JZ_ELEMENT ? jz_word(doc, node, 1 + 2 * place) : jz_lent(NULL, 0);
+    jz_words left = jz_attributes(doc, node);
+    jz_bytes name, value;
+    while (jz_next_attribute(&left, &name, &value) && place > 0) place--;
+    return name;
 }
 
 static inline jz_bytes jz_attribute_value(const jz_doc *doc, uint32_t node, size_t place) {
-    return jz_kind(doc, node) == JZ_ELEMENT ? jz_word(doc, node, 2 + 2 * place) : jz_lent(NULL, 0);
-}
-
-/* The value of an element's attribute of this name. */
-static inline jz_bytes jz_attribute(const jz_doc *doc, uint32_t node, const char *name) {
-    for (size_t place = 0; jz_attribute_name(doc, node, place).bytes; place++)
-        if (jz_is(jz_attribute_name(doc, node, place), name)) return jz_attribute_value(doc, node, place);
-    return jz_lent(NULL, 0);
+    jz_words left = jz_attributes(doc, node);
+    jz_bytes name, value;
+    while (jz_next_attribute(&left, &name, &value) && place > 0) place--;
+    return value;
 }
 
 #ifdef __cplusplus
