@@ -1,6 +1,6 @@
 /* Calls the library where the Nth allocation and all that follow are refused, for each N: the status is then JZ_MEMORY, nothing is
- * written, and all that was taken is freed. And what the plain C of the header costs in bytes looked at. Its argument names an input. The
- * last line is 'N passed, M failed'. Linked with -Wl,--wrap=malloc,--wrap=realloc,--wrap=free. */
+ * written, and all that was taken is freed. And what the plain C of the header costs in bytes looked at, and does with null pointers. Its
+ * argument names an input. The last line is 'N passed, M failed'. Linked with -Wl,--wrap=malloc,--wrap=realloc,--wrap=free. */
 #include <stdio.h>
 #include <string.h>
 
@@ -90,6 +90,35 @@ static void check_refused(uint32_t task, size_t length) {
     }
 }
 
+static int is_empty(const jz_doc *doc) { return !doc->nodes && !doc->words && !doc->count && !doc->root; }
+
+/* Nothing is left in a result that the caller then frees, whichever pointer is null. */
+static void check_nulls(void) {
+    for (int which = 0; which < 7; which++) {
+        jz_options given = options, *to = which == 1 ? NULL : &given;
+        jz_bytes *lists[] = { &given.context, &given.entities, &given.quirks };
+        const uint8_t *page = which == 0 ? NULL : input;
+        jz_answer answers[2], *answer[2];
+        uint8_t *result = text, **bytes = which == 6 ? NULL : &result;
+        jz_doc doc, *tree = which == 6 ? NULL : &doc;
+        uint32_t statuses[2];
+        memset(answers, 'x', sizeof answers);
+        memset(&doc, 'x', sizeof doc);
+        if (which > 1 && which < 5) lists[which - 2]->bytes = NULL;
+        for (int i = 0; i < 2; i++) answer[i] = which == 5 ? NULL : &answers[i];
+        statuses[0] = jz_make_text(JZ_TREE, page, 1, to, bytes, answer[0]);
+        statuses[1] = jz_parse(page, 1, to, tree, answer[1]);
+        check(which == 6 || !result, "the text of a call with a null pointer");
+        check(which == 6 || is_empty(&doc), "the tree of a call with a null pointer");
+        for (int i = 0; i < 2; i++) {
+            check(statuses[i] == JZ_NULL, "the status of a call with a null pointer");
+            if (which != 5)
+                check(answers[i].status == JZ_NULL && !answers[i].detail && !answers[i].at && !answers[i].length && !answers[i].nodes,
+                      "the answer to a call with a null pointer");
+        }
+    }
+}
+
 enum { ATTRIBUTES = 20000 };
 
 /* That going through attributes, and looking one up, look at each byte once. */
@@ -155,6 +184,7 @@ int main(int count, char **words) {
     for (uint32_t task = 0; task < ALL; task++) {
         check_refused(task, length);
     }
+    check_nulls();
     check_attributes();
     check_none();
     printf("%ld passed, %ld failed\n", passed, failed);

@@ -176,6 +176,7 @@ static inline uint32_t jz_make_text(uint32_t task, const uint8_t *input, size_t 
                                     jz_answer *answer) {
     size_t room = length < 256 ? 512 : length * 2;
     uint32_t status;
+    if (text) *text = NULL;
     if (!answer) return JZ_NULL;
     if (!text || !jz_is_whole(input, options)) return jz_fault(answer, JZ_NULL);
     do {
@@ -228,9 +229,9 @@ static inline uint32_t jz_parse(const uint8_t *input, size_t length, const jz_op
     size_t rows = 64 + length / 4, words = 256 + length * 2; /* what is not written takes no memory */
     jz_row *table;
     uint32_t status;
+    if (doc) memset(doc, 0, sizeof *doc);
     if (!answer) return JZ_NULL;
     if (!doc || !jz_is_whole(input, options)) return jz_fault(answer, JZ_NULL);
-    memset(doc, 0, sizeof *doc);
     do {
         table = (jz_row *)malloc(rows * sizeof *table);
         doc->words = (uint8_t *)malloc(words);
