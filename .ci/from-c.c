@@ -90,6 +90,25 @@ static void check_refused(uint32_t task, size_t length) {
     }
 }
 
+/* What the plain C makes: a text, or a tree and with it its words. */
+typedef struct made {
+    uint8_t *bytes;
+    jz_doc doc;
+    jz_answer answer;
+} made;
+
+static uint32_t make(uint32_t task, const void *page, size_t length, made *it) {
+    memset(it, 'x', sizeof *it);
+    if (task < TASKS) return jz_make_text(task, (const uint8_t *)page, length, &options, &it->bytes, &it->answer);
+    uint32_t status = jz_parse((const uint8_t *)page, length, &options, &it->doc, &it->answer);
+    it->bytes = it->doc.words;
+    return status;
+}
+
+static void give_back(uint32_t task, made *it) {
+    task < TASKS ? free(it->bytes) : jz_free(&it->doc);
+}
+
 static int is_empty(const jz_doc *doc) { return !doc->nodes && !doc->words && !doc->count && !doc->root; }
 
 /* Nothing is left in a result that the caller then frees, whichever pointer is null. */
@@ -98,25 +117,39 @@ static void check_nulls(void) {
         jz_options given = options, *to = which == 1 ? NULL : &given;
         jz_bytes *lists[] = { &given.context, &given.entities, &given.quirks };
         const uint8_t *page = which == 0 ? NULL : input;
-        jz_answer answers[2], *answer[2];
+        jz_answer answers[4], *answer[4];
         uint8_t *result = text, **bytes = which == 6 ? NULL : &result;
         jz_doc doc, *tree = which == 6 ? NULL : &doc;
-        uint32_t statuses[2];
+        uint32_t statuses[4];
         memset(answers, 'x', sizeof answers);
         memset(&doc, 'x', sizeof doc);
         if (which > 1 && which < 5) lists[which - 2]->bytes = NULL;
-        for (int i = 0; i < 2; i++) answer[i] = which == 5 ? NULL : &answers[i];
+        for (int i = 0; i < 4; i++) answer[i] = which == 5 ? NULL : &answers[i];
         statuses[0] = jz_make_text(JZ_TREE, page, 1, to, bytes, answer[0]);
         statuses[1] = jz_parse(page, 1, to, tree, answer[1]);
+        statuses[2] = which == 6 ? JZ_NULL : jz_text_room(JZ_TREE, page, 1, to, answer[2]);
+        statuses[3] = which == 6 ? JZ_NULL : jz_tree_rooms(page, 1, to, answer[3]);
         check(which == 6 || !result, "the text of a call with a null pointer");
         check(which == 6 || is_empty(&doc), "the tree of a call with a null pointer");
-        for (int i = 0; i < 2; i++) {
+        for (int i = 0; i < 4; i++) {
             check(statuses[i] == JZ_NULL, "the status of a call with a null pointer");
-            if (which != 5)
+            if (which != 5 && (which != 6 || i < 2))
                 check(answers[i].status == JZ_NULL && !answers[i].detail && !answers[i].at && !answers[i].length && !answers[i].nodes,
                       "the answer to a call with a null pointer");
         }
     }
+}
+
+/* The rooms that are asked for are those of what is made. A refusal is answered to all. */
+static void check_rooms(uint32_t task, const char *page, size_t length) {
+    jz_answer asked;
+    made it;
+    uint32_t status = make(task, page, length, &it);
+    uint32_t told = task < TASKS ? jz_text_room(task, (const uint8_t *)page, length, &options, &asked)
+                                 : jz_tree_rooms((const uint8_t *)page, length, &options, &asked);
+    check(status == it.answer.status && told == status && memcmp(&asked, &it.answer, sizeof asked) == 0, "the room that is asked for");
+    check((status == JZ_OK) == (it.bytes != NULL), "what is made, or refused");
+    give_back(task, &it);
 }
 
 enum { ATTRIBUTES = 20000 };
@@ -127,39 +160,37 @@ static void check_attributes(void) {
     char *end = page + sprintf(page, "x<p");
     jz_bytes name, value, last;
     size_t place = 0, looked;
-    jz_doc doc;
-    jz_answer answer;
+    made it;
     int is_right = 1;
     for (int i = 0; i < ATTRIBUTES; i++) end += sprintf(end, " a%d=%d", i, i);
     end += sprintf(end, ">");
-    check(jz_parse((const uint8_t *)page, (size_t)(end - page), &options, &doc, &answer) == JZ_OK, "the parse of many attributes");
-    uint32_t first = jz_first_child(&doc, doc.root), node = jz_next(&doc, first);
+    check(make(TASKS, page, (size_t)(end - page), &it) == JZ_OK, "the parse of many attributes");
+    uint32_t first = jz_first_child(&it.doc, it.doc.root), node = jz_next(&it.doc, first);
     looked_at = 0;
-    last = jz_attribute(&doc, node, "a19999");
-    check(jz_is(last, "19999") && looked_at <= answer.length, "a look-up among many attributes");
+    last = jz_attribute(&it.doc, node, "a19999");
+    check(jz_is(last, "19999") && looked_at <= it.answer.length, "a look-up among many attributes");
     looked_at = 0;
-    check(!jz_attribute(&doc, node, "none").bytes && looked_at <= answer.length, "a look-up in vain");
+    check(!jz_attribute(&it.doc, node, "none").bytes && looked_at <= it.answer.length, "a look-up in vain");
     looked_at = looked = 0;
-    for (jz_words to_come = jz_attributes(&doc, node); jz_next_attribute(&to_come, &name, &value); place++) {
+    for (jz_words to_come = jz_attributes(&it.doc, node); jz_next_attribute(&to_come, &name, &value); place++) {
         looked = looked_at;
         if (place % 1000 > 1) continue;
-        jz_bytes same_name = jz_attribute_name(&doc, node, place), same_value = jz_attribute_value(&doc, node, place);
+        jz_bytes same_name = jz_attribute_name(&it.doc, node, place), same_value = jz_attribute_value(&it.doc, node, place);
         is_right &= same_name.bytes == name.bytes && same_name.length == name.length && same_value.bytes == value.bytes
             && same_value.length == value.length && name.length == value.length + 1;
         looked_at = looked;
     }
-    check(is_right && place == ATTRIBUTES && looked_at <= answer.length, "each of many attributes");
+    check(is_right && place == ATTRIBUTES && looked_at <= it.answer.length, "each of many attributes");
     check(!name.bytes && !value.bytes, "what comes after the last attribute");
-    jz_free(&doc);
+    jz_free(&it.doc);
 }
 
 /* What is answered where there is no such attribute, or no such word. */
 static void check_none(void) {
     jz_bytes name, value;
-    jz_doc tree;
-    jz_answer answer;
-    check(jz_parse((const uint8_t *)"x<p a=0 b>", 10, &options, &tree, &answer) == JZ_OK, "the parse of two attributes");
-    const jz_doc *doc = &tree;
+    made it;
+    check(make(TASKS, "x<p a=0 b>", 10, &it) == JZ_OK, "the parse of two attributes");
+    const jz_doc *doc = &it.doc;
     uint32_t first = jz_first_child(doc, doc->root), node = jz_next(doc, first), without[] = { doc->root, first, doc->count, JZ_NONE };
     for (size_t i = 0; i < sizeof without / sizeof *without; i++) {
         jz_words none = jz_attributes(doc, without[i]);
@@ -172,17 +203,24 @@ static void check_none(void) {
         check(!jz_attribute_name(doc, node, place).bytes && !jz_attribute_value(doc, node, place).bytes, "a place after the last");
     }
     check(jz_is(jz_word(doc, node, 2), "0") && !jz_word(doc, node, 5).bytes && !jz_word(doc, node, SIZE_MAX).bytes, "a word by its place");
-    jz_free(&tree);
+    jz_free(&it.doc);
 }
 
 int main(int count, char **words) {
+    static char long_text[ROOM];
     FILE *file = count == 2 ? fopen(words[1], "rb") : NULL;
     if (!file) return 3;
     size_t length = fread(input, 1, ROOM, file);
     fclose(file);
+    memset(long_text, 'x', sizeof long_text);
     options.context = jz_lent((const uint8_t *)"div", 3);
     for (uint32_t task = 0; task < ALL; task++) {
         check_refused(task, length);
+        check_rooms(task, (const char *)input, length);
+        check_rooms(task, long_text, sizeof long_text);
+        check_rooms(task, "", 0);
+        check_rooms(task, "a<svg>", 6);
+        check_rooms(task, "\xff", 1);
     }
     check_nulls();
     check_attributes();

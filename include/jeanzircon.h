@@ -97,10 +97,11 @@ typedef struct jz_answer {
 /* Makes the text of a task of an input, and writes it to the beginning of `output`, if `room` is enough.
  *
  * Promised: the text is the one that the program prints for the same input and options, however it is read in pieces. Where the status
- * is not JZ_OK, nothing is written; at JZ_TOO_SHORT `answer->length` is the room that is needed, and 0 bytes of room are a way to ask.
- * Required, and not checked: no pointer is null, those in `options` neither; `input` is readable for `length` bytes and `output`
- * writable for `room`; `output` and `answer` overlap nothing else that is handed in; each length is below 2^63; nobody writes to
- * what is lent, nor reads `output` and `answer`, until the call returns. */
+ * is not JZ_OK, nothing is written; at JZ_TOO_SHORT `answer->length` is the room that is needed.
+ * Required, and not checked: no pointer is null, those in `options` neither, nor `output` where `room` is 0 (jz_text_room asks for the
+ * room without one); `input` is readable for `length` bytes and `output` writable for `room`; `output` and `answer` overlap nothing
+ * else that is handed in; each length is below 2^63; nobody writes to what is lent, nor reads `output` and `answer`, until the call
+ * returns. */
 uint32_t jz_text(uint32_t task, const uint8_t *input, size_t length, const jz_options *options, uint8_t *output, size_t room,
                  jz_answer *answer);
 
@@ -124,11 +125,11 @@ enum { JZ_DOCUMENT = 0, JZ_DOCTYPE = 1, JZ_ELEMENT = 2, JZ_COMMENT = 3, JZ_TEXT_
  * attributes, the name and both identifiers of a doctype, the data of a comment, or the characters of a text. A word ends with the
  * byte 0xFF, and a node's words with 0xFE, which are in no UTF-8 text. Where the status is not JZ_OK, nothing is written; at
  * JZ_TOO_SHORT the answer has the rooms that are needed.
- * Required, and not checked: as at jz_text, of both rooms; `row_room` counts rows. */
+ * Required, and not checked: as at jz_text, of both rooms (jz_tree_rooms asks for them without one); `row_room` counts rows. */
 uint32_t jz_tree(const uint8_t *input, size_t length, const jz_options *options, jz_row *rows, size_t row_room, uint8_t *words,
                  size_t word_room, jz_answer *answer);
 
-/* From here on plain C, which is not proved: the tree with an index, and names for numbers. */
+/* From here on plain C, which is not proved: what asks for room or takes memory, the tree with an index, and names for numbers. */
 
 /* The name of a status, as "NotUtf8". */
 static inline const char *jz_status_name(uint32_t status) {
@@ -169,6 +170,26 @@ static inline int jz_is_whole(const uint8_t *input, const jz_options *options) {
 static inline uint32_t jz_fault(jz_answer *answer, uint32_t status) {
     memset(answer, 0, sizeof *answer);
     return answer->status = status;
+}
+
+/* Asks for the room of a text: the status is JZ_OK, and answer->length the room, or it says why there is no such text. It takes a parse,
+ * so jz_make_text, which first tries a room, is the shorter way to a text. */
+static inline uint32_t jz_text_room(uint32_t task, const uint8_t *input, size_t length, const jz_options *options, jz_answer *answer) {
+    uint8_t none;
+    if (!answer) return JZ_NULL;
+    if (!jz_is_whole(input, options)) return jz_fault(answer, JZ_NULL);
+    if (jz_text(task, input, length, options, &none, 0, answer) == JZ_TOO_SHORT) answer->status = JZ_OK;
+    return answer->status;
+}
+
+/* Asks for the rooms of a tree, in the same way: answer->nodes rows, and answer->length bytes of words. */
+static inline uint32_t jz_tree_rooms(const uint8_t *input, size_t length, const jz_options *options, jz_answer *answer) {
+    jz_row none;
+    uint8_t no_words;
+    if (!answer) return JZ_NULL;
+    if (!jz_is_whole(input, options)) return jz_fault(answer, JZ_NULL);
+    if (jz_tree(input, length, options, &none, 0, &no_words, 0, answer) == JZ_TOO_SHORT) answer->status = JZ_OK;
+    return answer->status;
 }
 
 /* The text of a task in memory of its own, which the caller frees with free(); *text is null where the status is not JZ_OK. */
