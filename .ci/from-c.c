@@ -1,6 +1,8 @@
 /* Calls the library where the Nth allocation and all that follow are refused, for each N: the status is then JZ_MEMORY, nothing is
- * written, and all that was taken is freed. And what the plain C of the header costs in bytes looked at, and does with null pointers. Its
- * argument names an input. The last line is 'N passed, M failed'. Linked with -Wl,--wrap=malloc,--wrap=realloc,--wrap=free. */
+ * written, and all that was taken is freed. The same of the plain C of its header, which tries again where one allocation is refused in
+ * the first parse; and what that plain C costs, in parses, in bytes looked at and in memory kept, and does with null pointers. Its
+ * argument names an input. The last line is 'N passed, M failed'. Linked with -Wl,--wrap=X for each X of malloc, realloc, free, jz_text and jz_tree. */
+#include <malloc.h>
 #include <stdio.h>
 #include <string.h>
 
@@ -19,11 +21,14 @@ static void *search(const void *bytes, int byte, size_t length) {
 void *__real_malloc(size_t size);
 void *__real_realloc(void *block, size_t size);
 void __real_free(void *block);
+uint32_t __real_jz_text(uint32_t, const uint8_t *, size_t, const jz_options *, uint8_t *, size_t, jz_answer *);
+uint32_t __real_jz_tree(const uint8_t *, size_t, const jz_options *, jz_row *, size_t, uint8_t *, size_t, jz_answer *);
 
-static long left = -1, alive, calls, passed, failed;
+/* `left` allocations are given before all are refused, `only` is the one that is refused, and -1 of either refuses none. */
+static long left = -1, only = -1, alive, calls, parses, passed, failed;
 
 static int is_refused(void) {
-    calls++;
+    if (calls++ == only) return 1;
     return left >= 0 && left-- <= 0 ? (left = 0, 1) : 0;
 }
 
@@ -42,6 +47,18 @@ void *__wrap_realloc(void *block, size_t size) {
 void __wrap_free(void *block) {
     alive -= block != NULL;
     __real_free(block);
+}
+
+uint32_t __wrap_jz_text(uint32_t task, const uint8_t *page, size_t length, const jz_options *options, uint8_t *output, size_t room,
+                        jz_answer *answer) {
+    parses++;
+    return __real_jz_text(task, page, length, options, output, room, answer);
+}
+
+uint32_t __wrap_jz_tree(const uint8_t *page, size_t length, const jz_options *options, jz_row *rows, size_t row_room, uint8_t *words,
+                        size_t word_room, jz_answer *answer) {
+    parses++;
+    return __real_jz_tree(page, length, options, rows, row_room, words, word_room, answer);
 }
 
 /* The tasks, and after them the tree of jz_tree. */
@@ -71,25 +88,6 @@ static int is_untouched(void) {
     return 1;
 }
 
-static void check_refused(uint32_t task, size_t length) {
-    jz_answer answer;
-    calls = 0;
-    uint32_t wanted = call(task, length, &answer);
-    long all = calls;
-    memcpy(plain, text, sizeof text);
-    memcpy(plain_rows, rows, sizeof rows);
-    for (long at = 0; at <= all; at++) {
-        long before = alive;
-        left = at;
-        uint32_t status = call(task, length, &answer);
-        left = -1;
-        check(alive == before && status == answer.status
-                  && (status == JZ_MEMORY ? at < all && is_untouched()
-                                          : status == wanted && !memcmp(text, plain, ROOM) && !memcmp(rows, plain_rows, sizeof rows)),
-              "a call where memory is refused");
-    }
-}
-
 /* What the plain C makes: a text, or a tree and with it its words. */
 typedef struct made {
     uint8_t *bytes;
@@ -110,6 +108,48 @@ static void give_back(uint32_t task, made *it) {
 }
 
 static int is_empty(const jz_doc *doc) { return !doc->nodes && !doc->words && !doc->count && !doc->root; }
+
+/* The plain C where allocations are refused: what it makes is in `plain`. */
+static void check_made(uint32_t task, size_t length) {
+    made it;
+    calls = parses = 0;
+    uint32_t status = make(task, input, length, &it);
+    long all = calls, is_once = parses == 1;
+    give_back(task, &it);
+    check(status == JZ_OK, "what is made of the input");
+    for (long at = 0; at < 2 * all; at++) {
+        long before = alive;
+        calls = 0;
+        if (at < all) left = at;
+        else only = at - all;
+        status = make(task, input, length, &it);
+        left = only = -1;
+        int is_made = status == JZ_OK && memcmp(it.bytes, plain, (size_t)it.answer.length) == 0;
+        int is_none = status == JZ_MEMORY && (at < all || !is_once) && (task < TASKS ? !it.bytes : is_empty(&it.doc));
+        check(status == it.answer.status && (is_made || is_none), "what is made where memory is refused");
+        give_back(task, &it);
+        check(alive == before, "what is kept where memory is refused");
+    }
+}
+
+static void check_refused(uint32_t task, size_t length) {
+    jz_answer answer;
+    calls = 0;
+    uint32_t wanted = call(task, length, &answer);
+    long all = calls;
+    memcpy(plain, text, sizeof text);
+    memcpy(plain_rows, rows, sizeof rows);
+    for (long at = 0; at <= all; at++) {
+        long before = alive;
+        left = at;
+        uint32_t status = call(task, length, &answer);
+        left = -1;
+        check(alive == before && status == answer.status
+                  && (status == JZ_MEMORY ? at < all && is_untouched()
+                                          : status == wanted && !memcmp(text, plain, ROOM) && !memcmp(rows, plain_rows, sizeof rows)),
+              "a call where memory is refused");
+    }
+}
 
 /* Nothing is left in a result that the caller then frees, whichever pointer is null. */
 static void check_nulls(void) {
@@ -140,7 +180,7 @@ static void check_nulls(void) {
     }
 }
 
-/* The rooms that are asked for are those of what is made. A refusal is answered to all. */
+/* The rooms that are asked for are those of what is made, and no more is kept. A refusal is answered to all. */
 static void check_rooms(uint32_t task, const char *page, size_t length) {
     jz_answer asked;
     made it;
@@ -149,7 +189,37 @@ static void check_rooms(uint32_t task, const char *page, size_t length) {
                                  : jz_tree_rooms((const uint8_t *)page, length, &options, &asked);
     check(status == it.answer.status && told == status && memcmp(&asked, &it.answer, sizeof asked) == 0, "the room that is asked for");
     check((status == JZ_OK) == (it.bytes != NULL), "what is made, or refused");
+    check(!it.bytes || malloc_usable_size(it.bytes) < it.answer.length + 8192, "the memory that is kept");
     give_back(task, &it);
+}
+
+/* A page of nested lists, with the spaces that are written before each line. */
+static size_t lists_page(char *page) {
+    char *end = page;
+    for (int depth = 0; depth < 6; depth++) end += sprintf(end, "<div class=level>\n");
+    for (int item = 0; item < 200; item++)
+        end += sprintf(end, "            <li><a href=\"/%d\">Section %d</a> of the <em>guide</em>, and what it is about.</li>\n", item, item);
+    return (size_t)(end - page);
+}
+
+/* How often an ordinary page is parsed, and one whose text or nodes are many for its length. */
+static void check_parses(void) {
+    static char page[ROOM];
+    size_t length = lists_page(page);
+    made it;
+    for (uint32_t task = 0; task < ALL; task++) {
+        parses = 0;
+        check(make(task, page, length, &it) == JZ_OK && parses == 1, "the parses of an ordinary page");
+        give_back(task, &it);
+    }
+    for (length = 0; length + 8 < 4096; length += 8) memcpy(page + length, "<b><div>", 8);
+    for (int is_tree = 0; is_tree < 2; is_tree++) {
+        uint32_t task = is_tree ? TASKS : JZ_TREE;
+        parses = 0;
+        check(make(task, page, length, &it) == JZ_OK && parses <= 2, "the parses of a page with long texts or many nodes");
+        give_back(task, &it);
+        check_rooms(task, page, length);
+    }
 }
 
 enum { ATTRIBUTES = 20000 };
@@ -216,6 +286,7 @@ int main(int count, char **words) {
     options.context = jz_lent((const uint8_t *)"div", 3);
     for (uint32_t task = 0; task < ALL; task++) {
         check_refused(task, length);
+        check_made(task, length);
         check_rooms(task, (const char *)input, length);
         check_rooms(task, long_text, sizeof long_text);
         check_rooms(task, "", 0);
@@ -223,6 +294,7 @@ int main(int count, char **words) {
         check_rooms(task, "\xff", 1);
     }
     check_nulls();
+    check_parses();
     check_attributes();
     check_none();
     printf("%ld passed, %ld failed\n", passed, failed);

@@ -192,22 +192,35 @@ static inline uint32_t jz_tree_rooms(const uint8_t *input, size_t length, const 
     return answer->status;
 }
 
-/* The text of a task in memory of its own, which the caller frees with free(); *text is null where the status is not JZ_OK. */
+/* The same block, with no more room than these bytes need. */
+static inline uint8_t *jz_cut(uint8_t *block, size_t length) {
+    uint8_t *cut = (uint8_t *)realloc(block, length + 1);
+    return cut ? cut : block;
+}
+
+/* The text of a task in a block of this room. */
+static inline uint32_t jz_text_in(size_t room, uint32_t task, const uint8_t *input, size_t length, const jz_options *options,
+                                  uint8_t **text, jz_answer *answer) {
+    uint8_t *block = (uint8_t *)malloc(room);
+    uint32_t status = block ? jz_text(task, input, length, options, block, room, answer) : jz_fault(answer, JZ_MEMORY);
+    if (status == JZ_OK) *text = jz_cut(block, (size_t)answer->length);
+    else free(block);
+    return status;
+}
+
+/* The text of a task in memory of its own, which the caller frees with free(); *text is null where the status is not JZ_OK. One parse
+ * makes it if six bytes for each of the input are room enough, as for nearly every page, and malloc gives so many (those that are not
+ * written take no memory); if not, a second parse makes it in the room that it needs. */
 static inline uint32_t jz_make_text(uint32_t task, const uint8_t *input, size_t length, const jz_options *options, uint8_t **text,
                                     jz_answer *answer) {
-    size_t room = length < 256 ? 512 : length * 2;
     uint32_t status;
     if (text) *text = NULL;
     if (!answer) return JZ_NULL;
     if (!text || !jz_is_whole(input, options)) return jz_fault(answer, JZ_NULL);
-    do {
-        if (!(*text = (uint8_t *)malloc(room))) return jz_fault(answer, JZ_MEMORY);
-        status = jz_text(task, input, length, options, *text, room, answer);
-        if (status == JZ_OK) return status;
-        free(*text);
-        *text = NULL;
-        room = (size_t)answer->length;
-    } while (status == JZ_TOO_SHORT);
+    status = jz_text_in(1024 + length * 6, task, input, length, options, text, answer);
+    if (status == JZ_MEMORY) status = jz_text_room(task, input, length, options, answer);
+    if (status == JZ_TOO_SHORT || (status == JZ_OK && !*text))
+        status = jz_text_in((size_t)answer->length + 1, task, input, length, options, text, answer);
     return status;
 }
 
@@ -245,28 +258,34 @@ static inline uint32_t jz_index(jz_doc *doc, const jz_row *rows, size_t count, s
     return JZ_OK;
 }
 
-/* Parses an input into a tree. `answer` may not be null; the tree is of zeros where the status is not JZ_OK. */
+/* A tree made by way of these rooms. */
+static inline uint32_t jz_parse_in(size_t rows, size_t words, const uint8_t *input, size_t length, const jz_options *options, jz_doc *doc,
+                                   jz_answer *answer) {
+    jz_row *table = (jz_row *)malloc(rows * sizeof *table);
+    uint32_t status = JZ_MEMORY;
+    doc->root = options->context.length ? 1 : 0;
+    doc->words = (uint8_t *)malloc(words);
+    if (table && doc->words) status = jz_tree(input, length, options, table, rows, doc->words, words, answer);
+    if (status == JZ_OK) {
+        doc->words = jz_cut(doc->words, (size_t)answer->length);
+        status = jz_index(doc, table, (size_t)answer->nodes, (size_t)answer->length);
+    }
+    free(table);
+    if (status != JZ_OK) jz_free(doc);
+    return status == JZ_MEMORY ? jz_fault(answer, status) : status;
+}
+
+/* Parses an input into a tree. `answer` may not be null; the tree is of zeros where the status is not JZ_OK. As with jz_make_text a
+ * second parse is made only where there are very many nodes for the length, as in "<p><p><p>", or malloc gives little. */
 static inline uint32_t jz_parse(const uint8_t *input, size_t length, const jz_options *options, jz_doc *doc, jz_answer *answer) {
-    size_t rows = 64 + length / 4, words = 256 + length * 2; /* what is not written takes no memory */
-    jz_row *table;
     uint32_t status;
     if (doc) memset(doc, 0, sizeof *doc);
     if (!answer) return JZ_NULL;
     if (!doc || !jz_is_whole(input, options)) return jz_fault(answer, JZ_NULL);
-    do {
-        table = (jz_row *)malloc(rows * sizeof *table);
-        doc->words = (uint8_t *)malloc(words);
-        if (!table || !doc->words) status = jz_fault(answer, JZ_MEMORY);
-        else status = jz_tree(input, length, options, table, rows, doc->words, words, answer);
-        if (status == JZ_OK) {
-            doc->root = options->context.length ? 1 : 0;
-            status = answer->status = jz_index(doc, table, (size_t)answer->nodes, (size_t)answer->length);
-        }
-        free(table);
-        if (status != JZ_OK) jz_free(doc);
-        rows = (size_t)answer->nodes + 1;
-        words = (size_t)answer->length + 1;
-    } while (status == JZ_TOO_SHORT);
+    status = jz_parse_in(64 + length / 4, 256 + length * 2, input, length, options, doc, answer);
+    if (status == JZ_MEMORY) status = jz_tree_rooms(input, length, options, answer);
+    if (status == JZ_TOO_SHORT || (status == JZ_OK && !doc->nodes))
+        status = jz_parse_in((size_t)answer->nodes + 1, (size_t)answer->length + 1, input, length, options, doc, answer);
     return status;
 }
 
