@@ -129,6 +129,28 @@ enum { JZ_DOCUMENT = 0, JZ_DOCTYPE = 1, JZ_ELEMENT = 2, JZ_COMMENT = 3, JZ_TEXT_
 uint32_t jz_tree(const uint8_t *input, size_t length, const jz_options *options, jz_row *rows, size_t row_room, uint8_t *words,
                  size_t word_room, jz_answer *answer);
 
+/* The layouts that the library has, whose pointers are of 64 bits. A compiler that lays out another stops here. */
+#if defined __cplusplus && __cplusplus >= 201103L
+#define JZ_IS(name, condition) static_assert(condition, #name)
+#elif !defined __cplusplus && defined __STDC_VERSION__ && __STDC_VERSION__ >= 201112L
+#define JZ_IS(name, condition) _Static_assert(condition, #name)
+#else
+#define JZ_IS(name, condition) typedef char name[(condition) ? 1 : -1]
+#endif
+#define JZ_HAS(type, field, place, size) (offsetof(type, field) == place && sizeof(((type *)0)->field) == size)
+
+JZ_IS(jz_layout_of_bytes, sizeof(jz_bytes) == 16 && JZ_HAS(jz_bytes, bytes, 0, 8) && JZ_HAS(jz_bytes, length, 8, 8));
+JZ_IS(jz_layout_of_options, sizeof(jz_options) == 96 && JZ_HAS(jz_options, context, 0, 16) && JZ_HAS(jz_options, entities, 16, 16)
+      && JZ_HAS(jz_options, quirks, 32, 16) && JZ_HAS(jz_options, nodes, 48, 8) && JZ_HAS(jz_options, open, 56, 8)
+      && JZ_HAS(jz_options, piece, 64, 8) && JZ_HAS(jz_options, key_low, 72, 8) && JZ_HAS(jz_options, key_high, 80, 8)
+      && JZ_HAS(jz_options, escaping, 88, 4) && JZ_HAS(jz_options, bad_bytes, 92, 4));
+JZ_IS(jz_layout_of_answer, sizeof(jz_answer) == 32 && JZ_HAS(jz_answer, status, 0, 4) && JZ_HAS(jz_answer, detail, 4, 4)
+      && JZ_HAS(jz_answer, at, 8, 8) && JZ_HAS(jz_answer, length, 16, 8) && JZ_HAS(jz_answer, nodes, 24, 8));
+JZ_IS(jz_layout_of_row, sizeof(jz_row) == 20 && JZ_HAS(jz_row, number, 0, 4) && JZ_HAS(jz_row, kind, 4, 4)
+      && JZ_HAS(jz_row, parent, 8, 4) && JZ_HAS(jz_row, first_child, 12, 4) && JZ_HAS(jz_row, next, 16, 4));
+#undef JZ_HAS
+#undef JZ_IS
+
 /* From here on plain C, which is not proved: what asks for room or takes memory, the tree with an index, and names for numbers. */
 
 /* The name of a status, as "NotUtf8". */
