@@ -35,20 +35,54 @@ static int refused(const jz_answer *answer) {
     return 2;
 }
 
+/* The texts of a tree one after another. Those inside a node are from begins[node] to begins[past[node]], where past[node] is the first
+ * node after all that are inside it, or doc.count. So a link in a link in a link takes no longer than any other. */
+typedef struct all_texts {
+    char *bytes;
+    size_t *begins;
+    uint32_t *past;
+} all_texts;
+
+static all_texts texts_of(const jz_doc *doc, size_t room) {
+    all_texts all = { malloc(room + 1), malloc((doc->count + 1) * sizeof *all.begins), malloc(doc->count * sizeof *all.past) };
+    size_t length = 0;
+    uint32_t node;
+    if (!all.bytes || !all.begins || !all.past) die("out of memory");
+    all.past[doc->root] = doc->count;
+    for (node = jz_first_child(doc, doc->root); node != JZ_NONE; node = jz_after(doc, node, doc->root)) {
+        uint32_t next = jz_next(doc, node);
+        all.past[node] = next != JZ_NONE ? next : all.past[jz_parent(doc, node)];
+        all.begins[node] = length;
+        if (jz_kind(doc, node) == JZ_TEXT_NODE) {
+            jz_bytes text = jz_data(doc, node);
+            memcpy(all.bytes + length, text.bytes, text.length);
+            length += text.length;
+        }
+    }
+    all.begins[doc->count] = length;
+    return all;
+}
+
 static int print_links(const uint8_t *page, size_t length, const jz_options *options) {
     jz_doc doc;
     jz_answer answer;
-    uint32_t node, inner;
+    all_texts all;
+    uint32_t node;
     if (jz_parse(page, length, options, &doc, &answer) != JZ_OK) return refused(&answer);
-    for (node = doc.root; node != JZ_NONE; node = jz_after(&doc, node, doc.root)) {
-        jz_bytes link = jz_attribute(&doc, node, "href");
-        if (!jz_is(jz_name(&doc, node), "a") || !link.bytes) continue;
-        printf("%.*s ", (int)link.length, (const char *)link.bytes);
-        for (inner = jz_after(&doc, node, node); inner != JZ_NONE; inner = jz_after(&doc, inner, node))
-            if (jz_kind(&doc, inner) == JZ_TEXT_NODE)
-                printf("%.*s", (int)jz_data(&doc, inner).length, (const char *)jz_data(&doc, inner).bytes);
-        printf("\n");
+    all = texts_of(&doc, (size_t)answer.length);
+    for (node = jz_first_child(&doc, doc.root); node != JZ_NONE; node = jz_after(&doc, node, doc.root)) {
+        jz_bytes link;
+        if (!jz_is(jz_name(&doc, node), "a")) continue;
+        link = jz_attribute(&doc, node, "href");
+        if (!link.bytes) continue;
+        fwrite(link.bytes, 1, link.length, stdout);
+        putchar(' ');
+        fwrite(all.bytes + all.begins[node], 1, all.begins[all.past[node]] - all.begins[node], stdout);
+        putchar('\n');
     }
+    free(all.bytes);
+    free(all.begins);
+    free(all.past);
     jz_free(&doc);
     return 0;
 }
