@@ -118,14 +118,20 @@ def tree(page, **settings):
 
 
 def links(page):
-    """The links of a page, each with its text."""
-    nodes, parents = tree(page), {}
-    for row, _ in nodes:
-        parents[row.number] = parents.get(row.parent, ()) + (row.number,)
+    """The links of a page, each with its text. The time is that of the nodes and of the texts that are given, however they are nested."""
+    # The texts one after another: those inside a node are from where it begins to where the first node past all inside it begins.
+    nodes, texts, length, begins, past = tree(page), [], 0, {}, {}
     for row, words in nodes:
-        attributes = dict(reversed(list(zip(words[1::2], words[2::2]))))
-        if row.kind == 2 and words[0] == "a" and "href" in attributes:
-            yield attributes["href"], "".join(it[1][0] for it in nodes if it[0].kind == 4 and row.number in parents[it[0].number])
+        begins[row.number], past[row.number] = length, past.get(row.parent) if row.next == NO_NODE else row.next
+        if row.kind == 4:
+            texts.append(words[0])
+            length += len(words[0])
+    whole = "".join(texts)
+    for row, words in nodes:
+        if row.kind == 2 and words[0] == "a":
+            attributes = dict(zip(words[1::2], words[2::2]))
+            if "href" in attributes:
+                yield attributes["href"], whole[begins[row.number]:begins.get(past[row.number])]
 
 
 if __name__ == "__main__":
