@@ -426,11 +426,31 @@ impl<'a> Node<'a> {
     }
 }
 
-/// The links of a page, each with its text.
+/// The links of a page, each with its text. The time is that of the nodes and of the texts that are given, however they are
+/// nested.
 pub fn links(tree: &Tree) -> impl Iterator<Item = (&str, String)> {
+    // The texts one after another: those inside a node are from where it begins to where the first node past all inside it begins.
+    let mut texts = String::new();
+    let mut begins = vec![0; tree.nodes.len()];
+    let mut past = vec![NONE; tree.nodes.len()];
+    for node in tree.root().descendants() {
+        let (at, row) = (node.number as usize, node.row());
+        begins[at] = texts.len();
+        past[at] = match row.next {
+            NONE => past[row.parent as usize],
+            next => next,
+        };
+        if node.kind() == Kind::Text {
+            texts.push_str(node.text().unwrap_or_default());
+        }
+    }
     let anchors = tree
         .root()
         .descendants()
         .filter(|node| node.name() == Some("a"));
-    anchors.filter_map(|node| Some((node.attribute("href")?, node.text_content())))
+    anchors.filter_map(move |node| {
+        let end = begins.get(past[node.number as usize] as usize);
+        let inside = begins[node.number as usize]..*end.unwrap_or(&texts.len());
+        Some((node.attribute("href")?, texts[inside].to_string()))
+    })
 }

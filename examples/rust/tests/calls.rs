@@ -31,6 +31,21 @@ fn a_tree_is_walked() {
 }
 
 #[test]
+fn links_in_links_have_the_texts_inside_them() {
+    let page = b"<a href=1>a<object>b<a href=2>c</a></object>d</a>e<a href=3></a><a href=4>f<object><a href=5>g";
+    let tree = Tree::parse(page, &Options::default()).unwrap();
+    let found: Vec<_> = links(&tree).collect();
+    let wanted = [
+        ("1", "abcd"),
+        ("2", "c"),
+        ("3", ""),
+        ("4", "fg"),
+        ("5", "g"),
+    ];
+    assert_eq!(found, wanted.map(|(link, text)| (link, text.to_string())));
+}
+
+#[test]
 fn pieces_are_gathered() {
     let mut parser = Parser::new(div());
     for piece in PAGE.chunks(1) {
