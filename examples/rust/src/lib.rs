@@ -131,6 +131,14 @@ impl Error {
         }
     }
 
+    fn memory() -> Error {
+        Error {
+            status: 6,
+            detail: 0,
+            at: 0,
+        }
+    }
+
     /// Its name, as `NotUtf8`.
     pub fn name(&self) -> &'static str {
         STATUSES.get(self.status as usize).copied().unwrap_or("?")
@@ -153,12 +161,20 @@ impl fmt::Display for Error {
 
 impl error::Error for Error {}
 
+/// A vector with room for so many, or with none where there is not so much memory. What is not written takes none.
+fn with_room<T>(count: usize) -> Vec<T> {
+    let mut made = Vec::new();
+    let _ = made.try_reserve_exact(count);
+    made
+}
+
 /// The text of a task.
 pub fn text(task: Task, input: &[u8], options: &Options) -> Result<String, Error> {
     let (given, mut answer) = (options.raw(), raw::Answer::default());
-    let mut output = vec![0; input.len() * 2 + 256];
+    let mut room = input.len() * 6 + 1024;
     loop {
-        // SAFETY: the slices are Rust's and do not overlap, and live through the call.
+        let mut output = with_room::<u8>(room);
+        // SAFETY: the memory is Rust's and does not overlap, and lives through the call.
         unsafe {
             raw::jz_text(
                 task as u32,
@@ -166,18 +182,22 @@ pub fn text(task: Task, input: &[u8], options: &Options) -> Result<String, Error
                 input.len(),
                 &given,
                 output.as_mut_ptr(),
-                output.len(),
+                output.capacity(),
                 &mut answer,
             )
         };
         match answer.status {
-            0 => break,
-            TOO_SHORT => output.resize(answer.length as usize, 0),
+            0 => {
+                // SAFETY: the library has written so many.
+                unsafe { output.set_len(answer.length as usize) };
+                output.shrink_to_fit();
+                return Ok(String::from_utf8(output).expect("the library writes UTF-8"));
+            }
+            TOO_SHORT if room != answer.length as usize => room = answer.length as usize,
+            TOO_SHORT => return Err(Error::memory()),
             _ => return Err(Error::of(&answer)),
         }
     }
-    output.truncate(answer.length as usize);
-    Ok(String::from_utf8(output).expect("the library writes UTF-8"))
 }
 
 /// Whether a fragment is plain in its context: it comes back when what is written of it is parsed.
@@ -224,38 +244,40 @@ impl Tree {
     /// Parses an input.
     pub fn parse(input: &[u8], options: &Options) -> Result<Tree, Error> {
         let (given, mut answer) = (options.raw(), raw::Answer::default());
-        let mut rows = vec![raw::Row::default(); input.len() / 16 + 64];
-        let mut words = vec![0; input.len() + input.len() / 8 + 256];
+        let mut rooms = (input.len() / 4 + 64, input.len() * 2 + 256);
         loop {
-            // SAFETY: the slices are Rust's and do not overlap, and live through the call.
+            let mut rows = with_room::<raw::Row>(rooms.0);
+            let mut words = with_room::<u8>(rooms.1);
+            // SAFETY: the memory is Rust's and does not overlap, and lives through the call.
             unsafe {
                 raw::jz_tree(
                     input.as_ptr(),
                     input.len(),
                     &given,
                     rows.as_mut_ptr(),
-                    rows.len(),
+                    rows.capacity(),
                     words.as_mut_ptr(),
-                    words.len(),
+                    words.capacity(),
                     &mut answer,
                 )
             };
+            let needed = (answer.nodes as usize, answer.length as usize);
             match answer.status {
-                0 => break,
-                TOO_SHORT => {
-                    rows.resize(answer.nodes as usize, raw::Row::default());
-                    words.resize(answer.length as usize, 0);
+                0 => {
+                    // SAFETY: the library has written so many.
+                    unsafe {
+                        rows.set_len(needed.0);
+                        words.set_len(needed.1);
+                    }
+                    words.shrink_to_fit();
+                    let root = u32::from(!options.context.is_empty());
+                    return Ok(Tree::index(rows, words, root));
                 }
+                TOO_SHORT if rooms != needed => rooms = needed,
+                TOO_SHORT => return Err(Error::memory()),
                 _ => return Err(Error::of(&answer)),
             }
         }
-        rows.truncate(answer.nodes as usize);
-        words.truncate(answer.length as usize);
-        Ok(Tree::index(
-            rows,
-            words,
-            u32::from(!options.context.is_empty()),
-        ))
     }
 
     /// Puts rows into their places by number, and finds their words.

@@ -46,6 +46,16 @@ fn links_in_links_have_the_texts_inside_them() {
 }
 
 #[test]
+fn texts_longer_than_any_guess_are_made() {
+    let page = "<b><div>".repeat(300);
+    let tree = text(Task::Tree, page.as_bytes(), &div()).unwrap();
+    assert!(tree.len() > page.len() * 20);
+    let nodes = "<p>".repeat(1000);
+    let tree = Tree::parse(nodes.as_bytes(), &div()).unwrap();
+    assert_eq!(tree.root().descendants().count(), 1000);
+}
+
+#[test]
 fn pieces_are_gathered() {
     let mut parser = Parser::new(div());
     for piece in PAGE.chunks(1) {
