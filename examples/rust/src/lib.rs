@@ -3,9 +3,13 @@
 //! The library's functions are proved; this crate is not, and keeps what they require: slices are Rust's, and no buffer overlaps
 //! another.
 
+mod error;
 mod raw;
 
-use std::{error, fmt, str};
+pub use error::{Error, ErrorKind, ParseError};
+
+use std::hash::{Hash, Hasher};
+use std::{fmt, ptr, str};
 
 /// The version of the library, as `0.1.0`.
 pub fn version() -> String {
@@ -37,7 +41,7 @@ pub enum BadBytes {
 }
 
 /// What is given with the input. `Options::default()` reads a document under the greatest limits.
-#[derive(Clone, Copy, Debug)]
+#[derive(Clone, Copy, Debug, PartialEq, Eq)]
 pub struct Options<'a> {
     /// The name of the element in which a fragment is; empty for a document.
     pub context: &'a str,
@@ -88,78 +92,8 @@ impl Options<'_> {
     }
 }
 
-/// Why an input is refused: a number of `jeanzircon.h`, what it names, and the byte (of a quirks list the line).
-#[derive(Clone, Copy, Debug, PartialEq, Eq)]
-pub struct Error {
-    pub status: u32,
-    pub detail: u32,
-    pub at: u64,
-}
-
 /// The status of too little room, which the functions here answer themselves.
 const TOO_SHORT: u32 = 13;
-
-const STATUSES: [&str; 16] = [
-    "Ok",
-    "NotUtf8",
-    "OutOfProfile",
-    "TooLarge",
-    "TooManyNodes",
-    "TooDeep",
-    "Memory",
-    "Read",
-    "BadContext",
-    "BadTable",
-    "BadQuirks",
-    "BadLimits",
-    "Write",
-    "TooShort",
-    "NotText",
-    "BadNumber",
-];
-const ELEMENTS: [&str; 10] = [
-    "", "math", "svg", "template", "select", "option", "optgroup", "frame", "frameset", "keygen",
-];
-const CAUSES: [&str; 6] = ["", "Json", "Shape", "Key", "Codepoints", "Characters"];
-
-impl Error {
-    fn of(answer: &raw::Answer) -> Error {
-        Error {
-            status: answer.status,
-            detail: answer.detail,
-            at: answer.at,
-        }
-    }
-
-    fn memory() -> Error {
-        Error {
-            status: 6,
-            detail: 0,
-            at: 0,
-        }
-    }
-
-    /// Its name, as `NotUtf8`.
-    pub fn name(&self) -> &'static str {
-        STATUSES.get(self.status as usize).copied().unwrap_or("?")
-    }
-}
-
-/// As the program says it: `NotUtf8 at 1`, `OutOfProfile svg at 4`, `BadQuirks line 2`, `Memory`.
-impl fmt::Display for Error {
-    fn fmt(&self, f: &mut fmt::Formatter) -> fmt::Result {
-        f.write_str(self.name())?;
-        match (self.status, self.detail as usize) {
-            (2, detail) => write!(f, " {} at {}", ELEMENTS[detail], self.at),
-            (9, detail) => write!(f, " {}", CAUSES[detail]),
-            (10, _) => write!(f, " line {}", self.at),
-            (1 | 3..=5, _) => write!(f, " at {}", self.at),
-            _ => Ok(()),
-        }
-    }
-}
-
-impl error::Error for Error {}
 
 /// A vector with room for so many, or with none where there is not so much memory. What is not written takes none.
 fn with_room<T>(count: usize) -> Vec<T> {
@@ -200,13 +134,19 @@ pub fn text(task: Task, input: &[u8], options: &Options) -> Result<String, Error
     }
 }
 
+/// The parse errors of an input, in the order in which they are found.
+pub fn errors(input: &[u8], options: &Options) -> Result<Vec<ParseError>, Error> {
+    let lines = text(Task::Errors, input, options)?;
+    Ok(lines.lines().map(ParseError::of).collect())
+}
+
 /// Whether a fragment is plain in its context: it comes back when what is written of it is parsed.
 pub fn is_plain(fragment: &[u8], options: &Options) -> Result<bool, Error> {
     Ok(text(Task::Plain, fragment, options)? == "plain\n")
 }
 
 /// Gathers an input that comes in pieces. The library reads an input whole, so it is refused at the end and not before.
-#[derive(Default)]
+#[derive(Debug, Default)]
 pub struct Parser<'a> {
     input: Vec<u8>,
     options: Options<'a>,
@@ -326,8 +266,21 @@ impl Tree {
     }
 }
 
+/// The nodes in tree order, each after how deep it is.
+impl fmt::Debug for Tree {
+    fn fmt(&self, f: &mut fmt::Formatter) -> fmt::Result {
+        let mut depths = vec![0; self.nodes.len()];
+        let nodes = self.root().descendants().map(|node| {
+            let depth = depths[node.row().parent as usize];
+            depths[node.number as usize] = depth + 1;
+            (depth, node)
+        });
+        f.debug_list().entries(nodes).finish()
+    }
+}
+
 /// The kind of a node.
-#[derive(Clone, Copy, Debug, PartialEq, Eq)]
+#[derive(Clone, Copy, Debug, PartialEq, Eq, Hash)]
 pub enum Kind {
     Document,
     Doctype,
@@ -336,11 +289,51 @@ pub enum Kind {
     Text,
 }
 
-/// A node of a tree, which it is lent from.
+/// What a doctype says; a part that it leaves out is empty.
+#[derive(Clone, Copy, Debug, PartialEq, Eq, Hash)]
+pub struct Doctype<'a> {
+    pub name: &'a str,
+    pub public: &'a str,
+    pub system: &'a str,
+}
+
+/// A node of a tree, which it is lent from. It equals itself alone, not another of the same name or text.
 #[derive(Clone, Copy)]
 pub struct Node<'a> {
     tree: &'a Tree,
     number: u32,
+}
+
+impl PartialEq for Node<'_> {
+    fn eq(&self, other: &Self) -> bool {
+        ptr::eq(self.tree, other.tree) && self.number == other.number
+    }
+}
+
+impl Eq for Node<'_> {}
+
+impl Hash for Node<'_> {
+    fn hash<H: Hasher>(&self, state: &mut H) {
+        ptr::hash(self.tree, state);
+        self.number.hash(state);
+    }
+}
+
+impl fmt::Debug for Node<'_> {
+    fn fmt(&self, f: &mut fmt::Formatter) -> fmt::Result {
+        let text = self.text().unwrap_or_default();
+        match self.kind() {
+            Kind::Document => f.write_str("Document"),
+            Kind::Doctype => self.doctype().map_or(Ok(()), |it| fmt::Debug::fmt(&it, f)),
+            Kind::Element => f
+                .debug_struct("Element")
+                .field("name", &self.name().unwrap_or_default())
+                .field("attributes", &self.attributes().collect::<Vec<_>>())
+                .finish(),
+            Kind::Comment => f.debug_tuple("Comment").field(&text).finish(),
+            Kind::Text => f.debug_tuple("Text").field(&text).finish(),
+        }
+    }
 }
 
 impl<'a> Node<'a> {
@@ -386,6 +379,17 @@ impl<'a> Node<'a> {
     /// The name of an element or a doctype.
     pub fn name(self) -> Option<&'a str> {
         matches!(self.kind(), Kind::Element | Kind::Doctype).then(|| self.words().next())?
+    }
+
+    /// The name and the identifiers of a doctype.
+    pub fn doctype(self) -> Option<Doctype<'a>> {
+        let mut words = self.words();
+        let mut next = || (self.kind() == Kind::Doctype).then(|| words.next())?;
+        Some(Doctype {
+            name: next()?,
+            public: next()?,
+            system: next()?,
+        })
     }
 
     /// The characters of a text, or the data of a comment.

@@ -1,8 +1,10 @@
 //! What the wrapper gives.
 
 use jeanzircon::{
-    is_plain, links, text, version, BadBytes, Error, Kind, Options, Parser, Task, Tree,
+    errors, is_plain, links, text, version, BadBytes, Doctype, Error, ErrorKind, Kind, Options,
+    ParseError, Parser, Task, Tree,
 };
+use std::collections::HashSet;
 
 const PAGE: &[u8] =
     b"<!DOCTYPE html><p title='a&lt;b'>x<a href=/one>one <b>two</b></a><!--c--><a>no link</a>";
@@ -46,6 +48,81 @@ fn links_in_links_have_the_texts_inside_them() {
 }
 
 #[test]
+fn doctypes_have_identifiers() {
+    let of = |page: &[u8]| {
+        let tree = Tree::parse(page, &Options::default()).unwrap();
+        let first = tree.root().first_child().unwrap();
+        format!("{:?}", first.doctype())
+    };
+    let said = Doctype {
+        name: "html",
+        public: "-//p",
+        system: "s",
+    };
+    assert_eq!(
+        of(b"<!doctype html public '-//p' 's'>"),
+        format!("{:?}", Some(said))
+    );
+    assert_eq!(
+        of(b"<!doctype html>"),
+        r#"Some(Doctype { name: "html", public: "", system: "" })"#
+    );
+    assert_eq!(of(b"<p>"), "None");
+}
+
+#[test]
+fn nodes_are_shown_and_compared() {
+    let page = b"<!doctype html><p title=t>x<!--c--></p><p title=t>x";
+    let tree = Tree::parse(page, &Options::default()).unwrap();
+    let again = Tree::parse(page, &Options::default()).unwrap();
+    assert_eq!(
+        format!("{tree:?}"),
+        concat!(
+            r#"[(0, Doctype { name: "html", public: "", system: "" }), (0, Element { name: "html", attributes: [] }), "#,
+            r#"(1, Element { name: "head", attributes: [] }), (1, Element { name: "body", attributes: [] }), "#,
+            r#"(2, Element { name: "p", attributes: [("title", "t")] }), (3, Text("x")), (3, Comment("c")), "#,
+            r#"(2, Element { name: "p", attributes: [("title", "t")] }), (3, Text("x"))]"#,
+        )
+    );
+    assert_eq!(format!("{:?}", tree.root()), "Document");
+    let nodes: Vec<_> = tree.root().descendants().collect();
+    assert_eq!(nodes[1], nodes[3].parent().unwrap());
+    assert_ne!(nodes[4], nodes[7]);
+    assert_ne!(tree.root(), again.root());
+    let different: HashSet<_> = nodes.iter().chain(&nodes).collect();
+    assert_eq!(different.len(), nodes.len());
+    assert_eq!(Options::default(), Options::default());
+    assert_ne!(Options::default(), div());
+}
+
+#[test]
+fn a_deep_tree_is_shown() {
+    let page = "<div>".repeat(50_000);
+    let tree = Tree::parse(page.as_bytes(), &div()).unwrap();
+    assert!(format!("{tree:?}").contains("(49999, Element"));
+}
+
+#[test]
+fn parse_errors_are_values() {
+    let found = errors(b"<p>&\0<p", &div()).unwrap();
+    let of = |at, code: &str| ParseError {
+        at,
+        code: code.to_string(),
+    };
+    assert_eq!(
+        found,
+        [
+            of(4, "unexpected-null-character"),
+            of(4, "tree-in-body"),
+            of(7, "eof-in-tag")
+        ]
+    );
+    assert_eq!(found[2].to_string(), "7 eof-in-tag");
+    assert_eq!(errors(b"<p>", &div()).unwrap(), []);
+    assert_eq!(errors(b"<svg>", &div()).unwrap_err().at(), Some(0));
+}
+
+#[test]
 fn texts_longer_than_any_guess_are_made() {
     let page = "<b><div>".repeat(300);
     let tree = text(Task::Tree, page.as_bytes(), &div()).unwrap();
@@ -84,6 +161,8 @@ fn refusals_have_places() {
         }
     );
     assert_eq!(refused.to_string(), "OutOfProfile svg at 1");
+    assert_eq!(refused.kind(), ErrorKind::OutOfProfile);
+    assert_eq!((refused.at(), refused.detail()), (Some(1), Some("svg")));
     assert_eq!(
         text(Task::Tree, b"a\xff", &div()).unwrap_err().to_string(),
         "NotUtf8 at 1"
@@ -100,10 +179,31 @@ fn refusals_have_places() {
         context: "svg",
         ..Options::default()
     };
-    assert_eq!(
-        text(Task::Tree, b"", &context).unwrap_err().name(),
-        "BadContext"
-    );
+    let refused = text(Task::Tree, b"", &context).unwrap_err();
+    assert_eq!(refused.name(), "BadContext");
+    assert_eq!(refused.kind(), ErrorKind::BadContext);
+    assert_eq!((refused.at(), refused.detail()), (None, None));
+    let quirks = Options {
+        quirks: "public-is a\n!",
+        ..Options::default()
+    };
+    let refused = text(Task::Tree, b"", &quirks).unwrap_err();
+    assert_eq!(refused.kind(), ErrorKind::BadQuirks);
+    assert_eq!((refused.at(), refused.line()), (None, Some(2)));
+    assert_eq!(refused.to_string(), "BadQuirks line 2");
+    let table = Options {
+        entities: "[",
+        ..Options::default()
+    };
+    let refused = text(Task::Tree, b"", &table).unwrap_err();
+    assert_eq!(refused.to_string(), "BadTable Json");
+    let unknown = Error {
+        status: 99,
+        detail: 99,
+        at: 0,
+    };
+    assert_eq!(unknown.kind(), ErrorKind::Other);
+    assert_eq!(unknown.to_string(), "?");
 }
 
 #[test]
