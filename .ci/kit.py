@@ -1,4 +1,7 @@
-"""The crates of crates.txt, and the words with which the kit's `rattle` reads one of them over the libraries that stand built in crates/*/out/rlib."""
+"""The crates of crates.txt, the words with which the kit's `rattle` reads one of them over the libraries that stand built in crates/*/out/rlib,
+and a script as a module."""
+import importlib.machinery
+import importlib.util
 import os
 import subprocess
 
@@ -37,3 +40,11 @@ def words(crate):
     for folder in [f"{place}/rlibs", *rlibs.values()]:
         found += ["-L", f"dependency={folder}"]
     return [*found, "--antt-project", f"{place}/rattle/logic/antt-project.json", "--logic-built", f"{place}/logic_built"]
+
+
+def loaded(path):
+    """A script as a module, which has the script's name."""
+    name = os.path.splitext(os.path.basename(path))[0].replace("-", "_")
+    module = importlib.util.module_from_spec(importlib.util.spec_from_loader(name, importlib.machinery.SourceFileLoader(name, path)))
+    module.__spec__.loader.exec_module(module)
+    return module
