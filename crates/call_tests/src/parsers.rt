@@ -26,7 +26,7 @@ fn feeds_refused(parser: &mut Parser<'_>) -> bool {
 fn parser_stays(alloc: Global) -> Result<bool, Refusal> {
     let table = Table::core(alloc)?;
     let quirks = Quirks::read(alloc, "")?;
-    let mut parser = Parser::document(alloc, &Options::new(&table, &quirks))?;
+    let mut parser = Parser::document(alloc, &Options::new(&table, &quirks, Keys::for_tests()))?;
     let stays = feeds_refused(&mut parser);
     let is_end_refused = parser.finish().map(|_| ()) == SVG;
     Ok(stays && is_end_refused)
@@ -40,7 +40,7 @@ fn of_a_parser(rt: HostRuntime) -> Result<(), Fail> {
 
 /// A builder that may make 16 nodes, and is given a tag for each and more.
 fn full(alloc: Global, quirks: &Quirks) -> Result<Builder<'_>, Refusal> {
-    Builder::document(alloc, Keys::fixed(), quirks, Limits::new(0, 16, 16)?)
+    Builder::document(alloc, Keys::for_tests(), quirks, Limits::new(0, 16, 16)?)
 }
 
 /// Hands over a start tag.
@@ -79,7 +79,7 @@ fn fill(builder: &mut Builder<'_>, names: &mut Names, alloc: Global) -> Result<(
 /// Whether a full builder refuses the next element, and then all.
 fn builder_stays(alloc: Global) -> Result<bool, Refusal> {
     let quirks = Quirks::read(alloc, "")?;
-    let mut names = Names::new(alloc)?;
+    let mut names = Names::new(alloc, Keys::for_tests())?;
     let mut builder = full(alloc, &quirks)?;
     let is_filled = fill(&mut builder, &mut names, alloc).is_ok();
     let is_refused = take_div(&mut builder, &mut names, alloc) == FULL;

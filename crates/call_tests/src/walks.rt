@@ -4,7 +4,7 @@ use crate::given::Taken;
 use charref::Table;
 use hmarkup::CommentWalk;
 use htag::{TagKind, TagWalk};
-use names::{Names, ParseError, Placed, Refusal};
+use names::{Keys, Names, ParseError, Placed, Refusal};
 use std::alloc::Global;
 use std::test::Fail;
 
@@ -65,7 +65,7 @@ struct TagOutput {
 impl TagOutput {
     fn new(alloc: Global) -> Result<TagOutput, Refusal> {
         Ok(TagOutput {
-            names: Names::new(alloc)?,
+            names: Names::new(alloc, Keys::for_tests())?,
             errors: Vec::new(alloc),
         })
     }

@@ -41,7 +41,7 @@ pub(crate) fn begin<'t>(
 ) -> Result<Reading<'t, Collected>, AllocError>
     ensures { IfOk result (λ reading. HasReadTokens options.now.table.now options.now.bad_bytes options.now.limits.input reading []) }
 {
-    let names = Names::with_keys(alloc, options.keys)?;
+    let names = Names::new(alloc, options.keys)?;
     let sink = Collected::new(alloc);
     Ok(Reading::new(alloc, options, Start::Document, names, sink))
 }

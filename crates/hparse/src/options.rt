@@ -25,8 +25,8 @@ pub struct Options<'t> {
 }
 
 impl<'t> Options<'t> {
-    /// Bad bytes are refused; the greatest limits, and fixed keys: for input that is not trusted, set `keys` to [`Keys::new`] of random bytes.
-    pub fn new(table: &'t Table, quirks: &'t Quirks) -> Options<'t>
+    /// Bad bytes are refused, with the greatest limits. The keys are [`Keys::random`] wherever the input may be a stranger's.
+    pub fn new(table: &'t Table, quirks: &'t Quirks, keys: Keys) -> Options<'t>
         ensures { options_of result ≡ record {
           table = table.now;
           quirks = quirks.now;
@@ -41,7 +41,7 @@ impl<'t> Options<'t> {
             quirks,
             bad_bytes: BadBytes::Refuse,
             limits: Limits::greatest(),
-            keys: Keys::fixed(),
+            keys,
         }
     }
 }

@@ -15,7 +15,6 @@ use std::alloc::Global;
 use std::fs::File;
 use std::io::{ErrorKind, Stderr, Stdin, Stdout};
 use std::process::ExitCode;
-use std::random::RandomSource;
 use std::{env, fs};
 
 // No clause knows what the system holds: stored runs show that these calls hand on its words and files.
@@ -48,9 +47,8 @@ impl Surroundings for HostRuntime {
     }
 
     fn keys(&self) -> Result<Keys, Fault> {
-        let mut secret = [0; 16];
-        match self.fill_bytes(&mut secret) {
-            Ok(()) => Ok(Keys::new(u128::from_le_bytes(secret))),
+        match Keys::random(self) {
+            Ok(keys) => Ok(keys),
             Err(_) => Err(Fault::NoRandomBytes),
         }
     }

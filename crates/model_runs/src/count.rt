@@ -3,8 +3,8 @@
 use hmarkup::ErrorSink;
 use htoken::TokenSink;
 use hwrite::{
-    Counted, Options, ParseError, Parser, Quirks, Refusal, Source, Table, Token, parse_reader,
-    read_into,
+    Counted, Keys, Options, ParseError, Parser, Quirks, Refusal, Source, Table, Token,
+    parse_reader, read_into,
 };
 use std::alloc::Global;
 use std::fs::File;
@@ -83,7 +83,7 @@ fn count_nodes<S: Source>(
 fn count(alloc: Global, are_tokens: bool, file: File) -> Result<(u64, u64), Refusal> {
     let table = Table::core(alloc)?;
     let quirks = Quirks::read(alloc, "")?;
-    let options = Options::new(&table, &quirks);
+    let options = Options::new(&table, &quirks, Keys::for_tests());
     let mut source = Counted::new(file);
     if are_tokens {
         count_tokens(alloc, &options, &mut source)

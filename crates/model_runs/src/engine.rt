@@ -81,7 +81,7 @@ fn read_line(
             quirks,
             bad_bytes: bad_bytes(word(line, 6)),
             limits,
-            keys: Keys::fixed(),
+            keys: Keys::for_tests(),
         },
         input: &input,
     };

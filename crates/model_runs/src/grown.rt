@@ -5,7 +5,7 @@ ghost use Rattle.model_runs.specs.Grown.{AreNamed, IsGrown, KeepsNames};
 
 use crate::words::text;
 use hnodes::{NodeId, Place, Tree};
-use names::{Attr, Names, Refusal};
+use names::{Attr, Keys, Names, Refusal};
 use std::alloc::Global;
 
 /// A tree that was built node by node, and the table of its names. The list that it is built for is in the root.
@@ -23,7 +23,7 @@ const NODES: u32 = 1_000;
 pub fn grow(alloc: Global, context: &str, words: &str) -> Result<Grown, Refusal>
     ensures { IfOk result IsGrown }
 {
-    let mut names = Names::new(alloc)?;
+    let mut names = Names::new(alloc, Keys::for_tests())?;
     let mut tree = Tree::new(alloc, NODES)?;
     let name = names.intern(alloc, context)?;
     let root = tree.create_element(name, Vec::new(alloc), 0)?;

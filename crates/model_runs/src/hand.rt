@@ -6,7 +6,7 @@ use crate::answers::Answers;
 use crate::words::{number, word};
 use hnodes::{DocumentType, NodeId, Tree};
 use hopen::Open;
-use names::{Attr, NameId, Names};
+use names::{Attr, Keys, NameId, Names};
 use std::alloc::{AllocError, Global};
 
 /// A tree, whose nodes words name by their numbers, the names, and the answers.
@@ -23,7 +23,7 @@ impl Hand {
     pub fn new(alloc: Global) -> Result<Self, AllocError> {
         let out = Answers::new(alloc)?;
         let tree = Tree::new(alloc, 1)?;
-        let names = Names::new(alloc)?;
+        let names = Names::new(alloc, Keys::for_tests())?;
         Ok(Hand {
             alloc,
             tree,

@@ -25,7 +25,7 @@ pub fn call(list: &mut Formatting, hand: &mut Hand, line: &str) -> Result<Reply,
 }
 
 fn begin(list: &mut Formatting, alloc: Global) -> Reply {
-    *list = Formatting::new(alloc, Keys::fixed());
+    *list = Formatting::new(alloc, Keys::for_tests());
     Reply::Done
 }
 

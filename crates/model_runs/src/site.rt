@@ -52,7 +52,7 @@ impl Run {
         ensures { IfOk result (λ run. Kept numbers run.site) }
     {
         Ok(Run {
-            site: Site::new(alloc, Keys::fixed(), most_nodes.max(1), most_open)?,
+            site: Site::new(alloc, Keys::for_tests(), most_nodes.max(1), most_open)?,
             sound: true,
             at: 0,
         })

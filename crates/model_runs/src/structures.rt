@@ -50,7 +50,7 @@ impl Structures {
             hand: Hand::new(alloc)?,
             chain: Chains::new(alloc),
             stack: OpenStack::new(alloc, 0),
-            list: Formatting::new(alloc, Keys::fixed()),
+            list: Formatting::new(alloc, Keys::for_tests()),
             table: None,
             quirks: None,
         })

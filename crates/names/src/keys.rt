@@ -1,7 +1,9 @@
 //! What keeps a page from choosing which of its names meet in one bucket.
 
 use std::hash::{BuildHasher, DefaultHasher, Hasher};
+use std::io;
 use std::marker::Model;
+use std::random::RandomSource;
 
 /// The keys of the hashes over an input's names and formatting elements. No result depends on them, only the time: a page that is
 /// made against known keys takes time quadratic in its length.
@@ -21,15 +23,22 @@ impl Model for Keys {
 }
 
 impl Keys {
-    /// Keys from a secret: 16 random bytes of the system, drawn once a program or once an input.
+    /// Keys from 16 random bytes of the system, as which a program hands in its runtime, drawn once a program or once an input.
+    pub fn random<R: RandomSource>(system: &R) -> io::Result<Keys> {
+        let mut secret = [0; 16];
+        system.fill_bytes(&mut secret)?;
+        Ok(Keys::new(u128::from_le_bytes(secret)))
+    }
+
+    /// Keys from a secret of 16 random bytes.
     pub fn new(secret: u128) -> Keys {
         let mut begun = DefaultHasher::new();
         begun.write_u128(secret);
         Keys { begun }
     }
 
-    /// The keys that everybody knows, for inputs that are trusted and for tests.
-    pub fn fixed() -> Keys {
+    /// Keys that everybody knows, for tests.
+    pub fn for_tests() -> Keys {
         Keys::new(0)
     }
 }

@@ -123,17 +123,8 @@ impl Model for Names {
 }
 
 impl Names {
-    /// A table of the known names with fixed keys, for trusted input: who can choose the names of an input can make them all
-    /// meet in one bucket. See `with_keys`.
-    pub fn new(alloc: Global) -> Result<Names, AllocError>
-        ensures known { IfOk result (λ names. names ≡ known) }
-        ensures names { IfOk result AreNames }
-    {
-        Names::with_keys(alloc, Keys::fixed())
-    }
-
     /// A table of the known names. They are the same for every table, so nothing is allocated for them.
-    pub fn with_keys(alloc: Global, keys: Keys) -> Result<Names, AllocError>
+    pub fn new(alloc: Global, keys: Keys) -> Result<Names, AllocError>
         ensures known { IfOk result (λ names. names ≡ known) }
         ensures names { IfOk result AreNames }
     {

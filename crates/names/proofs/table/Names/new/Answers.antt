@@ -1,5 +1,5 @@
 use Rattle.names.proofs.TableLemmas.{are_names, no_others, no_others_known}
-use Rattle.names.proofs.table.Names.with_keys.Goals as goal
+use Rattle.names.proofs.table.Names.new.Goals as goal
 
 pub invariant_of-result : goal.invariant_of-result
 invariant_of-result c = no_others _ c.with_hasher.ensures.empty c.with_hasher.ensures.unique
