@@ -14,5 +14,5 @@ returns c =
       none_told = ap (λ (b : Building). b.told) e;
       root_is = ap (λ (b : Building). b.root) e;
       begins = subst (λ (b : Building). BeginsIn (options_of c.args.options.now) c.in_ok-names.names document b.state) (sym e) a_document;
-      has_read = c.new.ensures;
+      has_read = c.new-2.ensures;
     }
