@@ -9,3 +9,4 @@ pub mod Last
 pub mod Open
 pub mod Walk
 pub mod AtOnce
+pub mod Flat
