@@ -31,10 +31,10 @@ pub record Settles (table : Entities) (bytes : List ℕ) (count : ℕ) (found : 
   pub ascii : list_all is_ascii (take count bytes) ≡ true
   pub read : (at : ℕ) (after : List Placed) → IsRead table false (placed at (take count bytes)) after found
 
--- The table has this entry, whose key ends in a `;`, and these bytes begin with all of the key after its `&`.
-pub record HasWhole (table : Entities) (bytes : List ℕ) (e : Entry) : Type 0 where
+-- The table has an entry at this place, whose key ends in a `;`, and these bytes begin with all of the key after its `&`.
+pub record HasWhole (table : Entities) (bytes : List ℕ) (place : ℕ) : Type 0 where
   pub is_table : IsTable table
-  pub place : ℕ
-  pub stands : slice_get table place ≡ Some e
-  pub closed : ends_in_semicolon e.key ≡ true
-  pub opens : starts_with nat_eq bytes (drop 1 e.key) ≡ true
+  pub entry : Entry
+  pub stands : slice_get table place ≡ Some entry
+  pub closed : ends_in_semicolon entry.key ≡ true
+  pub opens : starts_with nat_eq bytes (drop 1 entry.key) ≡ true

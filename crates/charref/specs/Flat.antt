@@ -21,9 +21,12 @@ pub record IsReadable (table : Entities) : Type 0 where
 abbrev pub flat_character : ℕ → List ℕ
 flat_character c = to_le_bytes w32 c
 
+abbrev pub flat_characters : List ℕ → List ℕ
+flat_characters characters = length characters ∷ flat_map flat_character characters
+
 -- an entry: its key, how many characters it stands for, and these. The count is no byte of a key, so it ends the key.
 abbrev pub flat_entry : Entry → List ℕ
-flat_entry entry = entry.key ++ length entry.stands_for ∷ flat_map flat_character entry.stands_for
+flat_entry entry = entry.key ++ flat_characters entry.stands_for
 
 -- a table: the version of this form, with which no JSON text begins, and its entries
 abbrev pub flat_of : Entities → List ℕ

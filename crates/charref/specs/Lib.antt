@@ -10,3 +10,4 @@ pub mod Open
 pub mod Walk
 pub mod AtOnce
 pub mod Flat
+pub mod Front

@@ -1,18 +1,28 @@
 -- A table in memory, and the state of a look-up in it.
-use Rattle.std.specs.Prelude.{◌≡◌, ℕ, ◌+◌, ◌≤◌, ◌<◌, Bool, true, false, nat_eq, nat_le, nat_lt, ◌&&◌, List, map, length, slice_get, Option, Some, None, IfSome}
+use Rattle.std.specs.Prelude.{◌≡◌, ℕ, ◌+◌, ◌≤◌, ◌<◌, Bool, true, false, nat_eq, nat_le, nat_lt, ◌&&◌, if◌then◌else◌, List, [], map, length, slice_get, slice_range, Option, Some, None, IfSome}
 use Rattle.std.specs.List.{starts_with}
 use Rattle.std.specs.List.Sorted.{IsStrictlySortedBy}
 use Rattle.std.specs.Cmp.Lexicographic.{slice_cmp}
 use Rattle.std.specs.Ordering.{nat_cmp}
 use Rattle.charref.specs.declared.entity.Entity.{Entity}
+use Rattle.charref.specs.declared.entity.OneOrTwo.{OneOrTwo}
+use Rattle.charref.specs.declared.entity.OneOrTwo.TheVariants.{One, Two}
 use Rattle.charref.specs.declared.search.Search.{Search}
 use Rattle.charref.specs.Reference.{Entry, Entities, IsTable, longest}
 
-abbrev pub entry : Entity → Entry
-entry entity = record { key = entity.key.items; stands_for = entity.characters.items }
+-- an entry of a text: its key is the part between its ends, if the text has it
+abbrev pub key_at : List ℕ → Entity → List ℕ
+key_at text entity = if nat_le entity.start entity.end && nat_le entity.end (length text) then slice_range text entity.start entity.end else []
 
-abbrev pub entries : List Entity → Entities
-entries entities = map entry entities
+abbrev pub stands_for : OneOrTwo → List ℕ
+stands_for (One characters) = characters
+stands_for (Two characters) = characters
+
+abbrev pub entry : List ℕ → Entity → Entry
+entry text entity = record { key = key_at text entity; stands_for = stands_for entity.characters }
+
+abbrev pub entries : List ℕ → List Entity → Entities
+entries text entities = map (entry text) entities
 
 -- a table sorted by the bytes of its keys
 pub record IsSortedTable (table : Entities) : Type 0 where

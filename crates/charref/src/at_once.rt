@@ -5,12 +5,10 @@ ghost use Rattle.std.specs.Char.{is_ascii};
 ghost use Rattle.std.specs.List.{list_all, starts_with};
 ghost use Rattle.names.specs.declared.placed.Placed.{Placed};
 ghost use Rattle.names.specs.Placed.{placed};
-ghost use Rattle.charref.specs.Reference.{Entities, IsTable, ends_in_semicolon};
-ghost use Rattle.charref.specs.Table.{entry};
+ghost use Rattle.charref.specs.Reference.{Entities, IsTable};
 ghost use Rattle.charref.specs.Pieces.{IsRead};
 ghost use Rattle.charref.specs.AtOnce.{HasTakenBytes, HasSign, HasWhole, Settles};
 
-use crate::entity::Entity;
 use crate::number::Base;
 use crate::reference::{Characters, Reference};
 use crate::reference_state::ReferenceState;
@@ -50,16 +48,16 @@ impl<'t> Walk<'t> {
             return settled_number(bytes);
         }
         match self.only_key(bytes) {
-            Some(entity) => Some(whole_key(entity)),
+            Some(place) => Some(whole_key(self.table, place)),
             None => self.settled_by_steps(bytes),
         }
     }
 
-    /// The only key that may still be read, if it ends in a `;` and these bytes have all of it after its `&`. No longer key
-    /// begins with it, so nothing that comes after it matters.
+    /// The place of the only key that may still be read, if it ends in a `;` and these bytes have all of it after its `&`. No
+    /// longer key begins with it, so nothing that comes after it matters.
     #[inline(always)]
-    fn only_key(&self, bytes: &[u8]) -> Option<&'t Entity>
-        ensures { IfSome result (λ entity. HasWhole self.now.table.now bytes.now (entry entity.now)) }
+    fn only_key(&self, bytes: &[u8]) -> Option<usize>
+        ensures { IfSome result (HasWhole self.now.table.now bytes.now) }
     {
         let ReferenceState::Name(search) = self.state else {
             return None;
@@ -68,9 +66,9 @@ impl<'t> Walk<'t> {
             return None;
         }
         let table = self.table;
-        let entity = &table.entities[search.low];
-        if ends_in_semicolon(&entity.key) && begin_with(bytes, &entity.key[1..]) {
-            Some(entity)
+        let key = table.flat.key(search.low);
+        if ends_in_semicolon(key) && begin_with(bytes, &key[1..]) {
+            Some(search.low)
         } else {
             None
         }
@@ -95,20 +93,20 @@ impl<'t> Walk<'t> {
     }
 }
 
-/// The reference that a key with its `;` is, and how many bytes of it come after the `&`.
+/// The reference that the key at this place is, which ends in a `;`, and how many bytes of it come after the `&`.
 #[inline(always)]
-fn whole_key<'t>(entity: &'t Entity) -> (Reference<'t>, usize)
-    requires { ends_in_semicolon (entry entity.now).key ≡ true }
-    ensures { (table : Entities) (bytes : List ℕ) → HasWhole table bytes (entry entity.now) → Settles table bytes result.1 result.0 }
+fn whole_key<'t>(table: &'t Table, place: usize) -> (Reference<'t>, usize)
+    requires { place < length table.now }
+    ensures { (bytes : List ℕ) → HasWhole table.now bytes place → Settles table.now bytes result.1 result.0 }
 {
     let found = Reference {
-        characters: Characters::Named(&entity.characters),
+        characters: Characters::Named(table.flat.characters(place)),
         left: 0,
         missing_semicolon: false,
         fault: None,
         in_run: false,
     };
-    (found, entity.key.len() - 1)
+    (found, table.flat.key(place).len() - 1)
 }
 
 /// Whether these bytes begin with a name; by hand, since a name is too short for the groups that `starts_with` compares.

@@ -1,24 +1,41 @@
 //! The entries of a table.
 
-ghost use Rattle.std.specs.Prelude.{◌≡◌, IfOk};
+ghost use Rattle.std.specs.Prelude.{◌≡◌};
+ghost use Rattle.charref.specs.Table.{key_at, stands_for};
 
-use std::alloc::{AllocError, Global};
-
-/// A key with its `&`, and the characters that it stands for.
-#[derive(Drop)]
+/// An entry: where its key, with its `&`, begins and ends in the table's flat form, and the characters that it stands for.
+#[derive(Clone, Copy)]
 pub(crate) struct Entity {
-    pub(crate) key: Vec<u8>,
-    pub(crate) characters: Vec<char>,
+    pub(crate) start: usize,
+    pub(crate) end: usize,
+    pub(crate) characters: OneOrTwo,
+}
+
+/// The characters that a key stands for.
+#[derive(Clone, Copy)]
+pub(crate) enum OneOrTwo {
+    One([char; 1]),
+    Two([char; 2]),
+}
+
+impl OneOrTwo {
+    #[inline(always)]
+    pub(crate) fn as_slice(&self) -> &[char]
+        ensures { result.now ≡ stands_for self.now }
+    {
+        match self {
+            OneOrTwo::One(characters) => characters.as_slice(),
+            OneOrTwo::Two(characters) => characters.as_slice(),
+        }
+    }
 }
 
 impl Entity {
-    pub(crate) fn new(alloc: Global, key: &[u8], characters: &[char]) -> Result<Entity, AllocError>
-        ensures key { IfOk result (λ entity. entity.key.items ≡ key.now) }
-        ensures characters { IfOk result (λ entity. entity.characters.items ≡ characters.now) }
+    /// The key, which is in this text; empty if the text has no such part.
+    #[inline(always)]
+    pub(crate) fn key<'t>(&self, text: &'t [u8]) -> &'t [u8]
+        ensures { result.now ≡ key_at text.now self.now }
     {
-        Ok(Entity {
-            key: Vec::from_slice(alloc, key)?,
-            characters: Vec::from_slice(alloc, characters)?,
-        })
+        text.get(self.start..self.end).unwrap_or(&[])
     }
 }

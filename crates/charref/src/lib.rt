@@ -3,6 +3,9 @@
 
 mod at_once;
 mod entity;
+mod entries;
+mod flat;
+mod key;
 mod last;
 mod laws;
 mod next;
@@ -15,6 +18,7 @@ mod starts;
 mod table;
 mod walk;
 mod walking;
+mod writing;
 
 pub use laws::{goes_on_in_a_reference, one_reference, some_reference};
 pub use reference::{Characters, Reference};

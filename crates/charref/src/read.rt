@@ -1,93 +1,43 @@
 //! Reading a table from JSON text.
 
-ghost use Rattle.std.specs.Prelude.{◌≡◌, ◌⊎◌, List, [], ◌∷◌, ◌++◌, Ok, Err, Some, IfOk, IfErr, option_map, option_and_then, bytes_eq, codes, string_bytes};
+ghost use Rattle.std.specs.Prelude.{◌≡◌, ◌⊎◌, ℕ, List, [], ◌∷◌, ◌++◌, Ok, Err, Some, IfOk, IfErr, option_map, option_and_then, bytes_eq, codes, string_bytes};
 ghost use Rattle.std.specs.Prelude.{encode_utf8_all};
 ghost use Rattle.serde_json.specs.Find.{get, as_str, as_array};
 ghost use Rattle.names.specs.declared.refusal.TableFault.{TableFault};
 ghost use Rattle.serde_json.specs.View.{view, items_view, members_view};
 ghost use Rattle.serde_json.specs.Errors.{IsMemory};
-ghost use Rattle.charref.specs.Reference.{is_key, is_key_name, Entities};
+ghost use Rattle.charref.specs.Reference.{Entry, Entities};
 ghost use Rattle.charref.specs.Reading.{codepoint, codepoints, fields, entry_of, entry_of_characters, entities_of, table_of, table_of_members, IsRefusedWith};
-ghost use Rattle.charref.specs.Table.{entry, entries};
+ghost use Rattle.charref.specs.Table.{stands_for};
+ghost use Rattle.charref.specs.Flat.{flat_entry, flat_of};
 ghost use Rattle.std.specs.List.Sorted.{IsStrictlySortedBy};
 ghost use Rattle.std.specs.Map.{keys_of};
 ghost use Rattle.std.specs.String.{string_cmp};
 
-use crate::entity::Entity;
+use crate::entity::OneOrTwo;
+use crate::entries::character;
+use crate::key::is_key;
 use crate::table::Table;
+use crate::writing::add_flat;
 use names::{Refusal, TableFault};
 use serde_json::{Error, Map, Value};
 use std::alloc::{AllocError, Global};
-
-/// Whether this is one or more alphanumerics, and then at most one `;`.
-fn is_key_name(name: &[u8]) -> bool
-    ensures { result ≡ is_key_name name.now }
-{
-    for (index, byte) in name.iter().enumerate() {
-        if !byte.is_ascii_alphanumeric() {
-            return index > 0 && *byte == b';' && index + 1 == name.len();
-        }
-    }
-    !name.is_empty()
-}
-
-/// Whether this is a key: `&` and its name.
-fn is_key(key: &[u8]) -> bool
-    ensures { result ≡ is_key key.now }
-{
-    match key {
-        [b'&', name @ ..] => is_key_name(name),
-        _ => false,
-    }
-}
 
 /// The character with this number, if it is written in digits alone and is a character other than NUL.
 fn codepoint(value: &Value) -> Option<char>
     ensures { result ≡ codepoint (view value.now) }
 {
-    let number = u32::try_from(value.as_u64()?).ok()?;
-    let character = char::from_u32(number)?;
-    if character == '\0' {
-        None
-    } else {
-        Some(character)
-    }
-}
-
-/// The character of a list of one number.
-fn one_codepoint(alloc: Global, value: &Value) -> Result<Option<Vec<char>>, AllocError>
-    ensures { IfOk result (λ found. option_map (λ v. v.items) found ≡ option_map (λ c. c ∷ []) (codepoint (view value.now))) }
-{
-    match codepoint(value) {
-        Some(character) => Ok(Some(Vec::from_slice(alloc, &[character])?)),
-        None => Ok(None),
-    }
-}
-
-/// The characters of a list of two numbers.
-fn two_codepoints(
-    alloc: Global,
-    first: &Value,
-    second: &Value,
-) -> Result<Option<Vec<char>>, AllocError>
-    ensures { IfOk result (λ found. option_map (λ v. v.items) found
-        ≡ option_and_then (λ c. option_map (λ b. c ∷ b ∷ []) (codepoint (view second.now))) (codepoint (view first.now))) }
-{
-    match (codepoint(first), codepoint(second)) {
-        (Some(first), Some(second)) => Ok(Some(Vec::from_slice(alloc, &[first, second])?)),
-        _ => Ok(None),
-    }
+    character(u32::try_from(value.as_u64()?).ok()?)
 }
 
 /// The characters of a list of one or two numbers.
-fn codepoints(alloc: Global, list: &[Value]) -> Result<Option<Vec<char>>, AllocError>
-    ensures { IfOk result (λ found. option_map (λ v. v.items) found ≡ codepoints (items_view list.now)) }
+fn codepoints(list: &[Value]) -> Option<OneOrTwo>
+    ensures { option_map stands_for result ≡ codepoints (items_view list.now) }
 {
     match list {
-        [] => Ok(None),
-        [only] => one_codepoint(alloc, only),
-        [first, second] => two_codepoints(alloc, first, second),
-        [_, _, _, ..] => Ok(None),
+        [only] => Some(OneOrTwo::One([codepoint(only)?])),
+        [first, second] => Some(OneOrTwo::Two([codepoint(first)?, codepoint(second)?])),
+        _ => None,
     }
 }
 
@@ -148,24 +98,25 @@ fn json_fault(error: Error) -> Refusal
     }
 }
 
-/// The entry of a key, and of its list and its text.
-fn entity_with(alloc: Global, key: &str, list: &[Value], text: &str) -> Result<Entity, Refusal>
-    ensures ok { IfOk result (λ entity. entry_of_characters key.now text.now (codepoints (items_view list.now)) ≡ Ok (entry entity)) }
-    ensures err { IfErr result (λ e. IsRefusedWith (entry_of_characters key.now text.now (codepoints (items_view list.now))) e) }
+/// The characters of an entry, by its list and its text.
+fn characters_with(alloc: Global, list: &[Value], text: &str) -> Result<OneOrTwo, Refusal>
+    ensures ok { IfOk result (λ characters. (key : List ℕ) → entry_of_characters key text.now (codepoints (items_view list.now))
+        ≡ Ok (record { key = key; stands_for = stands_for characters })) }
+    ensures err { IfErr result (λ e. (key : List ℕ) → IsRefusedWith (entry_of_characters key text.now (codepoints (items_view list.now))) e) }
 {
-    let Some(characters) = codepoints(alloc, list)? else {
+    let Some(characters) = codepoints(list) else {
         return Err(fault(TableFault::Codepoints));
     };
-    if !is_text_of(alloc, text, &characters)? {
-        return Err(fault(TableFault::Characters));
+    if is_text_of(alloc, text, characters.as_slice())? {
+        Ok(characters)
+    } else {
+        Err(fault(TableFault::Characters))
     }
-    let key = Vec::from_slice(alloc, key.as_bytes())?;
-    Ok(Entity { key, characters })
 }
 
-/// The entry of a key and its value.
-fn entity_of(alloc: Global, key: &str, value: &Value) -> Result<Entity, Refusal>
-    ensures ok { IfOk result (λ entity. entry_of key.now (view value.now) ≡ Ok (entry entity)) }
+/// The characters that a key stands for, by its value.
+fn characters_of(alloc: Global, key: &str, value: &Value) -> Result<OneOrTwo, Refusal>
+    ensures ok { IfOk result (λ characters. entry_of key.now (view value.now) ≡ Ok (record { key = key.now; stands_for = stands_for characters })) }
     ensures err { IfErr result (λ e. IsRefusedWith (entry_of key.now (view value.now)) e) }
 {
     if !is_key(key.as_bytes()) {
@@ -174,34 +125,29 @@ fn entity_of(alloc: Global, key: &str, value: &Value) -> Result<Entity, Refusal>
     let Some((list, text)) = fields(value) else {
         return Err(fault(TableFault::Shape));
     };
-    entity_with(alloc, key, list, text)
+    characters_with(alloc, list, text)
 }
 
-/// Appends the entry of a key and its value.
-fn add_entity(
-    entities: &mut Vec<Entity>,
-    alloc: Global,
-    key: &str,
-    value: &Value,
-) -> Result<(), Refusal>
-    ensures ok { IfOk result (λ _. (e : Entity) × (entry_of key.now (view value.now) ≡ Ok (entry e)) × (entities.new.items ≡ entities.old.items ++ e ∷ [])) }
+/// Appends the entry of a key and its value to a flat form.
+fn add_entry(flat: &mut Vec<u8>, alloc: Global, key: &str, value: &Value) -> Result<(), Refusal>
+    ensures ok { IfOk result (λ _. (e : Entry) × (entry_of key.now (view value.now) ≡ Ok e) × (flat.new.items ≡ flat.old.items ++ flat_entry e)) }
     ensures err { IfErr result (λ e. IsRefusedWith (entry_of key.now (view value.now)) e) }
 {
-    let entity = entity_of(alloc, key, value)?;
-    Ok(entities.push(entity)?)
+    let characters = characters_of(alloc, key, value)?;
+    Ok(add_flat(flat, key.as_bytes(), &characters)?)
 }
 
-/// The entries of an object's members, in the order of their keys.
-fn entities_of(alloc: Global, members: &Map<String, Value>) -> Result<Vec<Entity>, Refusal>
-    ensures ok { IfOk result (λ entities. entities_of (members_view members.now.entries) ≡ Ok (entries entities.items)) }
+/// The flat form of an object's members.
+fn flat_of(alloc: Global, members: &Map<String, Value>) -> Result<Vec<u8>, Refusal>
+    ensures ok { IfOk result (λ flat. (table : Entities) × (entities_of (members_view members.now.entries) ≡ Ok table) × (flat_of table ≡ flat.items)) }
     ensures sorted { IsStrictlySortedBy string_cmp (keys_of members.now.entries) }
     ensures err { IfErr result (λ e. IsRefusedWith (entities_of (members_view members.now.entries)) e) }
 {
-    let mut entities = Vec::with_capacity(alloc, members.len())?;
+    let mut flat = Vec::from_slice(alloc, &[1])?;
     for (key, value) in members.iter() {
-        add_entity(&mut entities, alloc, key.as_str(), value)?;
+        add_entry(&mut flat, alloc, key.as_str(), value)?;
     }
-    Ok(entities)
+    Ok(flat)
 }
 
 impl Table {
@@ -225,7 +171,7 @@ impl Table {
         ensures ok { IfOk result (λ table. entities_of (members_view members.now.entries) ≡ Ok table) }
         ensures err { IfErr result (λ e. IsRefusedWith (entities_of (members_view members.now.entries)) e) }
     {
-        let entities = entities_of(alloc, members)?;
-        Ok(Table::with(alloc, entities)?)
+        let flat = flat_of(alloc, members)?;
+        Table::of_flat(alloc, flat)
     }
 }

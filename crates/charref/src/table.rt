@@ -1,14 +1,15 @@
 //! The table of named character references.
 
-ghost use Rattle.std.specs.Prelude.{◌≡◌, ◌↔◌, [], ◌∷◌, ◌++◌, length, Some, None, IfOk, IfErr, OnOk, IsTrue, Contains, MatchOption};
+ghost use Rattle.std.specs.Prelude.{◌≡◌, ◌↔◌, [], ◌∷◌, length, Some, None, IfOk, IfErr, IsTrue, Contains, MatchOption};
 ghost use Rattle.charref.specs.Reference.{Entry, Entities, IsTable, HasCore, core, longest};
-ghost use Rattle.charref.specs.Table.{entries, IsSortedTable, IsIndex};
+ghost use Rattle.charref.specs.Table.{IsIndex};
+ghost use Rattle.charref.specs.Flat.{flat_of, IsReadable, IsRefusedFlat};
 
-use crate::entity::Entity;
+use crate::flat::Flat;
 use crate::search::search_for;
 use crate::starts::starts_of;
 use names::Refusal;
-use std::alloc::{AllocError, Global};
+use std::alloc::Global;
 use std::marker::Model;
 
 /// A table of named character references, sorted by the bytes of the keys, so that the keys with a common beginning are a
@@ -16,17 +17,17 @@ use std::marker::Model;
 /// index has the ranges of the bytes after it, and each further byte takes two binary searches. It allocates nothing.
 #[derive(Drop)]
 pub struct Table {
-    pub(crate) entities: Vec<Entity>,
-    /// By the code of a byte after the `&`, the first entity whose key has at least this code there.
+    pub(crate) flat: Flat,
+    /// By the code of a byte after the `&`, the first entry whose key has at least this code there.
     pub(crate) starts: Vec<usize>,
 }
 
 impl Model for Table {
     ghost Value = { Entities };
 
-    ghost view = { λ table. entries table.entities.items };
+    ghost view = { λ table. table.flat };
 
-    ghost invariant = { λ table. IsSortedTable (entries table.entities.items) × IsIndex (entries table.entities.items) table.starts.items 130 };
+    ghost invariant = { λ table. IsReadable table.flat × IsIndex table.flat table.starts.items 130 };
 }
 
 /// A key that a text begins with: its length in bytes, including the `&`, and the characters that it stands for.
@@ -36,32 +37,9 @@ pub struct Match<'t> {
     pub characters: &'t [char],
 }
 
-/// Adds the entry of a key that stands for one character.
-fn add(
-    entities: &mut Vec<Entity>,
-    alloc: Global,
-    key: &[u8],
-    character: char,
-) -> Result<(), AllocError>
-    ensures { OnOk result (entries entities.new.items ≡ entries entities.old.items ++ record { key = key.now; stands_for = character ∷ [] } ∷ []) }
-{
-    let entity = Entity::new(alloc, key, &[character])?;
-    entities.push(entity)?;
-    Ok(())
-}
-
-/// The entries of [`Table::core`].
-fn core_entities(alloc: Global) -> Result<Vec<Entity>, AllocError>
-    ensures { IfOk result (λ entities. entries entities.items ≡ core) }
-{
-    let mut entities = Vec::with_capacity(alloc, 5)?;
-    add(&mut entities, alloc, b"&amp;", '&')?;
-    add(&mut entities, alloc, b"&gt;", '>')?;
-    add(&mut entities, alloc, b"&lt;", '<')?;
-    add(&mut entities, alloc, b"&nbsp;", '\u{A0}')?;
-    add(&mut entities, alloc, b"&quot;", '"')?;
-    Ok(entities)
-}
+/// The flat form of [`Table::core`].
+const CORE: &[u8] =
+    b"\x01&amp;\x01&\0\0\0&gt;\x01>\0\0\0&lt;\x01<\0\0\0&nbsp;\x01\xA0\0\0\0&quot;\x01\"\0\0\0";
 
 impl Table {
     /// The table of the five entries that the serializer relies on: `&amp;`, `&gt;`, `&lt;`, `&nbsp;` and `&quot;`.
@@ -69,16 +47,36 @@ impl Table {
         ensures ok { IfOk result (λ table. table ≡ core) }
         ensures err { IfErr result (λ e. e ≡ Refusal.Memory) }
     {
-        Ok(Table::with(alloc, core_entities(alloc)?)?)
+        Table::of_flat(alloc, Vec::from_slice(alloc, CORE)?)
     }
 
-    /// The table of these entries.
-    pub(crate) fn with(alloc: Global, entities: Vec<Entity>) -> Result<Table, AllocError>
-        requires sorted { IsSortedTable (entries entities.items) }
-        ensures { IfOk result (λ table. table ≡ entries entities.items) }
+    /// Reads a table from its flat form ([`Table::as_flat`]), without an allocation for each entry. The error is `Memory`, or
+    /// `BadTable` with the cause `Shape` if these bytes are not what `as_flat` gives of any table.
+    pub fn from_flat(alloc: Global, bytes: &[u8]) -> Result<Table, Refusal>
+        ensures ok { IfOk result (λ table. flat_of table ≡ bytes.now) }
+        ensures err { IfErr result (λ e. IsRefusedFlat bytes.now e) }
     {
-        let starts = starts_of(alloc, &entities)?;
-        Ok(Table { entities, starts })
+        Table::of_flat(alloc, Vec::from_slice(alloc, bytes)?)
+    }
+
+    /// The same, of bytes that it owns.
+    pub(crate) fn of_flat(alloc: Global, bytes: Vec<u8>) -> Result<Table, Refusal>
+        ensures readable { IfOk result (λ table. IsReadable table) }
+        ensures ok { IfOk result (λ table. flat_of table ≡ bytes.items) }
+        ensures err { IfErr result (λ e. IsRefusedFlat bytes.items e) }
+    {
+        let flat = Flat::read(alloc, bytes)?;
+        let starts = starts_of(alloc, &flat)?;
+        Ok(Table { flat, starts })
+    }
+
+    /// The flat form of the table: the byte 1, and each entry, in the order of the keys' bytes, as its key, how many characters
+    /// it stands for, and the number of each in four bytes, the lowest first.
+    pub fn as_flat(&self) -> &[u8]
+        ensures readable { IsReadable self.now }
+        ensures flat { result.now ≡ flat_of self.now }
+    {
+        self.flat.text()
     }
 
     /// The longest key that this text, which starts at the `&`, begins with.
@@ -87,11 +85,10 @@ impl Table {
         ensures found { MatchOption result (longest self.now text.now ≡ None)
             (λ found. (e : Entry) × (longest self.now text.now ≡ Some e) × (found.length ≡ length e.key) × (found.characters.now ≡ e.stands_for)) }
     {
-        let best = search_for(&self.entities, text).best?;
-        let entity = &self.entities[best];
+        let best = search_for(&self.flat, text).best?;
         Some(Match {
-            length: entity.key.len(),
-            characters: &entity.characters,
+            length: self.flat.key(best).len(),
+            characters: self.flat.characters(best),
         })
     }
 

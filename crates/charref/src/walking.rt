@@ -4,13 +4,13 @@ ghost use Rattle.std.specs.Prelude.{◌≡◌, ◌+◌, [], ◌∷◌, ◌++◌,
 ghost use Rattle.names.specs.declared.placed.Placed.{Placed};
 ghost use Rattle.names.specs.Placed.{all, is_empty, is_alphanumeric};
 ghost use Rattle.charref.specs.Reference.{Entities, IsTable, longest, ends_in_semicolon};
-ghost use Rattle.charref.specs.Table.{best_entry, entries, is_search_within, is_whole, HasRead, HasNone};
+ghost use Rattle.charref.specs.Table.{best_entry, is_search_within, is_whole, HasRead, HasNone};
 ghost use Rattle.charref.specs.Held.{key_bytes, is_number, IsHeld, IsSign};
 ghost use Rattle.charref.specs.Last.{last_of, is_letter_or_digit, IsSettled};
 ghost use Rattle.charref.specs.Pieces.{IsRead, unknown_of, number_of};
 ghost use Rattle.charref.specs.Walk.{HasTaken, Takes, NextIs, LeavesLast, StaysNumber, is_next_within};
 
-use crate::entity::Entity;
+use crate::flat::Flat;
 use crate::last::{Last, is_kept};
 use crate::next::Next;
 use crate::number::{Base, TOO_GREAT, number_fault, numbered};
@@ -30,7 +30,7 @@ impl<'t> Walk<'t> {
         Walk {
             table,
             in_value,
-            state: ReferenceState::Name(Search::after_ampersand(&table.entities)),
+            state: ReferenceState::Name(Search::after_ampersand(&table.flat)),
         }
     }
 
@@ -129,7 +129,7 @@ fn unknown<'t>(left: usize, last: Last) -> Reference<'t>
     }
 }
 
-/// The outcome once no further character can change the longest match, the entity at `best`: `read` characters were read
+/// The outcome once no further character can change the longest match, the entry at `best`: `read` characters were read
 /// after the `&`, and `last` is the kind of the last one (13.2.5.73).
 fn decided<'t>(
     table: &'t Table,
@@ -147,14 +147,14 @@ fn decided<'t>(
     let Some(best) = best else {
         return unknown(read, last);
     };
-    let entity = &table.entities[best];
-    let left = read.saturating_sub(entity.key.len() - 1);
-    let semicolon = ends_in_semicolon(&entity.key);
+    let key = table.flat.key(best);
+    let left = read.saturating_sub(key.len() - 1);
+    let semicolon = ends_in_semicolon(key);
     if is_kept(in_value, semicolon, left, last) {
         return as_text(read, None, false);
     }
     Reference {
-        characters: Characters::Named(&entity.characters),
+        characters: Characters::Named(table.flat.characters(best)),
         left,
         missing_semicolon: !semicolon,
         fault: None,
@@ -244,11 +244,11 @@ fn after_ampersand<'t>(ch: char) -> Next<'t>
 /// Whether the characters read are a key that must wait for the next character, by the rule for attribute values
 /// (13.2.5.73).
 #[inline(always)]
-fn waits(in_value: bool, last: Last, search: Search, entities: &[Entity]) -> bool
-    requires { IfSome search.best (λ k. k < length entities.now) }
-    ensures { result ≡ (in_value && is_letter_or_digit last && is_whole (entries entities.now) search) }
+fn waits(in_value: bool, last: Last, search: Search, flat: &Flat) -> bool
+    requires { IfSome search.best (λ k. k < length flat.now) }
+    ensures { result ≡ (in_value && is_letter_or_digit last && is_whole flat.now search) }
 {
-    in_value && last.is_alphanumeric() && search.is_whole(entities)
+    in_value && last.is_alphanumeric() && search.is_whole(flat)
 }
 
 /// The look-up after one more character, if some key may begin with it: right after the `&`, by the table's index.
@@ -262,9 +262,9 @@ fn extended(table: &Table, search: Search, ch: char) -> Option<Search>
         → HasNone table.now (38 ∷ bytes ++ ch ∷ []) }
 {
     if search.depth == 1 {
-        Search::after_first(&table.entities, &table.starts, ch)
+        Search::after_first(&table.flat, &table.starts, ch)
     } else {
-        search.extended(&table.entities, ch)
+        search.extended(&table.flat, ch)
     }
 }
 
@@ -283,10 +283,10 @@ fn after_name<'t>(table: &'t Table, in_value: bool, search: Search, ch: char) ->
     let Some(next) = extended(table, search, ch) else {
         return Next::Ended(decided(table, in_value, search.best, search.depth, last));
     };
-    if next.goes_on(&table.entities) {
+    if next.goes_on(&table.flat) {
         return Next::Goes(ReferenceState::Name(next));
     }
-    if waits(in_value, last, next, &table.entities) {
+    if waits(in_value, last, next, &table.flat) {
         return Next::Goes(ReferenceState::Name(next));
     }
     Next::Ended(decided(table, in_value, next.best, search.depth, last))

@@ -5,7 +5,7 @@ use Rattle.charref.specs.Reading.{entry_of, IsRefusedWith}
 use Rattle.serde_json.specs.View.{view}
 use Rattle.charref.specs.Table.{entry, entries}
 use Rattle.charref.proofs.Members.{Pair, HasReadMembers, read_member, read_refused, read_all}
-use Rattle.charref.proofs.read.entities_of.Goals as goal
+use Rattle.charref.proofs.read.flat_of.Goals as goal
 
 pub loop-key-preserved : goal.loop-key-preserved
 loop-key-preserved c =

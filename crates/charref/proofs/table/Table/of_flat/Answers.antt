@@ -1,6 +1,6 @@
 use Rattle.std.proofs.Common.{sym, subst}
 use Rattle.charref.specs.Table.{entries, IsSortedTable, IsIndex}
-use Rattle.charref.proofs.table.Table.with.Goals as goal
+use Rattle.charref.proofs.table.Table.of_flat.Goals as goal
 
 pub starts_of-requires : goal.starts_of-requires
 starts_of-requires c = record { sorted = subst (λ es. IsSortedTable (entries es)) (sym c.deref.ensures.value) c.requires.sorted }

@@ -1,0 +1,119 @@
+//! Reading the entries of a flat form.
+
+ghost use Rattle.std.specs.Prelude.{◌≡◌, ◌+◌, ◌*◌, ◌<◌, ◌≤◌, ℕ, List, Option, Some, None, length, drop, take, slice_index, if◌then◌else◌, true, IfOk, IfErr, MatchOption};
+ghost use Rattle.charref.specs.Reference.{is_key};
+ghost use Rattle.charref.specs.Reading.{is_character};
+ghost use Rattle.charref.specs.Table.{entries, stands_for};
+ghost use Rattle.charref.specs.Flat.{is_one_or_two, flat_character, flat_characters, flat_entry, flat_of, IsReadable, IsRefusedFlat};
+ghost use Rattle.charref.specs.Front.{BeginsWith, BeginsWithNone, is_entry, HasNoKey, IsEntryAt};
+
+use crate::entity::{Entity, OneOrTwo};
+use crate::key::is_key;
+use names::{Refusal, TableFault};
+use std::alloc::Global;
+
+/// The character with this number, if it is one other than NUL.
+#[inline(always)]
+pub(crate) fn character(number: u32) -> Option<char>
+    ensures { result ≡ (if is_character number then Some number else None) }
+{
+    match char::from_u32(number) {
+        Some('\0') => None,
+        other => other,
+    }
+}
+
+/// The character in the first four bytes.
+#[inline(always)]
+fn character_at_front(bytes: &[u8]) -> Option<char>
+    ensures { MatchOption result (BeginsWithNone is_character flat_character bytes.now)
+        (λ c. (is_character c ≡ true) × BeginsWith (flat_character c) bytes.now 4) }
+{
+    match bytes {
+        [a, b, c, d, ..] => character(u32::from_le_bytes([*a, *b, *c, *d])),
+        _ => None,
+    }
+}
+
+/// The characters at the front, after their count.
+#[inline(always)]
+fn characters_at_front(bytes: &[u8]) -> Option<OneOrTwo>
+    ensures { MatchOption result (BeginsWithNone is_one_or_two flat_characters bytes.now)
+        (λ it. (is_one_or_two (stands_for it) ≡ true) × BeginsWith (flat_characters (stands_for it)) bytes.now (1 + 4 * length (stands_for it))) }
+{
+    let [count, characters @ ..] = bytes else {
+        return None;
+    };
+    let first = character_at_front(characters)?;
+    match count {
+        1 => Some(OneOrTwo::One([first])),
+        2 => {
+            let second = character_at_front(&characters[4..])?;
+            Some(OneOrTwo::Two([first, second]))
+        }
+        _ => None,
+    }
+}
+
+/// The length of the key at the front, if a count ends it.
+#[inline(always)]
+fn key_at_front(bytes: &[u8]) -> Option<usize>
+    ensures { MatchOption result (HasNoKey bytes.now)
+        (λ count. (count < length bytes.now) × (is_key (take count bytes.now) ≡ true) × (slice_index bytes.now count ≤ 2)) }
+{
+    for (index, byte) in bytes.iter().enumerate() {
+        if *byte <= 2 {
+            return if is_key(&bytes[..index]) {
+                Some(index)
+            } else {
+                None
+            };
+        }
+    }
+    None
+}
+
+/// The entry at `start`, and where it ends.
+#[inline(always)]
+fn entity_at(text: &[u8], start: usize) -> Option<(Entity, usize)>
+    requires { start ≤ length text.now }
+    ensures { MatchOption result (BeginsWithNone is_entry flat_entry (drop start text.now)) (λ it. IsEntryAt text.now start it.0 it.1) }
+{
+    let end = start + key_at_front(&text[start..])?;
+    let characters = characters_at_front(&text[end..])?;
+    let entity = Entity {
+        start,
+        end,
+        characters,
+    };
+    Some((entity, end + 1 + 4 * characters.as_slice().len()))
+}
+
+/// The entries of a flat form.
+pub(crate) fn entities_of(alloc: Global, text: &[u8]) -> Result<Vec<Entity>, Refusal>
+    ensures ok { IfOk result (λ entities. IsReadable (entries text.now entities.items) × (flat_of (entries text.now entities.items) ≡ text.now)) }
+    ensures err { IfErr result (λ e. IsRefusedFlat text.now e) }
+{
+    let refused = Refusal::BadTable {
+        cause: TableFault::Shape,
+    };
+    if text.is_empty() || text[0] != 1 {
+        return Err(refused);
+    }
+    let mut entities = Vec::new(alloc);
+    let mut last: &[u8] = &[];
+    let mut start = 1;
+    while start < text.len() {
+        let Some((entity, end)) = entity_at(text, start) else {
+            return Err(refused);
+        };
+        let key = entity.key(text);
+        if key <= last {
+            return Err(refused);
+        }
+        entities.push(entity)?;
+        last = key;
+        start = end;
+    }
+    Ok(entities)
+}

@@ -1,0 +1,71 @@
+//! A table in its flat form.
+
+ghost use Rattle.std.specs.Prelude.{◌≡◌, ◌<◌, length, slice_get, Some, IfOk, IfErr};
+ghost use Rattle.charref.specs.Reference.{Entry, Entities};
+ghost use Rattle.charref.specs.Table.{entry, entries};
+ghost use Rattle.charref.specs.Flat.{flat_of, IsReadable, IsRefusedFlat};
+
+use crate::entity::Entity;
+use crate::entries::entities_of;
+use names::Refusal;
+use std::alloc::Global;
+use std::marker::Model;
+
+/// The flat form of a table, and where its entries are in it.
+#[derive(Drop)]
+pub(crate) struct Flat {
+    pub(crate) text: Vec<u8>,
+    pub(crate) entities: Vec<Entity>,
+}
+
+impl Model for Flat {
+    ghost Value = { Entities };
+
+    ghost view = { λ flat. entries flat.text.items flat.entities.items };
+
+    ghost invariant = { λ flat. flat_of (entries flat.text.items flat.entities.items) ≡ flat.text.items };
+}
+
+impl Flat {
+    /// Reads a flat form.
+    pub(crate) fn read(alloc: Global, text: Vec<u8>) -> Result<Flat, Refusal>
+        ensures readable { IfOk result (λ flat. IsReadable flat) }
+        ensures flat { IfOk result (λ flat. flat_of flat ≡ text.items) }
+        ensures err { IfErr result (λ e. IsRefusedFlat text.items e) }
+    {
+        let entities = entities_of(alloc, &text)?;
+        Ok(Flat { text, entities })
+    }
+
+    pub(crate) fn text(&self) -> &[u8]
+        ensures { result.now ≡ flat_of self.now }
+    {
+        &self.text
+    }
+
+    /// How many entries there are.
+    #[inline(always)]
+    pub(crate) fn len(&self) -> usize
+        ensures { result ≡ length self.now }
+    {
+        self.entities.len()
+    }
+
+    /// The key of an entry.
+    #[inline(always)]
+    pub(crate) fn key(&self, at: usize) -> &[u8]
+        requires { at < length self.now }
+        ensures { (e : Entry) × (slice_get self.now at ≡ Some e) × (result.now ≡ e.key) }
+    {
+        self.entities[at].key(&self.text)
+    }
+
+    /// The characters that the key of an entry stands for.
+    #[inline(always)]
+    pub(crate) fn characters(&self, at: usize) -> &[char]
+        requires { at < length self.now }
+        ensures { (e : Entry) × (slice_get self.now at ≡ Some e) × (result.now ≡ e.stands_for) }
+    {
+        self.entities[at].characters.as_slice()
+    }
+}
