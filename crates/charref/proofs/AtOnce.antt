@@ -130,21 +130,21 @@ key_name_ascii (c ∷ cs) h =
       | continues more ↦ key_name_ascii cs more
     ])
 
-pub key_settles : (table : Entities) (bytes : List ℕ) (e : Entry) (count : ℕ) (lent : Bor (List ℕ)) → HasWhole table bytes e → count ≡ length e.key - 1 → lent.now ≡ e.stands_for → Settles table bytes count (whole lent)
-key_settles table bytes e count lent has size stands = by e.key refl (is_key_of table has.place e has.is_table has.stands) has.opens
+pub key_settles : (table : Entities) (bytes : List ℕ) (place count : ℕ) (lent : Bor (List ℕ)) → (has : HasWhole table bytes place) → count ≡ length has.entry.key - 1 → lent.now ≡ has.entry.stands_for → Settles table bytes count (whole lent)
+key_settles table bytes place count lent has size stands = by has.entry.key refl (is_key_of table place has.entry has.is_table has.stands) has.opens
   where
-    by : (key : List ℕ) → e.key ≡ key → is_key key ≡ true → starts_with nat_eq bytes (drop 1 key) ≡ true → Settles table bytes count (whole lent)
+    by : (key : List ℕ) → has.entry.key ≡ key → is_key key ≡ true → starts_with nat_eq bytes (drop 1 key) ≡ true → Settles table bytes count (whole lent)
     by [] is key opens = absurd (true≢false (sym key))
     by (c ∷ []) is key opens = absurd (true≢false (sym (and_parts _ _ key).1))
     by (c ∷ d ∷ ds) is key opens =
         let amp : c ≡ 38 = (let t : nat_eq c 38 ≡ true = (and_parts _ _ key).0 in grind (arith, nat_tests)) in
         let name : d ∷ ds ≡ take (length (d ∷ ds)) bytes = key_of bytes (d ∷ ds) opens in
-        let long : length e.key ≡ length (c ∷ d ∷ ds) = ap length is in
+        let long : length has.entry.key ≡ length (c ∷ d ∷ ds) = ap length is in
         let count-is : length (d ∷ ds) ≡ count = omega arith in
         subst (λ n. Settles table bytes n (whole lent)) count-is (record {
           some = omega arith;
           few = no_longer bytes (d ∷ ds) opens;
           ascii = subst (λ xs. list_all is_ascii xs ≡ true) name (key_name_ascii (d ∷ ds) (and_parts _ _ key).1);
-          read = λ place after. read_closed table (placed place (take (length (d ∷ ds)) bytes)) after has.place e lent has.is_table has.stands
-              (is ∙ ap (λ x. x ∷ d ∷ ds) amp ∙ ap (λ xs. 38 ∷ xs) (name ∙ sym (characters-placed place (take (length (d ∷ ds)) bytes)))) has.closed stands;
+          read = λ at after. read_closed table (placed at (take (length (d ∷ ds)) bytes)) after place has.entry lent has.is_table has.stands
+              (is ∙ ap (λ x. x ∷ d ∷ ds) amp ∙ ap (λ xs. 38 ∷ xs) (name ∙ sym (characters-placed at (take (length (d ∷ ds)) bytes)))) has.closed stands;
         })

@@ -2,12 +2,11 @@
 use Rattle.std.proofs.Common.{arith, ◌≡◌, inl, inr, ℕ, ◌+◌, ◌≤◌, ◌<◌, Bool, true, false, nat_lt, List, [], ◌∷◌, ◌++◌, length, slice_get, get_or, Option, Some, None, IfSome, nat_le, refl, sym, ap, ◌∙◌, subst, length-append}
 use Rattle.std.proofs.lemmas.Bool.{and_from}
 use Rattle.std.proofs.lemmas.Bool.Decides.{nat_tests}
-use Rattle.std.proofs.lemmas.List.{length-map, get_or_append_left, get_or-append-add}
+use Rattle.std.proofs.lemmas.List.{get_or_append_left, get_or-append-add}
 use Rattle.std.proofs.lemmas.Option.{slice_get_within, slice_get_cases, slice_get-get_or, get_or_from_slice_get}
-use Rattle.charref.specs.declared.entity.Entity.{Entity}
 use Rattle.charref.specs.declared.search.Search.{Search}
 use Rattle.charref.specs.Reference.{Entities}
-use Rattle.charref.specs.Table.{entry, entries, code_at, IsSortedTable, IsRange, IsRising, IsParted, IsStart, IsIndex, HasRead, is_place, is_search_within}
+use Rattle.charref.specs.Table.{code_at, IsSortedTable, IsRange, IsRising, IsParted, IsStart, IsIndex, HasRead, is_place, is_search_within}
 use Rattle.charref.proofs.Ranges.{range_rises, range_more}
 use Rattle.charref.proofs.Searching.{read_ampersand}
 
@@ -38,14 +37,13 @@ start_more table starts count place index start = record {
         subst (λ n. IsStart table other n) code-is (subst (λ n. IsStart table n count) same start)
 
 -- a start, by the place that parts the whole table
-pub start_at : (es : List Entity) (high place code : ℕ) → IsSortedTable (entries es) → high ≡ length es → place ≤ high
-    → (IsRising (entries es) 0 high 1 → IsParted (entries es) 0 place high 1 code) → IsStart (entries es) place code
-start_at es high place code sorted all within parted =
-    let size : length es ≡ length (entries es) = sym (length-map es entry) in
-    let rising : IsRising (entries es) 0 (length (entries es)) 1 = range_rises (entries es) (38 ∷ []) 0 (length (entries es)) sorted (read_ampersand (entries es) (length (entries es)) sorted refl).range in
+pub start_at : (table : Entities) (high place code : ℕ) → IsSortedTable table → high ≡ length table → place ≤ high
+    → (IsRising table 0 high 1 → IsParted table 0 place high 1 code) → IsStart table place code
+start_at table high place code sorted all within parted =
+    let rising : IsRising table 0 (length table) 1 = range_rises table (38 ∷ []) 0 (length table) sorted (read_ampersand table (length table) sorted refl).range in
     record {
       within = omega arith;
-      parted = subst (λ n. IsParted (entries es) 0 place n 1 code) (all ∙ size) (parted (subst (λ n. IsRising (entries es) 0 n 1) (sym (all ∙ size)) rising));
+      parted = subst (λ n. IsParted table 0 place n 1 code) all (parted (subst (λ n. IsRising table 0 n 1) (sym all) rising));
     }
 
 -- the starts of a byte's code and of the next are the range of the byte
@@ -67,24 +65,23 @@ start_range table byte from to sorted first second =
     (record { below = λ k e p l h. second.parted.below k e p (omega arith) h; above = second.parted.above })
 
 -- what the index has of a character
-pub range_of : (es : List Entity) (starts : List ℕ) (byte : ℕ) → IsSortedTable (entries es) → IsIndex (entries es) starts 130 → byte < 128
-    → IsRange (entries es) (38 ∷ byte ∷ []) (get_or starts (byte + 1) 0) (get_or starts (byte + 1 + 1) 0)
-range_of es starts byte sorted index small =
+pub range_of : (table : Entities) (starts : List ℕ) (byte : ℕ) → IsSortedTable table → IsIndex table starts 130 → byte < 128
+    → IsRange table (38 ∷ byte ∷ []) (get_or starts (byte + 1) 0) (get_or starts (byte + 1 + 1) 0)
+range_of table starts byte sorted index small =
     let size : length starts ≡ 130 = index.size in
     let next : byte + 1 + 1 ≡ byte + 2 = omega arith in
-    let first : IsStart (entries es) (get_or starts (byte + 1) 0) (byte + 1) = index.at (byte + 1) _ (slice_get-get_or starts (byte + 1) 0 (omega arith)) in
-    let second : IsStart (entries es) (get_or starts (byte + 1 + 1) 0) (byte + 1 + 1) = index.at (byte + 1 + 1) _ (slice_get-get_or starts (byte + 1 + 1) 0 (omega arith)) in
-    start_range (entries es) byte _ _ sorted first (subst (λ n. IsStart (entries es) (get_or starts (byte + 1 + 1) 0) n) next second)
+    let first : IsStart table (get_or starts (byte + 1) 0) (byte + 1) = index.at (byte + 1) _ (slice_get-get_or starts (byte + 1) 0 (omega arith)) in
+    let second : IsStart table (get_or starts (byte + 1 + 1) 0) (byte + 1 + 1) = index.at (byte + 1 + 1) _ (slice_get-get_or starts (byte + 1 + 1) 0 (omega arith)) in
+    start_range table byte _ _ sorted first (subst (λ n. IsStart table (get_or starts (byte + 1 + 1) 0) n) next second)
 
 -- what has read something stays within the table
 place_within : (best : Option ℕ) (count : ℕ) → IfSome best (λ k. k < count) → is_place best count ≡ true
 place_within None count h = refl
 place_within (Some k) count h = grind (arith, nat_tests)
 
-pub search_within : (es : List Entity) (search : Search) (bytes : List ℕ) → HasRead search (entries es) bytes → is_search_within search (length es) ≡ true
-search_within es search bytes read =
-    let size : length (entries es) ≡ length es = length-map es entry in
+pub search_within : (table : Entities) (search : Search) (bytes : List ℕ) → HasRead search table bytes → is_search_within search (length table) ≡ true
+search_within table search bytes read =
     let ordered : search.low ≤ search.high = read.range.ordered in
-    let within : search.high ≤ length (entries es) = read.range.within in
-    and_from _ _ (let a : nat_le search.low search.high ≡ true = grind (arith, nat_tests) in let b : nat_le search.high (length es) ≡ true = grind (arith, nat_tests) in rw (a, b) refl)
-    (place_within search.best (length es) (subst (λ n. IfSome search.best (λ k. k < n)) size read.within))
+    let within : search.high ≤ length table = read.range.within in
+    and_from _ _ (let a : nat_le search.low search.high ≡ true = grind (arith, nat_tests) in let b : nat_le search.high (length table) ≡ true = grind (arith, nat_tests) in rw (a, b) refl)
+    (place_within search.best (length table) read.within)

@@ -3,6 +3,7 @@ use Rattle.std.proofs.Common.{arith, ◌≡◌, ℕ, ◌+◌, ◌-◌, ◌≤◌
 use Rattle.std.proofs.lemmas.Bool.{and_parts, and_from}
 use Rattle.std.proofs.lemmas.Bool.Decides.{nat_tests}
 use Rattle.std.proofs.lemmas.Option.{slice_get-map, slice_get-get_or, slice_get_within, get_or_from_slice_get}
+use Rattle.std.proofs.lemmas.List.{length-map}
 use Rattle.std.proofs.lemmas.List.Edits.{get_or-between, length-between}
 use Rattle.std.specs.Cmp.Lexicographic.{slice_cmp}
 use Rattle.std.specs.Ordering.{nat_cmp}
@@ -10,39 +11,45 @@ use Rattle.std.specs.List.{starts_with}
 use Rattle.std.specs.List.Sorted.{IsNonDecreasingBy, IsPartitionPoint}
 use Rattle.charref.specs.declared.entity.Entity.{Entity}
 use Rattle.charref.specs.Reference.{Entry, Entities}
-use Rattle.charref.specs.Table.{entry, entries, code_at, IsSortedTable, IsRange, IsRising, IsParted, IsOver}
+use Rattle.charref.specs.Table.{key_at, entry, entries, code_at, IsSortedTable, IsRange, IsRising, IsParted, IsOver}
 use Rattle.charref.proofs.Keys.{code_at-le, starts_with-more, begins_later, in_order, begins_itself, IsOnly}
 
 -- what a slice of entities has at a place
-pub entry_at : (es : List Entity) (k : ℕ) (d : Entity) → k < length es → slice_get (entries es) k ≡ Some (entry (get_or es k d))
-entry_at es k d h = slice_get-map entry es k ∙ ap (option_map entry) (slice_get-get_or es k d h)
+pub entry_at : (text : List ℕ) (es : List Entity) (k : ℕ) (d : Entity) → k < length es → slice_get (entries text es) k ≡ Some (entry text (get_or es k d))
+entry_at text es k d h = slice_get-map (entry text) es k ∙ ap (option_map (entry text)) (slice_get-get_or es k d h)
+
+pub entry_in : (text : List ℕ) (es : List Entity) (table : Entities) (k : ℕ) (d : Entity) → entries text es ≡ table → k < length table → d ≡ get_or es k d → slice_get table k ≡ Some (entry text d)
+entry_in text es table k d is less got =
+    let size : length (entries text es) ≡ length es = length-map es (entry text) in
+    let same : length (entries text es) ≡ length table = ap length is in
+    ap (λ t. slice_get t k) (sym is) ∙ entry_at text es k d (omega arith) ∙ ap (λ x. Some (entry text x)) (sym got)
 
 -- what rises by the entries rises in the slice
-pub rising_slice : (es : List Entity) (low high depth : ℕ) → low ≤ high → high ≤ length es → IsRising (entries es) low high depth
-    → IsNonDecreasingBy (λ e. code_at e.key.items depth) (slice_range es low high)
-rising_slice es low high depth ordered within rising i j d le lt =
+pub rising_slice : (text : List ℕ) (es : List Entity) (low high depth : ℕ) → low ≤ high → high ≤ length es → IsRising (entries text es) low high depth
+    → IsNonDecreasingBy (λ e. code_at (key_at text e) depth) (slice_range es low high)
+rising_slice text es low high depth ordered within rising i j d le lt =
     let size : length (slice_range es low high) ≡ high - low = length-between es low high within in
     let first : get_or (slice_range es low high) i d ≡ get_or es (low + i) d = get_or-between es low high i d (omega arith) in
     let second : get_or (slice_range es low high) j d ≡ get_or es (low + j) d = get_or-between es low high j d (omega arith) in
-    rw (first, second) (rising.at (low + i) (low + j) (entry (get_or es (low + i) d)) (entry (get_or es (low + j) d)) (entry_at es (low + i) d (omega arith)) (entry_at es (low + j) d (omega arith)) (omega arith) (omega arith) (omega arith))
+    rw (first, second) (rising.at (low + i) (low + j) (entry text (get_or es (low + i) d)) (entry text (get_or es (low + j) d)) (entry_at text es (low + i) d (omega arith)) (entry_at text es (low + j) d (omega arith)) (omega arith) (omega arith) (omega arith))
 
 pub some_same : {A : Type 0} (x y : A) → Some x ≡ Some y → x ≡ y
 some_same x y h = cc
 
 -- a place that parts the slice parts the entries
-entity_at : (es : List Entity) (k : ℕ) (e : Entry) → slice_get (entries es) k ≡ Some e → (d : Entity) × (slice_get es k ≡ Some d) × (entry d ≡ e)
-entity_at es k e p = by (slice_get es k) refl (sym (slice_get-map entry es k) ∙ p)
+entity_at : (text : List ℕ) (es : List Entity) (k : ℕ) (e : Entry) → slice_get (entries text es) k ≡ Some e → (d : Entity) × (slice_get es k ≡ Some d) × (entry text d ≡ e)
+entity_at text es k e p = by (slice_get es k) refl (sym (slice_get-map (entry text) es k) ∙ p)
   where
-    by : (o : Option Entity) → slice_get es k ≡ o → option_map entry o ≡ Some e → (d : Entity) × (slice_get es k ≡ Some d) × (entry d ≡ e)
+    by : (o : Option Entity) → slice_get es k ≡ o → option_map (entry text) o ≡ Some e → (d : Entity) × (slice_get es k ≡ Some d) × (entry text d ≡ e)
     by None is got = absurd (cc)
-    by (Some d) is got = (d, is, some_same (entry d) e got)
+    by (Some d) is got = (d, is, some_same (entry text d) e got)
 
-pub from_slice : (es : List Entity) (low high depth code place : ℕ) → low ≤ high → high ≤ length es → place ≤ high - low
-    → IsPartitionPoint (λ e. nat_lt (code_at e.key.items depth) code ≡ true) (λ e. nat_lt (code_at e.key.items depth) code ≡ false) (slice_range es low high) place
-    → IsParted (entries es) low (low + place) high depth code
-from_slice es low high depth code place ordered within room parted = record {
-  below = λ k e p from to. let d : (d : Entity) × (slice_get es k ≡ Some d) × (entry d ≡ e) = entity_at es k e p in by_below k e from to d.0 d.1 d.2;
-  above = λ k e p from to. let d : (d : Entity) × (slice_get es k ≡ Some d) × (entry d ≡ e) = entity_at es k e p in by_above k e from to d.0 d.1 d.2;
+pub from_slice : (text : List ℕ) (es : List Entity) (low high depth code place : ℕ) → low ≤ high → high ≤ length es → place ≤ high - low
+    → IsPartitionPoint (λ e. nat_lt (code_at (key_at text e) depth) code ≡ true) (λ e. nat_lt (code_at (key_at text e) depth) code ≡ false) (slice_range es low high) place
+    → IsParted (entries text es) low (low + place) high depth code
+from_slice text es low high depth code place ordered within room parted = record {
+  below = λ k e p from to. let d : (d : Entity) × (slice_get es k ≡ Some d) × (entry text d ≡ e) = entity_at text es k e p in by_below k e from to d.0 d.1 d.2;
+  above = λ k e p from to. let d : (d : Entity) × (slice_get es k ≡ Some d) × (entry text d ≡ e) = entity_at text es k e p in by_above k e from to d.0 d.1 d.2;
 }
   where
     size : length (slice_range es low high) ≡ high - low
@@ -51,14 +58,14 @@ from_slice es low high depth code place ordered within room parted = record {
     same : (k : ℕ) (d : Entity) → slice_get es k ≡ Some d → low ≤ k → k < high → get_or (slice_range es low high) (k - low) d ≡ d
     same k d got from to = get_or-between es low high (k - low) d (omega arith) ∙ ap (λ n. get_or es n d) (let e : low + (k - low) ≡ k = omega arith in e) ∙ get_or_from_slice_get es k d d got
 
-    by_above : (k : ℕ) (e : Entry) → low + place ≤ k → k < high → (d : Entity) → slice_get es k ≡ Some d → entry d ≡ e → code ≤ code_at e.key depth
+    by_above : (k : ℕ) (e : Entry) → low + place ≤ k → k < high → (d : Entity) → slice_get es k ≡ Some d → entry text d ≡ e → code ≤ code_at e.key depth
     by_above k e from to d got is =
-        let test : nat_lt (code_at d.key.items depth) code ≡ false = subst (λ (y : Entity). nat_lt (code_at y.key.items depth) code ≡ false) (same k d got (omega arith) to) (parted.1 (k - low) d (omega arith) (omega (arith, size))) in
+        let test : nat_lt (code_at (key_at text d) depth) code ≡ false = subst (λ (y : Entity). nat_lt (code_at (key_at text y) depth) code ≡ false) (same k d got (omega arith) to) (parted.1 (k - low) d (omega arith) (omega (arith, size))) in
         subst (λ (y : Entry). code ≤ code_at y.key depth) is (grind (arith, nat_tests))
 
-    by_below : (k : ℕ) (e : Entry) → low ≤ k → k < low + place → (d : Entity) → slice_get es k ≡ Some d → entry d ≡ e → code_at e.key depth < code
+    by_below : (k : ℕ) (e : Entry) → low ≤ k → k < low + place → (d : Entity) → slice_get es k ≡ Some d → entry text d ≡ e → code_at e.key depth < code
     by_below k e from to d got is =
-        let test : nat_lt (code_at d.key.items depth) code ≡ true = subst (λ (y : Entity). nat_lt (code_at y.key.items depth) code ≡ true) (same k d got from (omega arith)) (parted.0 (k - low) d (omega arith) (omega arith)) in
+        let test : nat_lt (code_at (key_at text d) depth) code ≡ true = subst (λ (y : Entity). nat_lt (code_at (key_at text y) depth) code ≡ true) (same k d got from (omega arith)) (parted.0 (k - low) d (omega arith) (omega arith)) in
         subst (λ (y : Entry). code_at y.key depth < code) is (grind (arith, nat_tests))
 
 -- The bytes after what was read rise within the range.

@@ -5,13 +5,12 @@ use Rattle.std.proofs.lemmas.Bool.{and_parts}
 use Rattle.std.proofs.lemmas.Bool.Decides.{nat_tests}
 use Rattle.std.proofs.lemmas.Option.{slice_get_within}
 use Rattle.std.specs.List.{starts_with, list_all}
-use Rattle.charref.specs.declared.entity.Entity.{Entity}
 use Rattle.charref.specs.declared.search.Search.{Search}
 use Rattle.charref.specs.Reference.{Entry, Entities, longest, longer, is_key}
-use Rattle.charref.specs.Table.{entry, entries, best_entry, IsSortedTable, IsRange, IsRising, IsParted, IsOver, GoesOn, HasRead}
+use Rattle.charref.specs.Table.{best_entry, IsSortedTable, IsRange, IsRising, IsParted, IsOver, GoesOn, HasRead}
 use Rattle.charref.proofs.Keys.{whole, no_longer, begins_itself, longest-whole, longest-more, longest-over}
 use Rattle.charref.proofs.Naming.{is_key_of}
-use Rattle.charref.proofs.Ranges.{entry_at, range_rises, rises_later, range_more, range_over, only_first, within, inside, some_same}
+use Rattle.charref.proofs.Ranges.{range_rises, rises_later, range_more, range_over, only_first, within, inside, some_same}
 
 -- the empty text begins with no key
 longest-nothing : (table : Entities) → list_all (λ e. is_key e.key) table ≡ true → longest table [] ≡ None
@@ -133,10 +132,6 @@ last_over table search bytes e sorted read open' got size =
 pub none_over : (table : Entities) (search : Search) (bytes : List ℕ) → HasRead search table bytes → search.high ≤ search.low → IsOver table bytes
 none_over table search bytes read none = range_over table bytes search.low search.high read.range (let o : search.low ≤ search.high = read.range.ordered in omega arith)
 
--- the entity at the place of the longest key
-pub best_found : (es : List Entity) (table : Entities) (best : Option ℕ) (b : ℕ) (d : Entity) → entries es ≡ table → best ≡ Some b → IfSome best (λ k. k < length table) → d ≡ get_or es b d → best_entry table best ≡ Some (entry d)
-best_found es table best b d is some less got =
-    let at : b < length table = subst (λ (o : Option ℕ). IfSome o (λ k. k < length table)) some less in
-    let size : length (entries es) ≡ length es = length-map es entry in
-    let same : length (entries es) ≡ length table = ap length is in
-    ap (best_entry table) some ∙ ap (λ t. slice_get t b) (sym is) ∙ entry_at es b d (omega arith) ∙ ap (λ x. Some (entry x)) (sym got)
+-- the entry at the place of the longest key
+pub best_found : (table : Entities) (best : Option ℕ) (b : ℕ) (e : Entry) → best ≡ Some b → slice_get table b ≡ Some e → best_entry table best ≡ Some e
+best_found table best b e some got = ap (best_entry table) some ∙ got

@@ -1,11 +1,22 @@
-use Rattle.std.proofs.Common.{◌≡◌, ◌-◌, length, ◌∙◌, arith}
-use Rattle.charref.specs.declared.entity.Entity.{Entity}
-use Rattle.charref.specs.Table.{entry}
+use Rattle.std.proofs.Common.{◌≡◌, ◌-◌, ◌≤◌, length, slice_get, Some, sym, ap, ◌∙◌, subst, arith}
+use Rattle.charref.specs.Reference.{Entry, IsTable}
+use Rattle.charref.proofs.Ranges.{some_same}
 use Rattle.charref.proofs.AtOnce.{key_settles}
+use Rattle.charref.proofs.Telling.{some_key}
 use Rattle.charref.proofs.at_once.whole_key.Goals as goal
 
+pub overflow_sub-result : goal.overflow_sub-result
+overflow_sub-result c =
+    let e : Entry = c.key.ensures.0 in
+    let is_table : IsTable c.args.table.now = subst IsTable c.table.view_is c.table.invariant.0.sorted.is_table in
+    let some : 1 ≤ length e.key = some_key c.args.table.now c.args.place e is_table (ap (λ t. slice_get t c.args.place) (sym c.table.view_is) ∙ c.key.ensures.1) in
+    let size : length c.key.result.now ≡ length e.key = ap length c.key.ensures.2 in
+    omega arith
+
 pub returns : goal.returns
-returns c = λ table bytes has.
-    let d : Entity = c.args.entity.now in
-    let count : c.len.result - 1 ≡ length d.key.items - 1 = (let size : c.len.result ≡ length d.key.items = c.len.ensures ∙ d.key.ok.0 in omega arith) in
-    key_settles table bytes (entry d) (c.len.result - 1) c.deref.result has count c.deref.ensures.value
+returns c = λ bytes has.
+    let stands : slice_get c.table.inside.flat c.args.place ≡ slice_get c.args.table.now c.args.place = ap (λ t. slice_get t c.args.place) c.table.view_is in
+    let same : (f : Entry) → slice_get c.table.inside.flat c.args.place ≡ Some f → f ≡ has.entry = λ f got. some_same f has.entry (sym got ∙ stands ∙ has.stands) in
+    key_settles c.args.table.now bytes c.args.place (length c.key.result.now - 1) c.characters.result has
+    (ap (λ key. length key - 1) (c.key.ensures.2 ∙ ap (λ (y : Entry). y.key) (same c.key.ensures.0 c.key.ensures.1)))
+    (c.characters.ensures.2 ∙ ap (λ (y : Entry). y.stands_for) (same c.characters.ensures.0 c.characters.ensures.1))

@@ -1,15 +1,13 @@
 use Rattle.std.proofs.Common.{◌≡◌, ◌++◌, ◌∷◌, [], ◌+◌, ℕ, List, get_or, subst, add-one, arith}
 use Rattle.std.proofs.Math.Seq.{take-suc}
-use Rattle.std.proofs.lemmas.List.{length-map}
-use Rattle.charref.specs.Table.{entry, HasRead}
+use Rattle.charref.specs.Table.{HasRead}
 use Rattle.std.proofs.Common.{take, drop, sym}
-use Rattle.charref.specs.Table.{entries}
 use Rattle.charref.proofs.Searching.{read_over}
 use Rattle.charref.proofs.search.search_for.Goals as goal
 use Rattle.std.proofs.lemmas.List.{take-append-drop}
 
 pub returns-then-is_over-clause-best : goal.returns-then-is_over-clause-best
-returns-then-is_over-clause-best c = read_over (entries c.args.entities.now) c.loop-byte.search (take c.loop-byte.byte-index c.args.text.now) (drop c.loop-byte.byte-index c.args.text.now) c.args.text.now
+returns-then-is_over-clause-best c = read_over c.args.flat.now c.loop-byte.search (take c.loop-byte.byte-index c.args.text.now) (drop c.loop-byte.byte-index c.args.text.now) c.args.text.now
     c.loop-byte.invariant (c.is_over.ensures.0 c.if-is_over.true) (sym (take-append-drop c.loop-byte.byte-index c.args.text.now))
 
 pub loop-byte-preserved : goal.loop-byte-preserved
@@ -17,7 +15,7 @@ loop-byte-preserved c =
     let i = c.loop-byte.byte-index in
     let text : List ℕ = c.args.text.now in
     let more : take (i + 1) text ≡ take i text ++ get_or text i 0 ∷ [] = rw add-one (take-suc text i 0 c.loop-byte-test.true) in
-    subst (HasRead c.narrow.new.self (entries c.args.entities.now)) (sym more) (c.narrow.ensures.read (take i text) c.loop-byte.invariant)
+    subst (HasRead c.narrow.new.self c.args.flat.now) (sym more) (c.narrow.ensures.read (take i text) c.loop-byte.invariant)
 
 pub narrow-requires-clause-within : goal.narrow-requires-clause-within
-narrow-requires-clause-within c = (c.loop-byte.invariant.range.ordered, omega (arith, c.loop-byte.invariant.range.within, length-map c.args.entities.now entry))
+narrow-requires-clause-within c = (c.loop-byte.invariant.range.ordered, c.loop-byte.invariant.range.within)

@@ -1,6 +1,6 @@
 use Rattle.std.proofs.Common.{take}
-use Rattle.charref.specs.Table.{entries, HasRead}
+use Rattle.charref.specs.Table.{HasRead}
 use Rattle.charref.proofs.search.search_for.Given as goal
 
 abbrev pub invariant-loop-byte : goal.invariant-loop-byte
-invariant-loop-byte l = HasRead l.search (entries l.entities) (take l.byte-index l.text)
+invariant-loop-byte l = HasRead l.search l.flat (take l.byte-index l.text)

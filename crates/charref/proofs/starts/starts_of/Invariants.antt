@@ -1,5 +1,5 @@
-use Rattle.charref.specs.Table.{entries, IsIndex}
+use Rattle.charref.specs.Table.{IsIndex}
 use Rattle.charref.proofs.starts.starts_of.Given as goal
 
 abbrev pub invariant-loop-code : goal.invariant-loop-code
-invariant-loop-code l = IsIndex (entries l.entities) l.starts.items l.code
+invariant-loop-code l = IsIndex l.flat l.starts.items l.code

@@ -2,7 +2,7 @@ use Rattle.std.proofs.Common.{◌≡◌, [], ◌∷◌, ◌++◌, true, false, t
 use Rattle.std.proofs.lemmas.Bool.{and_parts}
 use Rattle.names.specs.Placed.{characters, is_empty, is_alphanumeric}
 use Rattle.charref.specs.Reference.{Entities, IsTable}
-use Rattle.charref.specs.Table.{entries, is_whole, HasRead, HasNone, IsOver, GoesOn}
+use Rattle.charref.specs.Table.{is_whole, HasRead, HasNone, IsOver, GoesOn}
 use Rattle.charref.specs.Held.{key_bytes, in_name}
 use Rattle.charref.specs.Last.{last_of, is_letter_or_digit}
 use Rattle.charref.specs.Walk.{NextIs}
@@ -31,12 +31,12 @@ returns-in_default-clause-next c = λ text p read run is after.
 pub returns-then-goes_on-clause-next : goal.returns-then-goes_on-clause-next
 returns-then-goes_on-clause-next c = λ text p read run is.
     let table : Entities = c.args.table.now in
-    let other-is : entries c.deref.result.now ≡ table = ap entries c.deref.ensures.value ∙ c.table.view_is in
-    let is_table : IsTable table = subst IsTable c.table.view_is c.table.invariant.0.is_table in
+    let other-is : c.table.inside.flat ≡ table = c.table.view_is in
+    let is_table : IsTable table = subst IsTable c.table.view_is c.table.invariant.0.sorted.is_table in
     let next : HasRead c.in-Some.next table (key_bytes text ++ c.args.ch ∷ []) = c.in-Some.ensures.read (characters text) read in
     let bytes-are : key_bytes text ++ c.args.ch ∷ [] ≡ key_bytes (text ++ p ∷ []) = ap (λ x. key_bytes text ++ x ∷ []) (sym is) ∙ sym (key_bytes-more text p) in
     let next' : HasRead c.in-Some.next table (key_bytes (text ++ p ∷ [])) = subst (λ bs. HasRead c.in-Some.next table bs) bytes-are next in
-    let goes : GoesOn (entries c.deref.result.now) (key_bytes (text ++ p ∷ [])) = c.goes_on.ensures.open (key_bytes (text ++ p ∷ [])) (subst (λ t. HasRead c.in-Some.next t (key_bytes (text ++ p ∷ []))) (sym other-is) next') c.if-goes_on.true in
+    let goes : GoesOn c.table.inside.flat (key_bytes (text ++ p ∷ [])) = c.goes_on.ensures.open (key_bytes (text ++ p ∷ [])) (subst (λ t. HasRead c.in-Some.next t (key_bytes (text ++ p ∷ []))) (sym other-is) next') c.if-goes_on.true in
     let goes' : GoesOn table (key_bytes (text ++ p ∷ [])) = subst (λ t. GoesOn t (key_bytes (text ++ p ∷ []))) other-is goes in
     in_name c.in-Some.next (text ++ p ∷ []) next' (front_of table (text ++ p ∷ []) is_table goes') (λ data-in some. goes')
 
@@ -46,7 +46,7 @@ returns-then-waits-clause-next c = λ text p read run is.
     let next : HasRead c.in-Some.next table (key_bytes text ++ c.args.ch ∷ []) = c.in-Some.ensures.read (characters text) read in
     let bytes-are : key_bytes text ++ c.args.ch ∷ [] ≡ key_bytes (text ++ p ∷ []) = ap (λ x. key_bytes text ++ x ∷ []) (sym is) ∙ sym (key_bytes-more text p) in
     let next' : HasRead c.in-Some.next table (key_bytes (text ++ p ∷ [])) = subst (λ bs. HasRead c.in-Some.next table bs) bytes-are next in
-    let parts : ((c.args.in_value && is_letter_or_digit c.of-last.result) ≡ true) × (is_whole (entries c.deref-2.result.now) c.in-Some.next ≡ true) = and_parts _ _ (sym c.waits.ensures ∙ c.if-waits.true) in
+    let parts : ((c.args.in_value && is_letter_or_digit c.of-last.result) ≡ true) × (is_whole c.table.inside.flat c.in-Some.next ≡ true) = and_parts _ _ (sym c.waits.ensures ∙ c.if-waits.true) in
     let more : (c.args.in_value ≡ true) × (is_letter_or_digit c.of-last.result ≡ true) = and_parts _ _ parts.0 in
     let letter : is_alphanumeric p.ch ≡ true = ap is_alphanumeric is ∙ sym (letter_of c.args.ch) ∙ ap is_letter_or_digit (sym c.of-last.ensures) ∙ more.1 in
     in_name c.in-Some.next (text ++ p ∷ []) next' (run_more text p run letter) (λ outside some. absurd (true≢false (sym more.0 ∙ outside)))
@@ -54,16 +54,15 @@ returns-then-waits-clause-next c = λ text p read run is.
 pub returns-clause-next : goal.returns-clause-next
 returns-clause-next c = λ text p read run is after.
     let table : Entities = c.args.table.now in
-    let other-is : entries c.deref.result.now ≡ table = ap entries c.deref.ensures.value ∙ c.table.view_is in
-    let third-is : entries c.deref-2.result.now ≡ table = ap entries c.deref-2.ensures.value ∙ c.table.view_is in
-    let is_table : IsTable table = subst IsTable c.table.view_is c.table.invariant.0.is_table in
+    let other-is : c.table.inside.flat ≡ table = c.table.view_is in
+    let is_table : IsTable table = subst IsTable c.table.view_is c.table.invariant.0.sorted.is_table in
     let next : HasRead c.in-Some.next table (key_bytes text ++ c.args.ch ∷ []) = c.in-Some.ensures.read (characters text) read in
     let next' : HasRead c.in-Some.next table (key_bytes text ++ p.ch ∷ []) = subst (λ x. HasRead c.in-Some.next table (key_bytes text ++ x ∷ [])) (sym is) next in
-    let over : IsOver (entries c.deref.result.now) (key_bytes text ++ p.ch ∷ []) = c.goes_on.ensures.over (key_bytes text ++ p.ch ∷ []) (subst (λ t. HasRead c.in-Some.next t (key_bytes text ++ p.ch ∷ [])) (sym other-is) next') c.if-goes_on.false in
+    let over : IsOver c.table.inside.flat (key_bytes text ++ p.ch ∷ []) = c.goes_on.ensures.over (key_bytes text ++ p.ch ∷ []) (subst (λ t. HasRead c.in-Some.next t (key_bytes text ++ p.ch ∷ [])) (sym other-is) next') c.if-goes_on.false in
     let over' : IsOver table (key_bytes text ++ p.ch ∷ []) = subst (λ t. IsOver t (key_bytes text ++ p.ch ∷ [])) other-is over in
     let letter : is_letter_or_digit c.of-last.result ≡ is_alphanumeric p.ch = ap is_letter_or_digit c.of-last.ensures ∙ letter_of c.args.ch ∙ ap is_alphanumeric (sym is) in
     let waits : (c.args.in_value && is_alphanumeric p.ch && is_whole table c.in-Some.next) ≡ false =
-    ap (λ b. c.args.in_value && b && is_whole table c.in-Some.next) (sym letter) ∙ ap (λ t. c.args.in_value && is_letter_or_digit c.of-last.result && is_whole t c.in-Some.next) (sym third-is) ∙ sym c.waits.ensures ∙ c.if-waits.false in
+    ap (λ b. c.args.in_value && b && is_whole table c.in-Some.next) (sym letter) ∙ ap (λ t. c.args.in_value && is_letter_or_digit c.of-last.result && is_whole t c.in-Some.next) (sym other-is) ∙ sym c.waits.ensures ∙ c.if-waits.false in
     let first : is_empty text ≡ true → is_alphanumeric p.ch ≡ true = something_read text (is_alphanumeric p.ch ≡ true) (λ one. elim c.else-search-eq1.branch [
       | else-search-eq1-via-then-search-eq1+else-not-is_alphanumeric w ↦ ap is_alphanumeric is ∙ sym (letter_of c.args.ch) ∙ ap is_letter_or_digit (sym c.of-last.ensures) ∙ sym w.is_alphanumeric.ensures ∙ w.if-not-is_alphanumeric.false
       | else-search-eq1-via-else-search-eq1 w ↦ absurd (w.if-search-eq1.false (read.depth ∙ one))

@@ -1,8 +1,5 @@
-use Rattle.std.proofs.Common.{sym}
-use Rattle.std.proofs.lemmas.List.{length-map}
-use Rattle.charref.specs.Table.{entry, entries}
 use Rattle.charref.proofs.Searching.{read_nothing}
 use Rattle.charref.proofs.search.Search.new.Goals as goal
 
 pub returns-clause-read : goal.returns-clause-read
-returns-clause-read c = read_nothing (entries c.args.entities.now) _ c.requires.sorted (sym (length-map c.args.entities.now entry))
+returns-clause-read c = read_nothing c.args.flat.now _ c.requires.sorted c.len.ensures

@@ -1,10 +1,10 @@
-use Rattle.std.proofs.Common.{[], ◌∷◌, true≢false, refl, ap, ◌∙◌, subst}
-use Rattle.charref.specs.Table.{entries, HasRead}
+use Rattle.std.proofs.Common.{[], ◌∷◌, true≢false, refl, subst}
+use Rattle.charref.specs.Table.{HasRead}
 use Rattle.charref.specs.Held.{in_name}
 use Rattle.charref.proofs.walk.Walk.new.Goals as goal
 
 pub returns-clause-taken : goal.returns-clause-taken
 returns-clause-taken c =
     let read : HasRead c.after_ampersand.result c.args.table.now (38 ∷ []) =
-    subst (λ t. HasRead c.after_ampersand.result t (38 ∷ [])) (ap entries c.deref.ensures.value ∙ c.table.view_is) c.after_ampersand.ensures.read in
+    subst (λ t. HasRead c.after_ampersand.result t (38 ∷ [])) c.table.view_is c.after_ampersand.ensures.read in
     record { table_is = refl; in_value_is = refl; held = in_name c.after_ampersand.result [] read refl (λ p q. absurd (true≢false q)) }

@@ -1,0 +1,12 @@
+use Rattle.std.proofs.Common.{arith, ◌≡◌, ◌<◌, length, Some, sym, ap, ◌∙◌}
+use Rattle.std.specs.Prelude.{slice_get}
+use Rattle.std.proofs.lemmas.List.{length-map}
+use Rattle.charref.specs.declared.entity.Entity.{Entity}
+use Rattle.charref.specs.Table.{key_at, entry, entries}
+use Rattle.charref.proofs.Ranges.{entry_in}
+use Rattle.charref.proofs.flat.Flat.key.Goals as goal
+
+pub returns : goal.returns
+returns c =
+    let text = c.self.inside.text.items in
+    (entry text c.index.result.now, entry_in text c.self.inside.entities.items c.args.self.now c.args.at c.index.result.now c.self.view_is c.requires c.index.ensures, c.key.ensures ∙ ap (λ t. key_at t c.index.result.now) c.deref.ensures.value)
