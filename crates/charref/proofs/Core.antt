@@ -5,10 +5,10 @@ use Rattle.std.proofs.lemmas.Option.{slice_get_within, get_or_from_slice_get, sl
 use Rattle.std.specs.List.{starts_with, AllByRecursion, IsDistinct}
 use Rattle.std.specs.List.Sorted.{IsStrictlySortedBy}
 use Rattle.charref.specs.Reference.{Entry, Entities, IsTable, longest, longer, core}
-use Rattle.charref.specs.Table.{IsSortedTable}
+use Rattle.charref.specs.Flat.{IsReadable}
 use Rattle.charref.proofs.Keys.{whole, longest-whole}
 use Rattle.charref.proofs.Ranges.{some_same}
-use Rattle.charref.proofs.Members.{sorted_from_parts}
+use Rattle.charref.proofs.Members.{readable_from_parts}
 
 -- the longest key is a key of the table that the text begins with
 pub longest_among : (table : Entities) (text : List ℕ) (e : Entry) → longest table text ≡ Some e → (k : ℕ) × (slice_get table k ≡ Some e) × (starts_with nat_eq text e.key ≡ true)
@@ -67,9 +67,9 @@ has_found table e is_table (k, less, got) =
     let at : slice_get table k ≡ Some e = slice_get-get_or table k e less ∙ ap Some got in
     longest-whole table e.key k e (record { here = λ j f p is. once table is_table.distinct j k f e p at is }) at refl
 
-pub core_sorted : IsSortedTable core
+pub core_readable : IsReadable core
 unfolding IsStrictlySortedBy
-core_sorted = sorted_from_parts core refl refl ((refl, (refl, (refl, (refl, tt)))), ((refl, (refl, (refl, tt))), ((refl, (refl, tt)), ((refl, tt), (tt, tt)))))
+core_readable = readable_from_parts core refl refl ((refl, (refl, (refl, (refl, tt)))), ((refl, (refl, (refl, tt))), ((refl, (refl, tt)), ((refl, tt), (tt, tt)))))
 
 pub has_only : (table : Entities) (key characters : List ℕ) (e : Entry) → IsTable table → longest table key ≡ Some e → Contains table (record { key = key; stands_for = characters }) → (e.key ≡ key) × (e.stands_for ≡ characters)
 has_only table key characters e is_table found contains =

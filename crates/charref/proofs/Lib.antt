@@ -17,3 +17,7 @@ pub mod OneReference
 pub mod SomeReference
 pub mod AtOnce
 pub mod WholeNumbers
+pub mod Fronts
+pub mod Orders
+pub mod Forms
+pub mod ReadingFlat

@@ -1,6 +1,6 @@
 -- The members of an object, one after another.
-use Rattle.std.proofs.Common.{◌≡◌, inl, ℕ, Bool, true, false, not, cond, bytes_eq, List, [], ◌∷◌, ◌++◌, map, Option, Some, None, option_map, option_and_then, encode_utf8_all, Result, Ok, Err, String, Global, string_bytes, Less, refl, sym, ap, ◌∙◌, subst, append_assoc}
-use Rattle.std.proofs.lemmas.Bool.{and_from}
+use Rattle.std.proofs.Common.{◌≡◌, inl, ℕ, Bool, true, false, true≢false, not, ◌&&◌, cond, bytes_eq, List, [], ◌∷◌, ◌++◌, map, Option, Some, None, option_map, option_and_then, encode_utf8_all, Result, Ok, Err, String, Global, string_bytes, Less, refl, sym, ap, ◌∙◌, subst, append_assoc}
+use Rattle.std.proofs.lemmas.Bool.{and_parts, and_from}
 use Rattle.std.proofs.lemmas.Map.Keys.{IsDistinct-from_sorted}
 use Rattle.std.proofs.lemmas.Map.Text.{is_eq-slice_cmp}
 use Rattle.std.specs.List.{list_all, AllByRecursion, IsDistinct}
@@ -12,13 +12,14 @@ use Rattle.std.specs.Ordering.{nat_cmp, eq_by_cmp}
 use Rattle.names.specs.declared.refusal.TableFault.{TableFault}
 use Rattle.names.specs.declared.refusal.TableFault.TheVariants.{Key, Characters}
 use Rattle.serde_json.specs.Data.{Data, Items, no_items, item}
+use Rattle.serde_json.specs.Find.{as_number, as_u64}
 use Rattle.serde_json.specs.View.{view, members_view}
 use Rattle.serde_json.specs.declared.value.Value.{Value}
 use Rattle.charref.specs.Reference.{Entry, Entities, is_key, is_empty_list}
-use Rattle.charref.specs.Reading.{codepoint, codepoints, fields, entry_of, entry_of_characters, entry_of_fields, entities_of, and_then, IsRefusedWith}
+use Rattle.charref.specs.Reading.{is_character, codepoint, codepoints, fields, entry_of, entry_of_characters, entry_of_fields, entities_of, and_then, IsRefusedWith}
 use Rattle.names.specs.declared.refusal.Refusal.{Refusal}
 use Rattle.names.specs.declared.refusal.Refusal.TheVariants.{Memory}
-use Rattle.charref.specs.Table.{IsSortedTable}
+use Rattle.charref.specs.Flat.{is_one_or_two, IsReadable}
 
 abbrev pub Pair : Type 0
 Pair = String Global × Value
@@ -80,57 +81,70 @@ read_refused all left pair table refusal was refused = by (entry_of (string_byte
 
 -- WHAT A READ TABLE IS
 
-one_codepoint : (o : Option ℕ) (cs : List ℕ) → option_map (λ c. c ∷ []) o ≡ Some cs → is_empty_list cs ≡ false
-one_codepoint None cs h = absurd (cc)
-one_codepoint (Some c) cs h = let is : c ∷ [] ≡ cs = cc in ap is_empty_list (sym is)
+is_one : (d : Data) (c : ℕ) → codepoint d ≡ Some c → is_character c ≡ true
+is_one d c h = by (option_and_then as_u64 (as_number d)) h
+  where
+    tested : (n : ℕ) (b : Bool) → is_character n ≡ b → cond b (Some n) None ≡ Some c → is_character c ≡ true
+    tested n false test h = absurd (cc)
+    tested n true test h = let same : n ≡ c = cc in subst (λ x. is_character x ≡ true) same test
 
-two_codepoints : (o p : Option ℕ) (cs : List ℕ) → option_and_then (λ c. option_map (λ b. c ∷ b ∷ []) p) o ≡ Some cs → is_empty_list cs ≡ false
-two_codepoints None p cs h = absurd (cc)
-two_codepoints (Some c) None cs h = absurd (cc)
-two_codepoints (Some c) (Some b) cs h = let is : c ∷ b ∷ [] ≡ cs = cc in ap is_empty_list (sym is)
+    by : (o : Option ℕ) → option_and_then (λ n. cond (is_character n) (Some n) None) o ≡ Some c → is_character c ≡ true
+    by None h = absurd (cc)
+    by (Some n) h = tested n (is_character n) refl h
 
-codepoints-some : (ds : Items) (cs : List ℕ) → codepoints ds ≡ Some cs → is_empty_list cs ≡ false
+one_codepoint : (d : Data) (o : Option ℕ) (cs : List ℕ) → codepoint d ≡ o → option_map (λ c. c ∷ []) o ≡ Some cs → is_one_or_two cs ≡ true
+one_codepoint d None cs first h = absurd (cc)
+one_codepoint d (Some c) cs first h = let is : c ∷ [] ≡ cs = cc in subst (λ xs. is_one_or_two xs ≡ true) is (and_from (is_character c) true (is_one d c first) refl)
+
+two_codepoints : (d e : Data) (o p : Option ℕ) (cs : List ℕ) → codepoint d ≡ o → codepoint e ≡ p → option_and_then (λ c. option_map (λ b. c ∷ b ∷ []) p) o ≡ Some cs → is_one_or_two cs ≡ true
+two_codepoints d e None p cs first second h = absurd (cc)
+two_codepoints d e (Some c) None cs first second h = absurd (cc)
+two_codepoints d e (Some c) (Some b) cs first second h =
+    let is : c ∷ b ∷ [] ≡ cs = cc in
+    subst (λ xs. is_one_or_two xs ≡ true) is (and_from (is_character c) (is_character b && true) (is_one d c first) (and_from (is_character b) true (is_one e b second) refl))
+
+codepoints-some : (ds : Items) (cs : List ℕ) → codepoints ds ≡ Some cs → is_one_or_two cs ≡ true
 codepoints-some no_items cs h = absurd (cc)
-codepoints-some (item d no_items) cs h = one_codepoint (codepoint d) cs h
-codepoints-some (item d (item e no_items)) cs h = two_codepoints (codepoint d) (codepoint e) cs h
+codepoints-some (item d no_items) cs h = one_codepoint d (codepoint d) cs refl h
+codepoints-some (item d (item e no_items)) cs h = two_codepoints d e (codepoint d) (codepoint e) cs refl refl h
 codepoints-some (item d (item e (item f ds))) cs h = absurd (cc)
 
 -- an entry that was read
-record IsReadAs (key : List ℕ) (e : Entry) : Type 0 where
-  same_key : e.key ≡ key
-  is_key' : is_key key ≡ true
-  some : is_empty_list e.stands_for ≡ false
+pub record IsReadAs (key : List ℕ) (e : Entry) : Type 0 where
+  pub same_key : e.key ≡ key
+  pub is_key' : is_key key ≡ true
+  pub ones : is_one_or_two e.stands_for ≡ true
 
-of_characters : (key text : List ℕ) (o : Option (List ℕ)) (e : Entry) → entry_of_characters key text o ≡ Ok e → ((cs : List ℕ) → o ≡ Some cs → is_empty_list cs ≡ false) → (e.key ≡ key) × (is_empty_list e.stands_for ≡ false)
-of_characters key text None e h some = absurd (cc)
-of_characters key text (Some cs) e h some = by (bytes_eq text (encode_utf8_all cs)) h
+of_characters : (key text : List ℕ) (o : Option (List ℕ)) (e : Entry) → entry_of_characters key text o ≡ Ok e → ((cs : List ℕ) → o ≡ Some cs → is_one_or_two cs ≡ true) → (e.key ≡ key) × (is_one_or_two e.stands_for ≡ true)
+of_characters key text None e h ones = absurd (cc)
+of_characters key text (Some cs) e h ones = by (bytes_eq text (encode_utf8_all cs)) h
   where
-    by : (b : Bool) → cond b (Ok (record { key = key; stands_for = cs })) (Err Characters) ≡ Ok e → (e.key ≡ key) × (is_empty_list e.stands_for ≡ false)
+    by : (b : Bool) → cond b (Ok (record { key = key; stands_for = cs })) (Err Characters) ≡ Ok e → (e.key ≡ key) × (is_one_or_two e.stands_for ≡ true)
     by false h = absurd (cc)
     by true h =
         let made : Entry = record { key = key; stands_for = cs } in
         let is : made ≡ e = cc in
-        (ap (λ (y : Entry). y.key) (sym is), ap (λ (y : Entry). is_empty_list y.stands_for) (sym is) ∙ some cs refl)
+        (ap (λ (y : Entry). y.key) (sym is), ap (λ (y : Entry). is_one_or_two y.stands_for) (sym is) ∙ ones cs refl)
 
-of_fields : (key : List ℕ) (o : Option (Items × List ℕ)) (e : Entry) → entry_of_fields key o ≡ Ok e → (e.key ≡ key) × (is_empty_list e.stands_for ≡ false)
+of_fields : (key : List ℕ) (o : Option (Items × List ℕ)) (e : Entry) → entry_of_fields key o ≡ Ok e → (e.key ≡ key) × (is_one_or_two e.stands_for ≡ true)
 of_fields key None e h = absurd (cc)
 of_fields key (Some pair) e h = of_characters key pair.1 (codepoints pair.0) e h (λ cs is. codepoints-some pair.0 cs is)
 
-entry_read : (key : List ℕ) (value : Data) (e : Entry) → entry_of key value ≡ Ok e → IsReadAs key e
+pub entry_read : (key : List ℕ) (value : Data) (e : Entry) → entry_of key value ≡ Ok e → IsReadAs key e
 entry_read key value e h = by (is_key key) refl h
   where
     by : (b : Bool) → is_key key ≡ b → cond b (entry_of_fields key (fields value)) (Err Key) ≡ Ok e → IsReadAs key e
     by false is h = absurd (cc)
-    by true is h = let parts : (e.key ≡ key) × (is_empty_list e.stands_for ≡ false) = of_fields key (fields value) e h in record { same_key = parts.0; is_key' = is; some = parts.1 }
+    by true is h = let parts : (e.key ≡ key) × (is_one_or_two e.stands_for ≡ true) = of_fields key (fields value) e h in record { same_key = parts.0; is_key' = is; ones = parts.1 }
 
 -- entries that were read
 record AreRead (keys : List (List ℕ)) (table : Entities) : Type 0 where
   same_keys : map (λ e. e.key) table ≡ keys
   are_keys : list_all (λ e. is_key e.key) table ≡ true
-  some : list_all (λ e. not (is_empty_list e.stands_for)) table ≡ true
+  ones : list_all (λ e. is_one_or_two e.stands_for) table ≡ true
 
 entities_read : (all : List Pair) (table : Entities) → entities_of (members_view all) ≡ Ok table → AreRead (map string_bytes (keys_of all)) table
-entities_read [] table h = let is : [] ≡ table = cc in subst (λ t. AreRead [] t) is (record { same_keys = refl; are_keys = refl; some = refl })
+entities_read [] table h = let is : [] ≡ table = cc in subst (λ t. AreRead [] t) is (record { same_keys = refl; are_keys = refl; ones = refl })
 entities_read (p ∷ all) table h = by (entry_of (string_bytes p.0) (view p.1)) (entities_of (members_view all)) refl refl h (entities_read all)
   where
     by : (r : Result Entry TableFault) (others : Result Entities TableFault) → entry_of (string_bytes p.0) (view p.1) ≡ r → entities_of (members_view all) ≡ others → and_then r others ≡ Ok table
@@ -145,7 +159,7 @@ entities_read (p ∷ all) table h = by (entry_of (string_bytes p.0) (view p.1)) 
         subst (λ t. AreRead (map string_bytes (keys_of (p ∷ all))) t) is (record {
           same_keys = (let k : e.key ≡ string_bytes p.0 = here.same_key in let ks : map (λ (e : Entry). e.key) es ≡ map string_bytes (keys_of all) = there.same_keys in cc);
           are_keys = and_from _ _ (subst (λ k. is_key k ≡ true) (sym here.same_key) here.is_key') there.are_keys;
-          some = and_from _ _ (ap not here.some) there.some;
+          ones = and_from _ _ here.ones there.ones;
         })
 
 -- the texts of names in order are in order
@@ -168,13 +182,26 @@ unfolding IsDistinct
 distinct_texts [] h = tt
 distinct_texts (k ∷ ks) h = (distinct_below k ks h.0, distinct_texts ks h.1)
 
-pub sorted_from_parts : (table : Entities) → list_all (λ e. is_key e.key) table ≡ true → list_all (λ e. not (is_empty_list e.stands_for)) table ≡ true → IsStrictlySortedBy (slice_cmp nat_cmp) (map (λ e. e.key) table) → IsSortedTable table
-sorted_from_parts table keys some sorted = record {
-  sorted = sorted;
-  is_table = record { keys = keys; characters = some; distinct = distinct_texts (map (λ e. e.key) table) (IsDistinct-from_sorted (slice_cmp nat_cmp) (map (λ e. e.key) table) sorted) };
+some_characters : (cs : List ℕ) → is_one_or_two cs ≡ true → not (is_empty_list cs) ≡ true
+some_characters [] is = absurd (true≢false (sym is))
+some_characters (c ∷ cs) is = refl
+
+all_some : (table : Entities) → list_all (λ e. is_one_or_two e.stands_for) table ≡ true → list_all (λ e. not (is_empty_list e.stands_for)) table ≡ true
+all_some [] h = refl
+all_some (e ∷ es) h =
+    let parts : (is_one_or_two e.stands_for ≡ true) × (list_all (λ e. is_one_or_two e.stands_for) es ≡ true) = and_parts (is_one_or_two e.stands_for) _ h in
+    and_from (not (is_empty_list e.stands_for)) _ (some_characters e.stands_for parts.0) (all_some es parts.1)
+
+pub readable_from_parts : (table : Entities) → list_all (λ e. is_key e.key) table ≡ true → list_all (λ e. is_one_or_two e.stands_for) table ≡ true → IsStrictlySortedBy (slice_cmp nat_cmp) (map (λ e. e.key) table) → IsReadable table
+readable_from_parts table keys ones sorted = record {
+  characters = ones;
+  sorted = record {
+    sorted = sorted;
+    is_table = record { keys = keys; characters = all_some table ones; distinct = distinct_texts (map (λ e. e.key) table) (IsDistinct-from_sorted (slice_cmp nat_cmp) (map (λ e. e.key) table) sorted) };
+  };
 }
 
-pub sorted_table : (all : List Pair) (table : Entities) → IsStrictlySortedBy string_cmp (keys_of all) → entities_of (members_view all) ≡ Ok table → IsSortedTable table
-sorted_table all table sorted h =
+pub readable_table : (all : List Pair) (table : Entities) → IsStrictlySortedBy string_cmp (keys_of all) → entities_of (members_view all) ≡ Ok table → IsReadable table
+readable_table all table sorted h =
     let read : AreRead (map string_bytes (keys_of all)) table = entities_read all table h in
-    sorted_from_parts table read.are_keys read.some (subst (λ ks. IsStrictlySortedBy (slice_cmp nat_cmp) ks) (sym read.same_keys) (texts_sorted (keys_of all) sorted))
+    readable_from_parts table read.are_keys read.ones (subst (λ ks. IsStrictlySortedBy (slice_cmp nat_cmp) ks) (sym read.same_keys) (texts_sorted (keys_of all) sorted))

@@ -1,5 +1,5 @@
 -- What is at the front of the rest of a flat form.
-use Rattle.std.specs.Prelude.{◌≡◌, ℕ, ◌≤◌, ◌<◌, Bool, true, ◌&&◌, nat_le, List, ◌∷◌, ◌++◌, length, drop, slice_range}
+use Rattle.std.specs.Prelude.{◌≡◌, ℕ, ◌≤◌, ◌<◌, Bool, true, false, ◌&&◌, ◌==◌, nat_le, List, ◌∷◌, ◌++◌, length, take, drop, slice_get, Option, Some, None}
 use Rattle.charref.specs.declared.entity.Entity.{Entity}
 use Rattle.charref.specs.Reference.{Entry, is_key}
 use Rattle.charref.specs.Table.{entry}
@@ -14,16 +14,33 @@ pub record BeginsWith (form bytes : List ℕ) (count : ℕ) : Type 0 where
   pub within : count ≤ length bytes
   pub is : bytes ≡ form ++ drop count bytes
 
+-- whether there is a byte, and it passes
+abbrev pub passes : (ℕ → Bool) → Option ℕ → Bool
+passes test None = false
+passes test (Some byte) = test byte
+
+abbrev pub is_count : ℕ → Bool
+is_count byte = nat_le byte 2
+
+abbrev pub is_semicolon : ℕ → Bool
+is_semicolon byte = byte == 59
+
+-- The first bytes, so many, pass as a whole, and a count comes after them.
+pub record IsCounted (test : List ℕ → Bool) (bytes : List ℕ) (size : ℕ) : Type 0 where
+  pub within : size < length bytes
+  pub passing : test (take size bytes) ≡ true
+  pub counted : passes is_count (slice_get bytes size) ≡ true
+
+-- No first bytes do.
+abbrev pub HasNoCounted : (List ℕ → Bool) → List ℕ → Type 0
+HasNoCounted test bytes = (key rest : List ℕ) (count : ℕ) → test key ≡ true → is_count count ≡ true → bytes ≡ key ++ count ∷ rest → ⊥
+
 abbrev pub is_entry : Entry → Bool
 is_entry e = is_key e.key && is_one_or_two e.stands_for
 
--- The bytes begin with no key that a count ends.
-abbrev pub HasNoKey : List ℕ → Type 0
-HasNoKey bytes = (key rest : List ℕ) (count : ℕ) → is_key key ≡ true → count ≤ 2 → bytes ≡ key ++ count ∷ rest → ⊥
-
--- An entry stands in the text from its start up to this place.
+-- An entry stands in the text from this place up to that.
 pub record IsEntryAt (text : List ℕ) (start : ℕ) (entity : Entity) (end : ℕ) : Type 0 where
-  pub passes : is_entry (entry text entity) ≡ true
+  pub passing : is_entry (entry text entity) ≡ true
   pub some : start < end
   pub within : end ≤ length text
   pub is : drop start text ≡ flat_entry (entry text entity) ++ drop end text

@@ -1,14 +1,13 @@
 //! Reading the entries of a flat form.
 
-ghost use Rattle.std.specs.Prelude.{◌≡◌, ◌+◌, ◌*◌, ◌<◌, ◌≤◌, ℕ, List, Option, Some, None, length, drop, take, slice_index, if◌then◌else◌, true, IfOk, IfErr, MatchOption};
-ghost use Rattle.charref.specs.Reference.{is_key};
+ghost use Rattle.std.specs.Prelude.{◌≡◌, ◌+◌, ◌*◌, ◌≤◌, Some, None, length, drop, if◌then◌else◌, true, IfOk, IfErr, MatchOption};
 ghost use Rattle.charref.specs.Reading.{is_character};
 ghost use Rattle.charref.specs.Table.{entries, stands_for};
 ghost use Rattle.charref.specs.Flat.{is_one_or_two, flat_character, flat_characters, flat_entry, flat_of, IsReadable, IsRefusedFlat};
-ghost use Rattle.charref.specs.Front.{BeginsWith, BeginsWithNone, is_entry, HasNoKey, IsEntryAt};
+ghost use Rattle.charref.specs.Front.{BeginsWith, BeginsWithNone, is_entry, IsEntryAt};
 
 use crate::entity::{Entity, OneOrTwo};
-use crate::key::is_key;
+use crate::key::{is_before, key_at_front};
 use names::{Refusal, TableFault};
 use std::alloc::Global;
 
@@ -55,32 +54,16 @@ fn characters_at_front(bytes: &[u8]) -> Option<OneOrTwo>
     }
 }
 
-/// The length of the key at the front, if a count ends it.
-#[inline(always)]
-fn key_at_front(bytes: &[u8]) -> Option<usize>
-    ensures { MatchOption result (HasNoKey bytes.now)
-        (λ count. (count < length bytes.now) × (is_key (take count bytes.now) ≡ true) × (slice_index bytes.now count ≤ 2)) }
-{
-    for (index, byte) in bytes.iter().enumerate() {
-        if *byte <= 2 {
-            return if is_key(&bytes[..index]) {
-                Some(index)
-            } else {
-                None
-            };
-        }
-    }
-    None
-}
-
 /// The entry at `start`, and where it ends.
 #[inline(always)]
 fn entity_at(text: &[u8], start: usize) -> Option<(Entity, usize)>
     requires { start ≤ length text.now }
     ensures { MatchOption result (BeginsWithNone is_entry flat_entry (drop start text.now)) (λ it. IsEntryAt text.now start it.0 it.1) }
 {
-    let end = start + key_at_front(&text[start..])?;
-    let characters = characters_at_front(&text[end..])?;
+    let rest = &text[start..];
+    let size = key_at_front(rest)?;
+    let characters = characters_at_front(&rest[size..])?;
+    let end = start + size;
     let entity = Entity {
         start,
         end,
@@ -108,7 +91,7 @@ pub(crate) fn entities_of(alloc: Global, text: &[u8]) -> Result<Vec<Entity>, Ref
             return Err(refused);
         };
         let key = entity.key(text);
-        if key <= last {
+        if !is_before(last, key) {
             return Err(refused);
         }
         entities.push(entity)?;

@@ -1,7 +1,31 @@
 //! The keys of a table.
 
-ghost use Rattle.std.specs.Prelude.{◌≡◌};
+ghost use Rattle.std.specs.Prelude.{◌≡◌, ◌≤◌, ℕ, List, true, false, length, take, slice_get, MatchOption};
+ghost use Rattle.std.specs.List.{list_all};
+ghost use Rattle.std.specs.Ordering.{nat_cmp, is_lt};
+ghost use Rattle.std.specs.Cmp.Lexicographic.{slice_cmp};
+ghost use Rattle.names.specs.Placed.{is_alphanumeric};
 ghost use Rattle.charref.specs.Reference.{is_key, is_key_name};
+ghost use Rattle.charref.specs.Front.{passes, is_count, is_semicolon, IsCounted, HasNoCounted};
+
+/// 1 for each letter and digit of ASCII. A table, since keys are short and are read by the thousand.
+const ALPHANUMERICS: [u8; 256] = [
+    0, 0, 0, 0, 0, 0, 0, 0, 0, 0, 0, 0, 0, 0, 0, 0, 0, 0, 0, 0, 0, 0, 0, 0, 0, 0, 0, 0, 0, 0, 0, 0,
+    0, 0, 0, 0, 0, 0, 0, 0, 0, 0, 0, 0, 0, 0, 0, 0, 1, 1, 1, 1, 1, 1, 1, 1, 1, 1, 0, 0, 0, 0, 0, 0,
+    0, 1, 1, 1, 1, 1, 1, 1, 1, 1, 1, 1, 1, 1, 1, 1, 1, 1, 1, 1, 1, 1, 1, 1, 1, 1, 1, 0, 0, 0, 0, 0,
+    0, 1, 1, 1, 1, 1, 1, 1, 1, 1, 1, 1, 1, 1, 1, 1, 1, 1, 1, 1, 1, 1, 1, 1, 1, 1, 1, 0, 0, 0, 0, 0,
+    0, 0, 0, 0, 0, 0, 0, 0, 0, 0, 0, 0, 0, 0, 0, 0, 0, 0, 0, 0, 0, 0, 0, 0, 0, 0, 0, 0, 0, 0, 0, 0,
+    0, 0, 0, 0, 0, 0, 0, 0, 0, 0, 0, 0, 0, 0, 0, 0, 0, 0, 0, 0, 0, 0, 0, 0, 0, 0, 0, 0, 0, 0, 0, 0,
+    0, 0, 0, 0, 0, 0, 0, 0, 0, 0, 0, 0, 0, 0, 0, 0, 0, 0, 0, 0, 0, 0, 0, 0, 0, 0, 0, 0, 0, 0, 0, 0,
+    0, 0, 0, 0, 0, 0, 0, 0, 0, 0, 0, 0, 0, 0, 0, 0, 0, 0, 0, 0, 0, 0, 0, 0, 0, 0, 0, 0, 0, 0, 0, 0,
+];
+
+#[inline(always)]
+fn is_alphanumeric(byte: u8) -> bool
+    ensures { result ≡ is_alphanumeric byte }
+{
+    ALPHANUMERICS[usize::from(byte)] == 1
+}
 
 /// Whether this is one or more alphanumerics, and then at most one `;`.
 fn is_key_name(name: &[u8]) -> bool
@@ -23,4 +47,85 @@ pub(crate) fn is_key(key: &[u8]) -> bool
         [b'&', name @ ..] => is_key_name(name),
         _ => false,
     }
+}
+
+/// How many letters and digits these bytes begin with.
+#[inline(always)]
+fn alphanumerics(bytes: &[u8]) -> usize
+    ensures few { result ≤ length bytes.now }
+    ensures all { list_all is_alphanumeric (take result bytes.now) ≡ true }
+    ensures stops { passes is_alphanumeric (slice_get bytes.now result) ≡ false }
+{
+    for (index, byte) in bytes.iter().enumerate() {
+        if !is_alphanumeric(*byte) {
+            return index;
+        }
+    }
+    bytes.len()
+}
+
+/// Whether the byte at this place, if there is one, can be a count of characters: it is no byte of a key.
+#[inline(always)]
+fn is_count(bytes: &[u8], at: usize) -> bool
+    ensures { result ≡ passes is_count (slice_get bytes.now at) }
+{
+    match bytes.get(at) {
+        Some(byte) => *byte <= 2,
+        None => false,
+    }
+}
+
+#[inline(always)]
+fn is_semicolon(bytes: &[u8], at: usize) -> bool
+    ensures { result ≡ passes is_semicolon (slice_get bytes.now at) }
+{
+    match bytes.get(at) {
+        Some(byte) => *byte == b';',
+        None => false,
+    }
+}
+
+/// The length of the name that these bytes begin with, if a count comes after it.
+#[inline(always)]
+fn name_at_front(bytes: &[u8]) -> Option<usize>
+    ensures { MatchOption result (HasNoCounted is_key_name bytes.now) (IsCounted is_key_name bytes.now) }
+{
+    let end = alphanumerics(bytes);
+    if end == 0 {
+        return None;
+    }
+    if is_count(bytes, end) {
+        return Some(end);
+    }
+    if is_semicolon(bytes, end) && is_count(bytes, end + 1) {
+        return Some(end + 1);
+    }
+    None
+}
+
+/// The length of the key that these bytes begin with, if a count comes after it.
+#[inline(always)]
+pub(crate) fn key_at_front(bytes: &[u8]) -> Option<usize>
+    ensures { MatchOption result (HasNoCounted is_key bytes.now) (IsCounted is_key bytes.now) }
+{
+    match bytes {
+        [b'&', name @ ..] => Some(name_at_front(name)? + 1),
+        _ => None,
+    }
+}
+
+/// Whether one key is before another; by hand, since keys are too short for the groups that `<` compares.
+#[inline(always)]
+pub(crate) fn is_before(a: &[u8], b: &[u8]) -> bool
+    ensures { result ≡ is_lt (slice_cmp nat_cmp a.now b.now) }
+{
+    for (index, byte) in b.iter().enumerate() {
+        if index == a.len() {
+            return true;
+        }
+        if a[index] != *byte {
+            return a[index] < *byte;
+        }
+    }
+    false
 }

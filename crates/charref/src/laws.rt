@@ -1,4 +1,4 @@
-//! Laws of references: each text that begins with `&` has exactly one at its front.
+//! Laws: each text that begins with `&` has exactly one reference at its front, and a flat form is of one table.
 
 ghost use Rattle.std.specs.Prelude.{◌≡◌, ◌∷◌, ◌++◌, Bool, false, List};
 ghost use Rattle.names.specs.declared.placed.Placed.{Placed};
@@ -6,6 +6,7 @@ ghost use Rattle.charref.specs.Reference.{Entities, IsTable, Piece, IsReference}
 ghost use Rattle.charref.specs.Open.{IsOpen, HasReference};
 ghost use Rattle.charref.specs.declared.walk.Walk.{Walk as WalkOf};
 ghost use Rattle.charref.specs.Walk.{HasTaken};
+ghost use Rattle.charref.specs.Flat.{flat_of, IsReadable};
 
 /// A law: at each `&` is a reference, or an `&` that is text.
 pub fn some_reference()
@@ -25,4 +26,9 @@ pub fn one_reference()
 pub fn goes_on_in_a_reference()
     ensures { (walk : WalkOf) (table : Entities) (text : List Placed) (amp : Placed) → IsTable table
         → HasTaken walk table false text → amp.ch ≡ 38 → IsOpen table amp text }
+{}
+
+/// A law: no two tables have the same flat form.
+pub fn one_flat_table()
+    ensures { (table other : Entities) → IsReadable table → IsReadable other → flat_of table ≡ flat_of other → table ≡ other }
 {}

@@ -20,7 +20,7 @@ mod walk;
 mod walking;
 mod writing;
 
-pub use laws::{goes_on_in_a_reference, one_reference, some_reference};
+pub use laws::{goes_on_in_a_reference, one_flat_table, one_reference, some_reference};
 pub use reference::{Characters, Reference};
 pub use table::{Match, Table};
 pub use walk::Walk;

@@ -134,7 +134,7 @@ fn add_entry(flat: &mut Vec<u8>, alloc: Global, key: &str, value: &Value) -> Res
     ensures err { IfErr result (λ e. IsRefusedWith (entry_of key.now (view value.now)) e) }
 {
     let characters = characters_of(alloc, key, value)?;
-    Ok(add_flat(flat, key.as_bytes(), &characters)?)
+    Ok(add_flat(flat, key.as_bytes(), characters.as_slice())?)
 }
 
 /// The flat form of an object's members.

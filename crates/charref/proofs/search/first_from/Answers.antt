@@ -21,10 +21,10 @@ returns-clause-parted c =
     let size : length xs ≡ c.args.high - c.args.low = length-between es c.args.low c.args.high within in
     let bound : c.partition_point.result ≤ length xs = c.partition_point.ensures.bound in
     subst (λ (t : Entities). IsRising t c.args.low c.args.high c.args.depth → IsParted t c.args.low (c.args.low + c.partition_point.result) c.args.high c.args.depth c.args.code) table-is (λ rising.
-        let parted : IsPartitionPoint (λ e. nat_lt (code e) c.args.code ≡ true) (λ e. nat_lt (code e) c.args.code ≡ false) xs c.partition_point.result =
-        IsPartitionPoint-from_clause (λ e. nat_lt (code e) c.args.code) xs c.partition_point.result c.partition_point.ensures.partitioned
-        (IsPartitionedBy-ltb code xs c.args.code (rising_slice text es c.args.low c.args.high c.args.depth c.requires.ordered within rising)) (λ a r f called. search rules) in
-        from_slice text es c.args.low c.args.high c.args.depth c.args.code c.partition_point.result c.requires.ordered within (omega arith) parted)
+    let parted : IsPartitionPoint (λ e. nat_lt (code e) c.args.code ≡ true) (λ e. nat_lt (code e) c.args.code ≡ false) xs c.partition_point.result =
+    IsPartitionPoint-from_clause (λ e. nat_lt (code e) c.args.code) xs c.partition_point.result c.partition_point.ensures.partitioned
+    (IsPartitionedBy-ltb code xs c.args.code (rising_slice text es c.args.low c.args.high c.args.depth c.requires.ordered within rising)) (λ a r f called. search rules) in
+    from_slice text es c.args.low c.args.high c.args.depth c.args.code c.partition_point.result c.requires.ordered within (omega arith) parted)
 
 pub returns-then-code_at-code-2-clause-parted : goal.returns-then-code_at-code-2-clause-parted
 returns-then-code_at-code-2-clause-parted c = λ rising.

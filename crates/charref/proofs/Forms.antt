@@ -1,0 +1,145 @@
+-- A flat form is of one table only.
+use Rattle.std.proofs.Common.{arith, ◌≡◌, ℕ, zero, suc, ◌+◌, ◌≤◌, ◌<◌, ◌^◌, Bool, true, false, true≢false, not, ◌&&◌, ◌||◌, nat_lt, nat_le, nat_eq, ◌==◌, List, [], ◌∷◌, ◌++◌, map, length, Option, Some, None, Less, refl, sym, ap, ◌∙◌, subst, append_assoc}
+use Rattle.std.proofs.lemmas.Bool.{and_parts, and_from}
+use Rattle.std.proofs.lemmas.Bool.Decides.{nat_tests}
+use Rattle.std.proofs.lemmas.Nat.{from_le_bytes-to_le_bytes_4}
+use Rattle.std.proofs.lemmas.List.{append-nil}
+use Rattle.std.specs.Int.{w32, from_le_bytes}
+use Rattle.std.specs.List.{list_all, flat_map}
+use Rattle.names.specs.Placed.{is_alphanumeric}
+use Rattle.charref.specs.Reference.{Entry, Entities, is_key, is_key_name}
+use Rattle.charref.specs.Reading.{is_character}
+use Rattle.charref.specs.Flat.{is_one_or_two, flat_character, flat_characters, flat_entry, flat_of, IsReadable}
+use Rattle.charref.specs.Front.{is_count, is_entry}
+use Rattle.charref.proofs.Extending.{follows, ends, closes, continues}
+
+-- CHARACTERS
+
+small : (c : ℕ) → is_character c ≡ true → c < 2 ^ 32
+small c is = let most : nat_le c 0x10FFFF ≡ true = (and_parts (not (c == 0)) (nat_le c 0x10FFFF) (and_parts (not (c == 0) && nat_le c 0x10FFFF) _ is).0).1 in let le : c ≤ 0x10FFFF = grind (arith, nat_tests) in omega arith
+
+one_character : (c d : ℕ) → is_character c ≡ true → is_character d ≡ true → flat_character c ≡ flat_character d → c ≡ d
+one_character c d p q is = sym (from_le_bytes-to_le_bytes_4 c (small c p)) ∙ ap (from_le_bytes w32) is ∙ from_le_bytes-to_le_bytes_4 d (small d q)
+
+-- lists that begin with four elements each
+four_same : (a b c d e f g h : ℕ) (r s : List ℕ) → a ∷ b ∷ c ∷ d ∷ r ≡ e ∷ f ∷ g ∷ h ∷ s → (a ∷ b ∷ c ∷ d ∷ [] ≡ e ∷ f ∷ g ∷ h ∷ []) × (r ≡ s)
+four_same a b c d e f g h r s is =
+    let one : a ≡ e = cc in
+    let two : b ≡ f = cc in
+    let three : c ≡ g = cc in
+    let four : d ≡ h = cc in
+    let rest : r ≡ s = cc in
+    ((λ i. one i ∷ two i ∷ three i ∷ four i ∷ []), rest)
+
+same_characters : (cs ds r s : List ℕ) → list_all is_character cs ≡ true → list_all is_character ds ≡ true → length cs ≡ length ds
+    → flat_map flat_character cs ++ r ≡ flat_map flat_character ds ++ s → (cs ≡ ds) × (r ≡ s)
+same_characters [] [] r s p q size is = (refl, is)
+same_characters [] (d ∷ ds) r s p q size is = absurd (omega arith)
+same_characters (c ∷ cs) [] r s p q size is = absurd (omega arith)
+same_characters (c ∷ cs) (d ∷ ds) r s p q size is =
+    let four : (flat_character c ≡ flat_character d) × (flat_map flat_character cs ++ r ≡ flat_map flat_character ds ++ s) = four_same _ _ _ _ _ _ _ _ _ _ is in
+    let first : c ≡ d = one_character c d (and_parts _ _ p).0 (and_parts _ _ q).0 four.0 in
+    let others : (cs ≡ ds) × (r ≡ s) = same_characters cs ds r s (and_parts _ _ p).1 (and_parts _ _ q).1 (omega arith) four.1 in
+    ((λ i. first i ∷ others.0 i), others.1)
+
+pub counted : (cs : List ℕ) → is_one_or_two cs ≡ true → is_count (length cs) ≡ true
+counted cs is = let few : (nat_eq (length cs) 1 || nat_eq (length cs) 2) ≡ true = (and_parts _ (list_all is_character cs) is).0 in grind (arith, nat_tests)
+
+-- KEYS
+
+abbrev pub is_past_counts : ℕ → Bool
+is_past_counts byte = nat_lt 2 byte
+
+letter_past : (c : ℕ) → is_alphanumeric c ≡ true → is_past_counts c ≡ true
+letter_past c is = grind (arith, nat_tests)
+
+name_past : (name : List ℕ) → is_key_name name ≡ true → list_all is_past_counts name ≡ true
+name_past [] is = refl
+name_past (c ∷ cs) is = and_from (is_past_counts c) _ (letter_past c (and_parts (is_alphanumeric c) _ is).0) (elim (follows cs (and_parts (is_alphanumeric c) _ is).1) [
+  | ends none ↦ subst (λ xs. list_all is_past_counts xs ≡ true) (sym none) refl
+  | closes one ↦ subst (λ xs. list_all is_past_counts xs ≡ true) (sym one) refl
+  | continues more ↦ name_past cs more
+])
+
+pub key_past : (key : List ℕ) → is_key key ≡ true → list_all is_past_counts key ≡ true
+key_past [] is = refl
+key_past (c ∷ cs) is = and_from (is_past_counts c) _ (let t : (c == 38) ≡ true = (and_parts _ _ is).0 in grind (arith, nat_tests)) (name_past cs (and_parts _ _ is).1)
+
+no_count : (c d : ℕ) → is_count c ≡ true → is_past_counts d ≡ true → c ≡ d → ⊥
+no_count c d p q is = grind (arith, nat_tests)
+
+-- what ends at its first count
+pub same_key : (a b r s : List ℕ) (c d : ℕ) → list_all is_past_counts a ≡ true → list_all is_past_counts b ≡ true → is_count c ≡ true → is_count d ≡ true
+    → a ++ c ∷ r ≡ b ++ d ∷ s → (a ≡ b) × (c ∷ r ≡ d ∷ s)
+same_key [] [] r s c d p q m n is = (refl, is)
+same_key [] (y ∷ ys) r s c d p q m n is = absurd (no_count c y m (and_parts _ _ q).0 (let h : c ≡ y = cc in h))
+same_key (x ∷ xs) [] r s c d p q m n is = absurd (no_count d x n (and_parts _ _ p).0 (let h : d ≡ x = cc in h))
+same_key (x ∷ xs) (y ∷ ys) r s c d p q m n is =
+    let first : x ≡ y = cc in
+    let tail : xs ++ c ∷ r ≡ ys ++ d ∷ s = cc in
+    let others : (xs ≡ ys) × (c ∷ r ≡ d ∷ s) = same_key xs ys r s c d (and_parts _ _ p).1 (and_parts _ _ q).1 m n tail in
+    ((λ i. first i ∷ others.0 i), others.1)
+
+-- ENTRIES
+
+pub entry_split : (e : Entry) (r : List ℕ) → flat_entry e ++ r ≡ e.key ++ length e.stands_for ∷ (flat_map flat_character e.stands_for ++ r)
+entry_split e r = append_assoc e.key (flat_characters e.stands_for) r
+
+pub same_entries : (e f : Entry) (r s : List ℕ) → is_entry e ≡ true → is_entry f ≡ true → flat_entry e ++ r ≡ flat_entry f ++ s → (e ≡ f) × (r ≡ s)
+same_entries e f r s p q is =
+    let e-ones : is_one_or_two e.stands_for ≡ true = (and_parts (is_key e.key) _ p).1 in
+    let f-ones : is_one_or_two f.stands_for ≡ true = (and_parts (is_key f.key) _ q).1 in
+    let keys : (e.key ≡ f.key) × (length e.stands_for ∷ (flat_map flat_character e.stands_for ++ r) ≡ length f.stands_for ∷ (flat_map flat_character f.stands_for ++ s)) =
+    same_key e.key f.key _ _ _ _ (key_past e.key (and_parts _ _ p).0) (key_past f.key (and_parts _ _ q).0) (counted e.stands_for e-ones) (counted f.stands_for f-ones) (sym (entry_split e r) ∙ is ∙ entry_split f s) in
+    let lists = keys.1 in
+    let size : length e.stands_for ≡ length f.stands_for = cc in
+    let rest : flat_map flat_character e.stands_for ++ r ≡ flat_map flat_character f.stands_for ++ s = cc in
+    let chars : (e.stands_for ≡ f.stands_for) × (r ≡ s) = same_characters e.stands_for f.stands_for r s (and_parts _ _ e-ones).1 (and_parts _ _ f-ones).1 size rest in
+    ((λ i. record { key = keys.0 i; stands_for = chars.0 i }), chars.1)
+
+-- TABLES
+
+all_entries : (table : Entities) → list_all (λ e. is_key e.key) table ≡ true → list_all (λ e. is_one_or_two e.stands_for) table ≡ true → list_all is_entry table ≡ true
+all_entries [] p q = refl
+all_entries (e ∷ es) p q =
+    let keys : (is_key e.key ≡ true) × (list_all (λ e. is_key e.key) es ≡ true) = and_parts (is_key e.key) _ p in
+    let ones : (is_one_or_two e.stands_for ≡ true) × (list_all (λ e. is_one_or_two e.stands_for) es ≡ true) = and_parts (is_one_or_two e.stands_for) _ q in
+    and_from (is_entry e) _ (and_from _ _ keys.0 ones.0) (all_entries es keys.1 ones.1)
+
+pub are_entries : (table : Entities) → IsReadable table → list_all is_entry table ≡ true
+are_entries table readable = all_entries table readable.sorted.is_table.keys readable.characters
+
+some_bytes : (e : Entry) (r : List ℕ) → is_entry e ≡ true → [] ≡ flat_entry e ++ r → ⊥
+some_bytes e r is none = by e.key (none ∙ entry_split e r)
+  where
+    by : (key : List ℕ) → [] ≡ key ++ length e.stands_for ∷ (flat_map flat_character e.stands_for ++ r) → ⊥
+    by [] is = cc
+    by (c ∷ cs) is = cc
+
+-- the entries after those whose flat form is the front
+pub record Rest (done whole : Entities) (rest : List ℕ) : Type 0 where
+  pub more : Entities
+  pub is : whole ≡ done ++ more
+  pub flat : flat_map flat_entry more ≡ rest
+  pub entries : list_all is_entry more ≡ true
+
+pub rest_of : (done whole : Entities) (rest : List ℕ) → list_all is_entry done ≡ true → list_all is_entry whole ≡ true → flat_map flat_entry whole ≡ flat_map flat_entry done ++ rest → Rest done whole rest
+rest_of [] whole rest p q is = record { more = whole; is = refl; flat = is; entries = q }
+rest_of (e ∷ es) [] rest p q is = absurd (some_bytes e (flat_map flat_entry es ++ rest) (and_parts _ _ p).0 (is ∙ append_assoc (flat_entry e) (flat_map flat_entry es) rest))
+rest_of (e ∷ es) (f ∷ fs) rest p q is =
+    let both : (f ≡ e) × (flat_map flat_entry fs ≡ flat_map flat_entry es ++ rest) =
+    same_entries f e (flat_map flat_entry fs) (flat_map flat_entry es ++ rest) (and_parts _ _ q).0 (and_parts _ _ p).0 (is ∙ append_assoc (flat_entry e) (flat_map flat_entry es) rest) in
+    let later : Rest es fs rest = rest_of es fs rest (and_parts _ _ p).1 (and_parts _ _ q).1 both.1 in
+    record { more = later.more; is = (λ i. both.0 i ∷ later.is i); flat = later.flat; entries = later.entries }
+
+pub no_more : (more : Entities) → list_all is_entry more ≡ true → flat_map flat_entry more ≡ [] → more ≡ []
+no_more [] p is = refl
+no_more (e ∷ es) p is = absurd (some_bytes e (flat_map flat_entry es) (and_parts _ _ p).0 (sym is))
+
+tail_of : (x : ℕ) (xs ys : List ℕ) → x ∷ xs ≡ x ∷ ys → xs ≡ ys
+tail_of x xs ys is = cc
+
+pub one_table : (a b : Entities) → IsReadable a → IsReadable b → flat_of a ≡ flat_of b → a ≡ b
+one_table a b p q is =
+    let rest : Rest b a [] = rest_of b a [] (are_entries b q) (are_entries a p) (tail_of 1 _ _ is ∙ sym (append-nil (flat_map flat_entry b))) in
+    rest.is ∙ ap (λ more. b ++ more) (no_more rest.more rest.entries rest.flat) ∙ append-nil b

@@ -1,0 +1,123 @@
+-- The names and keys that bytes begin with.
+use Rattle.std.proofs.Common.{arith, ◌≡◌, ℕ, zero, suc, ◌+◌, ◌≤◌, ◌<◌, ◌⊎◌, inl, inr, Bool, true, false, true≢false, nat_eq, nat_lt, ◌||◌, ◌==◌, bytes_eq, codes, List, [], ◌∷◌, ◌++◌, length, take, drop, slice_get, get_or, Option, Some, None, refl, sym, ap, ◌∙◌, subst}
+use Rattle.std.proofs.lemmas.Bool.{and_parts, and_from, agree_below_at}
+use Rattle.std.proofs.lemmas.Bool.Decides.{nat_tests}
+use Rattle.std.specs.List.{list_all}
+use Rattle.std.specs.Prelude.{slice_index}
+use Rattle.names.specs.Placed.{is_alphanumeric}
+use Rattle.charref.specs.declared.key.TheConstants.{ALPHANUMERICS}
+use Rattle.charref.specs.Reference.{is_key, is_key_name, is_empty_list}
+use Rattle.charref.specs.Front.{passes, is_count, is_semicolon, IsCounted, HasNoCounted}
+use Rattle.charref.proofs.Extending.{follows, ends, closes, continues}
+
+pub told : (byte : ℕ) → byte < 256 → nat_eq (slice_index ALPHANUMERICS byte) 1 ≡ is_alphanumeric byte
+told byte within = agree_below_at (λ b. nat_eq (slice_index ALPHANUMERICS b) 1) is_alphanumeric 256 byte refl within
+
+-- a run of letters and digits, byte by byte
+pub stopped : (bytes : List ℕ) (n : ℕ) → n < length bytes → is_alphanumeric (get_or bytes n 0) ≡ false → passes is_alphanumeric (slice_get bytes n) ≡ false
+stopped [] n less test = absurd (omega arith)
+stopped (b ∷ bs) zero less test = test
+stopped (b ∷ bs) (suc n) less test = stopped bs n (omega arith) test
+
+pub past_end : (bytes : List ℕ) → passes is_alphanumeric (slice_get bytes (length bytes)) ≡ false
+past_end [] = refl
+past_end (b ∷ bs) = past_end bs
+
+pub run_more : (bytes : List ℕ) (n : ℕ) → n < length bytes → list_all is_alphanumeric (take n bytes) ≡ true → is_alphanumeric (get_or bytes n 0) ≡ true → list_all is_alphanumeric (take (n + 1) bytes) ≡ true
+run_more bytes n less run test = subst (λ k. list_all is_alphanumeric (take k bytes) ≡ true) (let e : suc n ≡ n + 1 = omega arith in e) (by bytes n less run test)
+  where
+    by : (bytes : List ℕ) (n : ℕ) → n < length bytes → list_all is_alphanumeric (take n bytes) ≡ true → is_alphanumeric (get_or bytes n 0) ≡ true → list_all is_alphanumeric (take (suc n) bytes) ≡ true
+    by [] n less run test = absurd (omega arith)
+    by (b ∷ bs) zero less run test = and_from (is_alphanumeric b) true test refl
+    by (b ∷ bs) (suc n) less run test = and_from (is_alphanumeric b) _ (and_parts (is_alphanumeric b) _ run).0 (by bs n (omega arith) (and_parts (is_alphanumeric b) _ run).1 test)
+
+pub passes_within : (test : ℕ → Bool) (bytes : List ℕ) (n : ℕ) → passes test (slice_get bytes n) ≡ true → n < length bytes
+passes_within test [] n h = absurd (true≢false (sym h))
+passes_within test (b ∷ bs) zero h = omega arith
+passes_within test (b ∷ bs) (suc n) h = let less : n < length bs = passes_within test bs n h in omega arith
+
+-- where a name ends
+pub record Ends (bytes : List ℕ) (end : ℕ) : Type 0 where
+  pub some : 0 < end
+  pub by : (passes is_count (slice_get bytes end) ≡ true) ⊎ ((passes is_semicolon (slice_get bytes end) ≡ true) × (passes is_count (slice_get bytes (suc end)) ≡ true))
+
+no_letter : (count : ℕ) → is_count count ≡ true → is_alphanumeric count ≡ true → ⊥
+no_letter count h g = grind (arith, nat_tests)
+
+-- a name that a count ends is the run of letters and digits, and a `;` if one comes after it
+name_ends : (key rest : List ℕ) (count end : ℕ) → is_key_name key ≡ true → is_count count ≡ true → list_all is_alphanumeric (take end (key ++ count ∷ rest)) ≡ true
+    → passes is_alphanumeric (slice_get (key ++ count ∷ rest) end) ≡ false → Ends (key ++ count ∷ rest) end
+name_ends [] rest count end is counts run stop = absurd (true≢false (sym is))
+name_ends (c ∷ cs) rest count zero is counts run stop = absurd (true≢false (sym (and_parts (is_alphanumeric c) _ is).0 ∙ stop))
+name_ends (c ∷ cs) rest count (suc end) is counts run stop = elim (follows cs (and_parts (is_alphanumeric c) _ is).1) [
+  | ends none ↦ subst (λ xs. Ends (c ∷ xs ++ count ∷ rest) (suc end)) (sym none) (last end (subst (λ xs. list_all is_alphanumeric (take end (xs ++ count ∷ rest)) ≡ true) none later))
+  | closes one ↦ subst (λ xs. Ends (c ∷ xs ++ count ∷ rest) (suc end)) (sym one) (closed end (subst (λ xs. list_all is_alphanumeric (take end (xs ++ count ∷ rest)) ≡ true) one later))
+  | continues more ↦ (let found : Ends (cs ++ count ∷ rest) end = name_ends cs rest count end more counts later stop in record { some = omega arith; by = found.by })
+]
+  where
+    later : list_all is_alphanumeric (take end (cs ++ count ∷ rest)) ≡ true
+    later = (and_parts (is_alphanumeric c) _ run).1
+
+    last : (n : ℕ) → list_all is_alphanumeric (take n (count ∷ rest)) ≡ true → Ends (c ∷ count ∷ rest) (suc n)
+    last zero run = record { some = omega arith; by = inl counts }
+    last (suc n) run = absurd (no_letter count counts (and_parts (is_alphanumeric count) (list_all is_alphanumeric (take n rest)) run).0)
+
+    closed : (n : ℕ) → list_all is_alphanumeric (take n (59 ∷ count ∷ rest)) ≡ true → Ends (c ∷ 59 ∷ count ∷ rest) (suc n)
+    closed zero run = record { some = omega arith; by = inr (refl, counts) }
+    closed (suc n) run = absurd (true≢false (sym (and_parts (is_alphanumeric 59) (list_all is_alphanumeric (take n (count ∷ rest))) run).0))
+
+pub no_name : (bytes : List ℕ) (end : ℕ) → list_all is_alphanumeric (take end bytes) ≡ true → passes is_alphanumeric (slice_get bytes end) ≡ false → (Ends bytes end → ⊥) → HasNoCounted is_key_name bytes
+no_name bytes end run stop none key rest count is counts same =
+    none (subst (λ bs. Ends bs end) (sym same) (name_ends key rest count end is counts (subst (λ bs. list_all is_alphanumeric (take end bs) ≡ true) same run) (subst (λ bs. passes is_alphanumeric (slice_get bs end) ≡ false) same stop)))
+
+-- what may follow a letter or digit of a name
+abbrev follows_name : List ℕ → Bool
+follows_name cs = is_empty_list cs || bytes_eq cs (codes ";") || is_key_name cs
+
+goes_on : (d : ℕ) (ds : List ℕ) → is_key_name (d ∷ ds) ≡ true → follows_name (d ∷ ds) ≡ true
+goes_on d ds name = rw name (by (bytes_eq (d ∷ ds) (codes ";")))
+  where
+    by : (b : Bool) → (b || true) ≡ true
+    by true = refl
+    by false = refl
+
+-- a run of letters and digits is a name, and so it is with a `;`
+pub run_counted : (bytes : List ℕ) (end : ℕ) → 0 < end → list_all is_alphanumeric (take end bytes) ≡ true → passes is_count (slice_get bytes end) ≡ true → IsCounted is_key_name bytes end
+run_counted bytes end some run counted = record { within = passes_within is_count bytes end counted; passing = by bytes end some run counted; counted = counted }
+  where
+    by : (bytes : List ℕ) (end : ℕ) → 0 < end → list_all is_alphanumeric (take end bytes) ≡ true → passes is_count (slice_get bytes end) ≡ true → is_key_name (take end bytes) ≡ true
+    by bytes zero some run counted = absurd (omega arith)
+    by [] (suc end) some run counted = absurd (true≢false (sym counted))
+    by (c ∷ []) (suc end) some run counted = absurd (true≢false (sym counted))
+    by (c ∷ d ∷ ds) (suc zero) some run counted = and_from (is_alphanumeric c) _ (and_parts (is_alphanumeric c) _ run).0 refl
+    by (c ∷ d ∷ ds) (suc (suc end)) some run counted =
+        let name : is_key_name (take (suc end) (d ∷ ds)) ≡ true = by (d ∷ ds) (suc end) (omega arith) (and_parts (is_alphanumeric c) _ run).1 counted in
+        and_from (is_alphanumeric c) _ (and_parts (is_alphanumeric c) _ run).0 (goes_on d (take end ds) name)
+
+pub closed_counted : (bytes : List ℕ) (end : ℕ) → 0 < end → list_all is_alphanumeric (take end bytes) ≡ true → passes is_semicolon (slice_get bytes end) ≡ true
+    → passes is_count (slice_get bytes (end + 1)) ≡ true → IsCounted is_key_name bytes (end + 1)
+closed_counted bytes end some run close counted = record { within = passes_within is_count bytes (end + 1) counted; passing = subst (λ n. is_key_name (take n bytes) ≡ true) (let e : suc end ≡ end + 1 = omega arith in e) (by bytes end some run close); counted = counted }
+  where
+    semicolon : (c : ℕ) → is_semicolon c ≡ true → c ≡ 59
+    semicolon c h = grind (arith, nat_tests)
+
+    by : (bytes : List ℕ) (end : ℕ) → 0 < end → list_all is_alphanumeric (take end bytes) ≡ true → passes is_semicolon (slice_get bytes end) ≡ true → is_key_name (take (suc end) bytes) ≡ true
+    by bytes zero some run close = absurd (omega arith)
+    by [] (suc end) some run close = absurd (true≢false (sym close))
+    by (c ∷ []) (suc end) some run close = absurd (true≢false (sym close))
+    by (c ∷ d ∷ ds) (suc zero) some run close = and_from (is_alphanumeric c) _ (and_parts (is_alphanumeric c) _ run).0 (subst (λ x. follows_name (x ∷ []) ≡ true) (sym (semicolon d close)) refl)
+    by (c ∷ d ∷ ds) (suc (suc end)) some run close =
+        let name : is_key_name (take (suc (suc end)) (d ∷ ds)) ≡ true = by (d ∷ ds) (suc end) (omega arith) (and_parts (is_alphanumeric c) _ run).1 close in
+        and_from (is_alphanumeric c) _ (and_parts (is_alphanumeric c) _ run).0 (goes_on d (take (suc end) ds) name)
+
+-- an `&` before a name makes it a key
+pub key_counted : (name : List ℕ) (size : ℕ) → IsCounted is_key_name name size → IsCounted is_key (38 ∷ name) (size + 1)
+key_counted name size is = subst (λ n. IsCounted is_key (38 ∷ name) n) (let e : suc size ≡ size + 1 = omega arith in e) (record { within = (let less : size < length name = is.within in omega arith); passing = is.passing; counted = is.counted })
+
+pub no_key : (name : List ℕ) → HasNoCounted is_key_name name → HasNoCounted is_key (38 ∷ name)
+no_key name none [] rest count is counts same = true≢false (sym is)
+no_key name none (c ∷ cs) rest count is counts same = none cs rest count (and_parts _ _ is).1 counts (let tail : name ≡ cs ++ count ∷ rest = cc in tail)
+
+pub no_ampersand : (first : ℕ) (bytes : List ℕ) → (first ≡ 38 → ⊥) → HasNoCounted is_key (first ∷ bytes)
+no_ampersand first bytes other [] rest count is counts same = true≢false (sym is)
+no_ampersand first bytes other (c ∷ cs) rest count is counts same = other (let head : first ≡ c = cc in head ∙ (let t : (c == 38) ≡ true = (and_parts _ _ is).0 in grind (arith, nat_tests)))

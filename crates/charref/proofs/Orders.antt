@@ -1,0 +1,62 @@
+-- Keys in order, one after another.
+use Rattle.std.proofs.Common.{arith, ◌≡◌, ℕ, zero, suc, ◌≤◌, ◌<◌, true, false, true≢false, List, [], ◌∷◌, ◌++◌, length, drop, is_lt, nat_cmp, Less, refl, sym, ap, ◌∙◌}
+use Rattle.std.proofs.lemmas.Cmp.{nat_list_cmp_total}
+use Rattle.std.specs.Cmp.Lexicographic.{slice_cmp}
+use Rattle.std.specs.List.{AllByRecursion}
+use Rattle.std.specs.List.Sorted.{IsStrictlySortedBy}
+
+-- the beginning of a longer key is before it; no key is before its own beginning
+pub shorter_before : (a b : List ℕ) (n : ℕ) → n ≡ length a → n < length b → is_lt (slice_cmp nat_cmp (drop n a) (drop n b)) ≡ true
+shorter_before [] [] n is less = absurd (omega arith)
+shorter_before [] (y ∷ ys) zero is less = refl
+shorter_before [] (y ∷ ys) (suc n) is less = absurd (omega arith)
+shorter_before (x ∷ xs) b zero is less = absurd (omega arith)
+shorter_before (x ∷ xs) [] (suc n) is less = absurd (omega arith)
+shorter_before (x ∷ xs) (y ∷ ys) (suc n) is less = shorter_before xs ys n (omega arith) (omega arith)
+
+nothing_left : (b : List ℕ) (n : ℕ) → length b ≤ n → drop n b ≡ []
+nothing_left [] zero less = refl
+nothing_left [] (suc n) less = refl
+nothing_left (y ∷ ys) zero less = absurd (omega arith)
+nothing_left (y ∷ ys) (suc n) less = nothing_left ys n (omega arith)
+
+none_first : (a : List ℕ) → is_lt (slice_cmp nat_cmp a []) ≡ false
+none_first [] = refl
+none_first (x ∷ xs) = refl
+
+pub never_before : (a b : List ℕ) (n : ℕ) → length b ≤ n → is_lt (slice_cmp nat_cmp (drop n a) (drop n b)) ≡ false
+never_before a b n less = ap (λ xs. is_lt (slice_cmp nat_cmp (drop n a) xs)) (nothing_left b n less) ∙ none_first (drop n a)
+
+-- the last of some keys, or the empty key, which is before all
+abbrev pub last_key : List (List ℕ) → List ℕ
+last_key [] = []
+last_key (k ∷ []) = k
+last_key (k ∷ m ∷ ks) = last_key (m ∷ ks)
+
+pub last_key-more : (ks : List (List ℕ)) (key : List ℕ) → last_key (ks ++ key ∷ []) ≡ key
+last_key-more [] key = refl
+last_key-more (k ∷ []) key = refl
+last_key-more (k ∷ m ∷ ks) key = last_key-more (m ∷ ks) key
+
+abbrev Below : List ℕ → List ℕ → Type 0
+Below a b = slice_cmp nat_cmp a b ≡ Less
+
+below_last : (k m : List ℕ) (ks : List (List ℕ)) (key : List ℕ) → AllByRecursion (Below k) (m ∷ ks) → Below (last_key (m ∷ ks)) key → Below k key
+below_last k m [] key all last = nat_list_cmp_total.trans k m key all.0 last
+below_last k m (n ∷ ks) key all last = below_last k n ks key all.1 last
+
+all_more : (k : List ℕ) (ks : List (List ℕ)) (key : List ℕ) → AllByRecursion (Below k) ks → Below k key → AllByRecursion (Below k) (ks ++ key ∷ [])
+all_more k [] key all below = (below, tt)
+all_more k (m ∷ ks) key all below = (all.0, all_more k ks key all.1 below)
+
+pub sorted_more : (ks : List (List ℕ)) (key : List ℕ) → IsStrictlySortedBy (slice_cmp nat_cmp) ks → Below (last_key ks) key → IsStrictlySortedBy (slice_cmp nat_cmp) (ks ++ key ∷ [])
+unfolding IsStrictlySortedBy
+sorted_more [] key sorted below = (tt, tt)
+sorted_more (k ∷ []) key sorted below = ((below, tt), (tt, tt))
+sorted_more (k ∷ m ∷ ks) key sorted below = (all_more k (m ∷ ks) key sorted.0 (below_last k m ks key sorted.0 below), sorted_more (m ∷ ks) key sorted.1 below)
+
+pub last_below : (ks : List (List ℕ)) (key : List ℕ) (more : List (List ℕ)) → Below [] key → IsStrictlySortedBy (slice_cmp nat_cmp) (ks ++ key ∷ more) → Below (last_key ks) key
+unfolding IsStrictlySortedBy
+last_below [] key more first sorted = first
+last_below (k ∷ []) key more first sorted = sorted.0.0
+last_below (k ∷ m ∷ ks) key more first sorted = last_below (m ∷ ks) key more first sorted.1

@@ -1,0 +1,193 @@
+-- Reading a flat form, entry by entry.
+use Rattle.std.proofs.Common.{arith, ◌≡◌, ℕ, zero, suc, ◌+◌, ◌-◌, ◌*◌, ◌≤◌, ◌<◌, Bool, true, false, true≢false, not, ◌&&◌, nat_lt, nat_le, List, [], ◌∷◌, ◌++◌, map, length, take, drop, slice_get, slice_range, get_or, Option, Some, None, is_lt, nat_cmp, Ordering, Less, Equal, Greater, refl, sym, ap, ◌∙◌, subst, append_assoc}
+use Rattle.std.proofs.lemmas.Bool.{and_parts, and_from}
+use Rattle.std.proofs.lemmas.Bool.Decides.{nat_tests}
+use Rattle.std.proofs.lemmas.List.{append-nil, take-append-drop, take_all, take_rest, drop-drop, drop_all, drop_more, length-drop, map-append}
+use Rattle.std.proofs.lemmas.List.Concat.{flat_map-append}
+use Rattle.std.proofs.lemmas.List.Folds.{list_all-append}
+use Rattle.std.specs.Cmp.Lexicographic.{slice_cmp}
+use Rattle.std.specs.List.{list_all, flat_map}
+use Rattle.std.specs.List.Sorted.{IsStrictlySortedBy}
+use Rattle.charref.specs.declared.entity.Entity.{Entity}
+use Rattle.charref.specs.declared.entity.OneOrTwo.{OneOrTwo}
+use Rattle.charref.specs.Reference.{Entry, Entities, is_key}
+use Rattle.charref.specs.Reading.{is_character}
+use Rattle.charref.specs.Table.{key_at, stands_for, entry, entries}
+use Rattle.charref.specs.Flat.{is_one_or_two, flat_character, flat_characters, flat_entry, flat_of, IsReadable}
+use Rattle.charref.specs.Front.{passes, is_count, BeginsWith, BeginsWithNone, IsCounted, HasNoCounted, IsEntryAt, is_entry}
+use Rattle.charref.proofs.Members.{readable_from_parts}
+use Rattle.charref.proofs.Orders.{last_key, last_key-more, sorted_more, last_below}
+use Rattle.charref.proofs.Forms.{counted, key_past, same_key, same_entries, entry_split, are_entries, Rest, rest_of}
+
+-- CHARACTERS
+
+-- what comes after a byte
+abbrev pub after_first : List ℕ → List ℕ
+after_first bytes = take (length bytes - 1) (drop 1 bytes)
+
+pub no_characters : (bytes : List ℕ) → BeginsWithNone is_character flat_character (after_first bytes) → BeginsWithNone is_one_or_two flat_characters bytes
+no_characters bytes none [] rest is same = true≢false (sym is)
+no_characters bytes none (c ∷ cs) rest is same =
+    none c (flat_map flat_character cs ++ rest) (and_parts (is_character c) _ (and_parts _ (list_all is_character (c ∷ cs)) is).1).0 (take_rest bytes 1 ∙ ap (drop 1) same)
+
+pub no_second : (bytes : List ℕ) → get_or bytes 0 0 ≡ 2 → BeginsWithNone is_character flat_character (take (length (after_first bytes) - 4) (drop 4 (after_first bytes))) → BeginsWithNone is_one_or_two flat_characters bytes
+no_second bytes two none [] rest is same = true≢false (sym is)
+no_second bytes two none (c ∷ []) rest is same = (let one : get_or bytes 0 0 ≡ 1 = ap (λ bs. get_or bs 0 0) same in omega (arith, one, two))
+no_second bytes two none (c ∷ d ∷ []) rest is same =
+    none d rest (and_parts (is_character d) true (and_parts (is_character c) (is_character d && true) is).1).0
+    (take_rest (after_first bytes) 4 ∙ ap (drop 4) (take_rest bytes 1) ∙ ap (λ bs. drop 4 (drop 1 bs)) same)
+no_second bytes two none (c ∷ d ∷ e ∷ es) rest is same = (let many : get_or bytes 0 0 ≡ length (c ∷ d ∷ e ∷ es) = ap (λ bs. get_or bs 0 0) same in omega (arith, many, two))
+
+-- ENTRIES
+
+counted_at : (bytes : List ℕ) (n : ℕ) → passes is_count (slice_get bytes n) ≡ true → (c : ℕ) × (r : List ℕ) × (drop n bytes ≡ c ∷ r) × (is_count c ≡ true)
+counted_at [] n h = absurd (true≢false (sym h))
+counted_at (b ∷ bs) zero h = (b, bs, refl, h)
+counted_at (b ∷ bs) (suc n) h = counted_at bs n h
+
+pub no_entry_key : (bytes : List ℕ) → HasNoCounted is_key bytes → BeginsWithNone is_entry flat_entry bytes
+no_entry_key bytes none e rest is same =
+    none e.key (flat_map flat_character e.stands_for ++ rest) (length e.stands_for) (and_parts (is_key e.key) _ is).0 (counted e.stands_for (and_parts (is_key e.key) _ is).1) (same ∙ entry_split e rest)
+
+pub no_entry_characters : (bytes : List ℕ) (n : ℕ) → IsCounted is_key bytes n → BeginsWithNone is_one_or_two flat_characters (drop n bytes) → BeginsWithNone is_entry flat_entry bytes
+no_entry_characters bytes n key none e rest is same =
+    let at : (c : ℕ) × (r : List ℕ) × (drop n bytes ≡ c ∷ r) × (is_count c ≡ true) = counted_at bytes n key.counted in
+    let parts : (take n bytes ≡ e.key) × (at.0 ∷ at.1 ≡ length e.stands_for ∷ (flat_map flat_character e.stands_for ++ rest)) =
+    same_key (take n bytes) e.key at.1 (flat_map flat_character e.stands_for ++ rest) at.0 (length e.stands_for) (key_past (take n bytes) key.passing) (key_past e.key (and_parts (is_key e.key) _ is).0)
+    at.3 (counted e.stands_for (and_parts (is_key e.key) _ is).1) (ap (λ bs. take n bytes ++ bs) (sym at.2) ∙ take-append-drop n bytes ∙ same ∙ entry_split e rest) in
+    none e.stands_for rest (and_parts (is_key e.key) _ is).1 (at.2 ∙ parts.1)
+
+pub entry_stands : (text : List ℕ) (start n : ℕ) (cs : OneOrTwo) → start ≤ length text → IsCounted is_key (drop start text) n → is_one_or_two (stands_for cs) ≡ true
+    → BeginsWith (flat_characters (stands_for cs)) (drop (start + n) text) (1 + 4 * length (stands_for cs)) → IsEntryAt text start (record { start = start; end = start + n; characters = cs }) (start + n + 1 + 4 * length (stands_for cs))
+entry_stands text start n cs within key ones chars =
+    let left : length (drop start text) ≡ length text - start = length-drop start text in
+    let less : n < length (drop start text) = key.within in
+    let first : nat_le start (start + n) ≡ true = grind (arith, nat_tests) in
+    let last : nat_le (start + n) (length text) ≡ true = (let le : start + n ≤ length text = omega arith in grind (arith, nat_tests)) in
+    let size : start + n - start ≡ n = omega arith in
+    let d : Entity = record { start = start; end = start + n; characters = cs } in
+    let key-is : key_at text d ≡ take n (drop start text) = rw (first, last) (ap (λ k. take k (drop start text)) size) in
+    let count : ℕ = 1 + 4 * length (stands_for cs) in
+    let end-is : start + n + count ≡ start + n + 1 + 4 * length (stands_for cs) = omega arith in
+    let room : length (drop (start + n) text) ≡ length text - (start + n) = length-drop (start + n) text in
+    let fits : 1 + 4 * length (stands_for cs) ≤ length (drop (start + n) text) = chars.within in
+    record {
+      passing = and_from (is_key (key_at text d)) _ (ap is_key key-is ∙ key.passing) ones;
+      some = omega arith;
+      within = omega arith;
+      is = sym (take-append-drop n (drop start text)) ∙ ap (λ bs. take n (drop start text) ++ bs) (drop-drop n start text ∙ chars.is ∙ ap (λ bs. flat_characters (stands_for cs) ++ bs) (drop-drop count (start + n) text ∙ ap (λ k. drop k text) end-is))
+          ∙ sym (append_assoc (take n (drop start text)) (flat_characters (stands_for cs)) (drop (start + n + 1 + 4 * length (stands_for cs)) text))
+          ∙ ap (λ k. (k ++ flat_characters (stands_for cs)) ++ drop (start + n + 1 + 4 * length (stands_for cs)) text) (sym key-is);
+    }
+
+-- TABLES
+
+-- The entries of the text up to this place have been read, and this is the key of the last.
+pub record HasReadTo (text : List ℕ) (entities : List Entity) (last : List ℕ) (start : ℕ) : Type 0 where
+  pub readable : IsReadable (entries text entities)
+  pub within : start ≤ length text
+  pub is : text ≡ flat_of (entries text entities) ++ drop start text
+  pub last_is : last ≡ last_key (map (λ e. e.key) (entries text entities))
+
+nothing_readable : IsReadable []
+unfolding IsStrictlySortedBy
+nothing_readable = readable_from_parts [] refl refl tt
+
+pub begun : (text : List ℕ) → 1 ≤ length text → get_or text 0 0 ≡ 1 → HasReadTo text [] [] 1
+begun text some first = record {
+  readable = nothing_readable;
+  within = some;
+  is = drop_more text 0 0 some ∙ ap (λ b. b ∷ drop 1 text) first;
+  last_is = refl;
+}
+
+all_more : {A : Type 0} (test : A → Bool) (xs : List A) (x : A) → list_all test xs ≡ true → test x ≡ true → list_all test (xs ++ x ∷ []) ≡ true
+all_more test xs x p q = list_all-append test xs (x ∷ []) ∙ and_from (list_all test xs) _ p (and_from (test x) true q refl)
+
+readable_more : (table : Entities) (e : Entry) → IsReadable table → is_entry e ≡ true → slice_cmp nat_cmp (last_key (map (λ e. e.key) table)) e.key ≡ Less → IsReadable (table ++ e ∷ [])
+readable_more table e was is below =
+    let ones : is_one_or_two e.stands_for ≡ true = (and_parts (is_key e.key) _ is).1 in
+    readable_from_parts (table ++ e ∷ []) (all_more (λ (e : Entry). is_key e.key) table e was.sorted.is_table.keys (and_parts (is_key e.key) _ is).0)
+    (all_more (λ (e : Entry). is_one_or_two e.stands_for) table e was.characters ones)
+    (subst (IsStrictlySortedBy (slice_cmp nat_cmp)) (sym (map-append (λ (e : Entry). e.key) table (e ∷ []))) (sorted_more (map (λ e. e.key) table) e.key was.sorted.sorted below))
+
+is_less : (a b : List ℕ) → is_lt (slice_cmp nat_cmp a b) ≡ true → slice_cmp nat_cmp a b ≡ Less
+is_less a b h = by (slice_cmp nat_cmp a b) h
+  where
+    by : (o : Ordering) → is_lt o ≡ true → o ≡ Less
+    by Less h = refl
+    by Equal h = absurd (true≢false (sym h))
+    by Greater h = absurd (true≢false (sym h))
+
+pub one_more : (text : List ℕ) (es : List Entity) (last : List ℕ) (start : ℕ) (d : Entity) (end : ℕ) → HasReadTo text es last start → IsEntryAt text start d end
+    → is_lt (slice_cmp nat_cmp last (key_at text d)) ≡ true → HasReadTo text (es ++ d ∷ []) (key_at text d) end
+one_more text es last start d end was at before =
+    let table : Entities = entries text es in
+    let e : Entry = entry text d in
+    let more : entries text (es ++ d ∷ []) ≡ table ++ e ∷ [] = map-append (entry text) es (d ∷ []) in
+    let below : slice_cmp nat_cmp (last_key (map (λ e. e.key) table)) e.key ≡ Less = ap (λ k. slice_cmp nat_cmp k e.key) (sym was.last_is) ∙ is_less last e.key before in
+    let flat : flat_map flat_entry (table ++ e ∷ []) ≡ flat_map flat_entry table ++ flat_entry e = flat_map-append flat_entry table (e ∷ []) ∙ ap (λ bs. flat_map flat_entry table ++ bs) (append-nil (flat_entry e)) in
+    record {
+      readable = subst IsReadable (sym more) (readable_more table e was.readable at.passing below);
+      within = at.within;
+      is = was.is ∙ ap (λ bs. flat_of table ++ bs) at.is ∙ ap (λ bs. 1 ∷ bs) (sym (append_assoc (flat_map flat_entry table) (flat_entry e) (drop end text)))
+          ∙ ap (λ bs. 1 ∷ bs ++ drop end text) (sym flat) ∙ ap (λ t. flat_of t ++ drop end text) (sym more);
+      last_is = sym (ap (λ (t : Entities). last_key (map (λ e. e.key) t)) more ∙ ap last_key (map-append (λ (e : Entry). e.key) table (e ∷ [])) ∙ last_key-more (map (λ e. e.key) table) e.key);
+    }
+
+pub whole_read : (text : List ℕ) (es : List Entity) (last : List ℕ) (start : ℕ) → HasReadTo text es last start → length text ≤ start → flat_of (entries text es) ≡ text
+whole_read text es last start was end = sym (was.is ∙ ap (λ bs. flat_of (entries text es) ++ bs) (drop_all start text end) ∙ append-nil (flat_of (entries text es)))
+
+-- NO TABLE
+
+-- No readable table has this flat form.
+abbrev pub HasNoTable : List ℕ → Type 0
+HasNoTable bytes = (table : Entities) → IsReadable table → flat_of table ≡ bytes → ⊥
+
+pub no_version : (text : List ℕ) → (1 ≤ length text → get_or text 0 0 ≡ 1 → ⊥) → HasNoTable text
+no_version text other table readable is =
+    other (let size : length (flat_of table) ≡ length text = ap length is in omega arith) (sym (ap (λ bs. get_or bs 0 0) is))
+
+tail_is : (x : ℕ) (xs ys : List ℕ) → x ∷ xs ≡ x ∷ ys → xs ≡ ys
+tail_is x xs ys is = cc
+
+others : (text : List ℕ) (es : List Entity) (last : List ℕ) (start : ℕ) (table : Entities) → HasReadTo text es last start → IsReadable table → flat_of table ≡ text → Rest (entries text es) table (drop start text)
+others text es last start table was readable is = rest_of (entries text es) table (drop start text) (are_entries (entries text es) was.readable) (are_entries table readable) (tail_is 1 _ _ (is ∙ was.is))
+
+pub no_entry : (text : List ℕ) (es : List Entity) (last : List ℕ) (start : ℕ) → HasReadTo text es last start → start < length text → BeginsWithNone is_entry flat_entry (drop start text) → HasNoTable text
+no_entry text es last start was some none table readable is = by rest.more rest.flat rest.entries
+  where
+    rest : Rest (entries text es) table (drop start text)
+    rest = others text es last start table was readable is
+
+    by : (more : Entities) → flat_map flat_entry more ≡ drop start text → list_all is_entry more ≡ true → ⊥
+    by [] flat are = (let size : length (drop start text) ≡ length text - start = length-drop start text in let no : 0 ≡ length (drop start text) = ap length flat in omega arith)
+    by (e ∷ more) flat are = none e (flat_map flat_entry more) (and_parts (is_entry e) (list_all is_entry more) are).0 (sym flat)
+
+below_first : (key : List ℕ) → is_key key ≡ true → slice_cmp nat_cmp [] key ≡ Less
+below_first [] is = absurd (true≢false (sym is))
+below_first (c ∷ cs) is = refl
+
+pub no_order : (text : List ℕ) (es : List Entity) (last : List ℕ) (start : ℕ) (d : Entity) (end : ℕ) → HasReadTo text es last start → IsEntryAt text start d end
+    → is_lt (slice_cmp nat_cmp last (key_at text d)) ≡ false → HasNoTable text
+no_order text es last start d end was at before table readable is = by rest.more rest.is rest.flat rest.entries
+  where
+    e : Entry
+    e = entry text d
+
+    rest : Rest (entries text es) table (drop start text)
+    rest = others text es last start table was readable is
+
+    some : [] ≡ flat_entry e ++ drop end text → ⊥
+    some none = (let size : length (drop start text) ≡ length text - start = length-drop start text in let no : 0 ≡ length (drop start text) = ap length (none ∙ sym at.is) in
+        let first : start < end = at.some in let last : end ≤ length text = at.within in omega arith)
+
+    by : (more : Entities) → table ≡ entries text es ++ more → flat_map flat_entry more ≡ drop start text → list_all is_entry more ≡ true → ⊥
+    by [] whole flat are = some (flat ∙ at.is)
+    by (f ∷ more) whole flat are =
+        let same : (f ≡ e) × (flat_map flat_entry more ≡ drop end text) = same_entries f e (flat_map flat_entry more) (drop end text) (and_parts (is_entry f) (list_all is_entry more) are).0 at.passing (flat ∙ at.is) in
+        let keys : map (λ (e : Entry). e.key) table ≡ map (λ e. e.key) (entries text es) ++ e.key ∷ map (λ e. e.key) more =
+        ap (map (λ (e : Entry). e.key)) whole ∙ map-append (λ (e : Entry). e.key) (entries text es) (f ∷ more) ∙ ap (λ (x : Entry). map (λ e. e.key) (entries text es) ++ x.key ∷ map (λ e. e.key) more) same.0 in
+        let below : slice_cmp nat_cmp (last_key (map (λ e. e.key) (entries text es))) e.key ≡ Less =
+        last_below (map (λ e. e.key) (entries text es)) e.key (map (λ e. e.key) more) (below_first e.key (and_parts (is_key e.key) (is_one_or_two e.stands_for) at.passing).0) (subst (IsStrictlySortedBy (slice_cmp nat_cmp)) keys readable.sorted.sorted) in
+        true≢false (ap is_lt (sym below) ∙ ap (λ k. is_lt (slice_cmp nat_cmp k e.key)) (sym was.last_is) ∙ before)

@@ -1,0 +1,11 @@
+use Rattle.std.proofs.Common.{length, ◌-◌, ◌≡◌}
+use Rattle.names.specs.declared.refusal.Refusal.TheVariants.{BadTable}
+use Rattle.names.specs.declared.refusal.TableFault.TheVariants.{Shape}
+use Rattle.charref.proofs.ReadingFlat.{HasReadTo}
+use Rattle.charref.proofs.entries.entities_of.Given as goal
+
+abbrev pub invariant-loop-start : goal.invariant-loop-start
+invariant-loop-start l = HasReadTo l.text l.entities.items l.last l.start
+
+abbrev pub decreases-loop-start : goal.decreases-loop-start
+decreases-loop-start l = length l.text - l.start

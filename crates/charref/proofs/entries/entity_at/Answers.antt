@@ -1,0 +1,31 @@
+use Rattle.std.proofs.Common.{◌≡◌, ℕ, List, ◌+◌, ◌*◌, length, drop, take, ◌-◌, sym, ap, ◌∙◌, subst}
+use Rattle.std.proofs.lemmas.List.{take_rest, drop-drop}
+use Rattle.charref.specs.Reference.{is_key}
+use Rattle.charref.specs.Table.{stands_for}
+use Rattle.charref.specs.Flat.{is_one_or_two, flat_characters, flat_entry}
+use Rattle.charref.specs.Front.{BeginsWith, BeginsWithNone, IsCounted, IsEntryAt, is_entry}
+use Rattle.charref.proofs.ReadingFlat.{no_entry_key, no_entry_characters, entry_stands}
+use Rattle.charref.proofs.entries.entity_at.Goals as goal
+
+pub returns-in_err-size : goal.returns-in_err-size
+returns-in_err-size c = rw c.from_residual.ensures (subst (λ bs. BeginsWithNone is_entry flat_entry bs) (take_rest c.args.text.now c.args.start) (no_entry_key _ c.in_err-size.ensures))
+
+pub returns-in_err-characters : goal.returns-in_err-characters
+returns-in_err-characters c =
+    let text : List ℕ = c.args.text.now in
+    let rest : List ℕ = take (length text - c.args.start) (drop c.args.start text) in
+    rw c.from_residual-in_err-characters.ensures (subst (λ bs. BeginsWithNone is_entry flat_entry bs) (take_rest text c.args.start)
+    (no_entry_characters rest c.in_ok-size.size c.in_ok-size.ensures (subst (λ bs. BeginsWithNone is_one_or_two flat_characters bs) (take_rest rest c.in_ok-size.size) c.in_err-characters.ensures)))
+
+pub returns : goal.returns
+returns c =
+    let text : List ℕ = c.args.text.now in
+    let start = c.args.start in
+    let size = c.in_ok-size.size in
+    let rest : List ℕ = take (length text - start) (drop start text) in
+    let form : List ℕ = flat_characters (stands_for c.in_ok-characters.characters) in
+    let count : ℕ = 1 + 4 * length (stands_for c.in_ok-characters.characters) in
+    let after : take (length rest - size) (drop size rest) ≡ drop (start + size) text = take_rest rest size ∙ ap (drop size) (take_rest text start) ∙ drop-drop size start text in
+    subst (λ cs. IsEntryAt text start (record { start = start; end = start + size; characters = c.in_ok-characters.characters }) (start + size + 1 + 4 * length cs)) (sym c.as_slice.ensures)
+    (entry_stands text start size c.in_ok-characters.characters c.requires (subst (λ bs. IsCounted is_key bs size) (take_rest text start) c.in_ok-size.ensures)
+    c.in_ok-characters.ensures.0 (subst (λ bs. BeginsWith form bs count) after c.in_ok-characters.ensures.1))

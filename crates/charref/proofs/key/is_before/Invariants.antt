@@ -1,0 +1,7 @@
+use Rattle.std.proofs.Common.{◌≡◌, ◌≤◌, drop, length}
+use Rattle.std.specs.Ordering.{nat_cmp}
+use Rattle.std.specs.Cmp.Lexicographic.{slice_cmp}
+use Rattle.charref.proofs.key.is_before.Given as goal
+
+abbrev pub invariant-loop-index : goal.invariant-loop-index
+invariant-loop-index l = (l.index ≤ length l.a) × (slice_cmp nat_cmp l.a l.b ≡ slice_cmp nat_cmp (drop l.index l.a) (drop l.index l.b))
