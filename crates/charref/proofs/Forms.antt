@@ -1,15 +1,19 @@
 -- A flat form is of one table only.
-use Rattle.std.proofs.Common.{arith, ◌≡◌, ℕ, zero, suc, ◌+◌, ◌≤◌, ◌<◌, ◌^◌, Bool, true, false, true≢false, not, ◌&&◌, ◌||◌, nat_lt, nat_le, nat_eq, ◌==◌, List, [], ◌∷◌, ◌++◌, map, length, Option, Some, None, Less, refl, sym, ap, ◌∙◌, subst, append_assoc}
+use Rattle.std.proofs.Common.{arith, ◌≡◌, ℕ, ◌+◌, ◌≤◌, ◌<◌, ◌^◌, Bool, true, not, ◌&&◌, ◌||◌, nat_lt, nat_le, nat_eq, ◌==◌, List, [], ◌∷◌, ◌++◌, length, take, get_or, Result, Ok, Err, IfOk, IfErr, inl, inr, refl, sym, ap, ◌∙◌, subst, append_assoc}
 use Rattle.std.proofs.lemmas.Bool.{and_parts, and_from}
 use Rattle.std.proofs.lemmas.Bool.Decides.{nat_tests}
 use Rattle.std.proofs.lemmas.Nat.{from_le_bytes-to_le_bytes_4}
-use Rattle.std.proofs.lemmas.List.{append-nil}
+use Rattle.std.proofs.lemmas.List.{append-nil, take_more}
+use Rattle.std.proofs.lemmas.List.Concat.{flat_map-append}
 use Rattle.std.specs.Int.{w32, from_le_bytes}
 use Rattle.std.specs.List.{list_all, flat_map}
 use Rattle.names.specs.Placed.{is_alphanumeric}
+use Rattle.names.specs.declared.refusal.Refusal.{Refusal}
+use Rattle.names.specs.declared.refusal.TableFault.{TableFault}
+use Rattle.names.specs.declared.refusal.Refusal.TheVariants.{Memory}
 use Rattle.charref.specs.Reference.{Entry, Entities, is_key, is_key_name}
-use Rattle.charref.specs.Reading.{is_character}
-use Rattle.charref.specs.Flat.{is_one_or_two, flat_character, flat_characters, flat_entry, flat_of, IsReadable}
+use Rattle.charref.specs.Reading.{is_character, IsRefusedWith}
+use Rattle.charref.specs.Flat.{is_one_or_two, flat_character, flat_characters, flat_entry, flat_of, IsReadable, IsRefusedFlat}
 use Rattle.charref.specs.Front.{is_count, is_entry}
 use Rattle.charref.proofs.Extending.{follows, ends, closes, continues}
 
@@ -44,6 +48,18 @@ same_characters (c ∷ cs) (d ∷ ds) r s p q size is =
 
 pub counted : (cs : List ℕ) → is_one_or_two cs ≡ true → is_count (length cs) ≡ true
 counted cs is = let few : (nat_eq (length cs) 1 || nat_eq (length cs) 2) ≡ true = (and_parts _ (list_all is_character cs) is).0 in grind (arith, nat_tests)
+
+pub few : (cs : List ℕ) → is_one_or_two cs ≡ true → length cs ≤ 2
+few cs is = let test : is_count (length cs) ≡ true = counted cs is in grind (arith, nat_tests)
+
+-- one character more
+pub characters_more : (before : List ℕ) (count : ℕ) (cs : List ℕ) (i c : ℕ) → i < length cs → c ≡ get_or cs i c
+    → (before ++ count ∷ flat_map flat_character (take i cs)) ++ flat_character c ≡ before ++ count ∷ flat_map flat_character (take (i + 1) cs)
+characters_more before count cs i c less is =
+    let more : flat_map flat_character (take (i + 1) cs) ≡ flat_map flat_character (take i cs) ++ flat_character c =
+    ap (flat_map flat_character) (take_more cs i c less) ∙ ap (λ b. flat_map flat_character (take i cs ++ b ∷ [])) (sym is) ∙ flat_map-append flat_character (take i cs) (c ∷ [])
+    ∙ ap (λ bs. flat_map flat_character (take i cs) ++ bs) (append-nil (flat_character c)) in
+    append_assoc before (count ∷ flat_map flat_character (take i cs)) (flat_character c) ∙ ap (λ bs. before ++ count ∷ bs) (sym more)
 
 -- KEYS
 
@@ -143,3 +159,29 @@ pub one_table : (a b : Entities) → IsReadable a → IsReadable b → flat_of a
 one_table a b p q is =
     let rest : Rest b a [] = rest_of b a [] (are_entries b q) (are_entries a p) (tail_of 1 _ _ is ∙ sym (append-nil (flat_map flat_entry b))) in
     rest.is ∙ ap (λ more. b ++ more) (no_more rest.more rest.entries rest.flat) ∙ append-nil b
+
+-- one entry more
+pub flat_more : (table : Entities) (e : Entry) → flat_of table ++ flat_entry e ≡ flat_of (table ++ e ∷ [])
+flat_more table e = ap (λ bs. 1 ∷ bs) (sym (flat_map-append flat_entry table (e ∷ []) ∙ ap (λ bs. flat_map flat_entry table ++ bs) (append-nil (flat_entry e))))
+
+-- what is read of the flat form of a table
+pub reads_table : (table : Entities) (bytes : List ℕ) (r : Result Entities Refusal) → IsReadable table → flat_of table ≡ bytes → IfOk r IsReadable → IfOk r (λ t. flat_of t ≡ bytes) → IfOk r (λ t. t ≡ table)
+reads_table table bytes (Ok t) readable is found flat = one_table t table found readable (flat ∙ sym is)
+reads_table table bytes (Err e) readable is found flat = tt
+
+pub refuses_memory : (table : Entities) (bytes : List ℕ) (r : Result Entities Refusal) → IsReadable table → flat_of table ≡ bytes → IfErr r (IsRefusedFlat bytes) → IfErr r (λ e. e ≡ Memory)
+refuses_memory table bytes (Ok t) readable is refused = tt
+refuses_memory table bytes (Err e) readable is refused = elim refused [
+  | inl memory ↦ memory
+  | inr none ↦ absurd (none.1 table readable is)
+]
+
+pub reads_parsed : {E : Type 0} (parsed : Result Entities E) (table : Entities) (bytes : List ℕ) (r : Result Entities Refusal) → parsed ≡ Ok table → IsReadable table → flat_of table ≡ bytes
+    → IfOk r IsReadable → IfOk r (λ t. flat_of t ≡ bytes) → IfOk r (λ t. parsed ≡ Ok t)
+reads_parsed parsed table bytes (Ok t) known readable is found flat = known ∙ ap Ok (sym (one_table t table found readable (flat ∙ sym is)))
+reads_parsed parsed table bytes (Err e) known readable is found flat = tt
+
+pub refuses_parsed : (parsed : Result Entities TableFault) (table : Entities) (bytes : List ℕ) (r : Result Entities Refusal) → parsed ≡ Ok table → IsReadable table → flat_of table ≡ bytes
+    → IfErr r (IsRefusedFlat bytes) → IfErr r (IsRefusedWith parsed)
+refuses_parsed parsed table bytes (Ok t) known readable is refused = tt
+refuses_parsed parsed table bytes (Err e) known readable is refused = subst (λ p. IsRefusedWith p e) (sym known) (refuses_memory table bytes (Err e) readable is refused)

@@ -1,9 +1,8 @@
 -- Reading a flat form, entry by entry.
-use Rattle.std.proofs.Common.{arith, ◌≡◌, ℕ, zero, suc, ◌+◌, ◌-◌, ◌*◌, ◌≤◌, ◌<◌, Bool, true, false, true≢false, not, ◌&&◌, nat_lt, nat_le, List, [], ◌∷◌, ◌++◌, map, length, take, drop, slice_get, slice_range, get_or, Option, Some, None, is_lt, nat_cmp, Ordering, Less, Equal, Greater, refl, sym, ap, ◌∙◌, subst, append_assoc}
+use Rattle.std.proofs.Common.{arith, ◌≡◌, ℕ, zero, suc, ◌+◌, ◌-◌, ◌*◌, ◌≤◌, ◌<◌, Bool, true, false, true≢false, ◌&&◌, nat_le, List, [], ◌∷◌, ◌++◌, map, length, take, drop, slice_get, get_or, is_lt, nat_cmp, Ordering, Less, Equal, Greater, refl, sym, ap, ◌∙◌, subst, append_assoc}
 use Rattle.std.proofs.lemmas.Bool.{and_parts, and_from}
 use Rattle.std.proofs.lemmas.Bool.Decides.{nat_tests}
-use Rattle.std.proofs.lemmas.List.{append-nil, take-append-drop, take_all, take_rest, drop-drop, drop_all, drop_more, length-drop, map-append}
-use Rattle.std.proofs.lemmas.List.Concat.{flat_map-append}
+use Rattle.std.proofs.lemmas.List.{append-nil, take-append-drop, take_rest, drop-drop, drop_all, drop_more, length-drop, map-append}
 use Rattle.std.proofs.lemmas.List.Folds.{list_all-append}
 use Rattle.std.specs.Cmp.Lexicographic.{slice_cmp}
 use Rattle.std.specs.List.{list_all, flat_map}
@@ -17,7 +16,7 @@ use Rattle.charref.specs.Flat.{is_one_or_two, flat_character, flat_characters, f
 use Rattle.charref.specs.Front.{passes, is_count, BeginsWith, BeginsWithNone, IsCounted, HasNoCounted, IsEntryAt, is_entry}
 use Rattle.charref.proofs.Members.{readable_from_parts}
 use Rattle.charref.proofs.Orders.{last_key, last_key-more, sorted_more, last_below}
-use Rattle.charref.proofs.Forms.{counted, key_past, same_key, same_entries, entry_split, are_entries, Rest, rest_of}
+use Rattle.charref.proofs.Forms.{flat_more, counted, key_past, same_key, same_entries, entry_split, are_entries, Rest, rest_of}
 
 -- CHARACTERS
 
@@ -126,12 +125,10 @@ one_more text es last start d end was at before =
     let e : Entry = entry text d in
     let more : entries text (es ++ d ∷ []) ≡ table ++ e ∷ [] = map-append (entry text) es (d ∷ []) in
     let below : slice_cmp nat_cmp (last_key (map (λ e. e.key) table)) e.key ≡ Less = ap (λ k. slice_cmp nat_cmp k e.key) (sym was.last_is) ∙ is_less last e.key before in
-    let flat : flat_map flat_entry (table ++ e ∷ []) ≡ flat_map flat_entry table ++ flat_entry e = flat_map-append flat_entry table (e ∷ []) ∙ ap (λ bs. flat_map flat_entry table ++ bs) (append-nil (flat_entry e)) in
     record {
       readable = subst IsReadable (sym more) (readable_more table e was.readable at.passing below);
       within = at.within;
-      is = was.is ∙ ap (λ bs. flat_of table ++ bs) at.is ∙ ap (λ bs. 1 ∷ bs) (sym (append_assoc (flat_map flat_entry table) (flat_entry e) (drop end text)))
-          ∙ ap (λ bs. 1 ∷ bs ++ drop end text) (sym flat) ∙ ap (λ t. flat_of t ++ drop end text) (sym more);
+      is = was.is ∙ ap (λ bs. flat_of table ++ bs) at.is ∙ sym (append_assoc (flat_of table) (flat_entry e) (drop end text)) ∙ ap (λ bs. bs ++ drop end text) (flat_more table e) ∙ ap (λ t. flat_of t ++ drop end text) (sym more);
       last_is = sym (ap (λ (t : Entities). last_key (map (λ e. e.key) t)) more ∙ ap last_key (map-append (λ (e : Entry). e.key) table (e ∷ [])) ∙ last_key-more (map (λ e. e.key) table) e.key);
     }
 

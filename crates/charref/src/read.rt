@@ -140,7 +140,7 @@ fn add_entry(flat: &mut Vec<u8>, alloc: Global, key: &str, value: &Value) -> Res
 /// The flat form of an object's members.
 fn flat_of(alloc: Global, members: &Map<String, Value>) -> Result<Vec<u8>, Refusal>
     ensures ok { IfOk result (λ flat. (table : Entities) × (entities_of (members_view members.now.entries) ≡ Ok table) × (flat_of table ≡ flat.items)) }
-    ensures sorted { IsStrictlySortedBy string_cmp (keys_of members.now.entries) }
+    ensures sorted { IfOk result (λ _. IsStrictlySortedBy string_cmp (keys_of members.now.entries)) }
     ensures err { IfErr result (λ e. IsRefusedWith (entities_of (members_view members.now.entries)) e) }
 {
     let mut flat = Vec::from_slice(alloc, &[1])?;

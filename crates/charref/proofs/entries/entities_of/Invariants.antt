@@ -1,6 +1,4 @@
-use Rattle.std.proofs.Common.{length, ◌-◌, ◌≡◌}
-use Rattle.names.specs.declared.refusal.Refusal.TheVariants.{BadTable}
-use Rattle.names.specs.declared.refusal.TableFault.TheVariants.{Shape}
+use Rattle.std.proofs.Common.{length, ◌-◌}
 use Rattle.charref.proofs.ReadingFlat.{HasReadTo}
 use Rattle.charref.proofs.entries.entities_of.Given as goal
 

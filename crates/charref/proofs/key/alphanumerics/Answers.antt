@@ -1,7 +1,5 @@
-use Rattle.std.proofs.Common.{arith, ◌≡◌, ◌+◌, ◌∙◌, sym, ap, refl}
-use Rattle.charref.specs.Front.{passes}
+use Rattle.std.proofs.Common.{◌∙◌, sym}
 use Rattle.charref.proofs.Fronts.{stopped, run_more, past_end}
-use Rattle.names.specs.Placed.{is_alphanumeric}
 use Rattle.charref.proofs.key.alphanumerics.Goals as goal
 
 pub returns-then-not-is_alphanumeric-clause-stops : goal.returns-then-not-is_alphanumeric-clause-stops

@@ -1,5 +1,4 @@
-use Rattle.std.proofs.Common.{◌≡◌, ◌∙◌, sym, ap, true, false, drop, is_lt, nat_cmp, arith}
-use Rattle.std.specs.Cmp.Lexicographic.{slice_cmp}
+use Rattle.std.proofs.Common.{◌∙◌, sym, ap, is_lt}
 use Rattle.charref.proofs.Orders.{shorter_before, never_before}
 use Rattle.charref.proofs.key.is_before.Goals as goal
 

@@ -1,32 +1,41 @@
-use Rattle.std.proofs.Common.{◌≡◌, [], ◌∷◌, ◌++◌, string_bytes, sym, ap, ◌∙◌, subst}
-use Rattle.std.proofs.lemmas.List.{map-append}
+use Rattle.std.proofs.Common.{rules, ◌≡◌, [], ◌∷◌, ◌++◌, string_bytes, sym, ap, ◌∙◌, subst}
 use Rattle.std.proofs.lemmas.Result.{err_from_is_err_and}
+use Rattle.charref.specs.Reference.{Entities}
 use Rattle.charref.specs.Reading.{entry_of, IsRefusedWith}
+use Rattle.charref.specs.Flat.{flat_entry}
 use Rattle.serde_json.specs.View.{view}
-use Rattle.charref.specs.Table.{entry, entries}
-use Rattle.charref.proofs.Members.{Pair, HasReadMembers, read_member, read_refused, read_all}
+use Rattle.charref.proofs.Forms.{flat_more}
+use Rattle.charref.proofs.Members.{Pair, HasReadMembers, read_no_members, read_member, read_refused, read_all}
 use Rattle.charref.proofs.read.flat_of.Goals as goal
+
+pub loop-key-init : goal.loop-key-init
+loop-key-init c =
+    let all : c.into_iter-key-iterator.result ≡ c.args.members.now.entries = search rules in
+    ([], subst (λ rest. HasReadMembers c.args.members.now.entries rest []) (sym all) (read_no_members c.args.members.now.entries), c.in_ok-flat.ensures.items)
 
 pub loop-key-preserved : goal.loop-key-preserved
 loop-key-preserved c =
     let l = c.loop-key in
+    let table : Entities = l.invariant.0 in
     let pair : Pair = (c.in-Some.key.now, c.in-Some.value.now) in
-    let was : HasReadMembers c.args.members.now.entries (pair ∷ c.next.new.self) (entries l.entities.items) = subst (λ rest. HasReadMembers c.args.members.now.entries rest (entries l.entities.items)) c.in-Some.ensures.steps l.invariant in
-    let added = c.in_ok-add_entity.ensures.ok in
-    let more : entries c.add_entity.new.entities.items ≡ entries l.entities.items ++ entry added.0 ∷ [] = ap entries added.2 ∙ map-append entry l.entities.items (added.0 ∷ []) in
-    subst (λ es. HasReadMembers c.args.members.now.entries c.next.new.self es) (sym more)
-    (read_member c.args.members.now.entries c.next.new.self pair (entries l.entities.items) (entry added.0) was (ap (λ k. entry_of k (view c.in-Some.value.now)) (sym c.as_str.ensures.value) ∙ added.1))
+    let was : HasReadMembers c.args.members.now.entries (pair ∷ c.next.new.self) table = subst (λ rest. HasReadMembers c.args.members.now.entries rest table) c.in-Some.ensures.steps l.invariant.1 in
+    let added = c.in_ok-add_entry.ensures.ok in (
+      table ++ added.0 ∷ [],
+      read_member c.args.members.now.entries c.next.new.self pair table added.0 was (ap (λ k. entry_of k (view c.in-Some.value.now)) (sym c.as_str.ensures.value) ∙ added.1),
+      added.2 ∙ ap (λ bs. bs ++ flat_entry added.0) l.invariant.2 ∙ flat_more table added.0,
+    )
 
 pub returns-clause-ok : goal.returns-clause-ok
 returns-clause-ok c =
     let l = c.loop-key in
-    read_all c.args.members.now.entries (entries l.entities.items) (subst (λ rest. HasReadMembers c.args.members.now.entries rest (entries l.entities.items)) c.in-None.ensures.steps.0 l.invariant)
+    (l.invariant.0, read_all c.args.members.now.entries l.invariant.0 (subst (λ rest. HasReadMembers c.args.members.now.entries rest l.invariant.0) c.in-None.ensures.steps.0 l.invariant.1), sym l.invariant.2)
 
-pub returns-in_err-add_entity-clause-err : goal.returns-in_err-add_entity-clause-err
-returns-in_err-add_entity-clause-err c =
+pub returns-in_err-add_entry-clause-err : goal.returns-in_err-add_entry-clause-err
+returns-in_err-add_entry-clause-err c =
     let l = c.loop-key in
+    let table : Entities = l.invariant.0 in
     let pair : Pair = (c.in-Some.key.now, c.in-Some.value.now) in
-    let was : HasReadMembers c.args.members.now.entries (pair ∷ c.next.new.self) (entries l.entities.items) = subst (λ rest. HasReadMembers c.args.members.now.entries rest (entries l.entities.items)) c.in-Some.ensures.steps l.invariant in
-    let refused : IsRefusedWith (entry_of (string_bytes c.in-Some.key.now) (view c.in-Some.value.now)) c.in_err-add_entity.field-0.0 = subst (λ k. IsRefusedWith (entry_of k (view c.in-Some.value.now)) c.in_err-add_entity.field-0.0) c.as_str.ensures.value c.in_err-add_entity.ensures.err in
-    let p = err_from_is_err_and c.from_residual-in_err-add_entity.result c.from_residual-in_err-add_entity.ensures.1 in
-    rw (p.1, p.2) (read_refused c.args.members.now.entries c.next.new.self pair (entries l.entities.items) c.in_err-add_entity.field-0.0 was refused)
+    let was : HasReadMembers c.args.members.now.entries (pair ∷ c.next.new.self) table = subst (λ rest. HasReadMembers c.args.members.now.entries rest table) c.in-Some.ensures.steps l.invariant.1 in
+    let refused : IsRefusedWith (entry_of (string_bytes c.in-Some.key.now) (view c.in-Some.value.now)) c.in_err-add_entry.field-0.0 = subst (λ k. IsRefusedWith (entry_of k (view c.in-Some.value.now)) c.in_err-add_entry.field-0.0) c.as_str.ensures.value c.in_err-add_entry.ensures.err in
+    let p = err_from_is_err_and c.from_residual-in_err-add_entry.result c.from_residual-in_err-add_entry.ensures.1 in
+    rw (p.1, p.2) (read_refused c.args.members.now.entries c.next.new.self pair table c.in_err-add_entry.field-0.0 was refused)

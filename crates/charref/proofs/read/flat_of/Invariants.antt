@@ -1,6 +1,8 @@
-use Rattle.charref.specs.Table.{entries}
+use Rattle.std.proofs.Common.{◌≡◌}
+use Rattle.charref.specs.Reference.{Entities}
+use Rattle.charref.specs.Flat.{flat_of}
 use Rattle.charref.proofs.Members.{HasReadMembers}
 use Rattle.charref.proofs.read.flat_of.Given as goal
 
 abbrev pub invariant-loop-key : goal.invariant-loop-key
-invariant-loop-key l = HasReadMembers l.members.entries l.key-iterator (entries l.entities.items)
+invariant-loop-key l = (table : Entities) × HasReadMembers l.members.entries l.key-iterator table × (l.flat.items ≡ flat_of table)

@@ -1,4 +1,4 @@
-use Rattle.std.proofs.Common.{◌≡◌, ◌++◌, ◌∷◌, [], ◌+◌, ℕ, List, get_or, subst, add-one, arith}
+use Rattle.std.proofs.Common.{◌≡◌, ◌++◌, ◌∷◌, [], ◌+◌, ℕ, List, get_or, subst, add-one}
 use Rattle.std.proofs.Math.Seq.{take-suc}
 use Rattle.charref.specs.Table.{HasRead}
 use Rattle.std.proofs.Common.{take, drop, sym}

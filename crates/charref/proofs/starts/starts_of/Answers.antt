@@ -1,4 +1,4 @@
-use Rattle.std.proofs.Common.{◌≡◌, arith, ◌+◌, length, refl, sym, subst}
+use Rattle.std.proofs.Common.{◌≡◌, arith, ◌+◌, sym, subst}
 use Rattle.charref.specs.Table.{IsIndex}
 use Rattle.charref.proofs.Indexing.{start_at, start_more}
 use Rattle.charref.proofs.starts.starts_of.Goals as goal

@@ -1,8 +1,5 @@
-use Rattle.std.proofs.Common.{arith, ◌≡◌, ◌<◌, length, Some, sym, ap, ◌∙◌}
-use Rattle.std.specs.Prelude.{slice_get}
-use Rattle.std.proofs.lemmas.List.{length-map}
-use Rattle.charref.specs.declared.entity.Entity.{Entity}
-use Rattle.charref.specs.Table.{key_at, entry, entries}
+use Rattle.std.proofs.Common.{ap, ◌∙◌}
+use Rattle.charref.specs.Table.{key_at, entry}
 use Rattle.charref.proofs.Ranges.{entry_in}
 use Rattle.charref.proofs.flat.Flat.key.Goals as goal
 

@@ -1,7 +1,11 @@
-use Rattle.std.proofs.Common.{sym, subst}
-use Rattle.charref.specs.Table.{IsSortedTable}
-use Rattle.charref.proofs.Core.{core_sorted}
+use Rattle.std.proofs.Common.{sym}
+use Rattle.charref.specs.Reference.{core}
+use Rattle.charref.proofs.Core.{core_readable}
+use Rattle.charref.proofs.Forms.{reads_table, refuses_memory}
 use Rattle.charref.proofs.table.Table.core.Goals as goal
 
-pub with-requires : goal.with-requires
-with-requires c = record { sorted = subst IsSortedTable (sym c.in_ok-core_entities.ensures) core_sorted }
+pub returns-clause-ok : goal.returns-clause-ok
+returns-clause-ok c = reads_table core c.in_ok-from_slice.field-0.items c.of_flat.result core_readable (sym c.in_ok-from_slice.ensures.items) c.of_flat.ensures.readable c.of_flat.ensures.ok
+
+pub returns-clause-err : goal.returns-clause-err
+returns-clause-err c = refuses_memory core c.in_ok-from_slice.field-0.items c.of_flat.result core_readable (sym c.in_ok-from_slice.ensures.items) c.of_flat.ensures.err

@@ -1,7 +1,7 @@
-use Rattle.std.proofs.Common.{◌≡◌, ◌-◌, ◌<◌, true, nat_eq, length, take, drop, slice_get, sym, ap, ◌∙◌, subst, arith}
+use Rattle.std.proofs.Common.{◌≡◌, ◌-◌, true, nat_eq, length, take, drop, slice_get, sym, ap, ◌∙◌, subst, arith}
 use Rattle.std.proofs.lemmas.List.{take_all, length-drop}
 use Rattle.std.specs.List.{starts_with}
-use Rattle.charref.specs.Reference.{Entry, Entities, IsTable, ends_in_semicolon}
+use Rattle.charref.specs.Reference.{Entry, IsTable, ends_in_semicolon}
 use Rattle.charref.proofs.walk.Walk.only_key.Goals as goal
 
 pub returns-then-begin_with : goal.returns-then-begin_with
