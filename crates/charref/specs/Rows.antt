@@ -1,5 +1,5 @@
--- Worked references and tables.
-use Rattle.std.specs.Prelude.{◌≡◌, ℕ, true, false, refl, List, [], ◌∷◌, codes, Some, None, Ok, Err}
+-- Worked references, tables and flat forms.
+use Rattle.std.specs.Prelude.{◌≡◌, ℕ, true, false, refl, List, [], ◌∷◌, ◌++◌, codes, Some, None, Ok, Err}
 use Rattle.std.proofs.Math.Utf8.{encode}
 use Rattle.names.specs.declared.error.ErrorCode.TheVariants as code
 use Rattle.names.specs.declared.refusal.TableFault.TheVariants as fault
@@ -7,6 +7,7 @@ use Rattle.names.specs.Placed.{placed, error}
 use Rattle.serde_json.specs.Data.{Data, number, string, array, object, Items, no_items, item, Members, no_members, member, unsigned}
 use Rattle.charref.specs.Reference.{Entities, IsReference, named, kept, unknown, decimal, hexadecimal, no_digits, alone}
 use Rattle.charref.specs.Reading.{table_of_members}
+use Rattle.charref.specs.Flat.{flat_of}
 
 abbrev not_table : Entities
 not_table = record { key = codes "&not"; stands_for = 172 ∷ [] } ∷ record { key = codes "&not;"; stands_for = 172 ∷ [] }
@@ -104,3 +105,12 @@ row_characters = refl
 
 row_of_order : table_of_members (Some (member (codes "&b") (number (unsigned 1)) (member (codes "a") (number (unsigned 2)) no_members))) ≡ Err fault.Shape
 row_of_order = refl
+
+-- flat forms
+
+row_flat : flat_of (record { key = codes "&Lt;"; stands_for = 8810 ∷ [] } ∷ record { key = codes "&nvlt;"; stands_for = 60 ∷ 8402 ∷ [] } ∷ [])
+    ≡ 1 ∷ codes "&Lt;" ++ 1 ∷ 106 ∷ 34 ∷ 0 ∷ 0 ∷ codes "&nvlt;" ++ 2 ∷ 60 ∷ 0 ∷ 0 ∷ 0 ∷ 210 ∷ 32 ∷ 0 ∷ 0 ∷ []
+row_flat = refl
+
+row_flat_of_nothing : flat_of [] ≡ 1 ∷ []
+row_flat_of_nothing = refl
