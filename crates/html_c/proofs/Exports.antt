@@ -1,16 +1,36 @@
 -- What a call gives, from what was given and what came of the input.
-use Rattle.std.proofs.Common.{◌≡◌, ℕ, List, Option, Ok, Err, refl, subst}
+use Rattle.std.proofs.Common.{◌≡◌, ℕ, Bool, true, false, List, [], Option, None, Some, Ok, Err, refl, subst, sym}
+use Rattle.std.specs.Prelude.{if◌then◌else◌}
 use Rattle.names.specs.declared.refusal.Refusal.{Refusal}
+use Rattle.names.specs.declared.refusal.Refusal.TheVariants.{Memory}
 use Rattle.hparse.specs.Parse.{ParseOptions}
+use Rattle.hparse.specs.declared.parsed.Parsed.{Parsed}
+use Rattle.hserialize.specs.declared.escaping.Escaping.{Escaping}
 use Rattle.hwrite.specs.Command.{name_of}
-use Rattle.hwrite.specs.Prints.{prints_of, context_of}
+use Rattle.hwrite.specs.Context.{AllowsContext}
+use Rattle.hwrite.specs.Prints.{context_of, parsed_text, prints_of}
 use Rattle.hwrite.specs.declared.command.Command.{Command}
-use Rattle.html_c.specs.Exports.{ComesToNone, GivesText, GivesNone, comes_to_none, GivesRows, GivesNoRows, no_rows}
-use Rattle.html_c.specs.Given.{IsCommand, Tells, context_told}
-use Rattle.html_c.specs.Trees.{ComesToRows}
+use Rattle.hwrite.specs.declared.command.Task.{Task}
+use Rattle.hwrite.specs.declared.command.Task.TheVariants as task
+use Rattle.hwrite.proofs.Tasks.{parsed_printed}
+use Rattle.html_c.specs.Exports.{ComesToNone, none_for_memory, GivesText, GivesNone, comes_to_none, GivesNoRows, no_rows, prints}
+use Rattle.html_c.specs.Given.{IsCommand, Tells, context_told, escaping_told, may_be_in, task_told}
+use Rattle.html_c.specs.Page.{GivesPage, GivesWanted, wants_told}
+use Rattle.html_c.specs.Parts.{parts_of}
+use Rattle.html_c.specs.Trees.{ComesToParse, GivesParse, IsPage}
 use Rattle.html_c.specs.declared.answer.Given.{Given}
 use Rattle.html_c.specs.declared.fault.CallFault.TheVariants as fault
-use Rattle.html_c.specs.declared.rows.Rows.{Rows}
+use Rattle.html_c.specs.declared.page.Page.{Page}
+use Rattle.html_c.specs.declared.page.Wants.{Wants}
+use Rattle.html_c.proofs.Trees.{some_rows}
+
+-- a command's task is of an input in a context that is allowed
+pub allowed : (t : Task) (context told : Option (List ℕ)) → context ≡ told → AllowsContext told → AllowsContext (context_of t context)
+allowed task.Tokens context told is allows = tt
+allowed task.Tree context told is allows = subst AllowsContext (sym is) allows
+allowed task.Errors context told is allows = subst AllowsContext (sym is) allows
+allowed task.Write context told is allows = subst AllowsContext (sym is) allows
+allowed task.Plain context told is allows = subst AllowsContext (sym is) allows
 
 module _ (input : List ℕ) (given : Given) (opts : ParseOptions) (tells : Tells given opts) where
   module _ (number : ℕ) (command : Command) (is : IsCommand number given command) where
@@ -20,23 +40,53 @@ module _ (input : List ℕ) (given : Given) (opts : ParseOptions) (tells : Tells
       how = command.escaping;
       opts = opts;
       task_is = is.task;
+      placed = is.placed;
       how_is = is.escaping;
       tells = tells;
       text_is = subst (λ (c : Option (List ℕ)). prints_of command.escaping command.task c opts input (Ok text)) is.context its;
     }
 
-    pub no_text : (refusal : Refusal)
-        → ComesToNone (prints_of command.escaping command.task (name_of command.context) opts) (context_of command.task (name_of command.context)) input refusal
-        → GivesNone number input given (fault.Refused refusal)
+    pub no_text : (refusal : Refusal) → ComesToNone (prints_of command.escaping command.task (name_of command.context) opts) input refusal → GivesNone number input given (fault.Refused refusal)
     no_text refusal why =
-        comes_to_none command.task command.escaping opts refusal is.task is.escaping tells
-        (subst (λ (c : Option (List ℕ)). ComesToNone (prints_of command.escaping command.task c opts) (context_of command.task c) input refusal) is.context why) refl
+        comes_to_none command.task command.escaping opts refusal is.task is.placed is.escaping tells
+        (subst (λ (c : Option (List ℕ)). ComesToNone (prints_of command.escaping command.task c opts) input refusal) is.context why) refl
 
   module _ (context : Option (List ℕ)) (is : context ≡ context_told given.context.now) where
-    pub some_rows : (rows : Rows) → ComesToRows opts context input (Ok rows) → GivesRows input given rows.nodes.items rows.words.items
-    some_rows rows its =
-        let have = subst (λ (c : Option (List ℕ)). ComesToRows opts c input (Ok rows)) is its in
-        record { opts = opts; tells = tells; parse = have.parse; parses = have.parses; rows_are = have.rows_are; words_are = have.words_are }
+    pub a_parse : (parsed : Parsed) → ComesToParse opts context input (Ok parsed) → GivesParse input given parsed
+    a_parse parsed its = record { opts = opts; tells = tells; answers = subst (λ (c : Option (List ℕ)). ComesToParse opts c input (Ok parsed)) is its }
 
-    pub none_for : (refusal : Refusal) → ComesToRows opts context input (Err refusal) → GivesNoRows input given (fault.Refused refusal)
-    none_for refusal why = no_rows opts refusal tells (subst (λ (c : Option (List ℕ)). ComesToRows opts c input (Err refusal)) is why) refl
+    pub no_parse : (refusal : Refusal) → ComesToParse opts context input (Err refusal) → GivesNoRows input given (fault.Refused refusal)
+    no_parse refusal why = no_rows opts refusal tells (subst (λ (c : Option (List ℕ)). ComesToParse opts c input (Err refusal)) is why) refl
+
+module _ (input : List ℕ) (given : Given) (parsed : Parsed) (h : GivesParse input given parsed) where
+  -- memory ran out for what was to be made of a parse
+  pub no_memory : (refusal : Refusal) → refusal ≡ Memory → GivesNoRows input given (fault.Refused refusal)
+  no_memory refusal is = no_rows h.opts refusal h.tells (none_for_memory is) refl
+
+  module _ (how : Escaping) (how_is : escaping_told given.escaping ≡ Some how) where
+    text_where : (wants : Bool) (number : ℕ) (t : Task) (text : List ℕ) → task_told number ≡ Some t → may_be_in t (context_told given.context.now) ≡ true
+        → prints t how given h.opts input (Ok (parsed_text how t None parsed)) → text ≡ (if wants then parsed_text how t None parsed else []) → GivesWanted wants number input given text
+    text_where false number t text task_is placed printed is = is
+    text_where true number t text task_is placed printed is = record {
+      task = t;
+      how = how;
+      opts = h.opts;
+      task_is = task_is;
+      placed = placed;
+      how_is = how_is;
+      tells = h.tells;
+      text_is = subst (λ (x : List ℕ). prints t how given h.opts input (Ok x)) (sym is) printed;
+    }
+
+    pub a_page : (number : ℕ) (wants : Wants) (page : Page) → wants_told number ≡ Some wants → IsPage wants how parsed page → GivesPage number input given (parts_of page)
+    a_page number wants page wants_are is =
+        let printed = λ (t : Task). parsed_printed how t h.opts (context_told given.context.now) input parsed h.answers in
+        record {
+          wants = wants;
+          how = how;
+          wants_are = wants_are;
+          how_is = how_is;
+          tree = some_rows input given parsed page.tree h is.tree;
+          errors = text_where wants.errors 2 task.Errors (parts_of page).errors refl refl (printed task.Errors) is.errors_are;
+          text = text_where wants.text 3 task.Write (parts_of page).text refl refl (printed task.Write) is.text_is;
+        }

@@ -1,11 +1,13 @@
 -- What comes of a call that is passed up.
-use Rattle.std.proofs.Common.{◌≡◌, ℕ, true, false, List, Result, Ok, Err, MatchResult, length, sym, subst}
-use Rattle.std.specs.Prelude.{IsErrAnd, ◌==◌}
+use Rattle.std.proofs.Common.{◌≡◌, ℕ, Bool, true, false, List, [], Result, Ok, Err, MatchResult, length, sym, subst}
+use Rattle.std.specs.Prelude.{IsErrAnd, ◌==◌, if◌then◌else◌}
 use Rattle.names.specs.declared.refusal.Refusal.{Refusal}
 use Rattle.names.specs.declared.refusal.Refusal.TheVariants.{Memory}
 use Rattle.charref.specs.Reading.{table_of, IsRefusedWith}
+use Rattle.html_c.specs.Fitted.{IsFitted}
 use Rattle.html_c.specs.Given.{table_told}
 use Rattle.html_c.specs.declared.fault.CallFault.{CallFault}
+use Rattle.html_c.specs.declared.fitted.Fitted.{Fitted}
 
 pub fails : {T : Type 0} (r : Result T CallFault) (f : CallFault) (P : T → Type 0) (Q : CallFault → Type 0) → IsErrAnd r (λ g. g ≡ f) → Q f → MatchResult r P Q
 fails (Ok x) f P Q is h = absurd is
@@ -14,6 +16,11 @@ fails (Err g) f P Q is h = subst Q (sym is) h
 pub passes : {T : Type 0} (r : Result T Refusal) (e : Refusal) (P : T → Type 0) (Q : Refusal → Type 0) → IsErrAnd r (λ g. g ≡ e) → Q e → MatchResult r P Q
 passes (Ok x) e P Q is h = absurd is
 passes (Err g) e P Q is h = subst Q (sym is) h
+
+-- a text that is wanted
+pub fitted : (wanted : Bool) (room : ℕ) (text : List ℕ) (old : Fitted) (r : Result Fitted Refusal) → wanted ≡ true → old.room ≡ room → IsFitted old.room text r
+    → IsFitted room (if wanted then text else []) r
+fitted wanted room text old r is same h = rw is (subst (λ n. IsFitted n text r) same h)
 
 -- the core table is refused for memory alone, and another for what its text is
 pub core_refused : (bytes : List ℕ) (e : Refusal) → (length bytes == 0) ≡ true → e ≡ Memory → IsRefusedWith (table_told bytes) e

@@ -16,9 +16,10 @@ use Rattle.hparse.specs.Parsing.{AnswersParse, IsParse}
 use Rattle.hparse.specs.Reader.{ReadsInput, reading_ran_out, reading_failed, reading_stopped, read_to_end}
 use Rattle.hwrite.specs.Context.{AllowsContext, case_in}
 use Rattle.hwrite.proofs.Alike.{spelled-alike}
-use Rattle.html_c.specs.Exports.{ComesToNone, none_for_memory, none_in_context, none_of_bytes}
+use Rattle.html_c.specs.Exports.{ComesToNone, GivesRows, case_given, none_for_memory, none_of_bytes}
 use Rattle.html_c.specs.Rows.{kind_number, link_to, rows_of, words_of}
-use Rattle.html_c.specs.Trees.{ComesToParse, HasRows}
+use Rattle.html_c.specs.Trees.{ComesToParse, GivesParse, HasRows}
+use Rattle.html_c.specs.declared.answer.Given.{Given}
 use Rattle.html_c.specs.declared.rows.Rows.{Rows}
 
 module _ {S : Type 0} (left : S → List ℕ) (opts : ParseOptions) (context : Option (List ℕ)) (unrefused : List ℕ → Type 0) (piece : ℕ) (source source' : S) where
@@ -26,7 +27,7 @@ module _ {S : Type 0} (left : S → List ℕ) (opts : ParseOptions) (context : O
   answered bytes (Ok parsed) is its = subst (λ bs. AnswersParse opts (case_in context) bs (Ok parsed)) (sym is) its
   answered bytes (Err refusal) is its = none_of_bytes (subst (λ bs. Parses opts (case_in context) bs (Err refusal)) (sym is) its)
 
-  failing : (answer : Result Parsed Refusal) (refusal : Refusal) → answer ≡ Err refusal → ComesToNone (Parses opts (case_in context)) context (left source) refusal
+  failing : (answer : Result Parsed Refusal) (refusal : Refusal) → answer ≡ Err refusal → ComesToNone (Parses opts (case_in context)) (left source) refusal
       → ComesToParse opts context (left source) answer
   failing answer refusal is why = subst (ComesToParse opts context (left source)) (sym is) why
 
@@ -68,19 +69,21 @@ children_are parse_case parsed parse is =
     spelled-alike parsed.names (children_of parsed.root parsed.tree.trees) is.names_are ∙ spelled-children_of (spelling parsed.names) parsed.root parsed.tree.trees
     ∙ ap₂ (λ (n : ℕ) (f : Forest (List ℕ)). children_of n f) is.root is.trees
 
-pub has_rows : (opts : ParseOptions) (context : Option (List ℕ)) (bytes : List ℕ) (parsed : Parsed) (rows : Rows) → AnswersParse opts (case_in context) bytes (Ok parsed)
-    → rows.nodes.items ≡ rows_of parsed.root (children_of parsed.root parsed.tree.trees)
-    → rows.words.items ≡ words_of (spelled (text_of parsed.names) (children_of parsed.root parsed.tree.trees)) → HasRows opts context bytes rows
-has_rows opts context bytes parsed rows (parse, is, its) same_nodes same_words = record {
-  parse = parse;
-  parses = its;
-  rows_are = same_nodes ∙ sym (same_rows (text_of parsed.names) parsed.root (children_of parsed.root parsed.tree.trees))
-      ∙ ap₂ (λ (p : ℕ) (f : Forest (List ℕ)). rows_of p f) is.root (children_are (case_in context) parsed parse is);
-  words_are = same_words ∙ ap words_of (children_are (case_in context) parsed parse is);
-}
+pub some_rows : (input : List ℕ) (given : Given) (parsed : Parsed) (rows : Rows) → GivesParse input given parsed → HasRows parsed rows → GivesRows input given rows.nodes.items rows.words.items
+some_rows input given parsed rows h has =
+    let (parse, is, parses) = h.answers in let its = case_given given in
+    record {
+      opts = h.opts;
+      tells = h.tells;
+      parse = parse;
+      parses = parses;
+      rows_are = has.rows_are ∙ sym (same_rows (text_of parsed.names) parsed.root (children_of parsed.root parsed.tree.trees))
+          ∙ ap₂ (λ (p : ℕ) (f : Forest (List ℕ)). rows_of p f) is.root (children_are its parsed parse is);
+      words_are = has.words_are ∙ ap words_of (children_are its parsed parse is);
+    }
 
-pub not_begun : (opts : ParseOptions) (context : Option (List ℕ)) (bytes : List ℕ) (r : Result Parsed Refusal) (e : Refusal) → IsErrAnd r (λ g. g ≡ e)
+pub not_begun : (opts : ParseOptions) (context : Option (List ℕ)) (bytes : List ℕ) (r : Result Parsed Refusal) (e : Refusal) → AllowsContext context → IsErrAnd r (λ g. g ≡ e)
     → (AllowsContext context × (e ≡ Memory)) ⊎ ((AllowsContext context → ⊥) × (e ≡ BadContext)) → ComesToParse opts context bytes r
-not_begun opts context bytes (Ok parsed) e is why = absurd is
-not_begun opts context bytes (Err g) e is (inl (allowed, memory)) = none_for_memory (is ∙ memory)
-not_begun opts context bytes (Err g) e is (inr (not_allowed, refuses)) = none_in_context not_allowed (is ∙ refuses)
+not_begun opts context bytes (Ok parsed) e allows is why = absurd is
+not_begun opts context bytes (Err g) e allows is (inl (allowed, memory)) = none_for_memory (is ∙ memory)
+not_begun opts context bytes (Err g) e allows is (inr (not_allowed, refuses)) = absurd (not_allowed allows)

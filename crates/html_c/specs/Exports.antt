@@ -1,14 +1,14 @@
 -- What the exports promise.
-use Rattle.std.specs.Prelude.{◌≡◌, ℕ, Bool, ◌&&◌, List, length, nat_le, Option, Some, Result, Ok, Err}
+use Rattle.std.specs.Prelude.{◌≡◌, ℕ, Bool, true, ◌&&◌, List, length, nat_le, Some, Result, Ok, Err}
 use Rattle.names.specs.declared.refusal.Refusal.{Refusal}
-use Rattle.names.specs.declared.refusal.Refusal.TheVariants.{Memory, BadContext}
+use Rattle.names.specs.declared.refusal.Refusal.TheVariants.{Memory}
 use Rattle.hnodes.specs.Forest.{children_of}
 use Rattle.hparse.specs.Parse.{Parse, Parses, ParseCase, ParseOptions, root_of}
-use Rattle.hwrite.specs.Context.{AllowsContext, case_in}
-use Rattle.hwrite.specs.Prints.{prints_of, context_of}
+use Rattle.hwrite.specs.Context.{case_in}
+use Rattle.hwrite.specs.Prints.{prints_of}
 use Rattle.hwrite.specs.declared.command.Task.{Task}
 use Rattle.hserialize.specs.declared.escaping.Escaping.{Escaping}
-use Rattle.html_c.specs.Given.{context_told, escaping_told, task_told, NoCommand, Tells, Unmet}
+use Rattle.html_c.specs.Given.{context_told, escaping_told, may_be_in, task_told, NoCommand, Tells, Unmet}
 use Rattle.html_c.specs.Room.{fault_answer, put_over, room_answer}
 use Rattle.html_c.specs.Rows.{rows_of, words_of}
 use Rattle.html_c.specs.declared.answer.Answer.{Answer}
@@ -17,11 +17,10 @@ use Rattle.html_c.specs.declared.answer.NodeRow.{NodeRow}
 use Rattle.html_c.specs.declared.fault.CallFault.{CallFault}
 use Rattle.html_c.specs.declared.fault.CallFault.TheVariants as fault
 
--- Why nothing comes of bytes: memory ran out, they are refused, or may not be in this element.
-pub data ComesToNone {A : Type 0} (answers : List ℕ → Result A Refusal → Type 0) (context : Option (List ℕ)) (bytes : List ℕ) (refusal : Refusal) : Type 0 where
-  none_for_memory : refusal ≡ Memory → ComesToNone answers context bytes refusal
-  none_in_context : (AllowsContext context → ⊥) → refusal ≡ BadContext → ComesToNone answers context bytes refusal
-  none_of_bytes : answers bytes (Err refusal) → ComesToNone answers context bytes refusal
+-- Why nothing comes of bytes: memory ran out, or they are refused.
+pub data ComesToNone {A : Type 0} (answers : List ℕ → Result A Refusal → Type 0) (bytes : List ℕ) (refusal : Refusal) : Type 0 where
+  none_for_memory : refusal ≡ Memory → ComesToNone answers bytes refusal
+  none_of_bytes : answers bytes (Err refusal) → ComesToNone answers bytes refusal
 
 -- what a task prints of bytes, which is the text that the program prints
 abbrev pub prints : Task → Escaping → Given → ParseOptions → List ℕ → Result (List ℕ) Refusal → Type 0
@@ -33,6 +32,7 @@ pub record GivesText (number : ℕ) (input : List ℕ) (given : Given) (text : L
   pub how : Escaping
   pub opts : ParseOptions
   pub task_is : task_told number ≡ Some task
+  pub placed : may_be_in task (context_told given.context.now) ≡ true
   pub how_is : escaping_told given.escaping ≡ Some how
   pub tells : Tells given opts
   pub text_is : prints task how given opts input (Ok text)
@@ -41,9 +41,8 @@ pub record GivesText (number : ℕ) (input : List ℕ) (given : Given) (text : L
 pub data GivesNone (number : ℕ) (input : List ℕ) (given : Given) (why : CallFault) : Type 0 where
   no_command : NoCommand number given why → GivesNone number input given why
   comes_to_none : (task : Task) (how : Escaping) (opts : ParseOptions) (refusal : Refusal) → task_told number ≡ Some task
-      → escaping_told given.escaping ≡ Some how
-      → Tells given opts → ComesToNone (prints task how given opts) (context_of task (context_told given.context.now)) input refusal
-      → why ≡ fault.Refused refusal → GivesNone number input given why
+      → may_be_in task (context_told given.context.now) ≡ true → escaping_told given.escaping ≡ Some how → Tells given opts
+      → ComesToNone (prints task how given opts) input refusal → why ≡ fault.Refused refusal → GivesNone number input given why
 
 -- The text is written where it fits, and its length is answered; or why there is none, and nothing is written.
 pub data AnswersText (number : ℕ) (input : List ℕ) (given : Given) (old new : List ℕ) (answer : Answer) : Type 0 where
@@ -68,7 +67,7 @@ pub record GivesRows (input : List ℕ) (given : Given) (rows : List NodeRow) (w
 pub data GivesNoRows (input : List ℕ) (given : Given) (why : CallFault) : Type 0 where
   unmet_rows : Unmet given why → GivesNoRows input given why
   no_rows : (opts : ParseOptions) (refusal : Refusal) → Tells given opts
-      → ComesToNone (Parses opts (case_given given)) (context_told given.context.now) input refusal → why ≡ fault.Refused refusal
+      → ComesToNone (Parses opts (case_given given)) input refusal → why ≡ fault.Refused refusal
       → GivesNoRows input given why
 
 -- whether rows and words fit their rooms

@@ -1,8 +1,8 @@
 -- The options of a call: the meaning of what a caller hands in, and why it is not accepted.
-use Rattle.std.specs.Prelude.{◌≡◌, ◌<◌, ◌≤◌, ◌==◌, if◌then◌else◌, ℕ, List, length, [], ◌∷◌, Option, None, Some, Result, Ok, Err}
+use Rattle.std.specs.Prelude.{◌≡◌, ◌<◌, ◌≤◌, ◌==◌, if◌then◌else◌, ℕ, Bool, true, false, List, length, [], ◌∷◌, Option, None, Some, Result, Ok, Err}
 use Rattle.std.specs.Str.{IsUtf8}
 use Rattle.names.specs.declared.refusal.Refusal.{Refusal}
-use Rattle.names.specs.declared.refusal.Refusal.TheVariants.{BadLimits}
+use Rattle.names.specs.declared.refusal.Refusal.TheVariants.{BadContext, BadLimits}
 use Rattle.names.specs.declared.refusal.TableFault.{TableFault}
 use Rattle.charref.specs.Reference.{Entities, core}
 use Rattle.charref.specs.Reading.{table_of, IsRefusedWith}
@@ -13,6 +13,7 @@ use Rattle.htext.specs.declared.decoder.TheConstants.{MAX_INPUT}
 use Rattle.hmodes.specs.Bounds.{AreLimits, Bounds}
 use Rattle.hparse.specs.Parse.{ParseOptions}
 use Rattle.hwrite.specs.Command.{name_of}
+use Rattle.hwrite.specs.Context.{AllowsContext}
 use Rattle.hwrite.specs.declared.command.Command.{Command}
 use Rattle.hwrite.specs.declared.command.Task.{Task}
 use Rattle.hwrite.specs.declared.command.Task.TheVariants as task
@@ -39,9 +40,19 @@ abbrev pub context_told : List ℕ → Option (List ℕ)
 context_told [] = None
 context_told (b ∷ bs) = Some (b ∷ bs)
 
+-- whether a task may be one of an input that is in this element, or of a document: tokens are those of a document, and a fragment alone is plain
+abbrev pub may_be_in : Task → Option (List ℕ) → Bool
+may_be_in task.Tokens (Some context) = false
+may_be_in task.Plain None = false
+may_be_in _ _ = true
+
 -- the table of character references: the core table where its text is empty
 abbrev pub table_told : List ℕ → Result Entities TableFault
 table_told bytes = if length bytes == 0 then Ok core else table_of bytes
+
+-- no way of escaping is given
+abbrev pub NoEscaping : Given → CallFault → Type 0
+NoEscaping given why = (escaping_told given.escaping ≡ None) × (why ≡ fault.BadNumber)
 
 -- this many bytes may be fed at a time
 abbrev pub IsPiece : ℕ → Type 0
@@ -53,6 +64,8 @@ bounds_told given = record { input = MAX_INPUT; tree = record { nodes = given.no
 
 -- What is given, where all of it is accepted.
 pub record Tells (given : Given) (opts : ParseOptions) : Type 0 where
+  pub context : AllowsContext (context_told given.context.now)
+  pub piece : IsPiece given.piece
   pub table : table_told given.entities.now ≡ Ok opts.table
   pub quirks : ReadsQuirks given.quirks.now (Ok opts.quirks)
   pub bad_bytes : bad_told given.bad_bytes ≡ Some opts.bad
@@ -62,10 +75,10 @@ pub record Tells (given : Given) (opts : ParseOptions) : Type 0 where
 
 -- Something that is given is not accepted, for this reason.
 pub data Unmet (given : Given) (why : CallFault) : Type 0 where
-  no_escaping : escaping_told given.escaping ≡ None → why ≡ fault.BadNumber → Unmet given why
   no_bad_bytes : bad_told given.bad_bytes ≡ None → why ≡ fault.BadNumber → Unmet given why
   no_piece : (IsPiece given.piece → ⊥) → why ≡ fault.BadNumber → Unmet given why
   no_context : (IsUtf8 given.context.now → ⊥) → why ≡ fault.NotText → Unmet given why
+  context_refused : (AllowsContext (context_told given.context.now) → ⊥) → why ≡ fault.Refused BadContext → Unmet given why
   no_table : (IsUtf8 given.entities.now → ⊥) → why ≡ fault.NotText → Unmet given why
   no_quirks : (IsUtf8 given.quirks.now → ⊥) → why ≡ fault.NotText → Unmet given why
   table_refused : (refusal : Refusal) → IsRefusedWith (table_told given.entities.now) refusal → why ≡ fault.Refused refusal → Unmet given why
@@ -83,12 +96,17 @@ HasLimits given limits = AreLimits (bounds_told given) × (limits ≡ bounds_tol
 -- A command is what is given, with the task of this number.
 pub record IsCommand (number : ℕ) (given : Given) (command : Command) : Type 0 where
   pub task : task_told number ≡ Some command.task
+  pub placed : may_be_in command.task (context_told given.context.now) ≡ true
   pub escaping : escaping_told given.escaping ≡ Some command.escaping
   pub context : name_of command.context ≡ context_told given.context.now
+  pub allows : AllowsContext (context_told given.context.now)
   pub piece : command.piece ≡ given.piece
   pub is_piece : IsPiece command.piece
 
 -- There is none, for this reason.
 pub data NoCommand (number : ℕ) (given : Given) (why : CallFault) : Type 0 where
   no_task : task_told number ≡ None → why ≡ fault.BadNumber → NoCommand number given why
+  misplaced : (task : Task) → task_told number ≡ Some task → may_be_in task (context_told given.context.now) ≡ false → why ≡ fault.Refused BadContext
+      → NoCommand number given why
+  no_escaping : NoEscaping given why → NoCommand number given why
   unmet : Unmet given why → NoCommand number given why

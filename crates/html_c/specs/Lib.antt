@@ -1,8 +1,11 @@
 pub mod Exports
 pub mod Faults
+pub mod Fitted
 pub mod Given
-pub mod Lent
 pub mod Input
+pub mod Lent
+pub mod Page
+pub mod Parts
 pub mod Room
 pub mod Rows
 pub mod Trees

@@ -1,5 +1,7 @@
 //! What crosses between C and the library.
 
+use std::mem::size_of;
+
 /// The options of a call. A context or a list that is empty is none: a document, the core table of character references,
 /// no quirks by a list.
 #[repr(C)]
@@ -53,3 +55,30 @@ pub struct NodeRow {
     pub first_child: u32,
     pub next: u32,
 }
+
+/// How a call for a page went. The lengths are answered whether there was room or not; that of a part that is not wanted is 0.
+#[repr(C)]
+#[derive(Clone, Copy)]
+pub struct PageAnswer {
+    /// As in [`Answer`], and so are the next two.
+    pub status: u32,
+    pub detail: u32,
+    pub at: u64,
+    /// The nodes of the tree.
+    pub nodes: u64,
+    /// The bytes of their words.
+    pub words: u64,
+    /// The bytes of the lines of the parse errors.
+    pub errors: u64,
+    /// The bytes of the HTML.
+    pub text: u64,
+}
+
+// The sizes that the header asserts.
+const _: () = prove!(size_of::<Given<'static>>() == 96);
+
+const _: () = prove!(size_of::<Answer>() == 32);
+
+const _: () = prove!(size_of::<NodeRow>() == 20);
+
+const _: () = prove!(size_of::<PageAnswer>() == 48);

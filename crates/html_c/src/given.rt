@@ -1,11 +1,12 @@
 //! The options of a call.
 
-ghost use Rattle.std.specs.Prelude.{◌≡◌, ◌<◌, ◌≤◌, MatchResult, IfOk, Some, None, Ok};
+ghost use Rattle.std.specs.Prelude.{◌≡◌, ◌<◌, ◌≤◌, MatchResult, Some, None, Ok, true};
 ghost use Rattle.hmarkup.specs.Quirks.{ReadsQuirks};
 ghost use Rattle.hparse.specs.Parsing.{options_of};
 ghost use Rattle.hwrite.specs.Command.{name_of};
-ghost use Rattle.html_c.specs.Given.{bad_told, context_told, escaping_told, table_told, task_told, HasLimits, HasLists, IsCommand, IsPiece, NoCommand, Tells};
-ghost use Rattle.html_c.specs.Given.{Unmet};
+ghost use Rattle.hwrite.specs.Context.{AllowsContext};
+ghost use Rattle.html_c.specs.Given.{bad_told, context_told, escaping_told, may_be_in, table_told, task_told};
+ghost use Rattle.html_c.specs.Given.{HasLimits, HasLists, IsCommand, IsPiece, NoCommand, NoEscaping, Tells, Unmet};
 ghost use Rattle.html_c.specs.declared.fault.CallFault.TheVariants as fault;
 
 use crate::answer::Given;
@@ -15,8 +16,8 @@ use hmarkup::Quirks;
 use hmodes::Limits;
 use hparse::Options;
 use htext::{BadBytes, MAX_INPUT};
-use hwrite::{Command, Escaping, Task};
-use names::Keys;
+use hwrite::{Command, Escaping, Task, check_context};
+use names::{Keys, Refusal};
 use std::alloc::Global;
 
 /// The most bytes that are fed at a time.
@@ -33,6 +34,17 @@ pub(crate) fn task_of(number: u32) -> Option<Task>
         3 => Some(Task::Write),
         4 => Some(Task::Plain),
         _ => None,
+    }
+}
+
+/// Whether the task may be one of an input in this element, or of a document.
+fn may_be_in(task: Task, context: Option<&str>) -> bool
+    ensures { result ≡ may_be_in task (name_of context.entry) }
+{
+    match task {
+        Task::Tokens => context.is_none(),
+        Task::Plain => context.is_some(),
+        Task::Tree | Task::Errors | Task::Write => true,
     }
 }
 
@@ -68,7 +80,7 @@ pub(crate) struct Lists {
 impl<'a> Given<'a> {
     /// How `Write` escapes.
     pub(crate) fn escaping(&self) -> Result<Escaping, CallFault>
-        ensures { MatchResult result (λ how. escaping_told self.now.escaping ≡ Some how) (Unmet self.now) }
+        ensures { MatchResult result (λ how. escaping_told self.now.escaping ≡ Some how) (NoEscaping self.now) }
     {
         match escaping_of(self.escaping) {
             Some(escaping) => Ok(escaping),
@@ -89,6 +101,16 @@ impl<'a> Given<'a> {
 
     /// The name of the element in which the input is, if it is a fragment.
     pub(crate) fn context(&self) -> Result<Option<&'a str>, CallFault>
+        ensures { let told = context_told self.now.context.now in
+            MatchResult result (λ name. (name_of name ≡ told) × AllowsContext told) (Unmet self.now) }
+    {
+        let name = self.context_name()?;
+        check_context(name)?;
+        Ok(name)
+    }
+
+    /// The same, whether a fragment may be there or not.
+    fn context_name(&self) -> Result<Option<&'a str>, CallFault>
         ensures { MatchResult result (λ name. name_of name ≡ context_told self.now.context.now) (Unmet self.now) }
     {
         if self.context.is_empty() {
@@ -125,15 +147,18 @@ impl<'a> Given<'a> {
 
     /// The command that is given, with the task of this number.
     pub(crate) fn command(&self, number: u32) -> Result<Command<'a>, CallFault>
-        ensures says { MatchResult result (IsCommand number self.now) (NoCommand number self.now) }
-        ensures piece { IfOk result (λ command. 0 < command.piece) }
+        ensures { MatchResult result (IsCommand number self.now) (NoCommand number self.now) }
     {
         let Some(task) = task_of(number) else {
             return Err(CallFault::BadNumber);
         };
+        let context = self.context()?;
+        if !may_be_in(task, context) {
+            return Err(CallFault::Refused(Refusal::BadContext));
+        }
         Ok(Command {
             task,
-            context: self.context()?,
+            context,
             escaping: self.escaping()?,
             piece: self.piece()?,
             is_last: false,
@@ -178,6 +203,8 @@ impl<'a> Given<'a> {
         bad_bytes: BadBytes,
         limits: Limits,
     ) -> Options<'t>
+        requires context { AllowsContext (context_told self.now.context.now) }
+        requires piece { IsPiece self.now.piece }
         requires lists { HasLists self.now lists.now }
         requires bad_bytes { bad_told self.now.bad_bytes ≡ Some bad_bytes }
         requires limits { HasLimits self.now limits }

@@ -1,22 +1,27 @@
-//! The parser for C, over numbers and bytes alone: a text or a tree of an input into the caller's memory.
+//! The parser for C, over numbers and bytes alone: a text, a tree or a page of an input into the caller's memory.
 //! `include/jeanzircon.h` is its header.
 #![tactic(auto)]
 
 ghost use Rattle.std.specs.Prelude.{◌≡◌};
 ghost use Rattle.html_c.specs.Exports.{AnswersText, AnswersTree};
+ghost use Rattle.html_c.specs.Page.{parts, AnswersPage};
 ghost use Rattle.html_c.specs.Version.{version};
 
 mod answer;
 mod fault;
+mod fitted;
 mod given;
+mod history;
 mod input;
+mod page;
 mod room;
 mod rows;
 mod text;
 mod tree;
 
-use crate::answer::{Answer, Given, NodeRow};
-use crate::room::{fault_answer, put_rows, put_text};
+use crate::answer::{Answer, Given, NodeRow, PageAnswer};
+use crate::page::page_of;
+use crate::room::{fault_answer, page_fault, put_rows, put_text};
 use crate::text::text_of;
 use crate::tree::rows_of;
 use std::alloc::Global;
@@ -35,7 +40,7 @@ pub extern "C" fn jz_text(
     ensures answers { AnswersText task input.now given.now output.old output.new answer.new }
     ensures status { result ≡ answer.new.status }
 {
-    *answer = match text_of(alloc, task, input, given) {
+    *answer = match text_of(alloc, task, input, given, output.len()) {
         Ok(text) => put_text(&text, output),
         Err(fault) => fault_answer(fault),
     };
@@ -57,8 +62,33 @@ pub extern "C" fn jz_tree(
     ensures status { result ≡ answer.new.status }
 {
     *answer = match rows_of(alloc, input, given) {
-        Ok(tree) => put_rows(&tree.nodes, &tree.words, rows, words),
+        Ok(tree) => put_rows(&tree, rows, words),
         Err(fault) => fault_answer(fault),
+    };
+    answer.status
+}
+
+/// Makes the tree of an input, and the lines of its parse errors (1), its HTML (2) or both (3) where they are wanted, by one parse. Each
+/// part is written to the beginning of its room, where all of them fit. Returns the status, which is that of the answer.
+#[unsafe(no_mangle)]
+pub extern "C" fn jz_page(
+    alloc: Global,
+    wants: u32,
+    input: &[u8],
+    given: &Given,
+    rows: &mut [NodeRow],
+    words: &mut [u8],
+    errors: &mut [u8],
+    text: &mut [u8],
+    answer: &mut PageAnswer,
+) -> u32
+    ensures answers { AnswersPage wants input.now given.now (parts rows.old words.old errors.old text.old)
+        (parts rows.new words.new errors.new text.new) answer.new }
+    ensures status { result ≡ answer.new.status }
+{
+    *answer = match page_of(alloc, wants, input, given, errors.len(), text.len()) {
+        Ok(page) => page.put(rows, words, errors, text),
+        Err(fault) => page_fault(fault),
     };
     answer.status
 }

@@ -1,13 +1,25 @@
-//! The caller's room.
+//! The caller's rooms.
 
-ghost use Rattle.std.specs.Prelude.{◌≡◌, ◌≤◌, ◌&&◌, true, length, nat_le};
+ghost use Rattle.std.specs.Prelude.{◌≡◌, ◌≤◌, if◌then◌else◌, true, length, nat_le};
+ghost use Rattle.html_c.specs.Exports.{fit};
+ghost use Rattle.html_c.specs.Fitted.{text_of};
+ghost use Rattle.html_c.specs.Page.{page_fault};
 ghost use Rattle.html_c.specs.Room.{fault_answer, put_over, room_answer};
 
-use crate::answer::{Answer, NodeRow};
+use crate::answer::{Answer, NodeRow, PageAnswer};
 use crate::fault::CallFault;
+use crate::fitted::Fitted;
+use crate::rows::Rows;
 
 /// The status where something does not fit.
 const TOO_SHORT: u32 = 13;
+
+/// The status where everything fits, or something does not.
+pub(crate) fn status(fits: bool) -> u32
+    ensures { result ≡ (if fits then 0 else 13) }
+{
+    if fits { 0 } else { TOO_SHORT }
+}
 
 /// The answer where nothing is written.
 pub(crate) fn fault_answer(fault: CallFault) -> Answer
@@ -22,12 +34,27 @@ pub(crate) fn fault_answer(fault: CallFault) -> Answer
     }
 }
 
+/// The same for a page.
+pub(crate) fn page_fault(fault: CallFault) -> PageAnswer
+    ensures { result ≡ page_fault fault }
+{
+    PageAnswer {
+        status: fault.status(),
+        detail: fault.detail(),
+        at: fault.at(),
+        nodes: 0,
+        words: 0,
+        errors: 0,
+        text: 0,
+    }
+}
+
 /// The answer to this many bytes and nodes, which fit or do not.
 fn room_answer(fits: bool, length: usize, nodes: usize) -> Answer
     ensures { result ≡ room_answer fits length nodes }
 {
     Answer {
-        status: if fits { 0 } else { TOO_SHORT },
+        status: status(fits),
         detail: 0,
         at: 0,
         length: length as u64,
@@ -35,36 +62,36 @@ fn room_answer(fits: bool, length: usize, nodes: usize) -> Answer
     }
 }
 
-/// Writes a text to the beginning of the room, if it fits.
-pub(crate) fn put_text(text: &[u8], room: &mut [u8]) -> Answer
-    ensures room { room.new ≡ put_over (nat_le (length text.now) (length room.old)) text.now room.old }
-    ensures answer { result ≡ room_answer (nat_le (length text.now) (length room.old)) (length text.now) 0 }
+/// Writes items to the beginning of a room, if they are to be written.
+pub(crate) fn put<T: Copy>(fits: bool, items: &[T], room: &mut [T])
+    requires { fits ≡ true → length items.now ≤ length room.old }
+    ensures { room.new ≡ put_over fits items.now room.old }
 {
-    let fits = text.len() <= room.len();
     if fits {
-        room[..text.len()].copy_from_slice(text);
+        room[..items.len()].copy_from_slice(items);
     }
-    room_answer(fits, text.len(), 0)
+}
+
+/// Writes a text to the beginning of its room, if it fits.
+pub(crate) fn put_text(text: &Fitted, room: &mut [u8]) -> Answer
+    requires { text.now.room ≡ length room.old }
+    ensures room { room.new ≡ put_over (nat_le (length (text_of text.now)) (length room.old)) (text_of text.now) room.old }
+    ensures answer { result ≡ room_answer (nat_le (length (text_of text.now)) (length room.old)) (length (text_of text.now)) 0 }
+{
+    let fits = text.fits(room);
+    text.put(fits, room);
+    room_answer(fits, text.count, 0)
 }
 
 /// Writes the rows and the words of a tree to the beginnings of their rooms, if all of them fit.
-pub(crate) fn put_rows(
-    rows: &[NodeRow],
-    words: &[u8],
-    row_room: &mut [NodeRow],
-    word_room: &mut [u8],
-) -> Answer
-    ensures rows { row_room.new ≡ put_over (nat_le (length rows.now) (length row_room.old) && nat_le (length words.now) (length word_room.old))
-        rows.now row_room.old }
-    ensures words { word_room.new ≡ put_over (nat_le (length rows.now) (length row_room.old) && nat_le (length words.now) (length word_room.old))
-        words.now word_room.old }
-    ensures answer { result ≡ room_answer (nat_le (length rows.now) (length row_room.old) && nat_le (length words.now) (length word_room.old))
-        (length words.now) (length rows.now) }
+pub(crate) fn put_rows(tree: &Rows, rows: &mut [NodeRow], words: &mut [u8]) -> Answer
+    ensures rows { rows.new ≡ put_over (fit tree.now.nodes.items rows.old tree.now.words.items words.old) tree.now.nodes.items rows.old }
+    ensures words { words.new ≡ put_over (fit tree.now.nodes.items rows.old tree.now.words.items words.old) tree.now.words.items words.old }
+    ensures answer { result ≡ room_answer (fit tree.now.nodes.items rows.old tree.now.words.items words.old)
+        (length tree.now.words.items) (length tree.now.nodes.items) }
 {
-    let fits = rows.len() <= row_room.len() && words.len() <= word_room.len();
-    if fits {
-        row_room[..rows.len()].copy_from_slice(rows);
-        word_room[..words.len()].copy_from_slice(words);
-    }
-    room_answer(fits, words.len(), rows.len())
+    let fits = tree.nodes.len() <= rows.len() && tree.words.len() <= words.len();
+    put(fits, &tree.nodes, rows);
+    put(fits, &tree.words, words);
+    room_answer(fits, tree.words.len(), tree.nodes.len())
 }

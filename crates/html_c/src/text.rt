@@ -1,34 +1,39 @@
 //! The text of a task.
 
-ghost use Rattle.std.specs.Prelude.{◌≡◌, ◌<◌, ◌≤◌, ℕ, MatchResult, Ok, Err};
+ghost use Rattle.std.specs.Prelude.{◌≡◌, ◌<◌, ℕ, IfOk, MatchResult, Ok};
 ghost use Rattle.hparse.specs.Parsing.{options_of};
 ghost use Rattle.hwrite.specs.Command.{name_of};
+ghost use Rattle.hwrite.specs.Context.{AllowsContext};
 ghost use Rattle.hwrite.specs.Prints.{context_of, prints_of};
 ghost use Rattle.html_c.specs.Exports.{ComesToNone, GivesNone, GivesText};
 ghost use Rattle.html_c.specs.Faults.{kept};
+ghost use Rattle.html_c.specs.Fitted.{text_of as written_in};
 ghost use Rattle.html_c.specs.Given.{HasLists, IsCommand};
 
 use crate::answer::Given;
 use crate::fault::CallFault;
+use crate::fitted::Fitted;
 use crate::given::Lists;
 use crate::input::Input;
 use hparse::Options;
-use hwrite::{Command, Counted, run};
+use hwrite::{Command, run};
 use names::Refusal;
 use std::alloc::Global;
 
-/// The text of a task of an input.
+/// The text of a task of an input, of which no more is kept than has room.
 pub(crate) fn text_of(
     alloc: Global,
     number: u32,
     input: &[u8],
     given: &Given,
-) -> Result<Vec<u8>, CallFault>
-    ensures { MatchResult result (λ text. GivesText number input.now given.now text.items) (GivesNone number input.now given.now) }
+    room: usize,
+) -> Result<Fitted, CallFault>
+    ensures says { MatchResult result (λ text. GivesText number input.now given.now (written_in text)) (GivesNone number input.now given.now) }
+    ensures room { IfOk result (λ text. text.room ≡ room) }
 {
     let command = given.command(number)?;
     let lists = given.lists(alloc)?;
-    let text = text_with(alloc, command, input, given, &lists);
+    let text = text_with(alloc, command, input, given, &lists, room);
     drop(lists);
     text
 }
@@ -40,16 +45,18 @@ fn text_with(
     input: &[u8],
     given: &Given,
     lists: &Lists,
-) -> Result<Vec<u8>, CallFault>
+    room: usize,
+) -> Result<Fitted, CallFault>
     requires lists { HasLists given.now lists.now }
-    requires piece { 0 < command.piece }
-    ensures { (number : ℕ) → IsCommand number given.now command.entry
-        → MatchResult result (λ text. GivesText number input.now given.now text.items) (GivesNone number input.now given.now) }
+    requires command { (number : ℕ) × IsCommand number given.now command }
+    ensures says { (number : ℕ) → IsCommand number given.now command.entry
+        → MatchResult result (λ text. GivesText number input.now given.now (written_in text)) (GivesNone number input.now given.now) }
+    ensures room { IfOk result (λ text. text.room ≡ room) }
 {
     let bad_bytes = given.bad_bytes()?;
     let limits = given.limits()?;
     let options = given.options(lists, bad_bytes, limits);
-    Ok(text_in(alloc, command, input, &options)?)
+    Ok(text_in(alloc, command, input, &options, room)?)
 }
 
 /// The text that a command makes of these bytes.
@@ -58,19 +65,18 @@ fn text_in(
     command: Command,
     input: &[u8],
     options: &Options,
-) -> Result<Vec<u8>, Refusal>
+    room: usize,
+) -> Result<Fitted, Refusal>
+    requires context { AllowsContext (context_of command.task (name_of command.context)) }
     requires piece { 0 < command.piece }
-    ensures { MatchResult result
-        (λ text. prints_of command.entry.escaping command.entry.task (name_of command.entry.context) (options_of options.now) (input.now) (Ok text.items))
-        (ComesToNone (prints_of command.entry.escaping command.entry.task (name_of command.entry.context) (options_of options.now))
-        (context_of command.entry.task (name_of command.entry.context)) (input.now)) }
+    ensures says { let prints = prints_of command.entry.escaping command.entry.task (name_of command.entry.context) (options_of options.now) in
+        MatchResult result (λ text. prints input.now (Ok (written_in text))) (ComesToNone prints input.now) }
+    ensures room { IfOk result (λ text. text.room ≡ room) }
 {
     let mut source = Input::new(input);
-    let mut target = Counted::new(Vec::new(alloc));
-    let outcome = run(alloc, command, options, &mut source, &mut target);
-    let text = target.into_inner();
-    match outcome {
-        Ok(()) => Ok(text),
+    let mut target = Fitted::new(alloc, room);
+    match run(alloc, command, options, &mut source, &mut target) {
+        Ok(()) => Ok(target),
         Err(refusal) => Err(kept(refusal)),
     }
 }

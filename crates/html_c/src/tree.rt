@@ -1,11 +1,15 @@
-//! The rows of a tree.
+//! What an input is parsed as, and the rows of its tree.
 
-ghost use Rattle.std.specs.Prelude.{◌≡◌, ◌<◌, ◌≤◌, MatchResult};
+ghost use Rattle.std.specs.Prelude.{◌≡◌, ◌<◌, MatchResult};
+ghost use Rattle.names.specs.declared.refusal.Refusal.TheVariants.{Memory};
+ghost use Rattle.hnodes.specs.Forest.{children_of};
+ghost use Rattle.hnodes.specs.Named.{AreOf};
 ghost use Rattle.hparse.specs.Parsing.{options_of};
 ghost use Rattle.hwrite.specs.Command.{name_of};
+ghost use Rattle.hwrite.specs.Context.{AllowsContext};
 ghost use Rattle.html_c.specs.Exports.{GivesNoRows, GivesRows};
-ghost use Rattle.html_c.specs.Given.{HasLists, context_told};
-ghost use Rattle.html_c.specs.Trees.{ComesToParse, ComesToRows};
+ghost use Rattle.html_c.specs.Given.{HasLists, IsPiece, context_told};
+ghost use Rattle.html_c.specs.Trees.{ComesToParse, GivesParse, HasRows};
 
 use crate::answer::Given;
 use crate::fault::CallFault;
@@ -21,49 +25,52 @@ use std::alloc::Global;
 pub(crate) fn rows_of(alloc: Global, input: &[u8], given: &Given) -> Result<Rows, CallFault>
     ensures { MatchResult result (λ rows. GivesRows input.now given.now rows.nodes.items rows.words.items) (GivesNoRows input.now given.now) }
 {
+    let parsed = parse_of(alloc, input, given)?;
+    let rows = rows_in(alloc, &parsed);
+    drop(parsed);
+    Ok(rows?)
+}
+
+/// The rows and the words of what was parsed.
+pub(crate) fn rows_in(alloc: Global, parsed: &Parsed) -> Result<Rows, Refusal>
+    requires made { parsed.now.root < parsed.now.tree.made }
+    requires names { AreOf parsed.now.names (children_of parsed.now.root parsed.now.tree.trees) }
+    ensures { MatchResult result (HasRows parsed.now) (λ refusal. refusal ≡ Memory) }
+{
+    Ok(rows_inside(alloc, &parsed.tree, &parsed.names, parsed.root)?)
+}
+
+/// What an input is parsed as.
+pub(crate) fn parse_of(alloc: Global, input: &[u8], given: &Given) -> Result<Parsed, CallFault>
+    ensures { MatchResult result (GivesParse input.now given.now) (GivesNoRows input.now given.now) }
+{
     let context = given.context()?;
     let piece = given.piece()?;
     let lists = given.lists(alloc)?;
-    let rows = rows_with(alloc, context, piece, input, given, &lists);
+    let parsed = parse_with(alloc, context, piece, input, given, &lists);
     drop(lists);
-    rows
+    parsed
 }
 
 /// The same with these lists.
-fn rows_with(
+fn parse_with(
     alloc: Global,
     context: Option<&str>,
     piece: usize,
     input: &[u8],
     given: &Given,
     lists: &Lists,
-) -> Result<Rows, CallFault>
+) -> Result<Parsed, CallFault>
     requires context { name_of context ≡ context_told given.now.context.now }
-    requires piece { 0 < piece }
+    requires allowed { AllowsContext (context_told given.now.context.now) }
+    requires piece { (piece ≡ given.now.piece) × IsPiece piece }
     requires lists { HasLists given.now lists.now }
-    ensures { MatchResult result (λ rows. GivesRows input.now given.now rows.nodes.items rows.words.items) (GivesNoRows input.now given.now) }
+    ensures { MatchResult result (GivesParse input.now given.now) (GivesNoRows input.now given.now) }
 {
     let bad_bytes = given.bad_bytes()?;
     let limits = given.limits()?;
     let options = given.options(lists, bad_bytes, limits);
-    Ok(rows_in(alloc, context, piece, input, &options)?)
-}
-
-/// The rows and the words of what is parsed in this element.
-fn rows_in(
-    alloc: Global,
-    context: Option<&str>,
-    piece: usize,
-    input: &[u8],
-    options: &Options,
-) -> Result<Rows, Refusal>
-    requires piece { 0 < piece }
-    ensures { ComesToRows (options_of options.now) (name_of context.entry) (input.now) result }
-{
-    let parsed = parsed(alloc, context, piece, input, options)?;
-    let rows = rows_inside(alloc, &parsed.tree, &parsed.names, parsed.root);
-    drop(parsed);
-    Ok(rows?)
+    Ok(parsed(alloc, context, piece, input, &options)?)
 }
 
 /// What is parsed in this element.
@@ -74,6 +81,7 @@ fn parsed(
     input: &[u8],
     options: &Options,
 ) -> Result<Parsed, Refusal>
+    requires context { AllowsContext (name_of context) }
     requires piece { 0 < piece }
     ensures { ComesToParse (options_of options.now) (name_of context.entry) (input.now) result }
 {

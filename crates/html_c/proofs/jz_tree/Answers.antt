@@ -1,6 +1,5 @@
-use Rattle.std.proofs.Common.{List, ℕ, refl, subst, sym}
-use Rattle.html_c.specs.Exports.{GivesRows, no_tree_answered, tree_answered}
-use Rattle.html_c.specs.declared.answer.NodeRow.{NodeRow}
+use Rattle.std.proofs.Common.{refl}
+use Rattle.html_c.specs.Exports.{no_tree_answered, tree_answered}
 use Rattle.html_c.proofs.jz_tree.Goals as goal
 use Rattle.html_c.proofs.jz_tree.Goals.{in-Err, in-Ok}
 
@@ -8,8 +7,6 @@ pub returns-clause-answers : goal.returns-clause-answers
 returns-clause-answers c = elim c.match-rows_of.branch [
   | in-Ok w ↦
       rw (w.rows-is, w.words-is, w.answer-is)
-      (tree_answered w.deref.result.now w.deref-in-Ok.result.now
-      (subst (λ (tree : List NodeRow × List ℕ). GivesRows c.args.input.now c.args.given.now tree.0 tree.1) (λ i. (sym w.deref.ensures.value i, sym w.deref-in-Ok.ensures.value i)) w.in-Ok.ensures)
-      w.put_rows.ensures.rows w.put_rows.ensures.words w.put_rows.ensures.answer)
+      (tree_answered w.in-Ok.tree.nodes.items w.in-Ok.tree.words.items w.in-Ok.ensures w.put_rows.ensures.rows w.put_rows.ensures.words w.put_rows.ensures.answer)
   | in-Err w ↦ rw (w.rows-is, w.words-is, w.answer-is) (no_tree_answered w.in-Err.fault w.in-Err.ensures refl refl w.fault_answer.ensures)
 ]

@@ -10,7 +10,7 @@ use Rattle.html_c.proofs.tree.parsed.Goals as goal
 
 pub returns-in_err-parser : goal.returns-in_err-parser
 returns-in_err-parser c =
-    not_begun (options_of c.args.options.now) (name_of c.args.context) c.args.input.now c.from_residual.result c.in_err-parser.field-0.0 c.from_residual.ensures.1 c.in_err-parser.ensures
+    not_begun (options_of c.args.options.now) (name_of c.args.context) c.args.input.now c.from_residual.result c.in_err-parser.field-0.0 c.requires.context c.from_residual.ensures.1 c.in_err-parser.ensures
 
 pub returns : goal.returns
 returns c =

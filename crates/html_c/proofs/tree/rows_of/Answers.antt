@@ -1,12 +1,22 @@
-use Rattle.html_c.specs.Exports.{unmet_rows}
+use Rattle.html_c.specs.declared.fault.CallFault.TheVariants as fault
+use Rattle.html_c.proofs.Exports.{no_memory}
 use Rattle.html_c.proofs.Outcomes.{fails}
+use Rattle.html_c.proofs.Trees.{some_rows}
 use Rattle.html_c.proofs.tree.rows_of.Goals as goal
 
-pub returns-in_err-context : goal.returns-in_err-context
-returns-in_err-context c = fails c.from_residual.result c.in_err-context.field-0.0 _ _ c.from_residual.ensures.1 (unmet_rows c.in_err-context.ensures)
+pub returns-in_err-parsed : goal.returns-in_err-parsed
+returns-in_err-parsed c = fails c.from_residual.result c.in_err-parsed.field-0.0 _ _ c.from_residual.ensures.1 c.in_err-parsed.ensures
 
-pub returns-in_err-piece : goal.returns-in_err-piece
-returns-in_err-piece c = fails c.from_residual-in_err-piece.result c.in_err-piece.field-0.0 _ _ c.from_residual-in_err-piece.ensures.1 (unmet_rows c.in_err-piece.ensures)
+pub rows_in-rows-requires-clause-made : goal.rows_in-rows-requires-clause-made
+rows_in-rows-requires-clause-made c = c.in_ok-parsed.ensures.answers.1.made
 
-pub returns-in_err-lists : goal.returns-in_err-lists
-returns-in_err-lists c = fails c.from_residual-in_err-lists.result c.in_err-lists.field-0.0 _ _ c.from_residual-in_err-lists.ensures.1 (unmet_rows c.in_err-lists.ensures)
+pub rows_in-rows-requires-clause-names : goal.rows_in-rows-requires-clause-names
+rows_in-rows-requires-clause-names c = c.in_ok-parsed.ensures.answers.1.names_are
+
+pub returns-in_err-rows : goal.returns-in_err-rows
+returns-in_err-rows c =
+    fails c.from_residual-in_err-rows.result (fault.Refused c.in_err-rows.field-0.0) _ _ c.from_residual-in_err-rows.ensures.1
+    (no_memory c.args.input.now c.args.given.now c.in_ok-parsed.parsed c.in_ok-parsed.ensures c.in_err-rows.field-0.0 c.in_err-rows.ensures)
+
+pub returns : goal.returns
+returns c = some_rows c.args.input.now c.args.given.now c.in_ok-parsed.parsed c.in_ok-rows.field-0 c.in_ok-parsed.ensures c.in_ok-rows.ensures

@@ -4,6 +4,8 @@ use Rattle.html_c.proofs.answer.Given.options.Goals as goal
 
 pub returns : goal.returns
 returns c = record {
+  context = c.requires.context;
+  piece = c.requires.piece;
   table = c.requires.lists.0;
   quirks = c.requires.lists.1;
   bad_bytes = c.requires.bad_bytes;

@@ -1,0 +1,31 @@
+use Rattle.std.proofs.Common.{sym, ◌∙◌}
+use Rattle.html_c.specs.Page.{no_tree, unescaped}
+use Rattle.html_c.specs.declared.fault.CallFault.TheVariants as fault
+use Rattle.html_c.proofs.Exports.{a_page, no_memory}
+use Rattle.html_c.proofs.Outcomes.{fails}
+use Rattle.html_c.proofs.page.page_of.Goals as goal
+
+pub returns-in_err-escaping-clause-says : goal.returns-in_err-escaping-clause-says
+returns-in_err-escaping-clause-says c = fails c.from_residual.result c.in_err-escaping.field-0.0 _ _ c.from_residual.ensures.1 (unescaped c.in_err-escaping.ensures)
+
+pub returns-in_err-parsed-clause-says : goal.returns-in_err-parsed-clause-says
+returns-in_err-parsed-clause-says c = fails c.from_residual-in_err-parsed.result c.in_err-parsed.field-0.0 _ _ c.from_residual-in_err-parsed.ensures.1 (no_tree c.in_err-parsed.ensures)
+
+pub page_in-page-requires-clause-made : goal.page_in-page-requires-clause-made
+page_in-page-requires-clause-made c = c.in_ok-parsed.ensures.answers.1.made
+
+pub page_in-page-requires-clause-table : goal.page_in-page-requires-clause-table
+page_in-page-requires-clause-table c = c.in_ok-parsed.ensures.answers.1.table
+
+pub page_in-page-requires-clause-names : goal.page_in-page-requires-clause-names
+page_in-page-requires-clause-names c = c.in_ok-parsed.ensures.answers.1.names_are
+
+pub returns-in_err-page-clause-says : goal.returns-in_err-page-clause-says
+returns-in_err-page-clause-says c =
+    fails c.from_residual-in_err-page.result (fault.Refused c.in_err-page.field-0.0) _ _ c.from_residual-in_err-page.ensures.1
+    (no_tree (no_memory c.args.input.now c.args.given.now c.in_ok-parsed.parsed c.in_ok-parsed.ensures c.in_err-page.field-0.0 c.in_err-page.ensures.made))
+
+pub returns-clause-says : goal.returns-clause-says
+returns-clause-says c =
+    a_page c.args.input.now c.args.given.now c.in_ok-parsed.parsed c.in_ok-parsed.ensures c.in_ok-escaping.escaping c.in_ok-escaping.ensures c.args.number c.in-Some.wants c.in_ok-page.field-0
+    (sym c.wants_of.ensures ∙ c.in-Some.is) c.in_ok-page.ensures.made

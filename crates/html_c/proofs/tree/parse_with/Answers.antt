@@ -1,0 +1,34 @@
+use Rattle.std.proofs.Common.{subst, sym}
+use Rattle.hparse.specs.Parsing.{options_of}
+use Rattle.hwrite.specs.Command.{name_of}
+use Rattle.hwrite.specs.Context.{AllowsContext}
+use Rattle.html_c.specs.Exports.{unmet_rows}
+use Rattle.html_c.specs.Given.{IsPiece}
+use Rattle.html_c.specs.declared.fault.CallFault.TheVariants as fault
+use Rattle.html_c.proofs.Exports.{a_parse, no_parse}
+use Rattle.html_c.proofs.Outcomes.{fails}
+use Rattle.html_c.proofs.tree.parse_with.Goals as goal
+
+pub returns-in_err-bad_bytes : goal.returns-in_err-bad_bytes
+returns-in_err-bad_bytes c = fails c.from_residual.result c.in_err-bad_bytes.field-0.0 _ _ c.from_residual.ensures.1 (unmet_rows c.in_err-bad_bytes.ensures)
+
+pub returns-in_err-limits : goal.returns-in_err-limits
+returns-in_err-limits c = fails c.from_residual-in_err-limits.result c.in_err-limits.field-0.0 _ _ c.from_residual-in_err-limits.ensures.1 (unmet_rows c.in_err-limits.ensures)
+
+pub options-options-requires-clause-piece : goal.options-options-requires-clause-piece
+options-options-requires-clause-piece c = subst IsPiece c.requires.piece.0 c.requires.piece.1
+
+pub parsed-requires-clause-context : goal.parsed-requires-clause-context
+parsed-requires-clause-context c = subst AllowsContext (sym c.requires.context) c.requires.allowed
+
+pub parsed-requires-clause-piece : goal.parsed-requires-clause-piece
+parsed-requires-clause-piece c = c.requires.piece.1.0
+
+pub returns-in_err-parsed : goal.returns-in_err-parsed
+returns-in_err-parsed c =
+    fails c.from_residual-in_err-parsed.result (fault.Refused c.in_err-parsed.field-0.0) _ _ c.from_residual-in_err-parsed.ensures.1
+    (no_parse c.args.input.now c.args.given.now (options_of c.options-options.result) c.options-options.ensures (name_of c.args.context) c.requires.context c.in_err-parsed.field-0.0 c.in_err-parsed.ensures)
+
+pub returns : goal.returns
+returns c =
+    a_parse c.args.input.now c.args.given.now (options_of c.options-options.result) c.options-options.ensures (name_of c.args.context) c.requires.context c.in_ok-parsed.field-0 c.in_ok-parsed.ensures

@@ -1,0 +1,83 @@
+-- A page: the tree of an input, its parse errors and its HTML.
+use Rattle.std.specs.Prelude.{◌≡◌, ◌==◌, ◌%◌, ℕ, Bool, true, false, ◌&&◌, if◌then◌else◌, List, [], length, nat_le, nat_lt, Option, None, Some}
+use Rattle.hserialize.specs.declared.escaping.Escaping.{Escaping}
+use Rattle.html_c.specs.Exports.{GivesRows, GivesNoRows, GivesText}
+use Rattle.html_c.specs.Faults.{at_of, detail_of, status_of}
+use Rattle.html_c.specs.Given.{escaping_told, NoEscaping}
+use Rattle.html_c.specs.Room.{put_over}
+use Rattle.html_c.specs.declared.answer.Given.{Given}
+use Rattle.html_c.specs.declared.answer.NodeRow.{NodeRow}
+use Rattle.html_c.specs.declared.answer.PageAnswer.{PageAnswer}
+use Rattle.html_c.specs.declared.fault.CallFault.{CallFault}
+use Rattle.html_c.specs.declared.fault.CallFault.TheVariants as fault
+use Rattle.html_c.specs.declared.page.Wants.{Wants}
+
+-- the parts of a page, or the rooms for them
+pub record Parts : Type 0 where
+  pub rows : List NodeRow
+  pub words : List ℕ
+  pub errors : List ℕ
+  pub text : List ℕ
+
+abbrev pub parts : List NodeRow → (words errors text : List ℕ) → Parts
+parts rows words errors text = record { rows = rows; words = words; errors = errors; text = text }
+
+-- whether all parts fit their rooms
+abbrev pub all_fit : Parts → Parts → Bool
+all_fit page rooms =
+    nat_le (length page.rows) (length rooms.rows) && (nat_le (length page.words) (length rooms.words)
+    && (nat_le (length page.errors) (length rooms.errors) && nat_le (length page.text) (length rooms.text)))
+
+-- the parts over the beginnings of their rooms, if all of them fit
+abbrev pub put_parts : Parts → Parts → Parts
+put_parts page rooms =
+    let fits = all_fit page rooms in
+    parts (put_over fits page.rows rooms.rows) (put_over fits page.words rooms.words)
+    (put_over fits page.errors rooms.errors) (put_over fits page.text rooms.text)
+
+-- the answer to a page that fits or does not, and to none
+abbrev pub page_answer : Bool → Parts → PageAnswer
+page_answer fits page = record {
+  status = if fits then 0 else 13;
+  detail = 0;
+  at = 0;
+  nodes = length page.rows;
+  words = length page.words;
+  errors = length page.errors;
+  text = length page.text;
+}
+
+abbrev pub page_fault : CallFault → PageAnswer
+page_fault fault = record { status = status_of fault; detail = detail_of fault; at = at_of fault; nodes = 0; words = 0; errors = 0; text = 0 }
+
+-- what is wanted beside the tree: 1 the errors, 2 the HTML, 3 both
+abbrev pub wants_told : ℕ → Option Wants
+wants_told number = if nat_lt number 4 then Some (record { errors = number % 2 == 1; text = nat_le 2 number }) else None
+
+-- the text of the task of a number where it is wanted, and nothing where it is not
+abbrev pub GivesWanted : Bool → ℕ → List ℕ → Given → List ℕ → Type 0
+GivesWanted true number input given text = GivesText number input given text
+GivesWanted false number input given text = text ≡ []
+
+-- What is given is accepted, and this is the page: the tree, the text of the task Errors (2) and that of Write (3).
+pub record GivesPage (number : ℕ) (input : List ℕ) (given : Given) (page : Parts) : Type 0 where
+  pub wants : Wants
+  pub how : Escaping
+  pub wants_are : wants_told number ≡ Some wants
+  pub how_is : escaping_told given.escaping ≡ Some how
+  pub tree : GivesRows input given page.rows page.words
+  pub errors : GivesWanted wants.errors 2 input given page.errors
+  pub text : GivesWanted wants.text 3 input given page.text
+
+-- There is no page, for this reason.
+pub data GivesNoPage (number : ℕ) (input : List ℕ) (given : Given) (why : CallFault) : Type 0 where
+  no_wants : wants_told number ≡ None → why ≡ fault.BadNumber → GivesNoPage number input given why
+  unescaped : NoEscaping given why → GivesNoPage number input given why
+  no_tree : GivesNoRows input given why → GivesNoPage number input given why
+
+-- All parts are written where all of them fit, and their lengths are answered; or why there is no page, and nothing is written.
+pub data AnswersPage (number : ℕ) (input : List ℕ) (given : Given) (old new : Parts) (answer : PageAnswer) : Type 0 where
+  page_answered : (page : Parts) → GivesPage number input given page → new ≡ put_parts page old → answer ≡ page_answer (all_fit page old) page
+      → AnswersPage number input given old new answer
+  no_page_answered : (why : CallFault) → GivesNoPage number input given why → new ≡ old → answer ≡ page_fault why
+      → AnswersPage number input given old new answer

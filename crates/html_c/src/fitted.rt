@@ -1,0 +1,111 @@
+//! A text of which no more is kept than has room.
+
+ghost use Rattle.std.specs.Prelude.{◌≡◌, ◌≤◌, length};
+
+use crate::history::History;
+use crate::room::put;
+use hserialize::Target;
+use names::Refusal;
+use std::alloc::Global;
+
+/// The length of a text, and its bytes if they fit into a room.
+#[derive(Drop)]
+pub(crate) struct Fitted {
+    kept: Vec<u8>,
+    pub(crate) room: usize,
+    pub(crate) count: usize,
+    all: History,
+    failures: u64,
+    ghost counted: { count ≡ length all.bytes },
+    ghost whole: { count ≤ room → kept.items ≡ all.bytes },
+    ghost within: { length kept.items ≤ room },
+}
+
+impl Fitted {
+    ghost use Rattle.std.specs.Prelude.{◌++◌, ℕ, List, [], Some, None, true, nat_le};
+    ghost use Rattle.hserialize.specs.Output.{WritesText};
+    ghost use Rattle.html_c.specs.Fitted.{failures_of, IsFitted, text_of, written};
+    ghost use Rattle.html_c.specs.Room.{put_over};
+
+    /// No text yet.
+    pub(crate) fn new(alloc: Global, room: usize) -> Fitted
+        ensures empty { text_of result ≡ [] }
+        ensures room { result.room ≡ room }
+    {
+        Fitted {
+            kept: Vec::new(alloc),
+            room,
+            count: 0,
+            all: History::new(),
+            failures: 0,
+        }
+    }
+
+    /// Adds bytes, unless there is no memory for them.
+    fn add(&mut self, bytes: &[u8]) -> Option<()>
+        ensures added { result ≡ Some tt → text_of self.new ≡ text_of self.old ++ bytes.now }
+        ensures none { result ≡ None → text_of self.new ≡ text_of self.old }
+        ensures room { self.new.room ≡ self.old.room }
+        ensures failures { failures_of self.new ≡ failures_of self.old }
+    {
+        let count = self.count.checked_add(bytes.len())?;
+        if count <= self.room {
+            self.kept.extend_from_slice(bytes).ok()?;
+        }
+        self.all = self.all.with(bytes);
+        self.count = count;
+        Some(())
+    }
+
+    /// The text that was written, if all of it was: what fails is memory alone.
+    pub(crate) fn written(self, answer: Result<(), Refusal>) -> Result<Fitted, Refusal>
+        ensures { (text : List ℕ) (old : Fitted) → text_of old ≡ []
+            → WritesText written failures_of text old self answer → IsFitted old.room text result }
+    {
+        match answer {
+            Ok(()) => Ok(self),
+            Err(_) => Err(Refusal::Memory),
+        }
+    }
+
+    /// Whether it fits its room.
+    pub(crate) fn fits(&self, room: &[u8]) -> bool
+        requires { self.now.room ≡ length room.now }
+        ensures { result ≡ nat_le (length (text_of self.now)) (length room.now) }
+    {
+        self.count <= room.len()
+    }
+
+    /// Writes it to the beginning of its room, if it is to be written.
+    pub(crate) fn put(&self, fits: bool, room: &mut [u8])
+        requires room { self.now.room ≡ length room.old }
+        requires fits { fits ≡ true → length (text_of self.now) ≤ length room.old }
+        ensures { room.new ≡ put_over fits (text_of self.now) room.old }
+    {
+        put(fits, &self.kept, room);
+    }
+}
+
+impl Target for Fitted {
+    ghost use Rattle.html_c.specs.Fitted.{failures_of, written};
+
+    ghost written = { written };
+
+    ghost failed = { failures_of };
+
+    fn write(&mut self, bytes: &[u8]) -> Option<usize> {
+        if self.add(bytes).is_none() {
+            self.failures = self.failures.saturating_add(1);
+            return None;
+        }
+        Some(bytes.len())
+    }
+
+    fn flush(&mut self) -> bool {
+        true
+    }
+
+    fn failures(&self) -> u64 {
+        self.failures
+    }
+}

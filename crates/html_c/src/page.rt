@@ -1,0 +1,192 @@
+//! A page: the tree of an input, its parse errors and its HTML, by one parse.
+
+ghost use Rattle.std.specs.Prelude.{◌≡◌, ◌<◌, if◌then◌else◌, ℕ, List, [], length, None, IfOk, MatchResult};
+ghost use Rattle.names.specs.Names.{AreNames};
+ghost use Rattle.names.specs.declared.refusal.Refusal.TheVariants.{Memory};
+ghost use Rattle.hnodes.specs.Forest.{children_of};
+ghost use Rattle.hnodes.specs.Named.{AreOf};
+ghost use Rattle.hprint.specs.Lines.{error_lines};
+ghost use Rattle.hwrite.specs.Prints.{parsed_text};
+ghost use Rattle.hwrite.specs.declared.command.Task.TheVariants as task;
+ghost use Rattle.html_c.specs.Fitted.{IsFitted};
+ghost use Rattle.html_c.specs.Page.{all_fit, page_answer, parts, put_parts, wants_told, GivesNoPage, GivesPage};
+ghost use Rattle.html_c.specs.Parts.{parts_of};
+ghost use Rattle.html_c.specs.Trees.{IsPage};
+
+use crate::answer::{Given, NodeRow, PageAnswer};
+use crate::fault::CallFault;
+use crate::fitted::Fitted;
+use crate::room::{put, status};
+use crate::rows::Rows;
+use crate::tree::{parse_of, rows_in};
+use hparse::Parsed;
+use hwrite::{Escaping, print_errors, serialize};
+use names::{ParseError, Refusal};
+use std::alloc::Global;
+
+/// What is wanted of a page beside its tree.
+#[derive(Clone, Copy)]
+pub(crate) struct Wants {
+    pub(crate) errors: bool,
+    pub(crate) text: bool,
+}
+
+/// The parts of a page. One that is not wanted is empty.
+#[derive(Drop)]
+pub(crate) struct Page {
+    pub(crate) tree: Rows,
+    pub(crate) errors: Fitted,
+    pub(crate) text: Fitted,
+}
+
+/// What is wanted, by its number.
+fn wants_of(number: u32) -> Option<Wants>
+    ensures { result ≡ wants_told number }
+{
+    if number < 4 {
+        Some(Wants {
+            errors: number % 2 == 1,
+            text: number >= 2,
+        })
+    } else {
+        None
+    }
+}
+
+/// The lines of parse errors, if they are wanted.
+fn errors_in(
+    alloc: Global,
+    wanted: bool,
+    errors: &[ParseError],
+    room: usize,
+) -> Result<Fitted, Refusal>
+    ensures { IsFitted room (if wanted then error_lines errors.now else []) result }
+{
+    let mut text = Fitted::new(alloc, room);
+    if !wanted {
+        return Ok(text);
+    }
+    let answer = print_errors(alloc, errors, &mut text);
+    text.written(answer)
+}
+
+/// What was parsed as HTML, if it is wanted.
+fn html_in(
+    alloc: Global,
+    wanted: bool,
+    escaping: Escaping,
+    parsed: &Parsed,
+    room: usize,
+) -> Result<Fitted, Refusal>
+    requires made { parsed.now.root < parsed.now.tree.made }
+    requires table { AreNames parsed.now.names }
+    requires names { AreOf parsed.now.names (children_of parsed.now.root parsed.now.tree.trees) }
+    ensures { IsFitted room (if wanted then parsed_text escaping task.Write None parsed.now else []) result }
+{
+    let mut text = Fitted::new(alloc, room);
+    if !wanted {
+        return Ok(text);
+    }
+    let answer = serialize(
+        alloc,
+        &parsed.tree,
+        &parsed.names,
+        parsed.root,
+        escaping,
+        &mut text,
+    );
+    text.written(answer)
+}
+
+/// The page of what was parsed.
+fn page_in(
+    alloc: Global,
+    wants: Wants,
+    escaping: Escaping,
+    parsed: &Parsed,
+    error_room: usize,
+    text_room: usize,
+) -> Result<Page, Refusal>
+    requires made { parsed.now.root < parsed.now.tree.made }
+    requires table { AreNames parsed.now.names }
+    requires names { AreOf parsed.now.names (children_of parsed.now.root parsed.now.tree.trees) }
+    ensures made { MatchResult result (IsPage wants escaping parsed.now) (λ refusal. refusal ≡ Memory) }
+    ensures rooms { IfOk result (λ page. (page.errors.room ≡ error_room) × (page.text.room ≡ text_room)) }
+{
+    let tree = rows_in(alloc, parsed)?;
+    let errors = errors_in(alloc, wants.errors, &parsed.errors, error_room)?;
+    let text = html_in(alloc, wants.text, escaping, parsed, text_room)?;
+    Ok(Page { tree, errors, text })
+}
+
+/// The page of an input.
+pub(crate) fn page_of(
+    alloc: Global,
+    number: u32,
+    input: &[u8],
+    given: &Given,
+    error_room: usize,
+    text_room: usize,
+) -> Result<Page, CallFault>
+    ensures says { MatchResult result (λ page. GivesPage number input.now given.now (parts_of page)) (GivesNoPage number input.now given.now) }
+    ensures rooms { IfOk result (λ page. (page.errors.room ≡ error_room) × (page.text.room ≡ text_room)) }
+{
+    let Some(wants) = wants_of(number) else {
+        return Err(CallFault::BadNumber);
+    };
+    let escaping = given.escaping()?;
+    let parsed = parse_of(alloc, input, given)?;
+    let page = page_in(alloc, wants, escaping, &parsed, error_room, text_room);
+    drop(parsed);
+    Ok(page?)
+}
+
+impl Page {
+    /// Whether all parts fit their rooms.
+    fn fits(&self, rows: &[NodeRow], words: &[u8], errors: &[u8], text: &[u8]) -> bool
+        requires errors { self.now.errors.room ≡ length errors.now }
+        requires text { self.now.text.room ≡ length text.now }
+        ensures { result ≡ all_fit (parts_of self.now) (parts rows.now words.now errors.now text.now) }
+    {
+        self.tree.nodes.len() <= rows.len()
+            && self.tree.words.len() <= words.len()
+            && self.errors.fits(errors)
+            && self.text.fits(text)
+    }
+
+    /// How long the parts are, which fit or do not.
+    fn answer(&self, fits: bool) -> PageAnswer
+        ensures { result ≡ page_answer fits (parts_of self.now) }
+    {
+        PageAnswer {
+            status: status(fits),
+            detail: 0,
+            at: 0,
+            nodes: self.tree.nodes.len() as u64,
+            words: self.tree.words.len() as u64,
+            errors: self.errors.count as u64,
+            text: self.text.count as u64,
+        }
+    }
+
+    /// Writes all parts to the beginnings of their rooms, if all of them fit.
+    pub(crate) fn put(
+        &self,
+        rows: &mut [NodeRow],
+        words: &mut [u8],
+        errors: &mut [u8],
+        text: &mut [u8],
+    ) -> PageAnswer
+        requires errors { self.now.errors.room ≡ length errors.old }
+        requires text { self.now.text.room ≡ length text.old }
+        ensures put { parts rows.new words.new errors.new text.new ≡ put_parts (parts_of self.now) (parts rows.old words.old errors.old text.old) }
+        ensures answer { result ≡ page_answer (all_fit (parts_of self.now) (parts rows.old words.old errors.old text.old)) (parts_of self.now) }
+    {
+        let fits = self.fits(rows, words, errors, text);
+        put(fits, &self.tree.nodes, rows);
+        put(fits, &self.tree.words, words);
+        self.errors.put(fits, errors);
+        self.text.put(fits, text);
+        self.answer(fits)
+    }
+}
