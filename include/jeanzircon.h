@@ -1,8 +1,8 @@
 /* Jeanzircon: HTML as the WHATWG HTML Standard reads it, and so do browsers (known differences: docs/PROFILE.md). The header of the
  * library for C.
  *
- * The functions of the library, jz_version, jz_text and jz_tree, are proved: what they promise is said at each. What else is here is
- * plain C that prepares their arguments and indexes what they wrote.
+ * The functions of the library, jz_version, jz_text, jz_tree, jz_page and jz_table, are proved: what they promise is said at each. What
+ * else is here is plain C that prepares their arguments and indexes what they wrote.
  *
  * Who owns what. Every buffer is the caller's. The library keeps no pointer after a call, and has no state of its own: nothing is
  * opened, and nothing but a jz_doc (below) is to be freed.
@@ -41,15 +41,15 @@ enum {
     JZ_TOO_MANY_NODES = 4,
     JZ_TOO_DEEP = 5,
     JZ_MEMORY = 6,
-    JZ_BAD_CONTEXT = 8, /* no fragment may be in an element of this name */
+    JZ_BAD_CONTEXT = 8, /* no fragment may be in an element of this name; or JZ_TOKENS of a fragment, JZ_PLAIN of a document */
     JZ_BAD_TABLE = 9,   /* `detail` says what is wrong (jz_detail_name) */
     JZ_BAD_QUIRKS = 10,
     JZ_BAD_LIMITS = 11,
     /* Faults of the call. */
     JZ_TOO_SHORT = 13,  /* there is too little room: the answer says how much is needed */
     JZ_NOT_TEXT = 14,   /* the context's name or a list is not UTF-8 */
-    JZ_BAD_NUMBER = 15, /* a task, an escaping, a piece or a choice on bad bytes that is none */
-    JZ_NULL = 16        /* a null pointer where there must be none; returned by the functions below, not by jz_text and jz_tree */
+    JZ_BAD_NUMBER = 15, /* a task, a wish, an escaping, a piece or a choice on bad bytes that is none */
+    JZ_NULL = 16        /* a null pointer where there must be none; returned by the plain C below, not by the library */
 };
 
 /* The tasks of jz_text: what is made of the input. The forms of the lines are in docs/PROFILE.md. */
@@ -72,14 +72,14 @@ typedef struct jz_bytes {
 /* What is given with the input. Begin with JZ_DEFAULTS, and change what you need. */
 typedef struct jz_options {
     jz_bytes context;   /* the name of the element in which a fragment is; empty: the input is a document */
-    jz_bytes entities;  /* the table of character references as JSON (data/entities.json); empty: five of them */
+    jz_bytes entities;  /* the table of character references: JSON (data/entities.json), or what jz_table made of it; empty: five of them */
     jz_bytes quirks;    /* the quirks list (data/quirks.txt); empty: no list */
     uint64_t nodes;     /* the most nodes: 16 to 16,777,216 */
     uint64_t open;      /* the most open elements: 16 to 1,048,576 */
     uint64_t piece;     /* how many bytes are read at a time: 1 to 65,536; no answer depends on it */
     uint64_t key_low;   /* 16 random bytes, drawn once a program, where the input is not trusted: with keys that are known a */
     uint64_t key_high;  /* page can be made that takes the square of its length. No answer depends on them */
-    uint32_t escaping;  /* of JZ_WRITE: 1, or 2, which escapes < and > in attribute values */
+    uint32_t escaping;  /* of HTML: 1, or 2, which escapes < and > in attribute values */
     uint32_t bad_bytes; /* 0 refuses bytes that are not UTF-8; 1 reads each bad part as U+FFFD */
 } jz_options;
 
@@ -97,7 +97,8 @@ typedef struct jz_answer {
 /* Makes the text of a task of an input, and writes it to the beginning of `output`, if `room` is enough.
  *
  * Promised: the text is the one that the program prints for the same input and options, however it is read in pieces. Where the status
- * is not JZ_OK, nothing is written; at JZ_TOO_SHORT `answer->length` is the room that is needed.
+ * is not JZ_OK, nothing is written; at JZ_TOO_SHORT `answer->length` is the room that is needed. No more of the text than there is room
+ * for is ever kept in memory.
  * Required, and not checked: no pointer is null, those in `options` neither, nor `output` where `room` is 0 (jz_text_room asks for the
  * room without one); `input` is readable for `length` bytes and `output` writable for `room`; `output` and `answer` overlap nothing
  * else that is handed in; each length is below 2^63; nobody writes to what is lent, nor reads `output` and `answer`, until the call
@@ -129,6 +130,37 @@ enum { JZ_DOCUMENT = 0, JZ_DOCTYPE = 1, JZ_ELEMENT = 2, JZ_COMMENT = 3, JZ_TEXT_
 uint32_t jz_tree(const uint8_t *input, size_t length, const jz_options *options, jz_row *rows, size_t row_room, uint8_t *words,
                  size_t word_room, jz_answer *answer);
 
+/* What jz_page makes beside the tree: a sum of these, or 0. */
+enum { JZ_WANT_ERRORS = 1, JZ_WANT_TEXT = 2 };
+
+/* How a call of jz_page went. A length is answered whether there was room or not; that of a part that is not wanted is 0. */
+typedef struct jz_page_answer {
+    uint32_t status; /* this and the next two as in jz_answer */
+    uint32_t detail;
+    uint64_t at;
+    uint64_t nodes;  /* the nodes of the tree */
+    uint64_t words;  /* the bytes of their words */
+    uint64_t errors; /* the bytes of the lines of parse errors */
+    uint64_t text;   /* the bytes of the HTML */
+} jz_page_answer;
+
+/* Makes the tree of an input, and the lines of its parse errors and its HTML where they are wanted, all by one parse.
+ *
+ * Promised: rows and words are those of jz_tree, `errors` is the text of JZ_ERRORS, and `text` that of JZ_WRITE. Where the status is not
+ * JZ_OK, nothing is written to any room; at JZ_TOO_SHORT the answer has the rooms that are needed.
+ * Required, and not checked: as at jz_text, of all four rooms. No two of them overlap. */
+uint32_t jz_page(uint32_t wants, const uint8_t *input, size_t length, const jz_options *options, jz_row *rows, size_t row_room,
+                 uint8_t *words, size_t word_room, uint8_t *errors, size_t error_room, uint8_t *text, size_t text_room,
+                 jz_page_answer *answer);
+
+/* Writes the flat form of a table of character references to the beginning of `output`, if `room` is enough. `entities` is as in
+ * jz_options. The flat form is read in far less time than JSON: make it once, and hand it in as the table of each call.
+ *
+ * Promised: it is a form of the same table, so that no answer changes. Where the status is not JZ_OK, nothing is written; at
+ * JZ_TOO_SHORT `answer->length` is the room that is needed. JZ_NOT_TEXT and JZ_BAD_TABLE are as at jz_text.
+ * Required, and not checked: as at jz_text. */
+uint32_t jz_table(const uint8_t *entities, size_t length, uint8_t *output, size_t room, jz_answer *answer);
+
 /* The layouts that the library has, whose pointers are of 64 bits. A compiler that lays out another stops here. */
 #if defined __cplusplus && __cplusplus >= 201103L
 #define JZ_IS(name, condition) static_assert(condition, #name)
@@ -146,6 +178,9 @@ JZ_IS(jz_layout_of_options, sizeof(jz_options) == 96 && JZ_HAS(jz_options, conte
       && JZ_HAS(jz_options, escaping, 88, 4) && JZ_HAS(jz_options, bad_bytes, 92, 4));
 JZ_IS(jz_layout_of_answer, sizeof(jz_answer) == 32 && JZ_HAS(jz_answer, status, 0, 4) && JZ_HAS(jz_answer, detail, 4, 4)
       && JZ_HAS(jz_answer, at, 8, 8) && JZ_HAS(jz_answer, length, 16, 8) && JZ_HAS(jz_answer, nodes, 24, 8));
+JZ_IS(jz_layout_of_page_answer, sizeof(jz_page_answer) == 48 && JZ_HAS(jz_page_answer, status, 0, 4)
+      && JZ_HAS(jz_page_answer, detail, 4, 4) && JZ_HAS(jz_page_answer, at, 8, 8) && JZ_HAS(jz_page_answer, nodes, 16, 8)
+      && JZ_HAS(jz_page_answer, words, 24, 8) && JZ_HAS(jz_page_answer, errors, 32, 8) && JZ_HAS(jz_page_answer, text, 40, 8));
 JZ_IS(jz_layout_of_row, sizeof(jz_row) == 20 && JZ_HAS(jz_row, number, 0, 4) && JZ_HAS(jz_row, kind, 4, 4)
       && JZ_HAS(jz_row, parent, 8, 4) && JZ_HAS(jz_row, first_child, 12, 4) && JZ_HAS(jz_row, next, 16, 4));
 #undef JZ_HAS
