@@ -1,6 +1,7 @@
 pub mod Exports
 pub mod Listing
 pub mod Outcomes
+pub mod Tables
 pub mod Texts
 pub mod Trees
 pub mod Words

@@ -1,11 +1,8 @@
 -- What comes of a call that is passed up.
-use Rattle.std.proofs.Common.{◌≡◌, ℕ, Bool, true, false, List, [], Result, Ok, Err, MatchResult, length, sym, subst}
-use Rattle.std.specs.Prelude.{IsErrAnd, ◌==◌, if◌then◌else◌}
+use Rattle.std.proofs.Common.{◌≡◌, ℕ, Bool, true, List, [], Result, Ok, Err, MatchResult, sym, subst}
+use Rattle.std.specs.Prelude.{IsErrAnd, if◌then◌else◌}
 use Rattle.names.specs.declared.refusal.Refusal.{Refusal}
-use Rattle.names.specs.declared.refusal.Refusal.TheVariants.{Memory}
-use Rattle.charref.specs.Reading.{table_of, IsRefusedWith}
 use Rattle.html_c.specs.Fitted.{IsFitted}
-use Rattle.html_c.specs.Given.{table_told}
 use Rattle.html_c.specs.declared.fault.CallFault.{CallFault}
 use Rattle.html_c.specs.declared.fitted.Fitted.{Fitted}
 
@@ -22,9 +19,7 @@ pub fitted : (wanted : Bool) (room : ℕ) (text : List ℕ) (old : Fitted) (r : 
     → IsFitted room (if wanted then text else []) r
 fitted wanted room text old r is same h = rw is (subst (λ n. IsFitted n text r) same h)
 
--- the core table is refused for memory alone, and another for what its text is
-pub core_refused : (bytes : List ℕ) (e : Refusal) → (length bytes == 0) ≡ true → e ≡ Memory → IsRefusedWith (table_told bytes) e
-core_refused bytes e empty is = rw empty is
-
-pub text_refused : (bytes text : List ℕ) (e : Refusal) → (length bytes == 0) ≡ false → text ≡ bytes → IsRefusedWith (table_of text) e → IsRefusedWith (table_told bytes) e
-text_refused bytes text e filled same is = rw filled (subst (λ t. IsRefusedWith (table_of t) e) same is)
+-- the same of what is said of the whole outcome
+pub passed : {T : Type 0} (r : Result T CallFault) (f : CallFault) (P : Result T CallFault → Type 0) → IsErrAnd r (λ g. g ≡ f) → P (Err f) → P r
+passed (Ok x) f P is h = absurd is
+passed (Err g) f P is h = subst (λ (e : CallFault). P (Err e)) (sym is) h

@@ -1,11 +1,8 @@
 -- The options of a call: the meaning of what a caller hands in, and why it is not accepted.
-use Rattle.std.specs.Prelude.{◌≡◌, ◌<◌, ◌≤◌, ◌==◌, if◌then◌else◌, ℕ, Bool, true, false, List, length, [], ◌∷◌, Option, None, Some, Result, Ok, Err}
+use Rattle.std.specs.Prelude.{◌≡◌, ◌<◌, ◌≤◌, ◌==◌, if◌then◌else◌, ℕ, Bool, true, false, List, [], ◌∷◌, Option, None, Some, Ok, Err}
 use Rattle.std.specs.Str.{IsUtf8}
 use Rattle.names.specs.declared.refusal.Refusal.{Refusal}
 use Rattle.names.specs.declared.refusal.Refusal.TheVariants.{BadContext, BadLimits}
-use Rattle.names.specs.declared.refusal.TableFault.{TableFault}
-use Rattle.charref.specs.Reference.{Entities, core}
-use Rattle.charref.specs.Reading.{table_of, IsRefusedWith}
 use Rattle.hmarkup.specs.Quirks.{ReadsQuirks}
 use Rattle.htext.specs.declared.BadBytes.{BadBytes}
 use Rattle.htext.specs.declared.BadBytes.TheVariants as bad
@@ -19,6 +16,7 @@ use Rattle.hwrite.specs.declared.command.Task.{Task}
 use Rattle.hwrite.specs.declared.command.Task.TheVariants as task
 use Rattle.hserialize.specs.declared.escaping.Escaping.{Escaping}
 use Rattle.hserialize.specs.declared.escaping.Escaping.TheVariants.{One, Two}
+use Rattle.html_c.specs.Table.{ReadsTable}
 use Rattle.html_c.specs.declared.answer.Given.{Given}
 use Rattle.html_c.specs.declared.given.Lists.{Lists}
 use Rattle.html_c.specs.declared.fault.CallFault.{CallFault}
@@ -46,10 +44,6 @@ may_be_in task.Tokens (Some context) = false
 may_be_in task.Plain None = false
 may_be_in _ _ = true
 
--- the table of character references: the core table where its text is empty
-abbrev pub table_told : List ℕ → Result Entities TableFault
-table_told bytes = if length bytes == 0 then Ok core else table_of bytes
-
 -- no way of escaping is given
 abbrev pub NoEscaping : Given → CallFault → Type 0
 NoEscaping given why = (escaping_told given.escaping ≡ None) × (why ≡ fault.BadNumber)
@@ -66,12 +60,22 @@ bounds_told given = record { input = MAX_INPUT; tree = record { nodes = given.no
 pub record Tells (given : Given) (opts : ParseOptions) : Type 0 where
   pub context : AllowsContext (context_told given.context.now)
   pub piece : IsPiece given.piece
-  pub table : table_told given.entities.now ≡ Ok opts.table
+  pub table : ReadsTable given.entities.now (Ok opts.table)
   pub quirks : ReadsQuirks given.quirks.now (Ok opts.quirks)
   pub bad_bytes : bad_told given.bad_bytes ≡ Some opts.bad
   pub input_limit : opts.input ≡ (bounds_told given).input
   pub limits : opts.limits ≡ (bounds_told given).tree
   pub in_range : AreLimits (bounds_told given)
+
+-- Two givens are the same, but for their tables of character references.
+pub record AreSameButTables (given other : Given) : Type 0 where
+  pub context : given.context.now ≡ other.context.now
+  pub quirks : given.quirks.now ≡ other.quirks.now
+  pub nodes : given.nodes ≡ other.nodes
+  pub depth : given.open ≡ other.open
+  pub piece : given.piece ≡ other.piece
+  pub escaping : given.escaping ≡ other.escaping
+  pub bad_bytes : given.bad_bytes ≡ other.bad_bytes
 
 -- Something that is given is not accepted, for this reason.
 pub data Unmet (given : Given) (why : CallFault) : Type 0 where
@@ -79,15 +83,14 @@ pub data Unmet (given : Given) (why : CallFault) : Type 0 where
   no_piece : (IsPiece given.piece → ⊥) → why ≡ fault.BadNumber → Unmet given why
   no_context : (IsUtf8 given.context.now → ⊥) → why ≡ fault.NotText → Unmet given why
   context_refused : (AllowsContext (context_told given.context.now) → ⊥) → why ≡ fault.Refused BadContext → Unmet given why
-  no_table : (IsUtf8 given.entities.now → ⊥) → why ≡ fault.NotText → Unmet given why
+  no_table : ReadsTable given.entities.now (Err why) → Unmet given why
   no_quirks : (IsUtf8 given.quirks.now → ⊥) → why ≡ fault.NotText → Unmet given why
-  table_refused : (refusal : Refusal) → IsRefusedWith (table_told given.entities.now) refusal → why ≡ fault.Refused refusal → Unmet given why
   quirks_refused : (refusal : Refusal) → ReadsQuirks given.quirks.now (Err refusal) → why ≡ fault.Refused refusal → Unmet given why
   limits_refused : (AreLimits (bounds_told given) → ⊥) → why ≡ fault.Refused BadLimits → Unmet given why
 
 -- These are the lists that are given.
 abbrev pub HasLists : Given → Lists → Type 0
-HasLists given lists = (table_told given.entities.now ≡ Ok lists.table) × ReadsQuirks given.quirks.now (Ok lists.quirks)
+HasLists given lists = ReadsTable given.entities.now (Ok lists.table) × ReadsQuirks given.quirks.now (Ok lists.quirks)
 
 -- These are the limits that are given.
 abbrev pub HasLimits : Given → Bounds → Type 0

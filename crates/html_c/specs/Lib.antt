@@ -8,5 +8,6 @@ pub mod Page
 pub mod Parts
 pub mod Room
 pub mod Rows
+pub mod Table
 pub mod Trees
 pub mod Version

@@ -9,7 +9,7 @@ use std::mem::size_of;
 pub struct Given<'a> {
     /// The name of the element in which a fragment is.
     pub context: &'a [u8],
-    /// The table of character references, as JSON.
+    /// The table of character references: JSON, or a flat form of `jz_table`.
     pub entities: &'a [u8],
     /// The quirks list.
     pub quirks: &'a [u8],

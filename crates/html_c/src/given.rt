@@ -5,12 +5,13 @@ ghost use Rattle.hmarkup.specs.Quirks.{ReadsQuirks};
 ghost use Rattle.hparse.specs.Parsing.{options_of};
 ghost use Rattle.hwrite.specs.Command.{name_of};
 ghost use Rattle.hwrite.specs.Context.{AllowsContext};
-ghost use Rattle.html_c.specs.Given.{bad_told, context_told, escaping_told, may_be_in, table_told, task_told};
+ghost use Rattle.html_c.specs.Given.{bad_told, context_told, escaping_told, may_be_in, task_told};
 ghost use Rattle.html_c.specs.Given.{HasLimits, HasLists, IsCommand, IsPiece, NoCommand, NoEscaping, Tells, Unmet};
 ghost use Rattle.html_c.specs.declared.fault.CallFault.TheVariants as fault;
 
 use crate::answer::Given;
 use crate::fault::CallFault;
+use crate::table::table_of;
 use charref::Table;
 use hmarkup::Quirks;
 use hmodes::Limits;
@@ -122,19 +123,6 @@ impl<'a> Given<'a> {
         }
     }
 
-    /// The table of character references.
-    fn table(&self, alloc: Global) -> Result<Table, CallFault>
-        ensures { MatchResult result (λ table. table_told self.now.entities.now ≡ Ok table) (Unmet self.now) }
-    {
-        if self.entities.is_empty() {
-            return Ok(Table::core(alloc)?);
-        }
-        match str::from_utf8(self.entities) {
-            Ok(text) => Ok(Table::read(alloc, text)?),
-            Err(_) => Err(CallFault::NotText),
-        }
-    }
-
     /// The quirks list.
     fn quirks(&self, alloc: Global) -> Result<Quirks, CallFault>
         ensures { MatchResult result (λ quirks. ReadsQuirks self.now.quirks.now (Ok quirks)) (Unmet self.now) }
@@ -169,7 +157,7 @@ impl<'a> Given<'a> {
     pub(crate) fn lists(&self, alloc: Global) -> Result<Lists, CallFault>
         ensures { MatchResult result (HasLists self.now) (Unmet self.now) }
     {
-        let table = self.table(alloc)?;
+        let table = table_of(alloc, self.entities)?;
         let quirks = self.quirks(alloc)?;
         Ok(Lists { table, quirks })
     }

@@ -5,6 +5,7 @@
 ghost use Rattle.std.specs.Prelude.{◌≡◌};
 ghost use Rattle.html_c.specs.Exports.{AnswersText, AnswersTree};
 ghost use Rattle.html_c.specs.Page.{parts, AnswersPage};
+ghost use Rattle.html_c.specs.Table.{AnswersTable};
 ghost use Rattle.html_c.specs.Version.{version};
 
 mod answer;
@@ -13,15 +14,18 @@ mod fitted;
 mod given;
 mod history;
 mod input;
+pub mod laws;
 mod page;
 mod room;
 mod rows;
+mod table;
 mod text;
 mod tree;
 
 use crate::answer::{Answer, Given, NodeRow, PageAnswer};
 use crate::page::page_of;
-use crate::room::{fault_answer, page_fault, put_rows, put_text};
+use crate::room::{fault_answer, page_fault, put_bytes, put_rows, put_text};
+use crate::table::table_of;
 use crate::text::text_of;
 use crate::tree::rows_of;
 use std::alloc::Global;
@@ -89,6 +93,25 @@ pub extern "C" fn jz_page(
     *answer = match page_of(alloc, wants, input, given, errors.len(), text.len()) {
         Ok(page) => page.put(rows, words, errors, text),
         Err(fault) => page_fault(fault),
+    };
+    answer.status
+}
+
+/// Writes the flat form of a table of character references to the beginning of `output` where it fits: of a JSON text, of a flat form, or
+/// of the core table where there are no bytes. Returns the status, which is that of the answer.
+#[unsafe(no_mangle)]
+pub extern "C" fn jz_table(
+    alloc: Global,
+    entities: &[u8],
+    output: &mut [u8],
+    answer: &mut Answer,
+) -> u32
+    ensures answers { AnswersTable entities.now output.old output.new answer.new }
+    ensures status { result ≡ answer.new.status }
+{
+    *answer = match table_of(alloc, entities) {
+        Ok(table) => put_bytes(table.as_flat(), output),
+        Err(fault) => fault_answer(fault),
     };
     answer.status
 }

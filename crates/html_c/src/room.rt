@@ -72,6 +72,16 @@ pub(crate) fn put<T: Copy>(fits: bool, items: &[T], room: &mut [T])
     }
 }
 
+/// Writes bytes to the beginning of a room, if they fit.
+pub(crate) fn put_bytes(bytes: &[u8], room: &mut [u8]) -> Answer
+    ensures room { room.new ≡ put_over (nat_le (length bytes.now) (length room.old)) bytes.now room.old }
+    ensures answer { result ≡ room_answer (nat_le (length bytes.now) (length room.old)) (length bytes.now) 0 }
+{
+    let fits = bytes.len() <= room.len();
+    put(fits, bytes, room);
+    room_answer(fits, bytes.len(), 0)
+}
+
 /// Writes a text to the beginning of its room, if it fits.
 pub(crate) fn put_text(text: &Fitted, room: &mut [u8]) -> Answer
     requires { text.now.room ≡ length room.old }

@@ -1,0 +1,103 @@
+-- Tables of character references, by what says them.
+use Rattle.std.proofs.Common.{◌≡◌, ◌∙◌, ℕ, List, Result, Ok, Err, inl, inr, ap, length, refl, subst, sym}
+use Rattle.std.specs.Prelude.{◌↔◌, nat_le}
+use Rattle.names.specs.declared.refusal.Refusal.{Refusal}
+use Rattle.names.specs.declared.refusal.TableFault.{TableFault}
+use Rattle.htext.specs.declared.decoder.TheConstants.{MAX_INPUT}
+use Rattle.charref.specs.Flat.{flat_of, IsReadable}
+use Rattle.charref.specs.Reading.{table_of, IsRefusedWith}
+use Rattle.charref.specs.Reference.{Entities}
+use Rattle.hmarkup.specs.Quirks.{ReadsQuirks}
+use Rattle.hmodes.specs.Bounds.{AreLimits}
+use Rattle.hparse.specs.Parse.{ParseOptions}
+use Rattle.hwrite.specs.Context.{AllowsContext}
+use Rattle.html_c.specs.Given.{AreSameButTables, IsPiece, Tells, bad_told, context_told}
+use Rattle.html_c.specs.Room.{put_over, room_answer}
+use Rattle.html_c.specs.Table.{AnswersTable, IsTableOf, ReadsTable, form_of, table_answered, table_read, table_ran_out, no_flat, no_json, no_text}
+use Rattle.html_c.specs.declared.answer.Answer.{Answer}
+use Rattle.html_c.specs.declared.answer.Given.{Given}
+use Rattle.html_c.specs.declared.fault.CallFault.{CallFault}
+use Rattle.html_c.specs.declared.fault.CallFault.TheVariants as fault
+use Rattle.html_c.specs.declared.table.Form.{Form}
+use Rattle.html_c.specs.declared.table.Form.TheVariants as form
+
+-- a JSON text is refused for its first fault
+refused_json : (bytes : List ℕ) (e : Refusal) (read : Result Entities TableFault) → table_of bytes ≡ read → form_of bytes ≡ form.Json → IsRefusedWith read e
+    → ReadsTable bytes (Err (fault.Refused e))
+refused_json bytes e (Ok table) read is memory = table_ran_out (ap (λ (x : Refusal). Err (fault.Refused x)) memory)
+refused_json bytes e (Err cause) read is (inl memory) = table_ran_out (ap (λ (x : Refusal). Err (fault.Refused x)) memory)
+refused_json bytes e (Err cause) read is (inr its) = no_json cause is read (ap (λ (x : Refusal). Err (fault.Refused x)) its)
+
+pub json_refused : (bytes text : List ℕ) (e : Refusal) → form_of bytes ≡ form.Json → text ≡ bytes → IsRefusedWith (table_of text) e → ReadsTable bytes (Err (fault.Refused e))
+json_refused bytes text e is same refused = refused_json bytes e (table_of bytes) refl is (subst (λ t. IsRefusedWith (table_of t) e) same refused)
+
+-- the table of a form is what is read
+pub table_is : (bytes : List ℕ) (table : Entities) (f : Form) → form_of bytes ≡ f → IsTableOf f bytes table → ReadsTable bytes (Ok table)
+table_is bytes table f is its = table_read table (subst (λ (x : Form). IsTableOf x bytes table) (sym is) its) refl
+
+-- with the bytes that are its flat form
+pub answered : (bytes old new flat : List ℕ) (answer : Answer) (table : Entities) → ReadsTable bytes (Ok table) → IsReadable table → flat ≡ flat_of table
+    → new ≡ put_over (nat_le (length flat) (length old)) flat old → answer ≡ room_answer (nat_le (length flat) (length old)) (length flat) 0 → AnswersTable bytes old new answer
+answered bytes old new flat answer table read readable is put its =
+    table_answered table read readable (subst (λ t. new ≡ put_over (nat_le (length t) (length old)) t old) is put)
+    (subst (λ t. answer ≡ room_answer (nat_le (length t) (length old)) (length t) 0) is its)
+
+abbrev the_ok : Entities → Result Entities TableFault
+the_ok table = Ok table
+
+one_ok : (table other : Entities) → the_ok table ≡ the_ok other → table ≡ other
+one_ok table other is = cc
+
+abbrev the_table : Entities → Result Entities CallFault
+the_table table = Ok table
+
+one_answer : (table other : Entities) → the_table table ≡ the_table other → other ≡ table
+one_answer table other is = cc
+
+said : (bytes : List ℕ) (table : Entities) → ReadsTable bytes (Ok table) → IsTableOf (form_of bytes) bytes table
+said bytes table (table_read other is same) = subst (IsTableOf (form_of bytes) bytes) (one_answer table other same) is
+said bytes table (table_ran_out same) = absurd cc
+said bytes table (no_flat is none same) = absurd cc
+said bytes table (no_json cause is its same) = absurd cc
+said bytes table (no_text is none same) = absurd cc
+
+told : (given other : Given) (opts : ParseOptions) → AreSameButTables given other → ReadsTable other.entities.now (Ok opts.table) → Tells given opts → Tells other opts
+told given other opts same read t = record {
+  context = subst (λ c. AllowsContext (context_told c)) same.context t.context;
+  piece = subst IsPiece same.piece t.piece;
+  table = read;
+  quirks = subst (λ q. ReadsQuirks q (Ok opts.quirks)) same.quirks t.quirks;
+  bad_bytes = ap bad_told (sym same.bad_bytes) ∙ t.bad_bytes;
+  input_limit = t.input_limit;
+  limits = t.limits ∙ (λ i. record { nodes = same.nodes i; depth = same.depth i });
+  in_range = subst AreLimits (λ i. record { input = MAX_INPUT; tree = record { nodes = same.nodes i; depth = same.depth i } }) t.in_range;
+}
+
+flipped : (given other : Given) → AreSameButTables given other → AreSameButTables other given
+flipped given other same = record {
+  context = sym same.context;
+  quirks = sym same.quirks;
+  nodes = sym same.nodes;
+  depth = sym same.depth;
+  piece = sym same.piece;
+  escaping = sym same.escaping;
+  bad_bytes = sym same.bad_bytes;
+}
+
+module _ (one : (table other : Entities) → IsReadable table → IsReadable other → flat_of table ≡ flat_of other → table ≡ other) where
+  one_of : (f : Form) (bytes : List ℕ) (table other : Entities) → IsTableOf f bytes table → IsTableOf f bytes other → table ≡ other
+  one_of form.Core bytes table other is its = is ∙ sym its
+  one_of form.Flat bytes table other (readable, is) (its, same) = one table other readable its (is ∙ sym same)
+  one_of form.Json bytes table other is its = one_ok table other (sym is ∙ its)
+
+  one_read : (bytes : List ℕ) (table other : Entities) → ReadsTable bytes (Ok table) → ReadsTable bytes (Ok other) → table ≡ other
+  one_read bytes table other read its = one_of (form_of bytes) bytes table other (said bytes table read) (said bytes other its)
+
+  -- with the flat form in the place of other bytes of a table the options are the same
+  pub same_told : (given flat : Given) (table : Entities) (opts : ParseOptions) → ReadsTable given.entities.now (Ok table) → IsReadable table
+      → flat.entities.now ≡ flat_of table → AreSameButTables given flat → Tells given opts ↔ Tells flat opts
+  same_told given flat table opts read readable is same =
+      let its = subst (λ bs. ReadsTable bs (Ok table)) (sym is) (table_is (flat_of table) table form.Flat refl (readable, refl)) in (
+        λ t. told given flat opts same (subst (λ (x : Entities). ReadsTable flat.entities.now (Ok x)) (one_read given.entities.now table opts.table read t.table) its) t,
+        λ t. told flat given opts (flipped given flat same) (subst (λ (x : Entities). ReadsTable given.entities.now (Ok x)) (one_read flat.entities.now table opts.table its t.table) read) t,
+      )
