@@ -1,10 +1,15 @@
 /* Calls the library where the Nth allocation and all that follow are refused, for each N: the status is then JZ_MEMORY, nothing is
  * written, and all that was taken is freed. The same of the plain C of its header, which tries again where one allocation is refused in
- * the first parse; and what that plain C costs, in parses, in bytes looked at and in memory kept, and does with null pointers. Its
- * argument names an input. The last line is 'N passed, M failed'. Linked with -Wl,--wrap=X for each X of malloc, realloc, free, jz_text and jz_tree. */
+ * the first parse; and what that plain C costs, in parses, in bytes looked at and in memory kept, and does with null pointers; what a
+ * table in its flat form costs, and a text that is only measured. Its argument names an input. The last line is 'N passed, M failed'. Linked with -Wl,--wrap=X for each X of malloc, realloc, free, jz_text,
+ * jz_page and jz_table. */
 #include <malloc.h>
 #include <stdio.h>
 #include <string.h>
+#include <sys/resource.h>
+#include <sys/wait.h>
+#include <time.h>
+#include <unistd.h>
 
 /* The bytes that the header's plain C looks at where it searches words. */
 static size_t looked_at;
@@ -16,13 +21,15 @@ static void *search(const void *bytes, int byte, size_t length) {
 }
 
 #define memchr search
-#include "jeanzircon.h"
+#include "jeanzircon_data.h"
 
 void *__real_malloc(size_t size);
 void *__real_realloc(void *block, size_t size);
 void __real_free(void *block);
 uint32_t __real_jz_text(uint32_t, const uint8_t *, size_t, const jz_options *, uint8_t *, size_t, jz_answer *);
-uint32_t __real_jz_tree(const uint8_t *, size_t, const jz_options *, jz_row *, size_t, uint8_t *, size_t, jz_answer *);
+uint32_t __real_jz_page(uint32_t, const uint8_t *, size_t, const jz_options *, jz_row *, size_t, uint8_t *, size_t, uint8_t *, size_t,
+                        uint8_t *, size_t, jz_page_answer *);
+uint32_t __real_jz_table(const uint8_t *, size_t, uint8_t *, size_t, jz_answer *);
 
 /* `left` allocations are given before all are refused, `only` is the one that is refused, and -1 of either refuses none. */
 static long left = -1, only = -1, alive, calls, parses, passed, failed;
@@ -55,28 +62,45 @@ uint32_t __wrap_jz_text(uint32_t task, const uint8_t *page, size_t length, const
     return __real_jz_text(task, page, length, options, output, room, answer);
 }
 
-uint32_t __wrap_jz_tree(const uint8_t *page, size_t length, const jz_options *options, jz_row *rows, size_t row_room, uint8_t *words,
-                        size_t word_room, jz_answer *answer) {
+uint32_t __wrap_jz_page(uint32_t wants, const uint8_t *page, size_t length, const jz_options *options, jz_row *rows, size_t row_room,
+                        uint8_t *words, size_t word_room, uint8_t *errors, size_t error_room, uint8_t *text, size_t text_room,
+                        jz_page_answer *answer) {
     parses++;
-    return __real_jz_tree(page, length, options, rows, row_room, words, word_room, answer);
+    return __real_jz_page(wants, page, length, options, rows, row_room, words, word_room, errors, error_room, text, text_room, answer);
 }
 
-/* The tasks, and after them the tree of jz_tree. */
-enum { ROOM = 1 << 16, ROWS = 1 << 12, TASKS = 5, ALL = 6 };
+uint32_t __wrap_jz_table(const uint8_t *entities, size_t length, uint8_t *output, size_t room, jz_answer *answer) {
+    parses++;
+    return __real_jz_table(entities, length, output, room, answer);
+}
+
+/* The tasks of jz_text, and after them what the other functions make. A page has its words, its errors and its HTML one after another. */
+enum { ROOM = 1 << 16, ROWS = 1 << 12, TASKS = 5, TREE = 5, PAGE = 6, TABLE = 7, ALL = 8 };
 static uint8_t text[ROOM], plain[ROOM], input[ROOM];
 static jz_row rows[ROWS], plain_rows[ROWS];
 static jz_options options = JZ_DEFAULTS;
+static const uint8_t entities[] = "{\"&copy;\": {\"codepoints\": [169], \"characters\": \"\\u00a9\"}}";
 
 static void check(int is_right, const char *what) {
     is_right ? passed++ : failed++;
     if (!is_right && failed < 20) printf("%s: FAILED\n", what);
 }
 
+/* What a task reads is in a div, but for tokens, which are those of a document. */
+static void set_context(uint32_t task) { options.context = jz_lent((const uint8_t *)"div", task == JZ_TOKENS ? 0 : 3); }
+
+enum { PART = ROOM / 4 };
+
 static uint32_t call(uint32_t task, size_t length, jz_answer *answer) {
+    jz_page_answer page;
     memset(text, 'x', sizeof text);
     memset(rows, 'x', sizeof rows);
-    return task < TASKS ? jz_text(task, input, length, &options, text, sizeof text, answer)
-                        : jz_tree(input, length, &options, rows, ROWS, text, sizeof text, answer);
+    if (task < TASKS) return jz_text(task, input, length, &options, text, sizeof text, answer);
+    if (task == TREE) return jz_tree(input, length, &options, rows, ROWS, text, sizeof text, answer);
+    if (task == TABLE) return jz_table(entities, sizeof entities - 1, text, sizeof text, answer);
+    answer->status = jz_page(3, input, length, &options, rows, ROWS, text, PART, text + PART, PART, text + 2 * PART, 2 * PART, &page);
+    check(answer->status == page.status, "the status of a page");
+    return answer->status;
 }
 
 /* Whether nothing was written. */
@@ -88,26 +112,52 @@ static int is_untouched(void) {
     return 1;
 }
 
-/* What the plain C makes: a text, or a tree and with it its words. */
+/* What the plain C makes: a text, a table, or a tree and with it its words. */
 typedef struct made {
-    uint8_t *bytes;
+    uint8_t *bytes, *errors, *html;
     jz_doc doc;
+    jz_page_answer page;
     jz_answer answer;
 } made;
 
 static uint32_t make(uint32_t task, const void *page, size_t length, made *it) {
+    const uint8_t *bytes = (const uint8_t *)page;
     memset(it, 'x', sizeof *it);
-    if (task < TASKS) return jz_make_text(task, (const uint8_t *)page, length, &options, &it->bytes, &it->answer);
-    uint32_t status = jz_parse((const uint8_t *)page, length, &options, &it->doc, &it->answer);
+    if (task < TASKS) return jz_make_text(task, bytes, length, &options, &it->bytes, &it->answer);
+    if (task == TABLE) return jz_make_table(entities, sizeof entities - 1, &it->bytes, &it->answer);
+    uint32_t status;
+    if (task == TREE) {
+        it->errors = it->html = NULL;
+        status = jz_parse(bytes, length, &options, &it->doc, &it->answer);
+    } else {
+        status = jz_make_page(bytes, length, &options, &it->doc, &it->errors, &it->html, &it->page);
+        jz_answer told = { it->page.status, it->page.detail, it->page.at, it->page.words, it->page.nodes };
+        it->answer = told;
+    }
     it->bytes = it->doc.words;
     return status;
 }
 
+static int is_tree(uint32_t task) { return task == TREE || task == PAGE; }
+
 static void give_back(uint32_t task, made *it) {
-    task < TASKS ? free(it->bytes) : jz_free(&it->doc);
+    if (!is_tree(task)) free(it->bytes);
+    else {
+        jz_free(&it->doc);
+        free(it->errors);
+        free(it->html);
+    }
 }
 
 static int is_empty(const jz_doc *doc) { return !doc->nodes && !doc->words && !doc->count && !doc->root; }
+
+/* Whether it is what the call wrote, which is in `plain`. */
+static int is_whole(uint32_t task, const made *it) {
+    if (memcmp(it->bytes, plain, (size_t)it->answer.length)) return 0;
+    return task != PAGE || (!memcmp(it->errors, plain + PART, it->page.errors) && !memcmp(it->html, plain + 2 * PART, it->page.text));
+}
+
+static int is_nothing(uint32_t task, const made *it) { return is_tree(task) ? is_empty(&it->doc) && !it->errors && !it->html : !it->bytes; }
 
 /* The plain C where allocations are refused: what it makes is in `plain`. */
 static void check_made(uint32_t task, size_t length) {
@@ -124,8 +174,8 @@ static void check_made(uint32_t task, size_t length) {
         else only = at - all;
         status = make(task, input, length, &it);
         left = only = -1;
-        int is_made = status == JZ_OK && memcmp(it.bytes, plain, (size_t)it.answer.length) == 0;
-        int is_none = status == JZ_MEMORY && (at < all || !is_once) && (task < TASKS ? !it.bytes : is_empty(&it.doc));
+        int is_made = status == JZ_OK && is_whole(task, &it);
+        int is_none = status == JZ_MEMORY && (at < all || !is_once || task == TABLE) && is_nothing(task, &it);
         check(status == it.answer.status && (is_made || is_none), "what is made where memory is refused");
         give_back(task, &it);
         check(alive == before, "what is kept where memory is refused");
@@ -169,6 +219,12 @@ static void check_nulls(void) {
         statuses[1] = jz_parse(page, 1, to, tree, answer[1]);
         statuses[2] = which == 6 ? JZ_NULL : jz_text_room(JZ_TREE, page, 1, to, answer[2]);
         statuses[3] = which == 6 ? JZ_NULL : jz_tree_rooms(page, 1, to, answer[3]);
+        uint8_t *errors = text, *html = text;
+        jz_page_answer all;
+        check(jz_make_page(page, 1, to, tree, &errors, &html, which == 5 ? NULL : &all) == JZ_NULL && !errors && !html
+                  && (which == 5 || (all.status == JZ_NULL && !all.nodes)) && (which == 6 || is_empty(&doc)), "a page with a null pointer");
+        check(which > 2 || jz_make_table(which == 0 ? NULL : entities, 1, which == 1 ? NULL : &result, which == 2 ? NULL : answers) == JZ_NULL,
+              "a table with a null pointer");
         check(which == 6 || !result, "the text of a call with a null pointer");
         check(which == 6 || is_empty(&doc), "the tree of a call with a null pointer");
         for (int i = 0; i < 4; i++) {
@@ -188,7 +244,9 @@ static void check_rooms(uint32_t task, const char *page, size_t length) {
     uint32_t told = task < TASKS ? jz_text_room(task, (const uint8_t *)page, length, &options, &asked)
                                  : jz_tree_rooms((const uint8_t *)page, length, &options, &asked);
     check(status == it.answer.status && told == status && memcmp(&asked, &it.answer, sizeof asked) == 0, "the room that is asked for");
-    check((status == JZ_OK) == (it.bytes != NULL), "what is made, or refused");
+    check((status == JZ_OK) == !is_nothing(task, &it), "what is made, or refused");
+    check(task != PAGE || status || (malloc_usable_size(it.errors) < it.page.errors + 8192 && malloc_usable_size(it.html) < it.page.text + 8192),
+          "the memory that is kept of a page");
     check(!it.bytes || malloc_usable_size(it.bytes) < it.answer.length + 8192, "the memory that is kept");
     give_back(task, &it);
 }
@@ -208,13 +266,21 @@ static void check_parses(void) {
     size_t length = lists_page(page);
     made it;
     for (uint32_t task = 0; task < ALL; task++) {
+        set_context(task);
         parses = 0;
         check(make(task, page, length, &it) == JZ_OK && parses == 1, "the parses of an ordinary page");
         give_back(task, &it);
     }
+    memset(page, '\xff', 4096);
+    options.bad_bytes = 1;
+    parses = 0;
+    check(make(JZ_ERRORS, page, 4096, &it) == JZ_OK && parses == 1, "the parses of a page of bad bytes for its errors");
+    give_back(JZ_ERRORS, &it);
+    options.bad_bytes = 0;
     for (length = 0; length + 8 < 4096; length += 8) memcpy(page + length, "<b><div>", 8);
-    for (int is_tree = 0; is_tree < 2; is_tree++) {
-        uint32_t task = is_tree ? TASKS : JZ_TREE;
+    static const uint32_t tasks[] = { JZ_TREE, TREE, PAGE };
+    for (int i = 0; i < 3; i++) {
+        uint32_t task = tasks[i];
         parses = 0;
         check(make(task, page, length, &it) == JZ_OK && parses <= 2, "the parses of a page with long texts or many nodes");
         give_back(task, &it);
@@ -234,7 +300,7 @@ static void check_attributes(void) {
     int is_right = 1;
     for (int i = 0; i < ATTRIBUTES; i++) end += sprintf(end, " a%d=%d", i, i);
     end += sprintf(end, ">");
-    check(make(TASKS, page, (size_t)(end - page), &it) == JZ_OK, "the parse of many attributes");
+    check(make(TREE, page, (size_t)(end - page), &it) == JZ_OK, "the parse of many attributes");
     uint32_t first = jz_first_child(&it.doc, it.doc.root), node = jz_next(&it.doc, first);
     looked_at = 0;
     last = jz_attribute(&it.doc, node, "a19999");
@@ -259,7 +325,7 @@ static void check_attributes(void) {
 static void check_none(void) {
     jz_bytes name, value;
     made it;
-    check(make(TASKS, "x<p a=0 b>", 10, &it) == JZ_OK, "the parse of two attributes");
+    check(make(TREE, "x<p a=0 b>", 10, &it) == JZ_OK, "the parse of two attributes");
     const jz_doc *doc = &it.doc;
     uint32_t first = jz_first_child(doc, doc->root), node = jz_next(doc, first), without[] = { doc->root, first, doc->count, JZ_NONE };
     for (size_t i = 0; i < sizeof without / sizeof *without; i++) {
@@ -276,6 +342,60 @@ static void check_none(void) {
     jz_free(&it.doc);
 }
 
+static void check_keys(void) {
+    jz_options one = JZ_STANDARD, other = JZ_STANDARD;
+    check(jz_draw_keys(&one) == 1 && jz_draw_keys(&other) == 1 && memcmp(&one.key_low, &other.key_low, 16) != 0, "two draws of keys");
+    one.key_low = one.key_high = other.key_low = other.key_high = 0;
+    check(one.entities.bytes == other.entities.bytes && one.entities.bytes[0] == 1 && one.nodes == options.nodes && one.open == options.open
+              && one.piece == options.piece && one.escaping == options.escaping && !one.context.length, "the options to begin with");
+    check(jz_draw_keys(NULL) == 0, "keys for no options");
+}
+
+/* The least seconds that a parse of a page takes. */
+static double seconds(const char *page, size_t length, const jz_options *given) {
+    double best = 1;
+    for (int i = 0; i < 200; i++) {
+        struct timespec begun, ended;
+        jz_doc doc;
+        jz_answer answer;
+        clock_gettime(CLOCK_THREAD_CPUTIME_ID, &begun);
+        check(jz_parse((const uint8_t *)page, length, given, &doc, &answer) == JZ_OK, "a parse that is timed");
+        clock_gettime(CLOCK_THREAD_CPUTIME_ID, &ended);
+        jz_free(&doc);
+        double took = (double)(ended.tv_sec - begun.tv_sec) + (double)(ended.tv_nsec - begun.tv_nsec) * 1e-9;
+        if (took < best) best = took;
+    }
+    return best;
+}
+
+/* That reading the Standard's lists costs little beside an ordinary page. */
+static void check_lists(void) {
+    static char page[ROOM];
+    size_t length = lists_page(page);
+    jz_options core = JZ_DEFAULTS, standard = JZ_STANDARD;
+    double without = seconds(page, length, &core), with = seconds(page, length, &standard);
+    double small = seconds("<p>&copy;", 9, &core), small_with = seconds("<p>&copy;", 9, &standard);
+    printf("a page of %zu bytes: %.0f us, with the Standard's lists %.0f; one of 9 bytes: %.0f and %.0f. ", length, without * 1e6, with * 1e6, small * 1e6, small_with * 1e6);
+    check(with <= 3 * without, "the time of a page with the Standard's lists");
+}
+
+/* That a text is measured, and not made, where it has no room: 2.5 GB of indentation in 200 MB of memory. */
+static void check_measured(void) {
+    enum { DEEP = 50000 };
+    struct rlimit most = { 200000000, 200000000 };
+    int status;
+    fflush(stdout);
+    if (fork() == 0) {
+        static uint8_t page[5 * DEEP];
+        jz_answer answer;
+        for (size_t at = 0; at < sizeof page; at += 5) memcpy(page + at, "<div>", 5);
+        setrlimit(RLIMIT_AS, &most);
+        status = jz_text(JZ_TREE, page, sizeof page, &options, text, 0, &answer) == JZ_TOO_SHORT && answer.length > 2500000000;
+        _exit(status ? 0 : 1);
+    }
+    check(wait(&status) > 0 && status == 0, "a text that is measured");
+}
+
 int main(int count, char **words) {
     static char long_text[ROOM];
     FILE *file = count == 2 ? fopen(words[1], "rb") : NULL;
@@ -283,10 +403,11 @@ int main(int count, char **words) {
     size_t length = fread(input, 1, ROOM, file);
     fclose(file);
     memset(long_text, 'x', sizeof long_text);
-    options.context = jz_lent((const uint8_t *)"div", 3);
     for (uint32_t task = 0; task < ALL; task++) {
+        set_context(task);
         check_refused(task, length);
         check_made(task, length);
+        if (task == TABLE) continue;
         check_rooms(task, (const char *)input, length);
         check_rooms(task, long_text, sizeof long_text);
         check_rooms(task, "", 0);
@@ -294,6 +415,9 @@ int main(int count, char **words) {
         check_rooms(task, "\xff", 1);
     }
     check_nulls();
+    check_keys();
+    check_lists();
+    check_measured();
     check_parses();
     check_attributes();
     check_none();

@@ -17,8 +17,15 @@
 
 #include <stddef.h>
 #include <stdint.h>
+#include <stdio.h>
 #include <stdlib.h>
 #include <string.h>
+#ifdef __has_include
+#if __has_include(<sys/random.h>)
+#include <sys/random.h>
+#define JZ_GETRANDOM
+#endif
+#endif
 
 #ifdef __cplusplus
 extern "C" {
@@ -69,7 +76,8 @@ typedef struct jz_bytes {
 
 #define JZ_NO_BYTES { (const uint8_t *)"", 0 }
 
-/* What is given with the input. Begin with JZ_DEFAULTS, and change what you need. */
+/* What is given with the input. Begin with JZ_STANDARD of jeanzircon_data.h, which has both of the Standard's lists, as browsers have,
+ * draw the keys by jz_draw_keys, and change what you need. JZ_DEFAULTS has no list and no keys. */
 typedef struct jz_options {
     jz_bytes context;   /* the name of the element in which a fragment is; empty: the input is a document */
     jz_bytes entities;  /* the table of character references: JSON (data/entities.json), or what jz_table made of it; empty: five of them */
@@ -77,8 +85,8 @@ typedef struct jz_options {
     uint64_t nodes;     /* the most nodes: 16 to 16,777,216 */
     uint64_t open;      /* the most open elements: 16 to 1,048,576 */
     uint64_t piece;     /* how many bytes are read at a time: 1 to 65,536; no answer depends on it */
-    uint64_t key_low;   /* 16 random bytes, drawn once a program, where the input is not trusted: with keys that are known a */
-    uint64_t key_high;  /* page can be made that takes the square of its length. No answer depends on them */
+    uint64_t key_low;   /* 16 random bytes (jz_draw_keys). 0, like all that is known, is unsafe for a stranger's page: one can */
+    uint64_t key_high;  /* be made that takes the square of its length. No answer depends on them */
     uint32_t escaping;  /* of HTML: 1, or 2, which escapes < and > in attribute values */
     uint32_t bad_bytes; /* 0 refuses bytes that are not UTF-8; 1 reads each bad part as U+FFFD */
 } jz_options;
@@ -186,7 +194,25 @@ JZ_IS(jz_layout_of_row, sizeof(jz_row) == 20 && JZ_HAS(jz_row, number, 0, 4) && 
 #undef JZ_HAS
 #undef JZ_IS
 
-/* From here on plain C, which is not proved: what asks for room or takes memory, the tree with an index, and names for numbers. */
+/* From here on plain C, which is not proved: keys, what asks for room or takes memory, the tree with an index, and names for numbers. */
+
+/* Draws the keys of the hashes from the system. Once a program is enough. Returns 1, or 0 where the system gives no random bytes. */
+static inline int jz_draw_keys(jz_options *options) {
+    uint64_t keys[2];
+    int is_drawn = 0;
+#ifdef JZ_GETRANDOM
+    is_drawn = (long)getrandom(keys, sizeof keys, 0) == (long)sizeof keys;
+#endif
+    if (!is_drawn) {
+        FILE *file = fopen("/dev/urandom", "rb");
+        is_drawn = file && fread(keys, sizeof keys, 1, file) == 1;
+        if (file) fclose(file);
+    }
+    if (!options || !is_drawn) return 0;
+    options->key_low = keys[0];
+    options->key_high = keys[1];
+    return 1;
+}
 
 /* The name of a status, as "NotUtf8". */
 static inline const char *jz_status_name(uint32_t status) {
@@ -229,6 +255,11 @@ static inline uint32_t jz_fault(jz_answer *answer, uint32_t status) {
     return answer->status = status;
 }
 
+static inline uint32_t jz_page_fault(jz_page_answer *answer, uint32_t status) {
+    memset(answer, 0, sizeof *answer);
+    return answer->status = status;
+}
+
 /* Asks for the room of a text: the status is JZ_OK, and answer->length the room, or it says why there is no such text. It takes a parse,
  * so jz_make_text, which first tries a room, is the shorter way to a text. */
 static inline uint32_t jz_text_room(uint32_t task, const uint8_t *input, size_t length, const jz_options *options, jz_answer *answer) {
@@ -258,7 +289,7 @@ static inline uint8_t *jz_cut(uint8_t *block, size_t length) {
 /* The text of a task in a block of this room. */
 static inline uint32_t jz_text_in(size_t room, uint32_t task, const uint8_t *input, size_t length, const jz_options *options,
                                   uint8_t **text, jz_answer *answer) {
-    uint8_t *block = (uint8_t *)malloc(room);
+    uint8_t *block = (uint8_t *)malloc(room + 1);
     uint32_t status = block ? jz_text(task, input, length, options, block, room, answer) : jz_fault(answer, JZ_MEMORY);
     if (status == JZ_OK) *text = jz_cut(block, (size_t)answer->length);
     else free(block);
@@ -266,18 +297,35 @@ static inline uint32_t jz_text_in(size_t room, uint32_t task, const uint8_t *inp
 }
 
 /* The text of a task in memory of its own, which the caller frees with free(); *text is null where the status is not JZ_OK. One parse
- * makes it if six bytes for each of the input are room enough, as for nearly every page, and malloc gives so many (those that are not
- * written take no memory); if not, a second parse makes it in the room that it needs. */
+ * makes it if six bytes for each of the input, or 24 of errors, are room enough, as for nearly every page, and malloc gives so many
+ * (those that are not written take no memory); if not, further parses ask for the room that it needs, and make it there. */
 static inline uint32_t jz_make_text(uint32_t task, const uint8_t *input, size_t length, const jz_options *options, uint8_t **text,
                                     jz_answer *answer) {
     uint32_t status;
     if (text) *text = NULL;
     if (!answer) return JZ_NULL;
     if (!text || !jz_is_whole(input, options)) return jz_fault(answer, JZ_NULL);
-    status = jz_text_in(1024 + length * 6, task, input, length, options, text, answer);
-    if (status == JZ_MEMORY) status = jz_text_room(task, input, length, options, answer);
-    if (status == JZ_TOO_SHORT || (status == JZ_OK && !*text))
-        status = jz_text_in((size_t)answer->length + 1, task, input, length, options, text, answer);
+    status = jz_text_in(1024 + length * (task == JZ_ERRORS ? 24 : 6), task, input, length, options, text, answer);
+    if (status == JZ_MEMORY) status = jz_text_in(0, task, input, length, options, text, answer);
+    if (status == JZ_TOO_SHORT) status = jz_text_in((size_t)answer->length, task, input, length, options, text, answer);
+    return status;
+}
+
+/* The flat form of a table of character references, in memory of its own, which the caller frees with free(); null where the status is
+ * not JZ_OK. In the options it stands for the JSON that it was made of, and is read in a hundredth of the time. */
+static inline uint32_t jz_make_table(const uint8_t *entities, size_t length, uint8_t **table, jz_answer *answer) {
+    size_t room = 256 + length;
+    uint32_t status;
+    if (table) *table = NULL;
+    if (!answer) return JZ_NULL;
+    if (!table || !entities) return jz_fault(answer, JZ_NULL);
+    do {
+        uint8_t *block = (uint8_t *)malloc(room);
+        status = block ? jz_table(entities, length, block, room, answer) : jz_fault(answer, JZ_MEMORY);
+        if (status == JZ_OK) *table = jz_cut(block, (size_t)answer->length);
+        else free(block);
+        room = (size_t)answer->length;
+    } while (status == JZ_TOO_SHORT);
     return status;
 }
 
@@ -315,34 +363,74 @@ static inline uint32_t jz_index(jz_doc *doc, const jz_row *rows, size_t count, s
     return JZ_OK;
 }
 
-/* A tree made by way of these rooms. */
-static inline uint32_t jz_parse_in(size_t rows, size_t words, const uint8_t *input, size_t length, const jz_options *options, jz_doc *doc,
-                                   jz_answer *answer) {
-    jz_row *table = (jz_row *)malloc(rows * sizeof *table);
-    uint32_t status = JZ_MEMORY;
+/* How many rows, and how many bytes of the rest, there is room for. */
+typedef struct jz_rooms {
+    size_t rows, words, errors, text;
+} jz_rooms;
+
+/* A page made by way of these rooms. */
+static inline uint32_t jz_page_in(jz_rooms rooms, const uint8_t *input, size_t length, const jz_options *options, jz_doc *doc,
+                                  uint8_t **errors, uint8_t **text, jz_page_answer *answer) {
+    uint32_t wants = (errors ? JZ_WANT_ERRORS : 0) | (text ? JZ_WANT_TEXT : 0), status = JZ_MEMORY;
+    jz_row *rows = (jz_row *)malloc((rooms.rows + 1) * sizeof *rows);
+    uint8_t *lines = (uint8_t *)malloc(rooms.errors + 1), *html = (uint8_t *)malloc(rooms.text + 1);
     doc->root = options->context.length ? 1 : 0;
-    doc->words = (uint8_t *)malloc(words);
-    if (table && doc->words) status = jz_tree(input, length, options, table, rows, doc->words, words, answer);
+    doc->words = (uint8_t *)malloc(rooms.words + 1);
+    if (rows && lines && html && doc->words)
+        status = jz_page(wants, input, length, options, rows, rooms.rows, doc->words, rooms.words, lines, rooms.errors, html, rooms.text,
+                         answer);
     if (status == JZ_OK) {
-        doc->words = jz_cut(doc->words, (size_t)answer->length);
-        status = jz_index(doc, table, (size_t)answer->nodes, (size_t)answer->length);
+        doc->words = jz_cut(doc->words, (size_t)answer->words);
+        status = jz_index(doc, rows, (size_t)answer->nodes, (size_t)answer->words);
     }
-    free(table);
+    if (status == JZ_OK && errors) *errors = jz_cut(lines, (size_t)answer->errors);
+    else free(lines);
+    if (status == JZ_OK && text) *text = jz_cut(html, (size_t)answer->text);
+    else free(html);
+    free(rows);
     if (status != JZ_OK) jz_free(doc);
-    return status == JZ_MEMORY ? jz_fault(answer, status) : status;
+    return status == JZ_MEMORY ? jz_page_fault(answer, status) : status;
 }
 
-/* Parses an input into a tree. `answer` may not be null; the tree is of zeros where the status is not JZ_OK. As with jz_make_text a
- * second parse is made only where there are very many nodes for the length, as in "<p><p><p>", or malloc gives little. */
-static inline uint32_t jz_parse(const uint8_t *input, size_t length, const jz_options *options, jz_doc *doc, jz_answer *answer) {
+/* Parses an input into a tree, and of the same parse makes the lines of JZ_ERRORS and the text of JZ_WRITE: each where its pointer is
+ * not null, and for the caller to free with free(). Where the status is not JZ_OK the tree is of zeros and both are null. As with
+ * jz_make_text one parse is enough for nearly every page, but not where there are very many nodes for the length, as in "<p><p><p>". */
+static inline uint32_t jz_make_page(const uint8_t *input, size_t length, const jz_options *options, jz_doc *doc, uint8_t **errors,
+                                    uint8_t **text, jz_page_answer *answer) {
+    jz_rooms rooms = { 64 + length / 4, 256 + length * 2, 0, 0 };
     uint32_t status;
     if (doc) memset(doc, 0, sizeof *doc);
+    if (errors) *errors = NULL;
+    if (text) *text = NULL;
     if (!answer) return JZ_NULL;
-    if (!doc || !jz_is_whole(input, options)) return jz_fault(answer, JZ_NULL);
-    status = jz_parse_in(64 + length / 4, 256 + length * 2, input, length, options, doc, answer);
-    if (status == JZ_MEMORY) status = jz_tree_rooms(input, length, options, answer);
-    if (status == JZ_TOO_SHORT || (status == JZ_OK && !doc->nodes))
-        status = jz_parse_in((size_t)answer->nodes + 1, (size_t)answer->length + 1, input, length, options, doc, answer);
+    if (!doc || !jz_is_whole(input, options)) return jz_page_fault(answer, JZ_NULL);
+    if (errors) rooms.errors = 1024 + length * 24;
+    if (text) rooms.text = 1024 + length * 6;
+    status = jz_page_in(rooms, input, length, options, doc, errors, text, answer);
+    if (status == JZ_MEMORY) {
+        memset(&rooms, 0, sizeof rooms);
+        status = jz_page_in(rooms, input, length, options, doc, errors, text, answer);
+    }
+    if (status == JZ_TOO_SHORT) {
+        rooms.rows = (size_t)answer->nodes;
+        rooms.words = (size_t)answer->words;
+        rooms.errors = (size_t)answer->errors;
+        rooms.text = (size_t)answer->text;
+        status = jz_page_in(rooms, input, length, options, doc, errors, text, answer);
+    }
+    return status;
+}
+
+/* Parses an input into a tree alone; in the answer `length` is that of the words. */
+static inline uint32_t jz_parse(const uint8_t *input, size_t length, const jz_options *options, jz_doc *doc, jz_answer *answer) {
+    jz_page_answer page;
+    uint32_t status = jz_make_page(input, length, options, doc, NULL, NULL, answer ? &page : NULL);
+    if (!answer) return status;
+    answer->status = page.status;
+    answer->detail = page.detail;
+    answer->at = page.at;
+    answer->length = page.words;
+    answer->nodes = page.nodes;
     return status;
 }
 

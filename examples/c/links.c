@@ -3,7 +3,7 @@
  *     links PAGE
  *     links --in NAME FRAGMENT
  */
-#include "jeanzircon.h"
+#include "jeanzircon_data.h"
 #include <stdio.h>
 
 static void die(const char *what) {
@@ -96,11 +96,12 @@ static int print_plain(const uint8_t *fragment, size_t length, const jz_options 
 }
 
 int main(int count, char **words) {
-    jz_options options = JZ_DEFAULTS;
+    jz_options options = JZ_STANDARD;
     uint8_t *bytes;
     size_t length;
     int status;
     if (count != 2 && !(count == 4 && strcmp(words[1], "--in") == 0)) die("name a page, or --in NAME and a fragment");
+    if (!jz_draw_keys(&options)) die("no random bytes");
     bytes = read_all(words[count - 1], &length);
     if (count == 4) options.context = jz_lent((const uint8_t *)words[2], strlen(words[2]));
     status = count == 4 ? print_plain(bytes, length, &options) : print_links(bytes, length, &options);
