@@ -2,7 +2,8 @@
 //! reach the programs of crates that depend on this one.
 //!
 //! The archive is that of the folder `JEANZIRCON_LIB_DIR`. Without that it is the first of these: where `pkg-config` says for
-//! this version; in the checkout that the crate lies in; in the prefix that it lies in.
+//! this version; in the checkout that the crate lies in; in the prefix that it lies in. The Standard's lists are those of the
+//! same checkout or prefix, or of that which the crate lies in.
 
 use std::path::{Path, PathBuf};
 use std::process::Command;
@@ -42,6 +43,21 @@ fn folders() -> Vec<PathBuf> {
         .collect()
 }
 
+/// The folder of the Standard's lists.
+fn lists(archive: &Path) -> PathBuf {
+    let here = Path::new(env!("CARGO_MANIFEST_DIR"));
+    let places = [
+        archive.join("../data"),
+        archive.join("../share/jeanzircon"),
+        here.join("../../data"),
+        here.join(".."),
+    ];
+    let mut found = places.iter().filter_map(|it| fs::canonicalize(it).ok());
+    found
+        .find(|it| it.join("entities.json").is_file())
+        .unwrap_or_else(|| panic!("no entities.json in {places:?}"))
+}
+
 fn main() {
     for name in [
         "JEANZIRCON_LIB_DIR",
@@ -59,4 +75,6 @@ fn main() {
     println!("cargo:rustc-link-search=native={}", folder.display());
     println!("cargo:rustc-link-lib=static=jeanzircon");
     println!("cargo:rerun-if-changed={}", folder.join(ARCHIVE).display());
+    let lists = lists(&folder);
+    println!("cargo:rustc-env=JEANZIRCON_LISTS={}", lists.display());
 }

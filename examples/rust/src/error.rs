@@ -61,6 +61,14 @@ impl Error {
         }
     }
 
+    pub(crate) fn of_page(answer: &raw::PageAnswer) -> Error {
+        Error {
+            status: answer.status,
+            detail: answer.detail,
+            at: answer.at,
+        }
+    }
+
     pub(crate) fn memory() -> Error {
         Error {
             status: 6,

@@ -1,14 +1,19 @@
-//! Safe Rust over the library for C: texts of an input, its tree, and why it is refused.
+//! Safe Rust over the library for C: texts of an input, its tree, and why it is refused. It is read with the Standard's lists and
+//! under keys of the system, unless the options say otherwise.
 //!
 //! The library's functions are proved; this crate is not, and keeps what they require: slices are Rust's, and no buffer overlaps
 //! another.
 
 mod error;
 mod raw;
+mod table;
 
 pub use error::{Error, ErrorKind, ParseError};
+pub use table::{Table, QUIRKS};
 
-use std::hash::{Hash, Hasher};
+use std::collections::hash_map::RandomState;
+use std::hash::{BuildHasher, Hash, Hasher};
+use std::sync::OnceLock;
 use std::{fmt, ptr, str};
 
 /// The version of the library, as `0.1.0`.
@@ -40,19 +45,27 @@ pub enum BadBytes {
     Replace,
 }
 
-/// What is given with the input. `Options::default()` reads a document under the greatest limits.
+/// Keys of the system, drawn once a program.
+fn keys() -> u128 {
+    static KEYS: OnceLock<u128> = OnceLock::new();
+    let half = || u128::from(RandomState::new().build_hasher().finish());
+    *KEYS.get_or_init(|| half() << 64 | half())
+}
+
+/// What is given with the input. `Options::default()` reads a document as a browser does, under the greatest limits.
 #[derive(Clone, Copy, Debug, PartialEq, Eq)]
 pub struct Options<'a> {
     /// The name of the element in which a fragment is; empty for a document.
     pub context: &'a str,
-    /// The table of character references as JSON, and the quirks list; empty for the defaults.
-    pub entities: &'a str,
+    /// The table of character references, and the quirks list: the Standard's by default.
+    pub entities: &'a Table,
     pub quirks: &'a str,
     pub nodes: u64,
     pub open: u64,
     /// How many bytes are read at a time. No answer depends on it.
     pub piece: u64,
-    /// 16 random bytes, where the input is not trusted. No answer depends on them.
+    /// 16 random bytes, by default the system's: against keys that are known a page can be made that takes the square of its
+    /// length. No answer depends on them.
     pub keys: u128,
     /// How `Task::Write` escapes: 1 or 2.
     pub escaping: u32,
@@ -63,12 +76,12 @@ impl Default for Options<'_> {
     fn default() -> Self {
         Options {
             context: "",
-            entities: "",
-            quirks: "",
+            entities: Table::standard(),
+            quirks: QUIRKS,
             nodes: 16_777_216,
             open: 1_048_576,
             piece: 65_536,
-            keys: 0,
+            keys: keys(),
             escaping: 1,
             bad_bytes: BadBytes::Refuse,
         }
@@ -79,7 +92,7 @@ impl Options<'_> {
     fn raw(&self) -> raw::Options {
         raw::Options {
             context: raw::Bytes::of(self.context.as_bytes()),
-            entities: raw::Bytes::of(self.entities.as_bytes()),
+            entities: raw::Bytes::of(self.entities.flat()),
             quirks: raw::Bytes::of(self.quirks.as_bytes()),
             nodes: self.nodes,
             open: self.open,
@@ -102,12 +115,37 @@ fn with_room<T>(count: usize) -> Vec<T> {
     made
 }
 
-/// The text of a task.
-pub fn text(task: Task, input: &[u8], options: &Options) -> Result<String, Error> {
-    let (given, mut answer) = (options.raw(), raw::Answer::default());
-    let mut room = input.len() * 6 + 1024;
+/// The bytes that a call writes, which is made again where they want more room.
+fn written(
+    mut room: usize,
+    call: impl Fn(&mut Vec<u8>, &mut raw::Answer),
+) -> Result<Vec<u8>, Error> {
+    let mut answer = raw::Answer::default();
     loop {
         let mut output = with_room::<u8>(room);
+        call(&mut output, &mut answer);
+        match answer.status {
+            0 => {
+                // SAFETY: the library has written so many.
+                unsafe { output.set_len(answer.length as usize) };
+                output.shrink_to_fit();
+                return Ok(output);
+            }
+            TOO_SHORT if room != answer.length as usize => room = answer.length as usize,
+            TOO_SHORT => return Err(Error::memory()),
+            _ => return Err(Error::of(&answer)),
+        }
+    }
+}
+
+fn utf8(bytes: Vec<u8>) -> String {
+    String::from_utf8(bytes).expect("the library writes UTF-8")
+}
+
+/// The text of a task.
+pub fn text(task: Task, input: &[u8], options: &Options) -> Result<String, Error> {
+    let given = options.raw();
+    let bytes = written(text_room(task, input), |output, answer| {
         // SAFETY: the memory is Rust's and does not overlap, and lives through the call.
         unsafe {
             raw::jz_text(
@@ -117,27 +155,25 @@ pub fn text(task: Task, input: &[u8], options: &Options) -> Result<String, Error
                 &given,
                 output.as_mut_ptr(),
                 output.capacity(),
-                &mut answer,
+                answer,
             )
         };
-        match answer.status {
-            0 => {
-                // SAFETY: the library has written so many.
-                unsafe { output.set_len(answer.length as usize) };
-                output.shrink_to_fit();
-                return Ok(String::from_utf8(output).expect("the library writes UTF-8"));
-            }
-            TOO_SHORT if room != answer.length as usize => room = answer.length as usize,
-            TOO_SHORT => return Err(Error::memory()),
-            _ => return Err(Error::of(&answer)),
-        }
-    }
+    })?;
+    Ok(utf8(bytes))
+}
+
+/// Room for the text of nearly every page.
+fn text_room(task: Task, input: &[u8]) -> usize {
+    input.len() * if task == Task::Errors { 24 } else { 6 } + 1024
 }
 
 /// The parse errors of an input, in the order in which they are found.
 pub fn errors(input: &[u8], options: &Options) -> Result<Vec<ParseError>, Error> {
-    let lines = text(Task::Errors, input, options)?;
-    Ok(lines.lines().map(ParseError::of).collect())
+    Ok(errors_of(&text(Task::Errors, input, options)?))
+}
+
+fn errors_of(lines: &str) -> Vec<ParseError> {
+    lines.lines().map(ParseError::of).collect()
 }
 
 /// Whether a fragment is plain in its context: it comes back when what is written of it is parsed.
@@ -180,44 +216,84 @@ pub struct Tree {
     words: Vec<u8>,
 }
 
+/// What one parse gives.
+#[derive(Debug)]
+pub struct Page {
+    pub tree: Tree,
+    /// As `errors` gives them.
+    pub errors: Vec<ParseError>,
+    /// As `Task::Write` makes it.
+    pub html: String,
+}
+
+impl Page {
+    /// Parses an input.
+    pub fn parse(input: &[u8], options: &Options) -> Result<Page, Error> {
+        let (tree, errors, html) = parsed(true, input, options)?;
+        Ok(Page {
+            tree,
+            errors: errors_of(&utf8(errors)),
+            html: utf8(html),
+        })
+    }
+}
+
+/// The tree of an input, and where all is wanted the lines of its errors and its HTML.
+fn parsed(all: bool, input: &[u8], options: &Options) -> Result<(Tree, Vec<u8>, Vec<u8>), Error> {
+    let (given, mut answer) = (options.raw(), raw::PageAnswer::default());
+    let mut rooms = [input.len() / 4 + 64, input.len() * 2 + 256, 0, 0];
+    if all {
+        rooms[2] = text_room(Task::Errors, input);
+        rooms[3] = text_room(Task::Write, input);
+    }
+    loop {
+        let mut rows = with_room::<raw::Row>(rooms[0]);
+        let [mut words, mut errors, mut html] = [1, 2, 3].map(|it| with_room::<u8>(rooms[it]));
+        // SAFETY: the memory is Rust's and does not overlap, and lives through the call.
+        unsafe {
+            raw::jz_page(
+                if all { 3 } else { 0 },
+                input.as_ptr(),
+                input.len(),
+                &given,
+                rows.as_mut_ptr(),
+                rows.capacity(),
+                words.as_mut_ptr(),
+                words.capacity(),
+                errors.as_mut_ptr(),
+                errors.capacity(),
+                html.as_mut_ptr(),
+                html.capacity(),
+                &mut answer,
+            )
+        };
+        let needed = [answer.nodes, answer.words, answer.errors, answer.text];
+        let needed = needed.map(|it| it as usize);
+        match answer.status {
+            0 => {
+                // SAFETY: the library has written so many.
+                unsafe {
+                    rows.set_len(needed[0]);
+                    words.set_len(needed[1]);
+                    errors.set_len(needed[2]);
+                    html.set_len(needed[3]);
+                }
+                words.shrink_to_fit();
+                html.shrink_to_fit();
+                let root = u32::from(!options.context.is_empty());
+                return Ok((Tree::index(rows, words, root), errors, html));
+            }
+            TOO_SHORT if rooms != needed => rooms = needed,
+            TOO_SHORT => return Err(Error::memory()),
+            _ => return Err(Error::of_page(&answer)),
+        }
+    }
+}
+
 impl Tree {
     /// Parses an input.
     pub fn parse(input: &[u8], options: &Options) -> Result<Tree, Error> {
-        let (given, mut answer) = (options.raw(), raw::Answer::default());
-        let mut rooms = (input.len() / 4 + 64, input.len() * 2 + 256);
-        loop {
-            let mut rows = with_room::<raw::Row>(rooms.0);
-            let mut words = with_room::<u8>(rooms.1);
-            // SAFETY: the memory is Rust's and does not overlap, and lives through the call.
-            unsafe {
-                raw::jz_tree(
-                    input.as_ptr(),
-                    input.len(),
-                    &given,
-                    rows.as_mut_ptr(),
-                    rows.capacity(),
-                    words.as_mut_ptr(),
-                    words.capacity(),
-                    &mut answer,
-                )
-            };
-            let needed = (answer.nodes as usize, answer.length as usize);
-            match answer.status {
-                0 => {
-                    // SAFETY: the library has written so many.
-                    unsafe {
-                        rows.set_len(needed.0);
-                        words.set_len(needed.1);
-                    }
-                    words.shrink_to_fit();
-                    let root = u32::from(!options.context.is_empty());
-                    return Ok(Tree::index(rows, words, root));
-                }
-                TOO_SHORT if rooms != needed => rooms = needed,
-                TOO_SHORT => return Err(Error::memory()),
-                _ => return Err(Error::of(&answer)),
-            }
-        }
+        Ok(parsed(false, input, options)?.0)
     }
 
     /// Puts rows into their places by number, and finds their words.

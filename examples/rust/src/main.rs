@@ -7,7 +7,9 @@ use std::{env, fs};
 fn run(words: &[String]) -> Result<(), Box<dyn std::error::Error>> {
     match words {
         [page] => {
-            for (link, text) in links(&Tree::parse(&fs::read(page)?, &Options::default())?) {
+            let page = fs::read(page)?;
+            let tree = Tree::parse(&page, &Options::default())?;
+            for (link, text) in links(&tree) {
                 println!("{link} {text}");
             }
         }

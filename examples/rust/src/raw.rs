@@ -42,6 +42,18 @@ pub struct Answer {
 
 #[repr(C)]
 #[derive(Clone, Copy, Debug, Default, PartialEq, Eq)]
+pub struct PageAnswer {
+    pub status: u32,
+    pub detail: u32,
+    pub at: u64,
+    pub nodes: u64,
+    pub words: u64,
+    pub errors: u64,
+    pub text: u64,
+}
+
+#[repr(C)]
+#[derive(Clone, Copy, Debug, Default, PartialEq, Eq)]
 pub struct Row {
     pub number: u32,
     pub kind: u32,
@@ -63,7 +75,8 @@ extern "C" {
         answer: *mut Answer,
     ) -> u32;
 
-    pub fn jz_tree(
+    pub fn jz_page(
+        wants: u32,
         input: *const u8,
         length: usize,
         options: *const Options,
@@ -71,6 +84,18 @@ extern "C" {
         row_room: usize,
         words: *mut u8,
         word_room: usize,
+        errors: *mut u8,
+        error_room: usize,
+        text: *mut u8,
+        text_room: usize,
+        answer: *mut PageAnswer,
+    ) -> u32;
+
+    pub fn jz_table(
+        entities: *const u8,
+        length: usize,
+        output: *mut u8,
+        room: usize,
         answer: *mut Answer,
     ) -> u32;
 }

@@ -2,7 +2,7 @@
 
 use jeanzircon::{
     errors, is_plain, links, text, version, BadBytes, Doctype, Error, ErrorKind, Kind, Options,
-    ParseError, Parser, Task, Tree,
+    Page, ParseError, Parser, Table, Task, Tree,
 };
 use std::collections::HashSet;
 
@@ -191,12 +191,7 @@ fn refusals_have_places() {
     assert_eq!(refused.kind(), ErrorKind::BadQuirks);
     assert_eq!((refused.at(), refused.line()), (None, Some(2)));
     assert_eq!(refused.to_string(), "BadQuirks line 2");
-    let table = Options {
-        entities: "[",
-        ..Options::default()
-    };
-    let refused = text(Task::Tree, b"", &table).unwrap_err();
-    assert_eq!(refused.to_string(), "BadTable Json");
+    assert_eq!(Table::read("[").unwrap_err().to_string(), "BadTable Json");
     let unknown = Error {
         status: 99,
         detail: 99,
@@ -204,6 +199,45 @@ fn refusals_have_places() {
     };
     assert_eq!(unknown.kind(), ErrorKind::Other);
     assert_eq!(unknown.to_string(), "?");
+}
+
+#[test]
+fn pages_are_read_as_browsers_read_them() {
+    let page = b"<!doctype html public '-//w3c//dtd html 3.2//'><p><table>&copy;";
+    let core = Options {
+        entities: Table::core(),
+        quirks: "",
+        ..Options::default()
+    };
+    let html = |options: &Options| {
+        let html = text(Task::Write, page, options).unwrap();
+        html[html.find("<p>").unwrap()..html.find("</body>").unwrap()].to_string()
+    };
+    assert_eq!(html(&Options::default()), "<p>©<table></table></p>");
+    assert_eq!(html(&core), "<p></p>&amp;copy;<table></table>");
+    let own = Table::read(r#"{"&copy;": {"codepoints": [99], "characters": "c"}}"#).unwrap();
+    let own = Options {
+        entities: &own,
+        ..Options::default()
+    };
+    assert_eq!(html(&own), "<p>c<table></table></p>");
+    assert_ne!(Options::default().keys, 0);
+    assert_eq!(Options::default().keys, Options::default().keys);
+}
+
+#[test]
+fn one_parse_gives_all() {
+    for page in [PAGE, b"", b"<p>&\0<p", "<b><div>".repeat(300).as_bytes()] {
+        for options in [Options::default(), div()] {
+            let all = Page::parse(page, &options).unwrap();
+            let tree = Tree::parse(page, &options).unwrap();
+            assert_eq!(format!("{:?}", all.tree), format!("{tree:?}"));
+            assert_eq!(all.errors, errors(page, &options).unwrap());
+            assert_eq!(all.html, text(Task::Write, page, &options).unwrap());
+        }
+    }
+    let refused = Page::parse(b"a<svg>", &div()).unwrap_err();
+    assert_eq!(refused.to_string(), "OutOfProfile svg at 1");
 }
 
 #[test]
