@@ -7,18 +7,33 @@ use std::alloc::Global;
 use std::{env, fs};
 
 fn main(rt: HostRuntime) -> anyhow::Result<()> {
-    let name = env::args(&rt)?.nth(1).context("name a page")?;
-    let bytes = fs::read(&rt, name.as_str())?;
-    match parse(rt.alloc(), Keys::random(&rt)?, &bytes) {
+    let bytes = fs::read(&rt, word(&rt, 1)?.as_str())?;
+    let entities = fs::read_to_string(&rt, word(&rt, 2)?.as_str())?;
+    let quirks = fs::read_to_string(&rt, word(&rt, 3)?.as_str())?;
+    let keys = Keys::random(&rt)?;
+    match parse(rt.alloc(), &entities, &quirks, keys, &bytes) {
         Ok(page) => print_links(&rt, &page),
         Err(refusal) => Ok(println!(rt; "refused: {refusal}")?),
     }
 }
 
+/// A word of the command line.
+fn word(rt: &HostRuntime, at: usize) -> anyhow::Result<String> {
+    env::args(rt)?.nth(at).context(
+        "name a page, the table of character references and the quirks list",
+    )
+}
+
 /// Parses a page in pieces, as they might come from the network.
-fn parse(alloc: Global, keys: Keys, bytes: &[u8]) -> Result<Parsed, Refusal> {
-    let table = Table::core(alloc)?;
-    let quirks = Quirks::read(alloc, "")?;
+fn parse(
+    alloc: Global,
+    entities: &str,
+    quirks: &str,
+    keys: Keys,
+    bytes: &[u8],
+) -> Result<Parsed, Refusal> {
+    let table = Table::read(alloc, entities)?;
+    let quirks = Quirks::read(alloc, quirks)?;
     let mut parser = Parser::document(alloc, &Options::new(&table, &quirks, keys))?;
     for piece in bytes.chunks(1500) {
         parser.feed(piece)?;
