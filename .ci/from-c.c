@@ -1,8 +1,8 @@
 /* Calls the library where the Nth allocation and all that follow are refused, for each N: the status is then JZ_MEMORY, nothing is
  * written, and all that was taken is freed. The same of the plain C of its header, which tries again where one allocation is refused in
  * the first parse; and what that plain C costs, in parses, in bytes looked at and in memory kept, and does with null pointers; what a
- * table in its flat form costs, and a text that is only measured. Its argument names an input. The last line is 'N passed, M failed'. Linked with -Wl,--wrap=X for each X of malloc, realloc, free, jz_text,
- * jz_page and jz_table. */
+ * table in its flat form costs, and a text that is only measured. Its argument names an input. The last line is 'N passed, M failed'.
+ * Linked with -Wl,--wrap=X for each X of malloc, realloc, free, jz_text, jz_page and jz_table. */
 #include <malloc.h>
 #include <stdio.h>
 #include <string.h>
@@ -375,7 +375,8 @@ static void check_lists(void) {
     jz_options core = JZ_DEFAULTS, standard = JZ_STANDARD;
     double without = seconds(page, length, &core), with = seconds(page, length, &standard);
     double small = seconds("<p>&copy;", 9, &core), small_with = seconds("<p>&copy;", 9, &standard);
-    printf("a page of %zu bytes: %.0f us, with the Standard's lists %.0f; one of 9 bytes: %.0f and %.0f. ", length, without * 1e6, with * 1e6, small * 1e6, small_with * 1e6);
+    printf("a page of %zu bytes: %.0f us, with the Standard's lists %.0f; one of 9 bytes: %.0f and %.0f. ", length, without * 1e6, with * 1e6,
+           small * 1e6, small_with * 1e6);
     check(with <= 3 * without, "the time of a page with the Standard's lists");
 }
 
