@@ -380,9 +380,10 @@ static void check_lists(void) {
     check(with <= 3 * without, "the time of a page with the Standard's lists");
 }
 
-/* That a text is measured, and not made, where it has no room: 2.5 GB of indentation in 200 MB of memory. */
+/* That a text is measured, and not made, where it has no room, in 200 MB of memory: 100,000 nested elements, and of half of them the
+ * 2.5 GB of indentation. */
 static void check_measured(void) {
-    enum { DEEP = 50000 };
+    enum { DEEP = 100000 };
     struct rlimit most = { 200000000, 200000000 };
     int status;
     fflush(stdout);
@@ -391,7 +392,8 @@ static void check_measured(void) {
         jz_answer answer;
         for (size_t at = 0; at < sizeof page; at += 5) memcpy(page + at, "<div>", 5);
         setrlimit(RLIMIT_AS, &most);
-        status = jz_text(JZ_TREE, page, sizeof page, &options, text, 0, &answer) == JZ_TOO_SHORT && answer.length > 2500000000;
+        status = jz_text(JZ_WRITE, page, sizeof page, &options, text, 0, &answer) == JZ_TOO_SHORT && answer.length == 11 * DEEP
+            && jz_text(JZ_TREE, page, sizeof page / 2, &options, text, 0, &answer) == JZ_TOO_SHORT && answer.length > 2500000000;
         _exit(status ? 0 : 1);
     }
     check(wait(&status) > 0 && status == 0, "a text that is measured");
