@@ -10,10 +10,6 @@ pub fails : {T : Type 0} (r : Result T CallFault) (f : CallFault) (P : T → Typ
 fails (Ok x) f P Q is h = absurd is
 fails (Err g) f P Q is h = subst Q (sym is) h
 
-pub passes : {T : Type 0} (r : Result T Refusal) (e : Refusal) (P : T → Type 0) (Q : Refusal → Type 0) → IsErrAnd r (λ g. g ≡ e) → Q e → MatchResult r P Q
-passes (Ok x) e P Q is h = absurd is
-passes (Err g) e P Q is h = subst Q (sym is) h
-
 -- a text that is wanted
 pub fitted : (wanted : Bool) (room : ℕ) (text : List ℕ) (old : Fitted) (r : Result Fitted Refusal) → wanted ≡ true → old.room ≡ room → IsFitted old.room text r
     → IsFitted room (if wanted then text else []) r
