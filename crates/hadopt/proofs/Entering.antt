@@ -1,14 +1,16 @@
--- An entry that is pushed for a new element, before or after that becomes the current node.
-use Rattle.std.proofs.Common.{◌≡◌, ℕ, Bool, true, false, cond, not, List, [], ◌∷◌, length, leb, filter}
+-- An entry that is pushed for a new element, which is the current node.
+use Rattle.std.proofs.Common.{◌≡◌, ℕ, Bool, true, false, cond, not, List, [], ◌∷◌, length, leb, filter, refl, sym, ◌∙◌, ap}
 use Rattle.std.specs.List.{list_any}
 use Rattle.std.specs.Prelude.{◌&&◌}
-use Rattle.hnodes.specs.Forest.{Attribute}
+use Rattle.hnodes.specs.Edits.{graft, make}
+use Rattle.hnodes.specs.Forest.{Attribute, element}
+use Rattle.hnodes.specs.declared.node.Place.{Place}
 use Rattle.hformat.specs.Formatting.{EntryOf, Listed, marker, entry, entries, after_marker, is_equal, most_equal, without_earliest, with_room, pushed as entry_pushed}
-use Rattle.hopen.specs.Stack.{OpenNode}
-use Rattle.names.specs.declared.refusal.Refusal.TheVariants.{TooDeep}
-use Rattle.hadopt.specs.Inserts.{pushed, listed}
+use Rattle.hopen.specs.Stack.{OpenNode, current}
+use Rattle.names.specs.declared.refusal.Refusal.TheVariants.{TooManyNodes, TooDeep}
+use Rattle.hadopt.specs.Inserts.{pushed, inserted, listed}
 use Rattle.hadopt.specs.Naming.{Naming}
-use Rattle.hadopt.specs.Site.{Outcome, Goes, Refused, and_then, SiteOf, stack, with_items, with_stack}
+use Rattle.hadopt.specs.Site.{Goes, Refused, and_then, SiteOf, stack, trees, with_items, with_stack, with_trees, node_of}
 use Rattle.hadopt.proofs.Lists.{Among, skip, keep, among-all, empty}
 
 module _ {N : Type 0} where
@@ -28,17 +30,31 @@ module _ {N : Type 0} where
       go true = among-earliest (is_equal same new) items
       go false = among-all (entries items)
 
-module _ {N : Type 0} (n : Naming N) (at k : ℕ) (name : N) (attrs : List (Attribute N)) (s : SiteOf N) where
+module _ {N : Type 0} (at : ℕ) (name : N) (attrs : List (Attribute N)) (p : Place) (s t : SiteOf N) where
   abbrev new : OpenNode N
-  new = record { node = k; name = name }
+  new = record { node = s.nodes.made; name = name }
 
-  abbrev items : List (Listed N)
-  items = entry_pushed n.same (record { node = k; name = name; attrs = attrs }) s.items
+  abbrev with_new : SiteOf N
+  with_new = record s { nodes = make (element name attrs) s.nodes }
 
-  -- pushing does not look at the list
-  pub listed-before : (o : Outcome (SiteOf N)) → pushed at new (with_items items s) ≡ o → and_then (pushed at new s) (λ t. Goes (listed n name attrs t)) ≡ o
-  listed-before o = go (leb s.open_nodes.limit (length (stack s)))
+  abbrev placed : SiteOf N
+  placed = with_trees (graft s.nodes.made p (trees with_new)) with_new
+
+  -- a new element is the current node
+  current-inserted : inserted at name attrs p s ≡ Goes t → node_of (current (stack t)) ≡ s.nodes.made
+  current-inserted = go (leb s.nodes.limit s.nodes.made)
     where
-      go : (v : Bool) → cond v (Refused (TooDeep at)) (Goes (with_stack (new ∷ stack s) (with_items items s))) ≡ o → and_then (cond v (Refused (TooDeep at)) (Goes (with_stack (new ∷ stack s) s))) (λ t. Goes (listed n name attrs t)) ≡ o
-      go true is = is
-      go false is = is
+      deepens : (v : Bool) → cond v (Refused (TooDeep at)) (Goes (with_stack (new ∷ stack s) placed)) ≡ Goes t → node_of (current (stack t)) ≡ s.nodes.made
+      deepens true is = cc
+      deepens false is = let same : with_stack (new ∷ stack s) placed ≡ t = cc in rw (← same) refl
+
+      go : (v : Bool) → and_then (and_then (cond v (Refused (TooManyNodes at)) (Goes with_new)) (λ u. Goes (with_trees (graft s.nodes.made p (trees u)) u))) (pushed at new) ≡ Goes t → node_of (current (stack t)) ≡ s.nodes.made
+      go true is = cc
+      go false is = deepens (leb s.open_nodes.limit (length (stack s))) is
+
+  -- and its entry is listed
+  pub listed-after : (n : Naming N) (u : SiteOf N) (k : ℕ) → inserted at name attrs p s ≡ Goes t → k ≡ s.nodes.made → u ≡ with_items (entry_pushed n.same (record { node = k; name = name; attrs = attrs }) t.items) t
+      → and_then (inserted at name attrs p s) (λ v. Goes (listed n name attrs v)) ≡ Goes u
+  listed-after n u k is number entered =
+      ap (λ o. and_then o (λ v. Goes (listed n name attrs v))) is
+      ∙ ap (λ j. Goes (with_items (entry_pushed n.same (record { node = j; name = name; attrs = attrs }) t.items) t)) (current-inserted is ∙ sym number) ∙ ap (λ v. Goes v) (sym entered)

@@ -8,7 +8,6 @@ pub mod Keeping
 pub mod Entering
 pub mod Standing
 pub mod Putting
-pub mod Fresh
 pub mod Calls
 pub mod Made
 pub mod Begun

@@ -88,7 +88,7 @@ impl Site {
         ensures last { IfOk result (λ c. (0 < c.last) × (c.last < self.new.nodes.made)) }
         ensures few { self.new.nodes.made ≤ self.old.nodes.made + 1 }
     {
-        let new = self.create(entry.name, entry.attrs, at)?;
+        let new = self.create_sharing(entry.name, entry.attrs, at)?;
         self.graft(on_way.last, Place::LastIn(new));
         self.replace(
             node,
@@ -233,7 +233,7 @@ impl Site {
     {
         let place = self.place_in(ancestor);
         self.graft(on_way.last, place);
-        let new = self.create(formatting.name, formatting.attrs, at)?;
+        let new = self.create_sharing(formatting.name, formatting.attrs, at)?;
         self.move_children(block, new);
         self.graft(new, Place::LastIn(block));
         self.exchange(

@@ -1,11 +1,10 @@
 //! The edits of the tree and of the stack that the adoption agency is made of.
 
-ghost use Rattle.std.specs.Prelude.{◌≡◌, ◌<◌, ◌≤◌, ◌+◌, ℕ, length, map, IfOk, OnOk, Some, true};
+ghost use Rattle.std.specs.Prelude.{◌≡◌, ◌<◌, ◌≤◌, ◌+◌, ℕ, length, map, IfOk, OnOk, true};
 ghost use Rattle.std.specs.List.{remove_range};
 ghost use Rattle.hnodes.specs.Edits.{IsPlace, graft, move_all, place_node};
 ghost use Rattle.hnodes.specs.Forest.{element, IsOutside};
 ghost use Rattle.hnodes.specs.Rows.{attribute_of};
-ghost use Rattle.hnodes.specs.Spots.{attributes_of};
 ghost use Rattle.hnodes.specs.declared.node.Place.{Place};
 ghost use Rattle.hchain.specs.Nearest.{without, changed, put_before};
 ghost use Rattle.hopen.specs.Opens.{open_of};
@@ -15,7 +14,7 @@ ghost use Rattle.hadopt.specs.Inserts.{made};
 ghost use Rattle.hadopt.specs.Site.{Goes, stack, trees, with_stack, with_trees};
 
 use crate::site::Site;
-use hnodes::{NodeId, Place};
+use hnodes::{Attributes, NodeId, Place};
 use hopen::Open;
 use names::{Attr, NameId, Refusal};
 use std::alloc::AllocError;
@@ -34,11 +33,27 @@ impl Site {
         ensures outside { IfOk result (λ n. (k : ℕ) → k < n → IsOutside k n (trees self.new)) }
         ensures apart { IfOk result (λ n. (k : ℕ) → k < n → IsOutside n k (trees self.new)) }
         ensures places { IfOk result (λ n. (p : Place) → IsPlace p self.old.nodes → IsPlace p self.new.nodes) }
-        ensures attrs { IfOk result (λ n. attributes_of n (trees self.new) ≡ Some (map attribute_of attrs.items)) }
         ensures few { self.new.nodes.made ≤ self.old.nodes.made + 1 }
     {
-        self.tree.are_nodes();
         self.tree.create_element(name, attrs, at)
+    }
+
+    /// Makes a new element that shares its attributes.
+    #[inline(always)]
+    pub(crate) fn create_sharing(
+        &mut self,
+        name: NameId,
+        attrs: Attributes,
+        at: u64,
+    ) -> Result<NodeId, Refusal>
+        ensures done { Gives result self.new (made at (element name attrs) self.old) }
+        ensures number { IfOk result (λ n. (n ≡ self.old.nodes.made) × (0 < n)) }
+        ensures outside { IfOk result (λ n. (k : ℕ) → k < n → IsOutside k n (trees self.new)) }
+        ensures apart { IfOk result (λ n. (k : ℕ) → k < n → IsOutside n k (trees self.new)) }
+        ensures places { IfOk result (λ n. (p : Place) → IsPlace p self.old.nodes → IsPlace p self.new.nodes) }
+        ensures few { self.new.nodes.made ≤ self.old.nodes.made + 1 }
+    {
+        self.tree.create_sharing(name, attrs, at)
     }
 
     /// Moves a node from where it is to a place.

@@ -2,10 +2,9 @@
 
 ghost use Rattle.std.specs.Prelude.{◌≡◌, ◌<◌, ◌+◌, ◌^◌, ◌∷◌, ℕ, List, Some, false, length, map, nat_eq, string_bytes, IfOk, OnOk};
 ghost use Rattle.std.specs.Str.{chars};
-ghost use Rattle.hnodes.specs.Edits.{IsPlace};
-ghost use Rattle.hnodes.specs.Forest.{Attribute, comment, doctype};
+ghost use Rattle.hnodes.specs.Edits.{IsPlace, graft, place_node};
+ghost use Rattle.hnodes.specs.Forest.{comment, doctype, IsOutside};
 ghost use Rattle.hnodes.specs.Rows.{attribute_of};
-ghost use Rattle.hnodes.specs.Spots.{attributes_of};
 ghost use Rattle.hnodes.specs.declared.node.Place.TheVariants.{LastIn};
 ghost use Rattle.hnodes.specs.declared.node.Place.{Place};
 ghost use Rattle.hformat.specs.Formatting.{pushed as entry_pushed};
@@ -19,7 +18,7 @@ ghost use Rattle.hadopt.specs.Naming.{numbers};
 ghost use Rattle.hadopt.specs.Site.{Goes, and_then, stack, trees, with_items, with_trees};
 
 use crate::site::Site;
-use hnodes::{DocumentType, NodeId, Place};
+use hnodes::{Attributes, DocumentType, NodeId, Place};
 use hopen::Open;
 use names::{Attr, NameId, Refusal, Tag};
 use std::alloc::AllocError;
@@ -39,9 +38,38 @@ impl Site {
         ensures kept { Kept numbers self.old → PlaceStands place (trees self.old) → IfOk result (λ _. Kept numbers self.new) }
     {
         let node = self.create(name, attrs, at)?;
-        self.graft(node, place);
-        self.push(Open { node, name }, at)?;
+        self.enter(node, name, place, at)?;
         Ok(node)
+    }
+
+    /// Inserts a new element that shares its attributes, and makes it the current node.
+    pub(crate) fn insert_sharing(
+        &mut self,
+        name: NameId,
+        attrs: Attributes,
+        place: Place,
+        at: u64,
+    ) -> Result<NodeId, Refusal>
+        requires { IsPlace place self.old.nodes }
+        ensures done { Gives result self.new (inserted at name attrs place self.old) }
+        ensures number { IfOk result (λ n. n ≡ self.old.nodes.made) }
+    {
+        let node = self.create_sharing(name, attrs, at)?;
+        self.enter(node, name, place, at)?;
+        Ok(node)
+    }
+
+    /// Puts a new element at a place and makes it the current node.
+    #[inline(always)]
+    fn enter(&mut self, node: NodeId, name: NameId, place: Place, at: u64) -> Result<(), Refusal>
+        requires begun { 0 < node }
+        requires node_in { node < self.old.nodes.made }
+        requires place { IsPlace place self.old.nodes }
+        requires not_inside { IsOutside (place_node place) node (trees self.old) }
+        ensures { Gives result self.new (pushed at (record { node = node; name = name }) (with_trees (graft node place (trees self.old)) self.old)) }
+    {
+        self.graft(node, place);
+        self.push(Open { node, name }, at)
     }
 
     /// Inserts a formatting element, which also gets an entry in the list of active formatting elements.
@@ -59,23 +87,22 @@ impl Site {
         ensures kept { Kept numbers self.old → PlaceStands place (trees self.old) → nat_eq name (number_of Tag.Table) ≡ false
             → IfOk result (λ _. Kept numbers self.new) }
     {
-        let new = self.create(name, attrs, at)?;
-        self.add_entry(new, name)?;
-        self.graft(new, place);
-        self.push(Open { node: new, name }, at)?;
+        let attrs = Attributes::new(attrs, self.alloc)?;
+        let new = self.insert_sharing(name, attrs.share()?, place, at)?;
+        self.add_entry(new, name, attrs)?;
         Ok(new)
     }
 
-    /// Adds an entry for an element, with the attributes that it has.
-    fn add_entry(&mut self, node: NodeId, name: NameId) -> Result<(), AllocError>
-        requires { node < self.old.nodes.made }
-        ensures { (attrs : List (Attribute ℕ)) → attributes_of node (trees self.old) ≡ Some attrs
-            → OnOk result (self.new ≡ with_items (entry_pushed nat_eq (record { node = node; name = name; attrs = attrs }) self.old.items) self.old) }
+    /// Adds an entry for an element.
+    fn add_entry(
+        &mut self,
+        node: NodeId,
+        name: NameId,
+        attrs: Attributes,
+    ) -> Result<(), AllocError>
+        ensures { OnOk result (self.new ≡ with_items (entry_pushed nat_eq (record { node = node; name = name; attrs = attrs }) self.old.items) self.old) }
     {
-        match self.tree.attrs(node) {
-            Some(attrs) => self.list.push(node, name, attrs),
-            None => Ok(()),
-        }
+        self.list.push(node, name, attrs)
     }
 
     /// Inserts a comment at a place.

@@ -12,10 +12,20 @@ ghost use Rattle.hadopt.specs.Naming.{numbers};
 ghost use Rattle.hadopt.specs.Site.{Goes, with_items};
 
 use crate::site::Site;
-use hformat::{Bookmark, Entry, copy_attrs};
+use hformat::{Bookmark, Entry};
 use hnodes::NodeId;
 use names::{NameId, Refusal};
 use std::alloc::AllocError;
+
+/// A copy of an entry.
+fn copy(entry: Option<&Entry>) -> Result<Option<Entry>, AllocError>
+    ensures { IfOk result (λ copy. option_map entry_is copy ≡ option_map (λ e. entry_is e.now) entry.entry) }
+{
+    match entry {
+        Some(entry) => Ok(Some(entry.copy()?)),
+        None => Ok(None),
+    }
+}
 
 impl Site {
     /// Pushes a marker.
@@ -67,41 +77,24 @@ impl Site {
         self.list.move_to_bookmark(from, to, bookmark);
     }
 
-    /// A copy of an entry.
-    fn copy(&self, entry: Option<&Entry>) -> Result<Option<Entry>, AllocError>
-        ensures { IfOk result (λ copy. option_map entry_is copy ≡ option_map (λ e. entry_is e.now) entry.entry) }
-    {
-        match entry {
-            Some(entry) => {
-                let attrs = copy_attrs(self.alloc, &entry.attrs)?;
-                Ok(Some(Entry {
-                    node: entry.node,
-                    name: entry.name,
-                    attrs,
-                }))
-            }
-            None => Ok(None),
-        }
-    }
-
     /// A copy of the entry of a node.
     pub(crate) fn entry_of(&self, node: NodeId) -> Result<Option<Entry>, AllocError>
         ensures { IfOk result (λ copy. option_map entry_is copy ≡ entry_of node self.now.items) }
     {
-        self.copy(self.list.entry_of(node))
+        copy(self.list.entry_of(node))
     }
 
     /// A copy of the entry with `back` items after it.
     pub(crate) fn entry_at(&self, back: usize) -> Result<Option<Entry>, AllocError>
         ensures { IfOk result (λ copy. option_map entry_is copy ≡ entry_at back self.now.items) }
     {
-        self.copy(self.list.get(back))
+        copy(self.list.get(back))
     }
 
     /// A copy of the last entry of a name after the last marker.
     pub(crate) fn find_entry(&self, name: NameId) -> Result<Option<Entry>, AllocError>
         ensures { IfOk result (λ copy. option_map entry_is copy ≡ find_entry nat_eq name self.now.items) }
     {
-        self.copy(self.list.find(name))
+        copy(self.list.find(name))
     }
 }

@@ -1,13 +1,12 @@
 -- What the items of a vector say.
 use Rattle.std.specs.Prelude.{◌≡◌, ℕ, ◌<◌, ◌⊎◌, ◌==◌, Bool, true, false, not, List, [], ◌∷◌, Option, Some, None, filter, map, reverse}
-use Rattle.hnodes.specs.Rows.{attribute_of}
 use Rattle.hformat.specs.Formatting.{EntryOf, Listed, marker, entry}
 use Rattle.hformat.specs.declared.entry.Entry.{Entry}
 use Rattle.hformat.specs.declared.entry.Slot.{Slot as Stored}
 use Rattle.hformat.specs.declared.entry.Slot.TheVariants as stored
 
 abbrev pub entry_is : Entry → EntryOf ℕ
-entry_is e = record { node = e.node; name = e.name; attrs = map attribute_of e.attrs.items }
+entry_is e = record { node = e.node; name = e.name; attrs = e.attrs }
 
 -- no node and no name has this number
 abbrev pub nowhere : ℕ

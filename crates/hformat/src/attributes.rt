@@ -1,4 +1,4 @@
-//! Lists of attributes: copies, and which are equal.
+//! Which lists of attributes are equal.
 
 ghost use Rattle.std.specs.Prelude.{◌≡◌, IfOk, map, nat_eq};
 ghost use Rattle.std.specs.List.{list_any};
@@ -13,18 +13,6 @@ use std::alloc::{AllocError, Global};
 
 /// How many attributes are searched one by one.
 const FEW: usize = 16;
-
-/// Copies a list of attributes, in order.
-#[inline(always)]
-pub fn copy_attrs(alloc: Global, attrs: &[Attr]) -> Result<Vec<Attr>, AllocError>
-    ensures { IfOk result (λ copies. map attribute_of copies.items ≡ map attribute_of attrs.now) }
-{
-    let mut copies = Vec::with_capacity(alloc, attrs.len())?;
-    for attr in attrs {
-        copies.push(attr.copy(alloc)?)?;
-    }
-    Ok(copies)
-}
 
 fn is_same(x: &Attr, y: &Attr) -> bool
     ensures { result ≡ same_attribute nat_eq (attribute_of x.now) (attribute_of y.now) }

@@ -7,7 +7,7 @@ ghost use Rattle.hformat.specs.Formatting.{for_node, is_equal};
 ghost use Rattle.hformat.specs.Items.{entry_is, is_gone, item_of, renamed, told};
 
 use crate::attributes::are_same;
-use hnodes::NodeId;
+use hnodes::{Attributes, NodeId};
 use names::{Attr, NameId};
 use std::alloc::{AllocError, Global};
 
@@ -16,7 +16,7 @@ use std::alloc::{AllocError, Global};
 pub struct Entry {
     pub node: NodeId,
     pub name: NameId,
-    pub attrs: Vec<Attr>,
+    pub attrs: Attributes,
 }
 
 /// A marker or an entry, or the hole that an entry left.
@@ -25,6 +25,19 @@ pub(crate) enum Slot {
     Hole,
     Marker,
     Entry(Entry),
+}
+
+impl Entry {
+    /// A copy, which shares the attributes.
+    pub fn copy(&self) -> Result<Self, AllocError>
+        ensures { IfOk result (λ copy. entry_is copy ≡ entry_is self.now) }
+    {
+        Ok(Entry {
+            node: self.node,
+            name: self.name,
+            attrs: self.attrs.share()?,
+        })
+    }
 }
 
 impl Slot {
@@ -61,7 +74,7 @@ impl Slot {
     {
         match self {
             Slot::Hole | Slot::Marker => Ok(false),
-            Slot::Entry(entry) => Ok(name == entry.name && are_same(alloc, attrs, &entry.attrs)?),
+            Slot::Entry(entry) => Ok(name == entry.name && are_same(alloc, attrs, entry.attrs.as_slice())?),
         }
     }
 

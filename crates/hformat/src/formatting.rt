@@ -3,7 +3,6 @@
 ghost use Rattle.std.specs.Prelude.{◌≡◌, ℕ, suc, ◌-◌, ◌≤◌, ◌∷◌, [], IsTrue, OnOk, OnErr, find, length, map, nat_eq, remove, take};
 ghost use Rattle.std.specs.List.{All, list_any};
 ghost use Rattle.std.specs.Option.{is_some, option_map};
-ghost use Rattle.hnodes.specs.Rows.{attribute_of};
 ghost use Rattle.hformat.specs.Formatting.{cleared, entry_at, entry_of, find_entry, is_entry, marker, pushed, with_node, without_entry, for_node, booked};
 ghost use Rattle.hformat.specs.Formatting.{has_bookmark};
 ghost use Rattle.hformat.specs.Items.{IsStored, entry_is, items_of, live};
@@ -11,13 +10,12 @@ ghost use Rattle.hformat.specs.Listed.{IsListed};
 ghost use Rattle.hchain.specs.Nearest.{changed_at, without};
 ghost use Rattle.hformat.specs.Holes.{nth_live};
 
-use crate::attributes::copy_attrs;
 use crate::bookmark::Bookmark;
 use crate::entry::{Entry, Slot};
 use crate::hashes::find_hash;
 use crate::slots::{MARKER, Numbers, Slots, node_number};
-use hnodes::{NodeId, name_number};
-use names::{Attr, Keys, NameId};
+use hnodes::{Attributes, NodeId, name_number};
+use names::{Keys, NameId};
 use std::alloc::{AllocError, Global};
 use std::marker::Model;
 
@@ -127,17 +125,17 @@ impl Formatting {
         }
     }
 
-    /// Pushes an entry, with copies of the attributes. If three entries after the last marker are equal to it, the earliest of them is
-    /// removed (13.2.4.3). On an error nothing changes.
-    pub fn push(&mut self, node: NodeId, name: NameId, attrs: &[Attr]) -> Result<(), AllocError>
-        ensures ok { OnOk result (self.new ≡ pushed nat_eq (record { node = node; name = name; attrs = map attribute_of attrs.now }) self.old) }
+    /// Pushes an entry. If three entries after the last marker are equal to it, the earliest of them is removed (13.2.4.3). On an error
+    /// nothing changes.
+    pub fn push(&mut self, node: NodeId, name: NameId, attrs: Attributes) -> Result<(), AllocError>
+        ensures ok { OnOk result (self.new ≡ pushed nat_eq (record { node = node; name = name; attrs = attrs }) self.old) }
         ensures err { OnErr result (self.new ≡ self.old) }
     {
-        let attrs = copy_attrs(self.alloc, attrs)?;
         make_room(&mut self.slots)?;
         self.slots.hash_if_crowded(self.alloc, &self.keys, name)?;
-        let hash = find_hash(self.alloc, self.slots.keys, name, &attrs)?;
-        let earliest = self.slots.giving_way(self.alloc, hash, name, &attrs)?;
+        let list = attrs.as_slice();
+        let hash = find_hash(self.alloc, self.slots.keys, name, list)?;
+        let earliest = self.slots.giving_way(self.alloc, hash, name, list)?;
         let numbers = Numbers {
             name: name_number(name),
             hash,

@@ -1,7 +1,7 @@
 //! The list of active formatting elements (HTML Standard, 13.2.4.3).
 #![tactic(auto)]
 
-pub mod attributes;
+mod attributes;
 pub mod bookmark;
 pub mod entry;
 pub mod formatting;
@@ -9,7 +9,6 @@ mod hashes;
 pub mod laws;
 mod slots;
 
-pub use attributes::copy_attrs;
 pub use bookmark::Bookmark;
 pub use entry::Entry;
 pub use formatting::Formatting;

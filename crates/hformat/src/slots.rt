@@ -113,7 +113,7 @@ impl Slots {
                 return false;
             }
             match self.items.get(place - 1) {
-                Some(Slot::Entry(entry)) if entry.attrs.len() <= FEW => {}
+                Some(Slot::Entry(entry)) if entry.attrs.as_slice().len() <= FEW => {}
                 _ => return true,
             }
             place = self.names.before(place);
@@ -360,7 +360,7 @@ fn hash_items(alloc: Global, keys: Option<Keys>, items: &[Slot]) -> Result<Chain
     for index in 0..items.len() {
         match &items[index] {
             Slot::Entry(entry) => {
-                hashes.push(find_hash(alloc, keys, entry.name, &entry.attrs)?)?;
+                hashes.push(find_hash(alloc, keys, entry.name, entry.attrs.as_slice())?)?;
             }
             Slot::Marker => hashes.push(MARKER)?,
             Slot::Hole => {

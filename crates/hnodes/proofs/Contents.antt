@@ -26,15 +26,17 @@ not_text more content.Document h i = refl
 not_text more (content.Doctype d) h i = refl
 not_text more (content.Element a b) h i = refl
 not_text more (content.Wide a b) h i = refl
+not_text more (content.Shared a b) h i = refl
 not_text more (content.Comment a) h i = refl
 not_text more (content.Text a) h i = absurd (h a refl)
 not_text more (content.Short a) h i = absurd (i a refl)
 
-pub not_element : (a : Attribute ℕ) (w : NodeData) → ((n : ℕ) (b : Vec Attr Global) → w ≡ content.Element n b → ⊥) → ((n : ℕ) (b : Box (List (Attribute ℕ)) Global) → w ≡ content.Wide n b → ⊥) → content_is w ≡ with_attribute a (content_is w)
-not_element a content.Document h i = refl
-not_element a (content.Doctype d) h i = refl
-not_element a (content.Element n b) h i = absurd (h n b refl)
-not_element a (content.Wide n b) h i = absurd (i n b refl)
-not_element a (content.Comment t) h i = refl
-not_element a (content.Text t) h i = refl
-not_element a (content.Short t) h i = refl
+pub not_element : (a : Attribute ℕ) (w : NodeData) → ((n : ℕ) (b : Vec Attr Global) → w ≡ content.Element n b → ⊥) → ((n : ℕ) (b : Box (List (Attribute ℕ)) Global) → w ≡ content.Wide n b → ⊥) → ((n : ℕ) (b : List (Attribute ℕ)) → w ≡ content.Shared n b → ⊥) → content_is w ≡ with_attribute a (content_is w)
+not_element a content.Document h i j = refl
+not_element a (content.Doctype d) h i j = refl
+not_element a (content.Element n b) h i j = absurd (h n b refl)
+not_element a (content.Wide n b) h i j = absurd (i n b refl)
+not_element a (content.Shared n b) h i j = absurd (j n b refl)
+not_element a (content.Comment t) h i j = refl
+not_element a (content.Text t) h i j = refl
+not_element a (content.Short t) h i j = refl

@@ -92,29 +92,32 @@ near t v n k x e s h same g = record {
     around = links-among look v.trees n one (once-of (length t.nodes.items) look v.trees o.stands) o.stands.rows
 
 -- what is not of a kind answers nothing
-pub no_name : (w : NodeData) → ((a : ℕ) (b : Vec Attr Global) → w ≡ content.Element a b → ⊥) → ((a : ℕ) (b : Box (List (Attribute ℕ)) Global) → w ≡ content.Wide a b → ⊥) → None ≡ name_in (content_is w)
-no_name content.Document h i = refl
-no_name (content.Doctype d) h i = refl
-no_name (content.Element a b) h i = absurd (h a b refl)
-no_name (content.Wide a b) h i = absurd (i a b refl)
-no_name (content.Comment t) h i = refl
-no_name (content.Text t) h i = refl
-no_name (content.Short t) h i = refl
+pub no_name : (w : NodeData) → ((a : ℕ) (b : Vec Attr Global) → w ≡ content.Element a b → ⊥) → ((a : ℕ) (b : Box (List (Attribute ℕ)) Global) → w ≡ content.Wide a b → ⊥) → ((a : ℕ) (b : List (Attribute ℕ)) → w ≡ content.Shared a b → ⊥) → None ≡ name_in (content_is w)
+no_name content.Document h i j = refl
+no_name (content.Doctype d) h i j = refl
+no_name (content.Element a b) h i j = absurd (h a b refl)
+no_name (content.Wide a b) h i j = absurd (i a b refl)
+no_name (content.Shared a b) h i j = absurd (j a b refl)
+no_name (content.Comment t) h i j = refl
+no_name (content.Text t) h i j = refl
+no_name (content.Short t) h i j = refl
 
-pub no_attributes : (w : NodeData) → ((a : ℕ) (b : Vec Attr Global) → w ≡ content.Element a b → ⊥) → ((a : ℕ) (b : Box (List (Attribute ℕ)) Global) → w ≡ content.Wide a b → ⊥) → None ≡ attributes_in (content_is w)
-no_attributes content.Document h i = refl
-no_attributes (content.Doctype d) h i = refl
-no_attributes (content.Element a b) h i = absurd (h a b refl)
-no_attributes (content.Wide a b) h i = absurd (i a b refl)
-no_attributes (content.Comment t) h i = refl
-no_attributes (content.Text t) h i = refl
-no_attributes (content.Short t) h i = refl
+pub no_attributes : (w : NodeData) → ((a : ℕ) (b : Vec Attr Global) → w ≡ content.Element a b → ⊥) → ((a : ℕ) (b : Box (List (Attribute ℕ)) Global) → w ≡ content.Wide a b → ⊥) → ((a : ℕ) (b : List (Attribute ℕ)) → w ≡ content.Shared a b → ⊥) → None ≡ attributes_in (content_is w)
+no_attributes content.Document h i j = refl
+no_attributes (content.Doctype d) h i j = refl
+no_attributes (content.Element a b) h i j = absurd (h a b refl)
+no_attributes (content.Wide a b) h i j = absurd (i a b refl)
+no_attributes (content.Shared a b) h i j = absurd (j a b refl)
+no_attributes (content.Comment t) h i j = refl
+no_attributes (content.Text t) h i j = refl
+no_attributes (content.Short t) h i j = refl
 
 pub no_text : (w : NodeData) → ((a : String Global) → w ≡ content.Comment a → ⊥) → ((a : String Global) → w ≡ content.Text a → ⊥) → ((a : ArrayString) → w ≡ content.Short a → ⊥) → None ≡ text_in (content_is w)
 no_text content.Document h i j = refl
 no_text (content.Doctype d) h i j = refl
 no_text (content.Element a b) h i j = refl
 no_text (content.Wide a b) h i j = refl
+no_text (content.Shared a b) h i j = refl
 no_text (content.Comment a) h i j = absurd (h a refl)
 no_text (content.Text a) h i j = absurd (i a refl)
 no_text (content.Short a) h i j = absurd (j a refl)
@@ -124,6 +127,7 @@ no_characters content.Document i j = refl
 no_characters (content.Doctype d) i j = refl
 no_characters (content.Element a b) i j = refl
 no_characters (content.Wide a b) i j = refl
+no_characters (content.Shared a b) i j = refl
 no_characters (content.Comment a) i j = refl
 no_characters (content.Text a) i j = absurd (i a refl)
 no_characters (content.Short a) i j = absurd (j a refl)
@@ -133,6 +137,7 @@ no_doctype content.Document h = refl
 no_doctype (content.Doctype d) h = absurd (h d refl)
 no_doctype (content.Element a b) h = refl
 no_doctype (content.Wide a b) h = refl
+no_doctype (content.Shared a b) h = refl
 no_doctype (content.Comment a) h = refl
 no_doctype (content.Text a) h = refl
 no_doctype (content.Short a) h = refl

@@ -11,6 +11,7 @@ pub mod Raw
 pub mod Coding
 pub mod Rows
 pub mod Numbered
+pub mod Shared
 pub mod View
 pub mod Worked
 pub mod Named

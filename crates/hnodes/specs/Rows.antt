@@ -19,6 +19,7 @@ content_is content.Document = document
 content_is (content.Doctype d) = doctype (string_bytes d.value.name) (string_bytes d.value.public_id) (string_bytes d.value.system_id)
 content_is (content.Element name attrs) = element name (map attribute_of attrs.items)
 content_is (content.Wide name attrs) = element name attrs.value
+content_is (content.Shared name attrs) = element name attrs
 content_is (content.Comment t) = comment (string_bytes t)
 content_is (content.Text t) = text (string_bytes t)
 content_is (content.Short t) = text t.bytes

@@ -106,7 +106,7 @@ fn rise(numbers: &[usize]) -> bool
 }
 
 /// Whether the names of attributes differ. Sorts them.
-fn many_differ(attrs: &[Attr], alloc: Global) -> Result<bool, AllocError>
+pub(crate) fn many_differ(attrs: &[Attr], alloc: Global) -> Result<bool, AllocError>
     ensures { IfOk result (λ differ. differ ≡ names_differ nat_eq (map attribute_of attrs.now)) }
 {
     Ok(rise(&ordered_names(attrs, alloc)?))

@@ -1,6 +1,6 @@
-//! Questions on elements: those that ask for a name by its text, and walks that pass over all other nodes.
+//! Questions on elements by names and their texts, and walks that pass over all other nodes.
 
-ghost use Rattle.std.specs.Prelude.{◌≡◌, ◌<◌, ℕ, false, IfSome, IsTrue, OnOk, OnErr};
+ghost use Rattle.std.specs.Prelude.{◌≡◌, ◌<◌, ◌↔◌, ℕ, Some, false, nat_eq, IfSome, IsTrue, OnOk, OnErr};
 ghost use Rattle.std.specs.List.{All};
 ghost use Rattle.std.specs.Option.{option_map, option_map_or};
 ghost use Rattle.hnodes.specs.Edits.{AreNodes};
@@ -8,13 +8,38 @@ ghost use Rattle.hnodes.specs.Elements.{elements_among, is_element, stands_for};
 ghost use Rattle.hnodes.specs.Forest.{roots, children_of};
 ghost use Rattle.hnodes.specs.Passed.{siblings_from};
 ghost use Rattle.hnodes.specs.Spots.{name_of, value_of};
+ghost use Rattle.names.specs.Tags.{tag_of};
 
 use crate::node::NodeId;
 use crate::tree::Tree;
-use names::Names;
+use names::{NameId, Names, Tag};
 use std::marker::Model;
 
 impl Tree {
+    /// The value of an element's attribute of this name.
+    pub fn attr(&self, at: NodeId, name: NameId) -> Option<&str>
+        requires { at < self.now.made }
+        ensures { option_map (λ value. value.now) result ≡ value_of (nat_eq name) at self.now.trees }
+    {
+        for attr in self.attrs(at)? {
+            if attr.name == name {
+                return Some(&attr.value);
+            }
+        }
+        None
+    }
+
+    /// Whether a node is an element of this known name; for `Tag::Other`, of any name that is not known.
+    pub fn is(&self, at: NodeId, tag: Tag) -> bool
+        requires { at < self.now.made }
+        ensures { IsTrue result ↔ (option_map tag_of (name_of at self.now.trees) ≡ Some tag) }
+    {
+        match self.name(at) {
+            Some(name) => name.tag() == tag,
+            None => false,
+        }
+    }
+
     /// The value of an element's attribute by the text of its name: of the first, where there are more. The table is that of the
     /// tree's names. Where many nodes are asked, look the name up once and call [`Tree::attr`].
     pub fn attribute(&self, names: &Names, at: NodeId, name: &str) -> Option<&str>

@@ -6,6 +6,7 @@ mod elements;
 mod laws;
 mod links;
 mod node;
+mod shared;
 mod tree;
 mod walks;
 
@@ -13,5 +14,6 @@ pub use attributes::{index_attrs, name_number};
 pub use elements::ChildElements;
 pub use laws::{edits_know_no_names, questions_know_no_names};
 pub use node::{DocumentType, NodeId, NodeKind, Place};
+pub use shared::Attributes;
 pub use tree::Tree;
 pub use walks::{Ancestors, Children, Descendants};

@@ -7,6 +7,7 @@ ghost use Rattle.hnodes.specs.Links.{alone, with_what};
 ghost use Rattle.hnodes.specs.Rows.{attribute_of, content_is, row_of, IsChanged, IsUnchanged};
 
 use crate::attributes::Indexed;
+use crate::shared::Attributes;
 use arrayvec::ArrayString;
 use names::{Attr, NameId, Refusal};
 use std::alloc::{AllocError, Global};
@@ -78,6 +79,8 @@ pub(crate) enum NodeData {
     Element(NameId, Vec<Attr>),
     /// An element that had more than `FEW` attributes when it was made, or when it got others.
     Wide(NameId, Box<Indexed>),
+    /// An element that was made with attributes that others may have too.
+    Shared(NameId, Attributes),
     Comment(String),
     Text(String),
     /// A text of at most `SHORT` bytes.
@@ -267,15 +270,34 @@ pub(crate) fn text(run: &str, alloc: Global) -> Result<NodeData, AllocError>
 }
 
 /// Adds an attribute at the end of an element's.
-pub(crate) fn push_attr(nodes: &mut Vec<Node>, at: NodeId, attr: Attr) -> Result<(), Refusal>
+pub(crate) fn push_attr(
+    nodes: &mut Vec<Node>,
+    at: NodeId,
+    attr: Attr,
+    alloc: Global,
+) -> Result<(), Refusal>
     requires { at < length nodes.old.items }
     ensures ok { OnOk result (IsChanged at (with_what (with_attribute (attribute_of attr))) nodes.old.items nodes.new.items) }
     ensures err { OnErr result (IsUnchanged nodes.old.items nodes.new.items) }
     ensures memory { IfErr result (λ e. e ≡ Refusal.Memory) }
 {
-    match &mut nodes[at.number as usize].content {
+    add_attr(&mut nodes[at.number as usize].content, attr, alloc)?;
+    Ok(())
+}
+
+/// Adds an attribute at the end of an element's. One that shares its attributes gets its own.
+fn add_attr(content: &mut NodeData, attr: Attr, alloc: Global) -> Result<(), AllocError>
+    ensures ok { OnOk result (content_is content.new ≡ with_attribute (attribute_of attr) (content_is content.old)) }
+    ensures err { OnErr result (content_is content.new ≡ content_is content.old) }
+{
+    match content {
         NodeData::Element(_, attrs) => attrs.push(attr)?,
         NodeData::Wide(_, indexed) => indexed.push(attr)?,
+        NodeData::Shared(name, attrs) => {
+            let name = *name;
+            let own = attrs.with(attr, alloc)?;
+            *content = element(name, own, alloc)?;
+        }
         _ => {}
     }
     Ok(())

@@ -6,7 +6,7 @@ ghost use Rattle.std.specs.Option.{option_map, option_map_or};
 ghost use Rattle.hnodes.specs.Attributes.{add_missing, is_present};
 ghost use Rattle.hnodes.specs.Differing.{names_differ};
 ghost use Rattle.hnodes.specs.Forest.{document, doctype, element, comment, text, tree, none, change_what, IsOutside};
-ghost use Rattle.hnodes.specs.Spots.{parent_of, first_child_of, last_child_of, next_of, previous_of, kind_of, what_of, name_of, attributes_of, value_of};
+ghost use Rattle.hnodes.specs.Spots.{parent_of, first_child_of, last_child_of, next_of, previous_of, kind_of, what_of, name_of, attributes_of};
 ghost use Rattle.hnodes.specs.Spots.{text_of, doctype_of};
 ghost use Rattle.hnodes.specs.Edits.{make, graft, graft_last, graft_before, move_all, add_attribute, add_char, add_chars, with_char, with_text, text_before};
 ghost use Rattle.hnodes.specs.Edits.{IsPlace, place_node, AreNodes};
@@ -14,7 +14,6 @@ ghost use Rattle.hnodes.specs.Makes.{Makes};
 ghost use Rattle.hnodes.specs.Passed.{own_text as own_text_of};
 ghost use Rattle.hnodes.specs.declared.node.Place.{Place};
 ghost use Rattle.hnodes.specs.Rows.{attribute_of, content_is, doctype_texts};
-ghost use Rattle.names.specs.Tags.{tag_of};
 ghost use Rattle.names.specs.declared.refusal.Refusal.TheVariants.{TooManyNodes, Memory};
 ghost use Rattle.std.specs.Char.{encode_utf8};
 ghost use Rattle.std.specs.Str.{chars};
@@ -25,7 +24,8 @@ use crate::node::{
     self, DocumentType, Node, NodeData, NodeId, NodeKind, NodeLink, Place, push_attr, push_char,
     push_text, widen,
 };
-use names::{Attr, NameId, Refusal, Tag};
+use crate::shared::Attributes;
+use names::{Attr, NameId, Refusal};
 use std::alloc::{AllocError, Global};
 use std::marker::Model;
 
@@ -135,6 +135,20 @@ impl Tree {
         self.room(at)?;
         let content = node::element(name, attrs, self.alloc)?;
         self.add(content)
+    }
+
+    /// Makes an element that shares its attributes, loose.
+    #[inline(always)]
+    pub fn create_sharing(
+        &mut self,
+        name: NameId,
+        attrs: Attributes,
+        at: u64,
+    ) -> Result<NodeId, Refusal>
+        ensures { Makes (element name attrs) at self.old self.new result }
+    {
+        self.room(at)?;
+        self.add(NodeData::Shared(name, attrs))
     }
 
     /// Makes a comment, loose.
@@ -371,7 +385,7 @@ impl Tree {
         ensures memory { IfErr result (λ e. e ≡ Memory) }
         ensures err { OnErr result (self.new ≡ self.old) }
     {
-        push_attr(&mut self.nodes, at, attr)
+        push_attr(&mut self.nodes, at, attr, self.alloc)
     }
 
     /// Adds an attribute after an element's others, unless it has one of this name; does nothing to another node. Takes amortized
@@ -406,6 +420,7 @@ impl Tree {
         match &self.nodes[at.number as usize].content {
             NodeData::Element(_, attrs) => has_name(attrs, name),
             NodeData::Wide(_, indexed) => indexed.has(name),
+            NodeData::Shared(_, attrs) => has_name(attrs.as_slice(), name),
             _ => false,
         }
     }
@@ -486,6 +501,7 @@ impl Tree {
             NodeData::Doctype(_) => NodeKind::Doctype,
             NodeData::Element(_, _) => NodeKind::Element,
             NodeData::Wide(_, _) => NodeKind::Element,
+            NodeData::Shared(_, _) => NodeKind::Element,
             NodeData::Comment(_) => NodeKind::Comment,
             NodeData::Text(_) => NodeKind::Text,
             NodeData::Short(_) => NodeKind::Text,
@@ -500,6 +516,7 @@ impl Tree {
         match &self.nodes[at.number as usize].content {
             NodeData::Element(name, _) => Some(*name),
             NodeData::Wide(name, _) => Some(*name),
+            NodeData::Shared(name, _) => Some(*name),
             _ => None,
         }
     }
@@ -512,6 +529,7 @@ impl Tree {
         match &self.nodes[at.number as usize].content {
             NodeData::Element(_, attrs) => Some(attrs),
             NodeData::Wide(_, indexed) => Some(indexed.attrs()),
+            NodeData::Shared(_, attrs) => Some(attrs.as_slice()),
             _ => None,
         }
     }
@@ -524,31 +542,8 @@ impl Tree {
         match &self.nodes[at.number as usize].content {
             NodeData::Element(_, attrs) => few_differ(attrs),
             NodeData::Wide(_, indexed) => indexed.differ(),
+            NodeData::Shared(_, attrs) => attrs.differ(),
             _ => true,
-        }
-    }
-
-    /// The value of an element's attribute of this name.
-    pub fn attr(&self, at: NodeId, name: NameId) -> Option<&str>
-        requires { at < self.now.made }
-        ensures { option_map (λ value. value.now) result ≡ value_of (nat_eq name) at self.now.trees }
-    {
-        for attr in self.attrs(at)? {
-            if attr.name == name {
-                return Some(&attr.value);
-            }
-        }
-        None
-    }
-
-    /// Whether a node is an element of this known name; for `Tag::Other`, of any name that is not known.
-    pub fn is(&self, at: NodeId, tag: Tag) -> bool
-        requires { at < self.now.made }
-        ensures { IsTrue result ↔ (option_map tag_of (name_of at self.now.trees) ≡ Some tag) }
-    {
-        match self.name(at) {
-            Some(name) => name.tag() == tag,
-            None => false,
         }
     }
 

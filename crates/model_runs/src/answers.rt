@@ -151,7 +151,7 @@ impl Answers {
         match entry {
             Some(entry) => {
                 self.element(entry.node, entry.name);
-                self.attrs(&entry.attrs);
+                self.attrs(entry.attrs.as_slice());
             }
             None => self.word("-"),
         }

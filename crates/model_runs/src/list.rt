@@ -9,7 +9,7 @@ use crate::hand::Hand;
 use crate::structures::Reply;
 use crate::words::{after, count, word};
 use hformat::{Bookmark, Formatting};
-use hnodes::NodeId;
+use hnodes::{Attributes, NodeId};
 use names::{Keys, Refusal};
 use std::alloc::Global;
 
@@ -31,8 +31,8 @@ fn begin(list: &mut Formatting, alloc: Global) -> Reply {
 
 fn push(list: &mut Formatting, hand: &mut Hand, line: &str) -> Result<Reply, Refusal> {
     let open = hand.open(line, 2)?;
-    let attrs = hand.attrs(after(line, 4))?;
-    list.push(open.node, open.name, &attrs)?;
+    let attrs = Attributes::new(hand.attrs(after(line, 4))?, hand.alloc)?;
+    list.push(open.node, open.name, attrs)?;
     Ok(Reply::Done)
 }
 

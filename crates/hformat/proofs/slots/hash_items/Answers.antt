@@ -1,9 +1,8 @@
-use Rattle.std.proofs.Common.{◌≡◌, ℕ, suc, ◌+◌, ◌<◌, ◌++◌, ◌∷◌, [], List, length, map, take, get_or, set, subst, refl, sym, ◌∙◌, ap, arith}
+use Rattle.std.proofs.Common.{◌≡◌, ℕ, suc, ◌+◌, ◌<◌, ◌++◌, ◌∷◌, [], List, length, take, get_or, set, subst, refl, sym, ◌∙◌, ap, arith}
 use Rattle.std.proofs.lemmas.List.{length-append, length-map, length-take-le, map-append}
 use Rattle.std.proofs.Math.Seq.{set-append_seam}
 use Rattle.std.proofs.lemmas.Bool.{ne_eqb}
 use Rattle.std.proofs.lemmas.List.Elements.{All-get_or}
-use Rattle.hnodes.specs.Rows.{attribute_of}
 use Rattle.hformat.specs.Hashes.{token_hash}
 use Rattle.hchain.specs.Chains.{none}
 use Rattle.hchain.proofs.Tables.{take-more}
@@ -40,7 +39,7 @@ loop-index-preserved c =
           let stored : IsStored x = subst IsStored (sym read) (All-get_or IsStored items i x c.loop-index-test.true c.requires) in
           let named : e.name < nowhere = (subst IsStored w.in-Entry.is stored).1 in
           let number : w.in_ok-find_hash-in-Entry.field-0 ≡ number_by (by_hash keys) (item_of x) =
-          w.in_ok-find_hash-in-Entry.ensures ∙ ap (λ attrs. suc (suc (token_hash keys e.name (map attribute_of attrs)))) w.deref.ensures.value
+          w.in_ok-find_hash-in-Entry.ensures ∙ ap (λ attrs. suc (suc (token_hash keys e.name attrs))) w.as_slice.ensures
           ∙ rw (ne_eqb e.name nowhere (omega (arith, named))) refl ∙ ap (λ y. number_by (by_hash keys) (item_of y)) (sym w.in-Entry.is)
           in
           w.hashes-is ∙ w.in_ok-push-in-Entry.ensures.ok ∙ pushed w.in_ok-find_hash-in-Entry.field-0 number

@@ -2,11 +2,7 @@ use Rattle.std.proofs.Common.{map}
 use Rattle.hnodes.specs.Forest.{element}
 use Rattle.hnodes.specs.Rows.{attribute_of}
 use Rattle.hadopt.proofs.Made.{made-after_make}
-use Rattle.hadopt.proofs.Fresh.{made-attributes}
 use Rattle.hadopt.proofs.site.Site.create.Goals as goal
 
 pub invariant_of-self : goal.invariant_of-self
 invariant_of-self c = made-after_make c.create_element.result c.self.inside.tree c.create_element.new.self (element c.args.name (map attribute_of c.args.attrs.items)) c.self.inside.stack.stack c.create_element.ensures.ok c.create_element.ensures.err c.self.invariant
-
-pub returns-clause-attrs : goal.returns-clause-attrs
-returns-clause-attrs c = made-attributes c.create_element.result c.self.inside.tree c.create_element.new.self c.args.name (map attribute_of c.args.attrs.items) c.are_nodes.ensures c.create_element.ensures.ok c.create_element.ensures.number

@@ -1,5 +1,4 @@
-use Rattle.std.proofs.Common.{◌≡◌, ℕ, suc, ◌+◌, ◌-◌, ◌∷◌, None, Some, length, refl, ◌∙◌, ap, map, nat_eq, arith}
-use Rattle.hnodes.specs.Rows.{attribute_of}
+use Rattle.std.proofs.Common.{◌≡◌, ℕ, suc, ◌+◌, ◌-◌, ◌∷◌, None, Some, length, refl, ◌∙◌, ap, nat_eq, arith}
 use Rattle.hformat.specs.Formatting.{EntryOf, entry, pushed}
 use Rattle.hformat.specs.Items.{hole, item_of, items_of, live}
 use Rattle.hchain.specs.Nearest.{changed_at}
@@ -13,12 +12,11 @@ pub returns-in-Some-clause-ok : goal.returns-in-Some-clause-ok
 returns-in-Some-clause-ok c =
     let old = c.hash_if_crowded.new.self.items.items in
     let items = c.put.new.self.items.items in
-    let new : EntryOf ℕ = record { node = c.args.node; name = c.args.name; attrs = map attribute_of c.args.attrs.now } in
-    let room = rw (c.deref-2.ensures.value, c.in_ok-attrs.ensures, c.in-Some.is) at c.in_ok-earliest.ensures.room in
+    let new : EntryOf ℕ = record { node = c.args.node; name = c.args.name; attrs = c.args.attrs } in
+    let room = rw (c.as_slice-list.ensures, c.in-Some.is) at c.in_ok-earliest.ensures.room in
     let within = rw c.in-Some.is at c.in_ok-earliest.ensures.within in
     let put : items_of items ≡ entry new ∷ items_of old =
-    items_of_last items old (stored.Entry (record { node = c.args.node; name = c.args.name; attrs = c.in_ok-attrs.attrs })) c.in_ok-put.ensures.ok
-    ∙ ap (λ attrs. entry (record new { attrs = attrs }) ∷ items_of old) c.in_ok-attrs.ensures
+    items_of_last items old (stored.Entry (record { node = c.args.node; name = c.args.name; attrs = c.args.attrs })) c.in_ok-put.ensures.ok
     in
     let at : (c.len.result - 2 - c.in-Some.back) + suc (suc c.in-Some.back) ≡ length items =
     omega (arith, ap length put, length-items_of items, length-items_of old, within)
@@ -30,10 +28,9 @@ pub returns-in_default-clause-ok : goal.returns-in_default-clause-ok
 returns-in_default-clause-ok c =
     let old = c.hash_if_crowded.new.self.items.items in
     let items = c.put.new.self.items.items in
-    let new : EntryOf ℕ = record { node = c.args.node; name = c.args.name; attrs = map attribute_of c.args.attrs.now } in
-    let room = rw (c.deref-2.ensures.value, c.in_ok-attrs.ensures, c.in_default.is) at c.in_ok-earliest.ensures.room in
+    let new : EntryOf ℕ = record { node = c.args.node; name = c.args.name; attrs = c.args.attrs } in
+    let room = rw (c.as_slice-list.ensures, c.in_default.is) at c.in_ok-earliest.ensures.room in
     let put : items_of items ≡ entry new ∷ items_of old =
-    items_of_last items old (stored.Entry (record { node = c.args.node; name = c.args.name; attrs = c.in_ok-attrs.attrs })) c.in_ok-put.ensures.ok
-    ∙ ap (λ attrs. entry (record new { attrs = attrs }) ∷ items_of old) c.in_ok-attrs.ensures
+    items_of_last items old (stored.Entry (record { node = c.args.node; name = c.args.name; attrs = c.args.attrs })) c.in_ok-put.ensures.ok
     in
     ap live put ∙ pushed-live new (omega arith) (items_of old) None room ∙ ap (pushed nat_eq new) (ap (λ xs. live (items_of xs)) c.hash_if_crowded.ensures.items ∙ c.make_room.ensures.same ∙ c.self.view_is)

@@ -8,7 +8,7 @@ use Rattle.hformat.specs.declared.entry.Slot.{Slot as Stored}
 use Rattle.hformat.specs.declared.entry.Slot.TheVariants as stored
 use Rattle.hformat.proofs.slots.Slots.is_crowded.Goals as goal
 
-low : (c : goal.Then-len-le-FEW) → c.loop.place - 1 < length c.args.self.now.items.items
+low : (c : goal.Then-as_slice-le-FEW) → c.loop.place - 1 < length c.args.self.now.items.items
 low c =
     let i = c.loop.place - 1 in
     subst (λ (xs : List Stored). i < length xs) c.deref.ensures.value (ltb-true i (length c.deref.result.now) (sym c.in-Some-Entry.ensures.lookup.0))

@@ -12,5 +12,8 @@ returns-in-Wide c =
     ap (λ xs. Some xs) (c.attrs.ensures ∙ c.deref-in-Wide.ensures) ∙ ap (λ w. attributes_in (content_is w)) (sym c.in-Wide.is)
     ∙ ap (option_and_then attributes_in) (lent_what c.self.inside c.args.self.now c.args.at c.at.inside.number c.index.result.now c.self.view_is c.self.invariant c.requires c.at.view_is c.index.ensures)
 
+pub returns-in-Shared : goal.returns-in-Shared
+returns-in-Shared c = ap (λ xs. Some xs) c.as_slice.ensures ∙ ap (λ w. attributes_in (content_is w)) (sym c.in-Shared.is) ∙ ap (option_and_then attributes_in) (lent_what c.self.inside c.args.self.now c.args.at c.at.inside.number c.index.result.now c.self.view_is c.self.invariant c.requires c.at.view_is c.index.ensures)
+
 pub returns-in_default : goal.returns-in_default
-returns-in_default c = no_attributes c.index.result.now.content c.in_default.not-Element c.in_default.not-Wide ∙ ap (option_and_then attributes_in) (lent_what c.self.inside c.args.self.now c.args.at c.at.inside.number c.index.result.now c.self.view_is c.self.invariant c.requires c.at.view_is c.index.ensures)
+returns-in_default c = no_attributes c.index.result.now.content c.in_default.not-Element c.in_default.not-Wide c.in_default.not-Shared ∙ ap (option_and_then attributes_in) (lent_what c.self.inside c.args.self.now c.args.at c.at.inside.number c.index.result.now c.self.view_is c.self.invariant c.requires c.at.view_is c.index.ensures)

@@ -20,7 +20,13 @@ returns-in-Wide c =
     c.has.ensures ∙ ap (list_any (λ (a : Attribute ℕ). nat_eq a.0 c.args.name)) c.deref-in-Wide.ensures ∙ ap (λ w. is_present nat_eq c.args.name (attributes_in (content_is w))) (sym c.in-Wide.is)
     ∙ ap (λ (o : Option (What ℕ)). is_present nat_eq c.args.name (option_and_then attributes_in o)) (lent_what c.self.inside c.args.self.now c.args.at c.at.inside.number c.index.result.now c.self.view_is c.self.invariant c.requires c.at.view_is c.index.ensures)
 
+pub returns-in-Shared : goal.returns-in-Shared
+returns-in-Shared c =
+    c.has_name-in-Shared.ensures ∙ searched-is c.args.name c.as_slice.result.now ∙ ap (list_any (λ (a : Attribute ℕ). nat_eq a.0 c.args.name)) c.as_slice.ensures
+    ∙ ap (λ w. is_present nat_eq c.args.name (attributes_in (content_is w))) (sym c.in-Shared.is)
+    ∙ ap (λ (o : Option (What ℕ)). is_present nat_eq c.args.name (option_and_then attributes_in o)) (lent_what c.self.inside c.args.self.now c.args.at c.at.inside.number c.index.result.now c.self.view_is c.self.invariant c.requires c.at.view_is c.index.ensures)
+
 pub returns-in_default : goal.returns-in_default
 returns-in_default c =
-    ap (is_present nat_eq c.args.name) (no_attributes c.index.result.now.content c.in_default.not-Element c.in_default.not-Wide)
+    ap (is_present nat_eq c.args.name) (no_attributes c.index.result.now.content c.in_default.not-Element c.in_default.not-Wide c.in_default.not-Shared)
     ∙ ap (λ (o : Option (What ℕ)). is_present nat_eq c.args.name (option_and_then attributes_in o)) (lent_what c.self.inside c.args.self.now c.args.at c.at.inside.number c.index.result.now c.self.view_is c.self.invariant c.requires c.at.view_is c.index.ensures)

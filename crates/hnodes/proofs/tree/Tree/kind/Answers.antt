@@ -17,6 +17,9 @@ returns-in-Element c = ap (λ w. Some (kind_in (content_is w))) (sym c.in-Elemen
 pub returns-in-Wide : goal.returns-in-Wide
 returns-in-Wide c = ap (λ w. Some (kind_in (content_is w))) (sym c.in-Wide.is) ∙ ap (option_map kind_in) (lent_what c.self.inside c.args.self.now c.args.at c.at.inside.number c.index.result.now c.self.view_is c.self.invariant c.requires c.at.view_is c.index.ensures)
 
+pub returns-in-Shared : goal.returns-in-Shared
+returns-in-Shared c = ap (λ w. Some (kind_in (content_is w))) (sym c.in-Shared.is) ∙ ap (option_map kind_in) (lent_what c.self.inside c.args.self.now c.args.at c.at.inside.number c.index.result.now c.self.view_is c.self.invariant c.requires c.at.view_is c.index.ensures)
+
 pub returns-in-Comment : goal.returns-in-Comment
 returns-in-Comment c = ap (λ w. Some (kind_in (content_is w))) (sym c.in-Comment.is) ∙ ap (option_map kind_in) (lent_what c.self.inside c.args.self.now c.args.at c.at.inside.number c.index.result.now c.self.view_is c.self.invariant c.requires c.at.view_is c.index.ensures)
 

@@ -1,6 +1,6 @@
 use Rattle.std.proofs.Common.{◌≡◌, map, take}
 use Rattle.hnodes.specs.Rows.{attribute_of}
-use Rattle.hformat.proofs.attributes.copy_attrs.Given as goal
+use Rattle.hnodes.proofs.shared.copies.Given as goal
 
 abbrev pub invariant-loop-attr : goal.invariant-loop-attr
 invariant-loop-attr l = map attribute_of l.copies.items ≡ map attribute_of (take l.attr-index l.attrs)

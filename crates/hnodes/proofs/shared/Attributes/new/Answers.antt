@@ -1,0 +1,18 @@
+use Rattle.std.proofs.Common.{map, nat_eq, sym, ◌∙◌, ap, refl, arith}
+use Rattle.std.proofs.lemmas.Grind.{common_steps}
+use Rattle.hnodes.specs.Differing.{names_differ}
+use Rattle.hnodes.specs.Rows.{attribute_of}
+use Rattle.hnodes.proofs.shared.Attributes.new.Goals as goal
+
+pub invariant_of-result : goal.invariant_of-result
+invariant_of-result c = refl
+
+pub returns-then-is_empty : goal.returns-then-is_empty
+returns-then-is_empty c = grind (arith, common_steps)
+
+pub invariant_of-result-2 : goal.invariant_of-result-2
+invariant_of-result-2 c =
+    c.in_ok-differ.ensures ∙ ap (λ xs. names_differ nat_eq (map attribute_of xs)) (c.deref.ensures.value ∙ ap (λ list. list.items) (sym c.in_ok-new.ensures.ok))
+
+pub returns : goal.returns
+returns c = ap (λ list. map attribute_of list.items) c.in_ok-new.ensures.ok
