@@ -1,4 +1,5 @@
 mod Adding
+mod AllParts
 mod LineLemmas
 mod Lists
 mod Named

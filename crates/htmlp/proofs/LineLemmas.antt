@@ -16,7 +16,8 @@ use Rattle.clap.proofs.OnLiterals.{clap_on_literals}
 use Rattle.hwrite.specs.Command.{task_named}
 use Rattle.htmlp.specs.declared.fault.Fault.TheVariants as fault
 use Rattle.htmlp.specs.Fault.{fault_by_kind, fault_of_error}
-use Rattle.htmlp.specs.Line.{AreGood, AreNumbers, FaultOf, NumberFault, Numeric, OptionFault, Says, bad_bytes_of, numeric_options, program, task_of, value_of}
+use Rattle.htmlp.specs.declared.numeric.Numeric.{Numeric}
+use Rattle.htmlp.specs.Line.{AreGood, AreNumbers, FaultOf, NumberFault, OptionFault, Says, bad_bytes_of, numeric_options, program, task_of, value_of}
 use Rattle.hwrite.specs.declared.command.Task.{Task}
 use Rattle.htmlp.specs.declared.fault.Fault.{Fault}
 use Rattle.htmlp.specs.declared.said.Line.{Line}
@@ -106,7 +107,7 @@ anyway (Err why) p = tt
 
 number_fault : (words : List Text) (options : List Numeric) (why : Fault) → fault_of program words ≡ [] → NumberFault (value_of words) numeric_options why → FaultOf words why
 number_fault words options fault.Memory none h = tt
-number_fault words options (fault.Number name least most) none h = (none, inl h)
+number_fault words options (fault.Number option text) none h = (none, inl h)
 number_fault words options why none (inl h) = absurd h.1
 number_fault words options why none (inr (h, inl k)) = absurd k.1
 number_fault words options why none (inr (h, inr (k, inl l))) = absurd l.1

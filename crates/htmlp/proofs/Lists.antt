@@ -1,8 +1,12 @@
--- The empty quirks list.
-use Rattle.std.proofs.Common.{◌≡◌, Err, [], ◌∷◌, ◌++◌, List, ℕ}
+-- The lists that the words name, and the empty quirks list.
+use Rattle.std.proofs.Common.{◌≡◌, Option, Some, Result, Ok, Err, [], ◌∷◌, ◌++◌, List, ℕ, inr, option_map, refl, subst, sym}
+use Rattle.std.specs.Borrow.{Bor}
 use Rattle.names.specs.declared.refusal.Refusal.{Refusal}
 use Rattle.names.specs.declared.refusal.Refusal.TheVariants.{Memory}
 use Rattle.hmarkup.specs.Quirks.{ReadsQuirks, no_memory, bad_line, read_all}
+use Rattle.htmlp.specs.declared.fault.Fault.{Fault}
+use Rattle.htmlp.specs.declared.fault.Fault.TheVariants.{Refused}
+use Rattle.htmlp.specs.Program.{Finds}
 
 some_line : (before after : List (List ℕ)) (line : List ℕ) → [] ≡ before ++ line ∷ after → ⊥
 some_line [] after line is = absurd cc
@@ -13,3 +17,19 @@ pub no_line_is_bad : (e : Refusal) → ReadsQuirks [] (Err e) → e ≡ Memory
 no_line_is_bad e (no_memory is) = cc
 no_line_is_bad e (bad_line before after line quirks lines listed bad is) = absurd (some_line before after line lines)
 no_line_is_bad e (read_all quirks listed is) = absurd cc
+
+-- what is read of the file of a name
+module _ {R A : Type 0} (has_text : R → List ℕ → List ℕ → Type 0) (lacks_text : R → List ℕ → Fault → Type 0) (default : A)
+    (reads : List ℕ → Result A Refusal → Type 0) (surroundings : R) (name : Option (Bor (List ℕ))) (file : Bor (List ℕ)) (is : name ≡ Some file)
+    (read text : List ℕ) (same : read ≡ text) (has : has_text surroundings file.now text) where
+  abbrev FindsIn : Option (Bor (List ℕ)) → Result A Fault → Type 0
+  FindsIn its = Finds has_text lacks_text default reads surroundings (option_map (λ s. s.now) its)
+
+  has_read : has_text surroundings file.now read
+  has_read = subst (has_text surroundings file.now) (sym same) has
+
+  pub list_read : (list : A) → reads read (Ok list) → FindsIn name (Ok list)
+  list_read list h = subst (λ its. FindsIn its (Ok list)) (sym is) (read, has_read, h)
+
+  pub list_refused : (refusal : Refusal) → reads read (Err refusal) → FindsIn name (Err (Refused refusal name))
+  list_refused refusal h = subst (λ its. FindsIn its (Err (Refused refusal its))) (sym is) (inr (read, refusal, has_read, h, (refl, refl)))

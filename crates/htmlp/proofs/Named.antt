@@ -1,15 +1,20 @@
 -- What the words say, where they are read.
-use Rattle.std.proofs.Common.{◌≡◌, ◌∙◌, ap, ap₂, sym, subst, codes, Option, option_map, ℕ, List, Ok, Err}
+use Rattle.std.proofs.Common.{◌≡◌, ◌⊎◌, ◌∙◌, inl, inr, ap, ap₂, sym, subst, codes, Option, option_map, ℕ, List, Ok, Err}
+use Rattle.std.proofs.Math.Nat.{le_refl}
 use Rattle.std.specs.Borrow.{Bor}
 use Rattle.clap.specs.Words.{Text}
 use Rattle.charref.specs.Reference.{Entities}
 use Rattle.hmarkup.specs.Quirks.{QuirkLine}
-use Rattle.names.specs.declared.refusal.Refusal.TheVariants.{BadContext, BadLimits}
+use Rattle.names.specs.declared.refusal.Refusal.TheVariants.{BadContext}
 use Rattle.htext.specs.declared.decoder.TheConstants.{MAX_INPUT}
 use Rattle.hmodes.specs.Bounds.{AreLimits, Bounds}
 use Rattle.hwrite.specs.Context.{AllowsContext}
 use Rattle.htmlp.specs.declared.fault.Fault.{Fault}
-use Rattle.htmlp.specs.declared.fault.Fault.TheVariants as fault
+use Rattle.htmlp.specs.Fault.{IsLimitFault, IsRefused}
+use Rattle.htmlp.specs.declared.fault.Fault.TheVariants.{Limit}
+use Rattle.htmlp.specs.declared.numeric.Numeric.{Numeric}
+use Rattle.htmlp.specs.declared.numeric.Numeric.TheVariants.{Nodes, Open}
+use Rattle.htmlp.specs.Numeric.{IsWithin, range_of}
 use Rattle.htmlp.specs.declared.said.Line.{Line}
 use Rattle.htmlp.specs.Line.{Says, task_of, value_of}
 use Rattle.htmlp.specs.Program.{FindsTable, FindsQuirks, FirstFault, no_table, no_quirks, no_limits, no_context, Tells, ParseOptions, limits_of}
@@ -28,6 +33,16 @@ told_with line table quirks limits = record {
 
 abbrev limits_from : ℕ → ℕ → Bounds
 limits_from nodes depth = record { input = MAX_INPUT; tree = record { nodes = nodes; depth = depth } }
+
+-- limits that are refused, by the first that is out of its range
+pub limit_fault : (nodes depth : ℕ) (bad : Numeric) → (AreLimits (limits_from nodes depth) → ⊥)
+    → ((IsWithin (range_of Nodes) nodes → ⊥) × (bad ≡ Nodes)) ⊎ (IsWithin (range_of Nodes) nodes × (bad ≡ Open)) → IsLimitFault (limits_from nodes depth).tree (Limit bad)
+limit_fault nodes depth bad none (inl (out, is)) = inl (out, ap Limit is)
+limit_fault nodes depth bad none (inr (within, is)) = inr (
+  within,
+  (λ depth_within. none (record { most_input = le_refl _; some_nodes = within.0; most_nodes = within.1; some_depth = depth_within.0; most_depth = depth_within.1 })),
+  ap Limit is,
+)
 
 module _ {R : Type 0} (has_text : R → List ℕ → List ℕ → Type 0) (lacks_text : R → List ℕ → Fault → Type 0) (surroundings : R) (words : List Text) (line : Line)
     (says : Says (task_of words) (value_of words) line) where
@@ -60,13 +75,15 @@ module _ {R : Type 0} (has_text : R → List ℕ → List ℕ → Type 0) (lacks
   quirks_missing table why found is = no_quirks table (table_found table found) (subst (λ name. FindsQuirks has_text lacks_text surroundings name (Err why)) says.quirks_is is)
 
   pub limits_refused : (table : Entities) (quirks : List QuirkLine) (why : Fault) → IsTable table → IsQuirks quirks → (AreLimits (limits_from line.nodes line.open) → ⊥)
-      → why ≡ fault.Refused BadLimits → FirstFault has_text lacks_text surroundings words why
-  limits_refused table quirks why found listed none is = no_limits table quirks (table_found table found) (quirks_found quirks listed) (λ are. none (limits_said are)) is
+      → IsLimitFault (limits_from line.nodes line.open).tree why → FirstFault has_text lacks_text surroundings words why
+  limits_refused table quirks why found listed none is =
+      no_limits table quirks (table_found table found) (quirks_found quirks listed) (λ are. none (limits_said are)) (subst (λ (b : Bounds). IsLimitFault b.tree why) limits_are is)
 
   pub context_refused : (table : Entities) (quirks : List QuirkLine) (why : Fault) → IsTable table → IsQuirks quirks → AreLimits (limits_from line.nodes line.open)
-      → (AllowsContext (name_of line.command.context) → ⊥) → why ≡ fault.Refused BadContext → FirstFault has_text lacks_text surroundings words why
+      → (AllowsContext (name_of line.command.context) → ⊥) → IsRefused (name_of line.command.context) BadContext why → FirstFault has_text lacks_text surroundings words why
   context_refused table quirks why found listed are none is =
-      no_context table quirks (table_found table found) (quirks_found quirks listed) (limits_found are) (λ allows. none (subst AllowsContext (sym says.context_is) allows)) is
+      no_context table quirks (table_found table found) (quirks_found quirks listed) (limits_found are) (λ allows. none (subst AllowsContext (sym says.context_is) allows))
+      (subst (λ name. IsRefused name BadContext why) says.context_is is)
 
   pub tells : (table : Entities) (quirks : List QuirkLine) (limits : Bounds) → IsTable table → IsQuirks quirks → AreLimits (limits_from line.nodes line.open)
       → AllowsContext (name_of line.command.context) → limits ≡ limits_from line.nodes line.open → Tells has_text lacks_text surroundings words (told_with line table quirks limits)

@@ -1,13 +1,15 @@
 -- What comes of a call that is passed up.
-use Rattle.std.proofs.Common.{◌≡◌, Result, Ok, Err, MatchResult, ap, sym, subst}
+use Rattle.std.proofs.Common.{◌≡◌, Result, Ok, Err, None, MatchResult, ap, refl, sym, subst}
 use Rattle.std.specs.Prelude.{IsErrAnd}
 use Rattle.names.specs.declared.refusal.Refusal.{Refusal}
 use Rattle.htmlp.specs.declared.fault.Fault.{Fault}
 use Rattle.htmlp.specs.declared.fault.Fault.TheVariants as fault
+use Rattle.htmlp.specs.Fault.{IsRefused}
+use Rattle.htmlp.specs.Program.{IsOutcome}
 
-pub refused : (outcome : Result (Unit {0}) Fault) (refusal : Refusal) → IsErrAnd outcome (λ f. f ≡ fault.Refused refusal) → outcome ≡ Err (fault.Refused refusal)
+pub refused : (outcome : Result (Unit {0}) Fault) (refusal : Refusal) → IsErrAnd outcome (λ f. f ≡ fault.Refused refusal None) → IsOutcome None (Err refusal) outcome
 refused (Ok _) refusal is = absurd is
-refused (Err f) refusal is = ap (λ x. Err x) is
+refused (Err f) refusal is = subst (IsRefused None refusal) (sym is) (refl, refl)
 
 pub passed_on : (outcome : Result (Unit {0}) Fault) (f : Fault) → IsErrAnd outcome (λ g. g ≡ f) → outcome ≡ Err f
 passed_on (Ok _) f is = absurd is

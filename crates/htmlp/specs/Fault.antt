@@ -1,10 +1,16 @@
 -- Faults.
-use Rattle.clap.specs.Words.{kind_of}
+use Rattle.std.specs.Prelude.{◌≡◌, ◌⊎◌, Option, Some, option_map}
+use Rattle.clap.specs.Words.{Text, kind_of}
 use Rattle.clap.specs.declared.error.Error.{Error}
 use Rattle.clap.specs.declared.error.kind.ErrorKind.{ErrorKind}
 use Rattle.clap.specs.declared.error.kind.ErrorKind.TheVariants.{OutOfMemory}
+use Rattle.names.specs.declared.refusal.Refusal.{Refusal}
+use Rattle.names.specs.declared.refusal.Refusal.TheVariants.{Read}
+use Rattle.hmodes.specs.Beginning.{Limits}
 use Rattle.htmlp.specs.declared.fault.Fault.{Fault}
-use Rattle.htmlp.specs.declared.fault.Fault.TheVariants.{Memory, Line}
+use Rattle.htmlp.specs.declared.fault.Fault.TheVariants.{Limit, Line, Memory, Refused}
+use Rattle.htmlp.specs.declared.numeric.Numeric.TheVariants.{Nodes, Open}
+use Rattle.htmlp.specs.Numeric.{IsWithin, range_of}
 
 -- the fault of an error of the kind, as `clap` gives it
 abbrev pub fault_by_kind : ErrorKind → Error → Fault
@@ -14,3 +20,17 @@ fault_by_kind _ error = Line error
 -- the fault that an error of `clap` is
 abbrev pub fault_of_error : Error → Fault
 fault_of_error error = fault_by_kind (kind_of error) error
+
+-- a refusal of what has this name on the command line, if it has one
+abbrev pub IsRefused : Option Text → Refusal → Fault → Type 0
+IsRefused name refusal (Refused its named) = (its ≡ refusal) × (option_map (λ s. s.now) named ≡ name)
+IsRefused name refusal _ = ⊥
+
+-- the file of this name has no text that can be read, or memory ran out
+abbrev pub IsUnread : Text → Fault → Type 0
+IsUnread name why = (why ≡ Memory) ⊎ IsRefused (Some name) Read why
+
+-- the first of the limits that is out of its range
+abbrev pub IsLimitFault : Limits → Fault → Type 0
+IsLimitFault limits why = ((IsWithin (range_of Nodes) limits.nodes → ⊥) × (why ≡ Limit Nodes))
+    ⊎ (IsWithin (range_of Nodes) limits.nodes × (IsWithin (range_of Open) limits.depth → ⊥) × (why ≡ Limit Open))

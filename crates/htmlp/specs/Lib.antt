@@ -1,4 +1,5 @@
 pub mod Ending
 pub mod Fault
 pub mod Line
+pub mod Numeric
 pub mod Program

@@ -1,5 +1,5 @@
 -- The command line of the program, in the words of `clap`, and what its words say.
-use Rattle.std.specs.Prelude.{◌≡◌, ◌⊎◌, ◌^◌, ◌-◌, ℕ, ⊤, Bool, true, false, List, [], ◌∷◌, map, Option, None, Some, option_and_then, option_map, bytes_eq}
+use Rattle.std.specs.Prelude.{◌≡◌, ◌⊎◌, ◌||◌, ℕ, ⊤, Bool, true, false, List, [], ◌∷◌, map, Option, None, Some, option_and_then, option_map, bytes_eq}
 use Rattle.std.specs.Prelude.{codes, IsSome, ◌==◌, if◌then◌else◌}
 use Rattle.std.specs.Str.Parse.{digits_value, without_leading_plus}
 use Rattle.clap.specs.Words.{App, IsAmong, IsUnsignedIn, Rule, Text, fault_of, first_of, kind_of, new_app, new_rule, subcommand_of, with_rule, with_subcommand}
@@ -15,6 +15,9 @@ use Rattle.htmlp.specs.declared.commands.Reads.{Reads}
 use Rattle.htmlp.specs.declared.commands.Reads.TheVariants.{Document, Either, Fragment, Written}
 use Rattle.htmlp.specs.declared.fault.Fault.{Fault}
 use Rattle.htmlp.specs.declared.fault.Fault.TheVariants as fault
+use Rattle.htmlp.specs.declared.numeric.Numeric.{Numeric}
+use Rattle.htmlp.specs.declared.numeric.Numeric.TheVariants as numeric
+use Rattle.htmlp.specs.Numeric.{accepted, name_of}
 use Rattle.htmlp.specs.declared.said.Line.{Line}
 
 -- `[FILE]`
@@ -72,9 +75,9 @@ commands =
 abbrev pub program : App
 program = with_commands commands bare_program
 
--- whether the words are `--version` alone, after the program's own name
+-- whether the words are `--version` or `-V` alone, after the program's own name
 abbrev pub asks_version : List Text → Bool
-asks_version (own ∷ word ∷ []) = bytes_eq word (codes "--version")
+asks_version (own ∷ word ∷ []) = bytes_eq word (codes "--version") || bytes_eq word (codes "-V")
 asks_version words = false
 
 -- the task that the words name
@@ -89,30 +92,14 @@ value_of words id = option_and_then (λ command. first_of id command.1) (subcomm
 abbrev pub number_of : Text → ℕ
 number_of text = digits_value 10 (without_leading_plus text)
 
--- An option that is a number, with its range.
-pub record Numeric : Type 0 where
-  pub name : Text
-  pub least : ℕ
-  pub most : ℕ
-
-abbrev pub piece_option : Numeric
-piece_option = record { name = codes "piece"; least = 1; most = 65536 }
-
--- a limit out of its range is refused later
-abbrev pub limit_option : Text → Numeric
-limit_option name = record { name = name; least = 0; most = 2 ^ 64 - 1 }
-
-abbrev pub escape_option : Numeric
-escape_option = record { name = codes "escape"; least = 1; most = 2 }
-
 -- those of the commands, in the order in which they are read
 abbrev pub numeric_options : List Numeric
-numeric_options = piece_option ∷ limit_option (codes "nodes") ∷ limit_option (codes "open") ∷ escape_option ∷ []
+numeric_options = numeric.Piece ∷ numeric.Nodes ∷ numeric.Open ∷ numeric.Escape ∷ []
 
--- its value, if there is one, is a number in its range
+-- its value, if there is one, is a number that is read
 abbrev pub IsNumber : Numeric → Option Text → Type 0
 IsNumber option None = ⊤
-IsNumber option (Some text) = IsUnsignedIn option.least option.most text
+IsNumber option (Some text) = IsUnsignedIn (accepted option).0 (accepted option).1 text
 
 -- the number of a value, or this one where there is none
 abbrev pub number_or : ℕ → Option Text → ℕ
@@ -128,21 +115,21 @@ abbrev pub bad_bytes_of : Option Text → Option BadBytes
 bad_bytes_of None = Some Refuse
 bad_bytes_of (Some word) = if bytes_eq word (codes "refuse") then Some Refuse else (if bytes_eq word (codes "replace") then Some Replace else None)
 
--- each of these options is a number in its range, where it has a value
+-- each of these options is a number that is read, where it has a value
 abbrev pub AreNumbers : (Text → Option Text) → List Numeric → Type 0
 AreNumbers value [] = ⊤
-AreNumbers value (option ∷ options) = IsNumber option (value option.name) × AreNumbers value options
+AreNumbers value (option ∷ options) = IsNumber option (value (name_of option)) × AreNumbers value options
 
--- a fault says that the value of the option is no number in its range
-abbrev pub IsNumberFault : Numeric → Fault → Type 0
-IsNumberFault option (fault.Number name least most) = (name.now ≡ option.name) × (least ≡ option.least) × (most ≡ option.most)
-IsNumberFault option _ = ⊥
+-- a fault says that the value of the option is no such number
+abbrev pub IsNumberFault : (Text → Option Text) → Numeric → Fault → Type 0
+IsNumberFault value option (fault.Number its text) = (its ≡ option) × (value (name_of option) ≡ Some text.now)
+IsNumberFault value option _ = ⊥
 
 -- A fault says so of the first of these options whose value is none.
 abbrev pub NumberFault : (Text → Option Text) → List Numeric → Fault → Type 0
 NumberFault value [] why = ⊥
-NumberFault value (option ∷ options) why = ((IsNumber option (value option.name) → ⊥) × IsNumberFault option why)
-    ⊎ (IsNumber option (value option.name) × NumberFault value options why)
+NumberFault value (option ∷ options) why = ((IsNumber option (value (name_of option)) → ⊥) × IsNumberFault value option why)
+    ⊎ (IsNumber option (value (name_of option)) × NumberFault value options why)
 
 -- All values are as they should be; or a fault says of the first one that is not.
 abbrev pub AreGood : (Text → Option Text) → Type 0
@@ -170,6 +157,6 @@ pub record Says (task : Option Task) (value : Text → Option Text) (line : Line
 abbrev pub FaultOf : List Text → Fault → Type 0
 FaultOf words fault.Memory = ⊤
 FaultOf words (fault.Line error) = IsAmong (kind_of error) (fault_of program words)
-FaultOf words (fault.Number name least most) = (fault_of program words ≡ []) × OptionFault (value_of words) (fault.Number name least most)
+FaultOf words (fault.Number option text) = (fault_of program words ≡ []) × OptionFault (value_of words) (fault.Number option text)
 FaultOf words fault.BadBytes = (fault_of program words ≡ []) × OptionFault (value_of words) fault.BadBytes
 FaultOf words _ = ⊥

@@ -1,10 +1,10 @@
 -- What the program does in its surroundings. `has_words`, `cannot_begin` (there are no words, or no keys), `opens` and `cannot_open` say
 -- what calls of the surroundings returned; of a reader `left` says the bytes that it has left, where it says, and of a writer `written`
 -- those that it has taken; `failed` says how many of their calls have failed.
-use Rattle.std.specs.Prelude.{◌≡◌, ◌⊎◌, ℕ, List, [], true, false, Option, None, Some, Result, Ok, Err, IfSome, MatchResult, option_map, codes}
+use Rattle.std.specs.Prelude.{◌≡◌, ◌⊎◌, ℕ, List, [], true, false, Option, None, Some, Result, Ok, Err, IfSome, MatchResult, option_map, codes, IsErrAnd}
 use Rattle.clap.specs.Words.{Text, takes}
 use Rattle.names.specs.declared.refusal.Refusal.{Refusal}
-use Rattle.names.specs.declared.refusal.Refusal.TheVariants.{Memory, BadLimits, BadContext}
+use Rattle.names.specs.declared.refusal.Refusal.TheVariants.{Memory, Read, BadContext}
 use Rattle.charref.specs.Reference.{Entities, core}
 use Rattle.charref.specs.Reading.{table_of, IsRefusedWith}
 use Rattle.hmarkup.specs.Quirks.{QuirkLine, ReadsQuirks}
@@ -23,13 +23,14 @@ use Rattle.hwrite.specs.Running.{RunsTask}
 use Rattle.htmlp.specs.declared.fault.Fault.{Fault}
 use Rattle.htmlp.specs.declared.fault.Fault.TheVariants as fault
 use Rattle.htmlp.specs.Ending.{ending_text, status_of}
+use Rattle.htmlp.specs.Fault.{IsLimitFault, IsRefused, IsUnread}
 use Rattle.htmlp.specs.Line.{program, task_of, value_of, asks_version, escaping_of, number_or, bad_bytes_of, AreGood, FaultOf}
 use Rattle.htmlp.specs.declared.version.TheConstants.{VERSION}
 
--- what a run of the engine is for the program
-abbrev pub outcome_of : Result (Unit {0}) Refusal → Result (Unit {0}) Fault
-outcome_of (Ok _) = Ok tt
-outcome_of (Err refusal) = Err (fault.Refused refusal)
+-- what a run of the engine, over what has this name, is for the program
+abbrev pub IsOutcome : Option Text → Result (Unit {0}) Refusal → Result (Unit {0}) Fault → Type 0
+IsOutcome name (Ok _) outcome = outcome ≡ Ok tt
+IsOutcome name (Err refusal) outcome = IsErrAnd outcome (IsRefused name refusal)
 
 -- what the program is to do, with what
 pub record ParseOptions : Type 0 where
@@ -55,20 +56,20 @@ limits_of words = record {
   tree = record { nodes = number_or 16777216 (value_of words (codes "nodes")); depth = number_or 1048576 (value_of words (codes "open")) };
 }
 
--- The engine ran over an input.
-abbrev pub AnswersInput : {S W : Type 0} → (S → Option (List ℕ)) → (S → ℕ) → (W → Option (List ℕ)) → (W → ℕ) → ParseOptions → S → S → W → W
+-- The engine ran over an input of this name.
+abbrev pub AnswersInput : {S W : Type 0} → (S → Option (List ℕ)) → (S → ℕ) → (W → Option (List ℕ)) → (W → ℕ) → ParseOptions → Text → S → S → W → W
     → Result (Unit {0}) Fault
     → Type 0
-AnswersInput left reads written writes opts source source' target target' outcome =
+AnswersInput left reads written writes opts name source source' target target' outcome =
     (answer : Result (Unit {0}) Refusal)
     × RunsTask left reads written writes opts.escaping opts.task opts.context opts.settings opts.piece source source' target target' answer
-    × (outcome ≡ outcome_of answer)
+    × IsOutcome (Some name) answer outcome
 
 -- The version was written.
 pub record WritesVersion {W : Type 0} (written : W → Option (List ℕ)) (writes : W → ℕ) (target target' : W) (outcome : Result (Unit {0}) Fault) : Type 0 where
   pub answer : Result (Unit {0}) Refusal
   pub writes_text : WritesText written writes VERSION.now target target' answer
-  pub outcome_is : outcome ≡ outcome_of answer
+  pub outcome_is : IsOutcome None answer outcome
 
 -- what is read of the text of a table of character references
 abbrev pub ReadsTable : List ℕ → Result Entities Refusal → Type 0
@@ -78,10 +79,10 @@ module _ {R : Type 0} (has_text : R → List ℕ → List ℕ → Type 0) (lacks
   -- What is found of a list: what is read of the text of the named file, or the default, or why there is none.
   abbrev pub Finds : {A : Type 0} → A → (List ℕ → Result A Refusal → Type 0) → R → Option Text → Result A Fault → Type 0
   Finds default reads surroundings None (Ok found) = found ≡ default
-  Finds default reads surroundings None (Err why) = why ≡ fault.Refused Memory
+  Finds default reads surroundings None (Err why) = IsRefused None Memory why
   Finds default reads surroundings (Some name) (Ok found) = (text : List ℕ) × has_text surroundings name text × reads text (Ok found)
-  Finds default reads surroundings (Some name) (Err why) = lacks_text surroundings name why
-      ⊎ ((text : List ℕ) × (refusal : Refusal) × has_text surroundings name text × reads text (Err refusal) × (why ≡ fault.Refused refusal))
+  Finds default reads surroundings (Some name) (Err why) = (lacks_text surroundings name why × IsUnread name why)
+      ⊎ ((text : List ℕ) × (refusal : Refusal) × has_text surroundings name text × reads text (Err refusal) × IsRefused (Some name) refusal why)
 
   -- the table of character references, or the core table; the quirks list, or the empty one
   abbrev pub FindsTable : R → Option Text → Result Entities Fault → Type 0
@@ -111,10 +112,11 @@ module _ {R : Type 0} (has_text : R → List ℕ → List ℕ → Type 0) (lacks
         → FindsQuirks surroundings (value_of words (codes "quirks")) (Err why) → FirstFault surroundings words why
     no_limits : (table : Entities) (quirks : List QuirkLine) → FindsTable surroundings (value_of words (codes "entities")) (Ok table)
         → FindsQuirks surroundings (value_of words (codes "quirks")) (Ok quirks)
-        → (AreLimits (limits_of words) → ⊥) → why ≡ fault.Refused BadLimits → FirstFault surroundings words why
+        → (AreLimits (limits_of words) → ⊥) → IsLimitFault (limits_of words).tree why → FirstFault surroundings words why
     no_context : (table : Entities) (quirks : List QuirkLine) → FindsTable surroundings (value_of words (codes "entities")) (Ok table)
         → FindsQuirks surroundings (value_of words (codes "quirks")) (Ok quirks) → AreLimits (limits_of words)
-        → (AllowsContext (value_of words (codes "in")) → ⊥) → why ≡ fault.Refused BadContext → FirstFault surroundings words why
+        → (AllowsContext (value_of words (codes "in")) → ⊥) → IsRefused (value_of words (codes "in")) BadContext why
+        → FirstFault surroundings words why
 
 module _ {R F : Type 0} (opens : R → List ℕ → F → Type 0) (cannot_open : R → List ℕ → Type 0) (left_in_file : F → Option (List ℕ))
     (failed_in_file : F → ℕ) where
@@ -122,10 +124,10 @@ module _ {R F : Type 0} (opens : R → List ℕ → F → Type 0) (cannot_open :
   pub data AnswersFile {W : Type 0} (written : W → Option (List ℕ)) (writes : W → ℕ)
       (opts : ParseOptions) (surroundings : R) (name : List ℕ) (output output' : W)
       (outcome : Result (Unit {0}) Fault) : Type 0 where
-    file_missing : cannot_open surroundings name → outcome ≡ Err fault.CannotRead → output' ≡ output
+    file_missing : cannot_open surroundings name → IsOutcome (Some name) (Err Read) outcome → output' ≡ output
         → AnswersFile written writes opts surroundings name output output' outcome
     file_answered : (file file' : F) → opens surroundings name file
-        → AnswersInput left_in_file failed_in_file written writes opts file file' output output' outcome
+        → AnswersInput left_in_file failed_in_file written writes opts name file file' output output' outcome
         → AnswersFile written writes opts surroundings name output output' outcome
 
   module _ {S W : Type 0} (has_text : R → List ℕ → List ℕ → Type 0) (lacks_text : R → List ℕ → Fault → Type 0)
@@ -146,7 +148,7 @@ module _ {R F : Type 0} (opens : R → List ℕ → F → Type 0) (cannot_open :
           → AnswersWords surroundings words input input' output output' outcome
       -- they name none: the input is the standard input
       words_without_file : (opts : ParseOptions) → Tells has_text lacks_text surroundings words opts → value_of words (codes "file") ≡ None
-          → AnswersInput left reads written writes opts input input' output output' outcome
+          → AnswersInput left reads written writes opts (codes "standard input") input input' output output' outcome
           → AnswersWords surroundings words input input' output output' outcome
 
 module _ {R F S W : Type 0} (has_words : R → List Text → Type 0) (cannot_begin : R → Fault → Type 0) (opens : R → List ℕ → F → Type 0)
@@ -166,7 +168,7 @@ module _ {R F S W : Type 0} (has_words : R → List Text → Type 0) (cannot_beg
         output' outcome
         → Answers surroundings input input' output output' outcome
 
-  -- The program does what its command line says, writes the line of its ending to standard error, and returns its status.
+  -- The program does what its command line says, writes the lines of its ending to standard error, and returns its status.
   pub record Ends {E : Type 0} (errors_written : E → Option (List ℕ)) (errors_failed : E → ℕ) (surroundings : R) (input input' : S)
       (output output' : W)
       (errors errors' : E) (status : ℕ) : Type 0 where

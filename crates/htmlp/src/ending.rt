@@ -1,15 +1,18 @@
-//! How the program ends: its status, and its line on standard error.
+//! How the program ends: its status, and its lines on standard error.
 
 ghost use Rattle.std.specs.Prelude.{◌≡◌, ◌∷◌, ◌++◌, [], IfSome, Some, codes, option_map};
 ghost use Rattle.hwrite.specs.Calls.{EndsWith, WritesAll};
-ghost use Rattle.htmlp.specs.Ending.{ending_text, fault_line, fault_status, refusal_line, status_of};
+ghost use Rattle.htmlp.specs.Ending.{around_name, ending_text, fault_status, fault_text, limit_line, name_line, number_lines, range_text};
+ghost use Rattle.htmlp.specs.Ending.{refusal_line, refusal_status, status_of};
 ghost use Rattle.names.specs.RefusalText.{detail_of, detail_text, number_of, number_text, refusal_text};
 
 use crate::fault::Fault;
-use hwrite::{Target, write_all};
+use crate::numeric::Numeric;
+use crate::parts::{write_part, write_parts};
+use crate::tip::WithoutTip;
+use hwrite::Target;
 use itoa::Buffer;
 use names::Refusal;
-use std::fmt;
 use std::fmt::Write;
 
 /// The status of a refusal.
@@ -18,12 +21,8 @@ const REFUSED: u8 = 2;
 /// The status of a fault.
 const FAULT: u8 = 3;
 
-const CANNOT_READ: &[u8] = b"fault: cannot read\n";
-
-const CANNOT_WRITE: &[u8] = b"fault: cannot write\n";
-
-/// Writes the line that says why there is no answer, if there is none, and returns the status of the program: 0 for an
-/// answer, 2 for a refusal, 3 for a fault. If the line cannot be written, the status stays the same.
+/// Writes the lines that say why there is no answer, if there is none, and returns the status of the program: 0 for an
+/// answer, 2 for a refusal, 3 for a fault. If the lines cannot be written, the status stays the same.
 pub fn ending<W: Target>(outcome: &Result<(), Fault>, target: &mut W) -> u8
     ensures status { result ≡ status_of outcome.now }
     ensures text { IfSome (ending_text outcome.now)
@@ -42,25 +41,127 @@ fn status(fault: &Fault) -> u8
     ensures { result ≡ fault_status fault.now }
 {
     match fault {
-        Fault::Refused(Refusal::Read | Refusal::Write) => FAULT,
-        Fault::Refused(_) => REFUSED,
+        Fault::Limit(_) => REFUSED,
+        Fault::Refused { refusal, .. } => refusal_status(*refusal),
         _ => FAULT,
     }
 }
 
+fn refusal_status(refusal: Refusal) -> u8
+    ensures { result ≡ refusal_status refusal }
+{
+    match refusal {
+        Refusal::Read | Refusal::Write => FAULT,
+        _ => REFUSED,
+    }
+}
+
 fn write_fault<W: Target>(target: &mut W, fault: &Fault) -> Result<(), Refusal>
-    ensures { IfSome (fault_line fault.now) (λ line.
-        WritesAll (W.written target.old) (W.failed target.old) (W.written target.new) (W.failed target.new) line result) }
+    ensures { IfSome (fault_text fault.now) (λ text.
+        WritesAll (W.written target.old) (W.failed target.old) (W.written target.new) (W.failed target.new) text result) }
 {
     match fault {
         Fault::Memory => write_part(target, b"fault: out of memory\n"),
-        Fault::CannotRead => write_part(target, CANNOT_READ),
         Fault::NotUtf8 => write_part(target, b"fault: the command line is not UTF-8\n"),
         Fault::BadBytes => write_part(target, b"fault: --bad-bytes is refuse or replace\n"),
         Fault::NoRandomBytes => write_part(target, b"fault: no random bytes\n"),
-        Fault::Refused(refusal) => write_refusal(target, *refusal),
-        Fault::Line(error) => write!(Text(target), "{error}").or(Err(Refusal::Write)),
-        Fault::Number { .. } => writeln!(Text(target), "error: {fault}").or(Err(Refusal::Write)),
+        Fault::Line(error) => write!(WithoutTip(target), "{error}").or(Err(Refusal::Write)),
+        Fault::Number { option, value } => write_number_fault(target, *option, *value),
+        Fault::Limit(option) => write_limit(target, *option),
+        Fault::Refused { refusal, name } => write_named(target, *refusal, *name),
+    }
+}
+
+fn write_number_fault<W: Target>(
+    target: &mut W,
+    option: Numeric,
+    value: &str,
+) -> Result<(), Refusal>
+    ensures { WritesAll (W.written target.old) (W.failed target.old) (W.written target.new) (W.failed target.new)
+        (number_lines option value.now) result }
+{
+    write_parts(target, &["error: invalid value '", value, "' for '--"])?;
+    write_range(target, option, " <N>': ")?;
+    write_part(target, b"\nFor more information, try '--help'.\n")
+}
+
+fn write_limit<W: Target>(target: &mut W, option: Numeric) -> Result<(), Refusal>
+    ensures { WritesAll (W.written target.old) (W.failed target.old) (W.written target.new) (W.failed target.new)
+        (refusal_line Refusal.BadLimits ++ limit_line option) result }
+{
+    write_refusal(target, Refusal::BadLimits)?;
+    write_part(target, b"htmlp: --")?;
+    write_range(target, option, " is ")
+}
+
+/// Writes the name of an option, what stands between, and its range.
+fn write_range<W: Target>(
+    target: &mut W,
+    option: Numeric,
+    between: &'static str,
+) -> Result<(), Refusal>
+    ensures { WritesAll (W.written target.old) (W.failed target.old) (W.written target.new) (W.failed target.new)
+        (range_text option between.now) result }
+{
+    write_parts(target, &[option.name(), between])?;
+    let (least, most) = option.range();
+    let mut first = Buffer::new();
+    let mut last = Buffer::new();
+    write_parts(
+        target,
+        &[
+            "a number from ",
+            first.format(least),
+            " to ",
+            last.format(most),
+            "\n",
+        ],
+    )
+}
+
+/// Writes the line of a refusal, and that which names what was refused.
+fn write_named<W: Target>(
+    target: &mut W,
+    refusal: Refusal,
+    name: Option<&str>,
+) -> Result<(), Refusal>
+    ensures { WritesAll (W.written target.old) (W.failed target.old) (W.written target.new) (W.failed target.new)
+        (refusal_line refusal ++ name_line (around_name refusal) (option_map (λ s. s.now) name.entry)) result }
+{
+    write_refusal(target, refusal)?;
+    write_name(target, around_name(refusal), name)
+}
+
+/// What stands around the name of what was refused.
+fn around_name(refusal: Refusal) -> Option<(&'static str, &'static str)>
+    ensures { option_map (λ p. (p.0.now, p.1.now)) result ≡ around_name refusal }
+{
+    match refusal {
+        Refusal::Read => Some(("htmlp: cannot read '", "'")),
+        Refusal::BadTable { .. } => Some(("htmlp: '", "' is not a table of character references")),
+        Refusal::BadQuirks { .. } => Some(("htmlp: '", "' is not a list of quirky doctypes")),
+        Refusal::BadContext => Some((
+            "htmlp: '",
+            "' is not the name of an element in which a fragment can stand",
+        )),
+        _ => None,
+    }
+}
+
+fn write_name<W: Target>(
+    target: &mut W,
+    around: Option<(&str, &str)>,
+    name: Option<&str>,
+) -> Result<(), Refusal>
+    ensures { WritesAll (W.written target.old) (W.failed target.old) (W.written target.new) (W.failed target.new)
+        (name_line (option_map (λ p. (p.0.now, p.1.now)) around.entry) (option_map (λ s. s.now) name.entry)) result }
+{
+    match around {
+        None => Ok(()),
+        Some((before, after)) => match name {
+            None => Ok(()),
+            Some(name) => write_parts(target, &[before, name, after, "\n"]),
+        },
     }
 }
 
@@ -69,8 +170,8 @@ fn write_refusal<W: Target>(target: &mut W, refusal: Refusal) -> Result<(), Refu
         (refusal_line refusal) result }
 {
     match refusal {
-        Refusal::Read => write_part(target, CANNOT_READ),
-        Refusal::Write => write_part(target, CANNOT_WRITE),
+        Refusal::Read => write_part(target, b"fault: cannot read\n"),
+        Refusal::Write => write_part(target, b"fault: cannot write\n"),
         _ => write_refused(target, refusal),
     }
 }
@@ -149,20 +250,4 @@ fn write_word<W: Target>(target: &mut W, word: &[u8]) -> Result<(), Refusal>
 {
     write_part(target, b" ")?;
     write_part(target, word)
-}
-
-fn write_part<W: Target>(target: &mut W, part: &[u8]) -> Result<(), Refusal>
-    ensures { WritesAll (W.written target.old) (W.failed target.old) (W.written target.new) (W.failed target.new) part.now result }
-{
-    write_all(target, part)
-}
-
-/// A target as a writer of text.
-#[derive(Drop)]
-struct Text<'a, W>(&'a mut W);
-
-impl<W: Target> fmt::Write for Text<'_, W> {
-    fn write_str(&mut self, text: &str) -> fmt::Result {
-        write_all(self.0, text.as_bytes()).map_err(|_| fmt::Error)
-    }
 }

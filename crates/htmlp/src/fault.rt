@@ -1,59 +1,53 @@
 //! Why the program ends without an answer.
 
-ghost use Rattle.std.specs.Prelude.{◌≡◌};
+ghost use Rattle.std.specs.Prelude.{◌≡◌, None};
 ghost use Rattle.htmlp.specs.Fault.{fault_of_error};
 ghost use Rattle.htmlp.specs.declared.fault.Fault.TheVariants as fault;
 
+use crate::numeric::Numeric;
 use clap::error::ErrorKind;
 use names::Refusal;
 use std::alloc::AllocError;
-use thiserror::Error;
 
-/// Why the program ends without an answer. The text is in its line on standard error.
-#[derive(Debug, Drop, Error)]
-pub enum Fault {
+/// Why the program ends without an answer.
+#[derive(Debug, Drop)]
+pub enum Fault<'a> {
     /// Out of memory while the command line was read.
-    #[error("out of memory")]
     Memory,
-    /// The input, or a list that the command line names, cannot be read.
-    #[error("cannot read")]
-    CannotRead,
     /// A word of the command line is not UTF-8.
-    #[error("the command line is not UTF-8")]
     NotUtf8,
     /// The system gives no random bytes, without which the program doesn't run.
-    #[error("no random bytes")]
     NoRandomBytes,
     /// The words are not those of a command, or ask for help.
-    #[error("{0}")]
     Line(clap::Error),
-    /// The value of an option is no number, or out of its range.
-    #[error("--{option} is a number from {least} to {most}")]
+    /// The value of an option is no number that is read.
     Number {
-        option: &'static str,
-        least: u64,
-        most: u64,
+        option: Numeric,
+        value: &'a str,
     },
     /// The value of `--bad-bytes` is neither of its words.
-    #[error("--bad-bytes is refuse or replace")]
     BadBytes,
-    /// The input, a list or a limit was refused.
-    #[error("{0}")]
-    Refused(Refusal),
+    /// The number of a limit is out of its range.
+    Limit(Numeric),
+    /// The input, a list or a context was refused; `name` is its name on the command line.
+    Refused {
+        refusal: Refusal,
+        name: Option<&'a str>,
+    },
 }
 
-impl From<AllocError> for Fault {
+impl From<AllocError> for Fault<'_> {
     ghost from_gives = { λ _ f. f ≡ fault.Memory };
 
-    fn from(_: AllocError) -> Fault {
+    fn from(_: AllocError) -> Self {
         Fault::Memory
     }
 }
 
-impl From<clap::Error> for Fault {
+impl From<clap::Error> for Fault<'_> {
     ghost from_gives = { λ error f. f ≡ fault_of_error error };
 
-    fn from(error: clap::Error) -> Fault {
+    fn from(error: clap::Error) -> Self {
         if error.kind() == ErrorKind::OutOfMemory {
             return Fault::Memory;
         }
@@ -61,10 +55,13 @@ impl From<clap::Error> for Fault {
     }
 }
 
-impl From<Refusal> for Fault {
-    ghost from_gives = { λ refusal f. f ≡ fault.Refused refusal };
+impl From<Refusal> for Fault<'_> {
+    ghost from_gives = { λ refusal f. f ≡ fault.Refused refusal None };
 
-    fn from(refusal: Refusal) -> Fault {
-        Fault::Refused(refusal)
+    fn from(refusal: Refusal) -> Self {
+        Fault::Refused {
+            refusal,
+            name: None,
+        }
     }
 }

@@ -1,7 +1,8 @@
 //! The system as the program's surroundings.
 
-ghost use Rattle.std.specs.Prelude.{◌≡◌, ◌≢◌};
+ghost use Rattle.std.specs.Prelude.{◌≡◌, ◌≢◌, Some};
 ghost use Rattle.std.specs.Process.{exit_status};
+ghost use Rattle.htmlp.specs.Fault.{IsUnread};
 ghost use Rattle.htmlp.specs.declared.fault.Fault.TheVariants as fault;
 ghost use Rattle.htmlp.specs.Program.{HasRun};
 
@@ -10,7 +11,7 @@ use crate::program::run_program;
 use crate::surroundings::Surroundings;
 use hparse::Source;
 use hwrite::{Counted, Target};
-use names::Keys;
+use names::{Keys, Refusal};
 use std::alloc::Global;
 use std::fs::File;
 use std::io::{ErrorKind, Stderr, Stdin, Stdout};
@@ -39,14 +40,14 @@ impl Surroundings for HostRuntime {
         Alloc::alloc(self)
     }
 
-    fn words(&self) -> Result<Vec<String>, Fault> {
+    fn words(&self) -> Result<Vec<String>, Fault<'static>> {
         match env::args(self) {
             Ok(words) => Ok(words.collect(Alloc::alloc(self))?),
             Err(error) => Err(words_fault(error.kind())),
         }
     }
 
-    fn keys(&self) -> Result<Keys, Fault> {
+    fn keys(&self) -> Result<Keys, Fault<'static>> {
         match Keys::random(self) {
             Ok(keys) => Ok(keys),
             Err(_) => Err(Fault::NoRandomBytes),
@@ -60,16 +61,16 @@ impl Surroundings for HostRuntime {
         }
     }
 
-    fn text(&self, name: &str) -> Result<String, Fault> {
+    fn text<'a>(&self, name: &'a str) -> Result<String, Fault<'a>> {
         match fs::read_to_string(self, name) {
             Ok(text) => Ok(text),
-            Err(error) => Err(text_fault(error.kind())),
+            Err(error) => Err(text_fault(error.kind(), name)),
         }
     }
 }
 
 /// Why there are no words.
-fn words_fault(kind: ErrorKind) -> Fault
+fn words_fault(kind: ErrorKind) -> Fault<'static>
     ensures not_text { kind ≡ ErrorKind.InvalidData → result ≡ fault.NotUtf8 }
     ensures memory { kind ≢ ErrorKind.InvalidData → result ≡ fault.Memory }
 {
@@ -80,15 +81,18 @@ fn words_fault(kind: ErrorKind) -> Fault
     }
 }
 
-/// Why a file's text cannot be read.
-fn text_fault(kind: ErrorKind) -> Fault
+/// Why the text of the file of this name cannot be read.
+fn text_fault<'a>(kind: ErrorKind, name: &'a str) -> Fault<'a>
     ensures memory { kind ≡ ErrorKind.OutOfMemory → result ≡ fault.Memory }
-    ensures unread { kind ≢ ErrorKind.OutOfMemory → result ≡ fault.CannotRead }
+    ensures unread { kind ≢ ErrorKind.OutOfMemory → result ≡ fault.Refused Refusal.Read (Some name.entry) }
+    ensures named { IsUnread name.now result }
 {
     if kind == ErrorKind::OutOfMemory {
-        Fault::Memory
-    } else {
-        Fault::CannotRead
+        return Fault::Memory;
+    }
+    Fault::Refused {
+        refusal: Refusal::Read,
+        name: Some(name),
     }
 }
 

@@ -7,9 +7,12 @@ mod ending;
 mod fault;
 mod host;
 mod line;
+mod numeric;
+mod parts;
 mod program;
 mod said;
 mod surroundings;
+mod tip;
 mod version;
 
 use crate::host::start;

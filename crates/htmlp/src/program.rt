@@ -1,14 +1,18 @@
 //! The program: does what the words of its command line say.
 
-ghost use Rattle.std.specs.Prelude.{◌≡◌, ◌<◌, ◌≤◌, List, map, option_map, IfOk, MatchResult, Ok, Err, string_bytes};
-ghost use Rattle.clap.specs.Walk.{texts};
+ghost use Rattle.std.specs.Prelude.{◌≡◌, ◌<◌, ◌⊎◌, List, map, option_map, MatchResult, Ok, Err, string_bytes};
 ghost use Rattle.clap.specs.Words.{Text};
+ghost use Rattle.hmodes.specs.Bounds.{AreLimits, Bounds};
+ghost use Rattle.hwrite.specs.Context.{AllowsContext};
+ghost use Rattle.htmlp.specs.Fault.{IsLimitFault, IsRefused};
 ghost use Rattle.htmlp.specs.Line.{task_of, value_of, Says};
+ghost use Rattle.htmlp.specs.Numeric.{range_of, IsWithin};
 ghost use Rattle.htmlp.specs.Program.{AnswersFile, AnswersInput, AnswersWords, Answers, Ends, FindsQuirks, FindsTable, told_of};
 
 use crate::ending::ending;
 use crate::fault::Fault;
 use crate::line::line;
+use crate::numeric::Numeric;
 use crate::said::Line;
 use crate::surroundings::Surroundings;
 use crate::version::{asks_version, write_version};
@@ -18,10 +22,13 @@ use hmodes::Limits;
 use hparse::{Options, Source};
 use htext::MAX_INPUT;
 use hwrite::{Command, Target, check_context, run};
-use names::Keys;
-use std::alloc::{AllocError, Global};
+use names::{Keys, Refusal};
+use std::alloc::Global;
 
-/// Does what the words of the command line say, writes the line that says why there is no answer, if there is none, and
+/// What the standard input is called.
+const STANDARD_INPUT: &str = "standard input";
+
+/// Does what the words of the command line say, writes the lines that say why there is no answer, if there is none, and
 /// returns the status of the program.
 pub fn run_program<R: Surroundings, S: Source, W: Target, E: Target>(
     surroundings: &R,
@@ -33,51 +40,56 @@ pub fn run_program<R: Surroundings, S: Source, W: Target, E: Target>(
         E.written E.failed
         surroundings.now input.old input.new output.old output.new errors.old errors.new result }
 {
-    let outcome = answer(surroundings, input, output);
-    ending(&outcome, errors)
+    match surroundings.words() {
+        Ok(words) => {
+            let outcome = answer(surroundings, &words, input, output);
+            ending(&outcome, errors)
+        }
+        Err(fault) => ending(&Err(fault), errors),
+    }
 }
 
-/// Does what the command line says.
-fn answer<R: Surroundings, S: Source, W: Target>(
+/// Does what the command line of these words says.
+fn answer<'a, R: Surroundings, S: Source, W: Target>(
     surroundings: &R,
+    words: &'a [String],
     input: &mut S,
     output: &mut W,
-) -> Result<(), Fault>
-    ensures { Answers R.has_words R.cannot_begin R.opens R.cannot_open R.has_text R.lacks_text R.File.left R.File.failed S.left S.failed W.written W.failed
+) -> Result<(), Fault<'a>>
+    ensures { R.has_words surroundings.now (map string_bytes words.now)
+        → Answers R.has_words R.cannot_begin R.opens R.cannot_open R.has_text R.lacks_text R.File.left R.File.failed S.left S.failed W.written W.failed
         surroundings.now input.old input.new output.old output.new result }
 {
-    let words = surroundings.words()?;
     let keys = surroundings.keys()?;
-    if asks_version(&words) {
+    if asks_version(words) {
         return write_version(output);
     }
-    answer_words(surroundings, keys, &words, input, output)
+    answer_words(surroundings, keys, words, input, output)
 }
 
 /// Does what these words say.
-fn answer_words<R: Surroundings, S: Source, W: Target>(
+fn answer_words<'a, R: Surroundings, S: Source, W: Target>(
     surroundings: &R,
     keys: Keys,
-    words: &[String],
+    words: &'a [String],
     input: &mut S,
     output: &mut W,
-) -> Result<(), Fault>
+) -> Result<(), Fault<'a>>
     ensures { AnswersWords R.opens R.cannot_open R.File.left R.File.failed R.has_text R.lacks_text S.left S.failed W.written W.failed surroundings.now
         (map string_bytes words.now) input.old input.new output.old output.new result }
 {
-    let texts = as_texts(surroundings.alloc(), words)?;
-    let line = line(surroundings.alloc(), &texts)?;
+    let line = line(surroundings.alloc(), words)?;
     answer_line(surroundings, keys, line, input, output)
 }
 
 /// Does what a line says, which is what any words that it is of say.
-fn answer_line<R: Surroundings, S: Source, W: Target>(
+fn answer_line<'a, R: Surroundings, S: Source, W: Target>(
     surroundings: &R,
     keys: Keys,
-    line: Line,
+    line: Line<'a>,
     input: &mut S,
     output: &mut W,
-) -> Result<(), Fault>
+) -> Result<(), Fault<'a>>
     requires { 0 < line.command.piece }
     ensures { (words : List Text) → Says (task_of words) (value_of words) line.entry
         → AnswersWords R.opens R.cannot_open R.File.left R.File.failed R.has_text R.lacks_text S.left S.failed W.written W.failed surroundings.now
@@ -92,15 +104,15 @@ fn answer_line<R: Surroundings, S: Source, W: Target>(
 }
 
 /// The same, with the lists that it names.
-fn answer_with<R: Surroundings, S: Source, W: Target>(
+fn answer_with<'a, R: Surroundings, S: Source, W: Target>(
     surroundings: &R,
     keys: Keys,
-    line: Line,
+    line: Line<'a>,
     table: &Table,
     quirks: &Quirks,
     input: &mut S,
     output: &mut W,
-) -> Result<(), Fault>
+) -> Result<(), Fault<'a>>
     requires { 0 < line.command.piece }
     ensures { (words : List Text) → Says (task_of words) (value_of words) line.entry
         → FindsTable R.has_text R.lacks_text surroundings.now (option_map (λ s. s.now) line.entry.entities) (Ok table.now)
@@ -108,8 +120,8 @@ fn answer_with<R: Surroundings, S: Source, W: Target>(
         → AnswersWords R.opens R.cannot_open R.File.left R.File.failed R.has_text R.lacks_text S.left S.failed W.written W.failed surroundings.now
         words input.old input.new output.old output.new result }
 {
-    let limits = Limits::new(MAX_INPUT, line.nodes, line.open)?;
-    check_context(line.command.context)?;
+    let limits = limits(line.nodes, line.open)?;
+    accept_context(line.command.context)?;
     let options = Options {
         table,
         quirks,
@@ -119,79 +131,137 @@ fn answer_with<R: Surroundings, S: Source, W: Target>(
     };
     match line.file {
         Some(name) => answer_file(surroundings, line.command, &options, name, output),
-        None => answer_input(surroundings.alloc(), line.command, &options, input, output),
+        None => answer_input(
+            surroundings.alloc(),
+            line.command,
+            &options,
+            STANDARD_INPUT,
+            input,
+            output,
+        ),
     }
 }
 
-fn as_texts<'a>(alloc: Global, words: &'a [String]) -> Result<Vec<&'a str>, AllocError>
-    ensures { IfOk result (λ found. texts found.items ≡ map string_bytes words.entry.now) }
+/// The limits of these most nodes and most open elements.
+fn limits<'a>(nodes: u64, depth: u64) -> Result<Limits, Fault<'a>>
+    ensures { let said : Bounds = record { input = MAX_INPUT; tree = record { nodes = nodes; depth = depth } } in
+        MatchResult result (λ l. AreLimits said × (l ≡ said)) (λ why. (AreLimits said → ⊥) × IsLimitFault said.tree why) }
 {
-    let mut found = Vec::new(alloc);
-    for word in words {
-        found.push(word.as_str())?;
+    match Limits::new(MAX_INPUT, nodes, depth) {
+        Ok(limits) => Ok(limits),
+        Err(_) => Err(Fault::Limit(bad_limit(nodes))),
     }
-    Ok(found)
+}
+
+/// The first limit that is out of its range, where one is.
+fn bad_limit(nodes: u64) -> Numeric
+    ensures { ((IsWithin (range_of Numeric.Nodes) nodes → ⊥) × (result ≡ Numeric.Nodes))
+        ⊎ (IsWithin (range_of Numeric.Nodes) nodes × (result ≡ Numeric.Open)) }
+{
+    let (least, most) = Numeric::Nodes.range();
+    if least <= nodes && nodes <= most {
+        Numeric::Open
+    } else {
+        Numeric::Nodes
+    }
+}
+
+/// Accepts a context that there may be.
+fn accept_context(context: Option<&str>) -> Result<(), Fault<'_>>
+    ensures { MatchResult result (λ _. AllowsContext (option_map (λ s. s.now) context.entry))
+        (λ why. (AllowsContext (option_map (λ s. s.now) context.entry) → ⊥) × IsRefused (option_map (λ s. s.now) context.entry) Refusal.BadContext why) }
+{
+    match check_context(context) {
+        Ok(()) => Ok(()),
+        Err(refusal) => Err(Fault::Refused {
+            refusal,
+            name: context,
+        }),
+    }
 }
 
 /// The table of character references: that of the named file, or the core table.
-fn table<R: Surroundings>(surroundings: &R, name: Option<&str>) -> Result<Table, Fault>
+fn table<'a, R: Surroundings>(surroundings: &R, name: Option<&'a str>) -> Result<Table, Fault<'a>>
     ensures { MatchResult result
         (λ table. FindsTable R.has_text R.lacks_text surroundings.now (option_map (λ s. s.now) name.entry) (Ok table))
         (λ why. FindsTable R.has_text R.lacks_text surroundings.now (option_map (λ s. s.now) name.entry) (Err why)) }
 {
     match name {
         None => Ok(Table::core(surroundings.alloc())?),
-        Some(name) => {
-            let text = surroundings.text(name)?;
-            Ok(Table::read(surroundings.alloc(), &text)?)
+        Some(file) => {
+            let text = surroundings.text(file)?;
+            match Table::read(surroundings.alloc(), &text) {
+                Ok(table) => Ok(table),
+                Err(refusal) => Err(Fault::Refused { refusal, name }),
+            }
         }
     }
 }
 
 /// The quirks list: that of the named file, or the empty one.
-fn quirks<R: Surroundings>(surroundings: &R, name: Option<&str>) -> Result<Quirks, Fault>
+fn quirks<'a, R: Surroundings>(surroundings: &R, name: Option<&'a str>) -> Result<Quirks, Fault<'a>>
     ensures { MatchResult result
         (λ quirks. FindsQuirks R.has_text R.lacks_text surroundings.now (option_map (λ s. s.now) name.entry) (Ok quirks))
         (λ why. FindsQuirks R.has_text R.lacks_text surroundings.now (option_map (λ s. s.now) name.entry) (Err why)) }
 {
     match name {
         None => Ok(Quirks::read(surroundings.alloc(), "")?),
-        Some(name) => {
-            let text = surroundings.text(name)?;
-            Ok(Quirks::read(surroundings.alloc(), &text)?)
+        Some(file) => {
+            let text = surroundings.text(file)?;
+            match Quirks::read(surroundings.alloc(), &text) {
+                Ok(quirks) => Ok(quirks),
+                Err(refusal) => Err(Fault::Refused { refusal, name }),
+            }
         }
     }
 }
 
 /// Runs the command over the file of this name.
-fn answer_file<R: Surroundings, W: Target>(
+fn answer_file<'a, R: Surroundings, W: Target>(
     surroundings: &R,
     command: Command,
     options: &Options,
-    name: &str,
+    name: &'a str,
     output: &mut W,
-) -> Result<(), Fault>
+) -> Result<(), Fault<'a>>
     requires piece { 0 < command.piece }
     ensures { AnswersFile R.opens R.cannot_open R.File.left R.File.failed W.written W.failed (told_of command.entry options.now) surroundings.now name.now
         output.old output.new result }
 {
     match surroundings.open(name) {
-        Some(mut file) => answer_input(surroundings.alloc(), command, options, &mut file, output),
-        None => Err(Fault::CannotRead),
+        Some(mut file) => answer_input(
+            surroundings.alloc(),
+            command,
+            options,
+            name,
+            &mut file,
+            output,
+        ),
+        None => Err(Fault::Refused {
+            refusal: Refusal::Read,
+            name: Some(name),
+        }),
     }
 }
 
-/// Runs the command over an input.
-fn answer_input<S: Source, W: Target>(
+/// Runs the command over an input of this name.
+fn answer_input<'a, S: Source, W: Target>(
     alloc: Global,
     command: Command,
     options: &Options,
+    name: &'a str,
     source: &mut S,
     target: &mut W,
-) -> Result<(), Fault>
+) -> Result<(), Fault<'a>>
     requires piece { 0 < command.piece }
-    ensures { AnswersInput S.left S.failed W.written W.failed (told_of command.entry options.now) source.old source.new target.old target.new result }
+    ensures { AnswersInput S.left S.failed W.written W.failed (told_of command.entry options.now) name.now source.old source.new target.old target.new
+        result }
 {
-    run(alloc, command, options, source, target)?;
-    Ok(())
+    match run(alloc, command, options, source, target) {
+        Ok(()) => Ok(()),
+        Err(refusal) => Err(Fault::Refused {
+            refusal,
+            name: Some(name),
+        }),
+    }
 }

@@ -1,6 +1,7 @@
 //! What the program runs in.
 
-ghost use Rattle.std.specs.Prelude.{◌≡◌, ℕ, List, None, map, IfSome, MatchResult, string_bytes, ⊤};
+ghost use Rattle.std.specs.Prelude.{◌≡◌, ℕ, List, None, map, IfErr, IfSome, MatchResult, string_bytes, ⊤};
+ghost use Rattle.htmlp.specs.Fault.{IsUnread};
 ghost use Rattle.htmlp.specs.declared.fault.Fault.{Fault as Faults};
 
 use crate::fault::Fault;
@@ -35,11 +36,11 @@ pub trait Surroundings {
     fn alloc(&self) -> Global;
 
     /// The words of the command line, the first of which is the program's own name.
-    fn words(&self) -> Result<Vec<String>, Fault>
+    fn words(&self) -> Result<Vec<String>, Fault<'static>>
         ensures { MatchResult result (λ words. has_words self.now (map string_bytes words.items)) (cannot_begin self.now) };
 
     /// Keys that nobody can know: random bytes of the system.
-    fn keys(&self) -> Result<Keys, Fault>
+    fn keys(&self) -> Result<Keys, Fault<'static>>
         ensures { MatchResult result (λ _. ⊤) (cannot_begin self.now) };
 
     /// Opens a file for reading. None where there is no such file, or it cannot be opened.
@@ -47,7 +48,8 @@ pub trait Surroundings {
         ensures opened { IfSome result (opens self.now name.now) }
         ensures not_opened { result ≡ None → cannot_open self.now name.now };
 
-    /// The text of a file. The fault is `Memory`, or `CannotRead` where there is no such file, it cannot be read, or it is not UTF-8.
-    fn text(&self, name: &str) -> Result<String, Fault>
-        ensures { MatchResult result (λ text. has_text self.now name.now (string_bytes text)) (lacks_text self.now name.now) };
+    /// The text of a file. The fault is `Memory`, or names the file where there is none, it cannot be read, or it is not UTF-8.
+    fn text<'a>(&self, name: &'a str) -> Result<String, Fault<'a>>
+        ensures text { MatchResult result (λ text. has_text self.now name.now (string_bytes text)) (lacks_text self.now name.now) }
+        ensures fault { IfErr result (IsUnread name.now) };
 }

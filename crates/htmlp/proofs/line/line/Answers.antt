@@ -1,7 +1,6 @@
 -- The words are read as `clap` says, and the values of the command are those of its matches.
-use Rattle.std.proofs.Common.{ap, sym, subst, option_map, List, ◌∙◌}
+use Rattle.std.proofs.Common.{ap, map, sym, subst, option_map, string_bytes, List, ◌∙◌}
 use Rattle.std.specs.Borrow.{Bor}
-use Rattle.clap.specs.Walk.{texts}
 use Rattle.clap.specs.Words.{Text, fault_of, found_of, HasKind, Row, is_simple_and_free, rows_of, takes}
 use Rattle.clap.specs.declared.parser.matches.ArgMatches.{ArgMatches}
 use Rattle.clap.proofs.TakesLemmas.{passed_up}
@@ -13,14 +12,14 @@ pub returns-in_err-matches-clause-fault : goal.returns-in_err-matches-clause-fau
 returns-in_err-matches-clause-fault c =
     let is = c.in_ok-command_line.ensures in
     let error = c.in_err-matches.field-0.0 in
-    let kinds = subst (λ app. HasKind (fault_of app (texts c.args.words.now)) error) is (c.in_err-matches.ensures.kinds (ap is_simple_and_free is ∙ program-free)) in
-    passed_up c.from_residual-in_err-matches.result (fault_of_error error) _ c.from_residual-in_err-matches.ensures.1 (fault_of_kind (texts c.args.words.now) error kinds)
+    let kinds = subst (λ app. HasKind (fault_of app (map string_bytes c.args.words.now)) error) is (c.in_err-matches.ensures.kinds (ap is_simple_and_free is ∙ program-free)) in
+    passed_up c.from_residual-in_err-matches.result (fault_of_error error) _ c.from_residual-in_err-matches.ensures.1 (fault_of_kind (map string_bytes c.args.words.now) error kinds)
 
 pub returns-in_err-matches-clause-memory : goal.returns-in_err-matches-clause-memory
 returns-in_err-matches-clause-memory c =
     let error = c.in_err-matches.field-0.0 in
     passed_up c.from_residual-in_err-matches.result (fault_of_error error) _ c.from_residual-in_err-matches.ensures.1
-    (λ taken numbers. fault_of_error-memory error (c.in_err-matches.ensures.passes (ap (λ app. takes app (texts c.args.words.now)) c.in_ok-command_line.ensures ∙ taken)))
+    (λ taken numbers. fault_of_error-memory error (c.in_err-matches.ensures.passes (ap (λ app. takes app (map string_bytes c.args.words.now)) c.in_ok-command_line.ensures ∙ taken)))
 
 abbrev entry_rows : Bor Text × Bor ArgMatches → List Row
 entry_rows p = rows_of (found_of p.1.now)
@@ -30,36 +29,36 @@ entry_name p = p.0.now
 
 pub said-line-requires : goal.said-line-requires
 said-line-requires c =
-    names_a_task c.in_ok-command_line.field-0 c.in_ok-matches.matches c.unwrap.result.1.now c.unwrap.result.0.now (texts c.args.words.now) c.in_ok-command_line.ensures
+    names_a_task c.in_ok-command_line.field-0 c.in_ok-matches.matches c.unwrap.result.1.now c.unwrap.result.0.now (map string_bytes c.args.words.now) c.in_ok-command_line.ensures
     c.in_ok-matches.ensures.matches (ap (option_map entry_rows) (sym c.unwrap.ensures) ∙ c.subcommand.ensures.rows) (ap (option_map entry_name) (sym c.unwrap.ensures) ∙ c.subcommand.ensures.name)
 
 pub returns-clause-says : goal.returns-clause-says
 returns-clause-says c =
     let rows = ap (option_map entry_rows) (sym c.unwrap.ensures) ∙ c.subcommand.ensures.rows in
     let name = ap (option_map entry_name) (sym c.unwrap.ensures) ∙ c.subcommand.ensures.name in
-    let task = task_read c.in_ok-command_line.field-0 c.in_ok-matches.matches c.unwrap.result.1.now c.unwrap.result.0.now (texts c.args.words.now) c.in_ok-command_line.ensures
+    let task = task_read c.in_ok-command_line.field-0 c.in_ok-matches.matches c.unwrap.result.1.now c.unwrap.result.0.now (map string_bytes c.args.words.now) c.in_ok-command_line.ensures
     c.in_ok-matches.ensures.matches rows name in
-    let value = value_read c.in_ok-command_line.field-0 c.in_ok-matches.matches c.unwrap.result.1.now c.unwrap.result.0.now (texts c.args.words.now) c.in_ok-command_line.ensures
+    let value = value_read c.in_ok-command_line.field-0 c.in_ok-matches.matches c.unwrap.result.1.now c.unwrap.result.0.now (map string_bytes c.args.words.now) c.in_ok-command_line.ensures
     c.in_ok-matches.ensures.matches rows name in
     said c.said-line.result _ _ _ _ task value c.said-line.ensures.says
 
 pub returns-clause-taken : goal.returns-clause-taken
 returns-clause-taken c =
     let is = c.in_ok-command_line.ensures in
-    anyway c.said-line.result (ap (λ app. fault_of app (texts c.args.words.now)) (sym is) ∙ c.in_ok-matches.ensures.kinds (ap is_simple_and_free is ∙ program-free))
+    anyway c.said-line.result (ap (λ app. fault_of app (map string_bytes c.args.words.now)) (sym is) ∙ c.in_ok-matches.ensures.kinds (ap is_simple_and_free is ∙ program-free))
 
 pub returns-clause-fault : goal.returns-clause-fault
 returns-clause-fault c =
     let is = c.in_ok-command_line.ensures in
     let rows = ap (option_map entry_rows) (sym c.unwrap.ensures) ∙ c.subcommand.ensures.rows in
     let name = ap (option_map entry_name) (sym c.unwrap.ensures) ∙ c.subcommand.ensures.name in
-    let value = value_read c.in_ok-command_line.field-0 c.in_ok-matches.matches c.unwrap.result.1.now c.unwrap.result.0.now (texts c.args.words.now) is c.in_ok-matches.ensures.matches rows name in
-    says_fault c.said-line.result (texts c.args.words.now) _ _ (ap (λ app. fault_of app (texts c.args.words.now)) (sym is) ∙ c.in_ok-matches.ensures.kinds (ap is_simple_and_free is ∙ program-free)) value c.said-line.ensures.says
+    let value = value_read c.in_ok-command_line.field-0 c.in_ok-matches.matches c.unwrap.result.1.now c.unwrap.result.0.now (map string_bytes c.args.words.now) is c.in_ok-matches.ensures.matches rows name in
+    says_fault c.said-line.result (map string_bytes c.args.words.now) _ _ (ap (λ app. fault_of app (map string_bytes c.args.words.now)) (sym is) ∙ c.in_ok-matches.ensures.kinds (ap is_simple_and_free is ∙ program-free)) value c.said-line.ensures.says
 
 pub returns-clause-memory : goal.returns-clause-memory
 returns-clause-memory c =
     let rows = ap (option_map entry_rows) (sym c.unwrap.ensures) ∙ c.subcommand.ensures.rows in
     let name = ap (option_map entry_name) (sym c.unwrap.ensures) ∙ c.subcommand.ensures.name in
-    let value = value_read c.in_ok-command_line.field-0 c.in_ok-matches.matches c.unwrap.result.1.now c.unwrap.result.0.now (texts c.args.words.now) c.in_ok-command_line.ensures
+    let value = value_read c.in_ok-command_line.field-0 c.in_ok-matches.matches c.unwrap.result.1.now c.unwrap.result.0.now (map string_bytes c.args.words.now) c.in_ok-command_line.ensures
     c.in_ok-matches.ensures.matches rows name in
-    no_fault c.said-line.result (texts c.args.words.now) _ _ value c.said-line.ensures.says
+    no_fault c.said-line.result (map string_bytes c.args.words.now) _ _ value c.said-line.ensures.says

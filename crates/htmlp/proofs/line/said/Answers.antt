@@ -1,38 +1,31 @@
 -- What the values of the options say, or the first that is no number in its range.
-use Rattle.std.proofs.Common.{◌≡◌, ◌∙◌, ℕ, sym, ap, inl, inr, refl, subst}
-use Rattle.std.specs.Borrow.{Bor}
-use Rattle.clap.specs.Words.{Text}
-use Rattle.htmlp.specs.declared.fault.Fault.{Fault}
-use Rattle.htmlp.specs.declared.fault.Fault.TheVariants as fault
-use Rattle.htmlp.specs.Line.{escaping_of, IsNumberFault}
+use Rattle.std.proofs.Common.{◌∙◌, sym, ap, inl, inr}
+use Rattle.htmlp.specs.Line.{escaping_of}
 use Rattle.htmlp.proofs.Outcomes.{fails}
 use Rattle.htmlp.proofs.line.said.Goals as goal
-
-of_number : (name : Bor Text) (least most : ℕ) (why : Fault) → why ≡ fault.Number name least most → IsNumberFault (record { name = name.now; least = least; most = most }) why
-of_number name least most why is = subst (IsNumberFault (record { name = name.now; least = least; most = most })) (sym is) (refl, refl, refl)
 
 pub returns-in_err-piece-clause-says : goal.returns-in_err-piece-clause-says
 returns-in_err-piece-clause-says c =
     let none = c.in_err-piece.ensures.says in
-    fails c.from_residual.result c.in_err-piece.field-0.0 _ _ c.from_residual.ensures.1 (inl (inl (none.0, of_number _ _ _ _ none.1)))
+    fails c.from_residual.result c.in_err-piece.field-0.0 _ _ c.from_residual.ensures.1 (inl (inl none))
 
 pub returns-in_err-nodes-clause-says : goal.returns-in_err-nodes-clause-says
 returns-in_err-nodes-clause-says c =
     let none = c.in_err-nodes.ensures.says in
     fails c.from_residual-in_err-nodes.result c.in_err-nodes.field-0.0 _ _ c.from_residual-in_err-nodes.ensures.1
-    (inl (inr (c.in_ok-piece.ensures.says.0, inl (none.0, of_number _ _ _ _ none.1))))
+    (inl (inr (c.in_ok-piece.ensures.says.0, inl none)))
 
 pub returns-in_err-open-clause-says : goal.returns-in_err-open-clause-says
 returns-in_err-open-clause-says c =
     let none = c.in_err-open.ensures.says in
     fails c.from_residual-in_err-open.result c.in_err-open.field-0.0 _ _ c.from_residual-in_err-open.ensures.1
-    (inl (inr (c.in_ok-piece.ensures.says.0, inr (c.in_ok-nodes.ensures.says.0, inl (none.0, of_number _ _ _ _ none.1)))))
+    (inl (inr (c.in_ok-piece.ensures.says.0, inr (c.in_ok-nodes.ensures.says.0, inl none))))
 
 pub returns-in_err-escape-clause-says : goal.returns-in_err-escape-clause-says
 returns-in_err-escape-clause-says c =
     let none = c.in_err-escape.ensures.says in
     fails c.from_residual-in_err-escape.result c.in_err-escape.field-0.0 _ _ c.from_residual-in_err-escape.ensures.1
-    (inl (inr (c.in_ok-piece.ensures.says.0, inr (c.in_ok-nodes.ensures.says.0, inr (c.in_ok-open.ensures.says.0, inl (none.0, of_number _ _ _ _ none.1))))))
+    (inl (inr (c.in_ok-piece.ensures.says.0, inr (c.in_ok-nodes.ensures.says.0, inr (c.in_ok-open.ensures.says.0, inl none)))))
 
 pub returns-in_err-bad_bytes-clause-says : goal.returns-in_err-bad_bytes-clause-says
 returns-in_err-bad_bytes-clause-says c =

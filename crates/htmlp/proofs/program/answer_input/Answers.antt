@@ -1,6 +1,8 @@
-use Rattle.std.proofs.Common.{Err}
-use Rattle.htmlp.proofs.Outcomes.{refused}
+use Rattle.std.proofs.Common.{Ok, Err, refl}
 use Rattle.htmlp.proofs.program.answer_input.Goals as goal
 
-pub returns-in_err-run : goal.returns-in_err-run
-returns-in_err-run g c = (Err c.in_err-run.field-0.0, c.in_err-run.ensures, refused c.from_residual.result c.in_err-run.field-0.0 c.from_residual.ensures.1)
+pub returns-in-Ok : goal.returns-in-Ok
+returns-in-Ok g c = (Ok tt, c.in-Ok.ensures, refl)
+
+pub returns-in-Err : goal.returns-in-Err
+returns-in-Err g c = (Err c.in-Err.refusal, c.in-Err.ensures, (refl, refl))

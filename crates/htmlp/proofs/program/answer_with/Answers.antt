@@ -1,6 +1,5 @@
 use Rattle.std.proofs.Common.{List, ℕ, refl, sym, ap, ◌∙◌, option_map}
 use Rattle.std.specs.Borrow.{Bor}
-use Rattle.htmlp.specs.declared.fault.Fault.TheVariants as fault
 use Rattle.htmlp.specs.Program.{words_without, words_with_file, words_without_file}
 use Rattle.htmlp.proofs.Named.{limits_refused, context_refused, tells}
 use Rattle.htmlp.proofs.Outcomes.{passed_on}
@@ -8,24 +7,24 @@ use Rattle.htmlp.proofs.program.answer_with.Goals as goal
 
 pub returns-in_err-limits : goal.returns-in_err-limits
 returns-in_err-limits g c = λ words says found listed.
-    let e = fault.Refused c.in_err-limits.field-0.0 in
-    words_without e (limits_refused g.R.Surroundings.has_text g.R.Surroundings.lacks_text c.args.surroundings.now words c.args.line says c.args.table.now c.args.quirks.now e found listed c.in_err-limits.ensures.1
-    (ap fault.Refused c.in_err-limits.ensures.0))
+    let e = c.in_err-limits.field-0.0 in
+    words_without e (limits_refused g.R.Surroundings.has_text g.R.Surroundings.lacks_text c.args.surroundings.now words c.args.line says c.args.table.now c.args.quirks.now e found listed c.in_err-limits.ensures.0
+    c.in_err-limits.ensures.1)
     (passed_on c.from_residual.result e c.from_residual.ensures.1) refl refl
 
-pub returns-in_err-check_context : goal.returns-in_err-check_context
-returns-in_err-check_context g c = λ words says found listed.
-    let e = fault.Refused c.in_err-check_context.field-0.0 in
+pub returns-in_err-accept_context : goal.returns-in_err-accept_context
+returns-in_err-accept_context g c = λ words says found listed.
+    let e = c.in_err-accept_context.field-0.0 in
     words_without e (context_refused g.R.Surroundings.has_text g.R.Surroundings.lacks_text c.args.surroundings.now words c.args.line says c.args.table.now c.args.quirks.now e found listed c.in_ok-limits.ensures.0
-    c.in_err-check_context.ensures.1 (ap fault.Refused c.in_err-check_context.ensures.0))
-    (passed_on c.from_residual-in_err-check_context.result e c.from_residual-in_err-check_context.ensures.1) refl refl
+    c.in_err-accept_context.ensures.0 c.in_err-accept_context.ensures.1)
+    (passed_on c.from_residual-in_err-accept_context.result e c.from_residual-in_err-accept_context.ensures.1) refl refl
 
 pub returns-in-Some : goal.returns-in-Some
 returns-in-Some g c = λ words says found listed.
-    let told = tells g.R.Surroundings.has_text g.R.Surroundings.lacks_text c.args.surroundings.now words c.args.line says c.args.table.now c.args.quirks.now c.in_ok-limits.limits found listed c.in_ok-limits.ensures.0 c.in_ok-check_context.ensures c.in_ok-limits.ensures.1 in
+    let told = tells g.R.Surroundings.has_text g.R.Surroundings.lacks_text c.args.surroundings.now words c.args.line says c.args.table.now c.args.quirks.now c.in_ok-limits.limits found listed c.in_ok-limits.ensures.0 c.in_ok-accept_context.ensures c.in_ok-limits.ensures.1 in
     words_with_file _ c.in-Some.name.now told (sym says.file_is ∙ ap (option_map (λ (s : Bor (List ℕ)). s.now)) c.in-Some.is) c.answer_file.ensures refl
 
 pub returns-in-None : goal.returns-in-None
 returns-in-None g c = λ words says found listed.
-    let told = tells g.R.Surroundings.has_text g.R.Surroundings.lacks_text c.args.surroundings.now words c.args.line says c.args.table.now c.args.quirks.now c.in_ok-limits.limits found listed c.in_ok-limits.ensures.0 c.in_ok-check_context.ensures c.in_ok-limits.ensures.1 in
+    let told = tells g.R.Surroundings.has_text g.R.Surroundings.lacks_text c.args.surroundings.now words c.args.line says c.args.table.now c.args.quirks.now c.in_ok-limits.limits found listed c.in_ok-limits.ensures.0 c.in_ok-accept_context.ensures c.in_ok-limits.ensures.1 in
     words_without_file _ told (sym says.file_is ∙ ap (option_map (λ (s : Bor (List ℕ)). s.now)) c.in-None.is) c.answer_input.ensures

@@ -1,10 +1,22 @@
+use Rattle.std.proofs.Common.{Err, map, refl, string_bytes, subst, sym}
+use Rattle.htmlp.specs.Program.{line_missing}
 use Rattle.htmlp.proofs.program.run_program.Goals as goal
 
-pub returns : goal.returns
-returns g c =
+pub returns-in-Ok : goal.returns-in-Ok
+returns-in-Ok g c =
     record {
       outcome = c.answer-outcome.result;
-      answered = c.answer-outcome.ensures;
+      answered = c.answer-outcome.ensures
+          (subst (λ words. g.R.Surroundings.has_words c.args.surroundings.now (map string_bytes words)) (sym c.deref.ensures.value) c.in-Ok.ensures);
       told = c.ending.ensures.text;
       status_is = c.ending.ensures.status;
+    }
+
+pub returns-in-Err : goal.returns-in-Err
+returns-in-Err g c =
+    record {
+      outcome = Err c.in-Err.fault;
+      answered = line_missing c.in-Err.fault c.in-Err.ensures refl refl refl;
+      told = c.ending-in-Err.ensures.text;
+      status_is = c.ending-in-Err.ensures.status;
     }

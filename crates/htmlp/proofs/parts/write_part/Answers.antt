@@ -1,5 +1,5 @@
 use Rattle.hwrite.proofs.CallLemmas.{writes_all}
-use Rattle.htmlp.proofs.ending.write_part.Goals as goal
+use Rattle.htmlp.proofs.parts.write_part.Goals as goal
 
 pub returns : goal.returns
 returns g c =

@@ -1,0 +1,19 @@
+use Rattle.std.proofs.Common.{Ok, subst, take_all}
+use Rattle.hwrite.specs.Calls.{WritesAll}
+use Rattle.htmlp.proofs.AllParts.{all_parts, next_failed, next_written}
+use Rattle.htmlp.proofs.parts.write_parts.Goals as goal
+
+pub returns-in_err-write_part : goal.returns-in_err-write_part
+returns-in_err-write_part g c =
+    next_failed _ _ _ _ _ _ c.args.parts.now c.loop-part.part-index _ _ c.loop-part-test.true c.as_bytes.ensures.value c.loop-part.invariant _ _
+    c.from_residual.ensures.1 c.in_err-write_part.ensures
+
+pub loop-part-preserved : goal.loop-part-preserved
+loop-part-preserved g c =
+    next_written _ _ _ _ _ _ c.args.parts.now c.loop-part.part-index _ _ c.loop-part-test.true c.as_bytes.ensures.value c.loop-part.invariant
+    c.in_ok-write_part.ensures
+
+pub returns : goal.returns
+returns g c =
+    subst (λ parts. WritesAll (g.W.Target.written c.args.target.now) (g.W.Target.failed c.args.target.now) (g.W.Target.written c.loop-part.target) (g.W.Target.failed c.loop-part.target)
+    (all_parts parts) (Ok tt)) (take_all _ _ c.loop-part-test.false) c.loop-part.invariant

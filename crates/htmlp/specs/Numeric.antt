@@ -1,0 +1,27 @@
+-- The options whose values are numbers.
+use Rattle.std.specs.Prelude.{ℕ, ◌^◌, ◌-◌, ◌≤◌, codes}
+use Rattle.clap.specs.Words.{Text}
+use Rattle.htmlp.specs.declared.numeric.Numeric.{Numeric}
+use Rattle.htmlp.specs.declared.numeric.Numeric.TheVariants.{Piece, Nodes, Open, Escape}
+
+abbrev pub name_of : Numeric → Text
+name_of Piece = codes "piece"
+name_of Nodes = codes "nodes"
+name_of Open = codes "open"
+name_of Escape = codes "escape"
+
+-- the least and the greatest number
+abbrev pub range_of : Numeric → ℕ × ℕ
+range_of Piece = (1, 65536)
+range_of Nodes = (16, 16777216)
+range_of Open = (16, 1048576)
+range_of Escape = (1, 2)
+
+-- the numbers that are read: a limit that is out of its range is refused later
+abbrev pub accepted : Numeric → ℕ × ℕ
+accepted Nodes = (0, 2 ^ 64 - 1)
+accepted Open = (0, 2 ^ 64 - 1)
+accepted option = range_of option
+
+abbrev pub IsWithin : ℕ × ℕ → ℕ → Type 0
+IsWithin range number = (range.0 ≤ number) × (number ≤ range.1)
