@@ -94,12 +94,7 @@ impl Site {
     }
 
     /// Adds an entry for an element.
-    fn add_entry(
-        &mut self,
-        node: NodeId,
-        name: NameId,
-        attrs: Attributes,
-    ) -> Result<(), AllocError>
+    fn add_entry(&mut self, node: NodeId, name: NameId, attrs: Attributes) -> Result<(), AllocError>
         ensures { OnOk result (self.new ≡ with_items (entry_pushed nat_eq (record { node = node; name = name; attrs = attrs }) self.old.items) self.old) }
     {
         self.list.push(node, name, attrs)

@@ -74,7 +74,9 @@ impl Slot {
     {
         match self {
             Slot::Hole | Slot::Marker => Ok(false),
-            Slot::Entry(entry) => Ok(name == entry.name && are_same(alloc, attrs, entry.attrs.as_slice())?),
+            Slot::Entry(entry) => Ok(
+                name == entry.name && are_same(alloc, attrs, entry.attrs.as_slice())?,
+            ),
         }
     }
 
