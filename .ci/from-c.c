@@ -252,10 +252,10 @@ static void check_rooms(uint32_t task, const char *page, size_t length) {
 }
 
 /* A page of nested lists, with the spaces that are written before each line. */
-static size_t lists_page(char *page) {
+static size_t lists_page(char *page, int items) {
     char *end = page;
     for (int depth = 0; depth < 6; depth++) end += sprintf(end, "<div class=level>\n");
-    for (int item = 0; item < 200; item++)
+    for (int item = 0; item < items; item++)
         end += sprintf(end, "            <li><a href=\"/%d\">Section %d</a> of the <em>guide</em>, and what it is about.</li>\n", item, item);
     return (size_t)(end - page);
 }
@@ -263,7 +263,7 @@ static size_t lists_page(char *page) {
 /* How often an ordinary page is parsed, and one whose text or nodes are many for its length. */
 static void check_parses(void) {
     static char page[ROOM];
-    size_t length = lists_page(page);
+    size_t length = lists_page(page, 200);
     made it;
     for (uint32_t task = 0; task < ALL; task++) {
         set_context(task);
@@ -368,10 +368,11 @@ static double seconds(const char *page, size_t length, const jz_options *given) 
     return best;
 }
 
-/* That reading the Standard's lists costs little beside an ordinary page. */
+/* That reading the Standard's lists costs little beside a small page, one of some 5 KB. */
 static void check_lists(void) {
+    enum { SMALL = 50 };
     static char page[ROOM];
-    size_t length = lists_page(page);
+    size_t length = lists_page(page, SMALL);
     jz_options core = JZ_DEFAULTS, standard = JZ_STANDARD;
     double without = seconds(page, length, &core), with = seconds(page, length, &standard);
     double small = seconds("<p>&copy;", 9, &core), small_with = seconds("<p>&copy;", 9, &standard);
