@@ -312,7 +312,7 @@ static inline uint32_t jz_make_text(uint32_t task, const uint8_t *input, size_t 
 }
 
 /* The flat form of a table of character references, in memory of its own, which the caller frees with free(); null where the status is
- * not JZ_OK. In the options it stands for the JSON that it was made of, and is read in a fortieth of the time. */
+ * not JZ_OK. In the options it stands for the JSON that it was made of, and is read in a sixtieth of the time. */
 static inline uint32_t jz_make_table(const uint8_t *entities, size_t length, uint8_t **table, jz_answer *answer) {
     size_t room = 256 + length;
     uint32_t status;

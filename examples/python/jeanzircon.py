@@ -137,7 +137,7 @@ def written(call, room):
 
 
 def table(entities):
-    """The flat form of a table that is given as JSON. As `entities` it is read in a fortieth of the time."""
+    """The flat form of a table that is given as JSON. As `entities` it is read in a sixtieth of the time."""
     entities = lent(entities)
     return written(functools.partial(LIBRARY.jz_table, entities, len(entities)), len(entities) + 256)
 

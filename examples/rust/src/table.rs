@@ -9,7 +9,7 @@ const ENTITIES: &str = include_str!(concat!(env!("JEANZIRCON_LISTS"), "/entities
 /// The Standard's quirks list.
 pub const QUIRKS: &str = include_str!(concat!(env!("JEANZIRCON_LISTS"), "/quirks.txt"));
 
-/// A table of character references, in the form in which the library reads it in a fortieth of the time that its JSON takes.
+/// A table of character references, in the form in which the library reads it in a sixtieth of the time that its JSON takes.
 #[derive(Clone, PartialEq, Eq)]
 pub struct Table {
     flat: Vec<u8>,
