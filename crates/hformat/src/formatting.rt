@@ -24,11 +24,13 @@ const FEW: usize = 8;
 
 /// The list of active formatting elements.
 ///
-/// Each call takes the same time at any length, amortized, where few entries have the same hash; but `len` counts, and `get` and `renew`
-/// pass the holes that removed entries left, unless `reach` closed them.
+/// Each call takes the same time at any length, amortized, where few entries have the same hash; but `len` counts, `get` and `renew` pass
+/// the holes that removed entries left, unless `reach` closed them, and `move_to_bookmark` takes a step for each item that it passes.
 #[derive(Drop)]
 pub struct Formatting {
     slots: Slots,
+    /// How many items and holes entries have passed since all holes were closed.
+    passed: usize,
     /// The keys of the hashes.
     keys: Keys,
     alloc: Global,
@@ -120,6 +122,7 @@ impl Formatting {
     {
         Formatting {
             slots: Slots::new(alloc),
+            passed: 0,
             keys,
             alloc,
         }
@@ -278,10 +281,40 @@ impl Formatting {
         match bookmark {
             Bookmark::InPlace => self.replace(from, to),
             Bookmark::After(mark) => {
-                let index = self.slots.nodes.last(node_number(from)) - 1;
-                self.slots.move_after(index, to, mark);
+                self.close_if_passed(from, mark);
+                self.move_after(from, to, mark);
             }
         }
+    }
+
+    /// Before an entry is moved to another: closes all holes once as many items and holes were passed as there are, so that no hole is
+    /// passed again and again.
+    fn close_if_passed(&mut self, from: NodeId, mark: NodeId)
+        ensures { self.new ≡ self.old }
+    {
+        let len = self.slots.items.len();
+        if len <= FEW || self.slots.solid == 0 {
+            return;
+        }
+        let nodes = &self.slots.nodes;
+        let steps = nodes
+            .last(node_number(from))
+            .abs_diff(nodes.last(node_number(mark)));
+        self.passed = self.passed.saturating_add(steps);
+        if self.passed >= len {
+            self.slots.close(0);
+            self.passed = 0;
+        }
+    }
+
+    /// Sets the node of a node's entry, and moves the entry right after that of another node.
+    fn move_after(&mut self, from: NodeId, to: NodeId, mark: NodeId)
+        requires entry { IsTrue (list_any (is_entry from) self.old) }
+        requires mark { IsTrue (has_bookmark from (Bookmark.After mark) self.old) }
+        ensures { self.new ≡ booked from to (Bookmark.After mark) self.old }
+    {
+        let index = self.slots.nodes.last(node_number(from)) - 1;
+        self.slots.move_after(index, to, mark);
     }
 
     /// Removes the last entry of a node. Returns whether there was one.

@@ -1,4 +1,4 @@
-use Rattle.std.proofs.Common.{◌≡◌, ◌<◌, true, reverse, sym, ◌∙◌, ap, arith}
+use Rattle.std.proofs.Common.{◌≡◌, ◌<◌, true, reverse, ◌∙◌, ap, arith}
 use Rattle.std.specs.List.{list_any}
 use Rattle.hformat.specs.Formatting.{booked, has_bookmark, is_entry}
 use Rattle.hformat.specs.Items.{items_of, live}
@@ -8,7 +8,7 @@ use Rattle.hformat.proofs.Chained.{last-is, last_of}
 use Rattle.hformat.proofs.Holes.{node_place}
 use Rattle.hformat.proofs.Listed.{numbers-back}
 use Rattle.hformat.proofs.Marked.{entry-some, entry-told, entry-within, mark-there, moved-is}
-use Rattle.hformat.proofs.formatting.Formatting.move_to_bookmark.Goals as goal
+use Rattle.hformat.proofs.formatting.Formatting.move_after.Goals as goal
 
 pub overflow_sub-index : goal.overflow_sub-index
 overflow_sub-index c =
@@ -41,13 +41,13 @@ move_after-requires-clause-mark c =
     let place : c.last-index.result ≡ node_place c.args.from (items_of items) =
     c.last-index.ensures ∙ last-is c.node_number.result c.self.inside.slots.nodes ∙ (λ i. last_of (c.node_number.ensures i) ((ap reverse c.self.invariant.nodes ∙ numbers-back by_node items) i)) in
     let there : list_any (is_entry c.args.from) (live (items_of items)) ≡ true = ap (list_any (is_entry c.args.from)) c.self.view_is ∙ c.requires.entry in
-    mark-there items c.self.invariant.stored c.args.from c.last-index.result (omega arith) place there c.in-After.mark (omega arith) (ap (has_bookmark c.args.from (After c.in-After.mark)) c.self.view_is ∙ ap (λ b. has_bookmark c.args.from b c.args.self.now) (sym c.in-After.is) ∙ c.requires.bookmark)
+    mark-there items c.self.invariant.stored c.args.from c.last-index.result (omega arith) place there c.args.mark (omega arith) (ap (has_bookmark c.args.from (After c.args.mark)) c.self.view_is ∙ c.requires.mark)
 
-pub returns-in-After : goal.returns-in-After
-returns-in-After c =
+pub returns : goal.returns
+returns c =
     let items = c.self.inside.slots.items.items in
     let place : c.last-index.result ≡ node_place c.args.from (items_of items) =
     c.last-index.ensures ∙ last-is c.node_number.result c.self.inside.slots.nodes ∙ (λ i. last_of (c.node_number.ensures i) ((ap reverse c.self.invariant.nodes ∙ numbers-back by_node items) i)) in
     let there : list_any (is_entry c.args.from) (live (items_of items)) ≡ true = ap (list_any (is_entry c.args.from)) c.self.view_is ∙ c.requires.entry in
-    ap live c.move_after.ensures.items ∙ moved-is items c.self.invariant.stored c.args.from c.last-index.result (omega arith) place there c.in-After.mark (omega arith) c.args.to
-    ∙ ap (booked c.args.from c.args.to (After c.in-After.mark)) c.self.view_is ∙ ap (λ b. booked c.args.from c.args.to b c.args.self.now) (sym c.in-After.is)
+    ap live c.move_after.ensures.items ∙ moved-is items c.self.invariant.stored c.args.from c.last-index.result (omega arith) place there c.args.mark (omega arith) c.args.to
+    ∙ ap (booked c.args.from c.args.to (After c.args.mark)) c.self.view_is
