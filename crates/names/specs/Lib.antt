@@ -10,3 +10,4 @@ pub mod Rows
 pub mod Spelling
 pub mod RefusalText
 pub mod CodeRows
+pub mod Keys

@@ -1,5 +1,8 @@
 //! What keeps a page from choosing which of its names meet in one bucket.
 
+ghost use Rattle.std.specs.Prelude.{◌≡◌};
+ghost use Rattle.names.specs.Keys.{made_of};
+
 use std::hash::{BuildHasher, DefaultHasher, Hasher};
 use std::io;
 use std::marker::Model;
@@ -31,14 +34,18 @@ impl Keys {
     }
 
     /// Keys from a secret of 16 random bytes.
-    pub fn new(secret: u128) -> Keys {
+    pub fn new(secret: u128) -> Keys
+        ensures { result ≡ made_of secret }
+    {
         let mut begun = DefaultHasher::new();
         begun.write_u128(secret);
         Keys { begun }
     }
 
     /// Keys that everybody knows, for tests.
-    pub fn for_tests() -> Keys {
+    pub fn for_tests() -> Keys
+        ensures { result ≡ made_of 0 }
+    {
         Keys::new(0)
     }
 }

@@ -124,14 +124,14 @@ impl Model for Names {
 
 impl Names {
     /// A table of the known names. They are the same for every table, so nothing is allocated for them.
-    pub fn new(alloc: Global, keys: Keys) -> Result<Names, AllocError>
-        ensures known { IfOk result (λ names. names ≡ known) }
-        ensures names { IfOk result AreNames }
+    pub fn new(alloc: Global, keys: Keys) -> Names
+        ensures known { result ≡ known }
+        ensures names { AreNames result }
     {
-        Ok(Names {
+        Names {
             others: IndexSet::with_hasher(alloc, keys),
             recent: [0; SLOTS],
-        })
+        }
     }
 
     /// Its texts are distinct, the known ones first.
