@@ -1,6 +1,6 @@
 //! Bytes in any pieces, read as UTF-8 up to a limit.
 
-ghost use Rattle.std.specs.Prelude.{◌≡◌, ◌≤◌, ℕ, List, [], ◌∷◌, ◌++◌, length, drop, Some, Ok, Err, OnOk, IfErr, vec_len};
+ghost use Rattle.std.specs.Prelude.{◌≡◌, ◌≤◌, ℕ, List, [], ◌∷◌, ◌++◌, length, drop, None, Some, Ok, Err, OnOk, IfErr, vec_len};
 ghost use Rattle.names.specs.declared.refusal.Refusal.{Refusal as Refused};
 ghost use Rattle.htext.specs.Text.{settled};
 ghost use Rattle.htext.specs.Decoding.{Ends, Feeds, HasFed};
@@ -133,16 +133,18 @@ impl Decoder {
         self.reading.read
     }
 
-    /// Ends the input. It must not end inside a character, unless bad bytes are replaced. After an error, each call returns
-    /// that error.
+    /// Ends the input. It must not end inside a character, unless bad bytes are replaced. Nothing is held then, so a second call does
+    /// nothing. An error leaves what was read and what was held, and each call after it returns it.
     pub fn finish<S: CharSink>(&mut self, sink: &mut S) -> Result<(), Refusal>
         ensures ends { (fed : List ℕ) → HasFed self.old fed → Ends S.gives self.old.how fed sink.old result sink.new }
         ensures whole { OnOk result ((fed : List ℕ) → HasFed self.old fed → self.new.read ≡ length fed) }
-        ensures unchanged { OnOk result (self.old.undecoded ≡ [] → (self.new ≡ self.old) × (sink.new ≡ sink.old)) }
+        ensures nothing_held { OnOk result ((self.new.undecoded ≡ []) × (self.new.refused ≡ None)) }
+        ensures unchanged { self.old.undecoded ≡ [] → self.old.refused ≡ None
+            → (result ≡ Ok tt) × (self.new ≡ self.old) × (sink.new ≡ sink.old) }
         ensures how { self.new.how ≡ self.old.how }
 
         // A refusal stays.
-        ensures refused { IfErr result (λ refusal. self.new.refused ≡ Some refusal) }
+        ensures refused { IfErr result (λ refusal. self.new ≡ record self.old { refused = Some refusal }) }
         ensures again { (refusal : Refused) → self.old.refused ≡ Some refusal
             → (result ≡ Err refusal) × (self.new ≡ self.old) × (sink.new ≡ sink.old) }
     {
@@ -160,8 +162,11 @@ impl Decoder {
     fn end<S: CharSink>(&mut self, sink: &mut S) -> Result<(), Refusal>
         ensures ends { (fed : List ℕ) → HasFed self.old fed → Ends S.gives self.old.how fed sink.old result sink.new }
         ensures whole { OnOk result ((fed : List ℕ) → HasFed self.old fed → self.new.read ≡ length fed) }
-        ensures unchanged { OnOk result (self.old.undecoded ≡ [] → (self.new ≡ self.old) × (sink.new ≡ sink.old)) }
+        ensures nothing_held { OnOk result (self.new.undecoded ≡ []) }
+        ensures unchanged { self.old.undecoded ≡ [] → (result ≡ Ok tt) × (self.new ≡ self.old) × (sink.new ≡ sink.old) }
         ensures how { self.new.how ≡ self.old.how }
+        ensures refused { self.new.refused ≡ self.old.refused }
+        ensures error { IfErr result (λ _. self.new ≡ self.old) }
     {
         if self.undecoded.is_empty() {
             return Ok(());

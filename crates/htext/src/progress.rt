@@ -1,6 +1,6 @@
 //! How far an input has been read.
 
-ghost use Rattle.std.specs.Prelude.{◌≡◌, ℕ, ◌+◌, ◌-◌, ◌<◌, ◌≤◌, ◌++◌, true, false, List, [], ◌∷◌, length, map, take, drop, Ok, Err, IfOk, OnOk, MatchOption};
+ghost use Rattle.std.specs.Prelude.{◌≡◌, ℕ, ◌+◌, ◌-◌, ◌<◌, ◌≤◌, ◌++◌, true, false, List, [], ◌∷◌, length, map, take, drop, Ok, Err, IfOk, IfErr, OnOk, MatchOption};
 ghost use Rattle.std.specs.Prelude.{MatchResult};
 ghost use Rattle.std.specs.Char.{encode_utf8};
 ghost use Rattle.std.specs.Str.{chars};
@@ -95,6 +95,7 @@ impl Progress {
         ensures replaced { self.old.bad_bytes ≡ Replace → self.old.read + length rest.now ≤ self.old.limit
             → Hands S.gives sink.old (items (Bad self.old.read ∷ [])) result sink.new }
         ensures read { OnOk result (self.new.read ≡ self.old.read + length rest.now) }
+        ensures error { IfErr result (λ _. self.new ≡ self.old) }
         ensures bom { self.new.bom ≡ self.old.bom }
         ensures bad { self.new.bad_bytes ≡ self.old.bad_bytes }
         ensures limit { self.new.limit ≡ self.old.limit }
@@ -163,6 +164,7 @@ impl Progress {
         requires fits { self.old.read + len ≤ self.old.limit }
         ensures handed { Hands S.gives sink.old (items (Bad self.old.read ∷ [])) result sink.new }
         ensures read { OnOk result (self.new.read ≡ self.old.read + len) }
+        ensures error { IfErr result (λ _. self.new ≡ self.old) }
         ensures end { OnOk result (self.new.after_return ≡ false) }
         ensures bom { self.new.bom ≡ self.old.bom }
         ensures bad { self.new.bad_bytes ≡ self.old.bad_bytes }
