@@ -1,6 +1,6 @@
 //! A walk through a tag.
 
-ghost use Rattle.std.specs.Prelude.{◌≡◌, ◌∷◌, ◌++◌, List, [], true, false, OnOk, IfOk, MatchResult, string_bytes};
+ghost use Rattle.std.specs.Prelude.{◌≡◌, ◌∷◌, ◌++◌, List, [], true, false, OnOk, IfOk, IfErr, MatchResult, string_bytes};
 ghost use Rattle.names.specs.declared.placed.Placed.{Placed as Character};
 ghost use Rattle.names.specs.Names.{Texts, Grows};
 ghost use Rattle.names.specs.Placed.{all, begins, is_letter, name_bytes};
@@ -164,13 +164,14 @@ impl<'t> TagWalk<'t> {
         self.any
     }
 
-    /// The first attribute of each name, in order. They are gone from the walk then, unless memory has run out. Few of them are moved
-    /// to memory for as many; the walk keeps its own for the next tag.
+    /// The first attribute of each name, in order. They are gone from the walk then; if memory has run out, it is as it was. Few of them
+    /// are moved to memory for as many; the walk keeps its own for the next tag.
     pub fn take_attributes(&mut self) -> Result<Vec<Attr>, AllocError>
         ensures attributes { IfOk result (λ attrs. attrs.items ≡ self.old.attrs.items) }
+        ensures gone { OnOk result (self.new.attrs.items ≡ []) }
+        ensures others { self.new ≡ record self.old { attrs = self.new.attrs } }
         ensures name { self.new.name ≡ self.old.name }
-        ensures any { self.new.any ≡ self.old.any }
-        ensures closing { self.new.closing ≡ self.old.closing }
+        ensures error { IfErr result (λ _. self.new ≡ self.old) }
     {
         if self.attrs.len() > FEW {
             return Ok(mem::replace(&mut self.attrs, Vec::new(self.alloc)));
