@@ -13,11 +13,11 @@ use Rattle.htext.specs.declared.BadBytes.TheVariants.{Refuse, Replace}
 use Rattle.htext.specs.declared.progress.Front.{Front}
 use Rattle.htext.specs.declared.progress.Front.TheVariants.{Bad as NextBad, Waits, Refused}
 use Rattle.htext.specs.Next.{next_of, AreBad, AreReplaced}
-use Rattle.htext.specs.Text.{Policy, Read, Whole, Bad, reads, normalized, ends_in_return, text as text_of, valid_len, front_len, decoded, settled, refusal_of}
+use Rattle.htext.specs.Text.{Policy, Read, Whole, Bad, reads, normalized, ends_in_return, text as text_of, valid_len, front_len, decoded, settled, refusal_of, reads_at}
 use Rattle.htext.specs.Items.{CharItem, items, bad_each}
 use Rattle.htext.specs.Decoding.{HasRead, IsReading, IsRefusedFrom, IsUndecided, HandsOn, Feeds, sink_refused, took_all, Stops, by_sink, by_bytes}
 use Rattle.htext.proofs.Valid.{take-take, valid_front, valid_len_le, valid_front_utf8, length-valid_front, valid_len-append}
-use Rattle.htext.proofs.Parts.{reads_at, reads_nil, reads_of_text, reads_after_bad}
+use Rattle.htext.proofs.Parts.{reads_nil, reads_of_text, reads_after_bad}
 use Rattle.htext.proofs.Errors.{error_bounds, error_cut}
 use Rattle.htext.proofs.Fronts.{IsFront, front_more, front_is, front_past, front_le, reads_past, cut_none, text_more, part_more}
 use Rattle.htext.proofs.Texts.{normalized-append, ends_in_return-append, read_past}

@@ -7,7 +7,7 @@ use Rattle.std.proofs.lemmas.List.{take_at, take-append-drop, take-append-le}
 use Rattle.std.proofs.Math.Utf8.{scalar_cases, low_scalar}
 use Rattle.std.specs.Str.Lossy.{utf8_valid_len, utf8_error_len, second_byte_min, second_byte_max}
 use Rattle.std.specs.Char.{IsScalar, encode_utf8}
-use Rattle.htext.specs.Text.{valid_len}
+use Rattle.htext.specs.Text.{valid_len, BeginsCharacter}
 use Rattle.htext.proofs.Valid.{starts, starts_back}
 
 in_range : (low high c : ℕ) → low ≤ c → c ≤ high → is_in_range low high c ≡ true
@@ -175,13 +175,6 @@ front_of c rest more r s e some none = elim (cases_lt (length rest) (length (enc
 
 -- COMPLETIONS
 
--- These bytes and some more are one character.
-pub record IsCompleted (bytes : List ℕ) : Type 0 where
-  pub ch : ℕ
-  pub more : List ℕ
-  pub scalar : IsScalar ch
-  pub is : bytes ++ more ≡ encode_utf8 ch
-
 high_scalar : (c : ℕ) → 57344 ≤ c → c < 1114112 → IsScalar c
 high_scalar c a b = let d : 55296 ≤ c = omega arith in rw (le-ltb c 55296 d, le-leb 57344 c a, lt-ltb c 1114112 b) refl
 
@@ -253,22 +246,22 @@ complete_four x y z w a b h d e f g =
     )
 
 -- one, two and three bytes that are open
-after_three : (x y z : ℕ) → 0xE0 ≤ x → x ≤ 0xF4 → MayFollow x y → 128 ≤ z → z ≤ 191 → IsCompleted (x ∷ y ∷ z ∷ [])
+after_three : (x y z : ℕ) → 0xE0 ≤ x → x ≤ 0xF4 → MayFollow x y → 128 ≤ z → z ≤ 191 → BeginsCharacter (x ∷ y ∷ z ∷ [])
 after_three x y z a b h d e = elim (cases_lt x 240) [
   | inl three ↦ let c = complete_three x y z a (omega arith) h d e in record { ch = c.0; more = []; scalar = c.1; is = sym c.2 }
   | inr four ↦ let c = complete_four x y z 128 four b h d e (omega arith) (omega arith) in record { ch = c.0; more = 128 ∷ []; scalar = c.1; is = sym c.2 }
 ]
 
-with_more : (xs : List ℕ) (y : ℕ) → IsCompleted (xs ++ y ∷ []) → IsCompleted xs
+with_more : (xs : List ℕ) (y : ℕ) → BeginsCharacter (xs ++ y ∷ []) → BeginsCharacter xs
 with_more xs y h = record { ch = h.ch; more = y ∷ h.more; scalar = h.scalar; is = sym (append_assoc xs (y ∷ []) h.more) ∙ h.is }
 
-after_two : (x y : ℕ) → 0xC2 ≤ x → x ≤ 0xF4 → MayFollow x y → IsCompleted (x ∷ y ∷ [])
+after_two : (x y : ℕ) → 0xC2 ≤ x → x ≤ 0xF4 → MayFollow x y → BeginsCharacter (x ∷ y ∷ [])
 after_two x y a b h = elim (cases_lt x 224) [
   | inl two ↦ let c = complete_two x y a (omega arith) h.least h.most in record { ch = c.0; more = []; scalar = c.1; is = sym c.2 }
   | inr more ↦ with_more (x ∷ y ∷ []) 128 (after_three x y 128 more b h (omega arith) (omega arith))
 ]
 
-after_one : (x : ℕ) → 0xC2 ≤ x → x ≤ 0xF4 → IsCompleted (x ∷ [])
+after_one : (x : ℕ) → 0xC2 ≤ x → x ≤ 0xF4 → BeginsCharacter (x ∷ [])
 after_one x a b = elim (cases_eq x 0xE0) [
   | inl is ↦ with_more (x ∷ []) 0xA0 (after_two x 0xA0 a b (record {
     least = omega arith;
@@ -339,7 +332,7 @@ open_short (x ∷ y ∷ z ∷ []) h = omega arith
 open_short (x ∷ y ∷ z ∷ w ∷ ws) h = absurd (many_are_not x y z w ws h)
 
 -- open bytes, if there are any, become a character with some more
-pub completed : (bytes : List ℕ) → 0 < length bytes → utf8_valid_len bytes ≡ 0 → utf8_error_len bytes ≡ None → IsCompleted bytes
+pub completed : (bytes : List ℕ) → 0 < length bytes → utf8_valid_len bytes ≡ 0 → utf8_error_len bytes ≡ None → BeginsCharacter bytes
 unfolding utf8_error_len
 completed [] some none open' = absurd (omega (arith, some))
 completed (x ∷ []) some none open' = let r = from_range 0xC2 0xF4 x (one_test _ open') in after_one x r.0 r.1

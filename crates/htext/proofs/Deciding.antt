@@ -15,9 +15,9 @@ use Rattle.htext.specs.declared.BadBytes.TheVariants.{Refuse, Replace}
 use Rattle.htext.specs.declared.progress.Front.{Front}
 use Rattle.htext.specs.declared.progress.Front.TheVariants.{Bad, Waits, Refused}
 use Rattle.htext.specs.Next.{next_of, next_part}
-use Rattle.htext.specs.Text.{Policy, valid_len, refusal_with, StaysRefused}
+use Rattle.htext.specs.Text.{Policy, valid_len, refusal_with, StaysRefused, BeginsCharacter}
 use Rattle.htext.proofs.Valid.{refusal_within, take-take, starts, starts_back, going_on, refusal_past}
-use Rattle.htext.proofs.Beginnings.{IsCompleted, completed, some_left, none_after, under_limit}
+use Rattle.htext.proofs.Beginnings.{completed, some_left, none_after, under_limit}
 use Rattle.htext.proofs.Refusals.{accepted, too_large}
 
 abbrev refusing : ℕ → Policy
@@ -73,10 +73,10 @@ module _ (limit : ℕ) (front rest : List ℕ) (u : IsUtf8 front) (within : leng
   cut_off some none =
       ap (refusal_within limit) (append-nil (front ++ rest)) ∙ refusal_past limit front rest u within stuck some ∙ ap (λ (n : ℕ). Some (refusal_with Refuse n (length front))) none
 
-  completed_is : (c : IsCompleted rest) → (front ++ rest) ++ c.more ≡ front ++ encode_utf8 c.ch
+  completed_is : (c : BeginsCharacter rest) → (front ++ rest) ++ c.more ≡ front ++ encode_utf8 c.ch
   completed_is c = append_assoc front rest c.more ∙ ap (λ (x : List ℕ). front ++ x) c.is
 
-  not_cut_off : (c : IsCompleted rest) → refusal_within limit ((front ++ rest) ++ c.more) ≡ Some (NotUtf8 (length front)) → ⊥
+  not_cut_off : (c : BeginsCharacter rest) → refusal_within limit ((front ++ rest) ++ c.more) ≡ Some (NotUtf8 (length front)) → ⊥
   not_cut_off c h = elim (cases_lt limit (length front + len_utf8 c.ch)) [
     | inl longer ↦
         let large : refusal_within limit ((front ++ rest) ++ c.more) ≡ Some (TooLarge (length front)) =

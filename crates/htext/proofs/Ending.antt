@@ -13,12 +13,12 @@ use Rattle.htext.specs.declared.BadBytes.TheVariants.{Refuse, Replace}
 use Rattle.htext.specs.declared.progress.Front.{Front}
 use Rattle.htext.specs.declared.progress.Front.TheVariants.{Bad as NextBad, Waits, Refused}
 use Rattle.htext.specs.Next.{next_of}
-use Rattle.htext.specs.Text.{Read, Bad, normalized, ends_in_return, reads, text as text_of, valid_len, fitting_within, fitting, front_len, refusal_of, refusal_with, decoded, settled}
+use Rattle.htext.specs.Text.{Read, Bad, normalized, ends_in_return, reads, text as text_of, valid_len, fitting_within, fitting, front_len, refusal_of, refusal_with, decoded, settled, reads_at}
 use Rattle.htext.specs.Items.{CharItem, items}
 use Rattle.htext.specs.Decoding.{HasRead, IsReading, IsUndecided, HandsOn, Ends, end_refused, end_reached, answer_at_end}
 use Rattle.htext.proofs.Valid.{refusal_within, refusal_past}
 use Rattle.htext.proofs.Errors.{error_bounds}
-use Rattle.htext.proofs.Parts.{reads_at, reads_nil, reads_after_bad}
+use Rattle.htext.proofs.Parts.{reads_nil, reads_after_bad}
 use Rattle.htext.proofs.Fronts.{front_le, front_past}
 use Rattle.htext.proofs.Texts.{read_past}
 use Rattle.htext.proofs.Refusals.{replaced, all_read}

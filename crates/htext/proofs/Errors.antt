@@ -1,5 +1,6 @@
 -- How long a bad part is, whatever follows it.
-use Rattle.std.proofs.Common.{◌≡◌, ℕ, ◌<◌, ◌≤◌, ◌+◌, Bool, true, false, cond, eqb, List, [], ◌∷◌, ◌++◌, length, sym, refl, ◌∙◌, arith, Option, None, Some}
+use Rattle.std.proofs.Common.{◌≡◌, ℕ, ◌<◌, ◌≤◌, ◌+◌, Bool, true, false, cond, eqb, List, [], ◌∷◌, ◌++◌, length, sym, refl, ◌∙◌, arith, inl, inr, Option, None, Some}
+use Rattle.std.specs.Prelude.{◌⊎◌}
 use Rattle.std.specs.Int.{is_in_range}
 use Rattle.std.proofs.lemmas.Bool.Decides.{nat_tests}
 use Rattle.std.proofs.lemmas.Bool.{le-ltb}
@@ -72,6 +73,11 @@ bounds (x ∷ xs) m h =
     let k = by_test (is_in_range 0xC2 0xF4 x) (after_first x xs) (Some 1) m (λ n. (1 ≤ n) × (n ≤ 1 + length xs)) (λ e. let k = first_is x xs m e in (k.0, omega (arith, k.1))) (λ e. let k = is 1 m e in (omega arith, omega arith)) h in
     (k.0, omega (arith, k.1))
 
+short : (bs : List ℕ) (m : ℕ) → by_bytes bs ≡ Some m → (m ≡ 1) ⊎ (m < length bs)
+short [] m h = absurd cc
+short (x ∷ xs) m h =
+    by_test (is_in_range 0xC2 0xF4 x) (after_first x xs) (Some 1) m (λ n. (n ≡ 1) ⊎ (n < length (x ∷ xs))) (λ e. inr (omega (arith, (first_is x xs m e).1))) (λ e. inl (sym (is 1 m e))) h
+
 -- more bytes change nothing
 third_more : (ws more : List ℕ) (m : ℕ) → after_third ws ≡ Some m → after_third (ws ++ more) ≡ Some m
 third_more [] more m h = absurd cc
@@ -120,6 +126,10 @@ by_bytes_open (x ∷ xs) more m h g =
 
 pub error_bounds : (bs : List ℕ) (m : ℕ) → utf8_error_len bs ≡ Some m → (1 ≤ m) × (m ≤ length bs)
 error_bounds bs m h = bounds bs m (sym (is_by_bytes bs) ∙ h)
+
+-- a bad part of more than one byte is told by the byte after it
+pub error_short : (bs : List ℕ) (m : ℕ) → utf8_error_len bs ≡ Some m → (m ≡ 1) ⊎ (m < length bs)
+error_short bs m h = short bs m (sym (is_by_bytes bs) ∙ h)
 
 -- a byte that is a bad part by itself: it begins no character, or the next one can't follow it
 either : (b : Bool) → cond {A = Option ℕ} b (Some 1) (Some 1) ≡ Some 1

@@ -11,11 +11,11 @@ use Rattle.std.specs.Str.Lossy.{utf8_valid_len, utf8_error_len}
 use Rattle.names.specs.Placed.{placed}
 use Rattle.htext.specs.declared.BadBytes.{BadBytes}
 use Rattle.htext.specs.declared.BadBytes.TheVariants.{Refuse, Replace}
-use Rattle.htext.specs.Text.{Read, Whole, Bad, valid_len, or_rest, bad_len, after_part, fitting_within, fitting, front_len}
+use Rattle.htext.specs.Text.{Read, Whole, Bad, valid_len, or_rest, bad_len, after_part, fitting_within, fitting, front_len, reads_at}
 use Rattle.htext.proofs.Valid.{valid_len_le, valid_len-append, valid_front_utf8, going_on}
 use Rattle.htext.proofs.Errors.{error_bounds, error_more, error_cut}
 use Rattle.htext.proofs.Beginnings.{none_after, under_limit}
-use Rattle.htext.proofs.Parts.{reads_at, reads_nil, reads_after_text, reads_after_bad}
+use Rattle.htext.proofs.Parts.{reads_nil, reads_after_text, reads_after_bad}
 
 -- The front is characters and bad parts that are settled, where `rest` follows it.
 pub data Parts : List ℕ → List ℕ → Type 0 where
@@ -102,7 +102,7 @@ bad_by true e rest o m h g = absurd cc
 bad_by false e rest (Some k) m h g = let is : k ≡ m = cc in subst (λ (x : ℕ). (1 ≤ x) × (x ≤ length rest)) is (error_bounds rest k h)
 bad_by false e rest None m h g = rest_by e rest m g
 
-bad_bounds : (e : Bool) (rest : List ℕ) (m : ℕ) → bad_len e rest ≡ Some m → (1 ≤ m) × (m ≤ length rest)
+pub bad_bounds : (e : Bool) (rest : List ℕ) (m : ℕ) → bad_len e rest ≡ Some m → (1 ≤ m) × (m ≤ length rest)
 bad_bounds e rest m h = bad_by (nat_lt 0 (utf8_valid_len rest)) e rest (utf8_error_len rest) m refl h
 
 zero_plus : (n : ℕ) → 0 + n ≡ n
@@ -159,7 +159,7 @@ fit_bad e k room part ys none bad within =
     ∙ zero_plus _
 
 -- what is read of bytes that begin with a front, in whole parts
-settled_bad : (e : Bool) (rest : List ℕ) (m : ℕ) → utf8_valid_len rest ≡ 0 → utf8_error_len rest ≡ Some m → bad_len e rest ≡ Some m
+pub settled_bad : (e : Bool) (rest : List ℕ) (m : ℕ) → utf8_valid_len rest ≡ 0 → utf8_error_len rest ≡ Some m → bad_len e rest ≡ Some m
 settled_bad e rest m none bad = ap (λ (n : ℕ). cond (nat_lt 0 n) None (or_rest e rest (utf8_error_len rest))) none ∙ ap (or_rest e rest) bad
 
 fit_past : (e : Bool) (room : ℕ) (front rest : List ℕ) → Parts front rest → length front ≤ room → fitting e room (front ++ rest) ≡ length front + fitting e (room - length front) rest

@@ -5,6 +5,7 @@ pub mod Beginnings
 pub mod Alone
 pub mod Fronts
 pub mod Refusals
+pub mod BadParts
 pub mod Deciding
 pub mod Stopping
 pub mod Texts

@@ -10,13 +10,9 @@ use Rattle.std.specs.Str.Lossy.{utf8_valid_len, utf8_invalid_len}
 use Rattle.std.specs.Char.{encode_utf8, len_utf8}
 use Rattle.names.specs.Placed.{placed}
 use Rattle.names.specs.declared.placed.Placed.{Placed}
-use Rattle.htext.specs.Text.{Read, Whole, Bad, reads_within}
+use Rattle.htext.specs.Text.{Read, Whole, Bad, reads_within, reads_at}
 use Rattle.htext.proofs.Valid.{utf8_valid_len-append}
 use Rattle.htext.proofs.Errors.{invalid_bounds}
-
--- what is in bytes, the first of which is at `at`
-abbrev pub reads_at : ℕ → List ℕ → List Read
-reads_at at bytes = reads_within (suc (length bytes)) at bytes
 
 -- after the first `n`, which are characters, where there are more
 abbrev tail_at : ℕ → ℕ → List ℕ → ℕ → List Read

@@ -14,8 +14,9 @@ use Rattle.htext.specs.declared.Bom.{Bom}
 use Rattle.names.specs.declared.refusal.Refusal.TheVariants.{NotUtf8, TooLarge}
 use Rattle.htext.specs.declared.BadBytes.TheVariants.{Refuse, Replace}
 use Rattle.htext.specs.Text.{valid_len, bad_len, or_rest, after_part, fitting_within, fitting, refusal_with, refusal_of, BeginsNoCharacter}
-use Rattle.htext.proofs.Valid.{refusal_within, valid_len_le, valid_front_utf8, utf8_valid_len-append, starts, starts_back, refusal_same, refusal_past}
+use Rattle.htext.proofs.Valid.{refusal_within, valid_len_le, valid_front_utf8, utf8_valid_len-append, starts, starts_back, none_valid, refusal_same, refusal_past}
 use Rattle.htext.proofs.Errors.{invalid_bounds}
+use Rattle.htext.proofs.Beginnings.{under_limit}
 use Rattle.htext.proofs.Fronts.{Parts, front_le, front_past, fit_le}
 
 -- the valid front is all of what is accepted
@@ -34,25 +35,10 @@ accepted limit bytes = (
       ap (λ (b : Bool). cond b None (Some (refusal_with Refuse (utf8_valid_len bytes - valid_len limit bytes) (valid_len limit bytes)))) e,
 )
 
--- where no character begins, none begins under a limit
-none_begun : (limit : ℕ) (rest : List ℕ) → BeginsNoCharacter rest → (c : ℕ) × (more : List ℕ) × IsScalar c × (take limit rest ≡ encode_utf8 c ++ more) → ⊥
-none_begun limit rest none (c, more, scalar, is) =
-    none c (more ++ drop limit rest) scalar (sym (take-append-drop limit rest) ∙ ap (λ (x : List ℕ). x ++ drop limit rest) is ∙ append_assoc (encode_utf8 c) more (drop limit rest))
-
-none_begun_unlimited : (rest : List ℕ) → BeginsNoCharacter rest → (c : ℕ) × (more : List ℕ) × IsScalar c × (rest ≡ encode_utf8 c ++ more) → ⊥
-none_begun_unlimited rest none (c, more, scalar, is) = none c more scalar is
-
 pub not_utf8 : (limit : ℕ) (front rest : List ℕ) → IsUtf8 front → length front ≤ limit → 0 < length rest → BeginsNoCharacter rest → refusal_within limit (front ++ rest) ≡ Some (NotUtf8 (length front))
 not_utf8 limit front rest u within some none =
-    let stuck : valid_len (limit - length front) rest ≡ 0 = elim (cases_lt 0 (valid_len (limit - length front) rest)) [
-      | inl begun ↦ absurd (none_begun (limit - length front) rest none (starts (take (limit - length front) rest) begun))
-      | inr nothing ↦ omega arith
-    ] in
-    let unlimited : utf8_valid_len rest ≡ 0 = elim (cases_lt 0 (utf8_valid_len rest)) [
-      | inl begun ↦ absurd (none_begun_unlimited rest none (starts rest begun))
-      | inr nothing ↦ omega arith
-    ] in
-    refusal_past limit front rest u within stuck some ∙ ap (λ (n : ℕ). Some (refusal_with Refuse n (length front))) unlimited
+    let nothing : utf8_valid_len rest ≡ 0 = none_valid rest none in
+    refusal_past limit front rest u within (under_limit (limit - length front) rest nothing) some ∙ ap (λ (n : ℕ). Some (refusal_with Refuse n (length front))) nothing
 
 -- a character that is longer than the limit is not in the valid front
 too_long : (limit ch : ℕ) (rest : List ℕ) → limit < len_utf8 ch → (c : ℕ) × (more : List ℕ) × IsScalar c × (take limit (encode_utf8 ch ++ rest) ≡ encode_utf8 c ++ more) → ⊥
@@ -79,7 +65,7 @@ last_by : (o : Option ℕ) (rest : List ℕ) → 0 < length rest → or_rest tru
 last_by (Some m) rest some = refl
 last_by None rest some = rw (lt-ltb 0 (length rest) some) refl
 
-last_part : (rest : List ℕ) → utf8_valid_len rest ≡ 0 → 0 < length rest → bad_len true rest ≡ Some (utf8_invalid_len rest)
+pub last_part : (rest : List ℕ) → utf8_valid_len rest ≡ 0 → 0 < length rest → bad_len true rest ≡ Some (utf8_invalid_len rest)
 last_part rest none some = ap (λ (n : ℕ). cond (nat_lt 0 n) None (or_rest true rest (utf8_error_len rest))) none ∙ last_by (utf8_error_len rest) rest some
 
 -- all that fits is read

@@ -11,10 +11,10 @@ use Rattle.names.specs.declared.placed.Placed.{Placed}
 use Rattle.names.specs.declared.error.ParseError.{ParseError}
 use Rattle.htext.specs.declared.BadBytes.{BadBytes}
 use Rattle.htext.specs.declared.Bom.{Bom}
-use Rattle.htext.specs.Text.{Read, Whole, Bad, character_of, is_dropped_mark, PlacesRise, read_as, reads, reads_within, normalized, ends_in_return, text, front_len}
+use Rattle.htext.specs.Text.{Read, Whole, Bad, character_of, is_dropped_mark, PlacesRise, read_as, reads, reads_within, normalized, ends_in_return, text, front_len, reads_at}
 use Rattle.htext.specs.Items.{CharItem, Character, InputError, errors_of, items_of, items, input_errors, characters_among, errors_among}
 use Rattle.htext.proofs.Valid.{front_utf8}
-use Rattle.htext.proofs.Parts.{reads_at, more_left}
+use Rattle.htext.proofs.Parts.{more_left}
 use Rattle.htext.proofs.Errors.{invalid_bounds}
 use Rattle.htext.proofs.Fronts.{IsFront, front_more, front_is, front_past, front_le, reads_past}
 

@@ -13,7 +13,7 @@ use Rattle.names.specs.declared.refusal.Refusal.TheVariants.{NotUtf8, TooLarge}
 use Rattle.names.specs.declared.refusal.Refusal.{Refusal}
 use Rattle.htext.specs.declared.BadBytes.TheVariants.{Refuse}
 use Rattle.htext.specs.declared.Bom.TheVariants.{Keep}
-use Rattle.htext.specs.Text.{valid_len, refusal_with, refusal_of}
+use Rattle.htext.specs.Text.{valid_len, refusal_with, refusal_of, BeginsNoCharacter}
 
 -- the longest front that is UTF-8 and fits, and why the bytes are refused for what follows it, if they are
 abbrev pub valid_front : ℕ → List ℕ → List ℕ
@@ -139,6 +139,13 @@ starts bs h =
 pub starts_back : (bs more : List ℕ) (c : ℕ) → IsScalar c → bs ≡ encode_utf8 c ++ more → 0 < utf8_valid_len bs
 starts_back bs more c s e =
     omega (arith, ap utf8_valid_len e, utf8_valid_len-append (encode_utf8 c) more (IsUtf8-encode c s), length-encode c, (len_utf8_bounds c).0)
+
+-- where no character is at the front, nothing there is valid
+pub none_valid : (bs : List ℕ) → BeginsNoCharacter bs → utf8_valid_len bs ≡ 0
+none_valid bs none = elim (cases_lt 0 (utf8_valid_len bs)) [
+  | inl begun ↦ let (c, more, scalar, is) = starts bs begun in absurd (none c more scalar is)
+  | inr nothing ↦ omega arith
+]
 
 going_on_by : (rest more : List ℕ) → (c : ℕ) × (r : List ℕ) × IsScalar c × (rest ≡ encode_utf8 c ++ r) → 0 < utf8_valid_len (rest ++ more)
 going_on_by rest more (c, r, s, e) = starts_back (rest ++ more) (r ++ more) c s (ap (λ (x : List ℕ). x ++ more) e ∙ append_assoc (encode_utf8 c) r more)

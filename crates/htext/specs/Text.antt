@@ -1,5 +1,5 @@
 -- The text of an input: what is read of its bytes, each with the place of its first byte (HTML Standard, 13.2.3.5).
-use Rattle.std.specs.Prelude.{◌≡◌, ℕ, zero, suc, ◌+◌, ◌-◌, ◌≤◌, Bool, true, false, ◌&&◌, ◌||◌, ◌==◌, nat_lt, nat_le, if◌then◌else◌, List, [], ◌∷◌, ◌++◌}
+use Rattle.std.specs.Prelude.{◌≡◌, ℕ, zero, suc, ◌+◌, ◌-◌, ◌<◌, ◌≤◌, ◌⊎◌, Bool, true, false, ◌&&◌, ◌||◌, ◌==◌, nat_lt, nat_le, if◌then◌else◌, List, [], ◌∷◌, ◌++◌}
 use Rattle.std.specs.Prelude.{length, map, take, drop, Option, Some, None}
 use Rattle.std.specs.Char.{IsScalar, encode_utf8}
 use Rattle.std.specs.Str.{chars}
@@ -19,8 +19,7 @@ pub record Policy : Type 0 where
   pub bad : BadBytes
   pub limit : ℕ
 
--- What is in bytes: a character; or a bad part, which is none, at the place of its first byte. It is the longest front of the
--- rest that begins some character without being all of it, or one byte (Encoding Standard, "UTF-8 decoder").
+-- what is in bytes: a character; or a bad part, which is none, at the place of its first byte
 pub data Read : Type 0 where
   Whole : Placed → Read
   Bad : ℕ → Read
@@ -38,8 +37,11 @@ reads_within (suc k) at bytes =
     map Whole (placed at (chars (take n bytes)))
     ++ (if n == length bytes then [] else Bad (at + n) ∷ reads_within k (at + n + utf8_invalid_len (drop n bytes)) (after_first_chunk bytes))
 
+abbrev pub reads_at : ℕ → List ℕ → List Read
+reads_at at bytes = reads_within (suc (length bytes)) at bytes
+
 abbrev pub reads : List ℕ → List Read
-reads bytes = reads_within (suc (length bytes)) 0 bytes
+reads bytes = reads_at 0 bytes
 
 -- whether this is a byte order mark that is not part of the text
 abbrev pub is_dropped_mark : Bom → Placed → Bool
@@ -136,6 +138,22 @@ StaysRefused how bytes refusal = (more : List ℕ) → refusal_of how (bytes ++ 
 -- no character is at the front of the bytes
 abbrev pub BeginsNoCharacter : List ℕ → Type 0
 BeginsNoCharacter bytes = (ch : ℕ) (more : List ℕ) → IsScalar ch → bytes ≡ encode_utf8 ch ++ more → ⊥
+
+-- these bytes and some more are one character
+pub record BeginsCharacter (bytes : List ℕ) : Type 0 where
+  pub ch : ℕ
+  pub more : List ℕ
+  pub scalar : IsScalar ch
+  pub is : bytes ++ more ≡ encode_utf8 ch
+
+-- Where no character is at the front, the first `n` bytes are the bad part there: the longest front of them that begins some character,
+-- or one byte where none does (Encoding Standard, "UTF-8 decoder").
+pub record IsBadPart (bytes : List ℕ) (n : ℕ) : Type 0 where
+  pub some : 0 < n
+  pub within : n ≤ length bytes
+  pub none : BeginsNoCharacter bytes
+  pub begins : (n ≡ 1) ⊎ BeginsCharacter (take n bytes)
+  pub longest : (m : ℕ) → n < m → m ≤ length bytes → BeginsCharacter (take m bytes) → ⊥
 
 -- the places rise, from `first` on, and lie before `end`
 abbrev pub PlacesRise : ℕ → List Placed → ℕ → Type 0

@@ -1,12 +1,13 @@
 //! Laws of texts.
 
-ghost use Rattle.std.specs.Prelude.{◌≡◌, ◌+◌, ◌<◌, ◌≤◌, ◌++◌, ◌↔◌, ℕ, List, length, map, None, Some};
+ghost use Rattle.std.specs.Prelude.{◌≡◌, ◌+◌, ◌<◌, ◌≤◌, ◌++◌, ◌∷◌, ◌↔◌, ℕ, List, length, map, true, false, None, Some};
 ghost use Rattle.std.specs.Char.{IsScalar, encode_utf8, len_utf8};
 ghost use Rattle.std.specs.Str.{IsUtf8, chars};
 ghost use Rattle.names.specs.Placed.{placed};
 ghost use Rattle.names.specs.declared.refusal.Refusal.TheVariants.{NotUtf8, TooLarge};
 ghost use Rattle.htext.specs.declared.BadBytes.TheVariants.{Refuse, Replace};
-ghost use Rattle.htext.specs.Text.{Policy, Read, Whole, PlacesRise, read_len, decoded, settled, reads, refusal_of, BeginsNoCharacter, character_of};
+ghost use Rattle.htext.specs.Text.{Policy, Read, Whole, Bad, PlacesRise, read_len, decoded, settled, reads, reads_at, bad_len, refusal_of};
+ghost use Rattle.htext.specs.Text.{BeginsNoCharacter, IsBadPart, character_of};
 ghost use Rattle.htext.specs.Items.{items, characters_among, errors_among, input_errors};
 
 /// What is handed over of a text is its characters and its errors.
@@ -18,6 +19,15 @@ pub fn items_are_characters_and_errors()
 /// What is in bytes that are UTF-8 is their characters.
 pub fn valid_bytes_are_characters()
     ensures { (bytes : List ℕ) → IsUtf8 bytes → reads bytes ≡ map Whole (placed 0 (chars bytes)) }
+{}
+
+/// What is no character is read as bad parts, each by the definition of one: whole at the end of the input, and before it as soon as it
+/// is the same whatever follows.
+pub fn bad_parts_begin_characters()
+    ensures at_end { (bytes : List ℕ) (n : ℕ) → (bad_len true bytes ≡ Some n) ↔ IsBadPart bytes n }
+    ensures before_end { (bytes : List ℕ) (n : ℕ) → (bad_len false bytes ≡ Some n) ↔ ((more : List ℕ) → IsBadPart (bytes ++ more) n) }
+    ensures reads { (at : ℕ) (front part rest : List ℕ) → IsUtf8 front → IsBadPart (part ++ rest) (length part)
+        → reads_at at (front ++ (part ++ rest)) ≡ map Whole (placed at (chars front)) ++ Bad (at + length front) ∷ reads_at (at + length front + length part) rest }
 {}
 
 /// More bytes change nothing of what was read.

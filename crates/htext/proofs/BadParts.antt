@@ -1,0 +1,125 @@
+-- The bad part at the front of bytes.
+use Rattle.std.proofs.Common.{◌≡◌, ℕ, ◌<◌, ◌≤◌, ◌+◌, Bool, true, false, cond, List, [], ◌∷◌, ◌++◌, length, map, take, drop, sym, refl, ap, ◌∙◌, subst, arith, inl, inr, append-nil, Option, None, Some}
+use Rattle.std.specs.Prelude.{◌⊎◌, ◌↔◌, nat_lt}
+use Rattle.std.proofs.lemmas.Bool.{cases_lt}
+use Rattle.std.proofs.lemmas.Bool.Decides.{nat_tests}
+use Rattle.std.proofs.lemmas.List.{take_all, take-append-drop, length-take-le}
+use Rattle.std.specs.Option.{unwrap_or}
+use Rattle.std.specs.Str.{chars, IsUtf8}
+use Rattle.std.specs.Str.Lossy.{utf8_valid_len, utf8_error_len, utf8_invalid_len}
+use Rattle.names.specs.Placed.{placed}
+use Rattle.htext.specs.Text.{Read, Whole, Bad, reads_at, or_rest, bad_len, BeginsNoCharacter, BeginsCharacter, IsBadPart}
+use Rattle.htext.proofs.Valid.{starts_back, none_valid}
+use Rattle.htext.proofs.Errors.{error_bounds, error_short, error_more, error_open}
+use Rattle.htext.proofs.Beginnings.{front_of, completed, none_after, under_limit}
+use Rattle.htext.proofs.Parts.{reads_after_text, reads_after_bad}
+use Rattle.htext.proofs.Fronts.{bad_bounds, settled_bad, undecided_bad}
+use Rattle.htext.proofs.Refusals.{last_part}
+
+no_character : (bytes : List ℕ) → utf8_valid_len bytes ≡ 0 → BeginsNoCharacter bytes
+no_character bytes none = λ ch more scalar is. let begun : 0 < utf8_valid_len bytes = starts_back bytes more ch scalar is in omega (arith, begun, none)
+
+length_is : (m n : ℕ) → Some m ≡ Some n → m ≡ n
+length_is m n e = cc
+
+-- it begins a character, or is one byte
+begins_by : (o : Option ℕ) (bytes : List ℕ) (n : ℕ) → utf8_error_len (take n bytes) ≡ o → utf8_valid_len bytes ≡ 0 → utf8_error_len bytes ≡ Some n → (n ≡ 1) ⊎ BeginsCharacter (take n bytes)
+begins_by None bytes n e none bad =
+    let b = error_bounds bytes n bad in
+    inr (completed (take n bytes) (omega (arith, b.0, length-take-le n bytes b.1)) (under_limit n bytes none) e)
+begins_by (Some k) bytes n e none bad =
+    let whole : utf8_error_len bytes ≡ Some k = ap utf8_error_len (sym (take-append-drop n bytes)) ∙ error_more (take n bytes) (drop n bytes) k e in
+    let same : k ≡ n = length_is k n (sym whole ∙ bad) in
+    elim (error_short (take n bytes) k e) [
+      | inl one ↦ inl (sym same ∙ one)
+      | inr less ↦ absurd (omega (arith, less, same, length-take-le n bytes (error_bounds bytes n bad).1))
+    ]
+
+-- and nothing longer begins one
+longest : (bytes : List ℕ) (n : ℕ) → utf8_valid_len bytes ≡ 0 → utf8_error_len bytes ≡ Some n → (m : ℕ) → n < m → m ≤ length bytes → BeginsCharacter (take m bytes) → ⊥
+longest bytes n none bad m longer within h =
+    let len : length (take m bytes) ≡ m = length-take-le m bytes within in
+    let open' = front_of h.ch (take m bytes) h.more [] h.scalar (h.is ∙ sym (append-nil _)) (omega (arith, len, longer)) (under_limit m bytes none) in
+    let most : length (take m bytes) ≤ n = error_open (take m bytes) (drop m bytes) n open' (ap utf8_error_len (take-append-drop m bytes) ∙ bad) in
+    omega (arith, most, len, longer)
+
+settled_part : (bytes : List ℕ) (n : ℕ) → utf8_valid_len bytes ≡ 0 → utf8_error_len bytes ≡ Some n → IsBadPart bytes n
+settled_part bytes n none bad = record {
+  some = (error_bounds bytes n bad).0;
+  within = (error_bounds bytes n bad).1;
+  none = no_character bytes none;
+  begins = begins_by (utf8_error_len (take n bytes)) bytes n refl none bad;
+  longest = longest bytes n none bad;
+}
+
+-- what is open is one part, where nothing follows
+open_part : (bytes : List ℕ) → utf8_valid_len bytes ≡ 0 → utf8_error_len bytes ≡ None → 0 < length bytes → IsBadPart bytes (length bytes)
+open_part bytes none open' some = record {
+  some = some;
+  within = omega arith;
+  none = no_character bytes none;
+  begins = inr (subst BeginsCharacter (sym (take_all (length bytes) bytes (omega arith))) (completed bytes some none open'));
+  longest = λ m longer within _. omega (arith, longer, within);
+}
+
+part_by : (o : Option ℕ) (bytes : List ℕ) → utf8_error_len bytes ≡ o → utf8_valid_len bytes ≡ 0 → 0 < length bytes → IsBadPart bytes (unwrap_or o (length bytes))
+part_by None bytes e none some = open_part bytes none e some
+part_by (Some n) bytes e none some = settled_part bytes n none e
+
+not_less : (bytes : List ℕ) (m n : ℕ) → IsBadPart bytes m → IsBadPart bytes n → m < n → ⊥
+not_less bytes m n a b less = elim b.begins [
+  | inl one ↦ omega (arith, a.some, one, less)
+  | inr begins ↦ a.longest n less b.within begins
+]
+
+-- there is one
+same_part : (bytes : List ℕ) (m n : ℕ) → IsBadPart bytes m → IsBadPart bytes n → m ≡ n
+same_part bytes m n a b = elim (cases_lt m n) [
+  | inl less ↦ absurd (not_less bytes m n a b less)
+  | inr le ↦ elim (cases_lt n m) [
+    | inl more ↦ absurd (not_less bytes n m b a more)
+    | inr ge ↦ omega arith
+  ]
+]
+
+invalid_is : (bytes : List ℕ) (n : ℕ) → IsBadPart bytes n → utf8_invalid_len bytes ≡ n
+invalid_is bytes n h = same_part bytes (utf8_invalid_len bytes) n (part_by (utf8_error_len bytes) bytes refl (none_valid bytes h.none) (omega (arith, h.some, h.within))) h
+
+-- the length that reading looks for
+no_valid : (b : Bool) (bytes : List ℕ) (o : Option ℕ) (n : ℕ) → nat_lt 0 (utf8_valid_len bytes) ≡ b → cond b None o ≡ Some n → utf8_valid_len bytes ≡ 0
+no_valid true bytes o n e h = absurd cc
+no_valid false bytes o n e h = grind (arith, nat_tests)
+
+pub at_end : (bytes : List ℕ) (n : ℕ) → (bad_len true bytes ≡ Some n) ↔ IsBadPart bytes n
+at_end bytes n = (
+  λ h.
+      let none : utf8_valid_len bytes ≡ 0 = no_valid (nat_lt 0 (utf8_valid_len bytes)) bytes (or_rest true bytes (utf8_error_len bytes)) n refl h in
+      let some : 0 < length bytes = omega (arith, bad_bounds true bytes n h) in
+      let is : utf8_invalid_len bytes ≡ n = length_is _ n (sym (last_part bytes none some) ∙ h) in
+      subst (IsBadPart bytes) is (part_by (utf8_error_len bytes) bytes refl none some),
+  λ h. last_part bytes (none_valid bytes h.none) (omega (arith, h.some, h.within)) ∙ ap Some (invalid_is bytes n h),
+)
+
+settled_by : (o : Option ℕ) (bytes : List ℕ) (n : ℕ) → utf8_error_len bytes ≡ o → ((more : List ℕ) → IsBadPart (bytes ++ more) n) → IsBadPart bytes n → bad_len false bytes ≡ Some n
+settled_by None bytes n e always here =
+    let c = completed bytes (omega (arith, here.some, here.within)) (none_valid bytes here.none) e in
+    absurd ((always c.more).none c.ch [] c.scalar (c.is ∙ sym (append-nil _)))
+settled_by (Some k) bytes n e always here =
+    let none : utf8_valid_len bytes ≡ 0 = none_valid bytes here.none in
+    settled_bad false bytes k none e ∙ ap Some (same_part bytes k n (settled_part bytes k none e) here)
+
+pub before_end : (bytes : List ℕ) (n : ℕ) → (bad_len false bytes ≡ Some n) ↔ ((more : List ℕ) → IsBadPart (bytes ++ more) n)
+before_end bytes n = (
+  λ h.
+      let (none, bad) = undecided_bad (nat_lt 0 (utf8_valid_len bytes)) bytes (utf8_error_len bytes) n refl refl h in
+      λ more. settled_part (bytes ++ more) n (none_after bytes more n none bad) (error_more bytes more n bad),
+  λ always. settled_by (utf8_error_len bytes) bytes n refl always (subst (λ (x : List ℕ). IsBadPart x n) (append-nil bytes) (always [])),
+)
+
+-- what is read is one after another
+pub reads_part : (at : ℕ) (front part rest : List ℕ) → IsUtf8 front → IsBadPart (part ++ rest) (length part)
+    → reads_at at (front ++ (part ++ rest)) ≡ map Whole (placed at (chars front)) ++ Bad (at + length front) ∷ reads_at (at + length front + length part) rest
+reads_part at front part rest u h =
+    reads_after_text at front (part ++ rest) u
+    ∙ ap (λ (x : List Read). map Whole (placed at (chars front)) ++ x)
+    (reads_after_bad (at + length front) part rest (none_valid (part ++ rest) h.none) (invalid_is (part ++ rest) (length part) h) h.some)
