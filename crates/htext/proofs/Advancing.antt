@@ -19,7 +19,7 @@ use Rattle.htext.specs.Decoding.{HasRead, IsReading, IsRefusedFrom, IsUndecided,
 use Rattle.htext.proofs.Valid.{take-take, valid_front, valid_len_le, valid_front_utf8, length-valid_front, valid_len-append}
 use Rattle.htext.proofs.Parts.{reads_nil, reads_of_text, reads_after_bad}
 use Rattle.htext.proofs.Errors.{error_bounds, error_cut}
-use Rattle.htext.proofs.Fronts.{IsFront, front_more, front_is, front_past, front_le, reads_past, cut_none, text_more, part_more}
+use Rattle.htext.proofs.Fronts.{IsFront, front_more, front_is, front_past, front_le, reads_past, cut_none, text_more, part_more, undecided_bad}
 use Rattle.htext.proofs.Texts.{normalized-append, ends_in_return-append, read_past}
 use Rattle.htext.proofs.Refusals.{accepted, replaced}
 use Rattle.htext.proofs.Handing.{HandsOn-append, HandsOn-goes_on}
@@ -255,11 +255,12 @@ module _ (bom : Bom) (bad : BadBytes) (limit : ℕ) (all : List ℕ) where
   one_more : (read n : ℕ) (after_return : Bool) → IsReading (policy bom bad limit) read after_return all → AreReplaced bad (drop read all) (limit - read) (suc n)
       → (IsReading (policy bom bad limit) (read + 1) false all → AreReplaced bad (drop (read + 1) all) (limit - (read + 1)) n → IsAfter (read + 1) n) → IsAfter read (suc n)
   one_more read n after_return h are more =
-      let w : WhatIsBad bad (drop read all) (limit - read) 1 = record { how = are.how (omega arith); none = are.are_bad.0; is_bad = are.are_bad.1; fits = omega (arith, are.fits) } in
+      let (none, is_bad) = undecided_bad (drop read all) 1 are.are_bad.0 in
+      let w : WhatIsBad bad (drop read all) (limit - read) 1 = record { how = are.how (omega arith); none = none; is_bad = is_bad; fits = omega (arith, are.fits) } in
       let left : drop 1 (drop read all) ≡ drop (read + 1) all = drop-drop 1 read all in
       let rest = more (bad_reading bom bad limit read after_return all h 1 w) (record {
         how = λ some. are.how (omega arith);
-        are_bad = subst (AreBad n) left are.are_bad.2;
+        are_bad = subst (AreBad n) left are.are_bad.1;
         within = omega (arith, are.within, length-drop read all, length-drop (read + 1) all);
         fits = omega (arith, are.fits);
       }) in

@@ -111,7 +111,7 @@ settled_by (Some k) bytes n e always here =
 pub before_end : (bytes : List ℕ) (n : ℕ) → (bad_len false bytes ≡ Some n) ↔ ((more : List ℕ) → IsBadPart (bytes ++ more) n)
 before_end bytes n = (
   λ h.
-      let (none, bad) = undecided_bad (nat_lt 0 (utf8_valid_len bytes)) bytes (utf8_error_len bytes) n refl refl h in
+      let (none, bad) = undecided_bad bytes n h in
       λ more. settled_part (bytes ++ more) n (none_after bytes more n none bad) (error_more bytes more n bad),
   λ always. settled_by (utf8_error_len bytes) bytes n refl always (subst (λ (x : List ℕ). IsBadPart x n) (append-nil bytes) (always [])),
 )

@@ -10,7 +10,7 @@ use Rattle.std.specs.Char.{IsScalar, encode_utf8}
 use Rattle.htext.specs.Text.{valid_len, BeginsCharacter}
 use Rattle.htext.proofs.Valid.{starts, starts_back}
 
-in_range : (low high c : ℕ) → low ≤ c → c ≤ high → is_in_range low high c ≡ true
+pub in_range : (low high c : ℕ) → low ≤ c → c ≤ high → is_in_range low high c ≡ true
 in_range low high c a b = rw (le-leb low c a, le-leb c high b) refl
 
 pub from_range : (low high c : ℕ) → is_in_range low high c ≡ true → (low ≤ c) × (c ≤ high)
@@ -35,7 +35,7 @@ most_by true b x y e f h = h.after_ed (eqb-true x 0xED e)
 most_by false true x y e f h = h.after_f4 (eqb-true x 0xF4 f)
 most_by false false x y e f h = h.most
 
-follows_tested : (x y : ℕ) → MayFollow x y → is_in_range (second_byte_min x) (second_byte_max x) y ≡ true
+pub follows_tested : (x y : ℕ) → MayFollow x y → is_in_range (second_byte_min x) (second_byte_max x) y ≡ true
 follows_tested x y h =
     in_range (second_byte_min x) (second_byte_max x) y (least_by (eqb x 0xE0) (eqb x 0xF0) x y refl refl h) (most_by (eqb x 0xED) (eqb x 0xF4) x y refl refl h)
 
@@ -58,7 +58,7 @@ tested_follows x y h =
 
 -- FRONTS OF A CHARACTER
 
-one_open : (x : ℕ) → 0xC2 ≤ x → x ≤ 0xF4 → utf8_error_len (x ∷ []) ≡ None
+pub one_open : (x : ℕ) → 0xC2 ≤ x → x ≤ 0xF4 → utf8_error_len (x ∷ []) ≡ None
 unfolding utf8_error_len
 one_open x a b = rw (in_range 0xC2 0xF4 x a b) refl
 
@@ -88,7 +88,17 @@ four_bytes c a =
     let e : 2048 ≤ c = omega arith in
     rw (le-ltb c 128 d, le-ltb c 2048 e, le-ltb c 65536 a) refl
 
-second_of_three : (c : ℕ) → 2048 ≤ c → c < 65536 → IsScalar c → MayFollow (224 + c / 4096) (128 + c / 64 % 64)
+pub second_of_two : (c : ℕ) → 128 ≤ c → c < 2048 → MayFollow (192 + c / 64) (128 + c % 64)
+second_of_two c a b = record {
+  least = omega arith;
+  most = omega arith;
+  after_e0 = λ e. absurd (omega arith);
+  after_ed = λ e. absurd (omega arith);
+  after_f0 = λ e. absurd (omega arith);
+  after_f4 = λ e. absurd (omega arith);
+}
+
+pub second_of_three : (c : ℕ) → 2048 ≤ c → c < 65536 → IsScalar c → MayFollow (224 + c / 4096) (128 + c / 64 % 64)
 second_of_three c a b s = record {
   least = omega arith;
   most = omega arith;
@@ -98,7 +108,7 @@ second_of_three c a b s = record {
   after_f4 = λ e. absurd (omega arith);
 }
 
-second_of_four : (c : ℕ) → 65536 ≤ c → c < 1114112 → MayFollow (240 + c / 262144) (128 + c / 4096 % 64)
+pub second_of_four : (c : ℕ) → 65536 ≤ c → c < 1114112 → MayFollow (240 + c / 262144) (128 + c / 4096 % 64)
 second_of_four c a b = record {
   least = omega arith;
   most = omega arith;

@@ -142,6 +142,12 @@ error_first x xs h = is_by_bytes (x ∷ xs) ∙ rw h refl
 pub error_second : (x y : ℕ) (ys : List ℕ) → is_in_range (second_byte_min x) (second_byte_max x) y ≡ false → utf8_error_len (x ∷ y ∷ ys) ≡ Some 1
 error_second x y ys h = is_by_bytes (x ∷ y ∷ ys) ∙ rw h (either (is_in_range 0xC2 0xF4 x))
 
+pub error_follows : (x y : ℕ) (ys : List ℕ) (m : ℕ) → is_in_range 0xC2 0xF4 x ≡ true → is_in_range (second_byte_min x) (second_byte_max x) y ≡ true
+    → utf8_error_len (x ∷ y ∷ ys) ≡ Some m → 2 ≤ m
+error_follows x y ys m first second h =
+    let after : after_second ys ≡ Some m = rw (first, second) at (sym (is_by_bytes (x ∷ y ∷ ys)) ∙ h) in
+    (second_is ys m after).0
+
 pub error_more : (bs more : List ℕ) (m : ℕ) → utf8_error_len bs ≡ Some m → utf8_error_len (bs ++ more) ≡ Some m
 error_more bs more m h = is_by_bytes (bs ++ more) ∙ by_bytes_more bs more m (sym (is_by_bytes bs) ∙ h)
 

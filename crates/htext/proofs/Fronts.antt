@@ -222,16 +222,19 @@ parts_after : (b : Bool) (m room : ℕ) (f : ℕ → ℕ) (bytes : List ℕ) →
 parts_after true m room f bytes none bad p = bad_then m (f m) bytes none bad p
 parts_after false m room f bytes none bad p = no_part bytes
 
-pub undecided_bad : (b : Bool) (rest : List ℕ) (o : Option ℕ) (n : ℕ) → nat_lt 0 (utf8_valid_len rest) ≡ b → utf8_error_len rest ≡ o → cond b None (or_rest false rest o) ≡ Some n → (utf8_valid_len rest ≡ 0) × (utf8_error_len rest ≡ Some n)
-undecided_bad true rest o n e is h = absurd cc
-undecided_bad false rest None n e is h = absurd cc
-undecided_bad false rest (Some m) n e is h = (grind (arith, nat_tests), cc)
+undecided_by : (b : Bool) (rest : List ℕ) (o : Option ℕ) (n : ℕ) → nat_lt 0 (utf8_valid_len rest) ≡ b → utf8_error_len rest ≡ o → cond b None (or_rest false rest o) ≡ Some n → (utf8_valid_len rest ≡ 0) × (utf8_error_len rest ≡ Some n)
+undecided_by true rest o n e is h = absurd cc
+undecided_by false rest None n e is h = absurd cc
+undecided_by false rest (Some m) n e is h = (grind (arith, nat_tests), cc)
+
+pub undecided_bad : (rest : List ℕ) (n : ℕ) → bad_len false rest ≡ Some n → (utf8_valid_len rest ≡ 0) × (utf8_error_len rest ≡ Some n)
+undecided_bad rest n h = undecided_by (nat_lt 0 (utf8_valid_len rest)) rest (utf8_error_len rest) n refl refl h
 
 parts_by : (o : Option ℕ) (room : ℕ) (f : ℕ → ℕ) (bytes : List ℕ) → bad_len false bytes ≡ o → ((m : ℕ) → Parts (take (f m) (drop m bytes)) (drop (f m) (drop m bytes)))
     → Parts (take (after_part o room f) bytes) (drop (after_part o room f) bytes)
 parts_by None room f bytes e p = no_part bytes
 parts_by (Some m) room f bytes e p =
-    let bad = undecided_bad (nat_lt 0 (utf8_valid_len bytes)) bytes (utf8_error_len bytes) m refl refl e in
+    let bad = undecided_bad bytes m e in
     parts_after (nat_le m room) m room f bytes bad.0 bad.1 (p m)
 
 parts_of_fitting : (k room : ℕ) (bytes : List ℕ) → Parts (take (fitting_within false k room bytes) bytes) (drop (fitting_within false k room bytes) bytes)

@@ -172,7 +172,7 @@ what_is_bad bad rest room at n e = bad_by bad rest room at n _ (next_is bad rest
 pub waits_unread : (bad : BadBytes) (rest : List ℕ) (room : ℕ) → valid_len room rest ≡ 0 → WhatWaits bad rest room → front_len false bad room rest ≡ 0
 waits_unread Refuse rest room stuck w = stuck
 waits_unread Replace rest room stuck w = fit_stuck false (length rest) room rest stuck
-    (λ m h. let bad = undecided_bad (nat_lt 0 (utf8_valid_len rest)) rest (utf8_error_len rest) m refl refl h in
+    (λ m h. let bad = undecided_bad rest m h in
     let is = bad.1 in let open' = w.is_open in absurd cc)
 
 -- and nothing is refused yet whatever follows

@@ -1,7 +1,8 @@
 -- What is at the front of bytes that begin with no character that fits.
-use Rattle.std.specs.Prelude.{◌≡◌, ◌<◌, ◌≤◌, ℕ, zero, suc, nat_lt, if◌then◌else◌, List, length, drop, Option, Some, None}
+use Rattle.std.specs.Prelude.{◌≡◌, ◌<◌, ◌≤◌, ℕ, zero, suc, false, nat_lt, if◌then◌else◌, List, length, drop, Option, Some, None}
 use Rattle.std.specs.Str.Lossy.{utf8_valid_len, utf8_error_len}
 use Rattle.names.specs.declared.refusal.Refusal.TheVariants.{NotUtf8, TooLarge}
+use Rattle.htext.specs.Text.{bad_len}
 use Rattle.htext.specs.declared.BadBytes.{BadBytes}
 use Rattle.htext.specs.declared.BadBytes.TheVariants.{Refuse, Replace}
 use Rattle.htext.specs.declared.progress.Front.{Front}
@@ -14,10 +15,13 @@ next_part Refuse None len room at = Waits
 next_part Replace (Some n) len room at = if nat_lt room n then Refused (TooLarge at) else Bad n
 next_part Replace None len room at = if nat_lt room len then Refused (TooLarge at) else Waits
 
--- each of the first bytes is a bad part by itself, whatever follows
+-- the first byte is a bad part by itself, whatever follows; and each of the first bytes is
+abbrev pub IsBadAlone : List ℕ → Type 0
+IsBadAlone bytes = bad_len false bytes ≡ Some 1
+
 abbrev pub AreBad : ℕ → List ℕ → Type 0
 AreBad zero bytes = Unit {0}
-AreBad (suc n) bytes = (utf8_valid_len bytes ≡ 0) × (utf8_error_len bytes ≡ Some 1) × AreBad n (drop 1 bytes)
+AreBad (suc n) bytes = IsBadAlone bytes × AreBad n (drop 1 bytes)
 
 -- this many of them are replaced, one by one
 pub record AreReplaced (bad : BadBytes) (rest : List ℕ) (room n : ℕ) : Type 0 where

@@ -14,7 +14,7 @@ ghost use Rattle.htext.specs.Text.{Policy, Whole, Bad, normalized, ends_in_retur
 ghost use Rattle.htext.specs.Items.{items, bad_each};
 ghost use Rattle.htext.specs.Run.{IsCleanFront};
 ghost use Rattle.htext.specs.Decoding.{HasRead, HandsOn, IsReading, IsUndecided, Stops};
-ghost use Rattle.htext.specs.Next.{next_of, next_part, AreReplaced};
+ghost use Rattle.htext.specs.Next.{next_of, next_part, AreReplaced, IsBadAlone};
 
 use crate::character::{hand_char, hand_replaced};
 use crate::decoder::MAX_INPUT;
@@ -117,9 +117,10 @@ impl Progress {
         &bytes[..room]
     }
 
-    /// How many bytes at the front are seen to be bad parts by themselves, which fit: none where bad bytes are refused.
+    /// How many bytes at the front are bad parts by themselves, which fit: none where bad bytes are refused.
     fn bad_alone(&self, rest: &[u8]) -> usize
-        ensures { AreReplaced self.now.bad_bytes rest.now (self.now.limit - self.now.read) result }
+        ensures replaced { AreReplaced self.now.bad_bytes rest.now (self.now.limit - self.now.read) result }
+        ensures all { self.now.bad_bytes ≡ Replace → result < self.now.limit - self.now.read → IsBadAlone (drop result rest.now) → ⊥ }
     {
         match self.bad_bytes {
             BadBytes::Refuse => 0,

@@ -1,11 +1,12 @@
 //! Runs of bytes.
 
-ghost use Rattle.std.specs.Prelude.{◌≡◌, ◌<◌, ◌≤◌, ◌==◌, not, map, length, Some, MatchBool};
+ghost use Rattle.std.specs.Prelude.{◌≡◌, ◌<◌, ◌≤◌, ◌==◌, ◌↔◌, not, map, length, drop, IsTrue};
+ghost use Rattle.std.specs.Int.{is_in_range};
 ghost use Rattle.std.specs.List.{prefix_len};
 ghost use Rattle.std.specs.Simd.Lanes.{mask_l};
-ghost use Rattle.std.specs.Str.Lossy.{utf8_valid_len, utf8_error_len};
+ghost use Rattle.std.specs.Str.Lossy.{second_byte_min, second_byte_max};
 ghost use Rattle.names.specs.Placed.{is_alphanumeric};
-ghost use Rattle.htext.specs.Next.{AreBad};
+ghost use Rattle.htext.specs.Next.{AreBad, IsBadAlone};
 ghost use Rattle.htext.specs.Run.{is_inner_byte, is_clean_byte, is_of, is_not_of, is_text_byte};
 
 use std::simd::prelude::*;
@@ -75,11 +76,12 @@ pub fn run_before(mark: u8, bytes: &[u8]) -> usize
     run(RunBytes::Other(mark), bytes)
 }
 
-/// Counts bytes at the front, at most this many, each of which is a bad part by itself.
+/// Counts the bytes at the front that are bad parts by themselves, up to this many.
 pub(crate) fn bad_run(bytes: &[u8], most: usize) -> usize
     requires { most ≤ length bytes.now }
     ensures few { result ≤ most }
     ensures bad { AreBad result bytes.now }
+    ensures all { result < most → IsBadAlone (drop result bytes.now) → ⊥ }
 {
     let mut count = 0;
     while count < most && is_bad_alone(&bytes[count..]) {
@@ -88,17 +90,32 @@ pub(crate) fn bad_run(bytes: &[u8], most: usize) -> usize
     count
 }
 
-/// Whether the first byte is a bad part by itself, as is seen by the one after it: it begins no character, or that one ends it.
+/// Whether the first byte is a bad part by itself, whatever follows: it begins no character, or the next one can't follow it there.
 #[inline(always)]
 fn is_bad_alone(bytes: &[u8]) -> bool
     requires { 0 < length bytes.now }
-    ensures { MatchBool result ((utf8_valid_len bytes.now ≡ 0) × (utf8_error_len bytes.now ≡ Some 1)) (Unit {0}) }
+    ensures { IsTrue result ↔ IsBadAlone bytes.now }
 {
     match bytes[0] {
-        0x80..=0xC1 | 0xF5.. => true,
-        0xC2.. if bytes.len() > 1 => bytes[1] < 0x80 || bytes[1] > 0xBF,
-        _ => false,
+        0x00..=0x7F => false,
+        0xC2..=0xF4 => bytes.len() > 1 && !may_follow(bytes[0], bytes[1]),
+        _ => true,
     }
+}
+
+/// Whether this byte may be the second of a character, after that first one (Unicode, table 3-7).
+#[inline(always)]
+fn may_follow(first: u8, second: u8) -> bool
+    ensures { result ≡ is_in_range (second_byte_min first) (second_byte_max first) second }
+{
+    matches!(second, 0x80..=0xBF)
+        && match first {
+            0xE0 => second >= 0xA0,
+            0xED => second < 0xA0,
+            0xF0 => second >= 0x90,
+            0xF4 => second < 0x90,
+            _ => true,
+        }
 }
 
 #[inline(always)]

@@ -1,6 +1,7 @@
-use Rattle.std.proofs.Common.{arith, subst, length, drop, ◌-◌}
+use Rattle.std.proofs.Common.{arith, refl, subst, length, drop, ◌-◌}
 use Rattle.std.proofs.lemmas.List.{take_all, length-drop}
-use Rattle.htext.proofs.Alone.{IsAlone, are_bad_more}
+use Rattle.htext.specs.Next.{IsBadAlone}
+use Rattle.htext.proofs.Alone.{are_bad_more}
 use Rattle.htext.proofs.run.bad_run.Goals as goal
 
 pub loop-count-preserved : goal.loop-count-preserved
@@ -9,5 +10,5 @@ loop-count-preserved c =
     let bytes = c.args.bytes.now in
     record {
       few = omega (arith, c.loop-count-test.true);
-      bad = are_bad_more count bytes c.loop-count.invariant.bad (subst IsAlone (take_all (length bytes - count) (drop count bytes) (omega (arith, length-drop count bytes))) c.if-is_bad_alone.ensures);
+      bad = are_bad_more count bytes c.loop-count.invariant.bad (subst IsBadAlone (take_all (length bytes - count) (drop count bytes) (omega (arith, length-drop count bytes))) (c.if-is_bad_alone.ensures.0 refl));
     }

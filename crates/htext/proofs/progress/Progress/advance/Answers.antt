@@ -104,7 +104,7 @@ loop-count-preserved g c =
 
 pub hand_each-requires : goal.hand_each-requires
 hand_each-requires g c =
-    omega (arith, c.bad_alone-alone.ensures.fits, c.if-alone-gt0.true)
+    omega (arith, c.bad_alone-alone.ensures.replaced.fits, c.if-alone-gt0.true)
 
 pub returns-in_err-hand_each-clause-reads : goal.returns-in_err-hand_each-clause-reads
 returns-in_err-hand_each-clause-reads g c = λ all h j.
@@ -114,7 +114,7 @@ returns-in_err-hand_each-clause-reads g c = λ all h j.
     let handed = rw (c.loop-count.invariant.bom) at c.in_ok-hand_text.ensures.handed in
     let n : ℕ = length c.valid_text-text.result.now in
     let each = same_each c.bad_alone-alone.result _ c.args.self.now.bad_bytes (c.loop-count.count + n) c.args.bytes.now (drop (c.loop-count.self.read + n) all) _ c.args.self.now.limit _ (c.loop-count.self.read + n)
-    c.bad_alone-alone.ensures (c.hand_text.ensures.bad ∙ c.loop-count.invariant.bad) (later c.loop-count.count c.loop-count.self.read n c.args.bytes.now all so_far.2) (c.hand_text.ensures.limit ∙ c.loop-count.invariant.limit) c.in_ok-hand_text.ensures.read in
+    c.bad_alone-alone.ensures.replaced (c.hand_text.ensures.bad ∙ c.loop-count.invariant.bad) (later c.loop-count.count c.loop-count.self.read n c.args.bytes.now all so_far.2) (c.hand_text.ensures.limit ∙ c.loop-count.invariant.limit) c.in_ok-hand_text.ensures.read in
     let handed_bad = rw (c.in_ok-hand_text.ensures.read) at c.in_err-hand_each.ensures.handed in
     rw (e.1, e.2) (each_stops g.S.CharSink.gives _ _ _ _ _ all _ _ _ so_far.1 so_far.0 _ text _ handed c.bad_alone-alone.result each c.if-alone-gt0.true _ c.in_err-hand_each.field-0.0 handed_bad)
 
@@ -124,7 +124,7 @@ loop-count-preserved-then-alone-gt0 g c =
     let n : ℕ = length c.valid_text-text.result.now in
     let alone : ℕ = c.bad_alone-alone.result in
     let count : ℕ = c.loop-count.count + n in
-    let most : alone ≤ length (take (length bytes - count) (drop count bytes)) = c.bad_alone-alone.ensures.within in
+    let most : alone ≤ length (take (length bytes - count) (drop count bytes)) = c.bad_alone-alone.ensures.replaced.within in
     let front = text_is _ c.loop-count.count bytes _ _ c.fitting.ensures c.valid_text-text.ensures in
     let within : count ≤ length bytes = text_short _ c.loop-count.count bytes _ front c.loop-count.invariant.within in
     let read : c.hand_each.new.self.read ≡ c.loop-count.self.read + n + alone = c.in_ok-hand_each.ensures.read ∙ ap (λ (x : ℕ). x + alone) c.in_ok-hand_text.ensures.read in
@@ -139,7 +139,7 @@ loop-count-preserved-then-alone-gt0 g c =
           let handed = rw (c.loop-count.invariant.bom) at c.in_ok-hand_text.ensures.handed in
           let left = later c.loop-count.count c.loop-count.self.read n bytes all so_far.2 in
           let same = same_each alone _ c.args.self.now.bad_bytes count bytes (drop (c.loop-count.self.read + n) all) _ c.args.self.now.limit _ (c.loop-count.self.read + n)
-          c.bad_alone-alone.ensures (c.hand_text.ensures.bad ∙ c.loop-count.invariant.bad) left (c.hand_text.ensures.limit ∙ c.loop-count.invariant.limit) c.in_ok-hand_text.ensures.read in
+          c.bad_alone-alone.ensures.replaced (c.hand_text.ensures.bad ∙ c.loop-count.invariant.bad) left (c.hand_text.ensures.limit ∙ c.loop-count.invariant.limit) c.in_ok-hand_text.ensures.read in
           let handed_bad = rw (c.in_ok-hand_text.ensures.read) at c.in_ok-hand_each.ensures.handed in (
             rw read (each_handed g.S.CharSink.gives _ _ _ _ _ all _ _ _ so_far.1 so_far.0 _ text _ handed alone same c.if-alone-gt0.true _ (Ok tt) handed_bad),
             rw (read, c.in_ok-hand_each.ensures.end) (each_reading g.S.CharSink.gives _ _ _ _ _ all _ _ _ so_far.1 so_far.0 _ text _ handed alone same c.if-alone-gt0.true c.hand_each.new.sink),
