@@ -8,49 +8,40 @@ use Rattle.std.proofs.lemmas.Str.{encode_ascii}
 use Rattle.std.proofs.Math.Utf8.{low_scalar}
 use Rattle.std.specs.Str.Lossy.{utf8_valid_len, utf8_error_len, second_byte_min, second_byte_max}
 use Rattle.std.specs.Char.{IsScalar, encode_utf8}
+use Rattle.htext.specs.Text.{BeginsNoCharacter}
 use Rattle.htext.specs.Next.{AreBad, IsBadAlone}
-use Rattle.htext.proofs.Valid.{starts, starts_back}
+use Rattle.htext.proofs.Valid.{starts_back, none_valid}
 use Rattle.htext.proofs.Errors.{error_first, error_second, error_follows}
 use Rattle.htext.proofs.Beginnings.{MayFollow, follows_tested, two_bytes, three_bytes, four_bytes, second_of_two, second_of_three, second_of_four, below_all, in_range, from_range, one_open}
 use Rattle.htext.proofs.Fronts.{settled_bad, undecided_bad}
 
--- the next byte follows this one in no character
-abbrev NoneFollows : ℕ → List ℕ → Type 0
-NoneFollows b bs = (y : ℕ) (ys : List ℕ) → bs ≡ y ∷ ys → 0xC2 ≤ b → b ≤ 0xF4 → MayFollow b y → ⊥
-
-no_character : (b : ℕ) (bs : List ℕ) → 128 ≤ b → NoneFollows b bs → (c : ℕ) (r : List ℕ) → IsScalar c → b ∷ bs ≡ encode_utf8 c ++ r → ⊥
-no_character b bs high none c r s e = elim (cases_lt c 128) [
-  | inl one ↦
-      let same : b ∷ bs ≡ c ∷ r = e ∙ ap (λ (x : List ℕ). x ++ r) (encode_ascii c one) in
-      let is : b ≡ c = cc in
-      omega (arith, high, one)
-  | inr more ↦ elim (cases_lt c 2048) [
-    | inl two ↦
-        let same : b ∷ bs ≡ (192 + c / 64) ∷ (128 + c % 64) ∷ r = e ∙ ap (λ (x : List ℕ). x ++ r) (two_bytes c more two) in
-        let is : b ≡ 192 + c / 64 = cc in
-        let are : bs ≡ (128 + c % 64) ∷ r = cc in
-        none (128 + c % 64) r are (omega arith) (omega arith) (subst (λ (x : ℕ). MayFollow x (128 + c % 64)) (sym is) (second_of_two c more two))
-    | inr some ↦ elim (cases_lt c 65536) [
-      | inl three ↦
-          let same : b ∷ bs ≡ (224 + c / 4096) ∷ (128 + c / 64 % 64) ∷ (128 + c % 64) ∷ r = e ∙ ap (λ (x : List ℕ). x ++ r) (three_bytes c some three) in
-          let is : b ≡ 224 + c / 4096 = cc in
-          let are : bs ≡ (128 + c / 64 % 64) ∷ (128 + c % 64) ∷ r = cc in
-          none (128 + c / 64 % 64) ((128 + c % 64) ∷ r) are (omega arith) (omega arith) (subst (λ (x : ℕ). MayFollow x (128 + c / 64 % 64)) (sym is) (second_of_three c some three s))
-      | inr four ↦
-          let same : b ∷ bs ≡ (240 + c / 262144) ∷ (128 + c / 4096 % 64) ∷ (128 + c / 64 % 64) ∷ (128 + c % 64) ∷ r = e ∙ ap (λ (x : List ℕ). x ++ r) (four_bytes c four) in
-          let is : b ≡ 240 + c / 262144 = cc in
-          let are : bs ≡ (128 + c / 4096 % 64) ∷ (128 + c / 64 % 64) ∷ (128 + c % 64) ∷ r = cc in
-          let most : c < 1114112 = below_all c s in
-          none (128 + c / 4096 % 64) ((128 + c / 64 % 64) ∷ (128 + c % 64) ∷ r) are (omega arith) (omega arith) (subst (λ (x : ℕ). MayFollow x (128 + c / 4096 % 64)) (sym is) (second_of_four c four most))
-    ]
+-- a character of more than one byte begins with two of which the second may follow the first
+first_two : (c : ℕ) → IsScalar c → 128 ≤ c → (x : ℕ) × (y : ℕ) × (ys : List ℕ) × (encode_utf8 c ≡ x ∷ y ∷ ys) × (0xC2 ≤ x) × (x ≤ 0xF4) × MayFollow x y
+first_two c s more = elim (cases_lt c 2048) [
+  | inl two ↦ (192 + c / 64, 128 + c % 64, [], two_bytes c more two, omega arith, omega arith, second_of_two c more two)
+  | inr some ↦ elim (cases_lt c 65536) [
+    | inl three ↦ (224 + c / 4096, 128 + c / 64 % 64, (128 + c % 64) ∷ [], three_bytes c some three, omega arith, omega arith, second_of_three c some three s)
+    | inr four ↦
+        let most : c < 1114112 = below_all c s in
+        (240 + c / 262144, 128 + c / 4096 % 64, (128 + c / 64 % 64) ∷ (128 + c % 64) ∷ [], four_bytes c four, omega arith, omega arith, second_of_four c four most)
   ]
 ]
 
-begins_none : (b : ℕ) (bs : List ℕ) → 128 ≤ b → NoneFollows b bs → utf8_valid_len (b ∷ bs) ≡ 0
-begins_none b bs high none = elim (cases_lt 0 (utf8_valid_len (b ∷ bs))) [
-  | inl some ↦ let (c, r, s, e) = starts (b ∷ bs) some in absurd (no_character b bs high none c r s e)
-  | inr nothing ↦ omega arith
+none_begins : (x : ℕ) (xs : List ℕ) → 128 ≤ x → utf8_error_len (x ∷ xs) ≡ Some 1 → BeginsNoCharacter (x ∷ xs)
+none_begins x xs high bad = λ c r s e. elim (cases_lt c 128) [
+  | inl one ↦
+      let same : x ∷ xs ≡ c ∷ r = e ∙ ap (λ (v : List ℕ). v ++ r) (encode_ascii c one) in
+      let is : x ≡ c = cc in
+      omega (arith, high, one)
+  | inr more ↦
+      let (y, z, ys, is, low, most, follows) = first_two c s more in
+      let same : x ∷ xs ≡ y ∷ z ∷ (ys ++ r) = e ∙ ap (λ (v : List ℕ). v ++ r) is in
+      let longer : 2 ≤ 1 = error_follows y z (ys ++ r) 1 (in_range 0xC2 0xF4 y low most) (follows_tested y z follows) (sym (ap utf8_error_len same) ∙ bad) in
+      omega (arith, longer)
 ]
+
+alone : (x : ℕ) (xs : List ℕ) → 128 ≤ x → utf8_error_len (x ∷ xs) ≡ Some 1 → IsBadAlone (x ∷ xs)
+alone x xs high bad = settled_bad false (x ∷ xs) 1 (none_valid (x ∷ xs) (none_begins x xs high bad)) bad
 
 -- no character begins with it
 first_by : (x : ℕ) (xs : List ℕ) (t : Bool) → (0xC2 ≤ x → x ≤ 0xF4 → ⊥) → is_in_range 0xC2 0xF4 x ≡ t → utf8_error_len (x ∷ xs) ≡ Some 1
@@ -60,8 +51,7 @@ first_by x xs false out e = error_first x xs e
 pub alone_first : (bytes : List ℕ) (b : ℕ) → 0 < length bytes → b ≡ slice_index_or bytes 0 0 → 128 ≤ b → (0xC2 ≤ b → b ≤ 0xF4 → ⊥) → IsBadAlone bytes
 alone_first [] b some is high out = absurd (omega (arith, some))
 alone_first (x ∷ xs) b some is high out =
-    let none : 0xC2 ≤ x → x ≤ 0xF4 → ⊥ = λ low most. out (omega (arith, is, low)) (omega (arith, is, most)) in
-    settled_bad false (x ∷ xs) 1 (begins_none x xs (omega (arith, is, high)) (λ y ys e low most f. none low most)) (first_by x xs (is_in_range 0xC2 0xF4 x) none refl)
+    alone x xs (omega (arith, is, high)) (first_by x xs (is_in_range 0xC2 0xF4 x) (λ low most. out (omega (arith, is, low)) (omega (arith, is, most))) refl)
 
 -- a character of one byte is none
 pub not_ascii : (bytes : List ℕ) (b : ℕ) → 0 < length bytes → b ≡ slice_index_or bytes 0 0 → b < 128 → IsBadAlone bytes → ⊥
@@ -71,7 +61,7 @@ not_ascii (x ∷ xs) b some is low h =
     let begun : 0 < utf8_valid_len (x ∷ xs) = starts_back (x ∷ xs) xs x (low_scalar x (omega arith)) (ap (λ (e : List ℕ). e ++ xs) (sym (encode_ascii x ascii))) in
     omega (arith, begun, (undecided_bad (x ∷ xs) 1 h).0)
 
--- A byte that begins a character is one where the next byte can't follow it. At the end of the bytes it isn't yet.
+-- A byte that begins a character is a bad part where the next can't follow it. The last of the bytes is none yet.
 pub not_last : (bytes : List ℕ) (b : ℕ) → 0 < length bytes → length bytes ≤ 1 → b ≡ slice_index_or bytes 0 0 → 0xC2 ≤ b → b ≤ 0xF4 → IsBadAlone bytes → ⊥
 not_last [] b some one is low most h = omega (arith, some)
 not_last (x ∷ y ∷ ys) b some one is low most h = omega (arith, one)
@@ -85,16 +75,7 @@ by_second true x y ys low most e = (
   λ never. absurd cc,
   λ h. let longer : 2 ≤ 1 = error_follows x y ys 1 (in_range 0xC2 0xF4 x low most) e (undecided_bad (x ∷ y ∷ ys) 1 h).1 in absurd (omega (arith, longer)),
 )
-by_second false x y ys low most e = (
-  λ _.
-      let none : NoneFollows x (y ∷ ys) = λ z zs is _ _ f.
-      let same : y ≡ z = cc in
-      let follows : is_in_range (second_byte_min x) (second_byte_max x) z ≡ true = follows_tested x z f in
-      let is_not : is_in_range (second_byte_min x) (second_byte_max x) z ≡ false = subst (λ (w : ℕ). is_in_range (second_byte_min x) (second_byte_max x) w ≡ false) same e in
-      absurd cc in
-      settled_bad false (x ∷ y ∷ ys) 1 (begins_none x (y ∷ ys) (omega (arith, low)) none) (error_second x y ys e),
-  λ _. refl,
-)
+by_second false x y ys low most e = (λ _. alone x (y ∷ ys) (omega (arith, low)) (error_second x y ys e), λ _. refl)
 
 pub by_next : (bytes : List ℕ) (b y : ℕ) (t : Bool) → 1 < length bytes → b ≡ slice_index_or bytes 0 0 → y ≡ slice_index_or bytes 1 0 → 0xC2 ≤ b → b ≤ 0xF4
     → t ≡ is_in_range (second_byte_min b) (second_byte_max b) y → IsTrue (not t) ↔ IsBadAlone bytes

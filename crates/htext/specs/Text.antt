@@ -1,6 +1,6 @@
 -- The text of an input: what is read of its bytes, each with the place of its first byte (HTML Standard, 13.2.3.5).
-use Rattle.std.specs.Prelude.{◌≡◌, ℕ, zero, suc, ◌+◌, ◌-◌, ◌<◌, ◌≤◌, ◌⊎◌, Bool, true, false, ◌&&◌, ◌||◌, ◌==◌, nat_lt, nat_le, if◌then◌else◌, List, [], ◌∷◌, ◌++◌}
-use Rattle.std.specs.Prelude.{length, map, take, drop, Option, Some, None}
+use Rattle.std.specs.Prelude.{◌≡◌, ℕ, zero, suc, ◌+◌, ◌-◌, ◌<◌, ◌≤◌, Bool, true, false, ◌&&◌, ◌||◌, ◌==◌, nat_lt, nat_le, if◌then◌else◌, List, [], ◌∷◌, ◌++◌}
+use Rattle.std.specs.Prelude.{◌⊎◌, length, map, take, drop, Option, Some, None}
 use Rattle.std.specs.Char.{IsScalar, encode_utf8}
 use Rattle.std.specs.Str.{chars}
 use Rattle.std.specs.Str.Lossy.{utf8_valid_len, utf8_error_len, utf8_invalid_len, after_first_chunk}
@@ -37,6 +37,7 @@ reads_within (suc k) at bytes =
     map Whole (placed at (chars (take n bytes)))
     ++ (if n == length bytes then [] else Bad (at + n) ∷ reads_within k (at + n + utf8_invalid_len (drop n bytes)) (after_first_chunk bytes))
 
+-- all that is in them, and where the first is at 0
 abbrev pub reads_at : ℕ → List ℕ → List Read
 reads_at at bytes = reads_within (suc (length bytes)) at bytes
 
@@ -146,8 +147,8 @@ pub record BeginsCharacter (bytes : List ℕ) : Type 0 where
   pub scalar : IsScalar ch
   pub is : bytes ++ more ≡ encode_utf8 ch
 
--- Where no character is at the front, the first `n` bytes are the bad part there: the longest front of them that begins some character,
--- or one byte where none does (Encoding Standard, "UTF-8 decoder").
+-- Where no character is at the front, the first `n` bytes are the bad part there: the longest front of the bytes that begins some
+-- character, or one byte where none does (Encoding Standard, "UTF-8 decoder"; Unicode calls it a maximal subpart).
 pub record IsBadPart (bytes : List ℕ) (n : ℕ) : Type 0 where
   pub some : 0 < n
   pub within : n ≤ length bytes

@@ -21,13 +21,14 @@ pub fn valid_bytes_are_characters()
     ensures { (bytes : List ℕ) → IsUtf8 bytes → reads bytes ≡ map Whole (placed 0 (chars bytes)) }
 {}
 
-/// What is no character is read as bad parts, each by the definition of one: whole at the end of the input, and before it as soon as it
-/// is the same whatever follows.
+/// Where no character is, a bad part is read, as its definition has it: at the end of the input, and before it as soon as it is the same
+/// whatever follows.
 pub fn bad_parts_begin_characters()
     ensures at_end { (bytes : List ℕ) (n : ℕ) → (bad_len true bytes ≡ Some n) ↔ IsBadPart bytes n }
     ensures before_end { (bytes : List ℕ) (n : ℕ) → (bad_len false bytes ≡ Some n) ↔ ((more : List ℕ) → IsBadPart (bytes ++ more) n) }
     ensures reads { (at : ℕ) (front part rest : List ℕ) → IsUtf8 front → IsBadPart (part ++ rest) (length part)
-        → reads_at at (front ++ (part ++ rest)) ≡ map Whole (placed at (chars front)) ++ Bad (at + length front) ∷ reads_at (at + length front + length part) rest }
+        → reads_at at (front ++ (part ++ rest))
+        ≡ map Whole (placed at (chars front)) ++ Bad (at + length front) ∷ reads_at (at + length front + length part) rest }
 {}
 
 /// More bytes change nothing of what was read.
