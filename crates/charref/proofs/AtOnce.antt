@@ -1,9 +1,8 @@
 -- A reference that stands whole in a run of the input.
-use Rattle.std.proofs.Common.{arith, ◌≡◌, ℕ, ◌+◌, ◌-◌, ◌≤◌, ◌<◌, Bool, true, false, true≢false, not, nat_eq, nat_lt, nat_le, List, [], ◌∷◌, ◌++◌, length, take, drop, slice_get, get_or, Option, Some, None, MatchOption, IfSome, Bor, refl, sym, ap, ◌∙◌, subst}
+use Rattle.std.proofs.Common.{arith, ◌≡◌, ℕ, ◌+◌, ◌-◌, ◌≤◌, ◌<◌, Bool, true, false, true≢false, not, nat_eq, nat_lt, List, [], ◌∷◌, ◌++◌, length, take, drop, slice_get, get_or, Some, None, Bor, refl, sym, ap, ◌∙◌, subst}
 use Rattle.std.proofs.lemmas.Bool.{and_parts, and_from}
 use Rattle.std.proofs.lemmas.Bool.Decides.{nat_tests}
 use Rattle.std.proofs.lemmas.List.{take_more, length-map}
-use Rattle.std.proofs.lemmas.Option.{slice_get_within, get_or_from_slice_get}
 use Rattle.std.proofs.lemmas.List.Folds.{list_all_more}
 use Rattle.std.specs.Char.{is_ascii, len_utf8}
 use Rattle.std.specs.List.{starts_with, list_all}
@@ -12,18 +11,21 @@ use Rattle.names.specs.Placed.{placed, characters, all, is_alphanumeric}
 use Rattle.charref.specs.declared.reference.Reference.{Reference}
 use Rattle.charref.specs.declared.reference.Characters.TheVariants.{Named}
 use Rattle.charref.specs.declared.search.Search.{Search}
-use Rattle.charref.specs.declared.walk.Walk.{Walk}
+use Rattle.charref.specs.declared.last.Last.TheVariants.{Alphanumeric}
 use Rattle.charref.specs.Reference.{Entry, Entities, IsTable, longest, is_key, is_key_name, ends_in_semicolon}
-use Rattle.charref.specs.Table.{is_search_within, IsOver, GoesOn}
-use Rattle.charref.specs.Held.{key_bytes}
-use Rattle.charref.specs.Pieces.{IsRead}
-use Rattle.charref.specs.Walk.{HasTaken, Takes}
-use Rattle.charref.specs.AtOnce.{HasTakenBytes, HasWhole, Settles}
+use Rattle.charref.specs.Table.{IsSortedTable, IsRange, IsOver, GoesOn, HasNone, HasRead}
+use Rattle.charref.specs.declared.reference_state.ReferenceState.TheVariants.{Name}
+use Rattle.charref.specs.Held.{key_bytes, IsHeld}
+use Rattle.charref.specs.Pieces.{IsRead, unknown_of}
+use Rattle.charref.specs.AtOnce.{HasWhole, Settles}
 use Rattle.charref.proofs.Keys.{longest-whole, longest-over, no_longer}
 use Rattle.charref.proofs.Core.{once}
 use Rattle.charref.proofs.Naming.{is_key_of, key_of}
-use Rattle.charref.proofs.Extending.{front_of, follows, ends, closes, continues}
-use Rattle.charref.proofs.Telling.{read_named}
+use Rattle.charref.proofs.Ranges.{some_same, within}
+use Rattle.charref.proofs.Taking.{held_name}
+use Rattle.charref.proofs.Searching.{read_ampersand}
+use Rattle.charref.proofs.Extending.{front_of, follows, ends, closes, continues, last_letter, best_before, settled_before}
+use Rattle.charref.proofs.Telling.{read_named, read_unknown}
 
 -- ONE BYTE MORE
 
@@ -38,48 +40,74 @@ last_placed at (x ∷ xs) byte =
     let more : Last (at + len_utf8 x) xs byte = last_placed (at + len_utf8 x) xs byte in
     record { p = more.p; ch = more.ch; is = ap (λ ps. record { ch = x; at = at } ∷ ps) more.is }
 
--- The walk goes on after the first `count` bytes, or these settle it.
-abbrev pub Stepped : Entities → List ℕ → ℕ → Walk → Option Reference → Type 0
-Stepped table bytes count walk answer = MatchOption answer (HasTakenBytes walk table bytes count) (λ found. Settles table bytes count found)
+-- The search has read an `&` and the first `count` of these bytes, all letters and digits.
+pub record HasReadName (search : Search) (table : Entities) (bytes : List ℕ) (count : ℕ) : Type 0 where
+  pub few : count ≤ length bytes
+  pub ascii : list_all is_ascii (take count bytes) ≡ true
+  pub read : (at : ℕ) → HasRead search table (key_bytes (placed at (take count bytes)))
+  pub letters : (at : ℕ) → all is_alphanumeric (placed at (take count bytes)) ≡ true
 
-pub taken_byte : (table : Entities) (bytes : List ℕ) (k byte : ℕ) (walk new : Walk) (answer : Option Reference) → k < length bytes → byte ≡ get_or bytes k 0 → is_ascii (get_or bytes k 0) ≡ true → HasTakenBytes walk table bytes k
-    → ((text : List Placed) (p : Placed) → HasTaken walk table false text → p.ch ≡ byte → Takes table false (text ++ p ∷ []) answer new)
-    → Stepped table bytes (k + 1) new answer
-taken_byte table bytes k byte walk new answer within is ascii before takes = by answer (λ at. let last : Last at (take k bytes) byte = last_placed at (take k bytes) byte in
-    subst (λ text. Takes table false text answer new) (sym (more at last)) (takes (placed at (take k bytes)) last.p (before.taken at) last.ch))
+pub nothing_read : (search : Search) (table : Entities) (bytes : List ℕ) → HasRead search table (38 ∷ []) → HasReadName search table bytes 0
+nothing_read search table bytes read = record { few = omega arith; ascii = refl; read = λ at. read; letters = λ at. refl }
+
+more_placed : (bytes : List ℕ) (k byte : ℕ) → k < length bytes → byte ≡ get_or bytes k 0 → (at : ℕ) (last : Last at (take k bytes) byte) → placed at (take (k + 1) bytes) ≡ placed at (take k bytes) ++ last.p ∷ []
+more_placed bytes k byte within is at last = ap (placed at) (take_more bytes k 0 within ∙ ap (λ b. take k bytes ++ b ∷ []) (sym is)) ∙ last.is
+
+more_ascii : (bytes : List ℕ) (k byte : ℕ) → k < length bytes → byte ≡ get_or bytes k 0 → is_ascii byte ≡ true → list_all is_ascii (take k bytes) ≡ true → list_all is_ascii (take (k + 1) bytes) ≡ true
+more_ascii bytes k byte within is ascii before = list_all_more is_ascii bytes k 0 within ∙ and_from _ _ before (ap is_ascii (sym is) ∙ ascii)
+
+-- some key goes on after it
+pub name_byte : (table : Entities) (bytes : List ℕ) (k byte : ℕ) (search next : Search) → k < length bytes → byte ≡ get_or bytes k 0 → is_ascii byte ≡ true → HasReadName search table bytes k
+    → ((in_value : Bool) (text : List Placed) (p : Placed) → HasRead search table (key_bytes text) → p.ch ≡ byte → IsHeld table in_value (Name next) (text ++ p ∷ []))
+    → HasReadName next table bytes (k + 1)
+name_byte table bytes k byte search next within is ascii before holds = record {
+  few = omega arith;
+  ascii = more_ascii bytes k byte within is ascii before.ascii;
+  read = λ at. (after at).0;
+  letters = λ at. (after at).1;
+}
   where
-    more : (at : ℕ) (last : Last at (take k bytes) byte) → placed at (take (k + 1) bytes) ≡ placed at (take k bytes) ++ last.p ∷ []
-    more at last = ap (placed at) (take_more bytes k 0 within ∙ ap (λ b. take k bytes ++ b ∷ []) (sym is)) ∙ last.is
+    after : (at : ℕ) → HasRead next table (key_bytes (placed at (take (k + 1) bytes))) × (all is_alphanumeric (placed at (take (k + 1) bytes)) ≡ true)
+    after at =
+        let last : Last at (take k bytes) byte = last_placed at (take k bytes) byte in
+        held_name table false next (placed at (take (k + 1) bytes)) (subst (IsHeld table false (Name next)) (sym (more_placed bytes k byte within is at last)) (holds false (placed at (take k bytes)) last.p (before.read at) last.ch))
 
-    all-ascii : list_all is_ascii (take (k + 1) bytes) ≡ true
-    all-ascii = list_all_more is_ascii bytes k 0 within ∙ and_from _ _ before.ascii ascii
+-- the reference is known after it
+pub name_ended : (table : Entities) (bytes : List ℕ) (k byte : ℕ) (search : Search) (found : Reference) → k < length bytes → byte ≡ get_or bytes k 0 → is_ascii byte ≡ true → HasReadName search table bytes k
+    → ((text : List Placed) (p : Placed) → HasRead search table (key_bytes text) → all is_alphanumeric text ≡ true → p.ch ≡ byte → (after : List Placed) → IsRead table false (text ++ p ∷ []) after found)
+    → Settles table bytes (k + 1) found
+name_ended table bytes k byte search found within is ascii before reads = record {
+  some = omega arith;
+  few = omega arith;
+  ascii = more_ascii bytes k byte within is ascii before.ascii;
+  read = λ at after. let last : Last at (take k bytes) byte = last_placed at (take k bytes) byte in
+      subst (λ text. IsRead table false text after found) (sym (more_placed bytes k byte within is at last)) (reads (placed at (take k bytes)) last.p (before.read at) (before.letters at) last.ch after);
+}
 
-    by : (answer : Option Reference) → ((at : ℕ) → Takes table false (placed at (take (k + 1) bytes)) answer new) → Stepped table bytes (k + 1) new answer
-    by None h = record { few = omega arith; ascii = all-ascii; taken = h }
-    by (Some found) h = record { some = omega arith; few = omega arith; ascii = all-ascii; read = h }
+-- no key begins with the first letter
+none_over : (table : Entities) (bytes : List ℕ) (low high : ℕ) → IsRange table bytes low high → low ≡ high → HasNone table bytes
+none_over table bytes low high range over = record { none = λ k e at opens. (let parts : (low ≤ k) × (k < high) = within low high k (sym (range.exact k e at) ∙ opens) in absurd (omega arith)) }
 
-pub taken_first : (table : Entities) (bytes : List ℕ) (byte : ℕ) (walk new : Walk) (answer : Option Reference) → Some byte ≡ slice_get bytes 0 → is_ascii byte ≡ true → HasTaken walk table false []
-    → ((text : List Placed) (p : Placed) → HasTaken walk table false text → p.ch ≡ byte → Takes table false (text ++ p ∷ []) answer new)
-    → Stepped table bytes 1 new answer
-taken_first table bytes byte walk new answer first ascii begun takes =
-    let is : get_or bytes 0 0 ≡ byte = get_or_from_slice_get bytes 0 byte 0 (sym first) in
-    taken_byte table bytes 0 byte walk new answer (slice_get_within bytes 0 byte (sym first)) (sym is) (ap is_ascii is ∙ ascii) (record { few = omega arith; ascii = refl; taken = λ at. begun }) takes
+pub no_first : (table : Entities) (bytes : List ℕ) (byte : ℕ) (search : Search) → IsSortedTable table → Some byte ≡ slice_get bytes 0 → is_alphanumeric byte ≡ true → HasRead search table (38 ∷ byte ∷ []) → search.low ≡ search.high
+    → Settles table bytes 1 (unknown_of 1 Alphanumeric)
+no_first table [] byte search sorted first letter read over = absurd (cc)
+no_first table (b ∷ bs) byte search sorted first letter read over = record {
+  some = omega arith;
+  few = omega arith;
+  ascii = and_from _ _ (grind (arith, nat_tests)) refl;
+  read = λ at after.
+      let p : Placed = record { ch = b; at = at } in
+      let begun = read_ampersand table (length table) sorted refl in
+      let none : HasNone table (38 ∷ b ∷ []) = subst (λ x. HasNone table (38 ∷ x ∷ [])) same (none_over table (38 ∷ byte ∷ []) search.low search.high read.range over) in
+      subst (λ l. IsRead table false (p ∷ []) after (unknown_of 1 l)) (sym (last_letter b letter'))
+      (read_unknown table false [] p after 1 refl (λ is. letter') refl (sym (best_before table false [] after p _ begun none)) (settled_before table false [] after p _ begun none));
+}
+  where
+    same : byte ≡ b
+    same = some_same byte b first
 
--- by a walk's own table
-pub by_own_table : (walk : Walk) (table : Entities) (bytes : List ℕ) (k : ℕ) → HasTakenBytes walk table bytes k → HasTakenBytes walk walk.table.now bytes k
-by_own_table walk table bytes k taken = subst (λ t. HasTakenBytes walk t bytes k) (sym (taken.taken 0).table_is) taken
-
-pub all_read : (own table : Entities) (bytes : List ℕ) (answer : Option (Reference × ℕ)) → own ≡ table → IfSome answer (λ it. Settles own bytes it.1 it.0)
-    → IfSome answer (λ it. (at : ℕ) (after : List Placed) → IsRead table false (placed at (take it.1 bytes)) after it.0)
-all_read own table bytes None is settles = tt
-all_read own table bytes (Some it) is settles = λ at after. subst (λ t. IsRead t false (placed at (take it.1 bytes)) after it.0) is (settles.read at after)
-
--- the place of a search's only key
-pub only_within : (search : Search) (count : ℕ) → is_search_within search count ≡ true → search.high - search.low ≡ 1 → search.low < count
-only_within search count within one =
-    let parts : (nat_le search.low search.high ≡ true) × (nat_le search.high count ≡ true) = and_parts _ _ (and_parts _ _ within).0 in
-    let high : search.high ≤ count = grind (arith, nat_tests, parts.1) in
-    omega arith
+    letter' : is_alphanumeric b ≡ true
+    letter' = subst (λ x. is_alphanumeric x ≡ true) same letter
 
 -- KEYS THAT END IN A SEMICOLON
 

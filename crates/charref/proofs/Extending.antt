@@ -17,9 +17,15 @@ use Rattle.charref.proofs.Keys.{no_longer, longest-over, longest-more, begins_it
 use Rattle.charref.proofs.Core.{longest_among}
 use Rattle.charref.proofs.Naming.{is_key_of}
 
--- the characters of a key are ASCII
-is_small : (c : ℕ) → is_alphanumeric c ≡ true → c < 128
-is_small c h = grind (arith, nat_tests)
+-- a key has letters and digits, and a `;`
+abbrev pub is_in_names : ℕ → Bool
+is_in_names c = is_alphanumeric c || c == 59
+
+by_letter : (c x : ℕ) → c ≡ x → is_alphanumeric x ≡ true → is_in_names c ≡ true
+by_letter c x same letter = grind (arith, nat_tests)
+
+by_semicolon : (c : ℕ) → nat_eq c 59 ≡ true → is_in_names c ≡ true
+by_semicolon c is = grind (arith, nat_tests)
 
 one_semicolon : (cs : List ℕ) → bytes_eq cs (codes ";") ≡ true → cs ≡ 59 ∷ []
 one_semicolon cs h = (bytes_eq-Decides cs (codes ";")).0 h
@@ -38,38 +44,29 @@ follows (c ∷ cs) h = by (bytes_eq (c ∷ cs) (codes ";")) refl h
     by true is h = closes (one_semicolon (c ∷ cs) is)
     by false is h = continues h
 
-name_ascii : (name bytes : List ℕ) (c : ℕ) → is_key_name name ≡ true → starts_with nat_eq name (bytes ++ c ∷ []) ≡ true → c < 128
-name_ascii [] bytes c h p = absurd (true≢false (sym h))
-name_ascii (x ∷ xs) [] c h p =
-    let same : c ≡ x = (let t : nat_eq c x ≡ true = (and_parts _ _ p).0 in grind (arith, nat_tests)) in
-    let small : x < 128 = is_small x (and_parts (is_alphanumeric x) _ h).0 in
-    omega arith
-name_ascii (x ∷ xs) (b ∷ bs) c h p = elim (follows xs (and_parts (is_alphanumeric x) _ h).1) [
+name_has : (name bytes : List ℕ) (c : ℕ) → is_key_name name ≡ true → starts_with nat_eq name (bytes ++ c ∷ []) ≡ true → is_in_names c ≡ true
+name_has [] bytes c h p = absurd (true≢false (sym h))
+name_has (x ∷ xs) [] c h p = by_letter c x (let t : nat_eq c x ≡ true = (and_parts _ _ p).0 in grind (arith, nat_tests)) (and_parts (is_alphanumeric x) _ h).0
+name_has (x ∷ xs) (b ∷ bs) c h p = elim (follows xs (and_parts (is_alphanumeric x) _ h).1) [
   | ends is ↦ absurd (none bs (subst (λ ys. starts_with nat_eq ys (bs ++ c ∷ []) ≡ true) is (and_parts _ _ p).1))
   | closes is ↦ one bs (subst (λ ys. starts_with nat_eq ys (bs ++ c ∷ []) ≡ true) is (and_parts _ _ p).1)
-  | continues more ↦ name_ascii xs bs c more (and_parts _ _ p).1
+  | continues more ↦ name_has xs bs c more (and_parts _ _ p).1
 ]
   where
     none : (bs : List ℕ) → starts_with nat_eq [] (bs ++ c ∷ []) ≡ true → ⊥
     none [] q = true≢false (sym q)
     none (b ∷ bs) q = true≢false (sym q)
 
-    one : (bs : List ℕ) → starts_with nat_eq (59 ∷ []) (bs ++ c ∷ []) ≡ true → c < 128
-    one [] q = let t : nat_eq c 59 ≡ true = (and_parts _ _ q).0 in (let same : c ≡ 59 = grind (arith, nat_tests) in omega arith)
+    one : (bs : List ℕ) → starts_with nat_eq (59 ∷ []) (bs ++ c ∷ []) ≡ true → is_in_names c ≡ true
+    one [] q = by_semicolon c (and_parts _ _ q).0
     one (b ∷ bs) q = absurd (none bs (and_parts _ _ q).1)
 
-key_ascii : (key bytes : List ℕ) (c : ℕ) → is_key key ≡ true → starts_with nat_eq key (bytes ++ c ∷ []) ≡ true → c < 128
-key_ascii [] bytes c h p = absurd (true≢false (sym h))
-key_ascii (x ∷ xs) [] c h p =
-    let amp : nat_eq x 38 ≡ true = (and_parts _ _ h).0 in
-    let same : nat_eq c x ≡ true = (and_parts _ _ p).0 in
-    let x-is : x ≡ 38 = grind (arith, nat_tests) in
-    let c-is : c ≡ x = grind (arith, nat_tests) in
-    omega arith
-key_ascii (x ∷ xs) (b ∷ bs) c h p = name_ascii xs bs c (and_parts _ _ h).1 (and_parts _ _ p).1
+key_has : (key bytes : List ℕ) (c : ℕ) → is_key key ≡ true → starts_with nat_eq key (38 ∷ bytes ++ c ∷ []) ≡ true → is_in_names c ≡ true
+key_has [] bytes c h p = absurd (true≢false (sym h))
+key_has (x ∷ xs) bytes c h p = name_has xs bytes c (and_parts _ _ h).1 (and_parts _ _ p).1
 
-pub none_past_ascii : (table : Entities) (bytes : List ℕ) (c : ℕ) → IsTable table → 128 ≤ c → HasNone table (bytes ++ c ∷ [])
-none_past_ascii table bytes c is_table big = record { none = λ k e h p. let small : c < 128 = key_ascii e.key bytes c (is_key_of table k e is_table h) p in omega arith }
+pub none_past_names : (table : Entities) (bytes : List ℕ) (c : ℕ) → IsTable table → is_in_names c ≡ false → HasNone table (38 ∷ bytes ++ c ∷ [])
+none_past_names table bytes c is_table not-in = record { none = λ k e h p. true≢false (sym (key_has e.key bytes c (is_key_of table k e is_table h) p) ∙ not-in) }
 
 begins_less : (key bytes : List ℕ) (c : ℕ) → starts_with nat_eq key (bytes ++ c ∷ []) ≡ true → starts_with nat_eq key bytes ≡ true
 begins_less key [] c p = refl

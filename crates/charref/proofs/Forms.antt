@@ -152,7 +152,7 @@ pub no_more : (more : Entities) → list_all is_entry more ≡ true → flat_map
 no_more [] p is = refl
 no_more (e ∷ es) p is = absurd (some_bytes e (flat_map flat_entry es) (and_parts _ _ p).0 (sym is))
 
-tail_of : (x : ℕ) (xs ys : List ℕ) → x ∷ xs ≡ x ∷ ys → xs ≡ ys
+pub tail_of : (x : ℕ) (xs ys : List ℕ) → x ∷ xs ≡ x ∷ ys → xs ≡ ys
 tail_of x xs ys is = cc
 
 pub one_table : (a b : Entities) → IsReadable a → IsReadable b → flat_of a ≡ flat_of b → a ≡ b

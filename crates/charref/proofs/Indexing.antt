@@ -5,8 +5,8 @@ use Rattle.std.proofs.lemmas.Bool.Decides.{nat_tests}
 use Rattle.std.proofs.lemmas.List.{get_or_append_left, get_or-append-add}
 use Rattle.std.proofs.lemmas.Option.{slice_get_within, slice_get_cases, slice_get-get_or, get_or_from_slice_get}
 use Rattle.charref.specs.declared.search.Search.{Search}
-use Rattle.charref.specs.Reference.{Entities}
-use Rattle.charref.specs.Table.{code_at, IsSortedTable, IsRange, IsRising, IsParted, IsStart, IsIndex, HasRead, is_place, is_search_within}
+use Rattle.charref.specs.Reference.{Entry, Entities}
+use Rattle.charref.specs.Table.{code_at, IsSortedTable, IsRange, IsRising, IsStart, IsIndex, HasRead, is_place, is_search_within}
 use Rattle.charref.proofs.Ranges.{range_rises, range_more}
 use Rattle.charref.proofs.Searching.{read_ampersand}
 
@@ -36,15 +36,27 @@ start_more table starts count place index start = record {
         let code-is : count ≡ code = omega arith in
         subst (λ n. IsStart table other n) code-is (subst (λ n. IsStart table n count) same start)
 
--- a start, by the place that parts the whole table
-pub start_at : (table : Entities) (high place code : ℕ) → IsSortedTable table → high ≡ length table → place ≤ high
-    → (IsRising table 0 high 1 → IsParted table 0 place high 1 code) → IsStart table place code
-start_at table high place code sorted all within parted =
+-- All before this place are below the code.
+abbrev pub AreBelow : Entities → ℕ → ℕ → Type 0
+AreBelow table place code = (k : ℕ) (e : Entry) → slice_get table k ≡ Some e → k < place → code_at e.key 1 < code
+
+-- a start, by the first that is not
+pub start_at : (table : Entities) (place code : ℕ) → IsSortedTable table → place ≤ length table → AreBelow table place code → ((e : Entry) → slice_get table place ≡ Some e → code ≤ code_at e.key 1) → IsStart table place code
+start_at table place code sorted within below least =
     let rising : IsRising table 0 (length table) 1 = range_rises table (38 ∷ []) 0 (length table) sorted (read_ampersand table (length table) sorted refl).range in
     record {
-      within = omega arith;
-      parted = subst (λ n. IsParted table 0 place n 1 code) all (parted (subst (λ n. IsRising table 0 n 1) (sym all) rising));
+      within = within;
+      parted = record {
+        below = λ k e p l h. below k e p h;
+        above = λ k e p l h. elim (slice_get_cases table place).1 [
+          | inl some ↦ (let first : code ≤ code_at some.0.key 1 = least some.0 some.2 in let more : code_at some.0.key 1 ≤ code_at e.key 1 = rising.at place k some.0 e some.2 p (omega arith) l h in omega arith)
+          | inr none ↦ absurd (let past : length table ≤ place = none.0 in omega arith)
+        ];
+      };
     }
+
+pub below_next : (table : Entities) (place code : ℕ) → IsStart table place code → AreBelow table place (code + 1)
+below_next table place code start k e p h = (let less : code_at e.key 1 < code = start.parted.below k e p (omega arith) h in omega arith)
 
 -- the starts of a byte's code and of the next are the range of the byte
 starts_ordered : (table : Entities) (code from to : ℕ) → IsStart table from code → IsStart table to (code + 1) → (b : Bool) → nat_lt to from ≡ b → from ≤ to

@@ -1,17 +1,15 @@
 -- The range of the keys that begin with what was read, and how a byte narrows it.
-use Rattle.std.proofs.Common.{arith, ◌≡◌, ℕ, ◌+◌, ◌-◌, ◌≤◌, ◌<◌, Bool, true, false, ◌&&◌, nat_eq, nat_lt, nat_le, List, [], ◌∷◌, ◌++◌, length, slice_get, slice_range, get_or, Option, Some, None, option_map, Less, refl, sym, ap, ◌∙◌, subst}
+use Rattle.std.proofs.Common.{arith, ◌≡◌, ℕ, ◌+◌, ◌≤◌, ◌<◌, Bool, true, false, ◌&&◌, nat_eq, nat_lt, nat_le, List, [], ◌∷◌, ◌++◌, length, slice_get, get_or, Option, Some, None, option_map, Less, refl, sym, ap, ◌∙◌, subst}
 use Rattle.std.proofs.lemmas.Bool.{and_parts, and_from}
 use Rattle.std.proofs.lemmas.Bool.Decides.{nat_tests}
-use Rattle.std.proofs.lemmas.Option.{slice_get-map, slice_get-get_or, slice_get_within, get_or_from_slice_get}
+use Rattle.std.proofs.lemmas.Option.{slice_get-map, slice_get-get_or, slice_get_within}
 use Rattle.std.proofs.lemmas.List.{length-map}
-use Rattle.std.proofs.lemmas.List.Edits.{get_or-between, length-between}
 use Rattle.std.specs.Cmp.Lexicographic.{slice_cmp}
 use Rattle.std.specs.Ordering.{nat_cmp}
 use Rattle.std.specs.List.{starts_with}
-use Rattle.std.specs.List.Sorted.{IsNonDecreasingBy, IsPartitionPoint}
 use Rattle.charref.specs.declared.entity.Entity.{Entity}
 use Rattle.charref.specs.Reference.{Entry, Entities}
-use Rattle.charref.specs.Table.{key_at, entry, entries, code_at, IsSortedTable, IsRange, IsRising, IsParted, IsOver}
+use Rattle.charref.specs.Table.{entry, entries, code_at, IsSortedTable, IsRange, IsRising, IsParted, IsOver}
 use Rattle.charref.proofs.Keys.{code_at-le, starts_with-more, begins_later, in_order, begins_itself, IsOnly}
 
 -- what a slice of entities has at a place
@@ -24,49 +22,27 @@ entry_in text es table k d is less got =
     let same : length (entries text es) ≡ length table = ap length is in
     ap (λ t. slice_get t k) (sym is) ∙ entry_at text es k d (omega arith) ∙ ap (λ x. Some (entry text x)) (sym got)
 
--- what rises by the entries rises in the slice
-pub rising_slice : (text : List ℕ) (es : List Entity) (low high depth : ℕ) → low ≤ high → high ≤ length es → IsRising (entries text es) low high depth
-    → IsNonDecreasingBy (λ e. code_at (key_at text e) depth) (slice_range es low high)
-rising_slice text es low high depth ordered within rising i j d le lt =
-    let size : length (slice_range es low high) ≡ high - low = length-between es low high within in
-    let first : get_or (slice_range es low high) i d ≡ get_or es (low + i) d = get_or-between es low high i d (omega arith) in
-    let second : get_or (slice_range es low high) j d ≡ get_or es (low + j) d = get_or-between es low high j d (omega arith) in
-    rw (first, second) (rising.at (low + i) (low + j) (entry text (get_or es (low + i) d)) (entry text (get_or es (low + j) d)) (entry_at text es (low + i) d (omega arith)) (entry_at text es (low + j) d (omega arith)) (omega arith) (omega arith) (omega arith))
-
 pub some_same : {A : Type 0} (x y : A) → Some x ≡ Some y → x ≡ y
 some_same x y h = cc
 
--- a place that parts the slice parts the entries
-entity_at : (text : List ℕ) (es : List Entity) (k : ℕ) (e : Entry) → slice_get (entries text es) k ≡ Some e → (d : Entity) × (slice_get es k ≡ Some d) × (entry text d ≡ e)
-entity_at text es k e p = by (slice_get es k) refl (sym (slice_get-map (entry text) es k) ∙ p)
-  where
-    by : (o : Option Entity) → slice_get es k ≡ o → option_map (entry text) o ≡ Some e → (d : Entity) × (slice_get es k ≡ Some d) × (entry text d ≡ e)
-    by None is got = absurd (cc)
-    by (Some d) is got = (d, is, some_same (entry text d) e got)
+-- A search for the place that parts a range: it is known what is below `from`, and what is not below `to`.
+pub record IsPartedTo (table : Entities) (low from to high depth code : ℕ) : Type 0 where
+  pub below : (k : ℕ) (e : Entry) → slice_get table k ≡ Some e → low ≤ k → k < from → code_at e.key depth < code
+  pub above : (k : ℕ) (e : Entry) → slice_get table k ≡ Some e → to ≤ k → k < high → code ≤ code_at e.key depth
 
-pub from_slice : (text : List ℕ) (es : List Entity) (low high depth code place : ℕ) → low ≤ high → high ≤ length es → place ≤ high - low
-    → IsPartitionPoint (λ e. nat_lt (code_at (key_at text e) depth) code ≡ true) (λ e. nat_lt (code_at (key_at text e) depth) code ≡ false) (slice_range es low high) place
-    → IsParted (entries text es) low (low + place) high depth code
-from_slice text es low high depth code place ordered within room parted = record {
-  below = λ k e p from to. let d : (d : Entity) × (slice_get es k ≡ Some d) × (entry text d ≡ e) = entity_at text es k e p in by_below k e from to d.0 d.1 d.2;
-  above = λ k e p from to. let d : (d : Entity) × (slice_get es k ≡ Some d) × (entry text d ≡ e) = entity_at text es k e p in by_above k e from to d.0 d.1 d.2;
+pub parted_up : (table : Entities) (low from to high depth code middle : ℕ) (e : Entry) → IsRising table low high depth → IsPartedTo table low from to high depth code
+    → slice_get table middle ≡ Some e → middle < high → code_at e.key depth < code → IsPartedTo table low (middle + 1) to high depth code
+parted_up table low from to high depth code middle e rising was got within less = record {
+  below = λ k f p l h. let most : code_at f.key depth ≤ code_at e.key depth = rising.at k middle f e p got l (omega arith) within in omega arith;
+  above = was.above;
 }
-  where
-    size : length (slice_range es low high) ≡ high - low
-    size = length-between es low high within
 
-    same : (k : ℕ) (d : Entity) → slice_get es k ≡ Some d → low ≤ k → k < high → get_or (slice_range es low high) (k - low) d ≡ d
-    same k d got from to = get_or-between es low high (k - low) d (omega arith) ∙ ap (λ n. get_or es n d) (let e : low + (k - low) ≡ k = omega arith in e) ∙ get_or_from_slice_get es k d d got
-
-    by_above : (k : ℕ) (e : Entry) → low + place ≤ k → k < high → (d : Entity) → slice_get es k ≡ Some d → entry text d ≡ e → code ≤ code_at e.key depth
-    by_above k e from to d got is =
-        let test : nat_lt (code_at (key_at text d) depth) code ≡ false = subst (λ (y : Entity). nat_lt (code_at (key_at text y) depth) code ≡ false) (same k d got (omega arith) to) (parted.1 (k - low) d (omega arith) (omega (arith, size))) in
-        subst (λ (y : Entry). code ≤ code_at y.key depth) is (grind (arith, nat_tests))
-
-    by_below : (k : ℕ) (e : Entry) → low ≤ k → k < low + place → (d : Entity) → slice_get es k ≡ Some d → entry text d ≡ e → code_at e.key depth < code
-    by_below k e from to d got is =
-        let test : nat_lt (code_at (key_at text d) depth) code ≡ true = subst (λ (y : Entity). nat_lt (code_at (key_at text y) depth) code ≡ true) (same k d got from (omega arith)) (parted.0 (k - low) d (omega arith) (omega arith)) in
-        subst (λ (y : Entry). code_at y.key depth < code) is (grind (arith, nat_tests))
+pub parted_down : (table : Entities) (low from to high depth code middle : ℕ) (e : Entry) → IsRising table low high depth → IsPartedTo table low from to high depth code
+    → slice_get table middle ≡ Some e → low ≤ middle → code ≤ code_at e.key depth → IsPartedTo table low from middle high depth code
+parted_down table low from to high depth code middle e rising was got within least = record {
+  below = was.below;
+  above = λ k f p m h. let more : code_at e.key depth ≤ code_at f.key depth = rising.at middle k e f got p within m h in omega arith;
+}
 
 -- The bytes after what was read rise within the range.
 pub within : (low high k : ℕ) → (nat_le low k && nat_lt k high) ≡ true → (low ≤ k) × (k < high)
@@ -95,14 +71,6 @@ range_rises table bytes low high sorted range = record {
 -- a part of what rises rises
 pub rises_later : (table : Entities) (low middle high depth : ℕ) → low ≤ middle → IsRising table low high depth → IsRising table middle high depth
 rises_later table low middle high depth h rising = record { at = λ j k e f p q from le to. rising.at j k e f p q (omega arith) le to }
-
--- where the last is below a code, each is
-pub last_below : (table : Entities) (low high depth code : ℕ) (e : Entry) → IsRising table low high depth → low < high → slice_get table (high - 1) ≡ Some e → code_at e.key depth < code
-    → IsParted table low high high depth code
-last_below table low high depth code e rising open' got less = record {
-  below = λ k f p from to. let most : code_at f.key depth ≤ code_at e.key depth = rising.at k (high - 1) f e p got from (omega arith) (omega arith) in omega arith;
-  above = λ k f p from to. absurd (omega arith);
-}
 
 -- The keys that begin with one byte more.
 pub range_more : (table : Entities) (bytes : List ℕ) (byte low high from to : ℕ) → IsRange table bytes low high → low ≤ from → from ≤ to → to ≤ high

@@ -11,12 +11,12 @@ use Rattle.charref.specs.declared.entity.Entity.{Entity}
 use Rattle.charref.specs.declared.entity.OneOrTwo.{OneOrTwo}
 use Rattle.charref.specs.Reference.{Entry, Entities, is_key}
 use Rattle.charref.specs.Reading.{is_character}
-use Rattle.charref.specs.Table.{key_at, stands_for, entry, entries}
+use Rattle.charref.specs.Table.{key_at, is_inside, stands_for, entry, entries}
 use Rattle.charref.specs.Flat.{is_one_or_two, flat_character, flat_characters, flat_entry, flat_of, IsReadable}
 use Rattle.charref.specs.Front.{passes, is_count, BeginsWith, BeginsWithNone, IsCounted, HasNoCounted, IsEntryAt, is_entry}
 use Rattle.charref.proofs.Members.{readable_from_parts}
 use Rattle.charref.proofs.Orders.{last_key, last_key-more, sorted_more, last_below}
-use Rattle.charref.proofs.Forms.{flat_more, counted, key_past, same_key, same_entries, entry_split, are_entries, Rest, rest_of}
+use Rattle.charref.proofs.Forms.{flat_more, counted, key_past, same_key, same_entries, entry_split, are_entries, Rest, rest_of, tail_of}
 
 -- CHARACTERS
 
@@ -65,13 +65,14 @@ entry_stands text start n cs within key ones chars =
     let last : nat_le (start + n) (length text) ≡ true = (let le : start + n ≤ length text = omega arith in grind (arith, nat_tests)) in
     let size : start + n - start ≡ n = omega arith in
     let d : Entity = record { start = start; end = start + n; characters = cs } in
-    let key-is : key_at text d ≡ take n (drop start text) = rw (first, last) (ap (λ k. take k (drop start text)) size) in
+    let key-is : key_at text d ≡ take n (drop start text) = ap (λ k. take k (drop start text)) size in
     let count : ℕ = 1 + 4 * length (stands_for cs) in
     let end-is : start + n + count ≡ start + n + 1 + 4 * length (stands_for cs) = omega arith in
     let room : length (drop (start + n) text) ≡ length text - (start + n) = length-drop (start + n) text in
     let fits : 1 + 4 * length (stands_for cs) ≤ length (drop (start + n) text) = chars.within in
     record {
       passing = and_from (is_key (key_at text d)) _ (ap is_key key-is ∙ key.passing) ones;
+      inside = and_from (nat_le start (start + n)) (nat_le (start + n) (length text)) first last;
       some = omega arith;
       within = omega arith;
       is = sym (take-append-drop n (drop start text)) ∙ ap (λ bs. take n (drop start text) ++ bs) (drop-drop n start text ∙ chars.is ∙ ap (λ bs. flat_characters (stands_for cs) ++ bs) (drop-drop count (start + n) text ∙ ap (λ k. drop k text) end-is))
@@ -84,6 +85,7 @@ entry_stands text start n cs within key ones chars =
 -- The entries of the text up to this place have been read, and this is the key of the last.
 pub record HasReadTo (text : List ℕ) (entities : List Entity) (last : List ℕ) (start : ℕ) : Type 0 where
   pub readable : IsReadable (entries text entities)
+  pub inside : list_all (is_inside text) entities ≡ true
   pub within : start ≤ length text
   pub is : text ≡ flat_of (entries text entities) ++ drop start text
   pub last_is : last ≡ last_key (map (λ e. e.key) (entries text entities))
@@ -95,6 +97,7 @@ nothing_readable = readable_from_parts [] refl refl tt
 pub begun : (text : List ℕ) → 1 ≤ length text → get_or text 0 0 ≡ 1 → HasReadTo text [] [] 1
 begun text some first = record {
   readable = nothing_readable;
+  inside = refl;
   within = some;
   is = drop_more text 0 0 some ∙ ap (λ b. b ∷ drop 1 text) first;
   last_is = refl;
@@ -127,6 +130,7 @@ one_more text es last start d end was at before =
     let below : slice_cmp nat_cmp (last_key (map (λ e. e.key) table)) e.key ≡ Less = ap (λ k. slice_cmp nat_cmp k e.key) (sym was.last_is) ∙ is_less last e.key before in
     record {
       readable = subst IsReadable (sym more) (readable_more table e was.readable at.passing below);
+      inside = all_more (is_inside text) es d was.inside at.inside;
       within = at.within;
       is = was.is ∙ ap (λ bs. flat_of table ++ bs) at.is ∙ sym (append_assoc (flat_of table) (flat_entry e) (drop end text)) ∙ ap (λ bs. bs ++ drop end text) (flat_more table e) ∙ ap (λ t. flat_of t ++ drop end text) (sym more);
       last_is = sym (ap (λ (t : Entities). last_key (map (λ e. e.key) t)) more ∙ ap last_key (map-append (λ (e : Entry). e.key) table (e ∷ [])) ∙ last_key-more (map (λ e. e.key) table) e.key);
@@ -145,11 +149,8 @@ pub no_version : (text : List ℕ) → (1 ≤ length text → get_or text 0 0 �
 no_version text other table readable is =
     other (let size : length (flat_of table) ≡ length text = ap length is in omega arith) (sym (ap (λ bs. get_or bs 0 0) is))
 
-tail_is : (x : ℕ) (xs ys : List ℕ) → x ∷ xs ≡ x ∷ ys → xs ≡ ys
-tail_is x xs ys is = cc
-
 others : (text : List ℕ) (es : List Entity) (last : List ℕ) (start : ℕ) (table : Entities) → HasReadTo text es last start → IsReadable table → flat_of table ≡ text → Rest (entries text es) table (drop start text)
-others text es last start table was readable is = rest_of (entries text es) table (drop start text) (are_entries (entries text es) was.readable) (are_entries table readable) (tail_is 1 _ _ (is ∙ was.is))
+others text es last start table was readable is = rest_of (entries text es) table (drop start text) (are_entries (entries text es) was.readable) (are_entries table readable) (tail_of 1 _ _ (is ∙ was.is))
 
 pub no_entry : (text : List ℕ) (es : List Entity) (last : List ℕ) (start : ℕ) → HasReadTo text es last start → start < length text → BeginsWithNone is_entry flat_entry (drop start text) → HasNoTable text
 no_entry text es last start was some none table readable is = by rest.more rest.flat rest.entries

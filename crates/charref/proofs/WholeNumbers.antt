@@ -1,5 +1,5 @@
 -- A numeric reference that stands whole in a run of the input, outside a value.
-use Rattle.std.proofs.Common.{arith, ◌≡◌, ℕ, ◌+◌, ◌*◌, ◌≤◌, ◌<◌, min, Bool, true, false, nat_eq, List, [], ◌∷◌, ◌++◌, length, take, get_or, inl, inr, ◌⊎◌, refl, sym, ap, ◌∙◌, subst}
+use Rattle.std.proofs.Common.{arith, ◌≡◌, ℕ, ◌+◌, ◌*◌, ◌≤◌, ◌<◌, min, Bool, true, false, nat_eq, List, [], ◌∷◌, ◌++◌, length, take, slice_get, get_or, Some, inl, inr, ◌⊎◌, refl, sym, ap, ◌∙◌, subst}
 use Rattle.std.proofs.lemmas.Bool.{and_from}
 use Rattle.std.proofs.lemmas.Bool.Decides.{nat_tests}
 use Rattle.std.proofs.lemmas.List.{take_more}
@@ -11,15 +11,15 @@ use Rattle.names.specs.Placed.{placed}
 use Rattle.charref.specs.declared.number.Base.{Base}
 use Rattle.charref.specs.declared.number.Base.TheVariants.{Decimal, Hexadecimal}
 use Rattle.charref.specs.declared.reference.Reference.{Reference}
-use Rattle.charref.specs.declared.reference_state.ReferenceState.TheVariants.{NumberSign, Number}
-use Rattle.charref.specs.declared.walk.Walk.{Walk}
+use Rattle.charref.specs.declared.reference_state.ReferenceState.TheVariants.{Number}
 use Rattle.charref.specs.Reference.{Entities, digit_value}
 use Rattle.charref.specs.Number.{is_digit_of, radix}
-use Rattle.charref.specs.Held.{IsHeld, IsSign}
+use Rattle.charref.specs.Held.{IsHeld, IsSign, number_sign}
 use Rattle.charref.specs.Pieces.{IsRead, number_of}
-use Rattle.charref.specs.AtOnce.{HasTakenBytes, HasSign, Settles}
+use Rattle.charref.specs.AtOnce.{HasSign, Settles}
 use Rattle.charref.proofs.Numbers.{two_signs, first_digit, next_digit, number_closed}
-use Rattle.charref.proofs.Taking.{held_sign, held_x, own}
+use Rattle.charref.proofs.Taking.{held_x}
+use Rattle.charref.proofs.Ranges.{some_same}
 use Rattle.charref.proofs.AtOnce.{Last, last_placed}
 
 -- one byte more
@@ -31,12 +31,11 @@ more_ascii bytes count within before ascii = list_all_more is_ascii bytes count 
 
 -- SIGNS
 
-pub number_sign_taken : (walk : Walk) (table : Entities) (bytes : List ℕ) → HasTakenBytes walk table bytes 1 → walk.state ≡ NumberSign → HasSign Decimal bytes 1
-number_sign_taken walk table bytes taken is = record {
-  few = taken.few;
-  ascii = taken.ascii;
-  sign = λ at. held_sign walk.table.now walk.in_value (placed at (take 1 bytes)) (own walk table false (placed at (take 1 bytes)) NumberSign (taken.taken at) is);
-}
+pub sign_first : (bytes : List ℕ) → slice_get bytes 0 ≡ Some 35 → HasSign Decimal bytes 1
+sign_first [] is = absurd (cc)
+sign_first (b ∷ bs) is =
+    let same : b ≡ 35 = some_same b 35 is in
+    record { few = omega arith; ascii = subst (λ x. list_all is_ascii (x ∷ []) ≡ true) (sym same) refl; sign = λ at. number_sign (record { ch = b; at = at }) same }
 
 is_x : (c d : ℕ) → c ≡ d → (d ≡ 120) ⊎ (d ≡ 88) → (c ≡ 120) ⊎ (c ≡ 88)
 is_x c d same (inl h) = inl (same ∙ h)

@@ -6,17 +6,9 @@ use Rattle.names.specs.declared.placed.Placed.{Placed}
 use Rattle.names.specs.Placed.{placed}
 use Rattle.charref.specs.declared.number.Base.{Base}
 use Rattle.charref.specs.declared.reference.Reference.{Reference}
-use Rattle.charref.specs.declared.walk.Walk.{Walk}
 use Rattle.charref.specs.Reference.{Entry, Entities, IsTable, ends_in_semicolon}
 use Rattle.charref.specs.Held.{IsSign}
 use Rattle.charref.specs.Pieces.{IsRead}
-use Rattle.charref.specs.Walk.{HasTaken}
-
--- The walk, with this table, has taken the first `count` of these bytes, all ASCII.
-pub record HasTakenBytes (walk : Walk) (table : Entities) (bytes : List ℕ) (count : ℕ) : Type 0 where
-  pub few : count ≤ length bytes
-  pub ascii : list_all is_ascii (take count bytes) ≡ true
-  pub taken : (at : ℕ) → HasTaken walk table false (placed at (take count bytes))
 
 -- The first `count` of these bytes, all ASCII, are what stands before the digits of a number.
 pub record HasSign (base : Base) (bytes : List ℕ) (count : ℕ) : Type 0 where

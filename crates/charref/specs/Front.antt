@@ -2,7 +2,7 @@
 use Rattle.std.specs.Prelude.{◌≡◌, ℕ, ◌≤◌, ◌<◌, Bool, true, false, ◌&&◌, ◌==◌, nat_le, List, ◌∷◌, ◌++◌, length, take, drop, slice_get, Option, Some, None}
 use Rattle.charref.specs.declared.entity.Entity.{Entity}
 use Rattle.charref.specs.Reference.{Entry, is_key}
-use Rattle.charref.specs.Table.{entry}
+use Rattle.charref.specs.Table.{entry, is_inside}
 use Rattle.charref.specs.Flat.{is_one_or_two, flat_entry}
 
 -- The bytes begin with the form of no value that passes.
@@ -41,6 +41,7 @@ is_entry e = is_key e.key && is_one_or_two e.stands_for
 -- An entry stands in the text from this place up to that.
 pub record IsEntryAt (text : List ℕ) (start : ℕ) (entity : Entity) (end : ℕ) : Type 0 where
   pub passing : is_entry (entry text entity) ≡ true
+  pub inside : is_inside text entity ≡ true
   pub some : start < end
   pub within : end ≤ length text
   pub is : drop start text ≡ flat_entry (entry text entity) ++ drop end text

@@ -1,5 +1,6 @@
 -- A table in memory, and the state of a look-up in it.
-use Rattle.std.specs.Prelude.{◌≡◌, ℕ, ◌+◌, ◌≤◌, ◌<◌, Bool, true, false, nat_eq, nat_le, nat_lt, ◌&&◌, if◌then◌else◌, List, [], map, length, slice_get, slice_range, Option, Some, None, IfSome}
+use Rattle.std.specs.Prelude.{◌≡◌, ℕ, ◌+◌, ◌≤◌, ◌<◌, Bool, true, false, nat_eq, nat_le, nat_lt, ◌&&◌}
+use Rattle.std.specs.Prelude.{List, map, length, slice_get, slice_range, Option, Some, None, IfSome}
 use Rattle.std.specs.List.{starts_with}
 use Rattle.std.specs.List.Sorted.{IsStrictlySortedBy}
 use Rattle.std.specs.Cmp.Lexicographic.{slice_cmp}
@@ -10,9 +11,13 @@ use Rattle.charref.specs.declared.entity.OneOrTwo.TheVariants.{One, Two}
 use Rattle.charref.specs.declared.search.Search.{Search}
 use Rattle.charref.specs.Reference.{Entry, Entities, IsTable, longest}
 
--- an entry of a text: its key is the part between its ends, if the text has it
+-- whether the ends of an entry's key are in this order in this text
+abbrev pub is_inside : List ℕ → Entity → Bool
+is_inside text entity = nat_le entity.start entity.end && nat_le entity.end (length text)
+
+-- an entry of a text: its key is the part between its ends
 abbrev pub key_at : List ℕ → Entity → List ℕ
-key_at text entity = if nat_le entity.start entity.end && nat_le entity.end (length text) then slice_range text entity.start entity.end else []
+key_at text entity = slice_range text entity.start entity.end
 
 abbrev pub stands_for : OneOrTwo → List ℕ
 stands_for (One characters) = characters

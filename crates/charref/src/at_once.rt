@@ -1,20 +1,26 @@
 //! References that stand whole in one run of the input.
 
-ghost use Rattle.std.specs.Prelude.{◌≡◌, ◌<◌, ◌≤◌, ℕ, List, true, false, length, take, nat_eq, IfSome};
+ghost use Rattle.std.specs.Prelude.{◌≡◌, ◌<◌, ◌≤◌, ℕ, List, true, false, length, take, IfSome};
 ghost use Rattle.std.specs.Char.{is_ascii};
-ghost use Rattle.std.specs.List.{list_all, starts_with};
+ghost use Rattle.std.specs.List.{list_all};
 ghost use Rattle.names.specs.declared.placed.Placed.{Placed};
 ghost use Rattle.names.specs.Placed.{placed};
 ghost use Rattle.charref.specs.Reference.{Entities, IsTable};
 ghost use Rattle.charref.specs.Pieces.{IsRead};
-ghost use Rattle.charref.specs.AtOnce.{HasTakenBytes, HasSign, HasWhole, Settles};
+ghost use Rattle.charref.specs.Table.{is_search_within};
+ghost use Rattle.charref.specs.Walk.{NextIs};
+ghost use Rattle.charref.specs.AtOnce.{HasSign, HasWhole, Settles};
 
+use crate::key::is_alphanumeric;
+use crate::last::Last;
+use crate::next::Next;
 use crate::number::Base;
 use crate::reference::{Characters, Reference};
-use crate::reference_state::ReferenceState;
+use crate::search::Search;
+use crate::slots::is_whole;
 use crate::table::Table;
 use crate::walk::Walk;
-use crate::walking::{ends_in_semicolon, number};
+use crate::walking::{after_name, longer, number, unknown};
 
 impl<'t> Walk<'t> {
     /// What is at an `&` outside an attribute value after which these bytes come, and how many of them settle it; `None`
@@ -27,68 +33,47 @@ impl<'t> Walk<'t> {
         ensures read { IfSome result (λ it. (at : ℕ) (after : List Placed)
             → IsRead table.now false (placed at (take it.1 bytes.now)) after it.0) }
     {
-        let mut walk = Walk::new(table, false);
-        let first = *bytes.first()?;
-        if !first.is_ascii() {
-            return None;
-        }
-        match walk.take(char::from(first)) {
-            Some(found) => Some((found, 1)),
-            None => walk.settled_later(bytes),
-        }
+        settled(table, bytes)
     }
+}
 
-    /// The same once the first byte has been taken.
-    #[inline(always)]
-    fn settled_later(self, bytes: &[u8]) -> Option<(Reference<'t>, usize)>
-        requires { HasTakenBytes self self.table.now bytes.now 1 }
-        ensures { IfSome result (λ it. Settles self.entry.table.now bytes.now it.1 it.0) }
-    {
-        if let ReferenceState::NumberSign = self.state {
-            return settled_number(bytes);
-        }
-        match self.only_key(bytes) {
-            Some(place) => Some(whole_key(self.table, place)),
-            None => self.settled_by_steps(bytes),
-        }
+/// The same.
+#[inline(always)]
+fn settled<'t>(table: &'t Table, bytes: &[u8]) -> Option<(Reference<'t>, usize)>
+    ensures table { IsTable table.now }
+    ensures settles { IfSome result (λ it. Settles table.now bytes.now it.1 it.0) }
+{
+    let flat = &table.flat;
+    let first = *bytes.first()?;
+    if first == b'#' {
+        return settled_number(bytes);
     }
-
-    /// The place of the only key that may still be read, if it ends in a `;` and these bytes have all of it after its `&`. No
-    /// longer key begins with it, so nothing that comes after it matters.
-    #[inline(always)]
-    fn only_key(&self, bytes: &[u8]) -> Option<usize>
-        ensures { IfSome result (HasWhole self.now.table.now bytes.now) }
-    {
-        let ReferenceState::Name(search) = self.state else {
-            return None;
-        };
-        if search.high - search.low != 1 {
-            return None;
-        }
-        let table = self.table;
-        let key = table.flat.key(search.low);
-        if ends_in_semicolon(key) && begin_with(bytes, &key[1..]) {
-            Some(search.low)
-        } else {
-            None
-        }
+    if !is_alphanumeric(first) {
+        return settled_by_steps(table, bytes);
     }
+    let search = Search::after_first(flat, &table.starts, char::from(first))?;
+    if search.is_over() {
+        return Some((unknown(1, Last::Alphanumeric), 1));
+    }
+    match whole_place(table, search, bytes) {
+        Some(place) => Some(whole_key(table, place)),
+        None => settled_by_steps(table, bytes),
+    }
+}
 
-    /// The same by the steps of the walk.
-    #[inline(never)]
-    fn settled_by_steps(mut self, bytes: &[u8]) -> Option<(Reference<'t>, usize)>
-        requires { HasTakenBytes self self.table.now bytes.now 1 }
-        ensures { IfSome result (λ it. Settles self.entry.table.now bytes.now it.1 it.0) }
-    {
-        for count in 1..bytes.len() {
-            let byte = bytes[count];
-            if !byte.is_ascii() {
-                return None;
-            }
-            if let Some(found) = self.take(char::from(byte)) {
-                return Some((found, count + 1));
-            }
-        }
+/// The place of a key that ends in a `;` and with all of which, after its `&`, these bytes begin, if one is found at once: the
+/// only one of this search, or by its hash. No longer key begins with it, so nothing that comes after it matters.
+#[inline(always)]
+fn whole_place(table: &Table, search: Search, bytes: &[u8]) -> Option<usize>
+    requires { is_search_within search (length table.now) ≡ true }
+    ensures { IfSome result (HasWhole table.now bytes.now) }
+{
+    if search.high - search.low != 1 {
+        return table.slots.find(&table.flat, bytes);
+    }
+    if is_whole(&table.flat, search.low, bytes) {
+        Some(search.low)
+    } else {
         None
     }
 }
@@ -109,20 +94,36 @@ fn whole_key<'t>(table: &'t Table, place: usize) -> (Reference<'t>, usize)
     (found, table.flat.key(place).len() - 1)
 }
 
-/// Whether these bytes begin with a name; by hand, since a name is too short for the groups that `starts_with` compares.
-#[inline(always)]
-fn begin_with(bytes: &[u8], name: &[u8]) -> bool
-    ensures { result ≡ starts_with nat_eq bytes.now name.now }
+/// What the name at the front of these bytes is, by the steps of a walk.
+fn settled_by_steps<'t>(table: &'t Table, bytes: &[u8]) -> Option<(Reference<'t>, usize)>
+    ensures { IfSome result (λ it. Settles table.now bytes.now it.1 it.0) }
 {
-    if bytes.len() < name.len() {
-        return false;
-    }
-    for (index, byte) in name.iter().enumerate() {
-        if bytes[index] != *byte {
-            return false;
+    let mut search = Search::after_ampersand(&table.flat);
+    for (index, byte) in bytes.iter().enumerate() {
+        if !byte.is_ascii() {
+            return None;
+        }
+        match longer(table, search, char::from(*byte)) {
+            Some(next) => search = next,
+            None => {
+                let found = ended(after_name(table, false, search, char::from(*byte)))?;
+                return Some((found, index + 1));
+            }
         }
     }
-    true
+    None
+}
+
+/// The reference that a step has shown, if it has.
+#[inline(always)]
+fn ended<'t>(next: Next<'t>) -> Option<Reference<'t>>
+    ensures { IfSome result (λ found. (table : Entities) (text : List Placed) → NextIs table false text next.entry
+        → (after : List Placed) → IsRead table false text after found) }
+{
+    match next {
+        Next::Ended(found) => Some(found),
+        Next::Goes(_) => None,
+    }
 }
 
 /// A numeric reference, if these bytes, the first of them a `#`, begin with the rest of it after its `&`, and it has a digit

@@ -29,13 +29,3 @@ impl OneOrTwo {
         }
     }
 }
-
-impl Entity {
-    /// The key, which is in this text; empty if the text has no such part.
-    #[inline(always)]
-    pub(crate) fn key<'t>(&self, text: &'t [u8]) -> &'t [u8]
-        ensures { result.now ≡ key_at text.now self.now }
-    {
-        text.get(self.start..self.end).unwrap_or(&[])
-    }
-}

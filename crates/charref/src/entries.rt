@@ -2,7 +2,8 @@
 
 ghost use Rattle.std.specs.Prelude.{◌≡◌, ◌+◌, ◌*◌, ◌≤◌, Some, None, length, drop, if◌then◌else◌, true, IfOk, IfErr, MatchOption};
 ghost use Rattle.charref.specs.Reading.{is_character};
-ghost use Rattle.charref.specs.Table.{entries, stands_for};
+ghost use Rattle.std.specs.List.{list_all};
+ghost use Rattle.charref.specs.Table.{entries, is_inside, stands_for};
 ghost use Rattle.charref.specs.Flat.{is_one_or_two, flat_character, flat_characters, flat_entry, flat_of, IsReadable, IsRefusedFlat};
 ghost use Rattle.charref.specs.Front.{BeginsWith, BeginsWithNone, is_entry, IsEntryAt};
 
@@ -72,9 +73,13 @@ fn entity_at(text: &[u8], start: usize) -> Option<(Entity, usize)>
     Some((entity, end + 1 + 4 * characters.as_slice().len()))
 }
 
+/// An entry has seldom fewer bytes than this.
+const ENTRY: usize = 10;
+
 /// The entries of a flat form.
 pub(crate) fn entities_of(alloc: Global, text: &[u8]) -> Result<Vec<Entity>, Refusal>
-    ensures ok { IfOk result (λ entities. IsReadable (entries text.now entities.items) × (flat_of (entries text.now entities.items) ≡ text.now)) }
+    ensures ok { IfOk result (λ entities. IsReadable (entries text.now entities.items) × (flat_of (entries text.now entities.items) ≡ text.now)
+        × (list_all (is_inside text.now) entities.items ≡ true)) }
     ensures err { IfErr result (λ e. IsRefusedFlat text.now e) }
 {
     let refused = Refusal::BadTable {
@@ -83,14 +88,14 @@ pub(crate) fn entities_of(alloc: Global, text: &[u8]) -> Result<Vec<Entity>, Ref
     if text.is_empty() || text[0] != 1 {
         return Err(refused);
     }
-    let mut entities = Vec::new(alloc);
+    let mut entities = Vec::with_capacity(alloc, text.len() / ENTRY)?;
     let mut last: &[u8] = &[];
     let mut start = 1;
     while start < text.len() {
         let Some((entity, end)) = entity_at(text, start) else {
             return Err(refused);
         };
-        let key = entity.key(text);
+        let key = &text[entity.start..entity.end];
         if !is_before(last, key) {
             return Err(refused);
         }

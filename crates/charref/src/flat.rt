@@ -1,8 +1,9 @@
 //! A table in its flat form.
 
-ghost use Rattle.std.specs.Prelude.{◌≡◌, ◌<◌, length, slice_get, Some, IfOk, IfErr};
+ghost use Rattle.std.specs.Prelude.{◌≡◌, ◌<◌, length, slice_get, true, Some, IfOk, IfErr};
+ghost use Rattle.std.specs.List.{list_all};
 ghost use Rattle.charref.specs.Reference.{Entry, Entities};
-ghost use Rattle.charref.specs.Table.{entry, entries};
+ghost use Rattle.charref.specs.Table.{entry, entries, is_inside};
 ghost use Rattle.charref.specs.Flat.{flat_of, IsReadable, IsRefusedFlat};
 
 use crate::entity::Entity;
@@ -23,7 +24,8 @@ impl Model for Flat {
 
     ghost view = { λ flat. entries flat.text.items flat.entities.items };
 
-    ghost invariant = { λ flat. flat_of (entries flat.text.items flat.entities.items) ≡ flat.text.items };
+    ghost invariant = { λ flat. (flat_of (entries flat.text.items flat.entities.items) ≡ flat.text.items)
+        × (list_all (is_inside flat.text.items) flat.entities.items ≡ true) };
 }
 
 impl Flat {
@@ -57,7 +59,8 @@ impl Flat {
         requires { at < length self.now }
         ensures { (e : Entry) × (slice_get self.now at ≡ Some e) × (result.now ≡ e.key) }
     {
-        self.entities[at].key(&self.text)
+        let entity = &self.entities[at];
+        &self.text[entity.start..entity.end]
     }
 
     /// The characters that the key of an entry stands for.

@@ -21,7 +21,7 @@ const ALPHANUMERICS: [u8; 256] = [
 ];
 
 #[inline(always)]
-fn is_alphanumeric(byte: u8) -> bool
+pub(crate) fn is_alphanumeric(byte: u8) -> bool
     ensures { result ≡ is_alphanumeric byte }
 {
     ALPHANUMERICS[usize::from(byte)] == 1
@@ -51,7 +51,7 @@ pub(crate) fn is_key(key: &[u8]) -> bool
 
 /// How many letters and digits these bytes begin with.
 #[inline(always)]
-fn alphanumerics(bytes: &[u8]) -> usize
+pub(crate) fn alphanumerics(bytes: &[u8]) -> usize
     ensures few { result ≤ length bytes.now }
     ensures all { list_all is_alphanumeric (take result bytes.now) ≡ true }
     ensures stops { passes is_alphanumeric (slice_get bytes.now result) ≡ false }

@@ -14,6 +14,7 @@ mod read;
 mod reference;
 mod reference_state;
 mod search;
+mod slots;
 mod starts;
 mod table;
 mod walk;

@@ -1,6 +1,7 @@
 //! Looking up a key, byte by byte.
 
-ghost use Rattle.std.specs.Prelude.{◌≡◌, ◌↔◌, ℕ, ◌+◌, ◌-◌, ◌≤◌, ◌<◌, [], ◌∷◌, ◌++◌, List, true, false, None, length, IsTrue, IsNone, IfSome};
+ghost use Rattle.std.specs.Prelude.{◌≡◌, ◌↔◌, ℕ, ◌+◌, ◌-◌, ◌≤◌, ◌<◌, [], ◌∷◌, ◌++◌, ◌||◌, ◌==◌, List, true, false, None, length, IsTrue, IsNone, IfSome};
+ghost use Rattle.names.specs.Placed.{is_alphanumeric};
 ghost use Rattle.charref.specs.Reference.{longest};
 ghost use Rattle.charref.specs.Table.{code_at, best_entry, IsSortedTable, IsRange, IsRising, IsParted, IsIndex, IsOver, GoesOn, HasNone, HasRead};
 ghost use Rattle.charref.specs.Table.{is_whole, is_search_within};
@@ -19,7 +20,7 @@ pub(crate) struct Search {
 
 /// The byte of a key at `depth`, plus 1; 0 past its end.
 #[inline(always)]
-fn code_at(key: &[u8], depth: usize) -> u16
+pub(crate) fn code_at(key: &[u8], depth: usize) -> u16
     ensures { result ≡ code_at key.now depth }
 {
     match key.get(depth) {
@@ -29,7 +30,7 @@ fn code_at(key: &[u8], depth: usize) -> u16
 }
 
 /// Of the entries from `low` up to `high`, the first whose key has at least this code at `depth`, or `high`.
-pub(crate) fn first_from(flat: &Flat, low: usize, high: usize, depth: usize, code: u16) -> usize
+fn first_from(flat: &Flat, low: usize, high: usize, depth: usize, code: u16) -> usize
     requires ordered { low ≤ high }
     requires within { high ≤ length flat.now }
     ensures after { low ≤ result }
@@ -37,14 +38,25 @@ pub(crate) fn first_from(flat: &Flat, low: usize, high: usize, depth: usize, cod
     ensures parted { IsRising flat.now low high depth
         → IsParted flat.now low result high depth code }
 {
-    if low == high || code_at(flat.key(low), depth) >= code {
-        return low;
+    let mut from = low;
+    let mut to = high;
+    while from < to {
+        let middle = from + (to - from) / 2;
+        if code_at(flat.key(middle), depth) < code {
+            from = middle + 1;
+        } else {
+            to = middle;
+        }
     }
-    if code_at(flat.key(high - 1), depth) < code {
-        return high;
-    }
-    let text = flat.text.as_slice();
-    low + flat.entities[low..high].partition_point(|entity| code_at(entity.key(text), depth) < code)
+    from
+}
+
+/// Whether a name may have this character.
+#[inline(always)]
+fn is_in_names(ch: char) -> bool
+    ensures { result ≡ (is_alphanumeric ch || ch == 59) }
+{
+    ch.is_ascii_alphanumeric() || ch == ';'
 }
 
 impl Search {
@@ -165,10 +177,10 @@ impl Search {
         ensures within { IfSome result (λ next. is_search_within next (length flat.now) ≡ true) }
         ensures read { IfSome result (λ next. (bytes : List ℕ) → HasRead self.now flat.now bytes
             → HasRead next flat.now (bytes ++ ch ∷ [])) }
-        ensures none { IsNone result → (bytes : List ℕ) → HasRead self.now flat.now bytes
-            → HasNone flat.now (bytes ++ ch ∷ []) }
+        ensures none { IsNone result → (bytes : List ℕ) → HasRead self.now flat.now (38 ∷ bytes)
+            → HasNone flat.now (38 ∷ bytes ++ ch ∷ []) }
     {
-        if self.goes_on(flat) && ch.is_ascii() {
+        if is_in_names(ch) && self.goes_on(flat) {
             let mut next = *self;
             next.narrow(flat, ch as u8);
             Some(next)

@@ -7,6 +7,7 @@ ghost use Rattle.charref.specs.Flat.{flat_of, IsReadable, IsRefusedFlat};
 
 use crate::flat::Flat;
 use crate::search::search_for;
+use crate::slots::Slots;
 use crate::starts::starts_of;
 use names::Refusal;
 use std::alloc::Global;
@@ -14,12 +15,14 @@ use std::marker::Model;
 
 /// A table of named character references, sorted by the bytes of the keys, so that the keys with a common beginning are a
 /// range. A look-up narrows this range byte by byte until no key goes on with what was read: all keys begin with the `&`, an
-/// index has the ranges of the bytes after it, and each further byte takes two binary searches. It allocates nothing.
+/// index has the ranges of the bytes after it, and each further byte takes two binary searches. A key that stands whole, with
+/// its `;`, is found by its hash. A look-up allocates nothing.
 #[derive(Drop)]
 pub struct Table {
     pub(crate) flat: Flat,
     /// By the code of a byte after the `&`, the first entry whose key has at least this code there.
     pub(crate) starts: Vec<usize>,
+    pub(crate) slots: Slots,
 }
 
 impl Model for Table {
@@ -67,7 +70,12 @@ impl Table {
     {
         let flat = Flat::read(alloc, bytes)?;
         let starts = starts_of(alloc, &flat)?;
-        Ok(Table { flat, starts })
+        let slots = Slots::new(alloc, &flat)?;
+        Ok(Table {
+            flat,
+            starts,
+            slots,
+        })
     }
 
     /// The flat form of the table: the byte 1, and each entry, in the order of the keys' bytes, as its key, how many characters

@@ -43,6 +43,12 @@ impl<'t> Walk<'t> {
             → HasTaken self.old table in_value text → p.ch ≡ ch → Takes table in_value (text ++ p ∷ []) result self.new }
         ensures number { is_number self.old.state ≡ true → MatchOption result (is_number self.new.state ≡ true) LeavesLast }
     {
+        if let ReferenceState::Name(search) = self.state
+            && let Some(next) = longer(self.table, search, ch)
+        {
+            self.state = ReferenceState::Name(next);
+            return None;
+        }
         match self.step(ch) {
             Next::Goes(state) => {
                 self.state = state;
@@ -60,7 +66,7 @@ impl<'t> Walk<'t> {
         matches!(self.state, ReferenceState::Number(_, _))
     }
 
-    #[inline(always)]
+    #[inline(never)]
     fn step(&self, ch: char) -> Next<'t>
         ensures within { is_next_within result (length self.now.table.now) ≡ true }
         ensures next { (table : Entities) (in_value : Bool) (text : List Placed) (p : Placed)
@@ -119,7 +125,7 @@ pub(crate) fn ends_in_semicolon(key: &[u8]) -> bool
 }
 
 /// An `&` that is text because no key matches (13.2.5.73, 13.2.5.74).
-fn unknown<'t>(left: usize, last: Last) -> Reference<'t>
+pub(crate) fn unknown<'t>(left: usize, last: Last) -> Reference<'t>
     ensures { result ≡ unknown_of left last }
 {
     match last {
@@ -268,9 +274,25 @@ fn extended(table: &Table, search: Search, ch: char) -> Option<Search>
     }
 }
 
+/// The look-up after one more character, if some key begins with what was read then and is longer.
+#[inline(always)]
+pub(crate) fn longer(table: &Table, search: Search, ch: char) -> Option<Search>
+    requires { is_search_within search (length table.now) ≡ true }
+    ensures within { IfSome result (λ next. is_search_within next (length table.now) ≡ true) }
+    ensures held { IfSome result (λ next. (in_value : Bool) (text : List Placed) (p : Placed) → HasRead search table.now (key_bytes text)
+        → p.ch ≡ ch → IsHeld table.now in_value (ReferenceState.Name next) (text ++ p ∷ [])) }
+{
+    let next = extended(table, search, ch)?;
+    if next.goes_on(&table.flat) {
+        Some(next)
+    } else {
+        None
+    }
+}
+
 /// After the beginning of a name (13.2.5.73).
 #[inline(always)]
-fn after_name<'t>(table: &'t Table, in_value: bool, search: Search, ch: char) -> Next<'t>
+pub(crate) fn after_name<'t>(table: &'t Table, in_value: bool, search: Search, ch: char) -> Next<'t>
     requires { is_search_within search (length table.now) ≡ true }
     ensures within { is_next_within result (length table.now) ≡ true }
     ensures next { (text : List Placed) (p : Placed) → HasRead search table.now (key_bytes text)

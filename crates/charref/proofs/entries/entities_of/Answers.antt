@@ -1,6 +1,5 @@
-use Rattle.std.proofs.Common.{arith, ◌≡◌, ◌≤◌, length, false, inr, is_lt, nat_cmp, refl, sym, ap, ◌∙◌, subst, [], ◌∷◌, ◌++◌, true}
+use Rattle.std.proofs.Common.{arith, ◌≡◌, ◌≤◌, length, false, inr, refl, sym, ◌∙◌, subst, []}
 use Rattle.std.proofs.lemmas.Bool.Decides.{nat_tests}
-use Rattle.std.specs.Cmp.Lexicographic.{slice_cmp}
 use Rattle.charref.specs.Table.{key_at}
 use Rattle.charref.proofs.ReadingFlat.{HasReadTo, begun, one_more, no_entry, no_order}
 use Rattle.charref.proofs.entries.entities_of.Goals as goal
@@ -8,7 +7,7 @@ use Rattle.charref.proofs.entries.entities_of.Goals as goal
 pub loop-start-init : goal.loop-start-init
 loop-start-init c =
     let some : 1 ≤ length c.args.text.now = (let test : c.is_empty.result ≡ false = c.if-is_empty.false in grind (arith, nat_tests, c.is_empty.ensures)) in
-    subst (λ es. HasReadTo c.args.text.now es [] 1) (sym c.new-entities.ensures.items) (begun c.args.text.now some c.if-text-ne1.false)
+    subst (λ es. HasReadTo c.args.text.now es [] 1) (sym c.in_ok-entities.ensures.items) (begun c.args.text.now some c.if-text-ne1.false)
 
 pub returns-in_default-clause-err : goal.returns-in_default-clause-err
 returns-in_default-clause-err c =
@@ -18,14 +17,10 @@ returns-in_default-clause-err c =
 pub returns-then-not-is_before-clause-err : goal.returns-then-not-is_before-clause-err
 returns-then-not-is_before-clause-err c =
     let l = c.loop-start in
-    let before : is_lt (slice_cmp nat_cmp l.last.now (key_at c.args.text.now c.in-Some.entity)) ≡ false =
-    ap (λ k. is_lt (slice_cmp nat_cmp l.last.now k)) (sym c.key-key.ensures) ∙ sym c.is_before.ensures ∙ c.if-not-is_before.true in
-    inr (refl, no_order c.args.text.now l.entities.items l.last.now l.start c.in-Some.entity c.in-Some.end l.invariant c.in-Some.ensures before)
+    inr (refl, no_order c.args.text.now l.entities.items l.last.now l.start c.in-Some.entity c.in-Some.end l.invariant c.in-Some.ensures (sym c.is_before.ensures ∙ c.if-not-is_before.true))
 
 pub loop-start-preserved : goal.loop-start-preserved
 loop-start-preserved c =
     let l = c.loop-start in
-    let before : is_lt (slice_cmp nat_cmp l.last.now (key_at c.args.text.now c.in-Some.entity)) ≡ true =
-    ap (λ k. is_lt (slice_cmp nat_cmp l.last.now k)) (sym c.key-key.ensures) ∙ sym c.is_before.ensures ∙ c.if-not-is_before.false in
-    subst (λ es. HasReadTo c.args.text.now es c.key-key.result.now c.in-Some.end) (sym c.in_ok-push.ensures.items)
-    (subst (λ k. HasReadTo c.args.text.now (l.entities.items ++ c.in-Some.entity ∷ []) k c.in-Some.end) (sym c.key-key.ensures) (one_more c.args.text.now l.entities.items l.last.now l.start c.in-Some.entity c.in-Some.end l.invariant c.in-Some.ensures before))
+    subst (λ es. HasReadTo c.args.text.now es (key_at c.args.text.now c.in-Some.entity) c.in-Some.end) (sym c.in_ok-push.ensures.items)
+    (one_more c.args.text.now l.entities.items l.last.now l.start c.in-Some.entity c.in-Some.end l.invariant c.in-Some.ensures (sym c.is_before.ensures ∙ c.if-not-is_before.false))

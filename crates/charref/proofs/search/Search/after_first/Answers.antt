@@ -2,12 +2,12 @@ use Rattle.std.proofs.Common.{arith, ◌≡◌, ◌+◌, ◌<◌, ◌≤◌, [],
 use Rattle.std.proofs.lemmas.Bool.Decides.{nat_tests}
 use Rattle.std.specs.Char.{is_ascii}
 use Rattle.charref.specs.Table.{IsRange}
-use Rattle.charref.proofs.Extending.{none_past_ascii}
+use Rattle.charref.proofs.Extending.{none_past_names}
 use Rattle.charref.proofs.Indexing.{range_of, search_within}
 use Rattle.charref.proofs.search.Search.after_first.Goals as goal
 
 pub returns-then-not-is_ascii-clause-none : goal.returns-then-not-is_ascii-clause-none
-returns-then-not-is_ascii-clause-none c = λ is. none_past_ascii c.args.flat.now (38 ∷ []) c.args.ch c.requires.sorted.is_table
+returns-then-not-is_ascii-clause-none c = λ is. none_past_names c.args.flat.now [] c.args.ch c.requires.sorted.is_table
     (let test : is_ascii c.args.ch ≡ false = sym c.is_ascii.ensures ∙ c.if-not-is_ascii.true in grind (arith, nat_tests))
 
 pub narrowed-requires-clause-within : goal.narrowed-requires-clause-within

@@ -1,0 +1,15 @@
+use Rattle.std.proofs.Common.{[], ◌∷◌, ◌++◌}
+use Rattle.charref.specs.declared.reference_state.ReferenceState.TheVariants.{Name}
+use Rattle.charref.specs.Held.{IsHeld}
+use Rattle.charref.proofs.Taking.{held_name, own, by_own}
+use Rattle.charref.proofs.walk.Walk.take.Goals as goal
+
+pub returns-clause-taken : goal.returns-clause-taken
+returns-clause-taken c = λ table in_value text p taken is.
+    let walk = c.args.self.now in
+    let parts = held_name walk.table.now walk.in_value c.in-Name.search text (own walk table in_value text (Name c.in-Name.search) taken c.in-Name.is) in
+    record {
+      table_is = taken.table_is;
+      in_value_is = taken.in_value_is;
+      held = by_own walk table in_value text taken (λ t b. IsHeld t b (Name c.in-Some.next) (text ++ p ∷ [])) (c.in-Some.ensures.held walk.in_value text p parts.0 is);
+    }

@@ -1,0 +1,134 @@
+//! Where the keys that end in a `;` are, by the hash of their names.
+
+ghost use Rattle.std.specs.Prelude.{◌≡◌, ◌<◌, ◌≤◌, length, nat_eq, IfSome, IsTrue};
+ghost use Rattle.std.specs.List.{starts_with};
+ghost use Rattle.charref.specs.Reference.{IsTable};
+ghost use Rattle.charref.specs.AtOnce.{HasWhole};
+
+use crate::flat::Flat;
+use crate::key::alphanumerics;
+use crate::walking::ends_in_semicolon;
+use std::alloc::{AllocError, Global};
+
+/// A table of no more entries than this has no slots.
+const FEW: usize = 16;
+
+/// A table of more entries than this has no more slots.
+const MANY: usize = 32_768;
+
+/// How many slots are tried for a name.
+const TRIES: u32 = 8;
+
+/// For each name of two letters or more before a `;`, at one of the slots from its hash on, one more than the place of its key;
+/// 0 in a slot that is free. What is found here is compared with the key, and what is not found is looked up byte by byte.
+#[derive(Drop)]
+pub(crate) struct Slots {
+    places: Vec<u16>,
+}
+
+/// How many slots a table of so many entries has.
+fn slots_for(entries: usize) -> usize {
+    if entries <= FEW {
+        return 0;
+    }
+    (2 * entries.min(MANY)).next_power_of_two()
+}
+
+/// The hash of a name: of its length, its first two letters, its last two and the one in the middle.
+#[inline(always)]
+fn hash_of(name: &[u8]) -> u32
+    requires { 2 ≤ length name.now }
+{
+    let len = name.len();
+    let ends = u32::from_le_bytes([name[0], name[1], name[len - 2], name[len - 1]]);
+    let middle = u32::from(name[len / 2]) << 11;
+    let hash = (ends ^ middle ^ ((len & 31) as u32) << 3).wrapping_mul(0x9E37_79B1);
+    hash ^ hash >> 15
+}
+
+/// Whether these bytes begin with a name; by hand, since a name is too short for the groups that `starts_with` compares.
+#[inline(always)]
+fn begin_with(bytes: &[u8], name: &[u8]) -> bool
+    ensures { result ≡ starts_with nat_eq bytes.now name.now }
+{
+    if bytes.len() < name.len() {
+        return false;
+    }
+    for (index, byte) in name.iter().enumerate() {
+        if bytes[index] != *byte {
+            return false;
+        }
+    }
+    true
+}
+
+/// Whether the key at this place ends in a `;`, and these bytes begin with all of it after its `&`.
+#[inline(always)]
+pub(crate) fn is_whole(flat: &Flat, place: usize, bytes: &[u8]) -> bool
+    requires table { IsTable flat.now }
+    requires within { place < length flat.now }
+    ensures { IsTrue result → HasWhole flat.now bytes.now place }
+{
+    let key = flat.key(place);
+    ends_in_semicolon(key) && begin_with(bytes, &key[1..])
+}
+
+impl Slots {
+    /// The slots of a table.
+    pub(crate) fn new(alloc: Global, flat: &Flat) -> Result<Slots, AllocError> {
+        let mut slots = Slots {
+            places: vec![in alloc; 0u16; slots_for(flat.len())]?,
+        };
+        for place in 0..flat.len() {
+            let Ok(kept) = u16::try_from(place + 1) else {
+                return Ok(slots);
+            };
+            let key = flat.key(place);
+            if key.len() > 3 && ends_in_semicolon(key) {
+                slots.put(hash_of(&key[1..key.len() - 1]), kept);
+            }
+        }
+        Ok(slots)
+    }
+
+    /// The slot for a hash, after so many others.
+    #[inline(always)]
+    fn slot(&self, hash: u32, tried: u32) -> usize {
+        hash.wrapping_add(tried) as usize & self.places.len().wrapping_sub(1)
+    }
+
+    /// Puts a place into the first free slot for this hash, if one is near.
+    fn put(&mut self, hash: u32, place: u16) {
+        for tried in 0..TRIES {
+            let slot = self.slot(hash, tried);
+            if slot < self.places.len() && self.places[slot] == 0 {
+                self.places[slot] = place;
+                return;
+            }
+        }
+    }
+
+    /// The place of a key that ends in a `;` and with all of which, after its `&`, these bytes begin, if a slot has it.
+    #[inline(always)]
+    pub(crate) fn find(&self, flat: &Flat, bytes: &[u8]) -> Option<usize>
+        requires { IsTable flat.now }
+        ensures { IfSome result (HasWhole flat.now bytes.now) }
+    {
+        let count = alphanumerics(bytes);
+        if count < 2 || count == bytes.len() || bytes[count] != b';' {
+            return None;
+        }
+        let hash = hash_of(&bytes[..count]);
+        for tried in 0..TRIES {
+            let kept = *self.places.get(self.slot(hash, tried))?;
+            if kept == 0 {
+                return None;
+            }
+            let place = usize::from(kept) - 1;
+            if place < flat.len() && is_whole(flat, place, bytes) {
+                return Some(place);
+            }
+        }
+        None
+    }
+}
