@@ -56,6 +56,7 @@ impl Table {
     /// Reads a table from its flat form ([`Table::as_flat`]), without an allocation for each entry. The error is `Memory`, or
     /// `BadTable` with the cause `Shape` if these bytes are not what `as_flat` gives of any table.
     pub fn from_flat(alloc: Global, bytes: &[u8]) -> Result<Table, Refusal>
+        ensures readable { IfOk result (λ table. IsReadable table) }
         ensures ok { IfOk result (λ table. flat_of table ≡ bytes.now) }
         ensures err { IfErr result (λ e. IsRefusedFlat bytes.now e) }
     {
