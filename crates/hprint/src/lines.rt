@@ -1,6 +1,6 @@
 //! Trees and errors as they are printed.
 
-ghost use Rattle.std.specs.Prelude.{◌≡◌, ◌++◌, ◌<◌, ◌≤◌, ◌^◌, ◌&&◌, ℕ, codes, flat_map, length, map, vec_capacity};
+ghost use Rattle.std.specs.Prelude.{◌≡◌, ◌++◌, ◌<◌, ◌≤◌, ◌^◌, ◌&&◌, ℕ, codes, flat_map, length, map, vec_capacity, OnOk};
 ghost use Rattle.std.specs.List.{repeat};
 ghost use Rattle.std.specs.String.{string_bytes};
 ghost use Rattle.names.specs.Names.{text_of};
@@ -12,7 +12,7 @@ ghost use Rattle.hprint.specs.Entries.{pair_of};
 ghost use Rattle.hprint.specs.Lines.{indented, attribute_line, identifiers, node_lines, error_lines, tree_text};
 ghost use Rattle.hnodes.specs.Named.{NodeIsOf, AreOf, IsLent};
 ghost use Rattle.hserialize.specs.Gathered.{Holds};
-ghost use Rattle.hserialize.specs.Output.{Puts, WritesText, taken};
+ghost use Rattle.hserialize.specs.Output.{IsFlushed, Puts, WritesText, taken};
 ghost use Rattle.hprint.specs.Printing.{IsOpen, attribute_count, depth_after, lines_of, visit_lines};
 ghost use Rattle.hserialize.specs.Words.{is_empty};
 ghost use Rattle.hserialize.specs.Walk.{node_of};
@@ -278,7 +278,8 @@ fn print_nodes<'a, W: Target>(
     requires made { root < tree.now.made }
     requires room { (n : ℕ) → n < tree.now.made → attribute_count (what_of n tree.now.trees) ≤ vec_capacity entries.old }
     requires names { AreOf names.now (children_of root tree.now.trees) }
-    ensures { WritesText W.written W.failed (tree_text (spelled (text_of names.now) (children_of root tree.now.trees))) target.old target.new result }
+    ensures text { WritesText W.written W.failed (tree_text (spelled (text_of names.now) (children_of root tree.now.trees))) target.old target.new result }
+    ensures flushed { OnOk result (IsFlushed W.flushes target.new) }
 {
     let mut held = room(alloc)?;
     let mut out = Sink::new(target, &mut held);
@@ -298,7 +299,8 @@ pub fn print_tree<W: Target>(
 ) -> Result<(), Refusal>
     requires made { root < tree.now.made }
     requires names { AreOf names.now (children_of root tree.now.trees) }
-    ensures { WritesText W.written W.failed (tree_text (spelled (text_of names.now) (children_of root tree.now.trees))) target.old target.new result }
+    ensures text { WritesText W.written W.failed (tree_text (spelled (text_of names.now) (children_of root tree.now.trees))) target.old target.new result }
+    ensures flushed { OnOk result (IsFlushed W.flushes target.new) }
 {
     let mut entries = Vec::with_capacity(alloc, most_attributes(tree))?;
     print_nodes(alloc, &mut entries, tree, names, root, target)
@@ -341,7 +343,8 @@ pub fn print_errors<W: Target>(
     errors: &[ParseError],
     target: &mut W,
 ) -> Result<(), Refusal>
-    ensures { WritesText W.written W.failed (error_lines errors.now) target.old target.new result }
+    ensures text { WritesText W.written W.failed (error_lines errors.now) target.old target.new result }
+    ensures flushed { OnOk result (IsFlushed W.flushes target.new) }
 {
     let mut held = room(alloc)?;
     let mut out = Sink::new(target, &mut held);

@@ -19,8 +19,12 @@ pub data WritesText {W : Type 0} (written : W → Option (List ℕ)) (failed : W
   text_cut : (beginning rest : List ℕ) → answer ≡ Err Write → text ≡ beginning ++ rest → Appends (written old) (written new) beginning
       → failed new ≡ counted (failed old)
       → WritesText written failed text old new answer
-  -- it was written, and handed on
+  -- it was written
   text_written : answer ≡ Ok tt → Appends (written old) (written new) text → failed new ≡ failed old → WritesText written failed text old new answer
+
+-- The last call of a target was a flush that succeeded.
+abbrev pub IsFlushed : {W : Type 0} → (W → W → Type 0) → W → Type 0
+IsFlushed {W} flushes target = (before : W) × flushes before target
 
 -- what a target says of itself, which one it is, and the bytes that are held for it
 pub record Taken : Type 0 where
@@ -51,7 +55,7 @@ abbrev pub Puts : Taken → Taken → List ℕ → Result (Unit {0}) Refusal →
 Puts old new bytes (Ok _) = Adds old new bytes
 Puts old new bytes (Err refusal) = Fails refusal old new bytes
 
--- What was held was handed over and handed on, or a call failed.
+-- What was held was handed over, or a call failed.
 abbrev pub Ends : Taken → Taken → Result (Unit {0}) Refusal → Type 0
 Ends old new (Ok _) = (new.name ≡ old.name) × Appends old.bytes new.bytes old.held × (new.failures ≡ old.failures)
 Ends old new (Err refusal) = (refusal ≡ Write) × (new.name ≡ old.name)

@@ -1,6 +1,6 @@
 //! Trees as text (HTML Standard, 13.3, "Serializing HTML fragments").
 
-ghost use Rattle.std.specs.Prelude.{◌≡◌, ◌++◌, ◌<◌, codes, map, if◌then◌else◌};
+ghost use Rattle.std.specs.Prelude.{◌≡◌, ◌++◌, ◌<◌, codes, map, OnOk, if◌then◌else◌};
 ghost use Rattle.std.specs.Option.{option_map};
 ghost use Rattle.names.specs.Names.{AreNames, text_of};
 ghost use Rattle.hnodes.specs.Forest.{children_of, element};
@@ -10,7 +10,7 @@ ghost use Rattle.hnodes.specs.Spots.{name_of, what_of};
 ghost use Rattle.hserialize.specs.Escaping.{escaped};
 ghost use Rattle.hnodes.specs.Named.{NodeIsOf, AreOf, IsLent};
 ghost use Rattle.hserialize.specs.Gathered.{Holds};
-ghost use Rattle.hserialize.specs.Output.{Puts, WritesText, taken};
+ghost use Rattle.hserialize.specs.Output.{IsFlushed, Puts, WritesText, taken};
 ghost use Rattle.hserialize.specs.Walk.{node_of};
 ghost use Rattle.hserialize.specs.Written.{attribute_text, start_tag_text, end_tag_text, written};
 ghost use Rattle.hserialize.specs.Writing.{stands_raw, holds_raw, opening_of, closing_of, visit_text};
@@ -200,9 +200,10 @@ pub fn serialize<W: Target>(
     requires made { node < tree.now.made }
     requires table { AreNames names.now }
     requires names { AreOf names.now (children_of node tree.now.trees) }
-    ensures { WritesText W.written W.failed
+    ensures text { WritesText W.written W.failed
         (written escaping (option_map (text_of names.now) (name_of node tree.now.trees)) (spelled (text_of names.now) (children_of node tree.now.trees)))
         target.old target.new result }
+    ensures flushed { OnOk result (IsFlushed W.flushes target.new) }
 {
     let mut held = room(alloc)?;
     let mut out = Sink::new(target, &mut held);

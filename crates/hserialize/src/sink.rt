@@ -1,7 +1,7 @@
 //! Bytes to a target by way of a buffer, part by part.
 
 ghost use Rattle.std.specs.Prelude.{◌≡◌, ◌+◌, ◌++◌, ◌≤◌, [], IfOk, OnOk, flat_map, length, vec_capacity};
-ghost use Rattle.hserialize.specs.Output.{Adds, Ends, Puts, taken};
+ghost use Rattle.hserialize.specs.Output.{Adds, Ends, IsFlushed, Puts, taken};
 
 use crate::target::{Target, write_all};
 use names::Refusal;
@@ -47,7 +47,8 @@ impl<'t, W: Target> Sink<'t, W> {
 
     /// Hands over what is held, and flushes the target.
     pub fn finish(&mut self) -> Result<(), Refusal>
-        ensures { Ends (taken W.written W.failed self.old) (taken W.written W.failed self.new) result }
+        ensures ends { Ends (taken W.written W.failed self.old) (taken W.written W.failed self.new) result }
+        ensures flushed { OnOk result (IsFlushed W.flushes self.new.target.now) }
     {
         self.hand_over()?;
         if self.target.flush() {

@@ -1,6 +1,6 @@
 //! What bytes are written to.
 
-ghost use Rattle.std.specs.Prelude.{◌≡◌, ℕ, List, Option, IfErr, OnOk, OnErr};
+ghost use Rattle.std.specs.Prelude.{◌≡◌, ℕ, ⊤, true, List, Option, IfErr, OnOk, OnErr};
 ghost use Rattle.std.specs.Io.KnownBytes.{Appends, Keeps};
 ghost use Rattle.hserialize.specs.Calls.{counted_by, counted_unless, Writes, counted_by_result};
 ghost use Rattle.hserialize.specs.Output.{AppendsBeginning};
@@ -16,6 +16,9 @@ pub trait Target {
     // How many calls have failed.
     ghost failed: { Self → ℕ };
 
+    // What a flush that succeeded makes of the writer, where it says.
+    ghost flushes: { Self → Self → Type 0 } = { λ before after. ⊤ };
+
     /// Writes a beginning of the bytes, and returns its length. None if the call failed; a call that writes none of one or
     /// more bytes has failed.
     fn write(&mut self, bytes: &[u8]) -> Option<usize>
@@ -25,6 +28,7 @@ pub trait Target {
     /// Flushes, and returns whether the call succeeded.
     fn flush(&mut self) -> bool
         ensures bytes { Keeps (written self.old) (written self.new) }
+        ensures flushed { result ≡ true → flushes self.old self.new }
         ensures count { failed self.new ≡ counted_unless (failed self.old) result };
 
     /// The number of failed calls. It stays at the greatest value.

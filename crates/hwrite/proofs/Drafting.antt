@@ -6,7 +6,7 @@ use Rattle.names.specs.Names.{Texts}
 use Rattle.htoken.specs.declared.token.Token.{Token}
 use Rattle.htoken.specs.declared.token.Token.TheVariants as code
 use Rattle.htoken.specs.Token.{Tok, TokenMeans, Start, End, Eof}
-use Rattle.hwrite.specs.Draft.{Drafted, Extends, Adds, AddsText, AddsCharacters, ComesTo, Drafts, beginning_of_characters, end_of_characters, to_write}
+use Rattle.hwrite.specs.Draft.{Drafted, Extends, Adds, AddsText, AddsCharacters, Drafts, beginning_of_characters, end_of_characters, to_write}
 use Rattle.hwrite.specs.Quoted.{escaped, quoted}
 use Rattle.hwrite.specs.TokenLines.{Line, Characters, attribute_words, joined, line_of, line_text}
 use Rattle.hwrite.proofs.Fills.{extends_none, extends_whole, extends_then, extends_as, fills_more}

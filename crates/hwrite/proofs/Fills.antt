@@ -1,13 +1,13 @@
 -- Texts with names in their holes.
-use Rattle.std.proofs.Common.{◌≡◌, ◌≢◌, ℕ, ◌+◌, ◌<◌, Bool, true, List, [], ◌∷◌, ◌++◌, length, take, drop, slice_get, Some, refl, sym, ap, subst, ◌∙◌, arith, append_assoc, append-nil, inl, inr, add-one, Result, Ok, Err, OnOk}
+use Rattle.std.proofs.Common.{◌≡◌, ◌≢◌, ℕ, ◌+◌, ◌<◌, List, [], ◌∷◌, ◌++◌, length, take, drop, slice_get, Some, refl, sym, ap, subst, ◌∙◌, arith, append_assoc, append-nil, inl, inr, add-one, Result, Ok, Err, OnOk}
 use Rattle.std.specs.Prelude.{◌⊎◌, if◌then◌else◌}
 use Rattle.std.specs.Result.{is_ok}
-use Rattle.std.specs.List.{list_all, before_first, after_first, position_or_len}
+use Rattle.std.specs.List.{before_first, after_first, position_or_len}
 use Rattle.std.proofs.lemmas.Bool.Decides.{nat_tests}
 use Rattle.names.specs.Names.{Texts}
 use Rattle.hwrite.specs.Draft.{hole, is_hole, Fills, nothing, a_byte, a_name, Extends}
 use Rattle.hwrite.specs.Quoted.{quoted}
-use Rattle.hwrite.proofs.Holes.{is_no_hole, IsWhole}
+use Rattle.hwrite.proofs.Holes.{IsWhole}
 
 module _ (names : Texts) where
   -- two texts, one after the other

@@ -1,6 +1,6 @@
 -- Token lines whose names are not known yet: what a draft holds, what tokens do to it, and the lines it becomes.
 use Rattle.std.specs.Prelude.{◌≡◌, ◌≢◌, ℕ, Bool, true, false, List, [], ◌∷◌, ◌++◌, ◌==◌, Some, Result, Ok, Err, MatchResult, codes, decimal, flat_map}
-use Rattle.std.specs.Prelude.{slice_get, if◌then◌else◌}
+use Rattle.std.specs.Prelude.{slice_get}
 use Rattle.std.specs.String.{string_bytes}
 use Rattle.names.specs.declared.error.ParseError.{ParseError}
 use Rattle.names.specs.declared.refusal.Refusal.{Refusal}
@@ -14,7 +14,7 @@ use Rattle.hparse.specs.Answer.{Answers}
 use Rattle.hwrite.specs.declared.draft.Draft.{Draft}
 use Rattle.hwrite.specs.Quoted.{escaped, quoted}
 use Rattle.hwrite.specs.Prints.{tokens_text}
-use Rattle.hwrite.specs.TokenLines.{Line, Words, Characters, joined, line_of, line_text}
+use Rattle.hwrite.specs.TokenLines.{Line, Characters, joined, line_of, line_text}
 
 -- the byte that is where a name between quotes is left out
 abbrev pub hole : ℕ

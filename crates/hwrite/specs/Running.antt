@@ -45,7 +45,7 @@ pub data Runs {S W : Type 0} (left : S → Option (List ℕ)) (failed_reads : S 
   write_failed : (bytes beginning rest : List ℕ) → answer ≡ Err Write → Gave left failed_reads source source' bytes → IsAtEnd (left source')
       → prints bytes (Ok (beginning ++ rest)) → Appends (written target) (written target') beginning → failed_writes target' ≡ counted (failed_writes target)
       → Runs left failed_reads written failed_writes prints unrefused piece source source' target target' answer
-  -- the input was read to its end, and its text was written and flushed
+  -- the input was read to its end, and its text was written
   wrote : (bytes text : List ℕ) → answer ≡ Ok tt → Gave left failed_reads source source' bytes → IsAtEnd (left source')
       → prints bytes (Ok text) → Appends (written target) (written target') text → failed_writes target' ≡ failed_writes target
       → Runs left failed_reads written failed_writes prints unrefused piece source source' target target' answer

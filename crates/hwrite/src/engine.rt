@@ -1,6 +1,6 @@
 //! An input from a reader, and what is made of it to a writer.
 
-ghost use Rattle.std.specs.Prelude.{◌≡◌, ◌<◌, ◌≤◌, []};
+ghost use Rattle.std.specs.Prelude.{◌≡◌, ◌<◌, ◌≤◌, [], OnOk};
 ghost use Rattle.names.specs.Names.{AreNames, text_of};
 ghost use Rattle.hnodes.specs.Forest.{children_of};
 ghost use Rattle.hnodes.specs.Named.{AreOf};
@@ -16,7 +16,7 @@ ghost use Rattle.hwrite.specs.Context.{case_in};
 ghost use Rattle.hwrite.specs.Prints.{is_plain_in, parse_text, parsed_text, plain_line, tokens_text, Prints};
 ghost use Rattle.hwrite.specs.Draft.{AnswersDraft};
 ghost use Rattle.hwrite.specs.Running.{BeginsIn, ReadsIn, Runs, RunsIn, RunsTask};
-ghost use Rattle.hserialize.specs.Output.{WritesText};
+ghost use Rattle.hserialize.specs.Output.{IsFlushed, WritesText};
 
 use crate::command::{Command, Task};
 use crate::draft::Draft;
@@ -40,9 +40,10 @@ pub fn run<S: Source, W: Target>(
     target: &mut W,
 ) -> Result<(), Refusal>
     requires piece { 0 < command.piece }
-    ensures { RunsTask S.left S.failed W.written W.failed command.entry.escaping command.entry.task (name_of command.entry.context)
+    ensures runs { RunsTask S.left S.failed W.written W.failed command.entry.escaping command.entry.task (name_of command.entry.context)
         (options_of options.now) command.entry.piece
         source.old source.new target.old target.new result }
+    ensures flushed { OnOk result (IsFlushed W.flushes target.new) }
 {
     match command.task {
         Task::Tokens => run_tokens(alloc, command.piece, options, source, target),
@@ -61,10 +62,11 @@ fn run_tokens<S: Source, W: Target>(
     target: &mut W,
 ) -> Result<(), Refusal>
     requires piece { 0 < piece }
-    ensures { Runs S.left S.failed W.written W.failed
+    ensures runs { Runs S.left S.failed W.written W.failed
         (Prints (Answers options.now.table.now (of_document options.now.bad_bytes options.now.limits.input)) tokens_text)
         (IsUnrefusedText (as_document options.now.table.now options.now.bad_bytes options.now.limits.input)) piece
         source.old source.new target.old target.new result }
+    ensures flushed { OnOk result (IsFlushed W.flushes target.new) }
 {
     let (names, draft) = read_draft(alloc, piece, options, source)?;
     let answer = print_draft(alloc, &draft, &names, target);
@@ -96,11 +98,12 @@ fn run_parsed<S: Source, W: Target>(
     target: &mut W,
 ) -> Result<(), Refusal>
     requires piece { 0 < command.piece }
-    ensures { RunsIn S.left S.failed W.written W.failed (name_of command.entry.context)
+    ensures runs { RunsIn S.left S.failed W.written W.failed (name_of command.entry.context)
         (Prints (Parses (options_of options.now) (case_in (name_of command.entry.context)))
         (parse_text command.entry.escaping command.entry.task (case_in (name_of command.entry.context))))
         (IsUnrefused (options_of options.now) (case_in (name_of command.entry.context)))
         command.entry.piece source.old source.new target.old target.new result }
+    ensures flushed { OnOk result (IsFlushed W.flushes target.new) }
 {
     let parsed = parse(alloc, command, options, source)?;
     let answer = print_parsed(alloc, command, &parsed, target);
@@ -127,8 +130,9 @@ fn print_parsed<W: Target>(
     requires made { parsed.now.root < parsed.now.tree.made }
     requires table { AreNames parsed.now.names }
     requires names { AreOf parsed.now.names (children_of parsed.now.root parsed.now.tree.trees) }
-    ensures { WritesText W.written W.failed (parsed_text command.entry.escaping command.entry.task (name_of command.entry.context) parsed.now)
+    ensures text { WritesText W.written W.failed (parsed_text command.entry.escaping command.entry.task (name_of command.entry.context) parsed.now)
         target.old target.new result }
+    ensures flushed { OnOk result (IsFlushed W.flushes target.new) }
 {
     let Parsed {
         tree,
@@ -196,7 +200,8 @@ pub fn parser<'t>(
 
 /// Writes a text, and flushes.
 pub fn write_text<W: Target>(target: &mut W, text: &[u8]) -> Result<(), Refusal>
-    ensures { WritesText W.written W.failed text.now target.old target.new result }
+    ensures text { WritesText W.written W.failed text.now target.old target.new result }
+    ensures flushed { OnOk result (IsFlushed W.flushes target.new) }
 {
     write_all(target, text)?;
     if target.flush() {

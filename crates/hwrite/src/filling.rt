@@ -1,11 +1,11 @@
 //! Drafts of token lines with their names filled in.
 
-ghost use Rattle.std.specs.Prelude.{◌≡◌, ◌<◌, ℕ, List, [], position};
+ghost use Rattle.std.specs.Prelude.{◌≡◌, ◌<◌, ℕ, List, [], OnOk, position};
 ghost use Rattle.std.specs.Char.{digit_char};
 ghost use Rattle.std.specs.List.{after_first, before_first};
 ghost use Rattle.hwrite.specs.Draft.{ComesTo, Fills, drafted, is_hole};
 ghost use Rattle.hwrite.specs.Quoted.{escaped, escaped_byte, quoted};
-ghost use Rattle.hserialize.specs.Output.{Puts, WritesText, taken};
+ghost use Rattle.hserialize.specs.Output.{IsFlushed, Puts, WritesText, taken};
 
 use crate::draft::{Draft, HOLE};
 use crate::words::END_OF_CHARACTERS;
@@ -121,7 +121,8 @@ pub fn print_draft<W: Target>(
     target: &mut W,
 ) -> Result<(), Refusal>
     requires { (text : List ℕ) × ComesTo names.now (drafted draft.now) [] text }
-    ensures { (text : List ℕ) → ComesTo names.now (drafted draft.now) [] text → WritesText W.written W.failed text target.old target.new result }
+    ensures text { (text : List ℕ) → ComesTo names.now (drafted draft.now) [] text → WritesText W.written W.failed text target.old target.new result }
+    ensures flushed { OnOk result (IsFlushed W.flushes target.new) }
 {
     let mut held = room(alloc)?;
     let mut out = Sink::new(target, &mut held);

@@ -21,7 +21,7 @@ pub use hnodes::{
 };
 pub use hparse::{
     Limits, Options, Parsed, Parser, Quirks, Source, Table, TokenRun, is_context, parse_reader,
-    read_into, read_tokens, tokens,
+    read_into, tokens,
 };
 pub use hplain::is_plain;
 pub use hprint::{error_lines, print_errors, print_tree, tree_text};

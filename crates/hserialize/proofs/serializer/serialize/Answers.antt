@@ -2,12 +2,12 @@ use Rattle.std.proofs.Common.{◌∙◌, ap, rules}
 use Rattle.hserialize.proofs.Finished.{cut_short, finished}
 use Rattle.hserialize.proofs.serializer.serialize.Goals as goal
 
-pub returns-in_err-put_children : goal.returns-in_err-put_children
-returns-in_err-put_children g c =
+pub returns-in_err-put_children-clause-text : goal.returns-in_err-put_children-clause-text
+returns-in_err-put_children-clause-text g c =
     cut_short g.W.Target.written g.W.Target.failed _ _ _ c.new-out.result _ c.new-out.ensures.name c.new-out.ensures.same (ap (λ v. v.items) c.new-out.ensures.held ∙ c.in_ok-held.ensures) c.put_children.new.out
     _ c.from_residual-in_err-put_children.ensures.1 c.in_err-put_children.ensures (search rules)
 
-pub returns : goal.returns
-returns g c =
+pub returns-clause-text : goal.returns-clause-text
+returns-clause-text g c =
     finished g.W.Target.written g.W.Target.failed _ _ _ c.new-out.result _ c.new-out.ensures.name c.new-out.ensures.same (ap (λ v. v.items) c.new-out.ensures.held ∙ c.in_ok-held.ensures) c.put_children.new.out c.finish.new.self
-    c.finish.result c.in_ok-put_children.ensures c.finish.ensures (search rules)
+    c.finish.result c.in_ok-put_children.ensures c.finish.ensures.ends (search rules)

@@ -5,9 +5,9 @@ use Rattle.htmlp.proofs.version.write_version.Goals as goal
 pub returns-in_err-write_text : goal.returns-in_err-write_text
 returns-in_err-write_text g c = record {
   answer = Err c.in_err-write_text.field-0.0;
-  writes_text = c.in_err-write_text.ensures;
+  writes_text = c.in_err-write_text.ensures.text;
   outcome_is = refused c.from_residual.result c.in_err-write_text.field-0.0 c.from_residual.ensures.1;
 }
 
 pub returns : goal.returns
-returns g c = record { answer = Ok tt; writes_text = c.in_ok-write_text.ensures; outcome_is = refl }
+returns g c = record { answer = Ok tt; writes_text = c.in_ok-write_text.ensures.text; outcome_is = refl }

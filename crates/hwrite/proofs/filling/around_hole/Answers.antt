@@ -1,5 +1,5 @@
-use Rattle.std.proofs.Common.{ℕ, ◌+◌, List, take, drop, sym, ap, ◌∙◌, rules, arith}
-use Rattle.hwrite.proofs.InHoles.{hole_found, none_found}
+use Rattle.std.proofs.Common.{sym, ◌∙◌}
+use Rattle.hwrite.proofs.InHoles.{none_found}
 use Rattle.hwrite.proofs.filling.around_hole.Goals as goal
 
 pub returns-in-None-clause-before : goal.returns-in-None-clause-before

@@ -1,4 +1,4 @@
-use Rattle.std.proofs.Common.{◌≡◌, ℕ, Bool, List, [], ◌++◌, sym, ap, subst, ◌∙◌, codes, string_bytes, rules}
+use Rattle.std.proofs.Common.{ℕ, Bool, List, [], ◌++◌, sym, ap, subst, ◌∙◌, codes, string_bytes}
 use Rattle.hserialize.specs.Output.{taken}
 use Rattle.hserialize.proofs.Output.{none_put, part_put, part_failed, last_put, passed_on}
 use Rattle.hwrite.specs.Draft.{Fills, to_write}

@@ -21,9 +21,9 @@ print_draft-answer-requires c = (token_lines c.requires.0, c.in_ok-draft.ensures
 
 pub returns-clause-lines : goal.returns-clause-lines
 returns-clause-lines c = λ tokens means.
-    all_held c.into_text.result (token_lines tokens) (c.into_text.ensures (token_lines tokens) c.new-text.result c.new-text.ensures (c.print_draft-answer.ensures (token_lines tokens) (c.in_ok-draft.ensures tokens means)))
+    all_held c.into_text.result (token_lines tokens) (c.into_text.ensures (token_lines tokens) c.new-text.result c.new-text.ensures (c.print_draft-answer.ensures.text (token_lines tokens) (c.in_ok-draft.ensures tokens means)))
 
 pub returns-clause-memory : goal.returns-clause-memory
 returns-clause-memory c =
     not_held c.into_text.result (token_lines c.requires.0) (c.into_text.ensures (token_lines c.requires.0) c.new-text.result c.new-text.ensures
-    (c.print_draft-answer.ensures (token_lines c.requires.0) (c.in_ok-draft.ensures c.requires.0 c.requires.1)))
+    (c.print_draft-answer.ensures.text (token_lines c.requires.0) (c.in_ok-draft.ensures c.requires.0 c.requires.1)))
