@@ -72,7 +72,7 @@ class Script:
         context = coded(options.pop("--in")) if "--in" in options else "-"
         if options:
             raise SystemExit(f"{words}: what is told the engine?")
-        came = " ".join([f'"{text}"', *([refused(refusal)] if refusal else []), "- -", *(["yes"] if at_once == "yes" else [])])
+        came = " ".join([f'"{text}"', *([refused(refusal)] if refusal else []), "- - yes", *(["yes"] if at_once == "yes" else [])])
         self.say(
             " ".join(map(str, ["run", words[0], *most, escape, bad, at_once, context, coded(given)])),
             refused(refusal) if "BadLimits" in refusal else came,

@@ -1,9 +1,10 @@
-//! The engine on an input, read in many ways.
+//! The engine on an input, read in many ways, and the calls that answer with a text in memory.
 
 ghost use Rattle.std.specs.Prelude.{◌<◌, ◌≤◌, length};
 
 use crate::answers::Answers;
 use crate::hand::Hand;
+use crate::in_memory::text_of;
 use crate::structures::{Reply, Structures};
 use crate::words::{bytes, number, text, word};
 use hwrite::{
@@ -109,8 +110,8 @@ fn bad_bytes(word: &str) -> BadBytes {
     }
 }
 
-/// Says what comes of the whole input; the first size of a piece, and the first cut, with another outcome; and, if that is asked,
-/// whether the refusal comes with the last byte.
+/// Says what comes of the whole input; the first size of a piece, and the first cut, with another outcome; whether the same comes
+/// in memory; and, if that is asked, whether the refusal comes with the last byte.
 fn say(trial: &Trial, is_at_once: bool, out: &mut Answers) {
     let whole = read_from(trial, 65_536, Parts::cut(trial.input, 0));
     out.bytes(&whole.text);
@@ -119,6 +120,7 @@ fn say(trial: &Trial, is_at_once: bool, out: &mut Answers) {
     }
     out.place(other_piece(trial, &whole));
     out.place(other_cut(trial, &whole));
+    out.flag(comes_in_memory(trial, &whole));
     if is_at_once {
         out.flag(comes_at_once(trial, &whole));
     }
@@ -142,6 +144,15 @@ fn other_cut(trial: &Trial, whole: &Outcome) -> Option<usize> {
         }
     }
     None
+}
+
+/// Whether the call that answers with a text in memory has this outcome, if there is one.
+fn comes_in_memory(trial: &Trial, whole: &Outcome) -> bool {
+    match text_of(trial.alloc, trial.command, &trial.options, trial.input) {
+        Some(Ok(text)) => whole.refusal.is_none() && text.as_slice() == whole.text.as_slice(),
+        Some(Err(refusal)) => whole.refusal == Some(refusal),
+        None => true,
+    }
 }
 
 /// Whether the refusal comes with the last byte: a reader that would fail after it is not asked, and one that fails before it is.

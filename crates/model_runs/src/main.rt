@@ -17,6 +17,7 @@ mod count;
 mod engine;
 mod grown;
 mod hand;
+mod in_memory;
 mod list;
 mod making;
 mod nodes;
