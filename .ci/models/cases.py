@@ -3,7 +3,8 @@
 
 A line of a file X.jsonl is what comes of an input: the words of a command line of htmlp, the input, the text that is printed, the line
 of the refusal, and where they are not the program's own the table of references, the quirks list and the limit of the input; `at_once`
-says that the refusal comes with the last byte. The engine reads each input whole, in small pieces, and cut in two at each byte.
+says that the refusal comes with the last byte. The engine reads each input whole, in small pieces, and cut in two at each byte; `yes` says
+that the calls that give the tokens or the errors as a text in memory answer the same.
 
 A file X.dat has records in the form of html5lib's tests of trees: a line with the name of a section, and then the section's lines. An
 empty line is between two records. A page has `#data`, `#errors`, `#document-fragment` with the name of its context if it is a fragment,
