@@ -12,7 +12,7 @@ fn is_known(names: &mut Names, tag: Tag, alloc: Global) -> Result<bool, AllocErr
 
 #[test]
 fn known_names_have_their_numbers(rt: HostRuntime) -> Result<(), Fail> {
-    let mut names = Names::new(rt.alloc(), Keys::for_tests())?;
+    let mut names = Names::new(rt.alloc(), Keys::for_tests());
     for tag in [Tag::A, Tag::Body, Tag::Html, Tag::Marquee, Tag::P, Tag::Xmp] {
         assert!(rt; is_known(&mut names, tag, rt.alloc())?);
     }
@@ -21,7 +21,7 @@ fn known_names_have_their_numbers(rt: HostRuntime) -> Result<(), Fail> {
 
 /// Whether the name of a hidden input's attribute is the last of the known names.
 fn type_is_known(alloc: Global) -> Result<bool, AllocError> {
-    let mut names = Names::new(alloc, Keys::for_tests())?;
+    let mut names = Names::new(alloc, Keys::for_tests());
     let id = names.intern(alloc, "type")?;
     Ok(
         id == NameId::type_attribute()
@@ -33,7 +33,7 @@ fn type_is_known(alloc: Global) -> Result<bool, AllocError> {
 
 /// Whether two names have two numbers, each the same when it is asked again.
 fn are_numbered(alloc: Global) -> Result<bool, AllocError> {
-    let mut names = Names::new(alloc, Keys::for_tests())?;
+    let mut names = Names::new(alloc, Keys::for_tests());
     let first = names.intern(alloc, "x-card")?;
     let second = names.intern(alloc, "x-list")?;
     let again = names.intern(alloc, "x-card")?;

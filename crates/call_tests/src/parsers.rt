@@ -79,7 +79,7 @@ fn fill(builder: &mut Builder<'_>, names: &mut Names, alloc: Global) -> Result<(
 /// Whether a full builder refuses the next element, and then all.
 fn builder_stays(alloc: Global) -> Result<bool, Refusal> {
     let quirks = Quirks::read(alloc, "")?;
-    let mut names = Names::new(alloc, Keys::for_tests())?;
+    let mut names = Names::new(alloc, Keys::for_tests());
     let mut builder = full(alloc, &quirks)?;
     let is_filled = fill(&mut builder, &mut names, alloc).is_ok();
     let is_refused = take_div(&mut builder, &mut names, alloc) == FULL;

@@ -62,7 +62,7 @@ fn tokenize(
 /// Whether a sink with so much room takes this of a text, and is refused the rest, if there is any, again and again.
 fn takes(alloc: Global, text: &str, left: u32, given: &str, is_all: bool) -> Result<bool, Refusal> {
     let table = Table::core(alloc)?;
-    let mut names = Names::new(alloc, Keys::for_tests())?;
+    let mut names = Names::new(alloc, Keys::for_tests());
     let mut sink = Taken::new(alloc, left);
     let mut tokenizer = Tokenizer::new(alloc, &table, Start::Document);
     let answer = tokenize(&mut tokenizer, &mut names, text, &mut sink);

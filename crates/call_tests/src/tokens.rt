@@ -44,7 +44,7 @@ fn shown(alloc: Global, text: &str, from: u64, given: &str) -> Result<String, Re
 
 /// The row of a text.
 fn row(alloc: Global, table: &Table, text: &str) -> Result<String, Refusal> {
-    let mut names = Names::new(alloc, Keys::for_tests())?;
+    let mut names = Names::new(alloc, Keys::for_tests());
     let mut sink = Taken::new(alloc, 99);
     let mut tokenizer = Tokenizer::new(alloc, table, Start::Document);
     let answer = feed(&mut tokenizer, &mut names, text, &mut sink);

@@ -1,6 +1,6 @@
 -- The bytes of a document have exactly one list of tokens and errors, or refusal.
 use Rattle.std.proofs.Common.{◌≡◌, ℕ, List, ◌++◌, length, Option, None, Some, Result, Ok, Err, refl, sym, ap, ◌∙◌, subst}
-use Rattle.std.proofs.lemmas.List.Sorted.{IsPermutation-append_right}
+use Rattle.std.specs.List.Sorted.{IsPermutation}
 use Rattle.names.specs.declared.error.ParseError.{ParseError}
 use Rattle.names.specs.declared.placed.Placed.{Placed}
 use Rattle.names.specs.declared.raw.RawKind.TheVariants as kind
@@ -12,9 +12,9 @@ use Rattle.htext.specs.Text.{Policy, decoded, read_len, refusal_of}
 use Rattle.charref.specs.Reference.{Entities}
 use Rattle.htoken.specs.Token.{Tok}
 use Rattle.htoken.specs.Tokens.{Tokens}
-use Rattle.hlaws.specs.SomeCut.{HasAnswer, gives, refuses}
-use Rattle.hlaws.proofs.OneCut.{one_list_of_tokens, no_tokens_of_refused, one_refusal}
-use Rattle.hlaws.proofs.SomeCut.{some_answer}
+use Rattle.hcuts.specs.SomeCut.{HasAnswer, gives, refuses}
+use Rattle.hcuts.proofs.OneCut.{one_list_of_tokens, no_tokens_of_refused, one_refusal}
+use Rattle.hcuts.proofs.SomeCut.{some_answer}
 use Rattle.hparse.specs.Answer.{Answers, read_text, refused_text, refused_bytes, accepted}
 use Rattle.hlaws.specs.OneAnswer.{ExactlyOne, OneAnswer}
 use Rattle.hlaws.proofs.OneInput.{all-read, one-some, never-both, one-list}
@@ -40,7 +40,7 @@ module _ (table : Entities) (how : Policy) (bytes : List ℕ) where
   one-of-two x y (accepted tokens errors sorted read p s whole) (refused_bytes refusal tokens' errors' read' r) = absurd (never-both refusal (refusal_of how bytes) r whole)
   one-of-two x y (accepted tokens errors sorted read p s whole) (accepted tokens' errors' sorted' read' p' s' whole') =
       let same = one_list_of_tokens table kind.None text (length bytes) tokens tokens' errors errors' read read' in
-      let lists = one-list (input_errors (decoded how bytes) ++ errors) (input_errors (decoded how bytes) ++ errors') sorted sorted' (IsPermutation-append_right (input_errors (decoded how bytes)) errors errors' same.1) p p' s s' in
+      let lists = one-list (input_errors (decoded how bytes) ++ errors) sorted sorted' p (subst (λ (es : List ParseError). IsPermutation (input_errors (decoded how bytes) ++ es) sorted') (sym same.1) p') s s' in
       ap (λ (ts : List Tok). Ok (ts, sorted)) same.0 ∙ ap (λ (es : List ParseError). Ok (tokens', es)) lists
 
 pub one-answer : OneAnswer

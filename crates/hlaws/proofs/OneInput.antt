@@ -23,7 +23,6 @@ one-some x y o e f = let same : Some x ≡ Some y = sym e ∙ f in cc
 pub never-both : {A : Type 0} (x : A) (o : Option A) → o ≡ Some x → o ≡ None → ⊥
 never-both x o e f = let clash : Some x ≡ None = sym e ∙ f in cc
 
--- errors of two texts that are permuted alike, in order
-pub one-list : (errors errors' all all' : List ParseError) → IsPermutation errors errors' → IsPermutation errors all → IsPermutation errors' all' → IsSorted error_cmp all → IsSorted error_cmp all' → all ≡ all'
-one-list errors errors' all all' same p p' =
-    sorted-once all all' (IsPermutation-trans all errors all' (IsPermutation-sym errors all p) (IsPermutation-trans errors errors' all' same p'))
+-- errors in order
+pub one-list : (errors all all' : List ParseError) → IsPermutation errors all → IsPermutation errors all' → IsSorted error_cmp all → IsSorted error_cmp all' → all ≡ all'
+one-list errors all all' p p' = sorted-once all all' (IsPermutation-trans all errors all' (IsPermutation-sym errors all p) p')

@@ -2,7 +2,6 @@
 use Rattle.std.proofs.Common.{◌≡◌, ℕ, List, [], ◌∷◌, ◌++◌, length, map, Option, None, Some, Result, Ok, Err, refl, sym, ap, ◌∙◌, subst, append-nil}
 use Rattle.std.specs.List.Sorted.{IsPermutation, IsSorted}
 use Rattle.std.proofs.lemmas.List.{map-append}
-use Rattle.std.proofs.lemmas.List.Sorted.{IsPermutation-sym, IsPermutation-trans, IsPermutation-append_left, IsPermutation-append_right}
 use Rattle.names.specs.declared.error.ParseError.{ParseError}
 use Rattle.names.specs.declared.placed.Placed.{Placed}
 use Rattle.names.specs.declared.raw.RawKind.{RawKind}
@@ -23,10 +22,10 @@ use Rattle.hmodes.specs.Step.{Step, Steps, none, and, refused}
 use Rattle.hmodes.proofs.Between.{texts-all, reached-orderly}
 use Rattle.hmodes.proofs.Ends.{some-step}
 use Rattle.hmodes.proofs.Single.{step-one}
-use Rattle.hlaws.specs.SomeCut.{HasAnswer, gives, refuses}
-use Rattle.hlaws.proofs.Fronts.{one_front, one_front_of_refused}
-use Rattle.hlaws.proofs.OneCut.{one_list_of_tokens, no_tokens_of_refused, one_refusal}
-use Rattle.hlaws.proofs.SomeCut.{some_answer}
+use Rattle.hcuts.specs.SomeCut.{HasAnswer, gives, refuses}
+use Rattle.hcuts.proofs.Fronts.{one_front, one_front_of_refused}
+use Rattle.hcuts.proofs.OneCut.{one_list_of_tokens, no_tokens_of_refused, one_refusal}
+use Rattle.hcuts.proofs.SomeCut.{some_answer}
 use Rattle.hparse.specs.Answer.{error_cmp}
 use Rattle.hparse.specs.Input.{reads_in, text_in}
 use Rattle.hparse.specs.Parse.{ParseOptions, ParseCase, document, fragment, Parse, Parses, manner, policy, start_of, begins, refused_token, refused_tag, refused_bytes, accepted}
@@ -66,7 +65,7 @@ reached-first opts document = reached.document opts.quirks opts.limits
 reached-first opts (fragment context) = reached.fragment context opts.limits
 
 -- tokens and nothing else as what a sink was handed
-given : (ts : List Tok) → tokens_in (map Gives ts) ≡ ts
+pub given : (ts : List Tok) → tokens_in (map Gives ts) ≡ ts
 given [] = refl
 given (t ∷ ts) = ap (λ (x : List Tok). t ∷ x) (given ts)
 
@@ -145,13 +144,13 @@ module _ (opts : ParseOptions) (parse_case : ParseCase) (bytes : List ℕ) where
 
   -- the text has tokens
   module _ (tokens : List Tok) (errors : List ParseError) (read : Tokens opts.table kind text end tokens errors) where
-    abbrev all_errors : List ParseError → State (List ℕ) → List ParseError
-    all_errors es state = input_errors (reads_in (manner opts parse_case) bytes) ++ (es ++ state.site.errors)
+    abbrev all_errors : State (List ℕ) → List ParseError
+    all_errors state = input_errors (reads_in (manner opts parse_case) bytes) ++ (errors ++ state.site.errors)
 
     data OfTokens (x : Result Parse Refusal) : Type 0 where
       by_rules : (r : Refusal) → Leads tokens (Refused r) → x ≡ Err r → OfTokens x
       by_bytes : (r : Refusal) (state : State (List ℕ)) → Leads tokens (Goes state) → refusal_of (policy opts parse_case) bytes ≡ Some r → x ≡ Err r → OfTokens x
-      whole : (state : State (List ℕ)) (es sorted : List ParseError) → Leads tokens (Goes state) → IsPermutation errors es → IsPermutation (all_errors es state) sorted → IsSorted error_cmp sorted
+      whole : (state : State (List ℕ)) (sorted : List ParseError) → Leads tokens (Goes state) → IsPermutation (all_errors state) sorted → IsSorted error_cmp sorted
           → refusal_of (policy opts parse_case) bytes ≡ None → x ≡ Ok (record { trees = state.site.nodes.trees; errors = sorted }) → OfTokens x
 
     of-tokens : (x : Result Parse Refusal) → Parses opts parse_case bytes x → OfTokens x
@@ -164,15 +163,13 @@ module _ (opts : ParseOptions) (parse_case : ParseCase) (bytes : List ℕ) where
         by_bytes r state (led builds.tokens tokens (Goes state) same.0 builds.steps) e refl
     of-tokens x (accepted es sorted state builds p s e) =
         let same = one_list_of_tokens opts.table kind text end tokens builds.tokens errors es read (at-end e builds.read) in
-        whole state es sorted (led builds.tokens tokens (Goes state) (sym same.0) builds.steps) same.1 p s e refl
+        whole state sorted (led builds.tokens tokens (Goes state) (sym same.0) builds.steps)
+        (subst (λ (x : List ParseError). IsPermutation (input_errors (reads_in (manner opts parse_case) bytes) ++ (x ++ state.site.errors)) sorted) (sym same.1) p) s e refl
 
-    one-tree : (state state' : State (List ℕ)) (es es' sorted sorted' : List ParseError) → state ≡ state' → IsPermutation errors es → IsPermutation errors es' → IsPermutation (all_errors es state) sorted → IsPermutation (all_errors es' state') sorted'
+    one-tree : (state state' : State (List ℕ)) (sorted sorted' : List ParseError) → state ≡ state' → IsPermutation (all_errors state) sorted → IsPermutation (all_errors state') sorted'
         → IsSorted error_cmp sorted → IsSorted error_cmp sorted' → ◌≡◌ {A = Parse} (record { trees = state.site.nodes.trees; errors = sorted }) (record { trees = state'.site.nodes.trees; errors = sorted' })
-    one-tree state state' es es' sorted sorted' same q q' p p' s s' =
-        let between : IsPermutation es es' = IsPermutation-trans es errors es' (IsPermutation-sym errors es q) q' in
-        let moved : IsPermutation (all_errors es state) (all_errors es' state) =
-        IsPermutation-append_right (input_errors (reads_in (manner opts parse_case) bytes)) (es ++ state.site.errors) (es' ++ state.site.errors) (IsPermutation-append_left state.site.errors es es' between) in
-        let lists : sorted ≡ sorted' = one-list (all_errors es state) (all_errors es' state) sorted sorted' moved p (subst (λ (u : State (List ℕ)). IsPermutation (all_errors es' u) sorted') (sym same) p') s s' in
+    one-tree state state' sorted sorted' same p p' s s' =
+        let lists : sorted ≡ sorted' = one-list (all_errors state) sorted sorted' p (subst (λ (u : State (List ℕ)). IsPermutation (all_errors u) sorted') (sym same) p') s s' in
         cc
 
     one-of-tokens : (x y : Result Parse Refusal) → OfTokens x → OfTokens y → x ≡ y
@@ -181,16 +178,16 @@ module _ (opts : ParseOptions) (parse_case : ParseCase) (bytes : List ℕ) where
         let refusals : r ≡ r' = cc in
         e ∙ ap (λ (q : Refusal). Err q) refusals ∙ sym f
     one-of-tokens x y (by_rules r h e) (by_bytes r' state k b f) = absurd (never-both-ways tokens r state h k)
-    one-of-tokens x y (by_rules r h e) (whole state es sorted k q p s b f) = absurd (never-both-ways tokens r state h k)
+    one-of-tokens x y (by_rules r h e) (whole state sorted k p s b f) = absurd (never-both-ways tokens r state h k)
     one-of-tokens x y (by_bytes r state h b e) (by_rules r' k f) = absurd (never-both-ways tokens r' state k h)
     one-of-tokens x y (by_bytes r state h b e) (by_bytes r' state' k b' f) = e ∙ ap (λ (q : Refusal). Err q) (one-some r r' (refusal_of (policy opts parse_case) bytes) b b') ∙ sym f
-    one-of-tokens x y (by_bytes r state h b e) (whole state' es sorted k q p s b' f) = absurd (never-both r (refusal_of (policy opts parse_case) bytes) b b')
-    one-of-tokens x y (whole state es sorted h q p s b e) (by_rules r k f) = absurd (never-both-ways tokens r state k h)
-    one-of-tokens x y (whole state es sorted h q p s b e) (by_bytes r state' k b' f) = absurd (never-both r (refusal_of (policy opts parse_case) bytes) b' b)
-    one-of-tokens x y (whole state es sorted h q p s b e) (whole state' es' sorted' k q' p' s' b' f) =
+    one-of-tokens x y (by_bytes r state h b e) (whole state' sorted k p s b' f) = absurd (never-both r (refusal_of (policy opts parse_case) bytes) b b')
+    one-of-tokens x y (whole state sorted h p s b e) (by_rules r k f) = absurd (never-both-ways tokens r state k h)
+    one-of-tokens x y (whole state sorted h p s b e) (by_bytes r state' k b' f) = absurd (never-both r (refusal_of (policy opts parse_case) bytes) b' b)
+    one-of-tokens x y (whole state sorted h p s b e) (whole state' sorted' k p' s' b' f) =
         let same = one-result tokens (Goes state) (Goes state') h k in
         let states : state ≡ state' = cc in
-        e ∙ ap (λ (t : Parse). Ok t) (one-tree state state' es es' sorted sorted' states q q' p p' s s') ∙ sym f
+        e ∙ ap (λ (t : Parse). Ok t) (one-tree state state' sorted sorted' states p p' s s') ∙ sym f
 
     only-tokens : (x : Result Parse Refusal) → Parses opts parse_case bytes x → ExactlyOne (Parses opts parse_case bytes)
     only-tokens x h = record { one = x; is = h; other = λ y k. one-of-tokens y x (of-tokens y k) (of-tokens x h) }
@@ -212,7 +209,7 @@ module _ (opts : ParseOptions) (parse_case : ParseCase) (bytes : List ℕ) where
         by : (r : Option Refusal) → refusal_of (policy opts parse_case) bytes ≡ r → ExactlyOne (Parses opts parse_case bytes)
         by (Some r) e = only-tokens (Err r) (refused_bytes r errors state (record { tokens = tokens; read = read; steps = steps }) e)
         by None e =
-            let all = all_errors errors state in
+            let all = all_errors state in
             let end_read = subst (λ (n : ℕ). Tokens opts.table kind text n tokens errors) (all-read (policy opts parse_case) bytes e) read in
             only-tokens (Ok (record { trees = state.site.nodes.trees; errors = in_order all }))
             (accepted errors (in_order all) state (record { tokens = tokens; read = end_read; steps = steps }) (order-permutes all) (order-sorted all) e)

@@ -2,7 +2,6 @@
 use Rattle.std.proofs.Common.{◌≡◌, ℕ, ◌⊎◌, inl, inr, Bool, true, false, not, cond, ◌&&◌, nat_lt, Option, Some, None, List, [], ◌∷◌, ◌++◌, map, length, refl, sym, ◌∙◌, ap, subst, append-nil, append_assoc}
 use Rattle.std.proofs.lemmas.Bool.{and_parts, false≢true}
 use Rattle.std.proofs.lemmas.List.{map-append}
-use Rattle.std.proofs.lemmas.List.Sorted.{IsPermutation-refl}
 use Rattle.std.proofs.lemmas.Str.{chars-nil, scalars-chars, IsUtf8-nil}
 use Rattle.std.specs.Prelude.{codes, chars, IsUtf8, flat_map}
 use Rattle.names.specs.declared.placed.Placed.{Placed}
@@ -305,7 +304,7 @@ module _ (table : Entities) (is_table : IsTable table) (core : HasCore table) (h
     utf8 = spells_utf8 bytes cs s;
     toks = cut.tokens_of c.spans ++ Eof (length bytes) ∷ [];
     errors = cut.errors_of c.spans ++ end_errors (length bytes) (standing_after (at_start k) c.spans);
-    read = record { spans = c.spans; text_is = sym c.text_is; cut = c.cut; tokens_are = refl; errors_are = IsPermutation-refl _; in_profile = c.in_profile };
+    read = record { spans = c.spans; text_is = sym c.text_is; cut = c.cut; tokens_are = refl; errors_are = refl; in_profile = c.in_profile };
     are = map-append taken (cut.tokens_of c.spans) (Eof (length bytes) ∷ []) ∙ ap (λ (x : List (Token (List ℕ))). x ++ eof ∷ []) c.tokens_are;
   }
 

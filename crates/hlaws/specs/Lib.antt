@@ -1,8 +1,5 @@
-pub mod OneCut
-pub mod SomeCut
-pub mod SomeEnd
-pub mod Held
 pub mod PlainTokens
 pub mod Building
 pub mod ComesBack
 pub mod OneAnswer
+pub mod Unrefused

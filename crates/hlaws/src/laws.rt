@@ -2,6 +2,7 @@
 
 ghost use Rattle.hlaws.specs.ComesBack.{PlainTokens, PlainBuilds, PlainComesBack};
 ghost use Rattle.hlaws.specs.OneAnswer.{OneAnswer, OneParse};
+ghost use Rattle.hlaws.specs.Unrefused.{FrontsOfAnswered, FrontsOfParsed, RulesRefuse, ProfileRefuses};
 
 /// A plain list of trees, as it is written, is read as its own tokens, in each context in which it is plain.
 pub fn plain_tokens()
@@ -29,4 +30,16 @@ pub fn one_answer()
 /// refused for, with the place.
 pub fn one_parse()
     ensures { OneParse }
+{}
+
+/// No run refuses a front of an input that is accepted, whatever was to follow.
+pub fn fronts_of_accepted()
+    ensures tokens { FrontsOfAnswered }
+    ensures tree { FrontsOfParsed }
+{}
+
+/// What is refused of the spans at the front of an input that are there whatever follows is refused whatever follows.
+pub fn refused_fronts()
+    ensures rules { RulesRefuse }
+    ensures profile { ProfileRefuses }
 {}

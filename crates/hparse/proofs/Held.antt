@@ -297,15 +297,15 @@ module _ {S : Type 0} (gives : S → ParseError → Result (Unit {0}) Refusal �
       (reports_given gives gives_token old.names (input_errors (bad_each at (suc n))) old.sink new.sink (Err e) opts))
 
   -- all are taken, and then the characters are fed
-  pub bad_fed : (n : ℕ) (mid : S) (answer : Result (Unit {0}) Refusal) → 0 < n → new.unfed ≡ [] → new.names ≡ old.names → new.stopped ≡ is_err answer → Hands gives old.sink (input_errors (bad_each at n)) (Ok tt) mid
-      → ((table : Entities) (start : RawKind) (names : Texts) (text : List Placed) (taken : List Event) → HasTaken table start old.tokenizer names text taken → Takes to_item table start text (replaced at n) taken names mid answer new.sink new.tokenizer)
+  pub bad_fed : (n : ℕ) (mid : S) (answer : Result (Unit {0}) Refusal) → 0 < n → new.unfed ≡ [] → Grows old.names new.names → new.stopped ≡ is_err answer → Hands gives old.sink (input_errors (bad_each at n)) (Ok tt) mid
+      → ((table : Entities) (start : RawKind) (before : Texts) (text : List Placed) (taken : List Event) → Grows before old.names → HasTaken table start old.tokenizer before text taken
+      → Takes to_item table start text (replaced at n) taken new.names mid answer new.sink new.tokenizer)
       → Hands (Proceeds to_item) old (items (bad_each at n)) answer new
-  bad_fed zero mid answer some all_fed names_are noted opts takes = absurd (omega (arith, some))
-  bad_fed (suc n) mid answer some all_fed names_are noted opts takes =
+  bad_fed zero mid answer some all_fed grows noted opts takes = absurd (omega (arith, some))
+  bad_fed (suc n) mid answer some all_fed grows noted opts takes =
       all_handed to_item old new answer none _ _ (λ m began before h.
-      holds_told to_item m began old new before h (subst (Grows old.names) (sym names_are) (grows_not old.names)) (items (bad_each at (suc n))) mid
+      holds_told to_item m began old new before h grows (items (bad_each at (suc n))) mid
       (subst (λ (es : List ParseError). HandsEvents to_item old.names old.sink (map Reports es) (Ok tt) mid) (sym (errors_of_bad (suc n) at))
       (reports_given gives gives_token old.names (input_errors (bad_each at (suc n))) old.sink mid (Ok tt) opts)) all_fed answer noted
       (subst (λ (ps : List Placed). Takes to_item m.table (start_kind m.start) (characters_among before) ps h.taken new.names mid answer new.sink new.tokenizer) (sym (characters_of_bad (suc n) at))
-      (subst (λ (t : Texts). Takes to_item m.table (start_kind m.start) (characters_among before) (replaced at (suc n)) h.taken t mid answer new.sink new.tokenizer) (sym names_are)
-      (takes m.table (start_kind m.start) old.names (characters_among before) h.taken h.has_taken))))
+      (takes m.table (start_kind m.start) old.names (characters_among before) h.taken (grows_not old.names) h.has_taken)))

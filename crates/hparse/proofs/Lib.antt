@@ -13,3 +13,4 @@ pub mod RunOf
 pub mod Sorting
 pub mod Trees
 pub mod Turns
+pub mod Unrefused

@@ -9,10 +9,9 @@ use Rattle.hparse.specs.declared.parsed.Parsed.{Parsed}
 use Rattle.hparse.specs.declared.parser.Parser.{Parser}
 use Rattle.hparse.specs.declared.reading.Reading.{Reading}
 use Rattle.hparse.specs.Fed.{FeedsPiece, piece_ran_out, piece_refused, piece_read, EndsInput, input_ran_out, input_comes}
-use Rattle.hparse.specs.Fed as fed
-use Rattle.hparse.specs.Input.{Manner, Began, IsRefusedFor, IsTaken}
+use Rattle.hparse.specs.Input.{IsRefusedFor, IsTaken}
 use Rattle.hparse.specs.Parse.{ParseCase, ParseOptions, Parses, manner}
-use Rattle.hparse.specs.Parsing.{builds, HasParsed, FeedsParser, feed_ran_out, feed_refused, feed_read, IsBuilt, IsUnrefused, AnswersParse, ShowsParse, parse_ran_out, parse_answered}
+use Rattle.hparse.specs.Parsing.{builds, HasParsed, FeedsParser, feed_ran_out, feed_refused, feed_read, IsBuilt, AnswersParse, ShowsParse, parse_ran_out, parse_answered}
 use Rattle.hparse.proofs.Built.{became}
 use Rattle.hparse.proofs.Pieces.{is_memory}
 use Rattle.hparse.proofs.Trees.{parses_refused, parses_taken}
@@ -20,10 +19,6 @@ use Rattle.hparse.proofs.Trees.{parses_refused, parses_taken}
 -- what is built of a builder that has refused nothing
 abbrev pub BuiltBy : Texts → Building → Result Parsed Refusal → Type 0
 BuiltBy names built result = built.refused ≡ None → MatchResult result (IsBuilt names built) (λ refusal. refusal ≡ Memory)
-
--- what a reading of the builder's has not refused
-abbrev pub IsUnrefusedBy : Manner → Began Building → List ℕ → Type 0
-IsUnrefusedBy m began = fed.IsUnrefused builds m began
 
 module _ (opts : ParseOptions) (parse_case : ParseCase) (bytes : List ℕ) (old : Parser) (h : HasParsed opts parse_case old bytes) where
   -- a piece that was read
@@ -62,21 +57,6 @@ module _ (opts : ParseOptions) (parse_case : ParseCase) (bytes : List ℕ) (old 
       | inl why ↦ parse_ran_out (ap (λ (x : Refusal). Err x) why)
       | inr p ↦ parse_answered p
     ]
-
-  -- what a reading has not refused the parser has not
-  pub unrefused : (all : List ℕ) → IsUnrefusedBy (manner opts parse_case) h.began all → IsUnrefused opts parse_case all
-  unrefused all (reading, read) = (
-    record old { reading = reading },
-    record {
-      accepts = h.accepts;
-      began = h.began;
-      unrefused = h.unrefused;
-      none_told = h.none_told;
-      root_is = h.root_is;
-      begins = h.begins;
-      has_read = read;
-    },
-  )
 
   -- a builder that took all of its input has refused nothing
   still_unrefused : (all : List ℕ) (names : Texts) (sink : Building) → IsTaken builds (manner opts parse_case) h.began all names sink → sink.refused ≡ None

@@ -3,6 +3,7 @@ use Rattle.std.proofs.Common.{◌≡◌, ℕ, ◌-◌, Bool, true, false, cond, 
 use Rattle.std.specs.Prelude.{◌⊎◌}
 use Rattle.std.specs.Str.Lossy.{utf8_valid_len}
 use Rattle.std.proofs.lemmas.Bool.{eqb-true}
+use Rattle.names.specs.Names.{AreNames}
 use Rattle.names.specs.declared.error.ParseError.{ParseError}
 use Rattle.names.specs.declared.placed.Placed.{Placed}
 use Rattle.names.specs.declared.refusal.Refusal.{Refusal}
@@ -160,8 +161,8 @@ module _ {S : Type 0} (gives : S → Item → Result (Unit {0}) Refusal → S �
     took feeding (took_all handed answered) = took_new (settled_in m bytes) (settled_in m (bytes ++ piece)) old.feeding feeding handed h.holds
 
     -- the piece was read
-    pub reads_piece : (new : Reading S) → HasFedPiece (Ok tt) new.feeding → HasFed new.decoder (bytes ++ piece) → new.decoder.how ≡ old.decoder.how → new.feeding.unfed ≡ [] → FeedsPiece gives m began (bytes ++ piece) (Ok tt) new
-    reads_piece new f fed how_is all = piece_read refl (record { fits = h.fits; how_is = how_is ∙ h.how_is; fed = fed; holds = took new.feeding (as_begun (Ok tt) new.feeding f); all_fed = all })
+    pub reads_piece : (new : Reading S) → HasFedPiece (Ok tt) new.feeding → HasFed new.decoder (bytes ++ piece) → new.decoder.how ≡ old.decoder.how → new.feeding.unfed ≡ [] → AreNames new.feeding.names → FeedsPiece gives m began (bytes ++ piece) (Ok tt) new
+    reads_piece new f fed how_is all are = piece_read refl (record { fits = h.fits; how_is = how_is ∙ h.how_is; fed = fed; holds = took new.feeding (as_begun (Ok tt) new.feeding f); all_fed = all; is_table = h.is_table; are_names = are })
 
     -- it was refused, and so is the input; `feeding` is as the refusal left it, and `new` as the end of its text did
     module _ (e answer : Refusal) (feeding : Intake S) (new : Reading S)

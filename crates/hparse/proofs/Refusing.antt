@@ -10,9 +10,9 @@ use Rattle.htext.specs.declared.BadBytes.{BadBytes}
 use Rattle.htext.specs.Items.{input_errors}
 use Rattle.htext.specs.Text.{decoded}
 use Rattle.charref.specs.Reference.{Entities}
-use Rattle.htoken.specs.Token.{Tok, Item}
+use Rattle.htoken.specs.Token.{Item}
 use Rattle.hparse.specs.Answer.{of_document, Answers, refused_text, refused_bytes, accepted}
-use Rattle.hparse.specs.Input.{Began, Handed, IsRefusedFor, by_sink, by_tag, by_bytes, IsTaken}
+use Rattle.hparse.specs.Input.{Began, IsRefusedFor, by_sink, by_tag, by_bytes, IsTaken}
 use Rattle.hparse.specs.Into.{as_document}
 use Rattle.hparse.proofs.Sorting.{in_order, order-permutes, order-sorted}
 

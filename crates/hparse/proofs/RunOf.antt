@@ -19,7 +19,7 @@ use Rattle.hparse.specs.Collecting.{IsRunOf}
 use Rattle.hparse.specs.Fed.{FeedsPiece, piece_ran_out, piece_refused, piece_read, EndsInput, input_ran_out, input_comes}
 use Rattle.hparse.specs.Input.{Began, IsRefusedFor, IsTaken}
 use Rattle.hparse.specs.Into.{as_document}
-use Rattle.hparse.specs.Shown.{Shows, AnswersRun, HasReadTokens}
+use Rattle.hparse.specs.Shown.{Shows, HasReadTokens}
 use Rattle.hparse.specs.Shown as shown
 use Rattle.hparse.specs.TokenRun.{TokensMean}
 use Rattle.hparse.proofs.Gathered.{collects, collects-refuses, tokens_gathered, errors_gathered}
@@ -30,33 +30,21 @@ module _ (table : Entities) (of : BadBytes) (limit : ℕ) where
   abbrev how : Policy
   how = of_document of limit
 
-  module _ (began : Began Collected) (bytes : List ℕ) (names : Texts) (now : Collected) where
-    module _ (no_tokens : began.sink.tokens.items ≡ []) (no_errors : began.sink.errors.items ≡ []) where
-      -- what was taken
-      pub answers_taken : (run : TokenRun) → IsTaken collects (as_document table of limit) began bytes names now → IsRunOf names now run → AnswersRun table how bytes (Ok run)
-      answers_taken run t r =
-          let all : List ParseError = input_errors (decoded how bytes) ++ t.errors in (
-            t.tokens,
-            subst (λ (n : Texts). TokensMean n run.tokens.items t.tokens) (sym r.names_are) (subst (λ (ts : List Token). TokensMean names ts t.tokens) (sym r.tokens_are) (tokens_gathered names began now t.tokens all t.handed no_tokens)),
-            accepted t.tokens t.errors run.errors.items t.read
-                (IsPermutation-trans all now.errors.items run.errors.items (errors_gathered names began now t.tokens all t.handed no_errors) r.errors_are) r.sorted t.whole,
-          )
-
-  -- or memory ran out
-  module _ (began : Began Collected) (names : Texts) (now : Collected) (no_tokens : began.sink.tokens.items ≡ []) (no_errors : began.sink.errors.items ≡ []) where
-    pub run_answers : (result : Result TokenRun Refusal) → MatchResult result (IsRunOf names now) (λ refusal. refusal ≡ Memory) → (bytes : List ℕ) → IsTaken collects (as_document table of limit) began bytes names now
-        → (result ≡ Err Memory) ⊎ AnswersRun table how bytes result
-    run_answers (Ok run) r bytes t = inr (answers_taken began bytes names now no_tokens no_errors run t r)
-    run_answers (Err e) r bytes t = inl (ap (λ (x : Refusal). Err x) r)
-
   module _ (bytes : List ℕ) where
     -- an answer is shown
     pub shows_refused : (e : Refusal) → (e ≡ Memory) ⊎ Answers table how bytes (Err e) → Shows table how bytes (Err e)
     shows_refused e (inl why) = shown.ran_out (ap (λ (x : Refusal). Err x) why)
     shows_refused e (inr answers) = shown.refuses e refl answers
 
-    pub shows_run : (run : TokenRun) → AnswersRun table how bytes (Ok run) → Shows table how bytes (Ok run)
-    shows_run run (tokens, mean, answers) = shown.accepts run tokens refl mean answers
+    -- what was taken
+    shows_taken : (began : Began Collected) (names : Texts) (now : Collected) → began.sink.tokens.items ≡ [] → began.sink.errors.items ≡ [] → (run : TokenRun) → IsTaken collects (as_document table of limit) began bytes names now
+        → IsRunOf names now run → Shows table how bytes (Ok run)
+    shows_taken began names now no_tokens no_errors run t r =
+        let all : List ParseError = input_errors (decoded how bytes) ++ t.errors in
+        shown.accepts run t.tokens refl
+        (subst (λ (n : Texts). TokensMean n run.tokens.items t.tokens) (sym r.names_are) (subst (λ (ts : List Token). TokensMean names ts t.tokens) (sym r.tokens_are) (tokens_gathered names began now t.tokens all t.handed no_tokens)))
+        (accepted t.tokens t.errors run.errors.items t.read
+        (IsPermutation-trans all now.errors.items run.errors.items (errors_gathered names began now t.tokens all t.handed no_errors) r.errors_are) r.sorted t.whole)
 
     module _ (old new : Reading Collected) (h : HasReadTokens table of limit old bytes) where
       -- the end of a document
@@ -66,7 +54,7 @@ module _ (table : Entities) (of : BadBytes) (limit : ℕ) where
 
       pub shows_all : (result : Result TokenRun Refusal) → EndsInput collects (as_document table of limit) h.began bytes (Ok tt) new → MatchResult result (IsRunOf new.feeding.names new.feeding.sink) (λ refusal. refusal ≡ Memory) → Shows table how bytes result
       shows_all result (input_ran_out is) r = absurd cc
-      shows_all (Ok run) (input_comes t) r = shows_run run (answers_taken h.began bytes new.feeding.names new.feeding.sink h.no_tokens h.no_errors run t r)
+      shows_all (Ok run) (input_comes t) r = shows_taken h.began new.feeding.names new.feeding.sink h.no_tokens h.no_errors run t r
       shows_all (Err e) (input_comes t) r = shown.ran_out (ap (λ (x : Refusal). Err x) r)
 
   module _ (fed : List ℕ) (old new : Reading Collected) (h : HasReadTokens table of limit old fed) (piece : List ℕ) where

@@ -63,7 +63,7 @@ module _ (opts : ParseOptions) (parse_case : ParseCase) (began : Began Building)
       ((steps_spelled numbers texts spell (table-agrees later are)).steps (map placed_number ts) began.sink.state o steps))
 
   -- where all of them were handed over
-  gone : (tokens : List Tok) (errors : List ParseError) → Handed builds names began tokens errors (Ok tt) now → Steps texts (map placed tokens) (begins opts parse_case) (Goes (spelled_state spell now.state))
+  pub gone : (tokens : List Tok) (errors : List ParseError) → Handed builds names began tokens errors (Ok tt) now → Steps texts (map placed tokens) (begins opts parse_case) (Goes (spelled_state spell now.state))
   gone tokens errors h = in_texts h.grows (tokens_handed h.items) tokens (Goes now.state) h.tokens_mean (became began.sink now h.items unrefused h.hands).steps
 
   -- a refusal, but for want of memory

@@ -10,15 +10,10 @@ use Rattle.names.specs.declared.refusal.Refusal.TheVariants.{Memory, Read}
 use Rattle.htext.specs.Text.{Policy, settled_len}
 use Rattle.htext.specs.Decoding.{Progress, HasFed}
 use Rattle.htext.proofs.Fronts.{front_le}
-use Rattle.names.specs.declared.placed.Placed.{Placed}
-use Rattle.htext.specs.Items.{CharItem, items, characters_among}
-use Rattle.htext.proofs.Texts.{characters_among-items}
-use Rattle.htoken.specs.Standing.{start_kind}
 use Rattle.htoken.specs.Token.{Item}
-use Rattle.htoken.specs.Tokenizing.{HasTaken}
 use Rattle.hparse.specs.declared.reading.Reading.{Reading}
-use Rattle.hparse.specs.Input.{Manner, Began, Comes, how_of, settled_in}
-use Rattle.hparse.specs.Fed.{HasRead, IsUnrefused, IsUnrefusedText, FeedsPiece, piece_ran_out, piece_refused, piece_read, EndsInput, input_ran_out, input_comes}
+use Rattle.hparse.specs.Input.{Manner, Began, Comes}
+use Rattle.hparse.specs.Fed.{HasRead, WasRead, FeedsPiece, piece_ran_out, piece_refused, piece_read, EndsInput, input_ran_out, input_comes}
 use Rattle.hparse.specs.Calls.{counted}
 use Rattle.hparse.specs.Reader.{IsRefusedFrom, ReadsInput, reading_ran_out, reading_failed, reading_stopped, read_to_end}
 use Rattle.hparse.proofs.Pieces.{has_read, is_memory}
@@ -74,14 +69,14 @@ module _ {S R : Type 0} (left : R → Option (List ℕ)) (failed : R → ℕ) (g
         omega (arith, length-append before h.fed)
 
     -- so none comes after more than that
-    pub no_turn : (most : ℕ) (come : List ℕ → Result (Unit {0}) Refusal → Type 0) (answer : Result (Unit {0}) Refusal) → m.limit + 3 < turn → ReadsInput left failed come (IsUnrefused gives m began) most before old now answer
+    pub no_turn : (most : ℕ) (come : List ℕ → Result (Unit {0}) Refusal → Type 0) (answer : Result (Unit {0}) Refusal) → m.limit + 3 < turn → ReadsInput left failed come (WasRead gives m began) most before old now answer
     no_turn most come answer many =
         let few : turn ≤ m.limit + 3 = few_turns in
         let never : ⊥ = omega arith in
         absurd never
 
-    unrefused : IsUnrefused gives m began (before ++ h.fed)
-    unrefused = (reading, h.has_read)
+    was_read : WasRead gives m began (before ++ h.fed)
+    was_read = (reading, h.has_read)
 
     module _ (new : R) (piece : List ℕ) (given : Consumes (left now) (left new) piece) (count : failed new ≡ failed now) where
       given_more : Consumes (left old) (left new) (h.fed ++ piece)
@@ -109,40 +104,24 @@ module _ {S R : Type 0} (left : R → Option (List ℕ)) (failed : R → ℕ) (g
         come bytes = Comes gives m began bytes next.feeding.names next.feeding.sink
 
         -- it was refused
-        pub refused_turn : (e : Refusal) → length piece ≤ most → FeedsPiece gives m began ((before ++ h.fed) ++ piece) (Err e) next → ReadsInput left failed come (IsUnrefused gives m began) most before old new (Err e)
+        pub refused_turn : (e : Refusal) → length piece ≤ most → FeedsPiece gives m began ((before ++ h.fed) ++ piece) (Err e) next → ReadsInput left failed come (WasRead gives m began) most before old new (Err e)
         refused_turn e few (piece_ran_out is) = reading_ran_out is unfailed
         refused_turn e few (piece_refused refusal is refused) =
             let same : refusal ≡ e = cc in
-            reading_stopped e h.fed piece refl unrefused (record { given = given_more; unfailed = unfailed })
+            reading_stopped e h.fed piece refl was_read (record { given = given_more; unfailed = unfailed })
             (subst (λ (x : List ℕ). IsRefusedFrom come x e) joined (subst (IsRefusedFrom come ((before ++ h.fed) ++ piece)) same refused)) few
         refused_turn e few (piece_read is k) = absurd cc
 
         -- nothing was left
-        pub ended : (answer : Result (Unit {0}) Refusal) → piece ≡ [] → IsAtEnd (left new) → EndsInput gives m began (before ++ h.fed) answer next → ReadsInput left failed come (IsUnrefused gives m began) most before old new answer
+        pub ended : (answer : Result (Unit {0}) Refusal) → piece ≡ [] → IsAtEnd (left new) → EndsInput gives m began (before ++ h.fed) answer next → ReadsInput left failed come (WasRead gives m began) most before old new answer
         ended answer none end (input_ran_out is) = reading_ran_out is unfailed
         ended answer none end (input_comes comes) =
-            read_to_end h.fed unrefused
+            read_to_end h.fed was_read
             (record { given = subst (Consumes (left old) (left new)) (ap (λ (x : List ℕ). h.fed ++ x) none ∙ append-nil h.fed) given_more; unfailed = unfailed }) end comes
 
     -- the read failed
-    pub failed_turn : (new : R) (most : ℕ) (come : List ℕ → Result (Unit {0}) Refusal → Type 0) → Keeps (left now) (left new) → failed new ≡ counted (failed now) → ReadsInput left failed come (IsUnrefused gives m began) most before old new (Err Read)
-    failed_turn new most come kept count = reading_failed h.fed refl unrefused (Consumes-kept (left old) (left now) (left new) h.fed h.given kept) (count ∙ ap counted h.unfailed)
-
--- what a reading has not refused its text has not
-pub unrefused_text : {S : Type 0} (gives : S → Item → Result (Unit {0}) Refusal → S → Type 0) (m : Manner) (began : Began S) (reading : Reading S) (bytes : List ℕ) → HasRead gives m began reading bytes → IsUnrefusedText m bytes
-unrefused_text gives m began reading bytes h =
-    let text = settled_in m bytes in
-    let all : h.holds.fed ≡ items text = sym (append-nil h.holds.fed) ∙ ap (λ (more : List CharItem). h.holds.fed ++ more) (sym h.all_fed) ∙ h.holds.items_are in
-    record {
-      decoder = reading.decoder;
-      how_is = h.how_is;
-      fed = h.fed;
-      tokenizer = reading.feeding.tokenizer;
-      names = reading.feeding.names;
-      taken = h.holds.was_fed.taken;
-      has_taken = subst (λ (cs : List Placed). HasTaken m.table (start_kind m.start) reading.feeding.tokenizer reading.feeding.names cs h.holds.was_fed.taken)
-          (ap characters_among all ∙ characters_among-items text) h.holds.was_fed.has_taken;
-    }
+    pub failed_turn : (new : R) (most : ℕ) (come : List ℕ → Result (Unit {0}) Refusal → Type 0) → Keeps (left now) (left new) → failed new ≡ counted (failed now) → ReadsInput left failed come (WasRead gives m began) most before old new (Err Read)
+    failed_turn new most come kept count = reading_failed h.fed refl was_read (Consumes-kept (left old) (left now) (left new) h.fed h.given kept) (count ∙ ap counted h.unfailed)
 
 -- What an input becomes is shown as an answer of another kind.
 module _ {R A B : Type 0} (left : R → Option (List ℕ)) (failed : R → ℕ) (come : List ℕ → Result A Refusal → Type 0) (answers : List ℕ → Result B Refusal → Type 0) (held stands : List ℕ → Type 0) (kept : (bytes : List ℕ) → held bytes → stands bytes)

@@ -1,30 +1,16 @@
 -- What a reading has read, and what its calls do. It began as `began`.
-use Rattle.std.specs.Prelude.{◌≡◌, ◌≤◌, ℕ, List, [], ◌++◌, map, Result, Ok, Err}
+use Rattle.std.specs.Prelude.{◌≡◌, ◌≤◌, ℕ, List, [], ◌++◌, Result, Ok, Err}
 use Rattle.names.specs.declared.refusal.Refusal.{Refusal}
 use Rattle.names.specs.declared.refusal.Refusal.TheVariants.{Memory}
 use Rattle.htext.specs.Items.{items}
-use Rattle.names.specs.Names.{Texts}
-use Rattle.htext.specs.Decoding.{HasFed, Progress}
-use Rattle.htext.specs.Text.{character_of}
+use Rattle.names.specs.Names.{AreNames}
+use Rattle.htext.specs.Decoding.{HasFed}
 use Rattle.htext.specs.declared.decoder.TheConstants.{MAX_INPUT}
-use Rattle.htoken.specs.Standing.{start_kind}
-use Rattle.htoken.specs.Token.{Event, Item}
-use Rattle.htoken.specs.Tokenizing.{HasTaken}
-use Rattle.htoken.specs.declared.tokenizer.Tokenizer.{Tokenizer}
+use Rattle.charref.specs.Reference.{IsTable}
+use Rattle.htoken.specs.Token.{Item}
 use Rattle.hparse.specs.declared.reading.Reading.{Reading}
 use Rattle.hparse.specs.Holding.{HoldsItems}
 use Rattle.hparse.specs.Input.{Manner, Began, how_of, settled_in, IsRefusedFor, Comes}
-
--- Nothing of the text of these bytes is refused, whatever follows them: a decoder was fed them, a tokenizer what is read of them, and
--- neither has refused anything.
-pub record IsUnrefusedText (m : Manner) (bytes : List ℕ) : Type 0 where
-  pub decoder : Progress
-  pub how_is : decoder.how ≡ how_of m
-  pub fed : HasFed decoder bytes
-  pub tokenizer : Tokenizer
-  pub names : Texts
-  pub taken : List Event
-  pub has_taken : HasTaken m.table (start_kind m.start) tokenizer names (map character_of (settled_in m bytes)) taken
 
 module _ {S : Type 0} (gives : S → Item → Result (Unit {0}) Refusal → S → Type 0) (m : Manner) (began : Began S) where
   -- The bytes were fed, in any pieces: the text that is read of them whatever follows is held.
@@ -34,10 +20,12 @@ module _ {S : Type 0} (gives : S → Item → Result (Unit {0}) Refusal → S �
     pub fed : HasFed reading.decoder bytes
     pub holds : HoldsItems gives m began reading.feeding (items (settled_in m bytes))
     pub all_fed : reading.feeding.unfed ≡ []
+    pub is_table : IsTable m.table
+    pub are_names : AreNames reading.feeding.names
 
-  -- nothing of the bytes is refused, whatever follows them: a reading that was fed them has refused nothing
-  abbrev pub IsUnrefused : List ℕ → Type 0
-  IsUnrefused bytes = (reading : Reading S) × HasRead reading bytes
+  -- a reading was fed them
+  abbrev pub WasRead : List ℕ → Type 0
+  WasRead bytes = (reading : Reading S) × HasRead reading bytes
 
   -- What feeding the last piece of these bytes does: memory ran out, or they are refused, whatever comes after, or they have been read.
   pub data FeedsPiece (bytes : List ℕ) (answer : Result (Unit {0}) Refusal) (new : Reading S) : Type 0 where

@@ -12,3 +12,4 @@ pub mod Reader
 pub mod Shown
 pub mod Taken
 pub mod TokenRun
+pub mod Unrefused

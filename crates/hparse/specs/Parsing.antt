@@ -52,10 +52,6 @@ pub record HasParsed (opts : ParseOptions) (parse_case : ParseCase) (parser : Pa
   pub begins : BeginsIn opts began.names parse_case began.sink.state
   pub has_read : HasRead builds (manner opts parse_case) began parser.reading bytes
 
--- nothing of the bytes is refused, whatever follows them: a parser that was fed them has refused nothing
-abbrev pub IsUnrefused : ParseOptions → ParseCase → List ℕ → Type 0
-IsUnrefused opts parse_case bytes = (parser : Parser) × HasParsed opts parse_case parser bytes
-
 -- What feeding the last piece of these bytes does: memory ran out, or they are refused, whatever comes after, or they have been read.
 pub data FeedsParser (opts : ParseOptions) (parse_case : ParseCase) (bytes : List ℕ) (answer : Result (Unit {0}) Refusal) (new : Parser) : Type 0 where
   feed_ran_out : answer ≡ Err Memory → FeedsParser opts parse_case bytes answer new

@@ -1,6 +1,6 @@
 -- What reading an input from a reader does. `left` says the bytes that the reader has left, where it says, and `failed` how many
--- of its calls have failed; `answers` says which are the answers of an input's bytes, and `unrefused` that nothing of them is refused,
--- whatever follows them.
+-- of its calls have failed; `answers` says which are the answers of an input's bytes, and `unrefused` that no run refuses them,
+-- whatever follows.
 use Rattle.std.specs.Prelude.{◌≡◌, ℕ, ◌≤◌, List, ◌++◌, length, Option, Result, Err}
 use Rattle.std.specs.Io.KnownBytes.{Consumes, IsAtEnd}
 use Rattle.names.specs.declared.refusal.Refusal.{Refusal}

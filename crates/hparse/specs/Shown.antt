@@ -23,12 +23,6 @@ pub data Shows (table : Entities) (how : Policy) (bytes : List ℕ) (result : Re
   accepts : (run : TokenRun) (tokens : List Tok) → result ≡ Ok run → TokensMean run.names run.tokens.items tokens
       → Answers table how bytes (Ok (tokens, run.errors.items)) → Shows table how bytes result
 
--- what a run is where memory did not run out
-abbrev pub AnswersRun : Entities → Policy → List ℕ → Result TokenRun Refusal → Type 0
-AnswersRun table how bytes (Ok run) = (tokens : List Tok) × TokensMean run.names run.tokens.items tokens
-    × Answers table how bytes (Ok (tokens, run.errors.items))
-AnswersRun table how bytes (Err refusal) = Answers table how bytes (Err refusal)
-
 -- The bytes of a document have been read, whose tokens and errors are collected.
 pub record HasReadTokens (table : Entities) (bad : BadBytes) (limit : ℕ) (reading : Reading Collected) (bytes : List ℕ) : Type 0 where
   pub began : Began Collected

@@ -3,6 +3,7 @@
 ghost use Rattle.std.specs.Prelude.{◌≡◌, ◌+◌, ◌≤◌, List, [], true};
 ghost use Rattle.names.specs.Names.{AreNames};
 ghost use Rattle.names.specs.Sink.{Hands};
+ghost use Rattle.charref.specs.Reference.{IsTable};
 ghost use Rattle.htext.specs.declared.decoder.TheConstants.{MAX_INPUT};
 ghost use Rattle.htext.specs.Items.{CharItem, bad_each, input_errors};
 ghost use Rattle.htoken.specs.Token.{gives_item};
@@ -63,9 +64,12 @@ impl<'t, S: TokenSink> Feeding<'t, S> {
         sink: S,
     ) -> Feeding<'t, S>
         ensures all_fed { result.unfed ≡ [] }
+        ensures table { IsTable table.now }
+        ensures names { AreNames result.names }
         ensures holds { (m : Manner) → m.table ≡ table.now → m.start ≡ start
             → HoldsItems (gives_item S.gives S.gives_token) m (record { names = names; sink = sink }) result [] }
     {
+        names.are_names();
         Feeding {
             names,
             tokenizer: Tokenizer::new(alloc, table, start),
@@ -143,14 +147,16 @@ impl<'t, S: TokenSink> CharSink for Feeding<'t, S> {
     }
 
     fn take_bad(&mut self, count: usize, at: u64) -> Result<(), Refusal> {
-        if count == 0 || !self.tokenizer.takes_bad() {
-            return self.take_bad_by_one(count, at);
+        if count == 0 {
+            return Ok(());
         }
         if let Err(refusal) = tell_bad(count, at, &mut self.sink) {
             self.stopped = true;
             return Err(refusal);
         }
-        let answer = self.tokenizer.feed_bad(count, at, &mut self.sink);
+        let answer = self
+            .tokenizer
+            .feed_bad(&mut self.names, count, at, &mut self.sink);
         self.stopped = answer.is_err();
         answer
     }

@@ -23,6 +23,6 @@ pub use hmodes::Limits;
 pub use options::Options;
 pub use parsed::Parsed;
 pub use parser::{Parser, parse_reader};
-pub use reader::{read_into, read_tokens};
+pub use reader::read_into;
 pub use source::Source;
 pub use token_run::TokenRun;

@@ -5,7 +5,8 @@ ghost use Rattle.names.specs.declared.refusal.Refusal.{Refusal as Refused};
 ghost use Rattle.names.specs.declared.refusal.Refusal.TheVariants.{BadContext, Memory};
 ghost use Rattle.hparse.specs.Parse.{ParseCase, ParseOptions, document, fragment, is_context};
 ghost use Rattle.hparse.specs.Reader.{ReadsInput};
-ghost use Rattle.hparse.specs.Parsing.{AnswersParse, FeedsParser, HasParsed, IsBuilt, IsMadeOf, IsUnrefused, ShowsParse, options_of};
+ghost use Rattle.hparse.specs.Parsing.{AnswersParse, FeedsParser, HasParsed, IsBuilt, IsMadeOf, ShowsParse, options_of};
+ghost use Rattle.hparse.specs.Unrefused.{IsUnrefused};
 
 use crate::context::is_context;
 use crate::errors::sort_errors;

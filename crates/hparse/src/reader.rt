@@ -2,37 +2,18 @@
 
 ghost use Rattle.std.specs.Prelude.{◌<◌, ◌≤◌, ℕ, List, []};
 ghost use Rattle.htoken.specs.Token.{gives_item};
-ghost use Rattle.hparse.specs.Fed.{HasRead, IsUnrefused, IsUnrefusedText};
-ghost use Rattle.hparse.specs.Answer.{of_document};
+ghost use Rattle.hparse.specs.Fed.{HasRead, WasRead};
 ghost use Rattle.hparse.specs.Input.{Manner, Began, Comes};
 ghost use Rattle.hparse.specs.Into.{as_document, ComesInto};
 ghost use Rattle.hparse.specs.Reader.{ReadsInput};
-ghost use Rattle.hparse.specs.Shown.{AnswersRun};
+ghost use Rattle.hparse.specs.Unrefused.{IsUnrefusedText};
 
-use crate::collect::Collected;
 use crate::options::Options;
 use crate::reading::Reading;
 use crate::source::Source;
-use crate::token_run::TokenRun;
 use htoken::{Start, TokenSink};
 use names::{Names, Refusal};
 use std::alloc::Global;
-
-/// The tokens of a document that a reader gives, in pieces of at most this many bytes. Reading goes on to the end, unless a read
-/// fails or a piece brings a refusal.
-pub fn read_tokens<R: Source>(
-    alloc: Global,
-    piece: usize,
-    options: &Options,
-    source: &mut R,
-) -> Result<TokenRun, Refusal>
-    requires piece { 0 < piece }
-    ensures { ReadsInput R.left R.failed (AnswersRun options.now.table.now (of_document options.now.bad_bytes options.now.limits.input))
-        (IsUnrefusedText (as_document options.now.table.now options.now.bad_bytes options.now.limits.input)) piece [] source.old source.new result }
-{
-    let (names, collected) = read_into(alloc, piece, options, Collected::new(alloc), source)?;
-    collected.into_run(names)
-}
 
 /// Hands the tokens and the parse errors of a document that a reader gives to a sink, as they come: it is read in pieces of at
 /// most this many bytes, and reading goes on to the end, unless a read fails or a piece brings a refusal. The answer is the table
@@ -70,7 +51,7 @@ pub(crate) fn read_to_end<S: TokenSink, R: Source>(
     requires { 0 < piece }
     ensures { (m : Manner) (began : Began S) (fed : List ℕ) → HasRead (gives_item S.gives S.gives_token) m began reading.old fed
         → ReadsInput R.left R.failed (λ bytes. Comes (gives_item S.gives S.gives_token) m began bytes reading.new.feeding.names reading.new.feeding.sink)
-        (IsUnrefused (gives_item S.gives S.gives_token) m began) piece fed source.old source.new result }
+        (WasRead (gives_item S.gives S.gives_token) m began) piece fed source.old source.new result }
 {
     let mut buffer = vec![in alloc; 0u8; piece]?;
     for _turn in 0..u64::MAX {

@@ -56,6 +56,7 @@ impl<'t, S: TokenSink> Reading<'t, S> {
         match self.decoder.feed(piece, &mut self.feeding) {
             Ok(()) => {
                 self.feeding.all_fed();
+                self.feeding.are_names();
                 Ok(())
             }
             Err(refusal) => Err(self.feeding.refuse(refusal)),

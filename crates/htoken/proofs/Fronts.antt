@@ -26,7 +26,6 @@ use Rattle.htoken.specs.Tokens.{tokens_in, IsRefused, AreFront}
 use Rattle.htoken.specs.Handing.{HandsEvents}
 use Rattle.htoken.specs.Steps.{TakesFront, TakesPart}
 use Rattle.htoken.specs.Tokenizing.{HasTaken, Takes, take_ran_out, take_refused, take_sink_refused, take_took}
-use Rattle.htoken.proofs.Going.{takes_after}
 use Rattle.htoken.proofs.Handing.{HandsEvents-append}
 
 -- what was handed over stands for the same when the table of names has grown

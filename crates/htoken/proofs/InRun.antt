@@ -65,6 +65,17 @@ pub replaced_itself : (n at : ℕ) → all is_itself (replaced at n) ≡ true
 replaced_itself zero at = refl
 replaced_itself (suc n) at = replaced_itself n (at + 1)
 
+-- bad parts after others
+pub replaced_more : (m n at : ℕ) → replaced at (m + n) ≡ replaced at m ++ replaced (at + m) n
+replaced_more zero n at =
+    let none : 0 + n ≡ n = omega arith in
+    let here : at ≡ at + 0 = omega arith in
+    ap (λ (k : ℕ). replaced at k) none ∙ ap (λ (k : ℕ). replaced k n) here
+replaced_more (suc m) n at =
+    let long : suc m + n ≡ suc (m + n) = omega arith in
+    let place : at + 1 + m ≡ at + suc m = omega arith in
+    ap (λ (k : ℕ). replaced at k) long ∙ ap (λ (ps : List Placed). record { ch = 0xFFFD; at = at } ∷ ps) (replaced_more m n (at + 1) ∙ ap (λ (k : ℕ). replaced (at + 1) m ++ replaced k n) place)
+
 module _ (c : ℕ) (h : is_itself c ≡ true) where
   no_less : eqb c 60 ≡ false
   no_less = grind (arith, nat_tests)
@@ -75,20 +86,20 @@ module _ (c : ℕ) (h : is_itself c ≡ true) where
   no_null : eqb c 0 ≡ false
   no_null = grind (arith, nat_tests)
 
--- where they may be fed as a run, text is that is no script
-pub ready_text : (s : State) (script accepts : Bool) → (is_text s && not script && accepts) ≡ true → (s ≡ state.Text) × (script ≡ false)
-ready_text state.Text false accepts h = (refl, refl)
-ready_text state.Text true accepts h = absurd cc
-ready_text state.Less script accepts h = absurd cc
-ready_text (state.LessSolidus x) script accepts h = absurd cc
-ready_text (state.Declaration x y) script accepts h = absurd cc
-ready_text state.Comment script accepts h = absurd cc
-ready_text state.Doctype script accepts h = absurd cc
-ready_text state.Tag script accepts h = absurd cc
-ready_text state.Reference script accepts h = absurd cc
-ready_text (state.Run x) script accepts h = absurd cc
-ready_text state.RawLess script accepts h = absurd cc
-ready_text (state.RawName x) script accepts h = absurd cc
+-- where they may be taken as a run, text is that is no script
+pub ready_text : (s : State) (script : Bool) → (is_text s && not script) ≡ true → (s ≡ state.Text) × (script ≡ false)
+ready_text state.Text false h = (refl, refl)
+ready_text state.Text true h = absurd cc
+ready_text state.Less script h = absurd cc
+ready_text (state.LessSolidus x) script h = absurd cc
+ready_text (state.Declaration x y) script h = absurd cc
+ready_text state.Comment script h = absurd cc
+ready_text state.Doctype script h = absurd cc
+ready_text state.Tag script h = absurd cc
+ready_text state.Reference script h = absurd cc
+ready_text (state.Run x) script h = absurd cc
+ready_text state.RawLess script h = absurd cc
+ready_text (state.RawName x) script h = absurd cc
 
 -- WHERE THE NEXT CHARACTER STANDS
 

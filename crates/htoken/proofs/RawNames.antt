@@ -1,5 +1,5 @@
--- The names of raw texts are letters: wherever raw text is after a start tag, its name says the kind.
-use Rattle.std.proofs.Common.{◌≡◌, ℕ, zero, suc, Bool, true, false, not, cond, ◌||◌, List, [], ◌∷◌, length, sym, refl, ap, ◌∙◌, subst, Some, arith}
+-- The names of raw texts are lower letters: wherever raw text is after a start tag, its name says the kind.
+use Rattle.std.proofs.Common.{◌≡◌, ℕ, zero, suc, Bool, true, false, not, cond, ◌||◌, ◌&&◌, eqb, List, [], ◌∷◌, length, sym, refl, ap, ◌∙◌, subst, Some, arith}
 use Rattle.std.proofs.lemmas.Bool.Decides.{nat_tests}
 use Rattle.names.proofs.TableLemmas.{bytes_eq-true}
 use Rattle.std.specs.Prelude.{slice_get, bytes_eq}
@@ -16,9 +16,13 @@ use Rattle.htoken.specs.Token.{Tok, Span, Start, End, Char, Comment, Doctype, Eo
 use Rattle.htoken.specs.Standing.{Standing, at_start, after_tokens, next, standing_after}
 use Rattle.htoken.specs.Raw.{is_raw}
 
+-- a lower letter
+abbrev pub is_lower : ℕ → Bool
+is_lower c = is_letter c && eqb (to_ascii_lowercase c) c
+
 abbrev pub is_word : List ℕ → Bool
 is_word [] = false
-is_word (c ∷ cs) = list_all is_letter (c ∷ cs)
+is_word (c ∷ cs) = list_all is_lower (c ∷ cs)
 
 abbrev fits : Tag → Bool
 fits t = not (is_raw (raw_kind t)) || is_word (tag_text t)
@@ -61,15 +65,16 @@ pub raw_word : (start : RawKind) (spans : List Span) (here : Standing) (name : L
 raw_word start spans here name leads e raw = subst HasWord leads (spans_word (at_start start) spans (λ name none raw. absurd cc)) name e raw
 
 -- a word has a character, and each of its bytes is a letter in any case
-letter_at : (text : List ℕ) (n c : ℕ) → list_all is_letter text ≡ true → slice_get text n ≡ Some c → is_letter c ≡ true
+letter_at : (text : List ℕ) (n c : ℕ) → list_all is_lower text ≡ true → slice_get text n ≡ Some c → is_letter c ≡ true
 letter_at [] n c h e = absurd cc
-letter_at (x ∷ xs) zero c h e = let same : x ≡ c = cc in ap is_letter (sym same) ∙ (and_parts (is_letter x) (list_all is_letter xs) h).0
-letter_at (x ∷ xs) (suc n) c h e = letter_at xs n c (and_parts (is_letter x) (list_all is_letter xs) h).1 e
+letter_at (x ∷ xs) zero c h e =
+    let same : x ≡ c = cc in ap is_letter (sym same) ∙ (and_parts (is_letter x) (eqb (to_ascii_lowercase x) x) (and_parts (is_lower x) (list_all is_lower xs) h).0).0
+letter_at (x ∷ xs) (suc n) c h e = letter_at xs n c (and_parts (is_lower x) (list_all is_lower xs) h).1 e
 
 letter_lowered : (c : ℕ) → is_letter (to_ascii_lowercase c) ≡ true → is_letter c ≡ true
 letter_lowered c h = grind (arith, nat_tests)
 
-letters_of : (word : List ℕ) → is_word word ≡ true → list_all is_letter word ≡ true
+pub letters_of : (word : List ℕ) → is_word word ≡ true → list_all is_lower word ≡ true
 letters_of [] h = absurd cc
 letters_of (c ∷ cs) h = h
 

@@ -105,16 +105,44 @@ impl<'t> Tokenizer<'t> {
         answer
     }
 
-    /// Whether the characters that replace bad bytes may be fed as a run: nothing is held, and no script is followed.
-    pub fn takes_bad(&self) -> bool
-        ensures { result ≡ takes_bad self.now }
-    {
-        matches!(self.state, State::Text) && !self.is_in_script() && self.refused.is_none()
-    }
-
     /// Takes the characters that replace this many bad parts of one byte each, the first of which is at `place`. It is the same as
     /// feeding them one by one.
     pub fn feed_bad<S: TokenSink>(
+        &mut self,
+        names: &mut Names,
+        count: usize,
+        place: u64,
+        sink: &mut S,
+    ) -> Result<(), Refusal>
+        requires within { place + count ≤ MAX_INPUT }
+        ensures takes { (table : Entities) (start : Kind) (before : Texts) (text : List Character) (taken : List Event) → Grows before names.old
+            → HasTaken table start self.old before text taken
+            → Takes (gives_item S.gives S.gives_token) table start text (replaced place count) taken names.new sink.old result sink.new self.new }
+        ensures grows { Grows names.old names.new }
+
+        // After a refusal every later call returns the same one, and hands over nothing.
+        ensures refused { IfErr result (λ refusal. self.new.refused ≡ Some refusal) }
+        ensures again { (refusal : Refused) → self.old.refused ≡ Some refusal → (result ≡ Err refusal) × (sink.new ≡ sink.old) × (names.new ≡ names.old) }
+    {
+        if let Some(refusal) = self.refused {
+            return Err(refusal);
+        }
+        if count > 0 && self.takes_bad() {
+            self.bad_as_run(count, place, sink)
+        } else {
+            self.bad_by_one(names, count, place, sink)
+        }
+    }
+
+    /// Whether the characters that replace bad bytes may be taken as a run: nothing is held, and no script is followed.
+    fn takes_bad(&self) -> bool
+        ensures { result ≡ takes_bad self.now }
+    {
+        matches!(self.state, State::Text) && !self.is_in_script()
+    }
+
+    /// Takes them as a run.
+    fn bad_as_run<S: TokenSink>(
         &mut self,
         count: usize,
         place: u64,
@@ -133,6 +161,29 @@ impl<'t> Tokenizer<'t> {
             Ok(()) => Ok(()),
             Err(refusal) => self.refuse(refusal),
         }
+    }
+
+    /// Takes them one by one.
+    fn bad_by_one<S: TokenSink>(
+        &mut self,
+        names: &mut Names,
+        count: usize,
+        place: u64,
+        sink: &mut S,
+    ) -> Result<(), Refusal>
+        requires within { place + count ≤ MAX_INPUT }
+        ensures takes { (table : Entities) (start : Kind) (before : Texts) (text : List Character) (taken : List Event) → Grows before names.old
+            → HasTaken table start self.old before text taken
+            → Takes (gives_item S.gives S.gives_token) table start text (replaced place count) taken names.new sink.old result sink.new self.new }
+        ensures grows { Grows names.old names.new }
+        ensures refused { IfErr result (λ refusal. self.new.refused ≡ Some refusal) }
+    {
+        let mut fed = 0;
+        while fed < count {
+            self.feed_char(names, char::REPLACEMENT_CHARACTER, place + fed as u64, sink)?;
+            fed += 1;
+        }
+        Ok(())
     }
 
     /// Takes a run of clean characters, a part after another.

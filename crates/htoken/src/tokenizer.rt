@@ -6,7 +6,7 @@ ghost use Rattle.names.specs.declared.raw.RawKind.{RawKind as Kind};
 ghost use Rattle.names.specs.declared.refusal.Refusal.{Refusal as Refused};
 ghost use Rattle.names.specs.Names.{Texts, Grows};
 ghost use Rattle.names.specs.Sink.{Hands};
-ghost use Rattle.charref.specs.Reference.{Entities};
+ghost use Rattle.charref.specs.Reference.{Entities, IsTable};
 ghost use Rattle.htoken.specs.Token.{Event, gives_item};
 ghost use Rattle.htoken.specs.Giving.{items_of};
 ghost use Rattle.htoken.specs.HeldFrom.{HoldsFrom, from_of};
@@ -56,7 +56,8 @@ pub(crate) fn after(place: u64) -> u64
 impl<'t> Tokenizer<'t> {
     /// A tokenizer of a text that begins so. References are those of the table.
     pub fn new(alloc: Global, table: &'t Table, start: Start) -> Tokenizer<'t>
-        ensures { (names : Texts) → HasTaken table.now (start_kind start) result names [] [] }
+        ensures table { IsTable table.now }
+        ensures taken { (names : Texts) → HasTaken table.now (start_kind start) result names [] [] }
     {
         Tokenizer {
             alloc,

@@ -7,7 +7,7 @@ use Rattle.htext.specs.declared.BadBytes.{BadBytes}
 use Rattle.charref.specs.Reference.{Entities}
 use Rattle.htoken.specs.Token.{Tok, Item, ItemToken, ItemError, gives_item}
 use Rattle.hparse.specs.Answer.{of_document}
-use Rattle.hparse.specs.Fed.{IsUnrefusedText}
+use Rattle.hparse.specs.Unrefused.{IsUnrefusedText}
 use Rattle.hparse.specs.Input.{tokens_handed}
 use Rattle.hparse.specs.Into.{as_document, begins, ComesInto}
 use Rattle.hparse.specs.Reader.{ReadsInput}

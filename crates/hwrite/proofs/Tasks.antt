@@ -2,8 +2,8 @@
 use Rattle.std.proofs.Common.{◌≡◌, ◌∙◌, ◌⊎◌, inl, inr, ℕ, List, Option, Result, Ok, ap, refl, subst, sym}
 use Rattle.names.specs.declared.refusal.Refusal.{Refusal}
 use Rattle.hparse.specs.Answer.{Answers}
-use Rattle.hparse.specs.Fed.{IsUnrefusedText}
-use Rattle.hparse.specs.Parsing.{AnswersParse, IsUnrefused}
+use Rattle.hparse.specs.Parsing.{AnswersParse}
+use Rattle.hparse.specs.Unrefused.{IsUnrefused, IsUnrefusedText}
 use Rattle.hparse.specs.Parse.{Parses, ParseOptions, document, manner, policy}
 use Rattle.hparse.specs.declared.parsed.Parsed.{Parsed}
 use Rattle.hserialize.specs.Output.{WritesText}

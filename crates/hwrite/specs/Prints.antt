@@ -12,8 +12,7 @@ use Rattle.hplain.specs.Plain.{is_plain}
 use Rattle.hserialize.specs.Written.{written}
 use Rattle.hserialize.specs.declared.escaping.Escaping.{Escaping}
 use Rattle.hparse.specs.Answer.{Answers}
-use Rattle.hparse.specs.Fed.{IsUnrefusedText}
-use Rattle.hparse.specs.Parsing.{IsUnrefused}
+use Rattle.hparse.specs.Unrefused.{IsUnrefused, IsUnrefusedText}
 use Rattle.hparse.specs.declared.parsed.Parsed.{Parsed}
 use Rattle.hparse.specs.Parse.{Parse, Parses, ParseCase, document, fragment, ParseOptions, manner, policy, root_of}
 use Rattle.hwrite.specs.declared.command.Task.{Task}
@@ -64,7 +63,7 @@ abbrev pub prints_of : Escaping → Task → Option (List ℕ) → ParseOptions 
 prints_of escaping task.Tokens context opts = Prints (Answers opts.table (policy opts document)) tokens_text
 prints_of escaping other context opts = Prints (Parses opts (case_in context)) (parse_text escaping other (case_in context))
 
--- nothing of the bytes is refused, whatever follows them
+-- no run refuses these bytes, whatever follows them
 abbrev pub unrefused_of : Task → Option (List ℕ) → ParseOptions → List ℕ → Type 0
 unrefused_of task.Tokens context opts = IsUnrefusedText (manner opts document)
 unrefused_of other context opts = IsUnrefused opts (case_in context)

@@ -1,6 +1,6 @@
 -- What a run over a reader and a writer does. Of a reader `left` says the bytes that it has left, where it says, and `failed`
 -- how many of its calls have failed; of a writer `written` says the bytes that it has taken, where it says. `prints` says what is
--- printed of an input's bytes: a text, or nothing where they are refused; `unrefused` that nothing of them is refused, whatever follows.
+-- printed of an input's bytes: a text, or nothing where they are refused; `unrefused` that no run refuses them, whatever follows.
 use Rattle.std.specs.Prelude.{◌≡◌, ◌⊎◌, ℕ, ◌≤◌, List, [], ◌++◌, length, Option, Result, Ok, Err}
 use Rattle.std.specs.Io.KnownBytes.{Keeps, Appends, Consumes, IsAtEnd}
 use Rattle.names.specs.declared.refusal.Refusal.{Refusal}

@@ -23,7 +23,7 @@ const NODES: u32 = 1_000;
 pub fn grow(alloc: Global, context: &str, words: &str) -> Result<Grown, Refusal>
     ensures { IfOk result IsGrown }
 {
-    let mut names = Names::new(alloc, Keys::for_tests())?;
+    let mut names = Names::new(alloc, Keys::for_tests());
     let mut tree = Tree::new(alloc, NODES)?;
     let name = names.intern(alloc, context)?;
     let root = tree.create_element(name, Vec::new(alloc), 0)?;

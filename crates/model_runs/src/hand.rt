@@ -23,7 +23,7 @@ impl Hand {
     pub fn new(alloc: Global) -> Result<Self, AllocError> {
         let out = Answers::new(alloc)?;
         let tree = Tree::new(alloc, 1)?;
-        let names = Names::new(alloc, Keys::for_tests())?;
+        let names = Names::new(alloc, Keys::for_tests());
         Ok(Hand {
             alloc,
             tree,

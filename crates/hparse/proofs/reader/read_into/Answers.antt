@@ -1,10 +1,12 @@
 use Rattle.std.proofs.Common.{[], inr, sym, subst}
 use Rattle.names.specs.Names.{Texts}
 use Rattle.htoken.specs.Token.{gives_item}
-use Rattle.hparse.specs.Fed.{HasRead, IsUnrefused, IsUnrefusedText}
+use Rattle.hparse.specs.Fed.{HasRead, WasRead}
+use Rattle.hparse.specs.Unrefused.{IsUnrefusedText}
 use Rattle.hparse.specs.Input.{Comes, IsTaken}
 use Rattle.hparse.specs.Into.{as_document, begins, ComesInto}
-use Rattle.hparse.proofs.Turns.{not_read, made, unrefused_text}
+use Rattle.hparse.proofs.Turns.{not_read, made}
+use Rattle.hparse.proofs.Unrefused.{unrefused_text}
 use Rattle.hparse.proofs.reader.read_into.Goals as goal
 
 pub returns-in-Err : goal.returns-in-Err
@@ -14,7 +16,7 @@ returns-in-Err g c =
     let began = begins c.args.sink in
     let feeding = c.read_to_end.new.reading.feeding in
     let start = subst (λ (names : Texts). HasRead gives m (record { names = names; sink = c.args.sink }) c.new-reading.result []) c.in_ok-names.ensures.known c.new-reading.ensures in
-    not_read g.R.Source.left g.R.Source.failed (λ bytes. Comes gives m began bytes feeding.names feeding.sink) (ComesInto gives m c.args.sink) (IsUnrefused gives m began) (IsUnrefusedText m)
+    not_read g.R.Source.left g.R.Source.failed (λ bytes. Comes gives m began bytes feeding.names feeding.sink) (ComesInto gives m c.args.sink) (WasRead gives m began) (IsUnrefusedText m)
     (λ bytes u. unrefused_text gives m began u.0 bytes u.1) c.args.piece [] c.args.source.now c.read_to_end.new.source
     c.in-Err.refusal (λ bytes r. inr (feeding.names, feeding.sink, r)) (c.in-Err.ensures m began [] start)
 
@@ -26,7 +28,7 @@ returns-in-Ok g c =
     let feeding = c.read_to_end.new.reading.feeding in
     let start = subst (λ (names : Texts). HasRead gives m (record { names = names; sink = c.args.sink }) c.new-reading.result []) c.in_ok-names.ensures.known c.new-reading.ensures in
     let read = c.into_parts.result in
-    made g.R.Source.left g.R.Source.failed (λ bytes. Comes gives m began bytes feeding.names feeding.sink) (ComesInto gives m c.args.sink) (IsUnrefused gives m began) (IsUnrefusedText m)
+    made g.R.Source.left g.R.Source.failed (λ bytes. Comes gives m began bytes feeding.names feeding.sink) (ComesInto gives m c.args.sink) (WasRead gives m began) (IsUnrefusedText m)
     (λ bytes u. unrefused_text gives m began u.0 bytes u.1) c.args.piece [] c.args.source.now c.read_to_end.new.source
     tt _ (λ bytes t. inr (subst (λ now. IsTaken gives m began bytes read.0 now) (sym c.into_parts.ensures.sink)
     (subst (λ (names : Texts). IsTaken gives m began bytes names feeding.sink) (sym c.into_parts.ensures.names) t))) (c.in-Ok.ensures m began [] start)

@@ -1,5 +1,5 @@
 use Rattle.std.proofs.Common.{[], subst}
-use Rattle.hparse.specs.Parsing.{IsUnrefused}
+use Rattle.hparse.specs.Unrefused.{IsUnrefused}
 use Rattle.hparse.specs.Parsing.{options_of}
 use Rattle.hwrite.specs.Command.{name_of}
 use Rattle.hwrite.specs.Context.{case_in}

@@ -1,6 +1,6 @@
 use Rattle.std.proofs.lemmas.Result.{err_from_is_err_and}
 use Rattle.hparse.specs.Answer.{Answers, of_document}
-use Rattle.hparse.specs.Fed.{IsUnrefusedText}
+use Rattle.hparse.specs.Unrefused.{IsUnrefusedText}
 use Rattle.hparse.specs.Into.{as_document}
 use Rattle.hwrite.specs.Draft.{AnswersDraft}
 use Rattle.hwrite.specs.Prints.{printed, not_printed, tokens_text, Prints}

@@ -13,7 +13,7 @@ returns-clause-holds g c = λ m table_is start_is. record {
   was_fed = record {
     taken = [];
     has_taken = subst (λ t. HasTaken t (start_kind m.start) c.new.result c.args.names [] []) (sym table_is)
-        (subst (λ s. HasTaken c.args.table.now (start_kind s) c.new.result c.args.names [] []) (sym start_is) (c.new.ensures c.args.names));
+        (subst (λ s. HasTaken c.args.table.now (start_kind s) c.new.result c.args.names [] []) (sym start_is) (c.new.ensures.taken c.args.names));
     handed = handed_none (gives_item g.S.ErrorSink.gives g.S.TokenSink.gives_token) _;
     unstopped = refl;
   };

@@ -1,0 +1,17 @@
+pub mod Words
+pub mod OneValue
+pub mod OnePart
+pub mod OneTag
+pub mod CutClasses
+pub mod OneData
+pub mod OneSpan
+pub mod OneCut
+pub mod SomePart
+pub mod SomeTag
+pub mod SomeData
+pub mod Shapes
+pub mod SomeCut
+pub mod Fronts
+pub mod SomeEnd
+pub mod Held
+pub mod Settled

@@ -1,0 +1,389 @@
+-- One part of a tag at most is at the front of the text after its name.
+use Rattle.std.proofs.Common.{◌≡◌, ℕ, Bool, true, false, not, ◌&&◌, ◌||◌, ◌==◌, eqb, if◌then◌else◌, List, [], ◌∷◌, ◌++◌, drop, None, sym, refl, ap, ◌∙◌, subst, codes, append_assoc, append-nil}
+use Rattle.std.proofs.lemmas.Bool.{false≢true, eqb-true}
+use Rattle.names.specs.declared.error.ParseError.{ParseError}
+use Rattle.names.specs.declared.error.ErrorCode.TheVariants.{MissingAttributeValue, MissingWhitespaceBetweenAttributes, UnexpectedSolidusInTag}
+use Rattle.names.specs.declared.placed.Placed.{Placed}
+use Rattle.names.specs.Placed.{characters, place, begins, stops, all, RunsTo, past, is_empty, is_space, is_equals, is_greater, is_quote, error_if}
+use Rattle.hmarkup.proofs.Marks.{and_parts, and_both, eqb_self, first_is}
+use Rattle.hmarkup.proofs.Characters.{quote_is, quote_not_space}
+use Rattle.charref.specs.Reference.{Entities, Piece}
+use Rattle.htag.specs.Value.{AreValue, pieces_text, value_bytes}
+use Rattle.htag.specs.Tag.{Part, IsPart, IsAttributeName, ends_name, ends_attribute_name, ends_unquoted, is_sign, value_errors, unquoted_errors, attribute_part, space, solidus, bare, no_value, unquoted, quoted, unclosed}
+use Rattle.hcuts.proofs.Words.{heads, tails, same_mark, one_run, goes_no_further, begins_more, single, no_mark}
+use Rattle.hcuts.proofs.OneValue.{one_value}
+
+-- THE END OF AN ATTRIBUTE: what is after `=` and the white space round it
+
+data IsTail (table : Entities) (end : ℕ) (rest tail : List Placed) (value : List ℕ) (errors : List ParseError) : Type 0 where
+  nothing : tail ≡ [] → stops is_greater rest ≡ true → value ≡ [] → errors ≡ error_if (not (is_empty rest)) MissingAttributeValue (place end rest) → IsTail table end rest tail value errors
+  plain : (pieces : List Piece) → tail ≡ pieces_text pieces → begins (λ c. not (ends_unquoted c || is_quote c)) (pieces_text pieces) ≡ true → RunsTo ends_unquoted (pieces_text pieces) rest → AreValue table pieces
+      → value ≡ value_bytes pieces → errors ≡ unquoted_errors pieces → IsTail table end rest tail value errors
+  closed : (q : Placed) (close : List Placed) (pieces : List Piece) → tail ≡ q ∷ (pieces_text pieces ++ close) → is_quote q.ch ≡ true → all (λ c. not (c == q.ch)) (pieces_text pieces) ≡ true → AreValue table pieces
+      → characters close ≡ q.ch ∷ [] → value ≡ value_bytes pieces → errors ≡ value_errors pieces ++ error_if (not (stops ends_name rest)) MissingWhitespaceBetweenAttributes (place end rest) → IsTail table end rest tail value errors
+  unended : (q : Placed) (pieces : List Piece) → tail ≡ q ∷ pieces_text pieces → is_quote q.ch ≡ true → all (λ c. not (c == q.ch)) (pieces_text pieces) ≡ true → AreValue table pieces
+      → rest ≡ [] → value ≡ value_bytes pieces → errors ≡ value_errors pieces → IsTail table end rest tail value errors
+
+data PartKind : Type 0 where
+  Nothing : PartKind
+  Plain : PartKind
+  Quoted : PartKind
+
+abbrev kind_by : Bool → Bool → PartKind
+kind_by true quote = Nothing
+kind_by false true = Quoted
+kind_by false false = Plain
+
+abbrev kind_of : List Placed → PartKind
+kind_of [] = Nothing
+kind_of (p ∷ ps) = kind_by (is_greater p.ch) (is_quote p.ch)
+
+nothing_kind : (rest : List Placed) → stops is_greater rest ≡ true → (kind_of rest ≡ Nothing) × (begins is_space rest ≡ false)
+nothing_kind [] h = (refl, refl)
+nothing_kind (p ∷ ps) h = (ap (λ (b : Bool). kind_by b (is_quote p.ch)) h, ap is_space (eqb-true p.ch 62 h))
+
+plain_by : (a b c : Bool) → not ((a || b) || c) ≡ true → (kind_by b c ≡ Plain) × (a ≡ false)
+plain_by true b c h = absurd (false≢true h)
+plain_by false true c h = absurd (false≢true h)
+plain_by false false true h = absurd (false≢true h)
+plain_by false false false h = (refl, refl)
+
+plain_kind : (text : List Placed) → begins (λ c. not (ends_unquoted c || is_quote c)) text ≡ true → (kind_of text ≡ Plain) × (begins is_space text ≡ false)
+plain_kind [] h = absurd (false≢true h)
+plain_kind (p ∷ ps) h = plain_by (is_space p.ch) (is_greater p.ch) (is_quote p.ch) h
+
+quoted_kind : (q : Placed) (more : List Placed) → is_quote q.ch ≡ true → (kind_of (q ∷ more) ≡ Quoted) × (is_space q.ch ≡ false)
+quoted_kind q more h = (quote_is q.ch h (λ c. kind_by (is_greater c) (is_quote c) ≡ Quoted) refl refl, quote_not_space q.ch h)
+
+record IsSame (rest rest' tail tail' : List Placed) (value value' : List ℕ) (errors errors' : List ParseError) : Type 0 where
+  tails_are : tail ≡ tail'
+  rests : rest ≡ rest'
+  values : value ≡ value'
+  errors_are : errors ≡ errors'
+
+module _ (table : Entities) (end : ℕ) where
+  tail_kind : (rest tail : List Placed) (value : List ℕ) (errors : List ParseError) → IsTail table end rest tail value errors → begins is_space (tail ++ rest) ≡ false
+  tail_kind rest tail value errors (nothing t s v es) = ap (λ (x : List Placed). begins is_space (x ++ rest)) t ∙ (nothing_kind rest s).1
+  tail_kind rest tail value errors (plain pieces t b runs are v es) =
+      ap (λ (x : List Placed). begins is_space (x ++ rest)) t ∙ (plain_kind (pieces_text pieces ++ rest) (begins_more _ (pieces_text pieces) rest b)).1
+  tail_kind rest tail value errors (closed q close pieces t is a are c v es) = ap (λ (x : List Placed). begins is_space (x ++ rest)) t ∙ quote_not_space q.ch is
+  tail_kind rest tail value errors (unended q pieces t is a are r v es) = ap (λ (x : List Placed). begins is_space (x ++ rest)) t ∙ quote_not_space q.ch is
+
+  not_mark : (q : Placed) (close rest : List Placed) → characters close ≡ q.ch ∷ [] → begins (λ c. not (c == q.ch)) (close ++ rest) ≡ false
+  not_mark q [] rest h = absurd cc
+  not_mark q (p ∷ ps) rest h = ap (λ (c : ℕ). not (eqb c q.ch)) (first_is p ps q.ch [] h) ∙ ap not (eqb_self q.ch)
+
+  -- inside quotes
+  inside : (q q' : Placed) (pieces pieces' : List Piece) (after after' : List Placed) → all (λ c. not (c == q.ch)) (pieces_text pieces) ≡ true → all (λ c. not (c == q'.ch)) (pieces_text pieces') ≡ true
+      → AreValue table pieces → AreValue table pieces' → begins (λ c. not (c == q.ch)) after ≡ false → begins (λ c. not (c == q'.ch)) after' ≡ false
+      → q ∷ (pieces_text pieces ++ after) ≡ q' ∷ (pieces_text pieces' ++ after') → (q ≡ q') × (pieces ≡ pieces') × (after ≡ after')
+  inside q q' pieces pieces' after after' a a' are are' s s' e =
+      let first : q ≡ q' = heads q q' (pieces_text pieces ++ after) (pieces_text pieces' ++ after') e in
+      let back : q'.ch ≡ q.ch = ap (λ (p : Placed). p.ch) (sym first) in
+      let same = one_run (λ c. not (c == q.ch)) (pieces_text pieces) after (pieces_text pieces') after' a s
+      (subst (λ (k : ℕ). all (λ c. not (c == k)) (pieces_text pieces') ≡ true) back a') (subst (λ (k : ℕ). begins (λ c. not (c == k)) after' ≡ false) back s')
+      (tails q q' (pieces_text pieces ++ after) (pieces_text pieces' ++ after') e) in
+      (first, one_value table pieces pieces' are are' same.0, same.1)
+
+  module _ (rest rest' tail tail' : List Placed) (value value' : List ℕ) (errors errors' : List ParseError) (e : tail ++ rest ≡ tail' ++ rest') where
+    clash : (a b : PartKind) → kind_of (tail ++ rest) ≡ a → kind_of (tail' ++ rest') ≡ b → a ≡ b
+    clash a b h k = sym h ∙ ap kind_of e ∙ k
+
+    kind_at : (x y : List Placed) (k : PartKind) → x ≡ y → kind_of (y ++ rest) ≡ k → kind_of (x ++ rest) ≡ k
+    kind_at x y k t h = ap (λ (z : List Placed). kind_of (z ++ rest)) t ∙ h
+
+    kind_at' : (x y : List Placed) (k : PartKind) → x ≡ y → kind_of (y ++ rest') ≡ k → kind_of (x ++ rest') ≡ k
+    kind_at' x y k t h = ap (λ (z : List Placed). kind_of (z ++ rest')) t ∙ h
+
+    one_tail : IsTail table end rest tail value errors → IsTail table end rest' tail' value' errors' → IsSame rest rest' tail tail' value value' errors errors'
+    one_tail (nothing t s v es) (nothing t' s' v' es') =
+        let rests : rest ≡ rest' = ap (λ (x : List Placed). x ++ rest) (sym t) ∙ e ∙ ap (λ (x : List Placed). x ++ rest') t' in
+        record { tails_are = t ∙ sym t'; rests = rests; values = v ∙ sym v'; errors_are = es ∙ ap (λ (x : List Placed). error_if (not (is_empty x)) MissingAttributeValue (place end x)) rests ∙ sym es' }
+    one_tail (plain pieces t b runs are v es) (plain pieces' t' b' runs' are' v' es') =
+        let whole : pieces_text pieces ++ rest ≡ pieces_text pieces' ++ rest' = ap (λ (x : List Placed). x ++ rest) (sym t) ∙ e ∙ ap (λ (x : List Placed). x ++ rest') t' in
+        let same = one_run (λ c. not (ends_unquoted c)) (pieces_text pieces) rest (pieces_text pieces') rest' runs.passes_none (goes_no_further ends_unquoted rest runs.stops_after) runs'.passes_none (goes_no_further ends_unquoted rest' runs'.stops_after) whole in
+        let value_is : pieces ≡ pieces' = one_value table pieces pieces' are are' same.0 in
+        record { tails_are = t ∙ same.0 ∙ sym t'; rests = same.1; values = v ∙ ap value_bytes value_is ∙ sym v'; errors_are = es ∙ ap unquoted_errors value_is ∙ sym es' }
+    one_tail (closed q close pieces t is a are c v es) (closed q' close' pieces' t' is' a' are' c' v' es') =
+        let whole : q ∷ (pieces_text pieces ++ (close ++ rest)) ≡ q' ∷ (pieces_text pieces' ++ (close' ++ rest')) =
+        ap (λ (x : List Placed). q ∷ x) (sym (append_assoc (pieces_text pieces) close rest)) ∙ ap (λ (x : List Placed). x ++ rest) (sym t) ∙ e ∙ ap (λ (x : List Placed). x ++ rest') t' ∙ ap (λ (x : List Placed). q' ∷ x) (append_assoc (pieces_text pieces') close' rest') in
+        let same = inside q q' pieces pieces' (close ++ rest) (close' ++ rest') a a' are are' (not_mark q close rest c) (not_mark q' close' rest' c') whole in
+        let closes = same_mark (q.ch ∷ []) close rest close' rest' c (c' ∙ ap (λ (p : Placed). p.ch ∷ []) (sym same.0)) same.2 in
+        record {
+          tails_are = t ∙ ap (λ (p : Placed). p ∷ (pieces_text pieces ++ close)) same.0 ∙ ap (λ (ps : List Piece). q' ∷ (pieces_text ps ++ close)) same.1 ∙ ap (λ (x : List Placed). q' ∷ (pieces_text pieces' ++ x)) closes.0 ∙ sym t';
+          rests = closes.1;
+          values = v ∙ ap value_bytes same.1 ∙ sym v';
+          errors_are = es ∙ ap (λ (ps : List Piece). value_errors ps ++ error_if (not (stops ends_name rest)) MissingWhitespaceBetweenAttributes (place end rest)) same.1
+              ∙ ap (λ (x : List Placed). value_errors pieces' ++ error_if (not (stops ends_name x)) MissingWhitespaceBetweenAttributes (place end x)) closes.1 ∙ sym es';
+        }
+    one_tail (unended q pieces t is a are r v es) (unended q' pieces' t' is' a' are' r' v' es') =
+        let whole : q ∷ (pieces_text pieces ++ []) ≡ q' ∷ (pieces_text pieces' ++ []) =
+        ap (λ (x : List Placed). q ∷ (pieces_text pieces ++ x)) (sym r) ∙ ap (λ (x : List Placed). x ++ rest) (sym t) ∙ e ∙ ap (λ (x : List Placed). x ++ rest') t' ∙ ap (λ (x : List Placed). q' ∷ (pieces_text pieces' ++ x)) r' in
+        let same = inside q q' pieces pieces' [] [] a a' are are' refl refl whole in
+        record {
+          tails_are = t ∙ ap (λ (p : Placed). p ∷ pieces_text pieces) same.0 ∙ ap (λ (ps : List Piece). q' ∷ pieces_text ps) same.1 ∙ sym t';
+          rests = r ∙ sym r';
+          values = v ∙ ap value_bytes same.1 ∙ sym v';
+          errors_are = es ∙ ap value_errors same.1 ∙ sym es';
+        }
+    one_tail (closed q close pieces t is a are c v es) (unended q' pieces' t' is' a' are' r' v' es') =
+        let whole : q ∷ (pieces_text pieces ++ (close ++ rest)) ≡ q' ∷ (pieces_text pieces' ++ []) =
+        ap (λ (x : List Placed). q ∷ x) (sym (append_assoc (pieces_text pieces) close rest)) ∙ ap (λ (x : List Placed). x ++ rest) (sym t) ∙ e ∙ ap (λ (x : List Placed). x ++ rest') t' ∙ ap (λ (x : List Placed). q' ∷ (pieces_text pieces' ++ x)) r' in
+        let same = inside q q' pieces pieces' (close ++ rest) [] a a' are are' (not_mark q close rest c) refl whole in
+        absurd (no_mark q.ch close rest c (sym same.2))
+    one_tail (unended q pieces t is a are r v es) (closed q' close' pieces' t' is' a' are' c' v' es') =
+        let whole : q ∷ (pieces_text pieces ++ []) ≡ q' ∷ (pieces_text pieces' ++ (close' ++ rest')) =
+        ap (λ (x : List Placed). q ∷ (pieces_text pieces ++ x)) (sym r) ∙ ap (λ (x : List Placed). x ++ rest) (sym t) ∙ e ∙ ap (λ (x : List Placed). x ++ rest') t' ∙ ap (λ (x : List Placed). q' ∷ x) (append_assoc (pieces_text pieces') close' rest') in
+        let same = inside q q' pieces pieces' [] (close' ++ rest') a a' are are' refl (not_mark q' close' rest' c') whole in
+        absurd (no_mark q'.ch close' rest' c' same.2)
+    one_tail (nothing t s v es) (plain pieces' t' b' runs' are' v' es') =
+        let no_way = clash Nothing Plain (kind_at tail [] Nothing t (nothing_kind rest s).0) (kind_at' tail' (pieces_text pieces') Plain t' (plain_kind (pieces_text pieces' ++ rest') (begins_more _ (pieces_text pieces') rest' b')).0) in absurd cc
+    one_tail (nothing t s v es) (closed q' close' pieces' t' is' a' are' c' v' es') =
+        let no_way = clash Nothing Quoted (kind_at tail [] Nothing t (nothing_kind rest s).0) (kind_at' tail' (q' ∷ (pieces_text pieces' ++ close')) Quoted t' (quoted_kind q' ((pieces_text pieces' ++ close') ++ rest') is').0) in absurd cc
+    one_tail (nothing t s v es) (unended q' pieces' t' is' a' are' r' v' es') =
+        let no_way = clash Nothing Quoted (kind_at tail [] Nothing t (nothing_kind rest s).0) (kind_at' tail' (q' ∷ pieces_text pieces') Quoted t' (quoted_kind q' (pieces_text pieces' ++ rest') is').0) in absurd cc
+    one_tail (plain pieces t b runs are v es) (nothing t' s' v' es') =
+        let no_way = clash Plain Nothing (kind_at tail (pieces_text pieces) Plain t (plain_kind (pieces_text pieces ++ rest) (begins_more _ (pieces_text pieces) rest b)).0) (kind_at' tail' [] Nothing t' (nothing_kind rest' s').0) in absurd cc
+    one_tail (plain pieces t b runs are v es) (closed q' close' pieces' t' is' a' are' c' v' es') =
+        let no_way = clash Plain Quoted (kind_at tail (pieces_text pieces) Plain t (plain_kind (pieces_text pieces ++ rest) (begins_more _ (pieces_text pieces) rest b)).0) (kind_at' tail' (q' ∷ (pieces_text pieces' ++ close')) Quoted t' (quoted_kind q' ((pieces_text pieces' ++ close') ++ rest') is').0) in absurd cc
+    one_tail (plain pieces t b runs are v es) (unended q' pieces' t' is' a' are' r' v' es') =
+        let no_way = clash Plain Quoted (kind_at tail (pieces_text pieces) Plain t (plain_kind (pieces_text pieces ++ rest) (begins_more _ (pieces_text pieces) rest b)).0) (kind_at' tail' (q' ∷ pieces_text pieces') Quoted t' (quoted_kind q' (pieces_text pieces' ++ rest') is').0) in absurd cc
+    one_tail (closed q close pieces t is a are c v es) (nothing t' s' v' es') =
+        let no_way = clash Quoted Nothing (kind_at tail (q ∷ (pieces_text pieces ++ close)) Quoted t (quoted_kind q ((pieces_text pieces ++ close) ++ rest) is).0) (kind_at' tail' [] Nothing t' (nothing_kind rest' s').0) in absurd cc
+    one_tail (closed q close pieces t is a are c v es) (plain pieces' t' b' runs' are' v' es') =
+        let no_way = clash Quoted Plain (kind_at tail (q ∷ (pieces_text pieces ++ close)) Quoted t (quoted_kind q ((pieces_text pieces ++ close) ++ rest) is).0) (kind_at' tail' (pieces_text pieces') Plain t' (plain_kind (pieces_text pieces' ++ rest') (begins_more _ (pieces_text pieces') rest' b')).0) in absurd cc
+    one_tail (unended q pieces t is a are r v es) (nothing t' s' v' es') =
+        let no_way = clash Quoted Nothing (kind_at tail (q ∷ pieces_text pieces) Quoted t (quoted_kind q (pieces_text pieces ++ rest) is).0) (kind_at' tail' [] Nothing t' (nothing_kind rest' s').0) in absurd cc
+    one_tail (unended q pieces t is a are r v es) (plain pieces' t' b' runs' are' v' es') =
+        let no_way = clash Quoted Plain (kind_at tail (q ∷ pieces_text pieces) Quoted t (quoted_kind q (pieces_text pieces ++ rest) is).0) (kind_at' tail' (pieces_text pieces') Plain t' (plain_kind (pieces_text pieces' ++ rest') (begins_more _ (pieces_text pieces') rest' b')).0) in absurd cc
+
+-- WHAT A SIGN IS
+
+record IsSplitSign (sign : List Placed) : Type 0 where
+  front : List Placed
+  equals : Placed
+  back : List Placed
+  sign_is : sign ≡ front ++ (equals ∷ back)
+  front_spaces : all is_space front ≡ true
+  equals_is : equals.ch ≡ 61
+  back_spaces : all is_space back ≡ true
+
+split_by : (p : Placed) (ps : List Placed) (b : Bool) → is_space p.ch ≡ b → (is_sign ps ≡ true → IsSplitSign ps)
+    → (begins is_equals (if not b then p ∷ ps else past is_space ps) && all is_space (drop 1 (if not b then p ∷ ps else past is_space ps))) ≡ true → IsSplitSign (p ∷ ps)
+split_by p ps true e next h =
+    let k = next h in
+    record { front = p ∷ k.front; equals = k.equals; back = k.back; sign_is = ap (λ (x : List Placed). p ∷ x) k.sign_is; front_spaces = and_both (is_space p.ch) (all is_space k.front) e k.front_spaces; equals_is = k.equals_is; back_spaces = k.back_spaces }
+split_by p ps false e next h =
+    let k = and_parts (is_equals p.ch) (all is_space ps) h in
+    record { front = []; equals = p; back = ps; sign_is = refl; front_spaces = refl; equals_is = eqb-true p.ch 61 k.0; back_spaces = k.1 }
+
+split_sign : (sign : List Placed) → is_sign sign ≡ true → IsSplitSign sign
+split_sign [] h = absurd (false≢true h)
+split_sign (p ∷ ps) h = split_by p ps (is_space p.ch) refl (split_sign ps) h
+
+equals_no_space : (p : Placed) (more : List Placed) → p.ch ≡ 61 → begins is_space (p ∷ more) ≡ false
+equals_no_space p more h = ap is_space h
+
+one_sign : (sign sign' x x' : List Placed) → is_sign sign ≡ true → is_sign sign' ≡ true → begins is_space x ≡ false → begins is_space x' ≡ false → sign ++ x ≡ sign' ++ x' → (sign ≡ sign') × (x ≡ x')
+one_sign sign sign' x x' h h' s s' e =
+    let k = split_sign sign h in
+    let k' = split_sign sign' h' in
+    let whole : k.front ++ (k.equals ∷ (k.back ++ x)) ≡ k'.front ++ (k'.equals ∷ (k'.back ++ x')) =
+    sym (append_assoc k.front (k.equals ∷ k.back) x) ∙ ap (λ (y : List Placed). y ++ x) (sym k.sign_is) ∙ e ∙ ap (λ (y : List Placed). y ++ x') k'.sign_is ∙ append_assoc k'.front (k'.equals ∷ k'.back) x' in
+    let fronts = one_run is_space k.front (k.equals ∷ (k.back ++ x)) k'.front (k'.equals ∷ (k'.back ++ x')) k.front_spaces (equals_no_space k.equals (k.back ++ x) k.equals_is) k'.front_spaces (equals_no_space k'.equals (k'.back ++ x') k'.equals_is) whole in
+    let backs = one_run is_space k.back x k'.back x' k.back_spaces s k'.back_spaces s' (tails k.equals k'.equals (k.back ++ x) (k'.back ++ x') fronts.1) in (
+      k.sign_is ∙ ap (λ (y : List Placed). y ++ (k.equals ∷ k.back)) fronts.0 ∙ ap (λ (p : Placed). k'.front ++ (p ∷ k.back)) (heads k.equals k'.equals (k.back ++ x) (k'.back ++ x') fronts.1)
+          ∙ ap (λ (y : List Placed). k'.front ++ (k'.equals ∷ y)) backs.0 ∙ sym k'.sign_is,
+      backs.1,
+    )
+
+-- a sign is past white space
+has_by : (p : Placed) (ps x : List Placed) (b : Bool) → (is_sign ps ≡ true → begins is_equals (past is_space (ps ++ x)) ≡ true)
+    → (begins is_equals (if not b then p ∷ ps else past is_space ps) && all is_space (drop 1 (if not b then p ∷ ps else past is_space ps))) ≡ true → begins is_equals (if not b then p ∷ (ps ++ x) else past is_space (ps ++ x)) ≡ true
+has_by p ps x true next h = next h
+has_by p ps x false next h = (and_parts (is_equals p.ch) (all is_space ps) h).0
+
+sign_follows : (sign x : List Placed) → is_sign sign ≡ true → begins is_equals (past is_space (sign ++ x)) ≡ true
+sign_follows [] x h = absurd (false≢true h)
+sign_follows (p ∷ ps) x h = has_by p ps x (is_space p.ch) (sign_follows ps x) h
+
+-- ATTRIBUTES
+
+data IsAttribute (table : Entities) (end : ℕ) (rest others : List Placed) (value : List ℕ) (errors : List ParseError) : Type 0 where
+  without : others ≡ [] → begins is_equals (past is_space rest) ≡ false → value ≡ [] → errors ≡ [] → IsAttribute table end rest others value errors
+  valued : (sign tail : List Placed) → others ≡ sign ++ tail → is_sign sign ≡ true → IsTail table end rest tail value errors → IsAttribute table end rest others value errors
+
+module _ (table : Entities) (end : ℕ) (rest rest' others others' : List Placed) (value value' : List ℕ) (errors errors' : List ParseError) (e : others ++ rest ≡ others' ++ rest') where
+  one_attribute : IsAttribute table end rest others value errors → IsAttribute table end rest' others' value' errors' → IsSame rest rest' others others' value value' errors errors'
+  one_attribute (without o n v es) (without o' n' v' es') =
+      record { tails_are = o ∙ sym o'; rests = ap (λ (x : List Placed). x ++ rest) (sym o) ∙ e ∙ ap (λ (x : List Placed). x ++ rest') o'; values = v ∙ sym v'; errors_are = es ∙ sym es' }
+  one_attribute (without o n v es) (valued sign' tail' o' s' t') =
+      let whole : rest ≡ sign' ++ (tail' ++ rest') = ap (λ (x : List Placed). x ++ rest) (sym o) ∙ e ∙ ap (λ (x : List Placed). x ++ rest') o' ∙ append_assoc sign' tail' rest' in
+      absurd (false≢true (sym n ∙ ap (λ (x : List Placed). begins is_equals (past is_space x)) whole ∙ sign_follows sign' (tail' ++ rest') s'))
+  one_attribute (valued sign tail o s t) (without o' n' v' es') =
+      let whole : rest' ≡ sign ++ (tail ++ rest) = ap (λ (x : List Placed). x ++ rest') (sym o') ∙ sym e ∙ ap (λ (x : List Placed). x ++ rest) o ∙ append_assoc sign tail rest in
+      absurd (false≢true (sym n' ∙ ap (λ (x : List Placed). begins is_equals (past is_space x)) whole ∙ sign_follows sign (tail ++ rest) s))
+  one_attribute (valued sign tail o s t) (valued sign' tail' o' s' t') =
+      let whole : sign ++ (tail ++ rest) ≡ sign' ++ (tail' ++ rest') =
+      sym (append_assoc sign tail rest) ∙ ap (λ (x : List Placed). x ++ rest) (sym o) ∙ e ∙ ap (λ (x : List Placed). x ++ rest') o' ∙ append_assoc sign' tail' rest' in
+      let signs = one_sign sign sign' (tail ++ rest) (tail' ++ rest') s s' (tail_kind table end rest tail value errors t) (tail_kind table end rest' tail' value' errors' t') whole in
+      let same = one_tail table end rest rest' tail tail' value value' errors errors' signs.1 t t' in
+      record { tails_are = o ∙ ap (λ (x : List Placed). x ++ tail) signs.0 ∙ ap (λ (x : List Placed). sign' ++ x) same.tails_are ∙ sym o'; rests = same.rests; values = same.values; errors_are = same.errors_are }
+
+one_name : (name name' after after' : List Placed) → IsAttributeName name after → IsAttributeName name' after' → name ++ after ≡ name' ++ after' → (name ≡ name') × (after ≡ after')
+one_name [] name' after after' h h' e = absurd (false≢true h.first)
+one_name (p ∷ ps) [] after after' h h' e = absurd (false≢true h'.first)
+one_name (p ∷ ps) (q ∷ qs) after after' h h' e =
+    let same = one_run (λ c. not (ends_attribute_name c)) ps after qs after' h.runs.passes_none (goes_no_further ends_attribute_name after h.runs.stops_after) h'.runs.passes_none (goes_no_further ends_attribute_name after' h'.runs.stops_after) (tails p q (ps ++ after) (qs ++ after') e) in
+    (ap (λ (x : Placed). x ∷ ps) (heads p q (ps ++ after) (qs ++ after') e) ∙ ap (λ (x : List Placed). q ∷ x) same.0, same.1)
+
+-- PARTS
+
+abbrev space_part : Placed → Part
+space_part p = record { text = p ∷ []; attribute = None; errors = [] }
+
+abbrev solidus_part : ℕ → List Placed → Placed → Part
+solidus_part end rest p = record { text = p ∷ []; attribute = None; errors = error_if (not (is_empty rest)) UnexpectedSolidusInTag (place end rest) }
+
+data IsNormal (table : Entities) (end : ℕ) (rest : List Placed) (part : Part) : Type 0 where
+  a_space : (p : Placed) → is_space p.ch ≡ true → part ≡ space_part p → IsNormal table end rest part
+  a_solidus : (p : Placed) → p.ch ≡ 47 → begins is_greater rest ≡ false → part ≡ solidus_part end rest p → IsNormal table end rest part
+  an_attribute : (name others : List Placed) (value : List ℕ) (errors : List ParseError) → IsAttributeName name (others ++ rest) → IsAttribute table end rest others value errors
+      → part ≡ attribute_part name others value errors → IsNormal table end rest part
+
+-- a name up to a sign
+name_before : (name sign x : List Placed) → IsAttributeName name sign → is_sign sign ≡ true → IsAttributeName name (sign ++ x)
+name_before name [] x h s = absurd (false≢true s)
+name_before name (p ∷ ps) x h s = record { first = h.first; runs = record { passes_none = h.runs.passes_none; stops_after = h.runs.stops_after } }
+
+valued_name : (name sign tail rest : List Placed) → IsAttributeName name sign → is_sign sign ≡ true → IsAttributeName name ((sign ++ tail) ++ rest)
+valued_name name sign tail rest h s = subst (λ (x : List Placed). IsAttributeName name x) (sym (append_assoc sign tail rest)) (name_before name sign (tail ++ rest) h s)
+
+module _ (table : Entities) (end : ℕ) (rest : List Placed) (part : Part) where
+  normal : IsPart table end rest part → IsNormal table end rest part
+  normal (space p s is) = a_space p s is
+  normal (solidus p s n is) = a_solidus p s n is
+  normal (bare name n b is) = an_attribute name [] [] [] n (without refl b refl refl) is
+  normal (no_value name sign n s r is) =
+      an_attribute name sign [] _ (name_before name sign rest n s) (valued sign [] (sym (append-nil sign)) s (nothing refl r refl refl)) is
+  normal (unquoted name sign value n s b runs are is) =
+      an_attribute name (sign ++ pieces_text value) (value_bytes value) (unquoted_errors value) (valued_name name sign (pieces_text value) rest n s)
+      (valued sign (pieces_text value) refl s (plain value refl b runs are refl refl)) is
+  normal (quoted name sign quote close value mark n s o m a are c is) =
+      let k = single quote mark o in
+      let tail : List Placed = k.p ∷ (pieces_text value ++ close) in
+      let all_is : sign ++ quote ++ pieces_text value ++ close ≡ sign ++ tail =
+      append_assoc (sign ++ quote) (pieces_text value) close ∙ append_assoc sign quote (pieces_text value ++ close) ∙ ap (λ (x : List Placed). sign ++ (x ++ (pieces_text value ++ close))) k.text_is in
+      an_attribute name (sign ++ tail) (value_bytes value) _ (valued_name name sign tail rest n s)
+      (valued sign tail refl s (closed k.p close value refl (subst (λ (x : ℕ). is_quote x ≡ true) (sym k.ch_is) m) (subst (λ (x : ℕ). all (λ c. not (c == x)) (pieces_text value) ≡ true) (sym k.ch_is) a) are (c ∙ ap (λ (x : ℕ). x ∷ []) (sym k.ch_is)) refl refl))
+      (is ∙ ap (λ (x : List Placed). attribute_part name x (value_bytes value) (value_errors value ++ error_if (not (stops ends_name rest)) MissingWhitespaceBetweenAttributes (place end rest))) all_is)
+  normal (unclosed name sign quote value mark n s o m a are r is) =
+      let k = single quote mark o in
+      let tail : List Placed = k.p ∷ pieces_text value in
+      let all_is : sign ++ quote ++ pieces_text value ≡ sign ++ tail =
+      append_assoc sign quote (pieces_text value) ∙ ap (λ (x : List Placed). sign ++ (x ++ pieces_text value)) k.text_is in
+      an_attribute name (sign ++ tail) (value_bytes value) _ (valued_name name sign tail rest n s)
+      (valued sign tail refl s (unended k.p value refl (subst (λ (x : ℕ). is_quote x ≡ true) (sym k.ch_is) m) (subst (λ (x : ℕ). all (λ c. not (c == x)) (pieces_text value) ≡ true) (sym k.ch_is) a) are r refl refl))
+      (is ∙ ap (λ (x : List Placed). attribute_part name x (value_bytes value) (value_errors value)) all_is)
+
+-- by their first character
+pub data Class : Type 0 where
+  Space : Class
+  Solidus : Class
+  Greater : Class
+  Name : Class
+  End : Class
+
+abbrev pub class_by : Bool → Bool → Bool → Class
+class_by true slash greater = Space
+class_by false true greater = Solidus
+class_by false false true = Greater
+class_by false false false = Name
+
+abbrev pub class_of : List Placed → Class
+class_of [] = End
+class_of (p ∷ ps) = class_by (is_space p.ch) (eqb p.ch 47) (is_greater p.ch)
+
+name_by : (a b c : Bool) → not ((a || b) || c) ≡ true → class_by a b c ≡ Name
+name_by true b c h = absurd (false≢true h)
+name_by false true c h = absurd (false≢true h)
+name_by false false true h = absurd (false≢true h)
+name_by false false false h = refl
+
+name_class : (name more : List Placed) → begins (λ c. not (ends_name c)) name ≡ true → class_of (name ++ more) ≡ Name
+name_class [] more h = absurd (false≢true h)
+name_class (p ∷ ps) more h = name_by (is_space p.ch) (eqb p.ch 47) (is_greater p.ch) h
+
+space_class : (p : Placed) (more : List Placed) → is_space p.ch ≡ true → class_of (p ∷ more) ≡ Space
+space_class p more h = ap (λ (b : Bool). class_by b (eqb p.ch 47) (is_greater p.ch)) h
+
+solidus_class : (p : Placed) (more : List Placed) → p.ch ≡ 47 → class_of (p ∷ more) ≡ Solidus
+solidus_class p more h = ap (λ (c : ℕ). class_by (is_space c) (eqb c 47) (is_greater c)) h
+
+attribute_whole : (name others rest : List Placed) (value : List ℕ) (errors : List ParseError) (part : Part) → part ≡ attribute_part name others value errors → part.text ++ rest ≡ name ++ (others ++ rest)
+attribute_whole name others rest value errors part is = ap (λ (x : Part). x.text ++ rest) is ∙ append_assoc name others rest
+
+attribute_same : (name name' others others' : List Placed) (value value' : List ℕ) (errors errors' : List ParseError) → name ≡ name' → others ≡ others' → value ≡ value' → errors ≡ errors' → attribute_part name others value errors ≡ attribute_part name' others' value' errors'
+attribute_same name name' others others' value value' errors errors' a b c d =
+    ap (λ (x : List Placed). attribute_part x others value errors) a ∙ ap (λ (x : List Placed). attribute_part name' x value errors) b ∙ ap (λ (x : List ℕ). attribute_part name' others' x errors) c ∙ ap (attribute_part name' others' value') d
+
+module _ (table : Entities) (end : ℕ) where
+  module _ (rest rest' : List Placed) (part part' : Part) (e : part.text ++ rest ≡ part'.text ++ rest') where
+    differ : (a b : Class) (x x' : List Placed) → part.text ++ rest ≡ x → part'.text ++ rest' ≡ x' → class_of x ≡ a → class_of x' ≡ b → a ≡ b
+    differ a b x x' h h' k k' = sym k ∙ ap class_of (sym h ∙ e ∙ h') ∙ k'
+
+    one_normal : IsNormal table end rest part → IsNormal table end rest' part' → (part ≡ part') × (rest ≡ rest')
+    one_normal (a_space p s is) (a_space p' s' is') =
+        let whole : p ∷ rest ≡ p' ∷ rest' = ap (λ (x : Part). x.text ++ rest) (sym is) ∙ e ∙ ap (λ (x : Part). x.text ++ rest') is' in
+        (is ∙ ap space_part (heads p p' rest rest' whole) ∙ sym is', tails p p' rest rest' whole)
+    one_normal (a_solidus p s n is) (a_solidus p' s' n' is') =
+        let whole : p ∷ rest ≡ p' ∷ rest' = ap (λ (x : Part). x.text ++ rest) (sym is) ∙ e ∙ ap (λ (x : Part). x.text ++ rest') is' in
+        (is ∙ ap (solidus_part end rest) (heads p p' rest rest' whole) ∙ ap (λ (x : List Placed). solidus_part end x p') (tails p p' rest rest' whole) ∙ sym is', tails p p' rest rest' whole)
+    one_normal (an_attribute name others value errors n a is) (an_attribute name' others' value' errors' n' a' is') =
+        let whole : name ++ (others ++ rest) ≡ name' ++ (others' ++ rest') = sym (attribute_whole name others rest value errors part is) ∙ e ∙ attribute_whole name' others' rest' value' errors' part' is' in
+        let names = one_name name name' (others ++ rest) (others' ++ rest') n n' whole in
+        let same = one_attribute table end rest rest' others others' value value' errors errors' names.1 a a' in
+        (is ∙ attribute_same name name' others others' value value' errors errors' names.0 same.tails_are same.values same.errors_are ∙ sym is', same.rests)
+    one_normal (a_space p s is) (a_solidus p' s' n' is') =
+        let no_way = differ Space Solidus (p ∷ rest) (p' ∷ rest') (ap (λ (x : Part). x.text ++ rest) is) (ap (λ (x : Part). x.text ++ rest') is') (space_class p rest s) (solidus_class p' rest' s') in absurd cc
+    one_normal (a_space p s is) (an_attribute name' others' value' errors' n' a' is') =
+        let no_way = differ Space Name (p ∷ rest) (name' ++ (others' ++ rest')) (ap (λ (x : Part). x.text ++ rest) is) (attribute_whole name' others' rest' value' errors' part' is') (space_class p rest s) (name_class name' (others' ++ rest') n'.first) in absurd cc
+    one_normal (a_solidus p s n is) (a_space p' s' is') =
+        let no_way = differ Solidus Space (p ∷ rest) (p' ∷ rest') (ap (λ (x : Part). x.text ++ rest) is) (ap (λ (x : Part). x.text ++ rest') is') (solidus_class p rest s) (space_class p' rest' s') in absurd cc
+    one_normal (a_solidus p s n is) (an_attribute name' others' value' errors' n' a' is') =
+        let no_way = differ Solidus Name (p ∷ rest) (name' ++ (others' ++ rest')) (ap (λ (x : Part). x.text ++ rest) is) (attribute_whole name' others' rest' value' errors' part' is') (solidus_class p rest s) (name_class name' (others' ++ rest') n'.first) in absurd cc
+    one_normal (an_attribute name others value errors n a is) (a_space p' s' is') =
+        let no_way = differ Name Space (name ++ (others ++ rest)) (p' ∷ rest') (attribute_whole name others rest value errors part is) (ap (λ (x : Part). x.text ++ rest') is') (name_class name (others ++ rest) n.first) (space_class p' rest' s') in absurd cc
+    one_normal (an_attribute name others value errors n a is) (a_solidus p' s' n' is') =
+        let no_way = differ Name Solidus (name ++ (others ++ rest)) (p' ∷ rest') (attribute_whole name others rest value errors part is) (ap (λ (x : Part). x.text ++ rest') is') (name_class name (others ++ rest) n.first) (solidus_class p' rest' s') in absurd cc
+
+pub one_part : (table : Entities) (end : ℕ) (rest rest' : List Placed) (part part' : Part) → IsPart table end rest part → IsPart table end rest' part' → part.text ++ rest ≡ part'.text ++ rest' → (part ≡ part') × (rest ≡ rest')
+one_part table end rest rest' part part' h h' e = one_normal table end rest rest' part part' e (normal table end rest part h) (normal table end rest' part' h')
+
+-- no part begins where a tag ends
+pub none_at_end : (table : Entities) (end : ℕ) (rest more : List Placed) (part : Part) → IsPart table end rest part → [] ≡ part.text ++ more → ⊥
+none_at_end table end rest more part h e = by (normal table end rest part h) where
+  by : IsNormal table end rest part → ⊥
+  by (a_space p s is) = let no_way : [] ≡ p ∷ more = e ∙ ap (λ (x : Part). x.text ++ more) is in absurd cc
+  by (a_solidus p s n is) = let no_way : [] ≡ p ∷ more = e ∙ ap (λ (x : Part). x.text ++ more) is in absurd cc
+  by (an_attribute name others value errors n a is) =
+      let no_way : End ≡ Name = ap class_of (e ∙ attribute_whole name others more value errors part is) ∙ name_class name (others ++ more) n.first in absurd cc
+
+pub none_at_greater : (table : Entities) (end : ℕ) (close after rest : List Placed) (part : Part) → characters close ≡ codes ">" → IsPart table end rest part → close ++ after ≡ part.text ++ rest → ⊥
+none_at_greater table end close after rest part c h e = by (single close 62 c).p (single close 62 c).text_is (single close 62 c).ch_is (normal table end rest part h) where
+  by : (q : Placed) → close ≡ q ∷ [] → q.ch ≡ 62 → IsNormal table end rest part → ⊥
+  by q t g (a_space p s is) = let no_way : Greater ≡ Space = ap (λ (c : ℕ). class_by (is_space c) (eqb c 47) (is_greater c)) (sym g) ∙ ap (λ (x : List Placed). class_of (x ++ after)) (sym t) ∙ ap class_of (e ∙ ap (λ (x : Part). x.text ++ rest) is) ∙ space_class p rest s in absurd cc
+  by q t g (a_solidus p s n is) = let no_way : Greater ≡ Solidus = ap (λ (c : ℕ). class_by (is_space c) (eqb c 47) (is_greater c)) (sym g) ∙ ap (λ (x : List Placed). class_of (x ++ after)) (sym t) ∙ ap class_of (e ∙ ap (λ (x : Part). x.text ++ rest) is) ∙ solidus_class p rest s in absurd cc
+  by q t g (an_attribute name others value errors n a is) =
+      let no_way : Greater ≡ Name = ap (λ (c : ℕ). class_by (is_space c) (eqb c 47) (is_greater c)) (sym g) ∙ ap (λ (x : List Placed). class_of (x ++ after)) (sym t) ∙ ap class_of (e ∙ attribute_whole name others rest value errors part is) ∙ name_class name (others ++ rest) n.first in absurd cc
+
+-- nor at `/>`
+pub none_at_close : (table : Entities) (end : ℕ) (q r : Placed) (after rest : List Placed) (part : Part) → q.ch ≡ 47 → r.ch ≡ 62 → IsPart table end rest part → q ∷ r ∷ after ≡ part.text ++ rest → ⊥
+none_at_close table end q r after rest part s g h e = by (normal table end rest part h) where
+  by : IsNormal table end rest part → ⊥
+  by (a_space p k is) = let no_way : Solidus ≡ Space = sym (solidus_class q (r ∷ after) s) ∙ ap class_of (e ∙ ap (λ (x : Part). x.text ++ rest) is) ∙ space_class p rest k in absurd cc
+  by (a_solidus p k n is) =
+      let whole : q ∷ (r ∷ after) ≡ p ∷ rest = e ∙ ap (λ (x : Part). x.text ++ rest) is in
+      absurd (false≢true (sym n ∙ ap (begins is_greater) (sym (tails q p (r ∷ after) rest whole)) ∙ ap is_greater g))
+  by (an_attribute name others value errors n a is) =
+      let no_way : Solidus ≡ Name = sym (solidus_class q (r ∷ after) s) ∙ ap class_of (e ∙ attribute_whole name others rest value errors part is) ∙ name_class name (others ++ rest) n.first in absurd cc

@@ -1,9 +1,0 @@
-use Rattle.hlaws.proofs.OneData.{one_data_span}
-use Rattle.hlaws.proofs.OneSpan.{one_span}
-use Rattle.hlaws.proofs.cuts.one_span.Goals as goal
-
-pub returns-clause-in_data : goal.returns-clause-in_data
-returns-clause-in_data c = one_data_span
-
-pub returns-clause-in_any : goal.returns-clause-in_any
-returns-clause-in_any c = one_span

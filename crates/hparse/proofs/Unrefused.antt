@@ -1,0 +1,66 @@
+-- What a reading was fed is unrefused: its tokenizer has handed over every span that is settled.
+use Rattle.std.proofs.Common.{◌≡◌, ℕ, List, [], ◌∷◌, ◌++◌, map, sym, ap, ◌∙◌, subst, append-nil, Result}
+use Rattle.std.proofs.lemmas.List.{map-append}
+use Rattle.names.specs.declared.placed.Placed.{Placed}
+use Rattle.names.specs.declared.refusal.Refusal.{Refusal}
+use Rattle.names.proofs.Handing.{grows_not}
+use Rattle.htext.specs.Text.{Policy}
+use Rattle.htext.specs.Decoding.{IsUndecided}
+use Rattle.htext.specs.Items.{CharItem, items, characters_among}
+use Rattle.htext.proofs.Texts.{characters_among-items}
+use Rattle.htoken.specs.Standing.{start_kind}
+use Rattle.htoken.specs.Token.{Tok, Span, Item}
+use Rattle.htoken.specs.Tokens.{tokens_of}
+use Rattle.htoken.specs.Tokenizing.{HasTaken}
+use Rattle.hcuts.specs.Settled.{AreTaken}
+use Rattle.hcuts.proofs.Settled.{settled_are_taken}
+use Rattle.hadopt.specs.Naming.{texts}
+use Rattle.hadopt.specs.Site.{Goes}
+use Rattle.hmodes.specs.State.{State, PlacedToken}
+use Rattle.hmodes.specs.Step.{Steps, none, and}
+use Rattle.hparse.specs.declared.parser.Parser.{Parser}
+use Rattle.hparse.specs.declared.reading.Reading.{Reading}
+use Rattle.hparse.specs.Fed.{HasRead, WasRead}
+use Rattle.hparse.specs.Input.{Manner, Began, settled_in}
+use Rattle.hparse.specs.Parse.{ParseCase, ParseOptions, begins, manner}
+use Rattle.hparse.specs.Parsing.{builds, HasParsed}
+use Rattle.hparse.specs.Taken.{placed}
+use Rattle.hparse.specs.Unrefused.{AreSettledIn, IsUnrefusedText, IsUnrefused, settled_text}
+use Rattle.hparse.proofs.Trees.{gone}
+
+-- what leads on from tokens leads on from the first of them
+pub front_steps : (ts us : List (PlacedToken (List ℕ))) (s s' : State (List ℕ)) → Steps texts (ts ++ us) s (Goes s') → (mid : State (List ℕ)) × Steps texts ts s (Goes mid)
+front_steps [] us s s' steps = (s, none)
+front_steps (t ∷ ts) us s s' (and first rest) = let k = front_steps ts us _ s' rest in (k.0, and first k.1)
+
+-- the same of tokens of a text
+pub leads_on : (tokens front others : List Tok) (s s' : State (List ℕ)) → tokens ≡ front ++ others → Steps texts (map placed tokens) s (Goes s') → (mid : State (List ℕ)) × Steps texts (map placed front) s (Goes mid)
+leads_on tokens front others s s' are steps =
+    front_steps (map placed front) (map placed others) s s' (subst (λ (ts : List (PlacedToken (List ℕ))). Steps texts ts s (Goes s')) (ap (map placed) are ∙ map-append placed front others) steps)
+
+module _ {S : Type 0} (gives : S → Item → Result (Unit {0}) Refusal → S → Type 0) (m : Manner) (began : Began S) (reading : Reading S) (bytes : List ℕ) (h : HasRead gives m began reading bytes) where
+  are_taken : (spans : List Span) → AreSettledIn m bytes spans → AreTaken h.holds.was_fed.taken spans
+  are_taken spans settled =
+      let all : h.holds.fed ≡ items (settled_in m bytes) = sym (append-nil h.holds.fed) ∙ ap (λ (more : List CharItem). h.holds.fed ++ more) (sym h.all_fed) ∙ h.holds.items_are in
+      settled_are_taken m.table (start_kind m.start) reading.feeding.tokenizer reading.feeding.names (settled_text m bytes) h.holds.was_fed.taken spans h.is_table
+      (subst (λ (cs : List Placed). HasTaken m.table (start_kind m.start) reading.feeding.tokenizer reading.feeding.names cs h.holds.was_fed.taken)
+      (ap characters_among all ∙ characters_among-items (settled_in m bytes)) h.holds.was_fed.has_taken) settled
+
+  pub unrefused_text : IsUnrefusedText m bytes
+  unrefused_text = record {
+    undecided = subst (λ (how : Policy). IsUndecided how bytes) h.how_is h.fed.undecided;
+    in_profile = λ spans settled. (are_taken spans settled).in_profile;
+  }
+
+module _ (opts : ParseOptions) (parse_case : ParseCase) (bytes : List ℕ) (old : Parser) (h : HasParsed opts parse_case old bytes) where
+  -- what was read after that by what the parser reads
+  pub unrefused : (all : List ℕ) → WasRead builds (manner opts parse_case) h.began all → IsUnrefused opts parse_case all
+  unrefused all (reading, read) =
+      let fed = read.holds.was_fed in
+      record {
+        text = unrefused_text builds (manner opts parse_case) h.began reading all read;
+        steps = λ spans settled.
+            let t = are_taken builds (manner opts parse_case) h.began reading all read spans settled in
+            leads_on _ (tokens_of spans) t.others (begins opts parse_case) _ t.tokens_are
+            (gone opts parse_case h.began all reading.feeding.names reading.feeding.sink h.unrefused h.begins reading.feeding.names (grows_not reading.feeding.names) read.are_names _ _ fed.handed);
+      }

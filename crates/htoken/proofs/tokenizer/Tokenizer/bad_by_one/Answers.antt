@@ -1,0 +1,55 @@
+use Rattle.std.proofs.Common.{◌+◌, ◌-◌, ◌≡◌, ℕ, List, arith, ◌∙◌, sym, subst, ap, Ok, Err}
+use Rattle.std.proofs.lemmas.Result.{err_from_is_err_and}
+use Rattle.names.specs.declared.placed.Placed.{Placed}
+use Rattle.names.proofs.Handing.{grows_not, grows_on}
+use Rattle.htoken.specs.Run.{replaced}
+use Rattle.htoken.specs.Token.{gives_item}
+use Rattle.htoken.specs.Tokenizing.{Takes}
+use Rattle.htoken.proofs.Fronts.{takes_nothing, part_taken, refused_longer}
+use Rattle.htoken.proofs.InRun.{replaced_more}
+use Rattle.htoken.proofs.Taking.{taken_kept}
+use Rattle.htoken.proofs.tokenizer.Tokenizer.bad_by_one.Goals as goal
+
+pub loop-fed-init : goal.loop-fed-init
+loop-fed-init g c = record {
+  few = omega arith;
+  takes = λ table start before text taken grows h.
+      takes_nothing (gives_item g.S.ErrorSink.gives g.S.TokenSink.gives_token) table start text taken c.args.names.now c.args.sink.now c.args.self.now (taken_kept table start c.args.self.now before c.args.names.now text taken grows h);
+  grows = grows_not _;
+}
+
+pub loop-fed-preserved : goal.loop-fed-preserved
+loop-fed-preserved g c =
+    let fed = c.loop-fed.fed in
+    record {
+      few = omega (arith, c.loop-fed-test.true);
+      takes = λ table start before text taken grows h.
+          part_taken (gives_item g.S.ErrorSink.gives g.S.TokenSink.gives_token) table start text (replaced c.args.place fed) taken c.loop-fed.names c.feed_char.new.names c.feed_char.ensures.grows
+          c.args.sink.now c.loop-fed.sink c.loop-fed.self (replaced (c.args.place + fed) 1) (replaced c.args.place (fed + 1)) (replaced_more fed 1 c.args.place) (Ok tt) c.feed_char.new.sink c.feed_char.new.self
+          (c.loop-fed.invariant.takes table start before text taken grows h) (λ text events has. c.in_ok-feed_char.ensures.takes table start c.loop-fed.names text events (grows_not _) has);
+      grows = grows_on _ _ _ c.loop-fed.invariant.grows c.feed_char.ensures.grows;
+    }
+
+pub returns-in_err-feed_char-clause-takes : goal.returns-in_err-feed_char-clause-takes
+returns-in_err-feed_char-clause-takes g c =
+    let gives = gives_item g.S.ErrorSink.gives g.S.TokenSink.gives_token in
+    let fed = c.loop-fed.fed in
+    let left = c.args.count - (fed + 1) in
+    let all : (fed + 1) + left ≡ c.args.count = omega (arith, c.loop-fed-test.true) in
+    let e = err_from_is_err_and c.from_residual.result c.from_residual.ensures.1 in
+    rw (e.1, e.2) (λ table start before text taken grows h.
+    subst (λ (ps : List Placed). Takes gives table start text ps taken c.feed_char.new.names c.args.sink.now (Err c.in_err-feed_char.field-0.0) c.feed_char.new.sink c.feed_char.new.self)
+    (sym (replaced_more (fed + 1) left c.args.place) ∙ ap (replaced c.args.place) all)
+    (refused_longer gives table start text (replaced c.args.place (fed + 1)) (replaced (c.args.place + (fed + 1)) left) taken c.feed_char.new.names c.args.sink.now c.feed_char.new.sink c.in_err-feed_char.field-0.0 c.feed_char.new.self c.feed_char.new.self
+    (part_taken gives table start text (replaced c.args.place fed) taken c.loop-fed.names c.feed_char.new.names c.feed_char.ensures.grows
+    c.args.sink.now c.loop-fed.sink c.loop-fed.self (replaced (c.args.place + fed) 1) (replaced c.args.place (fed + 1)) (replaced_more fed 1 c.args.place) (Err c.in_err-feed_char.field-0.0) c.feed_char.new.sink c.feed_char.new.self
+    (c.loop-fed.invariant.takes table start before text taken grows h) (λ text events has. c.in_err-feed_char.ensures.takes table start c.loop-fed.names text events (grows_not _) has))))
+
+pub returns-in_err-feed_char-clause-grows : goal.returns-in_err-feed_char-clause-grows
+returns-in_err-feed_char-clause-grows g c = grows_on _ _ _ c.loop-fed.invariant.grows c.feed_char.ensures.grows
+
+pub returns-clause-takes : goal.returns-clause-takes
+returns-clause-takes g c = λ table start before text taken grows h.
+    let same : c.loop-fed.fed ≡ c.args.count = omega (arith, c.loop-fed-test.false) in
+    subst (λ (n : ℕ). Takes (gives_item g.S.ErrorSink.gives g.S.TokenSink.gives_token) table start text (replaced c.args.place n) taken c.loop-fed.names c.args.sink.now (Ok tt) c.loop-fed.sink c.loop-fed.self) same
+    (c.loop-fed.invariant.takes table start before text taken grows h)
