@@ -1,6 +1,6 @@
 //! The tokens of a document.
 
-ghost use Rattle.std.specs.Prelude.{◌≡◌, ℕ, List, [], IfOk, MatchResult};
+ghost use Rattle.std.specs.Prelude.{◌≡◌, ℕ, List, [], MatchResult};
 ghost use Rattle.std.specs.List.{flat_map};
 ghost use Rattle.charref.specs.Reference.{Entities};
 ghost use Rattle.names.specs.declared.refusal.Refusal.TheVariants.{Memory};
@@ -15,13 +15,13 @@ use crate::reading::Reading;
 use crate::token_run::TokenRun;
 use htoken::Start;
 use names::{Names, Refusal};
-use std::alloc::{AllocError, Global};
+use std::alloc::Global;
 
 /// The tokens of the pieces joined, however they are cut.
 pub fn tokens(alloc: Global, pieces: &[&[u8]], options: &Options) -> Result<TokenRun, Refusal>
     ensures { Shows options.now.table.now (of_document options.now.bad_bytes options.now.limits.input) (flat_map (λ piece. piece.now) pieces.now) result }
 {
-    let mut reading = begin(alloc, options)?;
+    let mut reading = begin(alloc, options);
     for piece in pieces {
         match reading.feed(piece) {
             Ok(()) => {}
@@ -35,15 +35,12 @@ pub fn tokens(alloc: Global, pieces: &[&[u8]], options: &Options) -> Result<Toke
 }
 
 /// A document of which nothing has been read.
-pub(crate) fn begin<'t>(
-    alloc: Global,
-    options: &Options<'t>,
-) -> Result<Reading<'t, Collected>, AllocError>
-    ensures { IfOk result (λ reading. HasReadTokens options.now.table.now options.now.bad_bytes options.now.limits.input reading []) }
+pub(crate) fn begin<'t>(alloc: Global, options: &Options<'t>) -> Reading<'t, Collected>
+    ensures { HasReadTokens options.now.table.now options.now.bad_bytes options.now.limits.input result [] }
 {
-    let names = Names::new(alloc, options.keys)?;
+    let names = Names::new(alloc, options.keys);
     let sink = Collected::new(alloc);
-    Ok(Reading::new(alloc, options, Start::Document, names, sink))
+    Reading::new(alloc, options, Start::Document, names, sink)
 }
 
 /// The tokens of a document that has ended.

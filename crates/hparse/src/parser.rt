@@ -32,7 +32,7 @@ impl<'t> Parser<'t> {
     pub fn document(alloc: Global, options: &Options<'t>) -> Result<Parser<'t>, Refusal>
         ensures { MatchResult result (λ parser. HasParsed (options_of options.now) document parser []) (λ refusal. refusal ≡ Memory) }
     {
-        let names = Names::new(alloc, options.keys)?;
+        let names = Names::new(alloc, options.keys);
         let builder = Builder::document(alloc, options.keys, options.quirks, options.limits)?;
         Ok(Parser {
             reading: Reading::new(alloc, options, Start::Document, names, builder),
@@ -54,7 +54,7 @@ impl<'t> Parser<'t> {
         if !is_context(context) {
             return Err(Refusal::BadContext);
         }
-        let mut names = Names::new(alloc, options.keys)?;
+        let mut names = Names::new(alloc, options.keys);
         let name = names.intern(alloc, context)?;
         let builder = Builder::fragment(alloc, options.keys, name, options.limits)?;
         let start = Start::Context(name.tag().raw_kind());

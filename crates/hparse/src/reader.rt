@@ -30,7 +30,7 @@ pub fn read_into<S: TokenSink + Drop, R: Source>(
         (ComesInto (gives_item S.gives S.gives_token) (as_document options.now.table.now options.now.bad_bytes options.now.limits.input) sink)
         (IsUnrefusedText (as_document options.now.table.now options.now.bad_bytes options.now.limits.input)) piece [] source.old source.new result }
 {
-    let names = Names::new(alloc, options.keys)?;
+    let names = Names::new(alloc, options.keys);
     let mut reading = Reading::new(alloc, options, Start::Document, names, sink);
     match read_to_end(alloc, piece, &mut reading, source) {
         Ok(()) => Ok(reading.into_parts()),
