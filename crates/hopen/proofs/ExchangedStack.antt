@@ -1,15 +1,13 @@
 -- An exchange of two members of a vector in the words on lists whose nearest member is first.
-use Rattle.std.proofs.Common.{◌≡◌, ℕ, suc, ◌+◌, ◌-◌, ◌<◌, ◌≤◌, Bool, true, false, cond, not, List, [], ◌∷◌, ◌++◌, Option, Some, None, length, map, take, drop, reverse, insert, remove, refl, sym, ◌∙◌, ap, arith}
+use Rattle.std.proofs.Common.{◌≡◌, ℕ, suc, ◌+◌, ◌-◌, ◌<◌, ◌≤◌, Bool, true, false, cond, not, List, [], ◌∷◌, ◌++◌, Some, length, map, take, drop, reverse, insert, remove, set, zero, refl, sym, ◌∙◌, ap, arith}
 use Rattle.std.specs.List.{remove_range, position, position_or_len}
-use Rattle.std.specs.Prelude.{MatchOption}
-use Rattle.std.specs.Option.{unwrap_or}
 use Rattle.std.proofs.lemmas.Bool.{lt-ltb}
 use Rattle.std.proofs.lemmas.List.{map-append, take-map, drop-map, length-map, length-reverse}
 use Rattle.std.proofs.lemmas.List.Edits.{length-remove}
 use Rattle.hchain.specs.Nearest.{without, put_before}
 use Rattle.hopen.specs.Kept.{opened_by}
-use Rattle.hopen.specs.Exchanged.{exchanged}
 use Rattle.hopen.specs.declared.kept.KeptNode.{KeptNode}
+use Rattle.hopen.proofs.Rooms.{map-insert}
 use Rattle.hchain.proofs.Nearest.{position_is, remove_nearest, insert_nearest}
 
 module _ {Y : Type 0} (leaves sought : Y → Bool) where
@@ -33,14 +31,11 @@ module _ {Y : Type 0} (leaves sought : Y → Bool) where
       rw (same, lt-ltb near (length rest) (omega (arith, b.0))) refl
 
 module _ {X Y : Type 0} (f : X → Y) where
-  map-remove : (xs : List X) (i : ℕ) → map f (remove xs i) ≡ remove (map f xs) i
+  pub map-remove : (xs : List X) (i : ℕ) → map f (remove xs i) ≡ remove (map f xs) i
   map-remove xs i = map-append f (take i xs) (drop (suc i) xs) ∙ (λ k. sym (take-map f i xs) k ++ sym (drop-map f (suc i) xs) k)
 
-  map-insert : (xs : List X) (i : ℕ) (x : X) → map f (insert xs i x) ≡ insert (map f xs) i (f x)
-  map-insert xs i x = map-append f (take i xs) (x ∷ drop i xs) ∙ (λ k. sym (take-map f i xs) k ++ f x ∷ sym (drop-map f i xs) k)
-
   pub exchanged-nearest : (xs : List X) (leaves sought : Y → Bool) (x : X) (from to : ℕ) → from < to → to < length xs → position leaves (reverse (map f xs)) ≡ Some (length (reverse (map f xs)) - 1 - from)
-      → position sought (reverse (map f xs)) ≡ Some (length (reverse (map f xs)) - 1 - to) → reverse (exchanged from to (f x) (map f xs)) ≡ put_before sought (f x) (without leaves (reverse (map f xs)))
+      → position sought (reverse (map f xs)) ≡ Some (length (reverse (map f xs)) - 1 - to) → reverse (insert (remove (map f xs) from) to (f x)) ≡ put_before sought (f x) (without leaves (reverse (map f xs)))
   exchanged-nearest xs leaves sought x from to order within p q =
       let long : length (reverse (map f xs)) ≡ length xs = length-reverse (map f xs) ∙ length-map xs f in
       let far = length (reverse (map f xs)) - 1 - from in
@@ -50,7 +45,7 @@ module _ {X Y : Type 0} (f : X → Y) where
       let many : length (reverse (map f (remove xs from))) ≡ length (remove xs from) = length-reverse (map f (remove xs from)) ∙ length-map (remove xs from) f in
       let place : position sought (reverse (map f (remove xs from))) ≡ Some near = position-without leaves sought (reverse (map f xs)) near far q p (omega arith) (reverse (map f (remove xs from))) (sym left) (omega arith) in
       let next : to - 1 + 1 ≡ to = omega arith in
-      ap reverse (ap (λ l. insert l to (f x)) (sym (map-remove xs from)) ∙ sym (map-insert (remove xs from) to x) ∙ ap (λ n. map f (insert (remove xs from) n x)) (sym next))
+      ap reverse (ap (λ l. insert l to (f x)) (sym (map-remove xs from)) ∙ sym (map-insert f (remove xs from) to x) ∙ ap (λ n. map f (insert (remove xs from) n x)) (sym next))
       ∙ insert_nearest f sought (remove xs from) (to - 1) near x place (omega arith) ∙ ap (put_before sought (f x)) left
 
 pub length-put-le : {Y : Type 0} (sought : Y → Bool) (y : Y) (ys : List Y) → length (put_before sought y ys) ≤ suc (length ys)
@@ -61,10 +56,11 @@ length-put-le sought y (x ∷ ys) = go (sought x) (length-put-le sought y ys)
     go true i = omega arith
     go false i = omega arith
 
--- an index that is not the first was found
-pub found-below : (o : Option ℕ) (P : Type 0) (Q : ℕ → Type 0) → MatchOption o P Q → 0 < unwrap_or o 0 → Q (unwrap_or o 0)
-found-below None P Q h below = absurd (omega arith)
-found-below (Some i) P Q h below = h
+-- a member is written where one was taken out
+pub set-insert : {Y : Type 0} (ys : List Y) (i : ℕ) (y : Y) → i < length ys → set ys i y ≡ insert (remove ys i) i y
+set-insert [] i y h = absurd (omega arith)
+set-insert (x ∷ ys) zero y h = refl
+set-insert (x ∷ ys) (suc i) y h = ap (λ l. x ∷ l) (set-insert ys i y (omega arith))
 
 -- one item is left out
 pub length-left : (items left : List KeptNode) (i : ℕ) → i < length items → map opened_by left ≡ map opened_by (remove_range items i (i + 1)) → length left + 1 ≡ length items

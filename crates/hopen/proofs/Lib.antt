@@ -2,10 +2,14 @@ pub mod Opened
 pub mod Searches
 pub mod Spellings
 pub mod Places
+pub mod Counted
+pub mod Linked
+pub mod Projected
+pub mod Rooms
+pub mod Raised
+pub mod Passed
+pub mod Swapped
 pub mod Standing
-pub mod Exchanged
-pub mod ExchangedItems
-pub mod ExchangedTables
 pub mod ExchangedStack
 pub mod WrittenBack
 pub mod SetsOf

@@ -1,20 +1,27 @@
 -- The kept places under each change of the items.
-use Rattle.std.proofs.Common.{◌≡◌, ℕ, zero, suc, ◌+◌, ◌-◌, add-one, ◌<◌, ◌≤◌, cond, List, [], ◌∷◌, ◌++◌, length, map, reverse, take, drop, get_or, set, refl, sym, ◌∙◌, ap, subst, arith}
-use Rattle.std.proofs.lemmas.List.{get_or_default, drop-set, drop-drop, drop_at, length-take-le, reverse-append, length-reverse, length-map}
+use Rattle.std.proofs.Common.{◌≡◌, ℕ, zero, suc, ◌+◌, ◌-◌, ◌^◌, add-one, ◌<◌, ◌≤◌, false, cond, List, [], ◌∷◌, ◌++◌, length, map, reverse, take, drop, get_or, set, ◌⊎◌, inl, inr, refl, sym, ◌∙◌, ap, subst, arith, length-append}
+use Rattle.std.proofs.Math.Path.{transport}
+use Rattle.std.proofs.lemmas.Bool.{cases_lt}
+use Rattle.std.proofs.lemmas.List.{get_or_default, drop-set, drop-drop, drop_at, length-take-le, reverse-append, length-reverse, length-map, map-append, get_or_append_left, get_or_push, take-append-le, take_all, take-map, drop-map, map-set, get_or-map}
+use Rattle.std.proofs.Math.Seq.{map-set_same}
 use Rattle.std.specs.List.{remove_range}
-use Rattle.hchain.specs.Places.{last_place}
-use Rattle.hopen.specs.NameSets.{is_in, is_in_set, set_place}
-use Rattle.hopen.specs.Kept.{opened_by, stack_of, IsKept, AreKept, Stands, AreIn}
-use Rattle.hopen.specs.Stack.{OpenNodes}
+use Rattle.hopen.specs.Stops.{AreCounted, HasRoom, HasSpace, closing, specials}
+use Rattle.hopen.specs.Kept.{AreAlike, AreIn, IsFresh, IsLinked, KeepStops, Stands, StandsAs, name_of, names_in, names_of, node_of, nodes_in, opened_by, same_name_of, same_node_of, stack_of, stops_of}
+use Rattle.hopen.specs.Stack.{OpenNode, OpenNodes}
 use Rattle.hopen.specs.StackView.{open_nodes_of}
 use Rattle.hopen.specs.declared.stack.OpenStack.TheInside.{Inside}
 use Rattle.hopen.specs.declared.kept.KeptNode.{KeptNode}
 use Rattle.hopen.specs.declared.kept.LastPlaces.{LastPlaces}
-use Rattle.hopen.specs.declared.name_sets.NameSet.{NameSet}
-use Rattle.hopen.specs.declared.name_sets.SetPlaces.{SetPlaces}
+use Rattle.names.specs.Sets.{may_stay_open}
 use Rattle.names.specs.Tags.{tag_of}
-use Rattle.hchain.proofs.Nearest.{reverse_push, reverse-map}
-use Rattle.hchain.proofs.Tables.{says-in, says-more, says-less, take-more, drop-more}
+use Rattle.hchain.proofs.Nearest.{reverse_push}
+use Rattle.hchain.proofs.Tables.{take-more, drop-more}
+use Rattle.hopen.proofs.Counted.{closing-le, listed, specials-le}
+use Rattle.hopen.proofs.Linked.{linked-in, linked-less, linked-more}
+use Rattle.hopen.proofs.Projected.{length-names, length-nodes, node-at, same_node-at}
+use Rattle.hopen.proofs.Swapped.{linked-fresh}
+use Rattle.hopen.specs.Opens.{open_of}
+use Rattle.hopen.specs.declared.stack.Open.{Open}
 
 -- the last item of a vector
 pub stack-more : (items : List KeptNode) (x : KeptNode) → stack_of (items ++ x ∷ []) ≡ opened_by x ∷ stack_of items
@@ -28,69 +35,153 @@ pub many : (s : Inside) (n : OpenNodes ℕ) → open_nodes_of s ≡ n → length
 many s n e = sym (length-stack_of s.items.items) ∙ ap (λ (m : OpenNodes ℕ). length m.stack) e
 
 module _ (items : List KeptNode) (x : KeptNode) where
-  -- the last item, and those before it
-  pub kept-last : AreKept (reverse (items ++ x ∷ [])) → IsKept x (stack_of items) × AreKept (reverse items)
-  kept-last k =
-      let both : IsKept x (map opened_by (reverse items)) × AreKept (reverse items) = rw (reverse-append items (x ∷ [])) at k in
-      (rw (← reverse-map opened_by items) at both.0, both.1)
+  names-more : names_in (map opened_by (items ++ x ∷ [])) ≡ names_in (map opened_by items) ++ x.opened.name ∷ []
+  names-more = ap names_in (map-append opened_by items (x ∷ [])) ∙ map-append name_of (map opened_by items) (opened_by x ∷ [])
 
-  pub kept-more : IsKept x (stack_of items) → AreKept (reverse items) → AreKept (reverse (items ++ x ∷ []))
-  kept-more is rest = rw (reverse-append items (x ∷ [])) (rw (reverse-map opened_by items) at is, rest)
+  nodes-more : nodes_in (map opened_by (items ++ x ∷ [])) ≡ nodes_in (map opened_by items) ++ x.opened.node ∷ []
+  nodes-more = ap nodes_in (map-append opened_by items (x ∷ [])) ∙ map-append node_of (map opened_by items) (opened_by x ∷ [])
 
-module _ (last : LastPlaces) (items : List KeptNode) (x : KeptNode) where
-  -- the tables have the numbers of an item
-  pub stands-in : Stands last (items ++ x ∷ []) → (x.opened.name < length last.names.items) × (x.opened.node < length last.nodes.items)
-  stands-in s = (
-    says-in (λ y. y.name) last.names.items (opened_by x) (stack_of items) (rw stack-more at s.names),
-    says-in (λ y. y.node) last.nodes.items (opened_by x) (stack_of items) (rw stack-more at s.nodes),
-  )
+  pub names_of-more : names_of (items ++ x ∷ []) ≡ x.opened.name ∷ names_of items
+  names_of-more = ap reverse names-more ∙ reverse-append (names_in (map opened_by items)) (x.opened.name ∷ [])
 
-  -- the last item goes
-  pub stands-less : Stands last (items ++ x ∷ []) → (next : LastPlaces) → next.names.items ≡ set last.names.items x.opened.name x.same_name → next.nodes.items ≡ set last.nodes.items x.opened.node x.same_node → Stands next items
-  stands-less s next names nodes =
-      let k = kept-last items x s.kept in
-      record {
-        names = rw names (says-less (λ y. y.name) last.names.items (opened_by x) (stack_of items) (rw stack-more at s.names) x.same_name k.0.same_name);
-        nodes = rw nodes (says-less (λ y. y.node) last.nodes.items (opened_by x) (stack_of items) (rw stack-more at s.nodes) x.same_node k.0.same_node);
-        kept = k.1;
-      }
+  long : {X Y : Type 0} (f : KeptNode → X) (g : OpenNode ℕ → Y) → length (map f items) ≡ length (map g (map opened_by items))
+  long f g = length-map items f ∙ sym (length-map (map opened_by items) g ∙ length-map items opened_by)
 
-  -- an item comes, with what the tables say
-  pub stands-more : (place : ℕ) → place ≡ suc (length items) → Stands last items → x.opened.name < length last.names.items → x.opened.node < length last.nodes.items
-      → x.same_name ≡ get_or last.names.items x.opened.name 0 → x.same_node ≡ get_or last.nodes.items x.opened.node 0
-      → ((set : NameSet) → set_place set x.sets ≡ last_place (is_in set) (opened_by x ∷ stack_of items))
-      → (next : LastPlaces) → next.names.items ≡ set last.names.items x.opened.name place → next.nodes.items ≡ set last.nodes.items x.opened.node place → Stands next (items ++ x ∷ [])
-  stands-more place is s name_in node_in same_name same_node sets next names nodes =
-      record {
-        names = rw (names, is, stack-more items x, ← length-stack_of items) (says-more (λ y. y.name) last.names.items (opened_by x) (stack_of items) s.names name_in);
-        nodes = rw (nodes, is, stack-more items x, ← length-stack_of items) (says-more (λ y. y.node) last.nodes.items (opened_by x) (stack_of items) s.nodes node_in);
-        kept = kept-more items x (record { same_name = same_name ∙ s.names x.opened.name; same_node = same_node ∙ s.nodes x.opened.node; sets = sets }) s.kept;
-      }
+  module _ (last : LastPlaces) where
+    linked-names : Stands last (items ++ x ∷ []) → IsLinked last.names.items (names_in (map opened_by items) ++ x.opened.name ∷ []) (map same_name_of items ++ x.same_name ∷ [])
+    linked-names s = transport (λ t. IsLinked last.names.items (names-more t) (map-append same_name_of items (x ∷ []) t)) s.names
 
--- tables that say the same
-pub stands-same : (last next : LastPlaces) (items : List KeptNode) → Stands last items → ((k : ℕ) → get_or next.names.items k 0 ≡ get_or last.names.items k 0) → ((k : ℕ) → get_or next.nodes.items k 0 ≡ get_or last.nodes.items k 0) → Stands next items
-stands-same last next items s names nodes = record { names = λ k. names k ∙ s.names k; nodes = λ k. nodes k ∙ s.nodes k; kept = s.kept }
+    linked-nodes : Stands last (items ++ x ∷ []) → IsLinked last.nodes.items (nodes_in (map opened_by items) ++ x.opened.node ∷ []) (map same_node_of items ++ x.same_node ∷ [])
+    linked-nodes s = transport (λ t. IsLinked last.nodes.items (nodes-more t) (map-append same_node_of items (x ∷ []) t)) s.nodes
 
--- the places of sets at an item that comes
-pub sets-more : (items : List KeptNode) (x : KeptNode) (above : SetPlaces) (place : ℕ) → place ≡ suc (length items) → ((set : NameSet) → set_place set above ≡ last_place (is_in set) (stack_of items))
-    → ((set : NameSet) → set_place set x.sets ≡ cond (is_in_set set (tag_of x.opened.name)) place (set_place set above)) → (set : NameSet) → set_place set x.sets ≡ last_place (is_in set) (opened_by x ∷ stack_of items)
-sets-more items x above place is before here set =
-    let p : place ≡ suc (length (stack_of items)) = omega (arith, length-stack_of items) in
-    here set ∙ (λ i. cond (is_in_set set (tag_of x.opened.name)) (p i) (before set i))
+    counted-top : Stands last (items ++ x ∷ []) → AreCounted last.stops (x.opened.name ∷ names_of items)
+    counted-top s = subst (AreCounted last.stops) names_of-more s.counted
 
--- those at the last item
-pub sets-last : (items front : List KeptNode) (x : KeptNode) → items ≡ front ++ x ∷ [] → AreKept (reverse items) → (set : NameSet) → set_place set x.sets ≡ last_place (is_in set) (stack_of items)
-sets-last items front x is kept set =
-    let k = kept-last front x (subst (λ (xs : List KeptNode). AreKept (reverse xs)) is kept) in
-    k.0.sets set ∙ ap (last_place (is_in set)) (sym (ap stack_of is ∙ stack-more front x))
+    -- the tables have the numbers of an item
+    pub stands-in : Stands last (items ++ x ∷ []) → (x.opened.name < length last.names.items) × (x.opened.node < length last.nodes.items)
+    stands-in s = (
+      linked-in last.names.items (names_in (map opened_by items)) (map same_name_of items ++ x.same_name ∷ []) x.opened.name (linked-names s),
+      linked-in last.nodes.items (nodes_in (map opened_by items)) (map same_node_of items ++ x.same_node ∷ []) x.opened.node (linked-nodes s),
+    )
+
+    -- and it is counted if it must be closed
+    pub stands-must : Stands last (items ++ x ∷ []) → may_stay_open (tag_of x.opened.name) ≡ false → 0 < last.stops.must_close
+    stands-must s e = omega (arith, (counted-top s).must_close, ap (λ v. cond v (closing (names_of items)) (suc (closing (names_of items)))) e)
+
+    -- the last item goes
+    pub stands-less : Stands last (items ++ x ∷ []) → (next : LastPlaces) → next.names.items ≡ set last.names.items x.opened.name x.same_name → next.nodes.items ≡ set last.nodes.items x.opened.node x.same_node
+        → ((names : List ℕ) → AreCounted last.stops (x.opened.name ∷ names) → AreCounted next.stops names) → Stands next items
+    stands-less s next names nodes closes = record {
+      names = rw names (linked-less last.names.items (names_in (map opened_by items)) (map same_name_of items) x.opened.name x.same_name (long same_name_of name_of) (linked-names s));
+      nodes = rw nodes (linked-less last.nodes.items (nodes_in (map opened_by items)) (map same_node_of items) x.opened.node x.same_node (long same_node_of node_of) (linked-nodes s));
+      counted = closes (names_of items) (counted-top s);
+      stops = λ j h.
+          sym (get_or_append_left (map stops_of items) (x.stops ∷ []) 0 j (omega (arith, h, long stops_of name_of))) ∙ ap (λ (l : List ℕ). get_or l j 0) (sym (map-append stops_of items (x ∷ [])))
+          ∙ s.stops j (omega (arith, h, ap length names-more, length-append (names_in (map opened_by items)) (x.opened.name ∷ [])))
+          ∙ ap (λ l. length (specials (reverse l))) (ap (take j) names-more ∙ take-append-le j (names_in (map opened_by items)) (x.opened.name ∷ []) (omega (arith, h)));
+    }
+
+    -- an item comes, with what the tables say
+    pub stands-more : (place : ℕ) → place ≡ suc (length items) → Stands last items → x.opened.name < length last.names.items → x.opened.node < length last.nodes.items
+        → x.same_name ≡ get_or last.names.items x.opened.name 0 → x.same_node ≡ get_or last.nodes.items x.opened.node 0 → x.stops ≡ length last.stops.list.items
+        → (next : LastPlaces) → next.names.items ≡ set last.names.items x.opened.name place → next.nodes.items ≡ set last.nodes.items x.opened.node place
+        → ((names : List ℕ) → AreCounted last.stops names → place ≡ suc (length names) → AreCounted next.stops (x.opened.name ∷ names)) → Stands next (items ++ x ∷ [])
+    stands-more place is s name_in node_in same_name same_node stops next names nodes opens = record {
+      names = rw names (transport (λ t. IsLinked (set last.names.items x.opened.name place) (sym names-more t) (sym (map-append same_name_of items (x ∷ [])) t))
+          (linked-more last.names.items (names_in (map opened_by items)) (map same_name_of items) x.opened.name x.same_name place (omega (arith, is, length-names items)) same_name (long same_name_of name_of) name_in s.names));
+      nodes = rw nodes (transport (λ t. IsLinked (set last.nodes.items x.opened.node place) (sym nodes-more t) (sym (map-append same_node_of items (x ∷ [])) t))
+          (linked-more last.nodes.items (nodes_in (map opened_by items)) (map same_node_of items) x.opened.node x.same_node place (omega (arith, is, length-nodes items)) same_node (long same_node_of node_of) node_in s.nodes));
+      counted = subst (AreCounted next.stops) (sym names_of-more) (opens (names_of items) s.counted (omega (arith, is, length-names items, length-reverse (names_in (map opened_by items)))));
+      stops = λ j h. transport (λ t. get_or (sym (map-append stops_of items (x ∷ [])) t) j 0 ≡ length (specials (reverse (take j (sym names-more t))))) (counts j (omega (arith, h, ap length names-more, length-append (names_in (map opened_by items)) (x.opened.name ∷ []))) (cases_lt j (length items)));
+    }
+      where
+        counts : (j : ℕ) → j ≤ length (names_in (map opened_by items)) → (j < length items) ⊎ (length items ≤ j) → get_or (map stops_of items ++ x.stops ∷ []) j 0 ≡ length (specials (reverse (take j (names_in (map opened_by items) ++ x.opened.name ∷ []))))
+        counts j h (inl less) =
+            get_or_append_left (map stops_of items) (x.stops ∷ []) 0 j (omega (arith, length-map items stops_of)) ∙ s.stops j (omega (arith, length-names items))
+            ∙ ap (λ l. length (specials (reverse l))) (sym (take-append-le j (names_in (map opened_by items)) (x.opened.name ∷ []) h))
+        counts j h (inr past) =
+            get_or_push (map stops_of items) x.stops 0 j (omega (arith, h, length-names items, length-map items stops_of)) ∙ stops ∙ listed last.stops.list.items (names_of items) s.counted.stops
+            ∙ ap (λ l. length (specials (reverse l))) (sym (take_all j (names_in (map opened_by items)) (omega (arith, length-names items))) ∙ sym (take-append-le j (names_in (map opened_by items)) (x.opened.name ∷ []) h))
+
+-- there is room in the numbers where there is in the list
+pub stands-room : (last : LastPlaces) (items : List KeptNode) (name : ℕ) → Stands last items → length items + 1 < 2 ^ 32 → HasSpace last.stops name → HasRoom last.stops name
+stands-room last items name s h space =
+    let few : length (names_of items) ≡ length items = length-reverse (names_in (map opened_by items)) ∙ length-names items in
+    record {
+      fits = omega (arith, few, listed last.stops.list.items (names_of items) s.counted.stops, specials-le (names_of items));
+      counts = omega (arith, few, s.counted.must_close, closing-le (names_of items));
+      space = space;
+    }
+
+-- items that keep the same stand alike
+module _ (last : LastPlaces) (xs ys : List KeptNode) (a : AreAlike xs ys) where
+  pub stands-alike : Stands last ys → Stands last xs
+  stands-alike s = transport (λ t. StandsAs last (sym a.opened t) (sym a.same_names t) (sym a.same_nodes t) (sym a.stops t)) s
+
+  pub alike-take : (n : ℕ) → AreAlike (take n xs) (take n ys)
+  alike-take n = record { opened = part opened_by a.opened; same_names = part same_name_of a.same_names; same_nodes = part same_node_of a.same_nodes; stops = part stops_of a.stops }
+    where
+      part : {X : Type 0} (f : KeptNode → X) → map f xs ≡ map f ys → map f (take n xs) ≡ map f (take n ys)
+      part f e = sym (take-map f n xs) ∙ ap (take n) e ∙ take-map f n ys
+
+numbers-alike : (xs ys : List KeptNode) (names nodes : ℕ) → map opened_by xs ≡ map opened_by ys → AreIn names nodes ys → AreIn names nodes xs
+numbers-alike [] ys names nodes e all = tt
+numbers-alike (x ∷ xs) [] names nodes e all = absurd (let l = ap length e in omega arith)
+numbers-alike (x ∷ xs) (y ∷ ys) names nodes e all =
+    (subst (λ n. n < names) (sym (ap (λ l. number name_of l) e)) all.0, subst (λ n. n < nodes) (sym (ap (λ l. number node_of l) e)) all.1, numbers-alike xs ys names nodes (ap rest e) all.2)
+  where
+    number : (OpenNode ℕ → ℕ) → List (OpenNode ℕ) → ℕ
+    number f [] = 0
+    number f (z ∷ zs) = f z
+
+    rest : List (OpenNode ℕ) → List (OpenNode ℕ)
+    rest [] = []
+    rest (z ∷ zs) = zs
+
+pub numbers-drop_alike : (n : ℕ) (xs ys : List KeptNode) (names nodes : ℕ) → map opened_by xs ≡ map opened_by ys → AreIn names nodes (drop n ys) → AreIn names nodes (drop n xs)
+numbers-drop_alike n xs ys names nodes e all = numbers-alike (drop n xs) (drop n ys) names nodes (sym (drop-map opened_by n xs) ∙ ap (drop n) e ∙ drop-map opened_by n ys) all
+
+-- a new node in the place of one of its name
+module _ (last next : LastPlaces) (items : List KeptNode) (i : ℕ) (x y : KeptNode) (new : Open) (s : Stands last items) (within : i < length items) (is : x ≡ get_or items i x) (fresh : IsFresh last x (suc i) new) where
+  renamed-opened : y.opened ≡ new → map opened_by (set items i y) ≡ set (map opened_by items) i (open_of new)
+  renamed-opened e = map-set opened_by items i y ∙ ap (λ (z : Open). set (map opened_by items) i (open_of z)) e
+
+  pub stands-renamed : new.node < length last.nodes.items → y.opened ≡ new → y.same_name ≡ x.same_name → y.same_node ≡ x.same_node → y.stops ≡ x.stops
+      → next.names.items ≡ last.names.items → next.nodes.items ≡ set (set last.nodes.items x.opened.node 0) new.node (suc i) → next.stops ≡ last.stops → Stands next (set items i y)
+  stands-renamed new_in opened same_name same_node stops names nodes kept = record {
+    names = transport (λ t. IsLinked (sym names t) (sym same_names t) (sym (map-set_same same_name_of items i y x (same_name ∙ ap same_name_of is)) t)) s.names;
+    nodes = transport (λ t. IsLinked (sym table t) (sym moved t) (sym (map-set_same same_node_of items i y x (same_node ∙ ap same_node_of is)) t))
+        (linked-fresh last.nodes.items (nodes_in (map opened_by items)) (map same_node_of items) s.nodes i (omega (arith, length-nodes items)) new.node new_in
+        (same_node-at items i x within ∙ ap same_node_of (sym is) ∙ fresh.none_above) (ap (λ n. get_or last.nodes.items n 0) here ∙ fresh.none_below) fresh.fresh);
+    counted = transport (λ t. AreCounted (sym kept t) (reverse (sym same_names t))) s.counted;
+    stops = transport (λ t. KeepStops (sym same_names t) (sym (map-set_same stops_of items i y x (stops ∙ ap stops_of is)) t)) s.stops;
+  }
+    where
+      here : get_or (nodes_in (map opened_by items)) i 0 ≡ x.opened.node
+      here = node-at items i x within ∙ ap (λ (z : KeptNode). z.opened.node) (sym is)
+
+      table : next.nodes.items ≡ set (set last.nodes.items (get_or (nodes_in (map opened_by items)) i 0) 0) new.node (suc i)
+      table = nodes ∙ ap (λ n. set (set last.nodes.items n 0) new.node (suc i)) (sym here)
+
+      same_names : names_in (map opened_by (set items i y)) ≡ names_in (map opened_by items)
+      same_names =
+          ap names_in (renamed-opened opened)
+          ∙ map-set_same name_of (map opened_by items) i (open_of new) (opened_by x) (sym fresh.name ∙ ap (λ (z : KeptNode). z.opened.name) is ∙ ap name_of (sym (get_or-map opened_by items i x (opened_by x) within)))
+
+      moved : nodes_in (map opened_by (set items i y)) ≡ set (nodes_in (map opened_by items)) i new.node
+      moved = ap nodes_in (renamed-opened opened) ∙ map-set node_of (map opened_by items) i (open_of new)
 
 -- one item of a vector, and those above it
 module _ (items : List KeptNode) (n j : ℕ) (x : KeptNode) (next : n ≡ suc j) (within : j < length items) (is : x ≡ get_or items j x) where
   pub taken-in : (last : LastPlaces) → Stands last (take n items) → (x.opened.name < length last.names.items) × (x.opened.node < length last.nodes.items)
-  taken-in last s = stands-in last (take j items) x (subst (λ (xs : List KeptNode). Stands last xs) (take-more items n j x next within is) s)
+  taken-in last s = stands-in (take j items) x last (subst (λ (xs : List KeptNode). Stands last xs) (take-more items n j x next within is) s)
 
-  pub taken-less : (last next : LastPlaces) → Stands last (take n items) → next.names.items ≡ set last.names.items x.opened.name x.same_name → next.nodes.items ≡ set last.nodes.items x.opened.node x.same_node → Stands next (take j items)
-  taken-less last left s names nodes = stands-less last (take j items) x (subst (λ (xs : List KeptNode). Stands last xs) (take-more items n j x next within is) s) left names nodes
+  pub taken-less : (last next : LastPlaces) → Stands last (take n items) → next.names.items ≡ set last.names.items x.opened.name x.same_name → next.nodes.items ≡ set last.nodes.items x.opened.node x.same_node
+      → ((names : List ℕ) → AreCounted last.stops (x.opened.name ∷ names) → AreCounted next.stops names) → Stands next (take j items)
+  taken-less last left s names nodes closes = stands-less (take j items) x last (subst (λ (xs : List KeptNode). Stands last xs) (take-more items n j x next within is) s) left names nodes closes
+
+  pub taken-must : (last : LastPlaces) → Stands last (take n items) → may_stay_open (tag_of x.opened.name) ≡ false → 0 < last.stops.must_close
+  taken-must last s = stands-must (take j items) x last (subst (λ (xs : List KeptNode). Stands last xs) (take-more items n j x next within is) s)
 
   pub numbers-more : (names nodes : ℕ) → AreIn names nodes (drop n items) → x.opened.name < names → x.opened.node < nodes → AreIn names nodes (drop j items)
   numbers-more names nodes rest name_in node_in = subst (λ (xs : List KeptNode). AreIn names nodes xs) (sym (drop-more items n j x next within is)) (name_in, node_in, rest)

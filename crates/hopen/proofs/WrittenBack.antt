@@ -3,7 +3,9 @@ use Rattle.std.proofs.Common.{◌≡◌, ℕ, List, ◌++◌, length, map, take,
 use Rattle.std.proofs.Math.Seq.{take-append_seam}
 use Rattle.std.proofs.lemmas.List.{length-map}
 use Rattle.std.specs.Prelude.{slice_index}
-use Rattle.hopen.specs.Kept.{opened_by, Stands}
+use Rattle.hopen.specs.Kept.{names_of, opened_by, Stands}
+use Rattle.hopen.specs.Stops.{AreStops}
+use Rattle.hopen.specs.declared.stops.Stop.{Stop}
 use Rattle.hopen.specs.declared.kept.KeptNode.{KeptNode}
 use Rattle.hopen.specs.declared.kept.LastPlaces.{LastPlaces}
 
@@ -15,7 +17,12 @@ written_back new old n lent same is long = ap (λ k. take k (new ++ drop (length
     all = sym (length-map new opened_by) ∙ ap length same ∙ length-map lent opened_by ∙ long
 
 -- where tables say the same places of the same items, these are in them
-pub stands_same : (old new : LastPlaces) (xs ys : List KeptNode) → ((k : ℕ) → slice_index new.names.items k ≡ slice_index old.names.items k)
-    → ((k : ℕ) → slice_index new.nodes.items k ≡ slice_index old.nodes.items k) → ys ≡ xs → Stands old xs → Stands new ys
-stands_same old new xs ys names nodes same s =
-    subst (Stands new) (sym same) (record { names = λ k. names k ∙ s.names k; nodes = λ k. nodes k ∙ s.nodes k; kept = s.kept })
+pub stands_same : (old new : LastPlaces) (xs ys : List KeptNode) → ((k : ℕ) → slice_index new.names.items k ≡ slice_index old.names.items k) → ((k : ℕ) → slice_index new.nodes.items k ≡ slice_index old.nodes.items k)
+    → new.stops.list.items ≡ old.stops.list.items → new.stops.must_close ≡ old.stops.must_close → ys ≡ xs → Stands old xs → Stands new ys
+stands_same old new xs ys names nodes list must_close same s =
+    subst (Stands new) (sym same) (record {
+      names = record { says = λ k. names k ∙ s.names.says k; kept = s.names.kept };
+      nodes = record { says = λ k. nodes k ∙ s.nodes.says k; kept = s.nodes.kept };
+      counted = record { stops = subst (λ (l : List Stop). AreStops l (names_of xs)) (sym list) s.counted.stops; must_close = must_close ∙ s.counted.must_close };
+      stops = s.stops;
+    })

@@ -10,7 +10,7 @@ use Rattle.hopen.specs.declared.scope.Scope.TheVariants as scope
 use Rattle.hopen.specs.declared.scope.Group.TheVariants as group
 use Rattle.hopen.specs.declared.sets_of.TheConstants as bit
 use Rattle.names.specs.declared.tag.Tag.{Tag}
-use Rattle.names.specs.Sets.{is_special, may_stay_open}
+use Rattle.names.specs.Sets.{is_special}
 use Rattle.names.specs.Tags.{tag_of}
 
 -- whether a name is in a set
@@ -18,7 +18,6 @@ abbrev pub is_in_set : NameSet → Tag → Bool
 is_in_set (name_set.Stops scope) t = stops_in scope t
 is_in_set name_set.Special t = is_special t
 is_in_set name_set.StopsItem t = stops_item t
-is_in_set name_set.MustClose t = not (may_stay_open t)
 is_in_set (name_set.Group group) t = is_of_group group t
 
 -- whether the name of an open node is in a set
@@ -33,7 +32,6 @@ set_place (name_set.Stops scope.Button) p = p.button_scope
 set_place (name_set.Stops scope.Table) p = p.table_scope
 set_place name_set.Special p = p.special
 set_place name_set.StopsItem p = p.item_stop
-set_place name_set.MustClose p = p.must_close
 set_place (name_set.Group group.Heading) p = p.heading
 set_place (name_set.Group group.TableSection) p = p.table_section
 set_place (name_set.Group group.Cell) p = p.cell
@@ -47,7 +45,6 @@ set_bit (name_set.Stops scope.Button) = bit.BUTTON_SCOPE
 set_bit (name_set.Stops scope.Table) = bit.TABLE_SCOPE
 set_bit name_set.Special = bit.SPECIAL
 set_bit name_set.StopsItem = bit.ITEM_STOP
-set_bit name_set.MustClose = bit.MUST_CLOSE
 set_bit (name_set.Group group.Heading) = bit.HEADING
 set_bit (name_set.Group group.TableSection) = bit.TABLE_SECTION
 set_bit (name_set.Group group.Cell) = bit.CELL

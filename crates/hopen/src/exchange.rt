@@ -1,303 +1,216 @@
-//! A node leaves the stack, and a new one of its name comes right below another: the end of the adoption agency (13.2.6.4.7). The
-//! number of open nodes stays, so the places of the nodes above and below stay too, and few nodes below keep a place in between.
+//! A node leaves the stack, and a new one comes right below another: the end of the adoption agency (13.2.6.4.7). The node that leaves
+//! passes those from it down to that other one, one at a time, and then the new one takes its place: so nothing below is looked at.
 
-ghost use Rattle.std.specs.Prelude.{◌≡◌, ℕ, ◌+◌, ◌-◌, ◌<◌, ◌≤◌, ◌^◌, ◌==◌, ◌⊎◌, suc, true, length, map, reverse, slice_index, slice_set, vec_capacity};
-ghost use Rattle.std.specs.Prelude.{vec_len, if◌then◌else◌};
-ghost use Rattle.std.specs.List.{remove_range};
-ghost use Rattle.hchain.specs.Nearest.{put_before};
+ghost use Rattle.std.specs.Prelude.{◌≡◌, ℕ, List, ◌∷◌, ◌++◌, ◌+◌, ◌<◌, ◌≤◌, ◌^◌, ◌==◌, ◌&&◌, false, true, suc, length, map, remove, reverse, slice_index, slice_set, vec_capacity, vec_len};
+ghost use Rattle.std.specs.Prelude.{if◌then◌else◌};
+ghost use Rattle.hchain.specs.Nearest.{put_before, without};
 ghost use Rattle.hopen.specs.Opens.{open_of};
-ghost use Rattle.hopen.specs.Stack.{is_node};
-ghost use Rattle.hchain.specs.Places.{SaysPlaces, last_place};
-ghost use Rattle.hopen.specs.NameSets.{is_in, set_place};
-ghost use Rattle.hopen.specs.Kept.{AreKept, Stands, opened_by, stack_of};
-ghost use Rattle.hopen.specs.Exchanged.{AreAlone, AreDone, AreDropped, AreKeptIn, AreLowered, AreRenewed, AreSettled, IsDone, IsDropped, IsFor, IsMended};
-ghost use Rattle.hopen.specs.Exchanged.{IsOutside, opened_after, place_in};
+ghost use Rattle.hopen.specs.Stack.{is_node, is_open};
+ghost use Rattle.hopen.specs.Stops.{AreCounted, HasSpace, specials};
+ghost use Rattle.hopen.specs.Kept.{IsHeld, IsLinked, KeepStops, Passes, Stands, names_in, nodes_in, opened_by, same_name_of, same_node_of};
+ghost use Rattle.hopen.specs.Kept.{stack_of, stops_of, swapped};
+ghost use Rattle.names.specs.Sets.{is_special};
+ghost use Rattle.names.specs.Tags.{tag_of};
 
-use crate::kept::{KeptNode, LastPlaces, insert, nearest_of_sets, remove_run};
-use crate::name_sets::{NameSet, SetPlaces, place_if};
+use crate::kept::{KeptNode, LastPlaces, hint, insert, remove_run, replace};
 use crate::stack::Open;
-use crate::window::Window;
+use crate::stops::{Stops, is_stop};
 use hnodes::NodeId;
 use names::NameId;
 
-/// Whether each node of a window is open nowhere below its own place.
-fn are_alone(last: &LastPlaces, items: &[KeptNode], window: Window) -> bool
+/// The place of the next node below an index that has the same name; 0 if there is none. It takes constant time where the item knows it.
+fn next_of_name(names: &[u32], items: &[KeptNode], index: usize) -> u32
+    requires linked { IsLinked names.now (names_in (map opened_by items.now)) (map same_name_of items.now) }
     requires places { length items.now < 2 ^ 32 }
-    requires order { window.from < window.to }
-    requires within { window.to < length items.now }
-    ensures { (result ≡ true) → AreAlone window.from (suc window.to) last.now.nodes.items items.now }
+    requires within { index < length items.now }
+    ensures { IsHeld names.now (map same_name_of items.now) (slice_index (names_in (map opened_by items.now)) index) (index + 1) result }
 {
-    let mut index = window.from;
-    while index <= window.to {
-        let node = items[index as usize].opened.node;
-        if last.of_node(node) != index + 1 {
-            return false;
-        }
-        index += 1;
+    let item = items[index];
+    let place = index as u32 + 1;
+    if item.next_name > 0
+        && item.next_name as usize <= items.len()
+        && items[item.next_name as usize - 1].same_name == place
+    {
+        return item.next_name;
     }
-    true
+    let mut next = 0;
+    let mut before = names[item.opened.name.index()];
+    while before > place {
+        next = before;
+        before = items[before as usize - 1].same_name;
+    }
+    next
 }
 
-/// Whether the node at the head of a window may leave for a new one without a search for the nodes that keep places in it.
-pub(crate) fn is_window(last: &LastPlaces, items: &[KeptNode], window: Window, new: Open) -> bool
-    requires stands { Stands last.now items.now }
-    requires places { length items.now < 2 ^ 32 }
-    requires within { window.to < length items.now }
-    ensures { (result ≡ true) → IsFor window new items.now }
+/// Writes where the nodes of the name of an item are.
+fn link(items: &mut [KeptNode], index: usize, same_name: u32, next_name: u32)
+    requires { index < length items.old }
+    ensures same_names { map same_name_of items.new ≡ slice_set (map same_name_of items.old) index same_name }
+    ensures opened { map opened_by items.new ≡ map opened_by items.old }
+    ensures same_nodes { map same_node_of items.new ≡ map same_node_of items.old }
+    ensures stops { map stops_of items.new ≡ map stops_of items.old }
 {
-    if window.from >= window.to {
-        return false;
-    }
-    if items[window.from as usize].opened.name != new.name {
-        return false;
-    }
-    if last.of_node(new.node) != 0 {
-        return false;
-    }
-    are_alone(last, items, window)
+    let item = items[index];
+    items[index] = KeptNode {
+        same_name,
+        next_name,
+        ..item
+    };
 }
 
-/// An index below a window up to which the nearest node of a name below it is; the end of the window if there is none.
-fn end_of_name(last: &LastPlaces, items: &[KeptNode], window: Window, name: NameId) -> usize
-    requires stands { Stands last.now items.now }
-    requires places { length items.now < 2 ^ 32 }
-    requires within { window.to < length items.now }
-    ensures order { window.to < result }
-    ensures within { result ≤ length items.now }
-    ensures done { IsDone window.to (λ x. x.name == name) (map opened_by items.now) result }
+/// Changes the place that the item at a place keeps for its name, or where that is 0, the table.
+fn keep(names: &mut [u32], items: &mut [KeptNode], name: NameId, next: u32, place: u32)
+    requires name_in { name < length names.old }
+    requires within { next ≤ length items.old }
+    ensures table { (k : ℕ) → slice_index names.new k ≡ (if next == 0 && k == name then place else slice_index names.old k) }
+    ensures befores { (j : ℕ) → slice_index (map same_name_of items.new) j ≡ (if next == suc j then place else slice_index (map same_name_of items.old) j) }
+    ensures opened { map opened_by items.new ≡ map opened_by items.old }
+    ensures same_nodes { map same_node_of items.new ≡ map same_node_of items.old }
+    ensures stops { map stops_of items.new ≡ map stops_of items.old }
 {
-    let mut index = window.to as usize + 1;
-    if last.of_name(name) as usize <= index {
-        return index;
+    if next > 0 {
+        let item = items[next as usize - 1];
+        link(items, next as usize - 1, place, item.next_name);
+    } else {
+        names[name.index()] = place;
     }
-    while index < items.len() {
-        let found = items[index].opened.name == name;
+}
+
+/// Makes what is kept of the names of a node and the one right below it right for when the two have changed places.
+fn swap_names(names: &mut [u32], items: &mut [KeptNode], index: usize)
+    requires linked { IsLinked names.old (names_in (map opened_by items.old)) (map same_name_of items.old) }
+    requires places { length items.old < 2 ^ 32 }
+    requires within { index + 1 < length items.old }
+    ensures linked { IsLinked names.new (swapped index (names_in (map opened_by items.old))) (map same_name_of items.new) }
+    ensures opened { map opened_by items.new ≡ map opened_by items.old }
+    ensures same_nodes { map same_node_of items.new ≡ map same_node_of items.old }
+    ensures stops { map stops_of items.new ≡ map stops_of items.old }
+{
+    let upper = items[index];
+    let lower = items[index + 1];
+    if upper.opened.name == lower.opened.name {
+        return;
+    }
+    let upper_next = next_of_name(names, items, index);
+    let lower_next = next_of_name(names, items, index + 1);
+    let place = index as u32 + 1;
+    keep(names, items, upper.opened.name, upper_next, place + 1);
+    keep(names, items, lower.opened.name, lower_next, place);
+    link(items, index, lower.same_name, lower_next);
+    link(items, index + 1, upper.same_name, upper_next);
+    hint(items, lower.same_name, place);
+    hint(items, upper.same_name, place + 1);
+}
+
+/// Notes that the lower one of two nodes comes to a place, which was that of the upper one; `index` is how many special nodes are above.
+fn raise(stops: &mut Stops, name: NameId, index: u32, place: u32)
+    requires { is_special (tag_of name) ≡ true → index < length stops.old.list.items }
+    ensures counted { (below above : List ℕ) → (upper : ℕ) → is_special (tag_of upper) ≡ false → index ≡ length (specials above) → place ≡ suc (length above) → AreCounted stops.old (below ++ name ∷ upper ∷ above) → AreCounted stops.new (below ++ upper ∷ name ∷ above) }
+    ensures space { (n : ℕ) → HasSpace stops.old n → HasSpace stops.new n }
+{
+    if is_stop(name.tag()) {
+        stops.list[index as usize].place = place;
+    }
+}
+
+/// How many special nodes are above the one right below an item.
+fn stops_with(item: &KeptNode) -> u32
+    requires { item.now.stops + 1 < 2 ^ 32 }
+    ensures { result ≡ (if is_special (tag_of item.now.opened.name) then suc item.now.stops else item.now.stops) }
+{
+    if is_stop(item.opened.name.tag()) {
+        item.stops + 1
+    } else {
+        item.stops
+    }
+}
+
+/// Exchanges the nodes of an item and the one right below it, and all but what they keep of their names.
+fn swap_items(items: &mut [KeptNode], index: usize)
+    requires within { index + 1 < length items.old }
+    requires places { length items.old < 2 ^ 32 }
+    requires stops { KeepStops (names_in (map opened_by items.old)) (map stops_of items.old) }
+    requires plain { is_special (tag_of (slice_index (names_in (map opened_by items.old)) index)) ≡ false }
+    ensures opened { map opened_by items.new ≡ swapped index (map opened_by items.old) }
+    ensures same_names { map same_name_of items.new ≡ map same_name_of items.old }
+    ensures same_nodes { map same_node_of items.new ≡ swapped index (map same_node_of items.old) }
+    ensures stops { KeepStops (names_in (map opened_by items.new)) (map stops_of items.new) }
+{
+    let upper = items[index];
+    let lower = items[index + 1];
+    items[index] = KeptNode {
+        opened: lower.opened,
+        same_node: lower.same_node,
+        ..upper
+    };
+    items[index + 1] = KeptNode {
+        opened: upper.opened,
+        same_node: upper.same_node,
+        stops: stops_with(&lower),
+        ..lower
+    };
+}
+
+/// Exchanges a node that is not special and the one right below it. Neither is open further below.
+fn swap(last: &mut LastPlaces, items: &mut [KeptNode], index: usize)
+    requires stands { Stands last.old items.old }
+    requires places { length items.old < 2 ^ 32 }
+    requires passes { Passes last.old items.old index }
+    ensures stands { Stands last.new items.new }
+    ensures opened { map opened_by items.new ≡ swapped index (map opened_by items.old) }
+    ensures names { length last.new.names.items ≡ length last.old.names.items }
+    ensures nodes { length last.new.nodes.items ≡ length last.old.nodes.items }
+    ensures space { (n : ℕ) → HasSpace last.old.stops n → HasSpace last.new.stops n }
+{
+    let upper = items[index];
+    let lower = items[index + 1];
+    let place = index as u32 + 1;
+    swap_names(&mut last.names, items, index);
+    last.nodes[upper.opened.node.index()] = place + 1;
+    last.nodes[lower.opened.node.index()] = place;
+    raise(&mut last.stops, lower.opened.name, lower.stops, place);
+    swap_items(items, index);
+}
+
+/// Whether a node can pass the one right below it.
+fn passes(last: &LastPlaces, items: &[KeptNode], index: usize) -> bool
+    requires { index + 1 < length items.now }
+    ensures { (result ≡ true) → Passes last.now items.now index }
+{
+    let upper = items[index].opened;
+    let lower = items[index + 1].opened;
+    if is_stop(upper.name.tag()) {
+        return false;
+    }
+    if last.of_node(upper.node) as usize != index + 1 {
+        return false;
+    }
+    last.of_node(lower.node) as usize == index + 2
+}
+
+/// Moves a node down to another index, or up to the first node that it cannot pass, and returns where it then is.
+fn sink(last: &mut LastPlaces, items: &mut [KeptNode], from: usize, to: usize) -> usize
+    requires stands { Stands last.old items.old }
+    requires places { length items.old < 2 ^ 32 }
+    requires from { from < length items.old }
+    requires to { to < length items.old }
+    ensures stands { Stands last.new items.new }
+    ensures within { result < length items.new }
+    ensures rest { remove (map opened_by items.new) result ≡ remove (map opened_by items.old) from }
+    ensures names { length last.new.names.items ≡ length last.old.names.items }
+    ensures nodes { length last.new.nodes.items ≡ length last.old.nodes.items }
+    ensures space { (n : ℕ) → HasSpace last.old.stops n → HasSpace last.new.stops n }
+{
+    let mut index = from;
+    while index < to && passes(last, items, index) {
+        swap(last, items, index);
         index += 1;
-        if found {
-            return index;
-        }
     }
     index
 }
 
-/// An index past a window: from it on, no node's nearest node of the same name lies inside the window.
-fn end_of_names(last: &LastPlaces, items: &[KeptNode], window: Window) -> usize
-    requires stands { Stands last.now items.now }
-    requires places { length items.now < 2 ^ 32 }
-    requires order { window.from < window.to }
-    requires within { window.to < length items.now }
-    ensures order { window.to < result }
-    ensures within { result ≤ length items.now }
-    ensures done { AreDone window.from window.to (map opened_by items.now) result }
-{
-    let mut end = window.to as usize + 1;
-    let mut index = window.from;
-    while index <= window.to {
-        let name = items[index as usize].opened.name;
-        end = end.max(end_of_name(last, items, window, name));
-        index += 1;
-    }
-    end
-}
-
-/// An index from which on no node keeps a place in a window.
-fn end_of_kept(last: &LastPlaces, items: &[KeptNode], window: Window) -> usize
-    requires stands { Stands last.now items.now }
-    requires places { length items.now < 2 ^ 32 }
-    requires order { window.from < window.to }
-    requires within { window.to < length items.now }
-    ensures order { window.to < result }
-    ensures within { result ≤ length items.now }
-    ensures settled { AreSettled window.from window.to result items.now }
-{
-    let mut end = end_of_names(last, items, window);
-    while end < items.len() {
-        if !items[end - 1].sets.touches(window) {
-            return end;
-        }
-        end += 1;
-    }
-    end
-}
-
-/// Makes the place of a number one less if it is this one.
-fn lower(places: &mut Vec<u32>, number: usize, place: u32)
-    requires { 0 < place }
-    ensures { places.new.items ≡ (if slice_index places.old.items number == place then slice_set places.old.items number (place - 1) else places.old.items) }
-{
-    if number < places.len() && places[number] == place {
-        places[number] = place - 1;
-    }
-}
-
-/// Writes the place of a number if the table reaches it.
-fn put(places: &mut Vec<u32>, number: usize, place: u32)
-    ensures { places.new.items ≡ slice_set places.old.items number place }
-{
-    if number < places.len() {
-        places[number] = place;
-    }
-}
-
-/// Makes the places of the nodes of a window but for its first, and those of their names, one less.
-fn lower_places(last: &mut LastPlaces, items: &[KeptNode], window: Window)
-    requires stands { Stands last.old items.now }
-    requires places { length items.now < 2 ^ 32 }
-    requires order { window.from < window.to }
-    requires within { window.to < length items.now }
-    ensures names { AreLowered window.from (suc window.to) last.old.names.items last.new.names.items }
-    ensures nodes { AreLowered window.from (suc window.to) last.old.nodes.items last.new.nodes.items }
-    ensures names_in { length last.new.names.items ≡ length last.old.names.items }
-    ensures nodes_in { length last.new.nodes.items ≡ length last.old.nodes.items }
-{
-    let mut index = window.from + 1;
-    while index <= window.to {
-        let opened = items[index as usize].opened;
-        index += 1;
-        lower(&mut last.names, opened.name.index(), index);
-        lower(&mut last.nodes, opened.node.index(), index);
-    }
-}
-
-/// Writes the places of the nodes as they are after the exchange.
-fn move_places(last: &mut LastPlaces, items: &[KeptNode], window: Window, new: Open)
-    requires stands { Stands last.old items.now }
-    requires places { length items.now < 2 ^ 32 }
-    requires window { IsFor window new items.now }
-    requires name_in { new.name < length last.old.names.items }
-    requires node_in { new.node < length last.old.nodes.items }
-    ensures names { SaysPlaces (λ x. x.name) last.new.names.items (reverse (opened_after window new items.now)) }
-    ensures nodes { SaysPlaces (λ x. x.node) last.new.nodes.items (reverse (opened_after window new items.now)) }
-{
-    lower_places(last, items, window);
-    let end = window.to + 1;
-    let of_name = window.mended(true, last.of_name(new.name));
-    put(&mut last.names, new.name.index(), of_name);
-    let leaving = items[window.from as usize];
-    put(
-        &mut last.nodes,
-        leaving.opened.node.index(),
-        leaving.same_node,
-    );
-    put(&mut last.nodes, new.node.index(), end);
-}
-
-/// The places of sets at the new node.
-fn sets_of_new(items: &[KeptNode], window: Window, new: Open) -> SetPlaces
-    requires kept { AreKeptIn 0 (suc window.to) items.now (map opened_by items.now) }
-    requires places { length items.now < 2 ^ 32 }
-    requires window { IsFor window new items.now }
-    ensures { (set : NameSet) → set_place set result ≡ place_in (is_in set) (opened_after window new items.now) (suc window.to) }
-{
-    let above = nearest_of_sets(&items[..window.from as usize]);
-    let dropped = items[window.to as usize].sets.dropped(window, &above);
-    dropped.with(new.name.tag(), window.to + 1)
-}
-
-/// An item below a window as it is after the exchange.
-fn mended(window: Window, item: &KeptNode, name: NameId, sets: &SetPlaces) -> KeptNode
-    requires { window.to + 1 < 2 ^ 32 }
-    ensures opened { result.opened ≡ item.now.opened }
-    ensures same_name { IsMended window.from window.to (name == item.now.opened.name) item.now.same_name result.same_name }
-    ensures same_node { result.same_node ≡ item.now.same_node }
-    ensures sets { AreRenewed window.to sets.now item.now.sets result.sets }
-{
-    let is_new = name == item.opened.name;
-    KeptNode {
-        opened: item.opened,
-        same_name: window.mended(is_new, item.same_name),
-        same_node: item.same_node,
-        sets: item.sets.renewed(window, sets),
-    }
-}
-
-/// Mends the items below a window, up to the end of those that keep a place in it. `sets` are the places at the new node.
-fn mend_below(items: &mut [KeptNode], window: Window, end: usize, new: Open, sets: &SetPlaces)
-    requires kept { AreKept (reverse items.old) }
-    requires places { length items.old < 2 ^ 32 }
-    requires window { IsFor window new items.old }
-    requires order { window.to < end }
-    requires within { end ≤ length items.old }
-    requires settled { AreSettled window.from window.to end items.old }
-    requires sets { (set : NameSet) → set_place set sets.now ≡ place_in (is_in set) (opened_after window new items.old) (suc window.to) }
-    ensures opened { map opened_by items.new ≡ map opened_by items.old }
-    ensures above { AreKeptIn 0 (suc window.to) items.new (map opened_by items.old) }
-    ensures below { AreKeptIn (suc window.to) (length items.old) items.new (opened_after window new items.old) }
-{
-    let name = new.name;
-    let mut index = window.to as usize + 1;
-    while index < end {
-        let item = mended(window, &items[index], name, sets);
-        items[index] = item;
-        index += 1;
-    }
-}
-
-/// An item of a window as it is once the first one has left; `above` has the places of sets above that one.
-fn dropped(window: Window, item: &KeptNode, leaving: &KeptNode, above: &SetPlaces) -> KeptNode
-    ensures opened { result.opened ≡ item.now.opened }
-    ensures same_name { IsDropped window.from leaving.now.same_name item.now.same_name result.same_name }
-    ensures same_node { IsDropped window.from leaving.now.same_node item.now.same_node result.same_node }
-    ensures sets { AreDropped window.from above.now item.now.sets result.sets }
-{
-    KeptNode {
-        opened: item.opened,
-        same_name: window.dropped(leaving.same_name, item.same_name),
-        same_node: window.dropped(leaving.same_node, item.same_node),
-        sets: item.sets.dropped(window, above),
-    }
-}
-
-/// Moves the items of a window one up, over its first, and puts the new one at its end, with these places of sets.
-fn move_up(items: &mut [KeptNode], window: Window, new: Open, sets: &SetPlaces)
-    requires places { length items.old < 2 ^ 32 }
-    requires window { IsFor window new items.old }
-    requires above { AreKeptIn 0 (suc window.to) items.old (map opened_by items.old) }
-    requires sets { (set : NameSet) → set_place set sets.now ≡ place_in (is_in set) (opened_after window new items.old) (suc window.to) }
-    requires below { AreKeptIn (suc window.to) (length items.old) items.old (opened_after window new items.old) }
-    ensures opened { map opened_by items.new ≡ opened_after window new items.old }
-    ensures kept { AreKept (reverse items.new) }
-{
-    let Open { node, name } = new;
-    let above = nearest_of_sets(&items[..window.from as usize]);
-    let leaving = items[window.from as usize];
-    let mut same_name = leaving.same_name;
-    let mut index = window.from;
-    while index < window.to {
-        let item = dropped(window, &items[index as usize + 1], &leaving, &above);
-        items[index as usize] = item;
-        index += 1;
-        same_name = place_if(item.opened.name == name, index, same_name);
-    }
-    items[window.to as usize] = KeptNode {
-        opened: Open { node, name },
-        same_name,
-        same_node: 0,
-        sets: *sets,
-    };
-}
-
-/// Takes the node at the head of a window out and puts a new one right below its last. The steps are those of the window, and of the
-/// nodes below that keep a place in it.
-pub(crate) fn exchange(last: &mut LastPlaces, items: &mut [KeptNode], window: Window, new: Open)
-    requires stands { Stands last.old items.old }
-    requires places { length items.old < 2 ^ 32 }
-    requires window { IsFor window new items.old }
-    requires name_in { new.name < length last.old.names.items }
-    requires node_in { new.node < length last.old.nodes.items }
-    ensures stands { Stands last.new items.new }
-    ensures opened { map opened_by items.new ≡ opened_after window new items.old }
-{
-    let Open { node, name } = new;
-    let end = end_of_kept(last, items, window);
-    let sets = sets_of_new(items, window, Open { node, name });
-    move_places(last, items, window, Open { node, name });
-    mend_below(items, window, end, Open { node, name }, &sets);
-    move_up(items, window, Open { node, name }, &sets);
-}
-
-/// The same for any node that leaves, where all nodes below are updated.
-pub(crate) fn exchange_any(
+/// Takes a node out and puts a new one right below another if that is open, by a pass over all nodes below.
+fn exchange_any(
     last: &mut LastPlaces,
     items: &mut Vec<KeptNode>,
     index: usize,
@@ -310,12 +223,43 @@ pub(crate) fn exchange_any(
     requires places { length items.old.items < 2 ^ 32 }
     requires name_in { new.name < length last.old.names.items }
     requires node_in { new.node < length last.old.nodes.items }
+    requires space { HasSpace last.old.stops new.name }
     ensures stands { Stands last.new items.new.items }
-    ensures items { stack_of items.new.items ≡ put_before (is_node above) (open_of new) (stack_of (remove_range items.old.items index (index + 1))) }
+    ensures items { stack_of items.new.items ≡ put_before (is_node above) (open_of new) (reverse (remove (map opened_by items.old.items) index)) }
 {
     remove_run(last, items, index, index + 1);
     let place = last.of_node(above) as usize;
     if place > 0 {
-        insert(last, items, place, KeptNode::new(new));
+        insert(last, items, place, new);
+    }
+}
+
+/// Takes a node out and puts a new one right below another, by a pass over those from the one down to the other, where the one can
+/// pass them.
+pub(crate) fn exchange(
+    last: &mut LastPlaces,
+    items: &mut Vec<KeptNode>,
+    leaving: NodeId,
+    above: NodeId,
+    new: Open,
+)
+    requires stands { Stands last.old items.old.items }
+    requires open { is_open leaving (stack_of items.old.items) ≡ true }
+    requires room { vec_len items.old ≤ vec_capacity items.old }
+    requires places { length items.old.items < 2 ^ 32 }
+    requires name_in { new.name < length last.old.names.items }
+    requires node_in { new.node < length last.old.nodes.items }
+    requires space { HasSpace last.old.stops new.name }
+    ensures stands { Stands last.new items.new.items }
+    ensures items { stack_of items.new.items ≡ put_before (is_node above) (open_of new) (without (is_node leaving) (stack_of items.old.items)) }
+{
+    let Open { node, name } = new;
+    let from = last.of_node(leaving) as usize - 1;
+    let to = (last.of_node(above) as usize).saturating_sub(1);
+    let index = sink(last, items, from, to);
+    if from < to && index == to {
+        replace(last, items, index, Open { node, name });
+    } else {
+        exchange_any(last, items, index, above, Open { node, name });
     }
 }

@@ -1,41 +1,44 @@
 //! The places that open nodes keep, so that no question has to search the stack.
 
-ghost use Rattle.std.specs.Prelude.{◌≡◌, ℕ, ◌+◌, ◌<◌, ◌≤◌, ◌^◌, OnOk, OnErr, [], ◌∷◌, drop, insert, length, map, reverse, slice_index, slice_set, take};
-ghost use Rattle.std.specs.Prelude.{vec_capacity, vec_len, if◌then◌else◌};
+ghost use Rattle.std.specs.Prelude.{◌≡◌, false, true, suc, ℕ, List, ◌+◌, ◌<◌, ◌≤◌, ◌^◌, OnOk, OnErr, [], ◌∷◌, drop, insert, length, map, reverse, slice_index};
+ghost use Rattle.std.specs.Prelude.{slice_set, take, vec_capacity, vec_len, if◌then◌else◌};
 ghost use Rattle.std.specs.List.{remove_range};
 ghost use Rattle.std.specs.Option.{option_map};
 ghost use Rattle.hopen.specs.Opens.{open_of};
 ghost use Rattle.hopen.specs.Stack.{current};
-ghost use Rattle.hchain.specs.Places.{last_place};
-ghost use Rattle.hopen.specs.NameSets.{is_in, is_in_set, set_place};
-ghost use Rattle.hopen.specs.Kept.{AreIn, AreKept, Stands, opened_by, stack_of};
+ghost use Rattle.hopen.specs.Stops.{AreCounted, HasRoom, HasSpace, specials};
+ghost use Rattle.hopen.specs.Kept.{AreAlike, AreIn, IsFresh, Stands, names_of, opened_by, stack_of};
+ghost use Rattle.names.specs.Sets.{may_stay_open};
 ghost use Rattle.names.specs.Tags.{tag_of};
 
-use crate::name_sets::{NameSet, SetPlaces};
 use crate::stack::Open;
+use crate::stops::Stops;
 use hnodes::NodeId;
 use names::NameId;
 use std::alloc::{AllocError, Global};
 
-/// An open node, and the places that were known when it was opened. Places count from 1, the topmost; 0 is none.
+/// An open node, and the places that are known of it. Places count from 1, the topmost; 0 is none.
 #[derive(Clone, Copy)]
 pub(crate) struct KeptNode {
     pub(crate) opened: Open,
     /// The nearest node of the same name above it.
     pub(crate) same_name: u32,
+    /// Where the next node of the same name below it was last seen: it is there if the node there keeps this one as `same_name`.
+    pub(crate) next_name: u32,
     /// The nearest place above it where the same node is open.
     pub(crate) same_node: u32,
-    /// The nearest nodes of each set of names, from it on upwards.
-    pub(crate) sets: SetPlaces,
+    /// How many special nodes are open above it.
+    pub(crate) stops: u32,
 }
 
-const _: () = prove!(std::mem::size_of::<KeptNode>() == 60);
+const _: () = prove!(std::mem::size_of::<KeptNode>() == 24);
 
-/// For each name, and each node, by its number: the nearest place where it is open, 0 if it is not.
+/// For each name, and each node, by its number: the nearest place where it is open, 0 if it is not. And the special nodes.
 #[derive(Drop)]
 pub(crate) struct LastPlaces {
     pub(crate) names: Vec<u32>,
     pub(crate) nodes: Vec<u32>,
+    pub(crate) stops: Stops,
 }
 
 /// The place of a number; 0 if the table does not reach it.
@@ -74,8 +77,9 @@ impl KeptNode {
         KeptNode {
             opened,
             same_name: 0,
+            next_name: 0,
             same_node: 0,
-            sets: SetPlaces::none(),
+            stops: 0,
         }
     }
 }
@@ -84,10 +88,12 @@ impl LastPlaces {
     pub(crate) fn new(alloc: Global) -> Self
         ensures names { result.names.items ≡ [] }
         ensures nodes { result.nodes.items ≡ [] }
+        ensures stops { AreCounted result.stops [] }
     {
         LastPlaces {
             names: Vec::new(alloc),
             nodes: Vec::new(alloc),
+            stops: Stops::new(alloc),
         }
     }
 
@@ -105,15 +111,19 @@ impl LastPlaces {
         place_at(&self.nodes, node.index())
     }
 
-    /// Grows the tables so that a node and its name are in them.
+    /// Makes room for a node and its name.
     pub(crate) fn make_room(&mut self, opened: Open) -> Result<(), AllocError>
         ensures same_names { (k : ℕ) → slice_index self.new.names.items k ≡ slice_index self.old.names.items k }
         ensures same_nodes { (k : ℕ) → slice_index self.new.nodes.items k ≡ slice_index self.old.nodes.items k }
+        ensures same_stops { self.new.stops.list.items ≡ self.old.stops.list.items }
+        ensures must_close { self.new.stops.must_close ≡ self.old.stops.must_close }
         ensures name_in { OnOk result (opened.name < length self.new.names.items) }
         ensures node_in { OnOk result (opened.node < length self.new.nodes.items) }
+        ensures room { OnOk result (HasSpace self.new.stops opened.name) }
     {
         make_room(&mut self.names, opened.name.index())?;
-        make_room(&mut self.nodes, opened.node.index())
+        make_room(&mut self.nodes, opened.node.index())?;
+        self.stops.make_room(opened.name)
     }
 
     /// Writes the places of a node and of its name.
@@ -122,56 +132,73 @@ impl LastPlaces {
         requires node_in { opened.node < length self.old.nodes.items }
         ensures names { self.new.names.items ≡ slice_set self.old.names.items opened.name of_name }
         ensures nodes { self.new.nodes.items ≡ slice_set self.old.nodes.items opened.node of_node }
+        ensures stops { self.new.stops ≡ self.old.stops }
     {
         self.names[opened.name.index()] = of_name;
         self.nodes[opened.node.index()] = of_node;
     }
 
-    /// Notes that a node is open at a place.
+    /// Notes that a node is open at a place, below all others.
+    #[inline(always)]
     pub(crate) fn put(&mut self, opened: Open, place: u32)
         requires name_in { opened.name < length self.old.names.items }
         requires node_in { opened.node < length self.old.nodes.items }
+        requires room { HasRoom self.old.stops opened.name }
         ensures names { self.new.names.items ≡ slice_set self.old.names.items opened.name place }
         ensures nodes { self.new.nodes.items ≡ slice_set self.old.nodes.items opened.node place }
+        ensures counted { (names : List ℕ) → AreCounted self.old.stops names → place ≡ suc (length names) → AreCounted self.new.stops (opened.name ∷ names) }
+        ensures capacity { vec_capacity self.old.stops.list ≤ vec_capacity self.new.stops.list }
     {
-        self.set(opened, place, place);
+        let Open { node, name } = opened;
+        self.set(Open { node, name }, place, place);
+        self.stops.open(name, place);
     }
 
-    /// Notes that the node of an item is closed: what the item kept is the nearest again.
+    /// Notes that the node of the lowest item is closed: what the item kept is the nearest again.
+    #[inline(always)]
     pub(crate) fn take_back(&mut self, item: &KeptNode)
         requires name_in { item.now.opened.name < length self.old.names.items }
         requires node_in { item.now.opened.node < length self.old.nodes.items }
+        requires must_close { may_stay_open (tag_of item.now.opened.name) ≡ false → 0 < self.old.stops.must_close }
         ensures names { self.new.names.items ≡ slice_set self.old.names.items item.now.opened.name item.now.same_name }
         ensures nodes { self.new.nodes.items ≡ slice_set self.old.nodes.items item.now.opened.node item.now.same_node }
+        ensures counted { (names : List ℕ) → AreCounted self.old.stops (item.now.opened.name ∷ names) → AreCounted self.new.stops names }
+        ensures capacity { vec_capacity self.new.stops.list ≡ vec_capacity self.old.stops.list }
     {
         self.set(item.opened, item.same_name, item.same_node);
+        self.stops.close(item.opened.name);
     }
 
-    /// The item of a node that is opened at a place, right below a node with these places of sets.
+    /// The item of a node that is opened right below all others.
     #[inline(always)]
-    pub(crate) fn item(&self, opened: Open, above: &SetPlaces, place: u32) -> KeptNode
+    pub(crate) fn item(&self, opened: Open) -> KeptNode
+        requires { length self.now.stops.list.items < 2 ^ 32 }
         ensures opened { result.opened ≡ opened }
         ensures same_name { result.same_name ≡ slice_index self.now.names.items opened.name }
         ensures same_node { result.same_node ≡ slice_index self.now.nodes.items opened.node }
-        ensures sets { (set : NameSet) → set_place set result.sets ≡ (if is_in_set set (tag_of opened.name) then place else set_place set above.now) }
+        ensures stops { result.stops ≡ length self.now.stops.list.items }
     {
         KeptNode {
             opened,
             same_name: self.of_name(opened.name),
+            next_name: 0,
             same_node: self.of_node(opened.node),
-            sets: above.with(opened.name.tag(), place),
+            stops: self.stops.list.len() as u32,
         }
     }
 }
 
-/// The nearest nodes of each set of names.
-pub(crate) fn nearest_of_sets(items: &[KeptNode]) -> SetPlaces
-    requires { AreKept (reverse items.now) }
-    ensures { (set : NameSet) → set_place set result ≡ last_place (is_in set) (stack_of items.now) }
+/// Notes at the item at a place, if it is one, where the next node of its name is.
+#[inline(always)]
+pub(crate) fn hint(items: &mut [KeptNode], place: u32, next: u32)
+    ensures { AreAlike items.new items.old }
 {
-    match items.split_last() {
-        Some((item, _)) => item.sets,
-        None => SetPlaces::none(),
+    if place > 0 && place as usize <= items.len() {
+        let item = items[place as usize - 1];
+        items[place as usize - 1] = KeptNode {
+            next_name: next,
+            ..item
+        };
     }
 }
 
@@ -183,6 +210,7 @@ fn unwind(last: &mut LastPlaces, items: &[KeptNode], from: usize)
     ensures numbers { AreIn (length last.new.names.items) (length last.new.nodes.items) (drop from items.now) }
     ensures names { length last.new.names.items ≡ length last.old.names.items }
     ensures nodes { length last.new.nodes.items ≡ length last.old.nodes.items }
+    ensures capacity { vec_capacity last.new.stops.list ≡ vec_capacity last.old.stops.list }
 {
     let mut end = items.len();
     while end > from {
@@ -197,19 +225,21 @@ fn rewind(last: &mut LastPlaces, items: &mut [KeptNode], from: usize)
     requires within { from ≤ length items.old }
     requires numbers { AreIn (length last.old.names.items) (length last.old.nodes.items) (drop from items.old) }
     requires places { length items.old < 2 ^ 32 }
+    requires room { length (specials (names_of items.old)) ≤ vec_capacity last.old.stops.list }
     ensures stands { Stands last.new items.new }
     ensures same { map opened_by items.new ≡ map opened_by items.old }
     ensures names { length last.new.names.items ≡ length last.old.names.items }
     ensures nodes { length last.new.nodes.items ≡ length last.old.nodes.items }
+    ensures capacity { vec_capacity last.old.stops.list ≤ vec_capacity last.new.stops.list }
 {
-    let mut sets = nearest_of_sets(&items[..from]);
     let mut index = from;
     while index < items.len() {
         let place = index as u32 + 1;
-        let item = last.item(items[index].opened, &sets, place);
+        let item = last.item(items[index].opened);
+        let same_name = item.same_name;
         last.put(item.opened, place);
-        sets = item.sets;
         items[index] = item;
+        hint(items, same_name, place);
         index += 1;
     }
 }
@@ -230,10 +260,11 @@ pub(crate) fn push(
     let Open { node, name } = opened;
     last.make_room(Open { node, name })?;
     let place = items.len() as u32 + 1;
-    let above = nearest_of_sets(items);
-    let item = last.item(Open { node, name }, &above, place);
+    let item = last.item(Open { node, name });
+    let same_name = item.same_name;
     items.push(item)?;
     last.put(Open { node, name }, place);
+    hint(items, same_name, place);
     Ok(())
 }
 
@@ -259,6 +290,7 @@ pub(crate) fn remove_run(last: &mut LastPlaces, items: &mut Vec<KeptNode>, from:
     ensures items { map opened_by items.new.items ≡ map opened_by (remove_range items.old.items from to) }
     ensures names { length last.new.names.items ≡ length last.old.names.items }
     ensures nodes { length last.new.nodes.items ≡ length last.old.nodes.items }
+    ensures stops { vec_capacity last.old.stops.list ≤ vec_capacity last.new.stops.list }
     ensures capacity { vec_capacity items.new ≡ vec_capacity items.old }
 {
     if from == to {
@@ -269,34 +301,75 @@ pub(crate) fn remove_run(last: &mut LastPlaces, items: &mut Vec<KeptNode>, from:
     rewind(last, items, from);
 }
 
-/// Puts another item in the place of one, and updates the places below it.
-pub(crate) fn replace(last: &mut LastPlaces, items: &mut [KeptNode], index: usize, item: KeptNode)
+/// Whether a node can be exchanged for a new one at its place, where just what its number says changes: the name is the same, the node
+/// is open nowhere else, and the new one nowhere.
+fn is_renamed(last: &LastPlaces, item: &KeptNode, place: u32, new: Open) -> bool
+    ensures { (result ≡ true) → IsFresh last.now item.now place new }
+{
+    let Open { node, name } = new;
+    item.opened.name == name
+        && item.same_node == 0
+        && last.of_node(item.opened.node) == place
+        && last.of_node(node) == 0
+}
+
+/// Puts a new node in the place of one, and updates the places below it.
+fn replace_any(last: &mut LastPlaces, items: &mut [KeptNode], index: usize, new: Open)
     requires stands { Stands last.old items.old }
     requires within { index < length items.old }
     requires places { length items.old < 2 ^ 32 }
-    requires name_in { item.opened.name < length last.old.names.items }
-    requires node_in { item.opened.node < length last.old.nodes.items }
+    requires name_in { new.name < length last.old.names.items }
+    requires node_in { new.node < length last.old.nodes.items }
+    requires space { HasSpace last.old.stops new.name }
     ensures stands { Stands last.new items.new }
-    ensures items { map opened_by items.new ≡ map opened_by (slice_set items.old index item) }
+    ensures items { map opened_by items.new ≡ slice_set (map opened_by items.old) index (open_of new) }
 {
     unwind(last, items, index);
-    items[index] = item;
+    items[index] = KeptNode::new(new);
     rewind(last, items, index);
 }
 
-/// Inserts an item at an index, and updates the places below it.
-pub(crate) fn insert(last: &mut LastPlaces, items: &mut Vec<KeptNode>, index: usize, item: KeptNode)
+/// Puts a new node in the place of one. It takes constant time where the new node has the name of the old one, which is open nowhere
+/// else; otherwise it updates the places below it.
+pub(crate) fn replace(last: &mut LastPlaces, items: &mut [KeptNode], index: usize, new: Open)
+    requires stands { Stands last.old items.old }
+    requires within { index < length items.old }
+    requires places { length items.old < 2 ^ 32 }
+    requires name_in { new.name < length last.old.names.items }
+    requires node_in { new.node < length last.old.nodes.items }
+    requires space { HasSpace last.old.stops new.name }
+    ensures stands { Stands last.new items.new }
+    ensures items { map opened_by items.new ≡ slice_set (map opened_by items.old) index (open_of new) }
+{
+    let Open { node, name } = new;
+    let item = items[index];
+    let place = index as u32 + 1;
+    if is_renamed(last, &item, place, Open { node, name }) {
+        last.nodes[item.opened.node.index()] = 0;
+        last.nodes[node.index()] = place;
+        items[index] = KeptNode {
+            opened: Open { node, name },
+            ..item
+        };
+    } else {
+        replace_any(last, items, index, Open { node, name });
+    }
+}
+
+/// Inserts a node at an index, and updates the places below it.
+pub(crate) fn insert(last: &mut LastPlaces, items: &mut Vec<KeptNode>, index: usize, new: Open)
     requires stands { Stands last.old items.old.items }
     requires within { index ≤ length items.old.items }
     requires room { vec_len items.old < vec_capacity items.old }
     requires places { length items.old.items + 1 < 2 ^ 32 }
-    requires name_in { item.opened.name < length last.old.names.items }
-    requires node_in { item.opened.node < length last.old.nodes.items }
+    requires name_in { new.name < length last.old.names.items }
+    requires node_in { new.node < length last.old.nodes.items }
+    requires space { HasSpace last.old.stops new.name }
     ensures stands { Stands last.new items.new.items }
-    ensures items { map opened_by items.new.items ≡ map opened_by (insert items.old.items index item) }
+    ensures items { map opened_by items.new.items ≡ insert (map opened_by items.old.items) index (open_of new) }
 {
     unwind(last, items, index);
-    if items.insert(index, item).is_err() {
+    if items.insert(index, KeptNode::new(new)).is_err() {
         unreachable!()
     }
     rewind(last, items, index);

@@ -9,7 +9,7 @@ pub mod scope;
 mod sets_of;
 mod sought;
 pub mod stack;
-mod window;
+mod stops;
 
 pub use laws::stack_knows_no_names;
 pub use scope::{Group, Scope};

@@ -1,6 +1,9 @@
 //! Which sets hold a known name: a table of bits by the name.
 
-ghost use Rattle.std.specs.Prelude.{◌≡◌};
+ghost use Rattle.std.specs.Prelude.{◌≡◌, nat_eq};
+ghost use Rattle.std.specs.Int.Bits.{bit_and};
+ghost use Rattle.names.specs.Sets.{may_stay_open};
+ghost use Rattle.hopen.specs.declared.sets_of.TheConstants.{MUST_CLOSE};
 ghost use Rattle.hopen.specs.NameSets.{has_set, is_in_set};
 
 use crate::name_sets::NameSet;
@@ -169,7 +172,8 @@ static SETS: [u16; 128] = [
 /// The bits of the sets that hold a name.
 #[inline(always)]
 pub(crate) fn sets_of(tag: Tag) -> u16
-    ensures { (set : NameSet) → has_set result set ≡ is_in_set set tag }
+    ensures sets { (set : NameSet) → has_set result set ≡ is_in_set set tag }
+    ensures must_close { nat_eq (bit_and result MUST_CLOSE) 0 ≡ may_stay_open tag }
 {
     SETS[tag as usize]
 }

@@ -15,12 +15,11 @@ ghost use Rattle.names.specs.Sets.{is_special, may_stay_open};
 ghost use Rattle.names.specs.declared.refusal.Refusal.TheVariants.{TooDeep, Memory};
 ghost use Rattle.hopen.specs.declared.scope.Scope.TheVariants.{Default};
 
-use crate::exchange::{exchange, exchange_any, is_window};
-use crate::kept::{KeptNode, LastPlaces, insert, nearest_of_sets, pop, push, remove_run, replace};
+use crate::exchange::exchange;
+use crate::kept::{KeptNode, LastPlaces, insert, pop, push, remove_run, replace};
 use crate::name_sets::NameSet;
 use crate::scope::{Group, Scope};
 use crate::sought::{Sought, first_special};
-use crate::window::Window;
 use hnodes::NodeId;
 use names::{NameId, Refusal};
 use std::alloc::{AllocError, Global};
@@ -36,10 +35,12 @@ pub struct Open {
 /// The open nodes with their names, from html down to the current node.
 ///
 /// No question searches the stack, but for `furthest_block`, which passes the nodes from the formatting element down to the block.
-/// A push and a pop take the same time at any depth, amortized. `remove`, `remove_run`, `replace` and `insert_below` take a step for
-/// each node below, `exchange` a step for the few that keep a changed place. An open node takes 60 bytes; each of the two tables of
-/// places takes 4 bytes for each number up to the greatest one. `push`, `replace`, `insert_below` and `exchange` alone allocate, and on
-/// an error they change nothing.
+/// A push and a pop take the same time at any depth, amortized. `exchange` takes a step for each node from the one that leaves down to
+/// the other, and nothing below, where the one that leaves is not special and has the name of the new one; `replace` takes the same
+/// time at any depth where the names are the same. Else these two, and `remove`, `remove_run` and `insert_below` always, take a step
+/// for each node below. An open node takes 24 bytes, and a special one 44 more; each of the two tables of places takes 4 bytes for
+/// each number up to the greatest one. `push`, `replace`, `insert_below` and `exchange` alone allocate, and on an error they change
+/// nothing.
 #[derive(Drop)]
 pub struct OpenStack {
     items: Vec<KeptNode>,
@@ -143,7 +144,8 @@ impl OpenStack {
         remove_run(&mut self.last, &mut self.items, to - count, to);
     }
 
-    /// Puts another node in the place of an open one; does nothing if that is not open.
+    /// Puts another node in the place of an open one; does nothing if that is not open. It takes the same time at any depth where the
+    /// names are the same.
     pub fn replace(&mut self, node: NodeId, by: Open) -> Result<(), AllocError>
         ensures ok { OnOk result (self.new ≡ record self.old { stack = changed (is_node node) (λ _. open_of by) self.old.stack }) }
         ensures err { OnErr result (self.new ≡ self.old) }
@@ -151,7 +153,7 @@ impl OpenStack {
         if let Some(index) = self.index(Sought::Node(node)) {
             let wanted = by;
             self.last.make_room(wanted)?;
-            replace(&mut self.last, &mut self.items, index, KeptNode::new(by));
+            replace(&mut self.last, &mut self.items, index, by);
         }
         Ok(())
     }
@@ -168,19 +170,14 @@ impl OpenStack {
             let wanted = opened;
             self.last.make_room(wanted)?;
             self.items.reserve(1)?;
-            insert(
-                &mut self.last,
-                &mut self.items,
-                index + 1,
-                KeptNode::new(opened),
-            );
+            insert(&mut self.last, &mut self.items, index + 1, opened);
         }
         Ok(())
     }
 
     /// Takes a node out and puts a new one right below another, in place of it (13.2.6.4.7, the end of the adoption agency). Where the
-    /// new node has the name of the one that leaves, and is below it, this takes a step for each node from the one that leaves down
-    /// to the other, and for each node below up to the last that keeps a place among these.
+    /// new node has the name of the one that leaves, which is not special, this takes a step for each node from the one that leaves
+    /// down to the other.
     pub fn exchange(&mut self, leaving: NodeId, above: NodeId, new: Open) -> Result<(), AllocError>
         requires { is_open leaving self.old.stack ≡ true }
         ensures ok { OnOk result (self.new ≡ record self.old { stack = put_before (is_node above) (open_of new) (without (is_node leaving) self.old.stack) }) }
@@ -188,25 +185,13 @@ impl OpenStack {
     {
         let Open { node, name } = new;
         self.last.make_room(Open { node, name })?;
-        let Some(from) = self.index(Sought::Node(leaving)) else {
-            unreachable!()
-        };
-        let to = self.index(Sought::Node(above)).unwrap_or(0);
-        let window = Window {
-            from: from as u32,
-            to: to as u32,
-        };
-        if is_window(&self.last, &self.items, window, Open { node, name }) {
-            exchange(&mut self.last, &mut self.items, window, Open { node, name });
-        } else {
-            exchange_any(
-                &mut self.last,
-                &mut self.items,
-                from,
-                above,
-                Open { node, name },
-            );
-        }
+        exchange(
+            &mut self.last,
+            &mut self.items,
+            leaving,
+            above,
+            Open { node, name },
+        );
         Ok(())
     }
 
@@ -245,7 +230,7 @@ impl OpenStack {
     pub fn all_may_stay_open(&self) -> bool
         ensures { result ≡ list_all (λ x. may_stay_open (tag_of x.name)) self.now.stack }
     {
-        self.set_place(NameSet::MustClose) == 0
+        self.last.stops.must_close == 0
     }
 
     /// Whether a node is in scope, without further words.
@@ -363,10 +348,15 @@ impl OpenStack {
     }
 
     /// The place of the nearest node whose name is in a set; 0 if none is open.
+    #[inline(always)]
     fn set_place(&self, set: NameSet) -> u32
         ensures { result ≡ last_place (is_in set) self.now.stack }
     {
-        nearest_of_sets(&self.items).of(set)
+        let index = self.last.stops.nearest_of(set) as usize;
+        if index == 0 {
+            return 0;
+        }
+        self.last.stops.list[index - 1].place
     }
 
     /// How many open nodes are below the nearest that is sought; None if there is none.
@@ -403,6 +393,7 @@ impl OpenStack {
     }
 
     /// Going up from the current node, whether one that is sought is met before any other of a set.
+    #[inline(always)]
     fn is_nearer(&self, sought: Sought, stops: NameSet) -> bool
         ensures { result ≡ is_in_scope (is_in stops) (is_sought sought) self.now.stack }
     {

@@ -1,14 +1,21 @@
-use Rattle.std.proofs.Common.{◌≡◌, ◌∙◌, sym, ap, subst, map, rules, arith}
+use Rattle.std.proofs.Common.{◌≡◌, ◌<◌, ◌∷◌, List, take, drop, length, ◌∙◌, sym, ap, subst, map, rules, arith}
 use Rattle.std.specs.List.{insert}
-use Rattle.hopen.specs.Kept.{Stands, opened_by}
+use Rattle.std.proofs.lemmas.List.{drop_at, length-take-le}
+use Rattle.hopen.specs.Kept.{AreIn, Stands, names_of, opened_by}
+use Rattle.hopen.specs.Opens.{open_of}
+use Rattle.hopen.specs.Stops.{HasSpace, specials}
+use Rattle.hopen.specs.declared.kept.KeptNode.{KeptNode}
+use Rattle.hopen.specs.declared.stack.Open.{Open}
+use Rattle.hopen.proofs.Rooms.{map-insert, room-insert}
 use Rattle.hopen.proofs.WrittenBack.{written_back}
 use Rattle.std.proofs.lemmas.Grind.{common_steps}
 use Rattle.hopen.proofs.kept.insert.Goals as goal
 
 pub returns-clause-items : goal.returns-clause-items
 returns-clause-items c =
-    let put : c.insert.new.self.items ≡ insert c.args.items.now.items c.args.index c.args.item = search rules in
+    let put : c.insert.new.self.items ≡ insert c.args.items.now.items c.args.index c.new.result = search rules in
     ap (map opened_by) (written_back c.rewind.new.items _ _ _ c.rewind.ensures.same c.deref_mut.ensures.value c.deref_mut.ensures.len) ∙ c.rewind.ensures.same ∙ ap (map opened_by) (c.deref_mut.ensures.value ∙ put)
+    ∙ map-insert opened_by c.args.items.now.items c.args.index c.new.result ∙ ap (λ (z : Open). insert (map opened_by c.args.items.now.items) c.args.index (open_of z)) c.new.ensures
 
 pub returns-clause-stands : goal.returns-clause-stands
 returns-clause-stands c =
@@ -17,5 +24,19 @@ returns-clause-stands c =
 pub rewind-requires-clause-stands : goal.rewind-requires-clause-stands
 rewind-requires-clause-stands c = grind (arith, common_steps)
 
+pub rewind-requires-clause-room : goal.rewind-requires-clause-room
+rewind-requires-clause-room c =
+    let put : c.insert.new.self.items ≡ insert c.args.items.now.items c.args.index c.new.result = search rules in
+    omega (arith, ap (λ (xs : List KeptNode). length (specials (names_of xs))) (c.deref_mut.ensures.value ∙ put), room-insert c.args.last.now c.args.items.now.items c.requires.stands c.args.index c.new.result (subst (λ (z : Open). HasSpace c.args.last.now.stops z.name) (sym c.new.ensures) c.requires.space), c.unwind.ensures.capacity)
+
 pub rewind-requires-clause-numbers : goal.rewind-requires-clause-numbers
-rewind-requires-clause-numbers c = grind (arith, common_steps)
+rewind-requires-clause-numbers c =
+    let put : c.insert.new.self.items ≡ insert c.args.items.now.items c.args.index c.new.result = search rules in
+    let all = c.args.items.now.items in
+    let left : drop c.args.index (insert all c.args.index c.new.result) ≡ c.new.result ∷ drop c.args.index all = drop_at (take c.args.index all) (c.new.result ∷ drop c.args.index all) c.args.index (length-take-le c.args.index all c.requires.within) in
+    let numbers : AreIn (length c.unwind.new.last.names.items) (length c.unwind.new.last.nodes.items) (drop c.args.index all) = subst (λ (xs : List KeptNode). AreIn (length c.unwind.new.last.names.items) (length c.unwind.new.last.nodes.items) (drop c.args.index xs)) c.deref.ensures.value c.unwind.ensures.numbers in
+    subst (AreIn (length c.unwind.new.last.names.items) (length c.unwind.new.last.nodes.items)) (sym (ap (drop c.args.index) (c.deref_mut.ensures.value ∙ put) ∙ left)) (
+      subst (λ (z : Open). z.name < length c.unwind.new.last.names.items) (sym c.new.ensures) (omega (arith, c.requires.name_in, c.unwind.ensures.names)),
+      subst (λ (z : Open). z.node < length c.unwind.new.last.nodes.items) (sym c.new.ensures) (omega (arith, c.requires.node_in, c.unwind.ensures.nodes)),
+      numbers,
+    )

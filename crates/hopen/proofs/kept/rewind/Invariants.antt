@@ -1,8 +1,5 @@
-use Rattle.std.proofs.Common.{◌≡◌, ◌≤◌, ◌-◌, length, map, take, drop}
-use Rattle.hchain.specs.Places.{last_place}
-use Rattle.hopen.specs.NameSets.{is_in, set_place}
-use Rattle.hopen.specs.Kept.{Stands, AreIn, opened_by, stack_of}
-use Rattle.hopen.specs.declared.name_sets.NameSet.{NameSet}
+use Rattle.std.proofs.Common.{◌≡◌, ◌≤◌, ◌-◌, length, map, take, drop, vec_capacity}
+use Rattle.hopen.specs.Kept.{Stands, AreIn, opened_by}
 use Rattle.hopen.proofs.kept.rewind.Given as goal
 
 abbrev pub invariant-loop-index : goal.invariant-loop-index
@@ -10,10 +7,10 @@ invariant-loop-index l = record {
   within : l.index ≤ length l.items;
   stands : Stands l.last (take l.index l.items);
   numbers : AreIn (length l.last.names.items) (length l.last.nodes.items) (drop l.index l.items);
-  sets : (set : NameSet) → set_place set l.sets ≡ last_place (is_in set) (stack_of (take l.index l.items));
   same : map opened_by l.items ≡ map opened_by l.initial.items;
   names : length l.last.names.items ≡ length l.initial.last.names.items;
   nodes : length l.last.nodes.items ≡ length l.initial.last.nodes.items;
+  capacity : vec_capacity l.initial.last.stops.list ≤ vec_capacity l.last.stops.list;
 }
 
 abbrev pub decreases-loop-index : goal.decreases-loop-index

@@ -1,14 +1,14 @@
-use Rattle.std.proofs.Common.{◌<◌, ◌≤◌, ◌+◌, List, length, ◌∙◌, sym, ap, map, reverse, subst, arith, ℕ, ◌≡◌}
+use Rattle.std.proofs.Common.{◌≤◌, ◌+◌, List, length, ◌∙◌, sym, ap, map, reverse, subst, arith, ℕ, ◌≡◌}
 use Rattle.hopen.proofs.Opened.{seen, found, none_found, kept, room-left}
 use Rattle.hopen.proofs.WrittenBack.{stands_same}
 use Rattle.hchain.proofs.Nearest.{insert_nearest, no_words}
 use Rattle.hchain.specs.Nearest.{put_before}
 use Rattle.hopen.specs.Stack.{is_node, OpenNodes}
 use Rattle.hopen.specs.Opens.{open_of}
-use Rattle.hopen.specs.Kept.{opened_by, stack_of}
+use Rattle.hopen.specs.Kept.{opened_by}
 use Rattle.hopen.specs.declared.kept.KeptNode.{KeptNode}
-use Rattle.hopen.specs.declared.stack.Open.{Open}
 use Rattle.std.specs.List.{insert}
+use Rattle.hopen.proofs.Rooms.{map-insert}
 use Rattle.hopen.proofs.Standing.{many}
 use Rattle.std.proofs.lemmas.List.{length-map}
 use Rattle.std.proofs.lemmas.List.Edits.{length-insert}
@@ -18,10 +18,10 @@ pub returns-in_ok-reserve-clause-ok : goal.returns-in_ok-reserve-clause-ok
 returns-in_ok-reserve-clause-ok c =
     let f = found c.self.inside c.args.self.now (is_node c.args.node) c.in-Some.index c.self.view_is c.in-Some.ensures.found c.in-Some.ensures.within in
     let word = put_before (is_node c.args.node) (open_of c.args.opened) in
+    let x : KeptNode = record { opened = c.args.opened; same_name = 0; next_name = 0; same_node = 0; stops = 0 } in
     seen c.self.inside c.args.self.now word c.insert.new.items.items c.self.view_is
-    (ap reverse (c.insert.ensures.items ∙ ap (λ (xs : List KeptNode). map opened_by (insert xs (c.in-Some.index + 1) c.new.result)) c.in_ok-reserve.ensures.items)
-    ∙ insert_nearest opened_by (is_node c.args.node) c.self.inside.items.items c.in-Some.index f.up c.new.result f.place f.sum
-    ∙ ap (λ (x : Open). put_before (is_node c.args.node) (open_of x) (stack_of c.self.inside.items.items)) c.new.ensures)
+    (ap reverse (c.insert.ensures.items ∙ ap (λ (xs : List KeptNode). insert (map opened_by xs) (c.in-Some.index + 1) (open_of c.args.opened)) c.in_ok-reserve.ensures.items ∙ sym (map-insert opened_by c.self.inside.items.items (c.in-Some.index + 1) x))
+    ∙ insert_nearest opened_by (is_node c.args.node) c.self.inside.items.items c.in-Some.index f.up x f.place f.sum)
 
 pub returns-in_default-clause-ok : goal.returns-in_default-clause-ok
 returns-in_default-clause-ok c =
@@ -29,18 +29,12 @@ returns-in_default-clause-ok c =
 
 pub insert-requires-clause-stands : goal.insert-requires-clause-stands
 insert-requires-clause-stands c =
-    stands_same c.self.inside.last _ c.self.inside.items.items _ c.in_ok-make_room.ensures.same_names c.in_ok-make_room.ensures.same_nodes c.in_ok-reserve.ensures.items c.self.invariant.stands
-
-pub insert-requires-clause-name_in : goal.insert-requires-clause-name_in
-insert-requires-clause-name_in c = subst (λ (x : Open). x.name < length c.make_room.new.self.names.items) (sym c.new.ensures) c.in_ok-make_room.ensures.name_in
-
-pub insert-requires-clause-node_in : goal.insert-requires-clause-node_in
-insert-requires-clause-node_in c = subst (λ (x : Open). x.node < length c.make_room.new.self.nodes.items) (sym c.new.ensures) c.in_ok-make_room.ensures.node_in
+    stands_same c.self.inside.last _ c.self.inside.items.items _ c.in_ok-make_room.ensures.same_names c.in_ok-make_room.ensures.same_nodes c.in_ok-make_room.ensures.same_stops c.in_ok-make_room.ensures.must_close c.in_ok-reserve.ensures.items c.self.invariant.stands
 
 pub invariant_of-self-in_err-reserve : goal.invariant_of-self-in_err-reserve
 invariant_of-self-in_err-reserve c = record {
   within = subst (λ (xs : List KeptNode). length xs ≤ c.self.inside.limit) (sym c.in_err-reserve.ensures.items) c.self.invariant.within;
-  stands = stands_same c.self.inside.last _ c.self.inside.items.items _ c.in_ok-make_room.ensures.same_names c.in_ok-make_room.ensures.same_nodes c.in_err-reserve.ensures.items c.self.invariant.stands;
+  stands = stands_same c.self.inside.last _ c.self.inside.items.items _ c.in_ok-make_room.ensures.same_names c.in_ok-make_room.ensures.same_nodes c.in_ok-make_room.ensures.same_stops c.in_ok-make_room.ensures.must_close c.in_err-reserve.ensures.items c.self.invariant.stands;
 }
 
 pub insert-requires-clause-within : goal.insert-requires-clause-within
@@ -61,15 +55,16 @@ insert-requires-clause-places c =
 pub invariant_of-self-in-Some : goal.invariant_of-self-in-Some
 invariant_of-self-in-Some c =
     let f = found c.self.inside c.args.self.now (is_node c.args.node) c.in-Some.index c.self.view_is c.in-Some.ensures.found c.in-Some.ensures.within in
-    let put = insert c.reserve.new.self.items (c.in-Some.index + 1) c.new.result in
+    let put = insert (map opened_by c.reserve.new.self.items) (c.in-Some.index + 1) (open_of c.args.opened) in
     let same : length c.reserve.new.self.items ≡ length c.self.inside.items.items = ap length c.in_ok-reserve.ensures.items in
-    let more : length c.insert.new.items.items ≡ length put = sym (length-map c.insert.new.items.items opened_by) ∙ ap length c.insert.ensures.items ∙ length-map put opened_by in
+    let more : length c.insert.new.items.items ≡ length put = sym (length-map c.insert.new.items.items opened_by) ∙ ap length c.insert.ensures.items in
     record {
       within = omega (
         arith,
         more,
         same,
-        length-insert c.reserve.new.self.items (c.in-Some.index + 1) c.new.result (omega (arith, f.sum, same)),
+        length-insert (map opened_by c.reserve.new.self.items) (c.in-Some.index + 1) (open_of c.args.opened) (omega (arith, f.sum, same, length-map c.reserve.new.self.items opened_by)),
+        length-map c.reserve.new.self.items opened_by,
         room-left _ c.args.self.now.limit (length c.args.self.now.stack) c.in_ok-room.ensures,
         many c.self.inside c.args.self.now c.self.view_is,
         ap (λ (n : OpenNodes ℕ). n.limit) c.self.view_is,

@@ -1,5 +1,5 @@
-use Rattle.std.proofs.Common.{◌∙◌, ap, reverse, arith}
-use Rattle.std.proofs.lemmas.List.{with_items_is}
+use Rattle.std.proofs.Common.{◌∙◌, ap, sym, refl, reverse, arith}
+use Rattle.std.proofs.lemmas.List.{with_items_is, map-set}
 use Rattle.std.specs.Vec.{with_items}
 use Rattle.hopen.proofs.Opened.{seen, found, none_found, kept}
 use Rattle.hchain.proofs.Nearest.{change_nearest, no_words}
@@ -7,16 +7,18 @@ use Rattle.hchain.specs.Nearest.{changed}
 use Rattle.hopen.specs.Stack.{is_node}
 use Rattle.hopen.specs.Opens.{open_of}
 use Rattle.hopen.specs.Kept.{opened_by, stack_of}
+use Rattle.hopen.specs.declared.kept.KeptNode.{KeptNode}
 use Rattle.hopen.proofs.stack.OpenStack.replace.Goals as goal
 
 pub returns-in_ok-make_room-clause-ok : goal.returns-in_ok-make_room-clause-ok
 returns-in_ok-make_room-clause-ok c =
     let f = found c.self.inside c.args.self.now (is_node c.args.node) c.in-Some.index c.self.view_is c.in-Some.ensures.found c.in-Some.ensures.within in
     let items = c.self.inside.items.items in
+    let x : KeptNode = record { opened = c.args.by; same_name = 0; next_name = 0; same_node = 0; stops = 0 } in
     seen c.self.inside c.args.self.now (changed (is_node c.args.node) (λ _. open_of c.args.by)) (with_items c.self.inside.items c.replace.new.items).items c.self.view_is
     (ap stack_of (with_items_is c.self.inside.items c.replace.new.items (omega arith))
-    ∙ ap reverse (rw c.deref_mut.ensures.value at c.replace.ensures.items)
-    ∙ change_nearest opened_by (is_node c.args.node) (λ _. open_of c.args.by) items c.in-Some.index f.up c.new.result c.new.result f.place f.sum (ap open_of c.new.ensures))
+    ∙ ap reverse (rw c.deref_mut.ensures.value at c.replace.ensures.items ∙ sym (map-set opened_by items c.in-Some.index x))
+    ∙ change_nearest opened_by (is_node c.args.node) (λ _. open_of c.args.by) items c.in-Some.index f.up x x f.place f.sum refl)
 
 pub returns-in_default-clause-ok : goal.returns-in_default-clause-ok
 returns-in_default-clause-ok c =

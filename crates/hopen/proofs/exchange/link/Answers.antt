@@ -1,0 +1,17 @@
+use Rattle.std.proofs.Common.{ap}
+use Rattle.std.proofs.lemmas.List.{map-set}
+use Rattle.std.proofs.Math.Seq.{map-set_same}
+use Rattle.hopen.specs.Kept.{opened_by, same_name_of, same_node_of, stops_of}
+use Rattle.hopen.proofs.exchange.link.Goals as goal
+
+pub returns-clause-same_names : goal.returns-clause-same_names
+returns-clause-same_names c = map-set same_name_of c.args.items.now c.args.index _
+
+pub returns-clause-opened : goal.returns-clause-opened
+returns-clause-opened c = map-set_same opened_by c.args.items.now c.args.index _ c.index-items-index.result (ap opened_by c.index-items-index.is)
+
+pub returns-clause-same_nodes : goal.returns-clause-same_nodes
+returns-clause-same_nodes c = map-set_same same_node_of c.args.items.now c.args.index _ c.index-items-index.result (ap same_node_of c.index-items-index.is)
+
+pub returns-clause-stops : goal.returns-clause-stops
+returns-clause-stops c = map-set_same stops_of c.args.items.now c.args.index _ c.index-items-index.result (ap stops_of c.index-items-index.is)

@@ -1,0 +1,20 @@
+use Rattle.std.proofs.Common.{◌≡◌, suc, ◌+◌, map, remove, ap, ◌∙◌, arith}
+use Rattle.std.proofs.lemmas.List.{length-map}
+use Rattle.hopen.specs.Kept.{opened_by}
+use Rattle.hopen.proofs.Swapped.{swapped-rest}
+use Rattle.hopen.proofs.exchange.sink.Goals as goal
+
+pub loop-index-preserved : goal.loop-index-preserved
+loop-index-preserved c =
+    let ys = map opened_by c.loop-index.items in
+    let i = c.loop-index.index in
+    let next : i + 1 ≡ suc i = omega arith in
+    let many = length-map c.loop-index.items opened_by in
+    record {
+      stands = c.swap.ensures.stands;
+      within = omega (arith, c.swap.auto.items, c.loop-index.auto.items, c.requires.to);
+      rest = ap (λ l. remove l (i + 1)) c.swap.ensures.opened ∙ ap (remove _) next ∙ swapped-rest i ys (omega (arith, many, c.loop-index.auto.items, c.requires.to)) ∙ c.loop-index.invariant.rest;
+      names = c.swap.ensures.names ∙ c.loop-index.invariant.names;
+      nodes = c.swap.ensures.nodes ∙ c.loop-index.invariant.nodes;
+      space = λ n h. c.swap.ensures.space n (c.loop-index.invariant.space n h);
+    }

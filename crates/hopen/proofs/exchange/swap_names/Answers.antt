@@ -1,0 +1,128 @@
+use Rattle.std.proofs.Common.{◌≡◌, ◌≢◌, ℕ, zero, suc, ◌+◌, ◌<◌, ◌≤◌, ◌&&◌, eqb, cond, List, length, map, get_or, set, inl, inr, refl, sym, ◌∙◌, ap, subst, arith}
+use Rattle.std.proofs.lemmas.Bool.{cases_lt, eqb-true, eqb-false}
+use Rattle.std.proofs.lemmas.List.{get_or-set_same, get_or-set_other, get_or_past, length-map, length-set}
+use Rattle.hopen.specs.Kept.{IsHeld, IsLinked, names_in, opened_by, same_name_of, turned}
+use Rattle.hopen.specs.declared.kept.KeptNode.{KeptNode}
+use Rattle.hopen.proofs.Projected.{length-names, name-at, same_name-at}
+use Rattle.hopen.proofs.Swapped.{linked-swapped, swapped-same, turned-table, turned-list, walk-in}
+use Rattle.hopen.proofs.exchange.swap_names.Goals as goal
+
+-- one that keeps a place is in the list
+held-within : (t bs : List ℕ) (a p n : ℕ) → 0 < p → IsHeld t bs a p n → n ≤ length bs
+held-within t bs a p zero h held = omega arith
+held-within t bs a p (suc j) h held = elim (cases_lt j (length bs)) [ inl less ↦ omega arith | inr past ↦ absurd (omega (arith, held.there j refl, get_or_past bs j 0 past)) ]
+
+name-of : (items : List KeptNode) (i : ℕ) (x : KeptNode) → i < length items → x ≡ get_or items i x → get_or (names_in (map opened_by items)) i 0 ≡ x.opened.name
+name-of items i x h is = name-at items i x h ∙ ap (λ (z : KeptNode). z.opened.name) (sym is)
+
+in-table : (t : List ℕ) (items : List KeptNode) → IsLinked t (names_in (map opened_by items)) (map same_name_of items) → (i : ℕ) (x : KeptNode) → i < length items → x ≡ get_or items i x → x.opened.name < length t
+in-table t items l i x h is = subst (λ n. n < length t) (name-of items i x h is) (walk-in t (names_in (map opened_by items)) (map same_name_of items) l i (omega (arith, length-names items)))
+
+pub keep-requires-clause-name_in : goal.keep-requires-clause-name_in
+keep-requires-clause-name_in c = in-table c.args.names.now c.args.items.now c.requires.linked c.args.index c.index-items-index.result (omega (arith, c.requires.within)) c.index-items-index.is
+
+pub keep-requires-2-clause-name_in : goal.keep-requires-2-clause-name_in
+keep-requires-2-clause-name_in c =
+    omega (arith, in-table c.args.names.now c.args.items.now c.requires.linked (c.args.index + 1) c.index-items-index-2.result c.requires.within c.index-items-index-2.is, c.keep.auto.names)
+
+pub keep-requires-clause-within : goal.keep-requires-clause-within
+keep-requires-clause-within c = omega (arith, held-within c.args.names.now (map same_name_of c.args.items.now) _ _ _ (omega arith) c.next_of_name-upper_next.ensures, length-map c.args.items.now same_name_of)
+
+pub keep-requires-2-clause-within : goal.keep-requires-2-clause-within
+keep-requires-2-clause-within c =
+    omega (arith, held-within c.args.names.now (map same_name_of c.args.items.now) _ _ _ (omega arith) c.next_of_name-lower_next.ensures, length-map c.args.items.now same_name_of, c.keep.auto.items)
+
+pub returns-then-eq-clause-linked : goal.returns-then-eq-clause-linked
+returns-then-eq-clause-linked c =
+    let items = c.args.items.now in
+    let i = c.args.index in
+    let ns = names_in (map opened_by items) in
+    let next : i + 1 ≡ suc i = omega arith in
+    let same : get_or ns i 0 ≡ get_or ns (suc i) 0 =
+    name-of items i c.index-items-index.result (omega (arith, c.requires.within)) c.index-items-index.is ∙ eqb-true _ _ (sym c.eq.ensures ∙ c.if-eq.true)
+    ∙ sym (name-of items (i + 1) c.index-items-index-2.result c.requires.within c.index-items-index-2.is) ∙ ap (λ k. get_or ns k 0) next in
+    subst (λ l. IsLinked c.args.names.now l (map same_name_of items)) (sym (swapped-same i ns 0 (omega (arith, c.requires.within, length-names items)) same)) c.requires.linked
+
+pub returns-clause-linked : goal.returns-clause-linked
+returns-clause-linked c =
+    linked-swapped t ns bs c.requires.linked i within differ c.keep-2.new.names cs table upper lower rest
+  where
+    items : List KeptNode
+    items = c.args.items.now
+
+    i : ℕ
+    i = c.args.index
+
+    t : List ℕ
+    t = c.args.names.now
+
+    ns : List ℕ
+    ns = names_in (map opened_by items)
+
+    bs : List ℕ
+    bs = map same_name_of items
+
+    x : KeptNode
+    x = c.index-items-index.result
+
+    y : KeptNode
+    y = c.index-items-index-2.result
+
+    ks : List ℕ
+    ks = map same_name_of c.keep-2.new.items
+
+    cs : List ℕ
+    cs = map same_name_of c.hint-2.new.items
+
+    next : i + 1 ≡ suc i
+    next = omega arith
+
+    long : length ks ≡ length items
+    long = omega (arith, length-map c.keep-2.new.items same_name_of, c.keep-2.auto.items, c.keep.auto.items)
+
+    within : suc i < length ns
+    within = omega (arith, c.requires.within, length-names items)
+
+    nx : get_or ns i 0 ≡ x.opened.name
+    nx = name-of items i x (omega (arith, c.requires.within)) c.index-items-index.is
+
+    ny : get_or ns (i + 1) 0 ≡ y.opened.name
+    ny = name-of items (i + 1) y c.requires.within c.index-items-index-2.is
+
+    differ : get_or ns i 0 ≢ get_or ns (suc i) 0
+    differ e = eqb-false _ _ (sym c.eq.ensures ∙ c.if-eq.false) (sym nx ∙ e ∙ ap (λ k. get_or ns k 0) (sym next) ∙ ny)
+
+    held-upper : IsHeld t bs x.opened.name (i + 1) c.next_of_name-upper_next.result
+    held-upper = subst (λ a. IsHeld t bs a (i + 1) c.next_of_name-upper_next.result) nx c.next_of_name-upper_next.ensures
+
+    held-lower : IsHeld t bs y.opened.name (i + 1 + 1) c.next_of_name-lower_next.result
+    held-lower = subst (λ a. IsHeld t bs a (i + 1 + 1) c.next_of_name-lower_next.result) ny c.next_of_name-lower_next.ensures
+
+    table : (k : ℕ) → get_or c.keep-2.new.names k 0 ≡ turned i (get_or t k 0)
+    table k =
+        c.keep-2.ensures.table k ∙ ap (λ v. cond (eqb c.next_of_name-lower_next.result 0 && eqb k y.opened.name) (i + 1) v) (c.keep.ensures.table k)
+        ∙ turned-table t bs i x.opened.name y.opened.name c.next_of_name-upper_next.result c.next_of_name-lower_next.result (i + 1) (i + 1 + 1) next (omega arith) held-upper held-lower k
+
+    list : (j : ℕ) → get_or ks j 0 ≡ turned i (get_or bs j 0)
+    list j =
+        c.keep-2.ensures.befores j ∙ ap (λ v. cond (eqb c.next_of_name-lower_next.result (suc j)) (i + 1) v) (c.keep.ensures.befores j)
+        ∙ turned-list t bs i x.opened.name y.opened.name c.next_of_name-upper_next.result c.next_of_name-lower_next.result (i + 1) (i + 1 + 1) next (omega arith) held-upper held-lower j
+
+    written : cs ≡ set (set ks i y.same_name) (i + 1) x.same_name
+    written = c.hint-2.ensures.same_names ∙ c.hint.ensures.same_names ∙ c.link-2.ensures.same_names ∙ ap (λ (l : List ℕ). set l (i + 1) x.same_name) c.link.ensures.same_names
+
+    upper : get_or cs i 0 ≡ get_or bs (suc i) 0
+    upper =
+        let ne : i ≢ i + 1 = omega arith in
+        ap (λ (l : List ℕ). get_or l i 0) written ∙ get_or-set_other (set ks i y.same_name) (i + 1) i x.same_name 0 ne ∙ get_or-set_same ks i y.same_name 0 (omega (arith, c.requires.within, long))
+        ∙ ap same_name_of c.index-items-index-2.is ∙ sym (same_name-at items (i + 1) y c.requires.within) ∙ ap (λ k. get_or bs k 0) next
+
+    lower : get_or cs (suc i) 0 ≡ get_or bs i 0
+    lower =
+        ap (λ k. get_or cs k 0) (sym next) ∙ ap (λ (l : List ℕ). get_or l (i + 1) 0) written ∙ get_or-set_same (set ks i y.same_name) (i + 1) x.same_name 0 (omega (arith, c.requires.within, long, length-set ks i y.same_name))
+        ∙ ap same_name_of c.index-items-index.is ∙ sym (same_name-at items i x (omega (arith, c.requires.within)))
+
+    rest : (j : ℕ) → j ≢ i → j ≢ suc i → get_or cs j 0 ≡ turned i (get_or bs j 0)
+    rest j ne nf =
+        let ng : j ≢ i + 1 = omega arith in
+        ap (λ (l : List ℕ). get_or l j 0) written ∙ get_or-set_other (set ks i y.same_name) (i + 1) j x.same_name 0 ng ∙ get_or-set_other ks i j y.same_name 0 ne ∙ list j

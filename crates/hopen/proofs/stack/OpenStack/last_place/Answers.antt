@@ -1,0 +1,20 @@
+use Rattle.std.proofs.Common.{ℕ, ap, sym, ◌∙◌, map}
+use Rattle.hchain.specs.Places.{last_place}
+use Rattle.hopen.specs.Kept.{name_of, node_of, opened_by}
+use Rattle.hopen.specs.Opens.{is_sought}
+use Rattle.hopen.specs.Stack.{OpenNodes, is_node}
+use Rattle.hopen.specs.Scopes.{is_named}
+use Rattle.hopen.specs.declared.sought.Sought.{Sought}
+use Rattle.std.specs.Prelude.{nat_eq}
+use Rattle.hopen.proofs.Linked.{says-places}
+use Rattle.hopen.proofs.stack.OpenStack.last_place.Goals as goal
+
+pub returns-in-Node : goal.returns-in-Node
+returns-in-Node c =
+    c.of_node.ensures ∙ says-places node_of _ _ (map opened_by c.self.inside.items.items) c.self.invariant.stands.nodes c.in-Node.node ∙ ap (λ (n : OpenNodes ℕ). last_place (is_node c.in-Node.node) n.stack) c.self.view_is
+    ∙ ap (λ (s : Sought). last_place (is_sought s) c.args.self.now.stack) (sym c.in-Node.is)
+
+pub returns-in-Name : goal.returns-in-Name
+returns-in-Name c =
+    c.of_name.ensures ∙ says-places name_of _ _ (map opened_by c.self.inside.items.items) c.self.invariant.stands.names c.in-Name.name ∙ ap (λ (n : OpenNodes ℕ). last_place (is_named nat_eq c.in-Name.name) n.stack) c.self.view_is
+    ∙ ap (λ (s : Sought). last_place (is_sought s) c.args.self.now.stack) (sym c.in-Name.is)
