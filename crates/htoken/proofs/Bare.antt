@@ -1,5 +1,5 @@
 -- An `&` that is text, and a whole reference, as a run shows them.
-use Rattle.std.proofs.Common.{◌≡◌, ◌≤◌, ◌<◌, ℕ, zero, suc, ◌+◌, ◌-◌, Bool, true, false, eqb, ◌&&◌, ◌||◌, List, [], ◌∷◌, ◌++◌, length, take, drop, sym, refl, ap, ◌∙◌, subst, arith, append_assoc, append-nil, Result, Ok, Err, Option}
+use Rattle.std.proofs.Common.{◌≡◌, ◌≤◌, ◌<◌, ℕ, zero, suc, ◌+◌, ◌-◌, Bool, true, false, eqb, ◌&&◌, ◌||◌, List, [], ◌∷◌, ◌++◌, length, take, drop, reverse, sym, refl, ap, ◌∙◌, subst, arith, append_assoc, append-nil, Result, Ok, Err, Option}
 use Rattle.std.specs.Prelude.{slice_index}
 use Rattle.std.specs.List.{list_all, prefix_len}
 use Rattle.std.specs.Char.{is_ascii, len_utf8, encode_utf8}
@@ -7,7 +7,7 @@ use Rattle.std.specs.Str.{chars, IsUtf8}
 use Rattle.std.proofs.lemmas.Bool.{and_parts, and_from}
 use Rattle.std.proofs.lemmas.Bool.Decides.{nat_tests}
 use Rattle.std.proofs.lemmas.List.{get_or-drop, length-append, length-take-le, take-append-drop, take_all, take_at, drop_at}
-use Rattle.std.proofs.lemmas.Str.{chars-IsAscii, encode_ascii, IsAscii-take, IsAscii-drop, IsUtf8-from_ascii}
+use Rattle.std.proofs.lemmas.Str.{chars-IsAscii, encode_ascii, len_utf8_ascii, IsAscii-take, IsAscii-drop, IsUtf8-from_ascii}
 use Rattle.std.proofs.lemmas.List.Sums.{prefix_len-le-length, prefix_len_stops}
 use Rattle.std.proofs.Math.Seq.{drop-length, get_or-append_seam}
 use Rattle.names.specs.declared.error.ErrorCode.TheVariants.{UnknownNamedCharacterReference}
@@ -28,20 +28,21 @@ use Rattle.htoken.specs.declared.state.State.{State}
 use Rattle.htoken.specs.declared.state.State.TheVariants as state
 use Rattle.htoken.specs.declared.tokenizer.Tokenizer.{Tokenizer}
 use Rattle.htoken.specs.Front.{bare_errors, first_placed, IsBare, IsWhole}
-use Rattle.htoken.specs.Giving.{piece_events, read_events}
+use Rattle.htoken.specs.Giving.{piece_events}
 use Rattle.htoken.specs.Handing.{HandsEvents}
-use Rattle.htoken.specs.Run.{run_events}
 use Rattle.htoken.specs.Spans.{has_references}
+use Rattle.htoken.specs.Standing.{Standing}
 use Rattle.htoken.specs.Token.{Item, Event}
-use Rattle.htoken.specs.Tokenizing.{after_place, holds, later_errors, next_place, IsBetween, IsHeld, IsIn, IsLast, Reads, Stands, Takes, take_took}
-use Rattle.htoken.proofs.AfterRun.{later_same, refused_after}
-use Rattle.htoken.proofs.Fronts.{cut_refused}
+use Rattle.htoken.specs.Tokens.{AreFront}
+use Rattle.htoken.specs.Tokenizing.{after_place, holds, later_errors, next_place, IsBetween, IsHeld, IsIn, IsLast, Reads, Stands, Takes, take_sink_refused, take_took}
+use Rattle.htoken.proofs.AfterRun.{later_same}
+use Rattle.htoken.proofs.Fronts.{takes_both}
 use Rattle.htoken.proofs.Going.{next_place-snoc}
 use Rattle.htoken.proofs.InReference.{same_between}
 use Rattle.htoken.proofs.InRun.{next_last}
-use Rattle.htoken.proofs.InText.{all_ascii, ascii_chars, ascii_placed, each_ascii, length_left, unknown_is}
+use Rattle.htoken.proofs.InText.{all_ascii, ascii_chars, ascii_placed, each_ascii, length_left, reads_front, unknown_is}
 use Rattle.htoken.proofs.Pending.{later_told}
-use Rattle.htoken.proofs.Referring.{is_kept, after_reference, run_errors, stands_read}
+use Rattle.htoken.proofs.Referring.{run_errors, stands_piece}
 
 -- its error: none where no letter or digit is after it
 pub bare_error : (letters : List ℕ) (next at size : ℕ) → size ≡ 1 + length letters → (size ≡ 1 → ⊥) → bare_errors letters next at ≡ error_if (eqb next 59) UnknownNamedCharacterReference at
@@ -208,17 +209,17 @@ rest_long (x ∷ xs) = omega arith
 
 -- A WHOLE REFERENCE
 
-pub whole_is : (table : Entities) (kind : RawKind) (run bytes : List ℕ) (found : Reference) (count : ℕ) → has_references kind ≡ true → IsTable table → run ≡ 38 ∷ bytes → 0 < count → count ≤ length bytes → list_all is_ascii (take count bytes) ≡ true → found.left ≡ 0
+pub whole_is : (table : Entities) (kind : RawKind) (run bytes : List ℕ) (found : Reference) (count : ℕ) → has_references kind ≡ true → IsTable table → run ≡ 38 ∷ bytes → count ≤ length bytes → list_all is_ascii (take count bytes) ≡ true → found.in_run ≡ false → found.left ≤ 1
     → ((at : ℕ) (after : List Placed) → IsRead table false (placed at (take count bytes)) after found) → IsWhole table kind run found count
-whole_is table kind run bytes found count may is_table is some within ascii left reads = record {
+whole_is table kind run bytes found count may is_table is within ascii known left reads = record {
   may = may;
   is_table = is_table;
-  name = take count bytes;
+  shown = take count bytes;
   others = drop count bytes;
   run_is = is ∙ ap (λ (x : List ℕ). 38 ∷ x) (sym (take-append-drop count bytes));
   count_is = sym (length-take-le count bytes within);
   ascii = ascii;
-  some = some;
+  known = known;
   left = left;
   reads = reads;
 }
@@ -228,38 +229,52 @@ last_is : (x : ℕ) (xs : List ℕ) → list_all is_ascii (x ∷ xs) ≡ true �
 last_is x [] h = let small : x < 128 = grind (arith, (and_parts (is_ascii x) true h).0, nat_tests) in (x, sym (encode_ascii x small))
 last_is x (y ∷ ys) h = last_is y ys (and_parts (is_ascii x) (list_all is_ascii (y ∷ ys)) h).1
 
+-- its last character, which a reference may leave
+last_placed : (at x : ℕ) (xs ys : List ℕ) → list_all is_ascii (x ∷ xs) ≡ true → (c place : ℕ) → c ≡ slice_index (x ∷ xs ++ ys) (length xs) → place ≡ at + length xs → drop (length xs) (placed at (x ∷ xs)) ≡ record { ch = c; at = place } ∷ []
+last_placed at x [] ys h c place c_is place_is =
+    let same : at ≡ place = omega (arith, place_is) in
+    ap (λ (n : ℕ). record { ch = n; at = at } ∷ []) (sym c_is) ∙ ap (λ (n : ℕ). record { ch = c; at = n } ∷ []) same
+last_placed at x (y ∷ ys) zs h c place c_is place_is =
+    let small : x < 128 = grind (arith, nat_tests) in
+    last_placed (at + len_utf8 x) y ys zs (and_parts (is_ascii x) (list_all is_ascii (y ∷ ys)) h).1 c place c_is (omega (arith, place_is, len_utf8_ascii x small))
+
+last_left : (at count left c : ℕ) (shown others run : List ℕ) → run ≡ 38 ∷ shown ++ others → count ≡ length shown → list_all is_ascii shown ≡ true → left ≡ 1 → left ≤ length (placed (at + 1) shown) → c ≡ slice_index run count
+    → drop (length (placed (at + 1) shown) - left) (placed (at + 1) shown) ≡ record { ch = c; at = at + count } ∷ []
+last_left at count left c [] others run is size ascii one within c_is = absurd (omega (arith, one, within))
+last_left at count left c (x ∷ xs) others run is size ascii one within c_is =
+    let before : length (placed (at + 1) (x ∷ xs)) - left ≡ length xs = omega (arith, one, length-placed (at + 1) (x ∷ xs)) in
+    ap (λ (n : ℕ). drop n (placed (at + 1) (x ∷ xs))) before
+    ∙ last_placed (at + 1) x xs others ascii c (at + count) (c_is ∙ ap (λ (r : List ℕ). slice_index r count) is ∙ ap (λ (n : ℕ). slice_index (38 ∷ x ∷ xs ++ others) n) size) (omega (arith, size))
+
 module _ {S : Type 0} (gives : S → Item → Result (Unit {0}) Refusal → S → Type 0) (table : Entities) (start : RawKind) (names : Texts) (text : List Placed) (taken : List Event) (t : Tokenizer) (run : List ℕ) (at : ℕ) (u : IsUtf8 run) (found : Reference) (count : ℕ)
     (is : IsWhole t.table.now t.kind run found count) (in_text : t.state ≡ state.Text) where
-  abbrev whole : List ℕ
-  whole = 38 ∷ is.name
-
-  all_whole : list_all is_ascii (38 ∷ is.name) ≡ true
+  all_whole : list_all is_ascii (38 ∷ is.shown) ≡ true
   all_whole = is.ascii
 
-  size_is : count + 1 ≡ length (38 ∷ is.name)
+  size_is : count + 1 ≡ length (38 ∷ is.shown)
   size_is = omega (arith, is.count_is)
 
-  whole_taken : take (count + 1) run ≡ 38 ∷ is.name
-  whole_taken = ap (take (count + 1)) is.run_is ∙ take_at (38 ∷ is.name) is.others (count + 1) (sym size_is)
+  whole_taken : take (count + 1) run ≡ 38 ∷ is.shown
+  whole_taken = ap (take (count + 1)) is.run_is ∙ take_at (38 ∷ is.shown) is.others (count + 1) (sym size_is)
 
-  whole_chars : chars (38 ∷ is.name) ≡ 38 ∷ is.name
-  whole_chars = chars-IsAscii (38 ∷ is.name) (each_ascii (38 ∷ is.name) all_whole)
+  whole_chars : chars (38 ∷ is.shown) ≡ 38 ∷ is.shown
+  whole_chars = chars-IsAscii (38 ∷ is.shown) (each_ascii (38 ∷ is.shown) all_whole)
 
-  parts : IsUtf8 is.others × (chars (38 ∷ is.name ++ is.others) ≡ (38 ∷ is.name) ++ chars is.others)
-  parts = ascii_chars (38 ∷ is.name) is.others all_whole (subst IsUtf8 is.run_is u)
+  parts : IsUtf8 is.others × (chars (38 ∷ is.shown ++ is.others) ≡ (38 ∷ is.shown) ++ chars is.others)
+  parts = ascii_chars (38 ∷ is.shown) is.others all_whole (subst IsUtf8 is.run_is u)
 
   pub whole_cut : IsCut (count + 1) run
   whole_cut = record {
-    within = omega (arith, size_is, ap length is.run_is, length-append (38 ∷ is.name) is.others);
-    front = subst IsUtf8 (sym whole_taken) (IsUtf8-from_ascii (38 ∷ is.name) (each_ascii (38 ∷ is.name) all_whole));
-    back = subst IsUtf8 (sym (ap (drop (count + 1)) is.run_is ∙ drop_at (38 ∷ is.name) is.others (count + 1) (sym size_is))) parts.0;
+    within = omega (arith, size_is, ap length is.run_is, length-append (38 ∷ is.shown) is.others);
+    front = subst IsUtf8 (sym whole_taken) (IsUtf8-from_ascii (38 ∷ is.shown) (each_ascii (38 ∷ is.shown) all_whole));
+    back = subst IsUtf8 (sym (ap (drop (count + 1)) is.run_is ∙ drop_at (38 ∷ is.shown) is.others (count + 1) (sym size_is))) parts.0;
   }
 
   abbrev sign : Placed
   sign = record { ch = 38; at = at }
 
   abbrev read : List Placed
-  read = placed (at + 1) is.name
+  read = placed (at + 1) is.shown
 
   whole_text : placed at (chars (take (count + 1) run)) ≡ sign ∷ read
   whole_text = ap (λ (x : List ℕ). placed at (chars x)) whole_taken ∙ ap (placed at) whole_chars
@@ -269,15 +284,25 @@ module _ {S : Type 0} (gives : S → Item → Result (Unit {0}) Refusal → S �
 
   pub whole_next : after_place (at + count) ≡ next_place (text ++ placed at (chars (take (count + 1) run)))
   whole_next =
-      let last = last_is 38 is.name all_whole in
-      let cut : IsCut count (38 ∷ is.name) = record {
+      let last = last_is 38 is.shown all_whole in
+      let cut : IsCut count (38 ∷ is.shown) = record {
         within = omega (arith, is.count_is);
-        front = IsUtf8-from_ascii _ (IsAscii-take (38 ∷ is.name) count (each_ascii (38 ∷ is.name) all_whole));
-        back = IsUtf8-from_ascii _ (IsAscii-drop (38 ∷ is.name) count (each_ascii (38 ∷ is.name) all_whole));
+        front = IsUtf8-from_ascii _ (IsAscii-take (38 ∷ is.shown) count (each_ascii (38 ∷ is.shown) all_whole));
+        back = IsUtf8-from_ascii _ (IsAscii-drop (38 ∷ is.shown) count (each_ascii (38 ∷ is.shown) all_whole));
       } in
-      next_last text at count (38 ∷ is.name) last.0 cut (ap (λ (n : ℕ). drop n (38 ∷ is.name)) is.count_is ∙ last.1) ∙ ap (λ (x : List ℕ). next_place (text ++ placed at (chars x))) (sym whole_taken)
+      next_last text at count (38 ∷ is.shown) last.0 cut (ap (λ (n : ℕ). drop n (38 ∷ is.shown)) is.count_is ∙ last.1) ∙ ap (λ (x : List ℕ). next_place (text ++ placed at (chars x))) (sym whole_taken)
 
-  module _ (h : Reads table start t names text (first_placed at run) taken) where
+  -- how many of the characters after the `&` are its own
+  abbrev own : ℕ
+  own = length read - found.left
+
+  own_first : (more : List Placed) → (sign ∷ take own read) ++ (drop own read ++ more) ≡ (sign ∷ read) ++ more
+  own_first more = sym (append_assoc (sign ∷ take own read) (drop own read) more) ∙ ap (λ (x : List Placed). (sign ∷ x) ++ more) (take-append-drop own read)
+
+  own_all : (sign ∷ take own read) ++ drop own read ≡ placed at (chars (take (count + 1) run))
+  own_all = ap (λ (x : List Placed). sign ∷ x) (take-append-drop own read) ∙ sym whole_text
+
+  module _ (h : Reads table start t names text (first_placed at run) taken) (new : Tokenizer) (then : new ≡ record t { next = new.next }) (next : new.next ≡ after_place (at + count)) where
     none : (h.held ≡ []) × (t.raised.errors.items ≡ []) × IsBetween h.here t
     none = subst (λ (x : State). IsHeld x table names h.here t h.held (first_placed at run)) in_text h.is_held
 
@@ -287,63 +312,72 @@ module _ {S : Type 0} (gives : S → Item → Result (Unit {0}) Refusal → S �
     may : has_references h.here.kind ≡ true
     may = ap has_references (sym h.kind_is) ∙ is.may
 
-    not_in_run : found.in_run ≡ false
-    not_in_run = by found.in_run refl where
-      by : (b : Bool) → found.in_run ≡ b → b ≡ false
-      by false e = refl
-      by true e = absurd (omega (arith, is.left, ((is.reads (at + 1) []).run e).0, length-placed (at + 1) is.name, is.count_is, is.some))
+    abbrev there : Standing
+    there = record h.here { front = reverse (sign ∷ take own read) ++ h.here.front }
 
-    reference : (more : List Placed) → IsReference table false (drop (length read) read ++ more) (record { text = sign ∷ take (length read) read; gives = characters_of found.characters; errors = errors_of found at more })
-    reference more =
-        let all : length read - found.left ≡ length read = omega (arith, is.left) in
-        subst (λ (x : Entities). IsReference x false (drop (length read) read ++ more) (record { text = sign ∷ take (length read) read; gives = characters_of found.characters; errors = errors_of found at more })) h.table_is
-        (subst (λ (n : ℕ). IsReference t.table.now false (drop n read ++ more) (record { text = sign ∷ take n read; gives = characters_of found.characters; errors = errors_of found at more })) all ((is.reads (at + 1) more).reads sign refl))
+    abbrev events : List Event
+    events = piece_events found at
 
-    stands_whole : (end : ℕ) (more : List Placed) → Stands table start end (text ++ (sign ∷ read)) more (after_reference h.here at read (length read)) (taken ++ piece_events found at) []
-    stands_whole end more =
-        let kept : all is_kept (drop (length read) read) ≡ true = ap (all is_kept) (drop-length read) in
+    stands_own : (end : ℕ) (more : List Placed) → Stands table start end (text ++ (sign ∷ take own read)) (drop own read ++ more) there (taken ++ events) []
+    stands_own end more =
         let before : Stands table start end text ((sign ∷ read) ++ more) h.here taken [] =
         subst (λ (x : List Placed). Stands table start end text (x ++ (read ++ more)) h.here taken []) first_is
         (subst (λ (x : List Placed). Stands table start end x (first_placed at run ++ (read ++ more)) h.here taken []) (sym text_is)
         (subst (λ (x : List Placed). Stands table start end h.front (x ++ (first_placed at run ++ (read ++ more))) h.here taken []) none.0 (h.stands end (read ++ more)))) in
-        let events : read_events found at read (length read) ≡ piece_events found at = ap (λ (x : List Placed). piece_events found at ++ run_events x) (drop-length read) ∙ append-nil (piece_events found at) in
-        let later : run_errors found at more ≡ [] = ap (λ (b : Bool). error_if (b && begins (λ c. eqb c 59) (past is_alphanumeric more)) UnknownNamedCharacterReference at) not_in_run in
-        subst (λ (es : List ParseError). Stands table start end (text ++ (sign ∷ read)) more (after_reference h.here at read (length read)) (taken ++ piece_events found at) es) later
-        (subst (λ (x : List Event). Stands table start end (text ++ (sign ∷ read)) more (after_reference h.here at read (length read)) (taken ++ x) (run_errors found at more)) events
-        (stands_read table start end text h.here taken at read (length read) found may (subst IsTable h.table_is is.is_table) kept more more (reference more) before))
+        let reference = subst (λ (x : Entities). IsReference x false (drop own read ++ more) (record { text = sign ∷ take own read; gives = characters_of found.characters; errors = errors_of found at more })) h.table_is
+        ((is.reads (at + 1) more).reads sign refl) in
+        let later : run_errors found at more ≡ [] = ap (λ (b : Bool). error_if (b && begins (λ c. eqb c 59) (past is_alphanumeric more)) UnknownNamedCharacterReference at) is.known in
+        subst (λ (es : List ParseError). Stands table start end (text ++ (sign ∷ take own read)) (drop own read ++ more) there (taken ++ events) es) later
+        (stands_piece table start end text h.here taken at read own found may (subst IsTable h.table_is is.is_table) more more reference
+        (subst (λ (x : List Placed). Stands table start end text x h.here taken []) (sym (own_first more)) before))
 
-    whole_takes : (new : Tokenizer) → new ≡ record t { next = new.next } → new.next ≡ next_place (text ++ (sign ∷ read)) → (old s : S) (answer : Result (Unit {0}) Refusal) → HandsEvents gives names old (piece_events found at) answer s
-        → Takes gives table start text (sign ∷ read) taken names old answer s new
-    whole_takes new then next old s (Ok done) handed = take_took (piece_events found at) refl handed (holds (record {
+    -- it has been read, and what it leaves comes next
+    own_read : Reads table start new names (text ++ (sign ∷ take own read)) (drop own read) (taken ++ events)
+    own_read = record {
       accepts = ap (λ (x : Tokenizer). x.refused) then ∙ h.accepts;
-      front = text ++ (sign ∷ read);
+      front = text ++ (sign ∷ take own read);
       held = [];
-      here = after_reference h.here at read (length read);
+      here = there;
       table_is = ap (λ (x : Tokenizer). x.table.now) then ∙ h.table_is;
-      text_is = sym (append-nil (text ++ (sign ∷ read)));
-      next_is = next ∙ ap next_place (sym (append-nil (text ++ (sign ∷ read))));
-      stands = stands_whole;
+      text_is = sym (append-nil (text ++ (sign ∷ take own read)));
+      next_is = next ∙ whole_next ∙ ap next_place (ap (λ (x : List Placed). text ++ x) (sym own_all) ∙ sym (append_assoc text (sign ∷ take own read) (drop own read)));
+      stands = stands_own;
       kind_is = ap (λ (x : Tokenizer). x.kind) then ∙ h.kind_is;
       name_is = subst (λ (x : Option ℕ). IsLast names x h.here.name) (sym (ap (λ (x : Tokenizer). x.last) then)) h.name_is;
       is_in = subst (λ (x : State). IsIn x h.here.kind) (sym (ap (λ (x : Tokenizer). x.state) then ∙ in_text)) tt;
-      is_held = subst (λ (x : State). IsHeld x table names (after_reference h.here at read (length read)) new [] []) (sym (ap (λ (x : Tokenizer). x.state) then ∙ in_text))
-          (refl, ap (λ (x : Tokenizer). x.raised.errors.items) then ∙ none.1, same_between h.here (after_reference h.here at read (length read)) t new may refl refl (ap (λ (x : Tokenizer). x.tag) then) none.2);
-    }))
-    whole_takes new then next old s (Err e) handed =
-        refused_after gives table start text (sign ∷ read) names taken (after_reference h.here at read (length read)) (piece_events found at) (λ more. []) stands_whole old s e new handed
+      is_held = subst (λ (x : State). IsHeld x table names there new [] (drop own read)) (sym (ap (λ (x : Tokenizer). x.state) then ∙ in_text))
+          (refl, ap (λ (x : Tokenizer). x.raised.errors.items) then ∙ none.1, same_between h.here there t new may refl refl (ap (λ (x : Tokenizer). x.tag) then) none.2);
+    }
 
-    pub whole_read : (new : Tokenizer) → new ≡ record t { next = new.next } → new.next ≡ after_place (at + count) → (old s : S) → HandsEvents gives names old (piece_events found at) (Ok tt) s
-        → Takes gives table start text (placed at (chars (take (count + 1) run))) taken names old (Ok tt) s new
-    whole_read new then next old s handed =
-        subst (λ (x : List Placed). Takes gives table start text x taken names old (Ok tt) s new) (sym whole_text)
-        (whole_takes new then (next ∙ whole_next ∙ ap (λ (x : List Placed). next_place (text ++ x)) whole_text) old s (Ok tt) handed)
+    pub whole_refused : (old s : S) (e : Refusal) → HandsEvents gives names old events (Err e) s → Takes gives table start text (placed at (chars (take (count + 1) run))) taken names old (Err e) s new
+    whole_refused old s e handed = take_sink_refused e events refl handed (λ more end.
+        subst (λ (x : List Placed). AreFront table start x end (taken ++ events))
+        (append_assoc text (sign ∷ take own read) (drop own read ++ more) ∙ ap (λ (x : List Placed). text ++ x) (own_first more ∙ ap (λ (x : List Placed). x ++ more) (sym whole_text)))
+        (reads_front table start new names (text ++ (sign ∷ take own read)) (drop own read) (taken ++ events) own_read end more))
 
-    pub whole_refused : (new : Tokenizer) → new ≡ record t { next = new.next } → new.next ≡ after_place (at + count) → (old s : S) (e : Refusal) → HandsEvents gives names old (piece_events found at) (Err e) s
-        → Takes gives table start text (placed at (chars run)) taken names old (Err e) s new
-    whole_refused new then next old s e handed =
-        cut_refused gives table start text at (count + 1) run whole_cut taken names old s e new new
-        (subst (λ (x : List Placed). Takes gives table start text x taken names old (Err e) s new) (sym whole_text)
-        (whole_takes new then (next ∙ whole_next ∙ ap (λ (x : List Placed). next_place (text ++ x)) whole_text) old s (Err e) handed))
+    pub whole_ends : found.left ≡ 0 → (old s : S) → HandsEvents gives names old events (Ok tt) s → Takes gives table start text (placed at (chars (take (count + 1) run))) taken names old (Ok tt) s new
+    whole_ends ends old s handed =
+        let all : own ≡ length read = omega (arith, ends) in
+        let nothing : drop own read ≡ [] = ap (λ (n : ℕ). drop n read) all ∙ drop-length read in
+        take_took events refl handed (holds
+        (subst (λ (x : List Placed). Reads table start new names (text ++ x) [] (taken ++ events)) (sym (append-nil (sign ∷ take own read)) ∙ ap (λ (x : List Placed). (sign ∷ take own read) ++ x) (sym nothing) ∙ own_all)
+        (subst (λ (x : List Placed). Reads table start new names (text ++ (sign ∷ take own read)) x (taken ++ events)) nothing own_read)))
+
+    -- the character that it leaves is taken as text
+    module _ (leaves : found.left ≡ 0 → ⊥) (c : ℕ) (c_is : c ≡ slice_index run count) where
+      abbrev next_one : Placed
+      next_one = record { ch = c; at = at + count }
+
+      left_is : drop own read ≡ next_one ∷ []
+      left_is = last_left at count found.left c is.shown is.others run is.run_is is.count_is is.ascii (omega (arith, is.left, leaves)) (is.reads (at + 1) []).within c_is
+
+      pub whole_then : (old mid s : S) (answer : Result (Unit {0}) Refusal) (after : Tokenizer) → HandsEvents gives names old events (Ok tt) mid
+          → ((front : List Placed) (before : List Event) → Reads table start new names front (next_one ∷ []) before → Takes gives table start front (next_one ∷ []) before names mid answer s after)
+          → Takes gives table start text (placed at (chars (take (count + 1) run))) taken names old answer s after
+      whole_then old mid s answer after handed takes =
+          subst (λ (x : List Placed). Takes gives table start text x taken names old answer s after) (ap (λ (x : List Placed). (sign ∷ take own read) ++ x) (sym left_is) ∙ own_all)
+          (takes_both gives table start text (sign ∷ take own read) (next_one ∷ []) taken events names old mid s answer after handed
+          (takes (text ++ (sign ∷ take own read)) (taken ++ events) (subst (λ (x : List Placed). Reads table start new names (text ++ (sign ∷ take own read)) x (taken ++ events)) left_is own_read)))
 
 -- AN ASCII CHARACTER
 

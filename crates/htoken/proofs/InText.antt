@@ -417,7 +417,7 @@ module _ {S : Type 0} (gives : S → Item → Result (Unit {0}) Refusal → S �
 -- A FRONT, AND WHAT ENDS IT
 
 -- what has been read, and what comes next, are a front of the text
-reads_front : (table : Entities) (start : RawKind) (t : Tokenizer) (names : Texts) (text ahead : List Placed) (taken : List Event) → Reads table start t names text ahead taken → (end : ℕ) (more : List Placed) → AreFront table start (text ++ (ahead ++ more)) end taken
+pub reads_front : (table : Entities) (start : RawKind) (t : Tokenizer) (names : Texts) (text ahead : List Placed) (taken : List Event) → Reads table start t names text ahead taken → (end : ℕ) (more : List Placed) → AreFront table start (text ++ (ahead ++ more)) end taken
 reads_front table start t names text ahead taken h end more =
     let st = h.stands end more in
     let rest : List Placed = h.held ++ (ahead ++ more) in

@@ -181,37 +181,37 @@ run_errors found at after = error_if (found.in_run && begins (λ c. eqb c 59) (p
 abbrev pub after_reference : Standing → ℕ → List Placed → ℕ → Standing
 after_reference here at text count = record here { front = backwards (reverse (record { ch = 38; at = at } ∷ take count text) ++ here.front) (drop count text) }
 
--- A reference has been read: `count` characters of the text after the `&` belong to it, and the others are plain; `after` follows.
-module _ (table : Entities) (start : RawKind) (end : ℕ) (front : List Placed) (here : Standing) (taken : List Event) (at : ℕ) (text : List Placed) (count : ℕ) (found : Reference) (may : has_references here.kind ≡ true) (is_table : IsTable table)
-    (plain : all is_kept (drop count text) ≡ true) (rest after : List Placed) where
+-- A reference has been read: `count` characters of the text after the `&` belong to it; `after` follows what is read again.
+module _ (table : Entities) (start : RawKind) (end : ℕ) (front : List Placed) (here : Standing) (taken : List Event) (at : ℕ) (text : List Placed) (count : ℕ) (found : Reference) (may : has_references here.kind ≡ true) (is_table : IsTable table) where
   abbrev amp : Placed
   amp = record { ch = 38; at = at }
 
-  abbrev piece : Piece
-  piece = record { text = amp ∷ take count text; gives = characters_of found.characters; errors = errors_of found at after }
+  abbrev piece : List Placed → Piece
+  piece after = record { text = amp ∷ take count text; gives = characters_of found.characters; errors = errors_of found at after }
 
   abbrev there : Standing
   there = record here { front = reverse (amp ∷ take count text) ++ here.front }
 
-  stands_piece : IsReference table false (drop count text ++ rest) piece → Stands table start end front ((amp ∷ take count text) ++ (drop count text ++ rest)) here taken []
+  pub stands_piece : (rest after : List Placed) → IsReference table false (drop count text ++ rest) (piece after) → Stands table start end front ((amp ∷ take count text) ++ (drop count text ++ rest)) here taken []
       → Stands table start end (front ++ (amp ∷ take count text)) (drop count text ++ rest) there (taken ++ piece_events found at) (run_errors found at after)
-  stands_piece is s =
-      let span : Span = piece_span piece in
-      let one = stands_on table start end front (drop count text ++ rest) here taken span [] s (reference_is table end here (drop count text ++ rest) piece may is) (no_tag (characters_of found.characters) at) in
+  stands_piece rest after is s =
+      let span : Span = piece_span (piece after) in
+      let one = stands_on table start end front (drop count text ++ rest) here taken span [] s (reference_is table end here (drop count text ++ rest) (piece after) may is) (no_tag (characters_of found.characters) at) in
       let two = subst (λ (x : Standing). Stands table start end (front ++ (amp ∷ take count text)) (drop count text ++ rest) x (taken ++ map Gives span.tokens) (errors_of found at after))
-      (next_is here (amp ∷ take count text) (errors_of found at after) (characters_of found.characters) (gives_some table (drop count text ++ rest) piece is_table is)) one in
+      (next_is here (amp ∷ take count text) (errors_of found at after) (characters_of found.characters) (gives_some table (drop count text ++ rest) (piece after) is_table is)) one in
       stands_same table start end (front ++ (amp ∷ take count text)) (drop count text ++ rest) there (taken ++ map Gives span.tokens) (taken ++ piece_events found at) (errors_of found at after) (run_errors found at after)
       (tokens_in-append taken (piece_events found at) ∙ ap (λ (x : List Tok). tokens_in taken ++ x) (piece_tokens found at ∙ sym (tokens_in-map [] span.tokens)) ∙ sym (tokens_in-append taken (map Gives span.tokens)))
       (ap (λ (x : List ParseError). x ++ run_errors found at after) (errors_in-append taken (piece_events found at) ∙ ap (λ (x : List ParseError). errors_in taken ++ x) (piece_errors found at)) ∙ append_assoc (errors_in taken) (known_errors found at) (run_errors found at after)
       ∙ ap (λ (x : List ParseError). x ++ errors_of found at after) (sym (append-nil (errors_in taken)) ∙ ap (λ (x : List ParseError). errors_in taken ++ x) (sym (errors_in-map [] span.tokens)) ∙ sym (errors_in-append taken (map Gives span.tokens))))
       two
 
-  pub stands_read : IsReference table false (drop count text ++ rest) piece → Stands table start end front ((amp ∷ text) ++ rest) here taken []
+  -- and what is read again is plain
+  pub stands_read : all is_kept (drop count text) ≡ true → (rest after : List Placed) → IsReference table false (drop count text ++ rest) (piece after) → Stands table start end front ((amp ∷ text) ++ rest) here taken []
       → Stands table start end (front ++ (amp ∷ text)) rest (after_reference here at text count) (taken ++ read_events found at text count) (run_errors found at after)
-  stands_read is s =
+  stands_read plain rest after is s =
       let whole : (amp ∷ take count text) ++ drop count text ≡ amp ∷ text = ap (λ (x : List Placed). amp ∷ x) (take-append-drop count text) in
       let split : (amp ∷ text) ++ rest ≡ (amp ∷ take count text) ++ (drop count text ++ rest) = ap (λ (x : List Placed). x ++ rest) (sym whole) ∙ append_assoc (amp ∷ take count text) (drop count text) rest in
       let two = stands_plain table start end (drop count text) (front ++ (amp ∷ take count text)) rest there (taken ++ piece_events found at) (run_errors found at after) may plain
-      (stands_piece is (subst (λ (x : List Placed). Stands table start end front x here taken []) split s)) in
+      (stands_piece rest after is (subst (λ (x : List Placed). Stands table start end front x here taken []) split s)) in
       subst (λ (x : List Placed). Stands table start end x rest (after_reference here at text count) (taken ++ read_events found at text count) (run_errors found at after)) (append_assoc front (amp ∷ take count text) (drop count text) ∙ ap (λ (x : List Placed). front ++ x) whole)
       (subst (λ (x : List Event). Stands table start end ((front ++ (amp ∷ take count text)) ++ drop count text) rest (after_reference here at text count) x (run_errors found at after)) (append_assoc taken (piece_events found at) (run_events (drop count text))) two)

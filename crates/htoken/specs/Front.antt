@@ -1,5 +1,5 @@
 -- The text at the front of a run, and what ends it: contracts of the tokenizer's own functions.
-use Rattle.std.specs.Prelude.{◌≡◌, ℕ, ◌+◌, ◌<◌, ◌==◌, true, false, List, [], ◌∷◌, ◌++◌, map, length, take, drop, Result, Ok}
+use Rattle.std.specs.Prelude.{◌≡◌, ℕ, ◌+◌, ◌≤◌, ◌==◌, true, false, List, [], ◌∷◌, ◌++◌, map, length, take, drop, Result, Ok}
 use Rattle.std.specs.Char.{is_ascii}
 use Rattle.std.specs.List.{list_all}
 use Rattle.std.specs.Str.{chars}
@@ -43,18 +43,19 @@ pub record IsBare (table : Entities) (kind : RawKind) (run : List ℕ) (count : 
   pub is_text : (at : ℕ) (more : List Placed) → IsReference table false (placed (at + 1) letters ++ record { ch = next; at = at + count } ∷ more)
       (ampersand (record { ch = 38; at = at }) (bare_errors letters next at))
 
--- At the front of this run is a whole reference, whatever comes after it: its `&`, and this many bytes.
+-- At the front of this run is a whole reference, whatever comes after what is shown: its `&`, and this many bytes, the last of which
+-- may be a character that it leaves.
 pub record IsWhole (table : Entities) (kind : RawKind) (run : List ℕ) (found : Reference) (count : ℕ) : Type 0 where
   pub may : has_references kind ≡ true
   pub is_table : IsTable table
-  pub name : List ℕ
+  pub shown : List ℕ
   pub others : List ℕ
-  pub run_is : run ≡ 38 ∷ name ++ others
-  pub count_is : count ≡ length name
-  pub ascii : list_all is_ascii name ≡ true
-  pub some : 0 < count
-  pub left : found.left ≡ 0
-  pub reads : (at : ℕ) (after : List Placed) → IsRead table false (placed at name) after found
+  pub run_is : run ≡ 38 ∷ shown ++ others
+  pub count_is : count ≡ length shown
+  pub ascii : list_all is_ascii shown ≡ true
+  pub known : found.in_run ≡ false
+  pub left : found.left ≤ 1
+  pub reads : (at : ℕ) (after : List Placed) → IsRead table false (placed at shown) after found
 
 -- what an `&` at the front of this run is, where the run shows it
 abbrev pub Shows : Entities → RawKind → List ℕ → Ampersand → Type 0

@@ -1,6 +1,6 @@
 //! The text at the front of a run, and the `<` or `&` that ends it (HTML Standard, 13.2.5.1 to 13.2.5.5 and 13.2.5.72 to 13.2.5.74).
 
-ghost use Rattle.std.specs.Prelude.{◌≡◌, ◌≤◌, ◌<◌, ◌+◌, List, map, true, false, IfOk, IfSome, MatchResult, Err, drop, length, slice_index};
+ghost use Rattle.std.specs.Prelude.{◌≡◌, ◌≤◌, ◌<◌, ◌+◌, List, map, true, false, IfOk, IfSome, MatchResult, Err, drop, length, slice_index, take};
 ghost use Rattle.std.specs.List.{list_all};
 ghost use Rattle.std.specs.Str.{chars};
 ghost use Rattle.names.specs.declared.placed.Placed.{Placed as Character};
@@ -33,7 +33,7 @@ use names::Refusal;
 enum Ampersand<'t> {
     /// It is text: its length with the letters and digits after it.
     Text(usize),
-    /// It begins a whole reference: that, and how many bytes of it come after the `&`.
+    /// It begins a whole reference: that, and how many bytes after the `&` show it. The last may be one that it leaves.
     Whole(Reference<'t>, usize),
     /// The run does not show how it ends, or no references may be here.
     Open,
@@ -181,7 +181,7 @@ impl<'t> Tokenizer<'t> {
                 }
                 Ampersand::Open
             }
-            Some((found, count)) if found.left == 0 => Ampersand::Whole(found, count),
+            Some((found, count)) if found.left <= 1 => Ampersand::Whole(found, count),
             _ => Ampersand::Open,
         }
     }
@@ -207,7 +207,7 @@ impl<'t> Tokenizer<'t> {
         sink.take_run(front, at)
     }
 
-    /// Takes the `<` or the `&` at the front of a run, and the whole reference if one is there. Returns the length.
+    /// Takes the `<` or the `&` at the front of a run, or the whole reference if one is there. Returns the length.
     #[inline(always)]
     fn take_end<S: TokenSink>(
         &mut self,
@@ -227,11 +227,37 @@ impl<'t> Tokenizer<'t> {
         ensures few { IfOk result (λ count. (0 < count) × IsCut count run.now) }
     {
         if let Some((found, count)) = whole {
-            self.next = after(at + count as u64);
-            give_piece(&found, at, sink)?;
+            self.take_whole(&found, count, run, at, sink)?;
             return Ok(count + 1);
         }
         self.in_text(char::from(run.as_bytes()[0]), at, sink)?;
         Ok(1)
+    }
+
+    /// Takes the whole reference at the front of a run, and after it the character that shows its end, if it leaves one.
+    #[inline(always)]
+    fn take_whole<S: TokenSink>(
+        &mut self,
+        found: &Reference,
+        count: usize,
+        run: &str,
+        at: u64,
+        sink: &mut S,
+    ) -> Result<(), Refusal>
+        requires text { self.old.state ≡ State.Text }
+        requires whole { IsWhole self.old.table.now self.old.kind run.now found.now count }
+        requires within { at + length run.now ≤ MAX_INPUT }
+        ensures { (table : Entities) (start : Kind) (names : Texts) (text : List Character) (taken : List Event)
+            → Reads table start self.old names text (first_placed at run.now) taken
+            → Takes (gives_item S.gives S.gives_token) table start text (placed at (chars (take (count + 1) run.now))) taken names sink.old result sink.new
+            self.new }
+    {
+        let end = at + count as u64;
+        self.next = after(end);
+        give_piece(found, at, sink)?;
+        if found.left == 0 {
+            return Ok(());
+        }
+        self.in_text(char::from(run.as_bytes()[count]), end, sink)
     }
 }

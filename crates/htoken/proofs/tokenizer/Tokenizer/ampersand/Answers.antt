@@ -57,6 +57,6 @@ returns-in-Some-2 c =
     let amp : slice_index all 0 ≡ 38 = search rules in
     let some : 0 < length all = search rules in
     let few = subst (λ (x : List ℕ). (0 < k) × (k ≤ length x)) (rest_of all) c.in-Some.ensures.few in
-    whole_is c.args.self.now.table.now c.args.self.now.kind c.args.run.now bytes c.in-Some.found k may c.in-Some.ensures.table (sym c.as_bytes-bytes.ensures.value ∙ opens all some amp) few.0 few.1
-    (subst (λ (x : List ℕ). list_all is_ascii (take k x) ≡ true) (rest_of all) c.in-Some.ensures.ascii) c.if-found-eq0.true
+    whole_is c.args.self.now.table.now c.args.self.now.kind c.args.run.now bytes c.in-Some.found k may c.in-Some.ensures.table (sym c.as_bytes-bytes.ensures.value ∙ opens all some amp) few.1
+    (subst (λ (x : List ℕ). list_all is_ascii (take k x) ≡ true) (rest_of all) c.in-Some.ensures.ascii) c.if-found.false c.if-found-le1.true
     (λ at after. subst (λ (x : List ℕ). IsRead c.args.self.now.table.now false (placed at (take k x)) after c.in-Some.found) (rest_of all) (c.in-Some.ensures.read at after))

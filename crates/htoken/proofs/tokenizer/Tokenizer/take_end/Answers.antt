@@ -1,5 +1,4 @@
-use Rattle.std.proofs.Common.{◌≡◌, ◌<◌, [], length, List, ℕ, Option, Some, IfSome, sym, ap, ◌∙◌, subst, refl, arith, Ok, Err}
-use Rattle.std.proofs.lemmas.List.{length-append}
+use Rattle.std.proofs.Common.{◌≡◌, [], ◌+◌, List, ℕ, Option, Some, IfSome, sym, ap, ◌∙◌, subst, arith, Ok, Err}
 use Rattle.std.proofs.lemmas.Result.{err_from_is_err_and}
 use Rattle.std.specs.Prelude.{slice_index}
 use Rattle.names.specs.declared.placed.Placed.{Placed}
@@ -9,7 +8,7 @@ use Rattle.charref.specs.declared.reference.Reference.{Reference}
 use Rattle.htoken.specs.Front.{IsWhole}
 use Rattle.htoken.specs.Token.{gives_item}
 use Rattle.htoken.specs.Tokenizing.{Reads, Takes}
-use Rattle.htoken.proofs.Bare.{mark_first, whole_cut, whole_read, whole_refused}
+use Rattle.htoken.proofs.Bare.{mark_first, whole_cut}
 use Rattle.htoken.proofs.Fronts.{cut_refused}
 use Rattle.htoken.proofs.tokenizer.Tokenizer.take_end.Goals as goal
 
@@ -17,19 +16,13 @@ whole_of : (table : Entities) (kind : RawKind) (run : List ℕ) (whole : Option 
     → IsWhole table kind run found count
 whole_of table kind run whole found count is may = subst (λ w. IfSome w (λ it. IsWhole table kind run it.0 it.1)) is may
 
--- it is longer than what comes after its `&`
-whole_long : (table : Entities) (kind : RawKind) (run : List ℕ) (found : Reference) (count : ℕ) → IsWhole table kind run found count → count < length run
-whole_long table kind run found count is = omega (arith, is.count_is, ap length is.run_is, length-append is.name is.others)
-
-pub returns-in_err-give_piece-clause-takes : goal.returns-in_err-give_piece-clause-takes
-returns-in_err-give_piece-clause-takes g c =
+pub returns-in_err-take_whole-clause-takes : goal.returns-in_err-take_whole-clause-takes
+returns-in_err-take_whole-clause-takes g c =
     let e = err_from_is_err_and c.from_residual.result c.from_residual.ensures.1 in
+    let is = whole_of _ _ _ _ _ _ c.in-Some.is c.requires.whole in
     rw (e.1, e.2) (λ table start names text taken h.
-    whole_refused (gives_item g.S.ErrorSink.gives g.S.TokenSink.gives_token) table start names text taken c.args.self.now c.args.run.now c.args.at c.utf8.run c.in-Some.found c.in-Some.count (whole_of c.args.self.now.table.now c.args.self.now.kind c.args.run.now c.args.whole c.in-Some.found c.in-Some.count c.in-Some.is c.requires.whole) c.requires.text h _ refl c.after-self.ensures _ _ _ (c.in_err-give_piece.ensures names))
-
-pub returns-in-Some-clause-takes : goal.returns-in-Some-clause-takes
-returns-in-Some-clause-takes g c = λ table start names text taken h.
-    whole_read (gives_item g.S.ErrorSink.gives g.S.TokenSink.gives_token) table start names text taken c.args.self.now c.args.run.now c.args.at c.utf8.run c.in-Some.found c.in-Some.count (whole_of c.args.self.now.table.now c.args.self.now.kind c.args.run.now c.args.whole c.in-Some.found c.in-Some.count c.in-Some.is c.requires.whole) c.requires.text h _ refl c.after-self.ensures _ _ (c.in_ok-give_piece.ensures names)
+    cut_refused (gives_item g.S.ErrorSink.gives g.S.TokenSink.gives_token) table start text c.args.at (c.in-Some.count + 1) c.args.run.now (whole_cut (gives_item g.S.ErrorSink.gives g.S.TokenSink.gives_token) table start names text taken c.args.self.now c.args.run.now c.args.at c.utf8.run c.in-Some.found c.in-Some.count is c.requires.text) taken _ _ _ _ c.take_whole.new.self _
+    (c.in_err-take_whole.ensures table start names text taken h))
 
 pub returns-in-Some-clause-few : goal.returns-in-Some-clause-few
 returns-in-Some-clause-few g c =
@@ -55,9 +48,3 @@ returns-clause-takes g c = λ table start names text taken h.
 pub returns-clause-few : goal.returns-clause-few
 returns-clause-few g c =
     (omega arith, (mark_first c.args.run.now c.args.at c.from.result c.utf8.run c.requires.some (c.from.ensures ∙ ap (λ (bs : List ℕ). slice_index bs 0) c.as_bytes.ensures.value) c.requires.ends).2)
-
-pub overflow_add-at : goal.overflow_add-at
-overflow_add-at g c = omega (arith, whole_long _ _ _ _ _ (whole_of c.args.self.now.table.now c.args.self.now.kind c.args.run.now c.args.whole c.in-Some.found c.in-Some.count c.in-Some.is c.requires.whole), c.requires.within)
-
-pub overflow_add-result : goal.overflow_add-result
-overflow_add-result g c = omega (arith, whole_long _ _ _ _ _ (whole_of c.args.self.now.table.now c.args.self.now.kind c.args.run.now c.args.whole c.in-Some.found c.in-Some.count c.in-Some.is c.requires.whole), c.requires.within)

@@ -1,0 +1,21 @@
+use Rattle.std.proofs.Common.{List, ℕ, refl, ap, ◌∙◌}
+use Rattle.std.proofs.lemmas.Result.{err_from_is_err_and}
+use Rattle.std.specs.Prelude.{slice_index}
+use Rattle.htoken.specs.Token.{gives_item}
+use Rattle.htoken.proofs.Bare.{whole_ends, whole_refused, whole_then}
+use Rattle.htoken.proofs.tokenizer.Tokenizer.take_whole.Goals as goal
+
+pub returns-in_err-give_piece : goal.returns-in_err-give_piece
+returns-in_err-give_piece g c =
+    let e = err_from_is_err_and c.from_residual.result c.from_residual.ensures.1 in
+    rw (e.1, e.2) (λ table start names text taken h.
+    whole_refused (gives_item g.S.ErrorSink.gives g.S.TokenSink.gives_token) table start names text taken c.args.self.now c.args.run.now c.args.at c.utf8.run c.args.found.now c.args.count c.requires.whole c.requires.text h _ refl c.after-self.ensures _ _ _ (c.in_err-give_piece.ensures names))
+
+pub returns-then-found-eq0 : goal.returns-then-found-eq0
+returns-then-found-eq0 g c = λ table start names text taken h.
+    whole_ends (gives_item g.S.ErrorSink.gives g.S.TokenSink.gives_token) table start names text taken c.args.self.now c.args.run.now c.args.at c.utf8.run c.args.found.now c.args.count c.requires.whole c.requires.text h _ refl c.after-self.ensures c.if-found-eq0.true _ _ (c.in_ok-give_piece.ensures names)
+
+pub returns : goal.returns
+returns g c = λ table start names text taken h.
+    whole_then (gives_item g.S.ErrorSink.gives g.S.TokenSink.gives_token) table start names text taken c.args.self.now c.args.run.now c.args.at c.utf8.run c.args.found.now c.args.count c.requires.whole c.requires.text h _ refl c.after-self.ensures c.if-found-eq0.false _
+    (c.from.ensures ∙ ap (λ (bs : List ℕ). slice_index bs c.args.count) c.as_bytes.ensures.value) _ _ _ _ _ (c.in_ok-give_piece.ensures names) (c.in_text.ensures table start names)
