@@ -15,7 +15,7 @@ returns-in-Err g c =
     let m = as_document c.args.options.now.table.now c.args.options.now.bad_bytes c.args.options.now.limits.input in
     let began = begins c.args.sink in
     let feeding = c.read_to_end.new.reading.feeding in
-    let start = subst (λ (names : Texts). HasRead gives m (record { names = names; sink = c.args.sink }) c.new-reading.result []) c.new.ensures.known c.new-reading.ensures in
+    let start = subst (λ (names : Texts). HasRead gives m (record { names = names; sink = c.args.sink }) c.new-reading.result []) c.new-names.ensures.known c.new-reading.ensures in
     not_read g.R.Source.left g.R.Source.failed (λ bytes. Comes gives m began bytes feeding.names feeding.sink) (ComesInto gives m c.args.sink) (WasRead gives m began) (IsUnrefusedText m)
     (λ bytes u. unrefused_text gives m began u.0 bytes u.1) c.args.piece [] c.args.source.now c.read_to_end.new.source
     c.in-Err.refusal (λ bytes r. inr (feeding.names, feeding.sink, r)) (c.in-Err.ensures m began [] start)
@@ -26,7 +26,7 @@ returns-in-Ok g c =
     let m = as_document c.args.options.now.table.now c.args.options.now.bad_bytes c.args.options.now.limits.input in
     let began = begins c.args.sink in
     let feeding = c.read_to_end.new.reading.feeding in
-    let start = subst (λ (names : Texts). HasRead gives m (record { names = names; sink = c.args.sink }) c.new-reading.result []) c.new.ensures.known c.new-reading.ensures in
+    let start = subst (λ (names : Texts). HasRead gives m (record { names = names; sink = c.args.sink }) c.new-reading.result []) c.new-names.ensures.known c.new-reading.ensures in
     let read = c.into_parts.result in
     made g.R.Source.left g.R.Source.failed (λ bytes. Comes gives m began bytes feeding.names feeding.sink) (ComesInto gives m c.args.sink) (WasRead gives m began) (IsUnrefusedText m)
     (λ bytes u. unrefused_text gives m began u.0 bytes u.1) c.args.piece [] c.args.source.now c.read_to_end.new.source

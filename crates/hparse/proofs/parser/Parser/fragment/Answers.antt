@@ -24,7 +24,7 @@ returns c =
         none_told = ap (λ (b : Building). b.told) e;
         root_is = ap (λ (b : Building). b.root) e;
         begins = subst (λ (b : Building). BeginsIn (options_of c.args.options.now) began.names (fragment c.args.context.now) b.state) (sym e) (a_fragment c.args.context.now c.in_ok-name.name c.in_ok-name.ensures.number);
-        has_read = subst (λ (k : RawKind). HasRead builds (record { table = c.args.options.now.table.now; start = start.Context k; bad = c.args.options.now.bad_bytes; limit = c.args.options.now.limits.input }) began c.new-2.result []) kind c.new-2.ensures;
+        has_read = subst (λ (k : RawKind). HasRead builds (record { table = c.args.options.now.table.now; start = start.Context k; bad = c.args.options.now.bad_bytes; limit = c.args.options.now.limits.input }) began c.new.result []) kind c.new.ensures;
       },
     )
 
