@@ -1,6 +1,7 @@
 -- Tables of texts, read at a place.
-use Rattle.std.proofs.Common.{◌≡◌, ℕ, zero, suc, List, [], ◌∷◌, map, get_or, refl}
+use Rattle.std.proofs.Common.{◌≡◌, ℕ, zero, suc, List, [], ◌∷◌, map, get_or, Option, Some, None, refl}
 use Rattle.std.specs.Borrow.{Bor}
+use Rattle.std.specs.Prelude.{option_map, unwrap_or}
 
 abbrev blank : Bor (List ℕ)
 blank = record { ref_ptr = (0, 0); now = [] }
@@ -10,3 +11,8 @@ pub text-at : (texts : List (Bor (List ℕ))) (i : ℕ) → (get_or texts i blan
 text-at [] i = refl
 text-at (t ∷ ts) zero = refl
 text-at (t ∷ ts) (suc i) = text-at ts i
+
+-- the text of a reference, if there is one
+pub text-or : (found : Option (Bor (List ℕ))) (other : Bor (List ℕ)) → (unwrap_or found other).now ≡ unwrap_or (option_map (λ t. t.now) found) other.now
+text-or None other = refl
+text-or (Some t) other = refl

@@ -1,4 +1,5 @@
--- The texts of the error codes, and their order among the errors at one byte: input before tokens before tree, and each by its text.
+-- The codes of parse errors (13.2.2): the text of each, and their order among the errors at one byte: those of the input stream (13.2.3.5) before
+-- those of tokens (13.2.5) before those of tree construction (13.2.6), and each of these by its text.
 use Rattle.std.specs.Prelude.{ℕ, List, codes}
 use Rattle.names.specs.declared.error.ErrorCode.{ErrorCode}
 use Rattle.names.specs.declared.error.ErrorCode.TheVariants as code

@@ -1,5 +1,6 @@
 pub mod Tags
 pub mod Sets
+pub mod TagSets
 pub mod RefusedNames
 pub mod Codes
 pub mod Names

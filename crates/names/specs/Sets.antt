@@ -1,4 +1,5 @@
--- The sets of names that the rules speak of, and the kinds of raw text.
+-- The sets of names that the rules speak of: special and formatting elements, what stops a search in scope (13.2.4.2), implied end tags (13.2.6.3),
+-- void elements (13.3), start tags left out of the profile, and the kinds of raw text (13.2.5.2 to 13.2.5.5).
 use Rattle.std.specs.Prelude.{Bool, true, false, ◌||◌, Option, Some, None, is_some}
 use Rattle.names.specs.declared.tag.Tag.{Tag}
 use Rattle.names.specs.declared.tag.Tag.TheVariants as tag
@@ -154,6 +155,13 @@ stops_table_scope tag.Html = true
 stops_table_scope tag.Table = true
 stops_table_scope _ = false
 
+-- What stops the search for an open li, dd or dt (13.2.6.4.7): a special name other than address, div and p.
+abbrev pub stops_item : Tag → Bool
+stops_item tag.Address = false
+stops_item tag.Div = false
+stops_item tag.P = false
+stops_item t = is_special t
+
 -- whether an element of it may be open at the end of the body (13.2.6.4.7)
 abbrev pub may_stay_open : Tag → Bool
 may_stay_open tag.Body = true
@@ -190,6 +198,26 @@ is_table_section tag.Tbody = true
 is_table_section tag.Tfoot = true
 is_table_section tag.Thead = true
 is_table_section _ = false
+
+-- whether it is td or th
+abbrev pub is_cell : Tag → Bool
+is_cell tag.Td = true
+is_cell tag.Th = true
+is_cell _ = false
+
+-- whether an element of it determines the insertion mode when it is reset (13.2.4.1)
+abbrev pub tells_mode : Tag → Bool
+tells_mode tag.Body = true
+tells_mode tag.Caption = true
+tells_mode tag.Colgroup = true
+tells_mode tag.Table = true
+tells_mode tag.Tbody = true
+tells_mode tag.Td = true
+tells_mode tag.Tfoot = true
+tells_mode tag.Th = true
+tells_mode tag.Thead = true
+tells_mode tag.Tr = true
+tells_mode _ = false
 
 -- whether its element has no end tag when it is written (13.3)
 abbrev pub is_void : Tag → Bool

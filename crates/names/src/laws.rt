@@ -1,4 +1,4 @@
-//! Laws of the definitions.
+//! The law of tables of names: the texts of each extend to distinct texts for all numbers.
 
 ghost use Rattle.names.specs.Names.{Texts, AreNames};
 ghost use Rattle.names.specs.Spelling.{IsSpelled, spelling};

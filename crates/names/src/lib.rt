@@ -4,14 +4,13 @@
 
 pub mod attr;
 pub mod error;
-pub mod groups;
 pub mod keys;
 mod known;
 pub mod laws;
 pub mod placed;
 pub mod raw;
 pub mod refusal;
-pub mod special;
+pub mod sets;
 pub mod table;
 pub mod tag;
 

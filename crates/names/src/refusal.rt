@@ -7,9 +7,10 @@ ghost use Rattle.names.specs.declared.refusal.Refusal.TheVariants.{Memory};
 
 use crate::raw::RefusedName;
 use std::alloc::{AllocError, AllocFailed};
+use std::error::Error;
 use std::fmt;
 
-/// Why an entity table is refused.
+/// Why an entity table is refused. It is displayed as its name.
 #[derive(Clone, Copy, Debug, PartialEq, Eq)]
 pub enum TableFault {
     /// The text is not JSON.
@@ -107,7 +108,7 @@ impl Refusal {
     }
 
     /// The element or the cause that it names, if it names one.
-    fn detail(self) -> Option<&'static str>
+    pub fn detail(self) -> Option<&'static str>
         ensures { option_map (λ s. s.now) result ≡ detail_of self }
     {
         match self {
@@ -118,7 +119,7 @@ impl Refusal {
     }
 
     /// Its byte offset or its line, after the word that says which: `at` or `line`.
-    fn number(self) -> Option<(&'static str, u64)>
+    pub fn number(self) -> Option<(&'static str, u64)>
         ensures { option_map (λ p. (p.0.now, p.1)) result ≡ number_of self }
     {
         match self {
@@ -153,6 +154,16 @@ impl Refusal {
     }
 }
 
+impl fmt::Display for TableFault {
+    ghost output = { λ cause. Some (cause_text cause) };
+
+    fn fmt<W: fmt::Write>(&self, f: &mut fmt::Formatter<W>) -> fmt::Result {
+        f.write_str(self.name())
+    }
+}
+
+impl Error for TableFault {}
+
 impl fmt::Display for Refusal {
     ghost output = { λ refusal. Some (refusal_text refusal) };
 
@@ -169,3 +180,5 @@ impl fmt::Debug for Refusal {
         fmt::Display::fmt(self, f)
     }
 }
+
+impl Error for Refusal {}

@@ -3,7 +3,7 @@
 ghost use Rattle.std.specs.Prelude.{◌≡◌, ◌≢◌, ℕ, ◌<◌, List, [], ◌∷◌, ◌++◌, IfOk, IfSome, OnErr, bytes_eq, option_map, length, map, slice_get, Some, true};
 ghost use Rattle.std.specs.Prelude.{false};
 ghost use Rattle.std.specs.List.{list_any, position};
-ghost use Rattle.names.specs.Names.{Texts, IsOf, Grows, interned, AreNames};
+ghost use Rattle.names.specs.Names.{Texts, text_of, Grows, interned, AreNames};
 ghost use Rattle.names.specs.Tags.{known, tags, type_name, tag_of, number_of, tag_named, tag_text};
 ghost use Rattle.names.specs.declared.tag.Tag.{Tag as KnownTag};
 
@@ -242,16 +242,20 @@ impl Names {
         Some(text.as_str())
     }
 
-    /// The text of a name.
-    pub fn text(&self, id: NameId) -> &str
-        requires { IsOf self.now id }
-        ensures text { slice_get self.now id ≡ Some result.now }
+    /// The text of a name, if the number is of this table.
+    pub fn get(&self, id: NameId) -> Option<&str>
+        ensures text { option_map (λ t. t.now) result ≡ slice_get self.now id }
         ensures names { AreNames self.now }
     {
-        match self.stored(id.index()) {
-            Some(text) => text,
-            None => unreachable!(),
-        }
+        self.stored(id.index())
+    }
+
+    /// The text of a name, or the empty text if the number is not of this table.
+    pub fn text(&self, id: NameId) -> &str
+        ensures text { result.now ≡ text_of self.now id }
+        ensures names { AreNames self.now }
+    {
+        self.get(id).unwrap_or("")
     }
 }
 
