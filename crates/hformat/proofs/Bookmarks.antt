@@ -1,11 +1,5 @@
 -- When there is an entry of a node, and a bookmark stays in the list.
-use Rattle.std.proofs.Common.{◌≡◌, ℕ, Bool, true, false, IsTrue, not, cond, eqb, ◌||◌, List, [], ◌∷◌, Option, Some, None, is_some, refl, ◌∙◌, ap}
-use Rattle.std.specs.List.{list_any}
-use Rattle.std.specs.Option.{option_map}
-use Rattle.std.proofs.lemmas.Bool.{eqb-true}
-use Rattle.hformat.specs.Formatting.{Listed, marker, entry, entry_of, is_entry, is_of_node, has_bookmark}
-use Rattle.hformat.specs.declared.bookmark.Bookmark.TheVariants.{After}
-use Rattle.hchain.specs.Nearest.{without}
+use Rattle.hformat.proofs.Names.{◌≡◌, ℕ, Bool, true, false, IsTrue, not, cond, eqb, ◌||◌, List, [], ◌∷◌, Option, Some, None, is_some, refl, ◌∙◌, ap, list_any, option_map, eqb-true, not-true, Listed, marker, entry, entry_of, is_entry, is_of_node, has_bookmark, After, without}
 
 module _ {N : Type 0} where
   pub any-is_entry : (n : ℕ) (items : List (Listed N)) → list_any (is_entry n) items ≡ is_some (entry_of n items)
@@ -30,11 +24,7 @@ module _ {N : Type 0} where
 
   -- a bookmark after the entry of another node stays in the list
   pub has_bookmark-after : (k n : ℕ) (items : List (Listed N)) → not (eqb k n) ≡ true → IsTrue (list_any (is_entry n) items) → IsTrue (has_bookmark k (After n) items)
-  has_bookmark-after k n items apart there = any-without n k (go (eqb k n) apart) items ∙ there
-    where
-      go : (same : Bool) → not same ≡ true → same ≡ false
-      go true e = cc
-      go false e = refl
+  has_bookmark-after k n items apart there = any-without n k (not-true (eqb k n) apart) items ∙ there
 
 pub is_some-option_map : {X Y : Type 0} (f : X → Y) (o : Option X) → is_some (option_map f o) ≡ is_some o
 is_some-option_map f None = refl

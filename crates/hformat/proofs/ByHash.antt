@@ -1,21 +1,11 @@
 -- Only the entries with its hash can be equal to an entry.
-use Rattle.std.proofs.Common.{add-zero, reverse, take, ◌≡◌, ℕ, zero, suc, ◌+◌, ◌-◌, ◌<◌, ◌≤◌, eqb, Bool, true, false, cond, List, [], ◌∷◌, Option, Some, length, map, filter, drop, get_or, refl, sym, ◌∙◌, ap, arith, if◌then◌else◌}
-use Rattle.std.specs.List.{slice_get}
-use Rattle.std.specs.Option.{option_map_or}
-use Rattle.std.proofs.Math.Dec.{eqb-suc-zero}
+use Rattle.hformat.proofs.Names.{add-zero, reverse, take, ◌≡◌, ℕ, zero, suc, ◌+◌, ◌-◌, ◌<◌, ◌≤◌, eqb, Bool, true, false, cond, List, [], ◌∷◌, Option, Some, length, map, filter, drop, get_or, refl, sym, ◌∙◌, ap, arith, if◌then◌else◌, slice_get, option_map_or, eqb-suc-zero, eqb-true, eqb-false, drop-map, take-map, get_or-reverse, length-map, EntryOf, Listed, marker, entry, as_entry, after_marker, number_by, item_of, items_of, Stored, drop_nearest, last_place-le}
 use Rattle.std.proofs.Math.Seq.{drop-nil}
-use Rattle.std.proofs.lemmas.Bool.{eqb-true, eqb-false}
-use Rattle.std.proofs.lemmas.List.{drop-drop, drop-map, take-map, get_or-drop, get_or-reverse, length-drop, length-map}
+use Rattle.std.proofs.lemmas.List.{drop-drop, get_or-drop, length-drop}
 use Rattle.hformat.proofs.Chained.{last_of}
-use Rattle.hformat.specs.Formatting.{EntryOf, Listed, marker, entry, as_entry, after_marker}
-use Rattle.hformat.specs.Listed.{number_by}
 use Rattle.hformat.proofs.Earliest.{farthest}
-use Rattle.hformat.specs.Items.{item_of, items_of}
-use Rattle.hformat.specs.declared.entry.Slot.{Slot as Stored}
 use Rattle.hformat.proofs.ItemLists.{length-items_of}
-use Rattle.hchain.proofs.Nearest.{drop_nearest}
 use Rattle.hformat.proofs.Listed.{number as numbered, numbers-back, numbers-seen, place, place-le}
-use Rattle.hchain.proofs.Places.{last_place-le}
 
 -- what is at the last place of a number
 pub last-at : (n p : ℕ) (ns : List ℕ) → last_of n ns ≡ p → 0 < p → get_or ns (length ns - p) 0 ≡ n

@@ -1,15 +1,9 @@
 -- A search in a list by the numbers of its members, where what is sought has one number.
-use Rattle.std.proofs.Common.{◌≡◌, ℕ, zero, suc, ◌+◌, ◌-◌, ◌<◌, ◌≤◌, ◌==◌, eqb, Bool, true, false, cond, ◌||◌, List, [], ◌∷◌, length, map, take, get_or, refl, sym, ◌∙◌, ap, arith}
-use Rattle.std.specs.List.{list_any}
-use Rattle.std.proofs.lemmas.Bool.{eqb-true, eqb-false}
+use Rattle.hformat.proofs.Names.{◌≡◌, ℕ, zero, suc, ◌+◌, ◌-◌, ◌<◌, ◌≤◌, ◌==◌, eqb, Bool, true, false, cond, ◌||◌, List, [], ◌∷◌, length, map, take, get_or, refl, sym, ◌∙◌, ap, arith, list_any, eqb-true, eqb-false, last_up}
 use Rattle.std.proofs.lemmas.List.Folds.{list_any_more}
-use Rattle.hchain.specs.Chains.{last_up}
+use Rattle.std.proofs.Math.Bool.{or-false}
 
 module _ {X : Type 0} (sought : X → Bool) where
-  or-false : (v : Bool) → (v || false) ≡ v
-  or-false true = refl
-  or-false false = refl
-
   -- a member that isn't sought is not missed
   pub any-less : (xs : List X) (p : ℕ) (x : X) → 0 < p → p ≤ length xs → x ≡ get_or xs (p - 1) x → sought x ≡ false
       → list_any sought (take (p - 1) xs) ≡ list_any sought (take p xs)

@@ -1,9 +1,6 @@
 -- Where a number is last, in a list and in that list from its last member on; and edits of a vector in what its members are seen as.
-use Rattle.std.proofs.Common.{◌≡◌, ℕ, zero, suc, ◌≤◌, ◌==◌, Bool, List, [], ◌∷◌, ◌++◌, length, map, reverse, take, take-suc, drop, get_or, refl, sym, ◌∙◌, ap, arith, if◌then◌else◌}
-use Rattle.std.proofs.lemmas.List.{map-append, take-map, drop-map, reverse-append, length-reverse, length-take-le, take_all}
-use Rattle.std.specs.List.{insert, remove}
-use Rattle.hchain.specs.Chains.{last_up}
-use Rattle.hchain.specs.Places.{last_place}
+use Rattle.hformat.proofs.Names.{◌≡◌, ℕ, zero, suc, ◌≤◌, ◌==◌, Bool, List, [], ◌∷◌, ◌++◌, length, map, reverse, take, take-suc, drop, get_or, refl, sym, ◌∙◌, ap, arith, if◌then◌else◌, map-append, take-map, drop-map, reverse-append, length-reverse, length-take-le, insert, remove, last_up, last_place}
+use Rattle.std.proofs.lemmas.List.{take_all}
 
 -- where a number is last, in a list whose last member comes first
 abbrev pub last_of : ℕ → List ℕ → ℕ

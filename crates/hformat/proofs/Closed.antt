@@ -1,18 +1,10 @@
 -- The holes of a list taken out, and the numbers of what is left.
-use Rattle.std.proofs.Common.{◌≡◌, ℕ, zero, suc, ◌+◌, ◌-◌, ◌<◌, ◌≤◌, ◌==◌, Bool, true, false, not, cond, eqb, is_some, List, [], ◌∷◌, ◌++◌, length, get_or, take, drop, set, map, filter, refl, sym, ◌∙◌, ap, arith, subst}
-use Rattle.std.specs.List.{All, between, swap}
-use Rattle.std.proofs.lemmas.Bool.{eqb-true}
-use Rattle.std.proofs.lemmas.List.{append-nil, append_assoc, drop-map, drop-set-lt, drop_more, get_or-append_right, length-append, length-take-le, map-append, take-map, take-set-le, take_more}
-use Rattle.std.proofs.lemmas.List.Edits.{between_more, length-swap, swap_is, swapped_from_swap}
-use Rattle.std.proofs.lemmas.List.Elements.{All-append, All-drop, All-filter, All-get_or, All-head, All-tail, All-take, filter-append, filter_passes}
-use Rattle.hformat.specs.Hashes.{entry_hash}
-use Rattle.hchain.specs.Chains.{none}
-use Rattle.hformat.specs.Formatting.{EntryOf}
-use Rattle.hformat.specs.Items.{IsStored, entry_is, is_gone, item_of, nowhere}
-use Rattle.hformat.specs.Listed.{IsListed, by_hash, by_name, by_node, number_by, numbers_by, unless_hole}
-use Rattle.hformat.specs.declared.entry.Slot.{Slot as Stored}
+use Rattle.hformat.proofs.Names.{◌≡◌, ℕ, zero, suc, ◌+◌, ◌-◌, ◌<◌, ◌≤◌, ◌==◌, Bool, true, false, not, cond, eqb, is_some, List, [], ◌∷◌, ◌++◌, length, get_or, take, drop, set, map, filter, refl, sym, ◌∙◌, ap, arith, subst, All, swap, eqb-true, not-true, append-nil, append_assoc, drop-map, drop-set-lt, length-append, length-take-le, map-append, take-map, swap_is, All-append, All-drop, All-get_or, All-head, All-tail, All-take, filter-append, entry_hash, none, EntryOf, IsStored, entry_is, is_gone, item_of, nowhere, IsListed, by_hash, by_name, by_node, number_by, numbers_by, unless_hole, Stored, Slots}
+use Rattle.std.specs.List.{between}
+use Rattle.std.proofs.lemmas.List.{drop_more, get_or-append_right, take-set-le, take_more}
+use Rattle.std.proofs.lemmas.List.Edits.{between_more, length-swap, swapped_from_swap}
+use Rattle.std.proofs.lemmas.List.Elements.{All-filter, filter_passes}
 use Rattle.hformat.specs.declared.entry.Slot.TheVariants as stored
-use Rattle.hformat.specs.declared.slots.Slots.{Slots}
 use Rattle.hformat.proofs.Moved.{NoHoleFrom}
 
 -- what stays from an index on, and what is left
@@ -57,16 +49,12 @@ module _ (of : EntryOf ℕ → ℕ) where
       ∙ ap (λ l. map number (take from items) ++ l) (numbers-stay (drop from items) (All-drop IsStored from items all))
       ∙ sym (map-append number (take from items) (filter stays (drop from items)))
 
-gone-not : (v : Bool) → not v ≡ true → v ≡ false
-gone-not true is = cc
-gone-not false is = refl
-
 solid-closed : (items : List Stored) (from : ℕ) → from ≤ length items → NoHoleFrom from (closed items from)
 solid-closed items from h k above l x =
     let low : length (take from items) ≡ from = length-take-le from items h in
     let kept = filter stays (drop from items) in
     let within : k - from < length kept = omega (arith, length-append (take from items) kept) in
-    gone-not (is_gone (get_or (closed items from) k x))
+    not-true (is_gone (get_or (closed items from) k x))
     (ap stays (get_or-append_right (take from items) kept from k x low above) ∙ All-get_or (λ y. stays y ≡ true) kept (k - from) x within (filter_passes stays (drop from items)))
 
 -- what is kept of the list

@@ -1,23 +1,13 @@
 -- Vectors of items with holes, and where the entry of a node is in them.
-use Rattle.std.proofs.Common.{◌≡◌, ℕ, zero, suc, ◌+◌, ◌-◌, ◌<◌, ◌≤◌, eqb, Bool, true, false, cond, not, ◌||◌, ◌⊎◌, List, [], ◌∷◌, ◌++◌, Option, Some, None, is_some, length, map, filter, take, take-suc, drop, get_or, refl, sym, ◌∙◌, ap, subst, inl, inr, arith}
-use Rattle.std.specs.List.{All, position, position_or_len, list_any, slice_get, find}
-use Rattle.std.specs.Option.{option_and_then, option_map, option_map_or}
-use Rattle.std.proofs.Math.Dec.{eqb-zero-suc}
-use Rattle.std.proofs.lemmas.Bool.{eqb-true, lt-ltb}
-use Rattle.std.proofs.lemmas.List.{append-nil, drop_at, get_or-map, length-append, length-map, take-append-drop, take_at}
-use Rattle.std.proofs.lemmas.List.Elements.{All-drop, All-take, filter-append}
-use Rattle.hformat.specs.Formatting.{EntryOf, Listed, marker, entry, as_entry, entry_of, for_node, is_entry}
-use Rattle.hformat.specs.Holes.{nth_live}
-use Rattle.hformat.specs.Items.{AreSlots, IsSlot, IsStored, hole, is_gone, is_hole, item_of, items_of, live, nowhere, told}
-use Rattle.hformat.specs.Listed.{by_node, number_by, unless_hole}
-use Rattle.hchain.specs.Nearest.{changed_at}
-use Rattle.hformat.specs.declared.entry.Slot.{Slot as Stored}
+use Rattle.hformat.proofs.Names.{◌≡◌, ℕ, zero, suc, ◌+◌, ◌-◌, ◌<◌, ◌≤◌, eqb, Bool, true, false, cond, not, ◌||◌, ◌⊎◌, List, [], ◌∷◌, ◌++◌, Option, Some, None, is_some, length, map, filter, take, take-suc, drop, get_or, refl, sym, ◌∙◌, ap, subst, inl, inr, arith, All, position, position_or_len, list_any, slice_get, find, option_and_then, option_map, option_map_or, eqb-zero-suc, eqb-true, append-nil, get_or-map, length-append, length-map, All-drop, All-take, filter-append, EntryOf, Listed, marker, entry, as_entry, entry_of, for_node, is_entry, nth_live, AreSlots, IsSlot, IsStored, hole, is_gone, is_hole, item_of, items_of, live, nowhere, told, by_node, number_by, unless_hole, changed_at, Stored, is_some-position, slice_get_nearest}
+use Rattle.std.proofs.lemmas.Bool.{lt-ltb}
+use Rattle.std.proofs.lemmas.List.{drop_at, take-append-drop, take_at}
 use Rattle.hformat.specs.declared.entry.Slot.TheVariants as stored
 use Rattle.hformat.proofs.ByHash.{last-at, number-at}
 use Rattle.hformat.proofs.ItemLists.{along_last, items_of_more, length-items_of}
 use Rattle.hformat.proofs.Live.{AllSolid, nth-none, nth-real, nth-within}
 use Rattle.hformat.proofs.Listed.{number-same, place, place-le}
-use Rattle.hchain.proofs.Nearest.{get_nearest, is_some-position, reverse_split, slice_get_nearest}
+use Rattle.hchain.proofs.Nearest.{get_nearest, reverse_split}
 
 -- a smaller number is another
 pub apart : (a b : ℕ) → a < b → eqb a b ≡ false

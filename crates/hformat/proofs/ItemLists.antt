@@ -1,13 +1,8 @@
 -- What a vector of items says, from its last item on.
-use Rattle.std.proofs.Common.{◌≡◌, ℕ, suc, ◌+◌, ltb, get_or, false, Option, Some, None, is_some, IsTrue, List, [], ◌∷◌, ◌++◌, map, reverse, length, ap, sym, ◌∙◌, subst}
-use Rattle.std.proofs.lemmas.List.{reverse-append, reverse-reverse, length-reverse, length-map}
-use Rattle.hformat.specs.declared.entry.Slot.{Slot as Stored}
-use Rattle.std.specs.List.{list_any, position, position_or_len, find, slice_get}
+use Rattle.hformat.proofs.Names.{◌≡◌, ℕ, suc, ◌+◌, ltb, get_or, false, Option, Some, None, is_some, IsTrue, List, [], ◌∷◌, ◌++◌, map, reverse, length, ap, sym, ◌∙◌, subst, reverse-append, reverse-reverse, length-reverse, length-map, Stored, list_any, position, position_or_len, find, slice_get, Listed, is_entry, items_of, item_of, is_some-position, slice_get_nearest}
 use Rattle.std.proofs.lemmas.List.Folds.{find_at}
 use Rattle.std.proofs.lemmas.Option.{cond_some}
-use Rattle.hformat.specs.Formatting.{Listed, is_entry}
-use Rattle.hformat.specs.Items.{items_of, item_of}
-use Rattle.hchain.proofs.Nearest.{reverse_push, is_some-position, slice_get_nearest}
+use Rattle.hchain.proofs.Nearest.{reverse_push}
 
 module _ {X : Type 0} (P : List X → Type 0) (none : P []) (more : (front : List X) (x : X) → P front → P (front ++ x ∷ [])) where
   along_turned : (ys : List X) → P (reverse ys)

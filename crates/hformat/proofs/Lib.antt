@@ -1,3 +1,4 @@
+pub mod Names
 pub mod ItemLists
 pub mod Earliest
 pub mod Bookmarks

@@ -1,20 +1,9 @@
 -- The numbers of the items of a list.
-use Rattle.std.proofs.Common.{◌≡◌, ℕ, zero, suc, ◌-◌, ◌<◌, ◌≤◌, nat_eq, eqb, Bool, true, false, cond, not, ◌||◌, List, [], ◌∷◌, None, length, map, reverse, take, drop, filter, refl, sym, ◌∙◌, ap, arith, if◌then◌else◌}
-use Rattle.std.specs.List.{list_any, slice_get}
-use Rattle.std.specs.Option.{option_and_then}
-use Rattle.std.proofs.lemmas.List.{reverse-reverse, length-map}
+use Rattle.hformat.proofs.Names.{◌≡◌, ℕ, zero, suc, ◌-◌, ◌<◌, ◌≤◌, nat_eq, eqb, Bool, true, false, cond, not, ◌||◌, List, [], ◌∷◌, None, length, map, reverse, take, drop, filter, refl, sym, ◌∙◌, ap, arith, if◌then◌else◌, list_any, slice_get, option_and_then, reverse-reverse, length-map, eqb-suc-zero, eqb-zero-suc, eqb-true, eqb-false, without, EntryOf, Listed, marker, entry, as_entry, cleared, find_entry, item_of, items_of, nowhere, by_name, number_by, unless_hole, Stored, reverse-map, drop_nearest, last_place-le}
 use Rattle.std.proofs.lemmas.Simd.{map-map}
-use Rattle.std.proofs.Math.Dec.{eqb-suc-zero, eqb-zero-suc}
-use Rattle.std.proofs.lemmas.Bool.{eqb-true, eqb-false, eq-eqb}
-use Rattle.hchain.specs.Nearest.{without}
-use Rattle.hformat.specs.Formatting.{EntryOf, Listed, marker, entry, as_entry, cleared, find_entry}
-use Rattle.hformat.specs.Items.{item_of, items_of, nowhere}
-use Rattle.hformat.specs.Listed.{by_name, number_by, unless_hole}
-use Rattle.hformat.specs.declared.entry.Slot.{Slot as Stored}
-use Rattle.hchain.proofs.Nearest.{reverse-map, drop_nearest}
+use Rattle.std.proofs.lemmas.Bool.{eq-eqb}
 use Rattle.hformat.proofs.Chained.{last_of}
 use Rattle.hformat.proofs.ItemLists.{length-items_of}
-use Rattle.hchain.proofs.Places.{last_place-le}
 
 module _ (of : EntryOf ℕ → ℕ) where
   abbrev pub number : Stored → ℕ

@@ -1,13 +1,7 @@
 -- Edits of lists with holes: what is left without the holes, and that each item is still a marker, an entry or the hole.
-use Rattle.std.proofs.Common.{◌≡◌, ℕ, zero, suc, ◌<◌, nat_eq, nat_le, Bool, true, false, cond, not, ◌&&◌, List, [], ◌∷◌, Option, Some, None, inl, inr, length, filter, refl, ◌∙◌, ap}
-use Rattle.std.specs.List.{find, list_any, remove}
-use Rattle.std.specs.Option.{option_map_or}
-use Rattle.std.proofs.lemmas.Bool.{cases_Bool}
-use Rattle.hchain.specs.Nearest.{without, changed, put_before, changed_at}
-use Rattle.hformat.specs.Formatting.{EntryOf, Listed, marker, entry, after_marker, cleared, is_entry, for_node, with_node, booked, has_bookmark, without_earliest, most_equal, is_equal, with_room}
-use Rattle.hformat.specs.Items.{nowhere, hole, is_hole, live, AreSlots}
-use Rattle.hformat.specs.declared.bookmark.Bookmark.{Bookmark}
-use Rattle.hformat.specs.declared.bookmark.Bookmark.TheVariants.{InPlace, After}
+use Rattle.hformat.proofs.Names.{◌≡◌, ℕ, zero, suc, ◌<◌, nat_eq, Bool, true, false, cond, not, ◌&&◌, List, [], ◌∷◌, Option, Some, None, inl, inr, length, filter, refl, ◌∙◌, ap, find, list_any, remove, option_map_or, cases_Bool, without, put_before, changed_at, EntryOf, Listed, marker, entry, after_marker, cleared, is_entry, for_node, with_node, booked, has_bookmark, without_earliest, most_equal, is_equal, with_room, nowhere, hole, is_hole, live, AreSlots, Bookmark, InPlace, After}
+use Rattle.std.proofs.Common.{nat_le}
+use Rattle.hchain.specs.Nearest.{changed}
 use Rattle.hformat.proofs.Live.{apart, is_hole-for_node, Spares, spares-node, find_is-live, any-live, any_after-live, filter_after-live}
 
 pub live-cons : (x : Listed ℕ) (xs ys : List (Listed ℕ)) → live xs ≡ live ys → live (x ∷ xs) ≡ live (x ∷ ys)

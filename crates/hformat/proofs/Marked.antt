@@ -1,14 +1,6 @@
 -- An entry that moves to a bookmark.
-use Rattle.std.proofs.Common.{◌≡◌, ℕ, suc, ◌+◌, ◌-◌, ◌<◌, true, Some, List, length, get_or, sym, ◌∙◌, ap, arith}
-use Rattle.std.specs.List.{All, list_any, position, remove}
-use Rattle.std.specs.Option.{is_some, option_map_or}
-use Rattle.std.proofs.lemmas.List.{get_or_default}
-use Rattle.hformat.specs.Formatting.{booked, for_node, has_bookmark, is_entry}
-use Rattle.hformat.specs.Items.{AreSlots, IsStored, item_of, items_of, live, nowhere, told}
-use Rattle.hformat.specs.Listed.{by_node}
-use Rattle.hchain.specs.Nearest.{put_before, without}
-use Rattle.hformat.specs.declared.bookmark.Bookmark.TheVariants.{After}
-use Rattle.hformat.specs.declared.entry.Slot.{Slot as Stored}
+use Rattle.hformat.proofs.Names.{◌≡◌, ℕ, suc, ◌+◌, ◌-◌, ◌<◌, true, Some, List, length, get_or, sym, ◌∙◌, ap, arith, All, list_any, position, remove, option_map_or, get_or_default, booked, for_node, has_bookmark, is_entry, AreSlots, IsStored, item_of, items_of, live, nowhere, told, by_node, put_before, without, After, Stored}
+use Rattle.std.specs.Option.{is_some}
 use Rattle.hformat.specs.declared.entry.Slot.TheVariants as stored
 use Rattle.hformat.proofs.Holes.{node-at, node-some, node_place, place-told, slots-are}
 use Rattle.hformat.proofs.ItemLists.{found_at, length-items_of}

@@ -1,27 +1,13 @@
 -- Exchanges of neighbours in a list and what a run of them does; an entry that becomes that of another node, and where an entry
 -- is among the others.
-use Rattle.std.proofs.Common.{◌≡◌, ◌≢◌, ℕ, zero, suc, ◌+◌, ◌-◌, ◌<◌, ◌≤◌, ◌==◌, ◌⊎◌, inl, inr, Bool, true, false, IsTrue, cond, eqb, List, [], ◌∷◌, ◌++◌, Option, Some, is_some, length, get_or, set, take, drop, map, reverse, refl, sym, ◌∙◌, ap, arith, subst}
-use Rattle.std.specs.Prelude.{max}
-use Rattle.std.specs.List.{All, insert, list_any, position, remove}
-use Rattle.std.proofs.Math.Dec.{eqb-zero-suc}
-use Rattle.std.proofs.lemmas.Bool.{eqb-true}
-use Rattle.std.proofs.lemmas.List.{append_assoc, drop-set-lt, get_or-map, get_or-reverse, get_or-set_other, length-append, length-map, length-reverse, length-set, length-take-le, map-set, reverse-append, set-get_or, set-set, set_split, take-set}
-use Rattle.std.proofs.lemmas.List.Elements.{All-get_or, All-head, All-set, All-tail}
-use Rattle.hchain.specs.Chains.{last_up, none}
-use Rattle.hformat.specs.Formatting.{EntryOf, for_node, is_entry}
-use Rattle.hformat.specs.Items.{IsStored, entry_is, is_gone, item_of, items_of, nowhere, renamed, told}
-use Rattle.std.specs.declared.hash.DefaultHasher.{DefaultHasher}
-use Rattle.hformat.specs.Listed.{IsListed, by_hash, by_name, by_node, number_by, numbers_by}
-use Rattle.hchain.specs.Nearest.{changed_at, put_before}
-use Rattle.hchain.specs.Places.{last_place}
-use Rattle.hformat.specs.declared.entry.Slot.{Slot as Stored}
+use Rattle.hformat.proofs.Names.{◌≡◌, ◌≢◌, ℕ, zero, suc, ◌+◌, ◌-◌, ◌<◌, ◌≤◌, ◌==◌, ◌⊎◌, inl, inr, Bool, true, false, IsTrue, cond, eqb, List, [], ◌∷◌, ◌++◌, Option, Some, is_some, length, get_or, set, take, drop, map, reverse, refl, sym, ◌∙◌, ap, arith, subst, max, All, insert, list_any, position, remove, eqb-zero-suc, eqb-true, append_assoc, drop-set-lt, get_or-map, get_or-reverse, get_or-set_other, length-append, length-map, length-reverse, length-set, length-take-le, map-set, reverse-append, All-get_or, All-head, All-set, All-tail, last_up, none, EntryOf, for_node, is_entry, IsStored, entry_is, is_gone, item_of, items_of, nowhere, renamed, told, DefaultHasher, IsListed, by_hash, by_name, by_node, number_by, numbers_by, changed_at, put_before, last_place, Stored, Slots, reverse-map, set_nearest, last_place-le}
+use Rattle.std.proofs.lemmas.List.{set-get_or, set-set, set_split, take-set}
 use Rattle.hformat.specs.declared.entry.Slot.TheVariants as stored
-use Rattle.hformat.specs.declared.slots.Slots.{Slots}
 use Rattle.hformat.proofs.Chained.{last-is}
 use Rattle.hformat.proofs.ItemLists.{not_missing}
 use Rattle.hformat.proofs.Listed.{number-same}
-use Rattle.hchain.proofs.Nearest.{insert_nearest, position_nearest, reverse-map, set_nearest}
-use Rattle.hchain.proofs.Places.{last_place-le, position-none, position-some}
+use Rattle.hchain.proofs.Nearest.{insert_nearest, position_nearest}
+use Rattle.hchain.proofs.Places.{position-none, position-some}
 
 -- the members at an index and at the next one in each other's place
 abbrev pub exchanged : {X : Type 0} → List X → ℕ → X → List X

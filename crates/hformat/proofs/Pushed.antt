@@ -1,10 +1,5 @@
 -- A new entry comes last, and what gives way to it leaves a hole.
-use Rattle.std.proofs.Common.{◌≡◌, ℕ, suc, ◌<◌, nat_eq, cond, not, Bool, List, ◌∷◌, Option, Some, None, sym, ◌∙◌, ap}
-use Rattle.std.specs.List.{remove}
-use Rattle.std.specs.Option.{option_map_or}
-use Rattle.hformat.specs.Formatting.{EntryOf, Listed, entry, pushed, with_room}
-use Rattle.hformat.specs.Items.{hole, live, nowhere}
-use Rattle.hchain.specs.Nearest.{changed_at}
+use Rattle.hformat.proofs.Names.{◌≡◌, ℕ, suc, ◌<◌, nat_eq, cond, not, Bool, List, ◌∷◌, Option, Some, None, sym, ◌∙◌, ap, remove, option_map_or, EntryOf, Listed, entry, pushed, with_room, hole, live, nowhere, changed_at}
 use Rattle.hformat.proofs.Holes.{apart}
 use Rattle.hformat.proofs.LiveEdits.{hide-live, room-live}
 

@@ -1,24 +1,19 @@
 -- Equal entries have the same hash, and the same number by it.
-use Rattle.std.proofs.Common.{◌≡◌, ◌≢◌, ℕ, suc, ◌<◌, Bool, true, false, cond, ltb, eqb, nat_eq, nat_cmp, Less, IsSorted, IsPermutation, bytes_eq, ◌&&◌, ◌||◌, List, [], ◌∷◌, Option, None, Some, map, refl, sym, ◌∙◌, ap, arith}
-use Rattle.std.specs.List.{list_any, dedup, dedup_from, AllByRecursion}
+use Rattle.hformat.proofs.Names.{◌≡◌, ◌≢◌, ℕ, suc, ◌<◌, Bool, true, false, cond, ltb, eqb, nat_eq, ◌&&◌, ◌||◌, List, [], ◌∷◌, Option, None, Some, map, refl, sym, ◌∙◌, ap, arith, list_any, option_map_or, ltb-true, eqb-true, eqb-false, ne_eqb, Attribute, DefaultHasher, entry_hash, distinct, hash_of, EntryOf, are_among, as_entry, is_equal, same_attribute, item_of, nowhere, told, by_hash, Stored}
+use Rattle.std.proofs.Common.{nat_cmp, Less, IsSorted, IsPermutation, bytes_eq}
+use Rattle.std.specs.List.{dedup, dedup_from, AllByRecursion}
 use Rattle.std.specs.List.Sorted.{IsStrictlySortedBy}
 use Rattle.std.specs.Cmp.{both_ways, nat_cmp_is, unsigned_ties}
-use Rattle.std.specs.Option.{option_map_or}
 use Rattle.std.specs.FinMap.{nat_cmp-IsAntisymmetric}
 use Rattle.std.specs.BTreeMap.{is_at}
-use Rattle.std.proofs.lemmas.Bool.{ltb-true, ltb-false, eqb-true, eqb-false, ne_eqb}
+use Rattle.std.proofs.lemmas.Bool.{ltb-false}
 use Rattle.std.proofs.lemmas.Cmp.{nat_cmp_total}
 use Rattle.std.proofs.lemmas.List.Kept.{IsStrictlySortedBy-dedup}
 use Rattle.std.proofs.lemmas.List.Sorted.{list_any-IsPermutation}
 use Rattle.std.proofs.lemmas.Map.Lookups.{btree_set_from_contains}
 use Rattle.names.proofs.TableLemmas.{bytes_eq-true}
-use Rattle.hnodes.specs.Forest.{Attribute}
-use Rattle.std.specs.declared.hash.DefaultHasher.{DefaultHasher}
-use Rattle.hformat.specs.Hashes.{entry_hash, distinct, hash_of, put_in, total}
-use Rattle.hformat.specs.Formatting.{EntryOf, are_among, as_entry, is_equal, same_attribute, same_attributes}
-use Rattle.hformat.specs.Items.{item_of, nowhere, told}
-use Rattle.hformat.specs.Listed.{by_hash}
-use Rattle.hformat.specs.declared.entry.Slot.{Slot as Stored}
+use Rattle.hformat.specs.Hashes.{put_in, total}
+use Rattle.hformat.specs.Formatting.{same_attributes}
 use Rattle.hformat.specs.declared.entry.Slot.TheVariants as stored
 
 -- numbers that ascend, with one more

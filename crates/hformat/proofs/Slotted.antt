@@ -1,17 +1,9 @@
 -- The items of a list and their numbers, where the last ones leave, and where one becomes a hole.
-use Rattle.std.proofs.Common.{◌≡◌, ◌≢◌, ℕ, zero, suc, ◌+◌, ◌<◌, ◌≤◌, true, false, List, [], ◌∷◌, ◌++◌, length, take, set, get_or, min, max, subst, sym, ◌∙◌, ap, arith}
-use Rattle.std.specs.List.{All}
+use Rattle.hformat.proofs.Names.{◌≡◌, ◌≢◌, ℕ, zero, suc, ◌+◌, ◌<◌, ◌≤◌, true, false, List, [], ◌∷◌, ◌++◌, length, take, set, get_or, min, subst, sym, ◌∙◌, ap, arith, All, length-append, map-append, take-map, map-set, length-set, length-take-le, get_or-set_other, All-append, All-take, All-set, entry_hash, none, EntryOf, IsStored, is_gone, item_of, IsListed, by_hash, by_name, by_node, number_by, numbers_by, unless_hole, Stored, Slots}
+use Rattle.std.proofs.Common.{max}
 use Rattle.std.specs.Option.{is_some}
-use Rattle.std.proofs.lemmas.List.{length-append, map-append, take-map, map-set, length-set, length-take-le, get_or-take, get_or-set_other}
-use Rattle.std.proofs.lemmas.List.Elements.{All-append, All-take, All-set}
-use Rattle.hformat.specs.Hashes.{entry_hash}
-use Rattle.hchain.specs.Chains.{none}
-use Rattle.hformat.specs.Formatting.{EntryOf}
-use Rattle.hformat.specs.Items.{IsStored, is_gone, item_of}
-use Rattle.hformat.specs.Listed.{IsListed, by_hash, by_name, by_node, number_by, numbers_by, unless_hole}
-use Rattle.hformat.specs.declared.entry.Slot.{Slot as Stored}
+use Rattle.std.proofs.lemmas.List.{get_or-take}
 use Rattle.hformat.specs.declared.entry.Slot.TheVariants as stored
-use Rattle.hformat.specs.declared.slots.Slots.{Slots}
 
 -- Where only the hashes have changed, all else is as it was.
 pub all-but-hashes : (s t : Slots) (hashes : List ℕ) → t ≡ record s { hashes = hashes } → t ≡ record s { hashes = t.hashes }

@@ -1,17 +1,10 @@
 -- The list of active formatting elements under other names.
-use Rattle.std.proofs.Common.{◌≡◌, ℕ, Bool, true, false, cond, not, ◌&&◌, List, [], ◌∷◌, map, length, Option, Some, None, refl, ◌∙◌, ap}
-use Rattle.std.specs.Prelude.{if◌then◌else◌, slice_get, option_and_then, filter, find, nat_le, bytes_eq}
-use Rattle.std.specs.List.{list_any}
-use Rattle.std.specs.Option.{option_map, option_map_or}
-use Rattle.std.proofs.lemmas.List.{length-map}
+use Rattle.hformat.proofs.Names.{◌≡◌, ℕ, Bool, true, false, cond, not, ◌&&◌, List, [], ◌∷◌, map, length, Option, Some, None, refl, ◌∙◌, ap, bytes_eq, list_any, option_map, option_map_or, length-map, any-map, without, put_before, EntryOf, Listed, marker, entry, is_of_node, is_entry, as_entry, entry_at, entry_of, after_marker, cleared, for_node, with_node, booked, without_earliest, most_equal, same_attribute, are_among, is_equal, pushed, find_entry, Bookmark, InPlace, After, Attribute}
+use Rattle.std.specs.Prelude.{if◌then◌else◌, slice_get, option_and_then, filter, find, nat_le}
 use Rattle.std.proofs.lemmas.Option.{slice_get-map}
-use Rattle.hchain.proofs.Images.{without-map, changed-map, put_before-map, filter-map, find-map, any-map, all-map, changed_at-map}
-use Rattle.hchain.specs.Nearest.{without, put_before}
-use Rattle.hformat.specs.Formatting.{EntryOf, Listed, marker, entry, entries, is_of_node, is_entry, as_entry, entry_at, entry_of, after_marker, cleared, for_node, with_node, booked, without_earliest, most_equal, same_attribute, are_among, is_equal, pushed, find_entry}
+use Rattle.hchain.proofs.Images.{without-map, changed-map, put_before-map, filter-map, find-map, all-map, changed_at-map}
+use Rattle.hformat.specs.Formatting.{entries}
 use Rattle.hformat.specs.Spelled.{spelled_entry, spelled_item, spelled_items, FormattingKnowsNoNames}
-use Rattle.hformat.specs.declared.bookmark.Bookmark.{Bookmark}
-use Rattle.hformat.specs.declared.bookmark.Bookmark.TheVariants.{InPlace, After}
-use Rattle.hnodes.specs.Forest.{Attribute}
 use Rattle.hnodes.specs.Spelled.{spelled_attribute}
 
 module _ {N M : Type 0} (same : N → N → Bool) (same' : M → M → Bool) (g : N → M) (names : (a b : N) → same' (g a) (g b) ≡ same a b) where

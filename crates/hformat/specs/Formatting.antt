@@ -41,6 +41,7 @@ module _ {N : Type 0} where
   after_marker (entry e ∷ items) = e ∷ after_marker items
 
   -- without the last marker and what comes after it
+  -- (#clear-the-list-of-active-formatting-elements-up-to-the-last-marker)
   abbrev pub cleared : List (Listed N) → List (Listed N)
   cleared [] = []
   cleared (marker ∷ items) = items
@@ -70,7 +71,7 @@ module _ {N : Type 0} where
   abbrev pub with_node : (old new : ℕ) → List (Listed N) → List (Listed N)
   with_node old new items = changed (is_entry old) (for_node new) items
 
-  -- The end of a turn of the adoption agency (13.2.6.4.7): the entry of a node becomes that of another one, and is at the
+  -- The end of a turn of the adoption agency (#adoption-agency-algorithm): the entry of a node becomes that of another one, and is at the
   -- bookmark, which is where it was, or right after the entry of a node.
   abbrev pub booked : (old new : ℕ) → Bookmark → List (Listed N) → List (Listed N)
   booked old new InPlace items = with_node old new items
@@ -92,7 +93,7 @@ module _ {N : Type 0} where
   without_earliest sought (entry e ∷ items) =
       if sought e && not (list_any sought (after_marker items)) then items else entry e ∷ without_earliest sought items
 
--- how many equal entries there may be after the last marker
+-- how many equal entries there may be after the last marker, by the Noah's Ark clause
 abbrev pub most_equal : ℕ
 most_equal = 3
 
@@ -116,11 +117,11 @@ module _ {N : Type 0} (same : N → N → Bool) where
   abbrev pub find_entry : N → List (Listed N) → Option (EntryOf N)
   find_entry name items = find (λ e. same name e.name) (after_marker items)
 
-  -- the earliest of the entries that are equal to a new one gives way to it, where there are as many as there may be
+  -- the Noah's Ark clause: where there are as many as there may be, the earliest entry that is equal to a new one gives way to it
   abbrev pub with_room : EntryOf N → List (Listed N) → List (Listed N)
   with_room new items =
       if nat_le most_equal (length (filter (is_equal new) (after_marker items))) then without_earliest (is_equal new) items else items
 
-  -- Push onto the list of active formatting elements (13.2.4.3).
+  -- Push onto the list of active formatting elements (#push-onto-the-list-of-active-formatting-elements).
   abbrev pub pushed : EntryOf N → List (Listed N) → List (Listed N)
   pushed new items = entry new ∷ with_room new items

@@ -7,12 +7,9 @@ ghost use Rattle.hnodes.specs.Rows.{attribute_of};
 ghost use Rattle.hformat.specs.Formatting.{same_attribute, are_among, same_attributes};
 
 use hchain::Chains;
-use hnodes::{index_attrs, name_number};
+use hnodes::{FEW_ATTRIBUTES, index_attrs, name_number};
 use names::Attr;
 use std::alloc::{AllocError, Global};
-
-/// How many attributes are searched one by one.
-const FEW: usize = 16;
 
 fn is_same(x: &Attr, y: &Attr) -> bool
     ensures { result ≡ same_attribute nat_eq (attribute_of x.now) (attribute_of y.now) }
@@ -64,7 +61,7 @@ fn are_found_by_name(names: &Chains, attrs: &[Attr], others: &[Attr]) -> bool
 fn are_all_in(alloc: Global, attrs: &[Attr], others: &[Attr]) -> Result<bool, AllocError>
     ensures { IfOk result (λ all. all ≡ are_among nat_eq (map attribute_of attrs.now) (map attribute_of others.now)) }
 {
-    if others.len() <= FEW {
+    if others.len() <= FEW_ATTRIBUTES {
         return Ok(are_found(attrs, others));
     }
     let names = index_attrs(others, alloc)?;

@@ -13,14 +13,11 @@ ghost use Rattle.hformat.specs.Holes.{nth_live};
 use crate::bookmark::Bookmark;
 use crate::entry::{Entry, Slot};
 use crate::hashes::find_hash;
-use crate::slots::{MARKER, Numbers, Slots, node_number};
+use crate::slots::{FEW, MARKER, Numbers, Slots, node_number};
 use hnodes::{Attributes, NodeId, name_number};
 use names::{Keys, NameId};
 use std::alloc::{AllocError, Global};
 use std::marker::Model;
-
-/// In a list of so few items the holes are passed one by one.
-const FEW: usize = 8;
 
 /// The list of active formatting elements.
 ///
@@ -128,8 +125,8 @@ impl Formatting {
         }
     }
 
-    /// Pushes an entry. If three entries after the last marker are equal to it, the earliest of them is removed (13.2.4.3). On an error
-    /// nothing changes.
+    /// Pushes an entry (`#push-onto-the-list-of-active-formatting-elements`). If three entries after the last marker are equal to it, the
+    /// earliest of them is removed (the Noah's Ark clause). On an error nothing changes.
     pub fn push(&mut self, node: NodeId, name: NameId, attrs: Attributes) -> Result<(), AllocError>
         ensures ok { OnOk result (self.new ≡ pushed nat_eq (record { node = node; name = name; attrs = attrs }) self.old) }
         ensures err { OnErr result (self.new ≡ self.old) }
@@ -168,7 +165,8 @@ impl Formatting {
         Ok(())
     }
 
-    /// Removes the last marker and everything after it, or everything if there is no marker (13.2.4.3).
+    /// Removes the last marker and everything after it, or everything if there is no marker
+    /// (`#clear-the-list-of-active-formatting-elements-up-to-the-last-marker`).
     pub fn clear(&mut self)
         ensures { self.new ≡ cleared self.old }
     {
@@ -272,7 +270,7 @@ impl Formatting {
         }
     }
 
-    /// Sets the node of a node's entry, and moves the entry to the bookmark (13.2.6.4.7). Allocates nothing.
+    /// Sets the node of a node's entry, and moves the entry to the bookmark (`#adoption-agency-algorithm`). Allocates nothing.
     pub fn move_to_bookmark(&mut self, from: NodeId, to: NodeId, bookmark: Bookmark)
         requires entry { IsTrue (list_any (is_entry from) self.old) }
         requires bookmark { IsTrue (has_bookmark from bookmark self.old) }

@@ -20,11 +20,11 @@ use hnodes::{NodeId, name_number};
 use names::{Attr, Keys, NameId};
 use std::alloc::{AllocError, Global};
 
-/// How many equal entries there may be after the last marker.
+/// How many equal entries there may be after the last marker, by the Noah's Ark clause.
 const MOST_EQUAL: usize = 3;
 
-/// How many entries of a name are compared one by one with a new one, and how many attributes each of them may have.
-const FEW: usize = 8;
+/// So many items are passed one by one, and so many entries of a name are compared one by one, with so many attributes each.
+pub(crate) const FEW: usize = 8;
 
 /// The number of markers, in each list of numbers.
 pub(crate) const MARKER: usize = 0;
@@ -150,8 +150,8 @@ impl Slots {
         }
     }
 
-    /// How many items come after the entry that gives way to a new one: the earliest of the equal entries after the last marker, if
-    /// there are three. Equal entries have the same hash.
+    /// The Noah's Ark clause: how many items come after the entry that gives way to a new one, the earliest of the equal entries after the
+    /// last marker, if there are three. Equal entries have the same hash.
     pub(crate) fn giving_way(
         &self,
         alloc: Global,

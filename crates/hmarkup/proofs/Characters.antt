@@ -1,10 +1,5 @@
 -- Classes of characters that exclude each other, and the errors of characters that are not NUL.
-use Rattle.std.proofs.Common.{◌≡◌, ℕ, ◌≤◌, ◌+◌, Bool, true, false, cond, nat_lt, ◌||◌, eqb, [], ◌∷◌, sym, refl, subst, arith}
-use Rattle.std.proofs.lemmas.Bool.{false≢true, eqb-true}
-use Rattle.std.proofs.lemmas.Bool.Decides.{nat_tests}
-use Rattle.std.specs.Char.{to_ascii_lowercase}
-use Rattle.names.specs.declared.placed.Placed.{Placed}
-use Rattle.names.specs.Placed.{is_space, is_greater, is_quote, null_errors}
+use Rattle.hmarkup.proofs.Names.{◌≡◌, ℕ, ◌≤◌, ◌+◌, Bool, true, false, cond, nat_lt, ◌||◌, eqb, [], ◌∷◌, sym, refl, subst, arith, false≢true, eqb-true, nat_tests, to_ascii_lowercase, Placed, is_space, is_greater, is_quote, null_errors}
 
 quote_of : (c : ℕ) (a : Bool) → eqb c 34 ≡ a → (a || eqb c 39) ≡ true → (P : ℕ → Type 0) → P 34 → P 39 → P c
 quote_of c true e h P x y = subst P (sym (eqb-true c 34 e)) x

@@ -1,22 +1,8 @@
 -- What a walk has read, and the characters that close it.
-use Rattle.std.proofs.Common.{◌≡◌, ◌<◌, ℕ, arith, true, false, eqb, List, [], ◌∷◌, ◌++◌, sym, refl, ap, ◌∙◌, subst, codes, None, append_assoc}
+use Rattle.hmarkup.proofs.Names.{◌≡◌, ◌<◌, ℕ, arith, true, false, eqb, List, [], ◌∷◌, ◌++◌, sym, refl, ap, ◌∙◌, subst, codes, None, append_assoc, ParseError, Placed, characters, is_quote, CommentKind, Comment, Bogus, Letters, DoctypeState, Ending, Plain, Dash, Dashes, Bang, errors_here, IsComment, Progress, HasReadOf, IsInComment, IsSpan, is_whole, Found, IsDoctype, next_letter, step, Reading, Fits, HasReadDoctype, next, next_ending}
 use Rattle.std.proofs.lemmas.Bool.{ne_eqb}
-use Rattle.names.specs.declared.error.ParseError.{ParseError}
-use Rattle.names.specs.declared.placed.Placed.{Placed}
-use Rattle.names.specs.Placed.{characters, is_quote}
-use Rattle.hmarkup.specs.declared.comment.CommentKind.{CommentKind}
-use Rattle.hmarkup.specs.declared.comment.CommentKind.TheVariants.{Comment, Bogus}
-use Rattle.hmarkup.specs.declared.keyword.Letters.{Letters}
-use Rattle.hmarkup.specs.declared.doctype_state.DoctypeState.{DoctypeState}
 use Rattle.hmarkup.specs.declared.doctype_state.DoctypeState.TheVariants as phase
-use Rattle.hmarkup.specs.declared.tail.Ending.{Ending}
-use Rattle.hmarkup.specs.declared.tail.Ending.TheVariants.{Plain, Dash, Dashes, Bang}
-use Rattle.hmarkup.specs.Comment.{errors_here, IsComment}
-use Rattle.hmarkup.specs.CommentWalk.{Progress, HasReadOf, IsInComment, IsSpan, closing_mark, is_whole}
-use Rattle.hmarkup.specs.Doctype.{Found, IsDoctype}
-use Rattle.hmarkup.specs.DoctypeSteps.{next_letter, step}
-use Rattle.hmarkup.specs.DoctypeWalk.{Reading, Fits, HasReadDoctype}
-use Rattle.hmarkup.specs.Steps.{next, next_ending}
+use Rattle.hmarkup.specs.CommentWalk.{closing_mark}
 use Rattle.hmarkup.specs.Walk.{ClosedBy}
 use Rattle.hmarkup.proofs.Characters.{quote_is}
 use Rattle.hmarkup.proofs.InBogus.{bogus_closed}

@@ -1,9 +1,7 @@
 -- Worked rows: what follows `<!DOCTYPE` in the text shown above each.
+use Rattle.hmarkup.proofs.Names.{encode, placed, error, EofInDoctype, InvalidCharacterSequenceAfterDoctypeName, MissingDoctypeName, MissingWhitespaceBeforeDoctypeName, MissingWhitespaceBetweenDoctypePublicAndSystemIdentifiers, UnexpectedCharacterAfterDoctypeSystemIdentifier, UnexpectedNullCharacter, IsDoctype}
 use Rattle.std.specs.Prelude.{true, false, [], ◌∷◌, ◌++◌, codes, Some, None}
-use lib.Utf8.{encode}
-use Rattle.names.specs.Placed.{placed, error}
-use Rattle.names.specs.declared.error.ErrorCode.TheVariants.{AbruptDoctypePublicIdentifier, AbruptDoctypeSystemIdentifier, EofInDoctype, InvalidCharacterSequenceAfterDoctypeName, MissingDoctypeName, MissingDoctypePublicIdentifier, MissingDoctypeSystemIdentifier, MissingQuoteBeforeDoctypePublicIdentifier, MissingQuoteBeforeDoctypeSystemIdentifier, MissingWhitespaceAfterDoctypePublicKeyword, MissingWhitespaceAfterDoctypeSystemKeyword, MissingWhitespaceBeforeDoctypeName, MissingWhitespaceBetweenDoctypePublicAndSystemIdentifiers, UnexpectedCharacterAfterDoctypeSystemIdentifier, UnexpectedNullCharacter}
-use Rattle.hmarkup.specs.Doctype.{IsDoctype}
+use Rattle.names.specs.declared.error.ErrorCode.TheVariants.{AbruptDoctypePublicIdentifier, AbruptDoctypeSystemIdentifier, MissingDoctypePublicIdentifier, MissingDoctypeSystemIdentifier, MissingQuoteBeforeDoctypePublicIdentifier, MissingQuoteBeforeDoctypeSystemIdentifier, MissingWhitespaceAfterDoctypePublicKeyword, MissingWhitespaceAfterDoctypeSystemKeyword}
 use Rattle.hmarkup.proofs.SomeSpan.{some_doctype}
 
 -- `<!DOCTYPEhtml>`

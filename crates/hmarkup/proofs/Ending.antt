@@ -1,13 +1,5 @@
 -- The input's end.
-use Rattle.std.proofs.Common.{ℕ, List, [], ◌∷◌, refl, Result, Ok}
-use Rattle.names.specs.declared.error.ParseError.{ParseError}
-use Rattle.names.specs.declared.error.ErrorCode.TheVariants.{EofInComment}
-use Rattle.names.specs.declared.placed.Placed.{Placed}
-use Rattle.names.specs.declared.refusal.Refusal.{Refusal}
-use Rattle.names.specs.Placed.{error}
-use Rattle.hmarkup.specs.declared.comment.CommentKind.TheVariants.{Comment, Bogus}
-use Rattle.hmarkup.specs.Walk.{Ends}
-use Rattle.hmarkup.specs.CommentWalk.{Progress, IsInComment, IsInBogus, IsSpan}
+use Rattle.hmarkup.proofs.Names.{ℕ, List, [], ◌∷◌, refl, Result, Ok, ParseError, EofInComment, Placed, Refusal, error, Comment, Bogus, Ends, Progress, IsInComment, IsInBogus, IsSpan}
 use Rattle.hmarkup.proofs.Handing.{hand_one}
 use Rattle.hmarkup.proofs.Walking.{unclosed_at}
 use Rattle.hmarkup.proofs.InBogus.{bogus_unclosed}

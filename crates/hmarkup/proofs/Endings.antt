@@ -1,12 +1,7 @@
 -- How a doctype ends, and skipped rests, a character at a time.
-use Rattle.std.proofs.Common.{◌≡◌, ℕ, Bool, true, false, not, ◌||◌, eqb, List, [], ◌∷◌, ◌++◌, sym, refl, ap, ◌∙◌, subst, codes}
-use Rattle.std.proofs.lemmas.Bool.{false≢true, eqb-true, and_from, and_parts, not-true, not_from_false, or_from, or_parts}
-use Rattle.names.specs.declared.error.ParseError.{ParseError}
-use Rattle.names.specs.declared.error.ErrorCode.{ErrorCode}
-use Rattle.names.specs.declared.error.ErrorCode.TheVariants.{EofInDoctype}
-use Rattle.names.specs.declared.placed.Placed.{Placed}
-use Rattle.names.specs.Placed.{characters, begins, is_empty, all, is_space, is_greater, is_greater_or_end, error, null_errors}
-use Rattle.hmarkup.specs.Doctype.{Found, force, IsEnd, closed, cut_off, IsSkipped, Skips}
+use Rattle.hmarkup.proofs.Names.{◌≡◌, ℕ, Bool, true, false, not, ◌||◌, eqb, List, [], ◌∷◌, ◌++◌, sym, refl, ap, ◌∙◌, subst, codes, false≢true, eqb-true, and_from, and_parts, not-true, or_from, or_parts, ParseError, ErrorCode, EofInDoctype, Placed, characters, begins, is_empty, all, is_space, is_greater, is_greater_or_end, error, null_errors, Found, force, IsEnd, closed, cut_off, IsSkipped}
+use Rattle.std.proofs.lemmas.Bool.{not_from_false}
+use Rattle.hmarkup.specs.Doctype.{Skips}
 use Rattle.hmarkup.proofs.Marks.{null_errors-append}
 use Rattle.hmarkup.proofs.Characters.{greater_not_space}
 -- a lemma of the standard library, under the name by which the crates above cite it

@@ -1,8 +1,7 @@
 -- One text at the front of two.
-use Rattle.std.proofs.Common.{◌≡◌, ℕ, List, [], ◌∷◌, ◌++◌, length, take, sym, refl, ap, ◌∙◌, append_assoc, append-nil}
+use Rattle.hmarkup.proofs.Names.{◌≡◌, ℕ, List, [], ◌∷◌, ◌++◌, length, take, sym, refl, ap, ◌∙◌, append_assoc, append-nil, append_cancel_left, Placed}
 use Rattle.std.proofs.Math.Seq.{take-append_seam}
-use Rattle.std.proofs.lemmas.List.{append_cancel_left}
-use Rattle.names.specs.declared.placed.Placed.{Placed}
+use Rattle.names.proofs.Words.{heads, tails}
 
 -- the span begins with the text
 pub record IsFront (text after rest span : List Placed) : Type 0 where
@@ -11,12 +10,6 @@ pub record IsFront (text after rest span : List Placed) : Type 0 where
   pub after_is : after ≡ more ++ rest
 
 -- of two texts at the front of one, one begins with the other
-heads_are : (x y : Placed) (xs ys : List Placed) → x ∷ xs ≡ y ∷ ys → x ≡ y
-heads_are x y xs ys e = cc
-
-tails_are : (x y : Placed) (xs ys : List Placed) → x ∷ xs ≡ y ∷ ys → xs ≡ ys
-tails_are x y xs ys e = cc
-
 cons_are : (x y : Placed) (xs ys : List Placed) → x ≡ y → xs ≡ ys → x ∷ xs ≡ y ∷ ys
 cons_are x y xs ys e f = cc
 
@@ -29,9 +22,9 @@ front_of (t ∷ ts) after rest [] e last =
     let none : rest ≡ [] = last (t ∷ ts) refl in
     absurd cc
 front_of (t ∷ ts) after rest (s ∷ ss) e last =
-    front_cons t s ts after rest ss (heads_are s t (ss ++ rest) (ts ++ after) e)
-    (front_of ts after rest ss (tails_are s t (ss ++ rest) (ts ++ after) e)
-    (λ (more : List Placed) (h : ts ≡ ss ++ more). last more (cons_are t s ts (ss ++ more) (sym (heads_are s t (ss ++ rest) (ts ++ after) e)) h)))
+    front_cons t s ts after rest ss (heads s t (ss ++ rest) (ts ++ after) e)
+    (front_of ts after rest ss (tails s t (ss ++ rest) (ts ++ after) e)
+    (λ (more : List Placed) (h : ts ≡ ss ++ more). last more (cons_are t s ts (ss ++ more) (sym (heads s t (ss ++ rest) (ts ++ after) e)) h)))
 
 -- it begins with one more character, where it doesn't end with the text
 pub front_more : (text : List Placed) (p : Placed) (after rest span : List Placed) → ((more : List Placed) → text ≡ span ++ more → rest ≡ []) → span ++ rest ≡ (text ++ p ∷ []) ++ after → IsFront (text ++ p ∷ []) after rest span

@@ -1,6 +1,5 @@
 -- Handing an error to a sink, whatever it returns.
-use Rattle.std.proofs.Common.{List, [], ◌∷◌, ◌++◌, refl, Result, Ok, Err}
-use Rattle.names.specs.Sink.{Hands}
+use Rattle.hmarkup.proofs.Names.{List, [], ◌∷◌, ◌++◌, refl, Result, Ok, Err, Hands}
 use Rattle.names.proofs.Handing.{Hands-append}
 
 module _ {S X E : Type 0} (gives : S → X → Result (Unit {0}) E → S → Type 0) where

@@ -1,13 +1,6 @@
 -- A bogus comment that has not ended, and one more character or the end.
-use Rattle.std.proofs.Common.{◌≡◌, ℕ, Bool, true, false, not, ◌&&◌, ◌||◌, eqb, List, [], ◌∷◌, ◌++◌, sym, refl, ap, ◌∙◌, append-nil}
-use Rattle.std.proofs.lemmas.Bool.{false≢true}
-use Rattle.std.specs.Char.{encode_utf8}
-use Rattle.names.specs.declared.error.ParseError.{ParseError}
-use Rattle.names.specs.declared.placed.Placed.{Placed}
-use Rattle.names.specs.Placed.{all, before, Avoids, null_errors, text_bytes, without_null}
-use Rattle.hmarkup.specs.declared.comment.CommentKind.TheVariants.{Bogus}
-use Rattle.hmarkup.specs.Comment.{errors_here, closes_bogus, is_plain_in_bogus, IsBogus, closed_bogus, unclosed_bogus}
-use Rattle.hmarkup.specs.CommentWalk.{Progress, begun, IsInBogus}
+use Rattle.hmarkup.proofs.Names.{◌≡◌, ℕ, Bool, true, false, not, ◌&&◌, ◌||◌, eqb, List, [], ◌∷◌, ◌++◌, sym, refl, ap, ◌∙◌, append-nil, false≢true, encode_utf8, ParseError, Placed, all, before, Avoids, null_errors, text_bytes, without_null, Bogus, errors_here, closes_bogus, IsBogus, closed_bogus, unclosed_bogus, Progress, begun, IsInBogus}
+use Rattle.hmarkup.specs.Comment.{is_plain_in_bogus}
 use Rattle.hmarkup.proofs.Marks.{Avoids-more, Avoids-append, before-avoids, text_bytes-append, null_errors-append}
 
 module _ (w : Progress) (text : List Placed) (errs : List ParseError) (ch at : ℕ) (h : IsInBogus w text errs) where

@@ -1,20 +1,12 @@
 -- What is after the name of a doctype, and letters of its keywords: each character.
-use Rattle.std.proofs.Common.{◌≡◌, ℕ, zero, suc, ◌+◌, ◌≤◌, ◌<◌, nat_le, nat_lt, drop, length, get_or, Bool, true, false, ◌&&◌, eqb, if◌then◌else◌, List, [], ◌∷◌, ◌++◌, sym, refl, ap, ◌∙◌, subst, codes, Option, Some, None, arith}
-use Rattle.std.specs.Char.{to_ascii_lowercase}
-use Rattle.std.proofs.lemmas.Bool.{false≢true, eqb-true, and_from, and_left, and_parts, and_right, or_from, or_parts}
-use Rattle.std.proofs.lemmas.Bool.Decides.{nat_tests}
-use Rattle.std.proofs.lemmas.List.{drop_all, drop_more}
-use Rattle.std.specs.List.{list_all}
-use Rattle.names.specs.declared.error.ParseError.{ParseError}
-use Rattle.names.specs.declared.error.ErrorCode.TheVariants.{InvalidCharacterSequenceAfterDoctypeName}
-use Rattle.names.specs.declared.placed.Placed.{Placed}
-use Rattle.names.specs.Placed.{characters, lowered, begins, is_space, is_greater, is_greater_or_end, spells_in_any_case, error, null_errors}
-use Rattle.hmarkup.specs.declared.keyword.Identifier.{Identifier}
-use Rattle.hmarkup.specs.declared.keyword.Identifier.TheVariants.{Public, System}
-use Rattle.hmarkup.specs.declared.keyword.Letters.{Letters}
-use Rattle.hmarkup.specs.Doctype.{Found, closed, force, IsSkipped, AfterName, name_ends, name_skips, names_identifier, is_keyword, keyword, FollowsKeyword, FollowsName}
-use Rattle.hmarkup.specs.DoctypeSteps.{begun, after_name, begins_keyword, first_letter, goes_on_with, in_keyword, next_letter, letters_after, step_errors, found_by}
-use Rattle.hmarkup.specs.DoctypeWalk.{left, IsInKeyword, whole, fails}
+use Rattle.hmarkup.proofs.Names.{◌≡◌, ℕ, suc, ◌+◌, ◌≤◌, ◌<◌, nat_lt, drop, length, get_or, Bool, true, false, ◌&&◌, eqb, if◌then◌else◌, List, [], ◌∷◌, ◌++◌, sym, refl, ap, ◌∙◌, subst, codes, Option, Some, None, arith, to_ascii_lowercase, false≢true, eqb-true, and_from, and_parts, and_right, or_from, or_parts, nat_tests, drop_all, list_all, ParseError, InvalidCharacterSequenceAfterDoctypeName, Placed, characters, begins, is_space, is_greater, is_greater_or_end, spells_in_any_case, error, null_errors, Identifier, Public, System, Letters, Found, closed, force, IsSkipped, AfterName, name_ends, name_skips, names_identifier, FollowsName, after_name, begins_keyword, first_letter, goes_on_with, in_keyword, next_letter, letters_after, step_errors, found_by, IsInKeyword, whole, fails}
+use Rattle.std.proofs.Common.{zero, nat_le}
+use Rattle.std.proofs.lemmas.Bool.{and_left}
+use Rattle.std.proofs.lemmas.List.{drop_more}
+use Rattle.names.specs.Placed.{lowered}
+use Rattle.hmarkup.specs.Doctype.{is_keyword, keyword, FollowsKeyword}
+use Rattle.hmarkup.specs.DoctypeSteps.{begun}
+use Rattle.hmarkup.specs.DoctypeWalk.{left}
 use Rattle.hmarkup.proofs.Marks.{eqb_self}
 use Rattle.hmarkup.proofs.Characters.{lower_is_far, far_not_space, far_not_greater, far_not_null, no_null_error}
 use Rattle.hmarkup.proofs.Spaces.{past_space, at_once, with_space, with_none, any_space}

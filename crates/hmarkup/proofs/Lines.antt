@@ -1,13 +1,13 @@
 -- Lines of a text, and texts that are cut at a mark.
-use Rattle.std.proofs.Common.{◌≡◌, ◌≢◌, ℕ, ◌+◌, ◌<◌, suc, Bool, false, ◌||◌, eqb, cond, List, [], ◌∷◌, ◌++◌, length, get_or, Bor, sym, refl, ap, ◌∙◌, subst, Option, Some, None, Ok, Err, append-nil, arith}
+use Rattle.hmarkup.proofs.Names.{◌≡◌, ℕ, ◌+◌, ◌<◌, suc, Bool, false, ◌||◌, eqb, cond, List, [], ◌∷◌, ◌++◌, length, get_or, sym, refl, ap, ◌∙◌, subst, Option, Some, None, Ok, Err, append-nil, arith, false≢true, eqb-true, false_from_ne_true, or_parts, lines, AreQuirkLines}
+use Rattle.std.proofs.Common.{◌≢◌, Bor}
 use Rattle.std.specs.Prelude.{MatchOption}
 use Rattle.std.specs.List.{list_any}
-use Rattle.std.proofs.lemmas.Bool.{false≢true, eqb-true, false_from_ne_true, or_parts}
 use Rattle.std.proofs.lemmas.Str.Pattern.{IsSplitOnceResult, split_parts}
 use Rattle.hmarkup.specs.declared.quirks.QuirkKind.{QuirkKind}
 use Rattle.hmarkup.specs.declared.quirks.QuirkKind.TheVariants.{PublicIs, PublicBegins, SystemIs, PublicBeginsWithoutSystem}
 use Rattle.names.specs.declared.refusal.Refusal.TheVariants.{BadQuirks}
-use Rattle.hmarkup.specs.Quirks.{QuirkLine, quirk_word, IsQuirkLine, IsNoQuirkLine, in_line, lines, AreQuirkLines, ReadsQuirks, bad_line, read_all, IsWordless, Lacks, HasParts}
+use Rattle.hmarkup.specs.Quirks.{QuirkLine, quirk_word, IsQuirkLine, IsNoQuirkLine, in_line, ReadsQuirks, bad_line, read_all, IsWordless, Lacks, HasParts}
 use Rattle.hmarkup.proofs.Marks.{eqb_self}
 
 -- a text without a mark

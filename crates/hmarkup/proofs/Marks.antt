@@ -1,16 +1,9 @@
 -- Words on texts: marks that a text avoids, and texts that grow.
-use Rattle.std.proofs.Common.{◌≡◌, ℕ, ◌≤◌, Bool, true, false, cond, ◌&&◌, eqb, List, [], ◌∷◌, ◌++◌, length, map, sym, refl, ap, ◌∙◌, subst, append_assoc, arith, length-append}
-use Rattle.std.proofs.lemmas.Bool.{false≢true, and_from, and_parts}
-use Rattle.std.proofs.lemmas.Bool.Decides.{nat_tests}
-use Rattle.std.proofs.lemmas.List.{map-append}
-use Rattle.std.proofs.lemmas.Str.{encodes-append}
+use Rattle.hmarkup.proofs.Names.{◌≡◌, ℕ, ◌≤◌, Bool, true, false, cond, ◌&&◌, eqb, List, [], ◌∷◌, ◌++◌, length, map, sym, refl, ap, ◌∙◌, subst, append_assoc, arith, length-append, false≢true, and_from, and_parts, nat_tests, map-append, encodes-append, encode_utf8_all, UnexpectedNullCharacter, Placed, characters, spells, is_front, before, Avoids, error, null_errors, text_bytes, without_null}
 use Rattle.std.proofs.lemmas.Grind.{flat_map-append}
-use Rattle.std.specs.Prelude.{encode_utf8_all}
-use Rattle.names.specs.declared.error.ErrorCode.TheVariants.{UnexpectedNullCharacter}
-use Rattle.names.specs.declared.placed.Placed.{Placed}
-use Rattle.names.specs.Placed.{characters, spells, is_front, before, Avoids, error, null_errors, text_bytes, without_null}
--- lemmas of the standard library, under the names by which the crates above cite them
+-- lemmas of the crates below, under the names by which the crates above cite them
 pub use Rattle.std.proofs.lemmas.Bool.{and_parts, and_from as and_both, and_right as and_no, or_parts as neither, or_from as or_none, or_left, or_right}
+pub use Rattle.names.proofs.Words.{first_is}
 
 -- the text before a mark, past a front that the mark avoids
 pub before-avoids : (mark : List Placed → Bool) (xs after : List Placed) → Avoids mark xs after → before mark (xs ++ after) ≡ xs ++ before mark after
@@ -100,9 +93,6 @@ spells-own (x ∷ xs) rest = and_from (eqb x.ch x.ch) (spells (characters xs) (x
 
 pub spells-characters : (cs : List ℕ) (xs rest : List Placed) → characters xs ≡ cs → spells cs (xs ++ rest) ≡ true
 spells-characters cs xs rest h = subst (λ (c : List ℕ). spells c (xs ++ rest) ≡ true) h (spells-own xs rest)
-
-pub first_is : (x : Placed) (xs : List Placed) (c : ℕ) (cs : List ℕ) → characters (x ∷ xs) ≡ c ∷ cs → x.ch ≡ c
-first_is x xs c cs h = cc
 
 -- a text that is its front before a mark has no mark after a shorter front
 pub not_past : (mark : List Placed → Bool) (text inner close : List Placed) → text ≡ before mark text → text ≡ inner ++ close → mark close ≡ true → 1 ≤ length close → ⊥

@@ -1,15 +1,8 @@
 -- The last characters of a comment that has not ended, when one more comes.
-use Rattle.std.proofs.Common.{◌≡◌, ℕ, Bool, true, false, ◌⊎◌, eqb, List, [], ◌∷◌, ◌++◌, sym, refl, ◌∙◌, subst, append-nil, codes, arith, ◌≤◌, length}
-use Rattle.std.proofs.lemmas.Bool.{false≢true, eqb-true, false_from_ne_true, or_from, or_parts}
+use Rattle.hmarkup.proofs.Names.{◌≡◌, ℕ, Bool, true, false, eqb, List, [], ◌∷◌, ◌++◌, sym, refl, ◌∙◌, subst, append-nil, codes, arith, ◌≤◌, length, false≢true, eqb-true, false_from_ne_true, or_from, or_parts, encode, Placed, characters, spells, is_front, before, Avoids, text_bytes, Ending, Plain, Dash, Dashes, Bang, closes_comment, is_ending, holds_nothing, next_ending, decided}
+use Rattle.std.proofs.Common.{◌⊎◌}
 use mathlib.Core.Logic.{inl, inr}
-use lib.Utf8.{encode}
-use Rattle.names.specs.declared.placed.Placed.{Placed}
-use Rattle.names.specs.Placed.{characters, spells, is_front, before, Avoids, text_bytes}
-use Rattle.hmarkup.specs.declared.tail.Ending.{Ending}
-use Rattle.hmarkup.specs.declared.tail.Ending.TheVariants.{Plain, Dash, Dashes, Bang}
-use Rattle.hmarkup.specs.Comment.{closes_comment, is_ending}
-use Rattle.hmarkup.specs.CommentWalk.{IsHeld, holds_nothing, holds_dash, holds_dashes, holds_bang}
-use Rattle.hmarkup.specs.Steps.{next_ending, decided}
+use Rattle.hmarkup.specs.CommentWalk.{IsHeld, holds_dash, holds_dashes, holds_bang}
 use Rattle.hmarkup.proofs.Marks.{front-less, front-longer, spells-more}
 
 -- one more character makes no mark within the data

@@ -1,13 +1,7 @@
 -- The name of a doctype: each character.
-use Rattle.std.proofs.Common.{◌≡◌, ℕ, Bool, true, false, not, ◌||◌, if◌then◌else◌, List, [], ◌∷◌, ◌++◌, sym, refl, ap, ◌∙◌, subst, Option, Some, None, append_assoc}
-use Rattle.std.specs.Prelude.{is_some}
-use Rattle.std.proofs.lemmas.Bool.{false≢true, and_from, and_parts, not-true, or_from, or_left, or_right}
-use Rattle.names.specs.declared.error.ParseError.{ParseError}
-use Rattle.names.specs.declared.error.ErrorCode.TheVariants.{MissingDoctypeName, MissingWhitespaceBeforeDoctypeName}
-use Rattle.names.specs.declared.placed.Placed.{Placed}
-use Rattle.names.specs.Placed.{characters, begins, stops, all, is_space, is_greater, error, null_errors, name_bytes}
-use Rattle.hmarkup.specs.Doctype.{Found, closed, name_ends, named, AfterSpace, AfterName, FollowsName, IsName, AfterOpening, begins_name, nameless, unfinished}
-use Rattle.hmarkup.specs.DoctypeSteps.{before_name, in_name, step_errors, fault_errors, found_by}
+use Rattle.hmarkup.proofs.Names.{◌≡◌, ℕ, Bool, true, false, not, ◌||◌, if◌then◌else◌, List, [], ◌∷◌, ◌++◌, sym, refl, ap, ◌∙◌, subst, Option, Some, None, append_assoc, is_some, false≢true, and_from, and_parts, not-true, or_from, or_left, or_right, ParseError, MissingDoctypeName, MissingWhitespaceBeforeDoctypeName, Placed, characters, begins, all, is_space, is_greater, error, null_errors, name_bytes, Found, closed, name_ends, named, AfterSpace, AfterName, FollowsName, AfterOpening, begins_name, nameless, unfinished, before_name, in_name, step_errors, fault_errors, found_by}
+use Rattle.names.specs.Placed.{stops}
+use Rattle.hmarkup.specs.Doctype.{IsName}
 use Rattle.hmarkup.proofs.Marks.{null_errors-append}
 use Rattle.hmarkup.proofs.Characters.{greater_not_space}
 use Rattle.hmarkup.proofs.Parts.{named-cons, named_not}

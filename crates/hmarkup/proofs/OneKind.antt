@@ -1,10 +1,5 @@
 -- What a walk of one kind has read.
-use Rattle.std.proofs.Common.{◌≡◌, sym, ◌∙◌, List}
-use Rattle.names.specs.declared.error.ParseError.{ParseError}
-use Rattle.names.specs.declared.placed.Placed.{Placed}
-use Rattle.hmarkup.specs.declared.comment.CommentKind.{CommentKind}
-use Rattle.hmarkup.specs.declared.comment.CommentKind.TheVariants.{Comment, Bogus}
-use Rattle.hmarkup.specs.CommentWalk.{Progress, HasReadOf}
+use Rattle.hmarkup.proofs.Names.{◌≡◌, sym, ◌∙◌, List, ParseError, Placed, CommentKind, Comment, Bogus, Progress, HasReadOf}
 
 pub comment_only : (kind : CommentKind) (walk : Progress) (text : List Placed) (errors : List ParseError) → walk.kind ≡ Comment → HasReadOf kind walk text errors
     → (P : CommentKind → Type 0) → (HasReadOf Comment walk text errors → P Comment) → P kind

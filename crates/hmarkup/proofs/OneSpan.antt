@@ -1,14 +1,5 @@
 -- A text begins with at most one bogus comment, and at most one span of each kind.
-use Rattle.std.proofs.Common.{◌≡◌, ℕ, List, [], ◌∷◌, ◌++◌, length, take, drop, sym, refl, ap, ◌∙◌, codes, append_assoc, append-nil, arith, length-append, ◌+◌}
-use Rattle.std.proofs.lemmas.List.{drop_at, drop_all}
-use Rattle.names.specs.declared.error.ParseError.{ParseError}
-use Rattle.names.specs.declared.placed.Placed.{Placed}
-use Rattle.names.specs.Placed.{characters, before, Avoids, null_errors, text_bytes}
-use Rattle.hmarkup.specs.declared.comment.CommentKind.{CommentKind}
-use Rattle.hmarkup.specs.declared.comment.CommentKind.TheVariants.{Comment, Bogus}
-use Rattle.hmarkup.specs.Comment.{closes_bogus, IsBogus, closed_bogus, unclosed_bogus}
-use Rattle.hmarkup.specs.Walk.{IsOneSpan}
-use Rattle.hmarkup.specs.CommentWalk.{IsSpan}
+use Rattle.hmarkup.proofs.Names.{◌≡◌, ℕ, List, [], ◌∷◌, ◌++◌, length, take, drop, sym, refl, ap, ◌∙◌, codes, append_assoc, append-nil, arith, length-append, ◌+◌, drop_at, drop_all, ParseError, Placed, characters, before, Avoids, null_errors, text_bytes, CommentKind, Comment, Bogus, closes_bogus, IsBogus, closed_bogus, unclosed_bogus, IsOneSpan, IsSpan}
 use Rattle.hmarkup.proofs.Marks.{before-avoids, before-here, avoids-before, spells-characters}
 use Rattle.hmarkup.proofs.Fronts.{same_front}
 use Rattle.hmarkup.proofs.Unique.{one_comment}

@@ -1,17 +1,6 @@
 -- The outcomes of a doctype walk's calls, by what the sink returns.
-use Rattle.std.proofs.Common.{◌≡◌, ℕ, true, false, List, [], ◌∷◌, ◌++◌, sym, refl, ap, ◌∙◌, subst, Option, Some, None, Result, Ok, Err}
-use Rattle.names.specs.declared.error.ParseError.{ParseError}
-use Rattle.names.specs.declared.placed.Placed.{Placed}
-use Rattle.names.specs.declared.refusal.Refusal.{Refusal}
-use Rattle.names.specs.declared.refusal.Refusal.TheVariants.{Memory}
-use Rattle.names.specs.Sink.{Hands}
-use Rattle.hmarkup.specs.declared.doctype_state.DoctypeState.{DoctypeState}
+use Rattle.hmarkup.proofs.Names.{◌≡◌, ℕ, true, false, List, [], ◌∷◌, ◌++◌, sym, refl, ap, ◌∙◌, subst, Option, Some, None, Result, Ok, Err, ParseError, Placed, Refusal, Memory, Hands, DoctypeState, Step, Takes, ran_out, sink_refused, goes_on, ended, Ends, BeginsSpans, Found, IsDoctype, force, step, step_errors, found_by, fault_errors, end_fault, found_at_end, Reading, HasReadDoctype}
 use Rattle.hmarkup.specs.declared.doctype_state.DoctypeState.TheVariants as phase
-use Rattle.hmarkup.specs.declared.doctype_state.Step.{Step}
-use Rattle.hmarkup.specs.Walk.{Takes, ran_out, sink_refused, goes_on, ended, Ends, BeginsSpans}
-use Rattle.hmarkup.specs.Doctype.{Found, IsDoctype, force}
-use Rattle.hmarkup.specs.DoctypeSteps.{step, step_errors, found_by, fault_errors, end_fault, found_at_end}
-use Rattle.hmarkup.specs.DoctypeWalk.{Reading, HasReadDoctype}
 use Rattle.hmarkup.proofs.Handing.{hand_one}
 use Rattle.hmarkup.proofs.Reading.{read_more, read_whole, begins_past, read_to_end}
 

@@ -1,16 +1,6 @@
 -- Names and identifiers that grow.
-use Rattle.std.proofs.Common.{◌≡◌, ℕ, true, List, [], ◌∷◌, ◌++◌, map, sym, refl, ap, ◌∙◌, Option, Some, None, append_assoc, append-nil}
-use Rattle.std.proofs.lemmas.Bool.{false≢true}
-use Rattle.std.proofs.lemmas.List.{map-append}
-use Rattle.std.proofs.lemmas.Str.{encodes-append}
-use Rattle.std.specs.Prelude.{encode_utf8_all, is_some}
-use Rattle.std.specs.Char.{to_ascii_lowercase}
-use Rattle.names.specs.declared.placed.Placed.{Placed}
-use Rattle.names.specs.Placed.{text_bytes, name_bytes, without_null}
-use Rattle.hmarkup.specs.declared.keyword.Identifier.{Identifier}
-use Rattle.hmarkup.specs.declared.keyword.Identifier.TheVariants.{Public, System}
-use Rattle.hmarkup.specs.Doctype.{Found, longer, named, identified}
-use Rattle.hmarkup.specs.DoctypeWalk.{identifier_of}
+use Rattle.hmarkup.proofs.Names.{◌≡◌, ℕ, true, List, [], ◌∷◌, ◌++◌, map, sym, refl, ap, ◌∙◌, Option, Some, None, append_assoc, append-nil, false≢true, map-append, encodes-append, encode_utf8_all, is_some, to_ascii_lowercase, Placed, text_bytes, name_bytes, without_null, Identifier, Public, System, Found, named, identified, identifier_of}
+use Rattle.hmarkup.specs.Doctype.{longer}
 use Rattle.hmarkup.proofs.Marks.{text_bytes-append}
 
 pub name_bytes-append : (xs ys : List Placed) → name_bytes (xs ++ ys) ≡ name_bytes xs ++ name_bytes ys

@@ -1,20 +1,7 @@
 -- Each character of a doctype, and its end, in each phase.
-use Rattle.std.proofs.Common.{◌≡◌, ◌<◌, ℕ, arith, eqb, Bool, true, false, List, [], ◌∷◌, ◌++◌, sym, refl, ap, ◌∙◌, subst, Option, Some, None}
-use Rattle.std.specs.Prelude.{is_some}
-use Rattle.std.specs.Char.{to_ascii_lowercase}
-use Rattle.std.proofs.lemmas.Bool.{false≢true}
-use Rattle.names.specs.declared.error.ParseError.{ParseError}
-use Rattle.names.specs.declared.error.ErrorCode.TheVariants.{EofInDoctype, InvalidCharacterSequenceAfterDoctypeName}
-use Rattle.names.specs.declared.placed.Placed.{Placed}
-use Rattle.names.specs.Placed.{spells_in_any_case, is_quote, error, null_errors, text_bytes, name_bytes}
-use Rattle.hmarkup.specs.declared.keyword.Identifier.{Identifier}
-use Rattle.hmarkup.specs.declared.keyword.Identifier.TheVariants.{Public, System}
-use Rattle.hmarkup.specs.declared.keyword.Letters.{Letters}
-use Rattle.hmarkup.specs.declared.doctype_state.DoctypeState.{DoctypeState}
+use Rattle.hmarkup.proofs.Names.{◌≡◌, ◌<◌, ℕ, arith, eqb, Bool, true, false, List, [], ◌∷◌, ◌++◌, sym, refl, ap, ◌∙◌, subst, Option, Some, None, is_some, to_ascii_lowercase, false≢true, ParseError, EofInDoctype, InvalidCharacterSequenceAfterDoctypeName, Placed, spells_in_any_case, is_quote, error, null_errors, text_bytes, name_bytes, Identifier, Public, System, Letters, DoctypeState, Found, IsEnd, cut_off, force, named, IsInside, quoted, abrupt, AfterSystemIdentifier, system_ends, system_skips, AfterPublicIdentifier, public_ends, public_skips, second, Follows, AfterKeyword, identifier, missing, keyword_skips, keyword_cut_off, AfterName, name_ends, name_skips, names_identifier, FollowsName, AfterOpening, begins_name, nameless, unfinished, first_letter, before_name, in_name, begins_keyword, after_name, goes_on_with, in_keyword, after_keyword, follows, in_quotes, after_public, after_system, in_skipped, step, step_errors, found_by, fault_errors, end_fault, found_at_end, letters_after, GoesOn, Fits, identifier_of, IsInKeyword, whole, fails}
 use Rattle.hmarkup.specs.declared.doctype_state.DoctypeState.TheVariants as phase
-use Rattle.hmarkup.specs.Doctype.{Found, IsEnd, cut_off, force, named, IsInside, quoted, abrupt, unclosed, AfterSystemIdentifier, system_ends, system_skips, AfterPublicIdentifier, public_ends, public_skips, second, Follows, AfterKeyword, identifier, missing, keyword_skips, keyword_cut_off, AfterName, name_ends, name_skips, names_identifier, FollowsName, AfterOpening, begins_name, nameless, unfinished}
-use Rattle.hmarkup.specs.DoctypeSteps.{first_letter, before_name, in_name, begins_keyword, after_name, goes_on_with, in_keyword, after_keyword, follows, in_quotes, after_public, after_system, in_skipped, step, step_errors, found_by, fault_errors, end_fault, found_at_end, letters_after}
-use Rattle.hmarkup.specs.DoctypeWalk.{GoesOn, Fits, identifier_of, IsInKeyword, whole, fails}
+use Rattle.hmarkup.specs.Doctype.{unclosed}
 use Rattle.hmarkup.proofs.Parts.{named_not, identified_not, is_identified}
 use Rattle.hmarkup.proofs.Spaces.{at_once, with_none}
 use Rattle.hmarkup.proofs.Endings.{end_at_end, skipped_at_end, skips_not_at_end}

@@ -1,17 +1,6 @@
 -- The identifiers of a doctype, and what is before them: each character.
-use Rattle.std.proofs.Common.{◌≡◌, ℕ, Bool, true, false, not, ◌||◌, eqb, if◌then◌else◌, List, [], ◌∷◌, ◌++◌, sym, refl, ap, ◌∙◌, subst, codes, Some, None, append_assoc}
-use Rattle.std.specs.Prelude.{is_some}
-use Rattle.std.proofs.lemmas.Bool.{false≢true, eqb-true, and_from, and_parts}
-use Rattle.names.specs.declared.error.ParseError.{ParseError}
-use Rattle.names.specs.declared.error.ErrorCode.{ErrorCode}
-use Rattle.names.specs.declared.error.ErrorCode.TheVariants.{EofInDoctype, MissingWhitespaceBetweenDoctypePublicAndSystemIdentifiers}
-use Rattle.names.specs.declared.placed.Placed.{Placed}
-use Rattle.names.specs.Placed.{characters, place, begins, all, is_space, is_greater, is_quote, error, error_if, null_errors, text_bytes}
-use Rattle.hmarkup.specs.declared.keyword.Identifier.{Identifier}
-use Rattle.hmarkup.specs.declared.keyword.Identifier.TheVariants.{Public, System}
-use Rattle.hmarkup.specs.Doctype.{Found, Stands, closed, force, identified, no_space_after_keyword, no_identifier, no_quote, abrupt_identifier, AfterSpace, IsInside, quoted, abrupt, unclosed, IsIdentifier, FollowsSystem, AfterPublicIdentifier, public_ends, public_skips, second, Follows, AfterKeyword, identifier, missing, keyword_skips, keyword_cut_off}
-use Rattle.hmarkup.specs.DoctypeSteps.{after_keyword, after_public, follows, in_quotes, step_errors, fault_errors, found_by}
-use Rattle.hmarkup.specs.DoctypeWalk.{GoesOn, identifier_of}
+use Rattle.hmarkup.proofs.Names.{◌≡◌, ℕ, Bool, true, false, not, ◌||◌, eqb, if◌then◌else◌, List, [], ◌∷◌, ◌++◌, sym, refl, ap, ◌∙◌, subst, codes, Some, None, append_assoc, is_some, false≢true, eqb-true, and_from, and_parts, ParseError, ErrorCode, EofInDoctype, MissingWhitespaceBetweenDoctypePublicAndSystemIdentifiers, Placed, characters, place, begins, all, is_space, is_greater, is_quote, error, error_if, null_errors, text_bytes, Identifier, Public, System, Found, Stands, closed, force, identified, AfterSpace, IsInside, quoted, abrupt, AfterPublicIdentifier, public_ends, public_skips, second, Follows, AfterKeyword, identifier, missing, keyword_skips, keyword_cut_off, after_keyword, after_public, follows, in_quotes, step_errors, fault_errors, found_by, GoesOn, identifier_of}
+use Rattle.hmarkup.specs.Doctype.{no_space_after_keyword, no_identifier, no_quote, abrupt_identifier, unclosed, IsIdentifier, FollowsSystem}
 use Rattle.hmarkup.proofs.Marks.{null_errors-append, eqb_self}
 use Rattle.hmarkup.proofs.Characters.{quote_not_space, quote_not_greater, greater_not_space}
 use Rattle.hmarkup.proofs.Parts.{identified-cons, identified_not}

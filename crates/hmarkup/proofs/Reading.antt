@@ -1,15 +1,8 @@
 -- What a walk has read of a doctype, at one more character and at the end.
-use Rattle.std.proofs.Common.{◌≡◌, ℕ, false, List, [], ◌∷◌, ◌++◌, sym, refl, ap, ◌∙◌, subst, Option, Some, None, append_assoc, append-nil}
-use Rattle.std.proofs.lemmas.List.{append_cancel_left}
-use Rattle.names.specs.declared.error.ParseError.{ParseError}
-use Rattle.names.specs.declared.placed.Placed.{Placed}
-use Rattle.hmarkup.specs.declared.doctype_state.DoctypeState.{DoctypeState}
+use Rattle.hmarkup.proofs.Names.{◌≡◌, ℕ, false, List, [], ◌∷◌, ◌++◌, sym, refl, ap, ◌∙◌, subst, Option, Some, None, append_assoc, append-nil, append_cancel_left, ParseError, Placed, DoctypeState, Step, Begins, BeginsSpans, IsOpen, IsOneSpan, Found, IsDoctype, step, step_errors, found_by, fault_errors, end_fault, found_at_end, Reading, GoesOn, Fits, HasReadDoctype}
 use Rattle.hmarkup.specs.declared.doctype_state.DoctypeState.TheVariants as phase
-use Rattle.hmarkup.specs.declared.doctype_state.Step.{Step}
-use Rattle.hmarkup.specs.Walk.{Begins, BeginsSpans, IsOpen, IsOneSpan}
-use Rattle.hmarkup.specs.Doctype.{Found, nothing, IsDoctype}
-use Rattle.hmarkup.specs.DoctypeSteps.{step, step_errors, found_by, fault_errors, end_fault, found_at_end}
-use Rattle.hmarkup.specs.DoctypeWalk.{Reading, GoesOn, Fits, GoesOnAfter, HasReadDoctype}
+use Rattle.hmarkup.specs.Doctype.{nothing}
+use Rattle.hmarkup.specs.DoctypeWalk.{GoesOnAfter}
 use Rattle.hmarkup.proofs.Stepping.{Goes, Stepped}
 use Rattle.hmarkup.proofs.Phases.{from_phase, to_phase, FitsNext, fits_next, end_of, ends_in}
 

@@ -1,20 +1,11 @@
 -- A run of characters that are only data in a comment.
-use Rattle.std.proofs.Common.{◌≡◌, ℕ, ◌+◌, Bool, true, false, eqb, List, [], ◌∷◌, ◌++◌, length, nat_lt, sym, refl, ap, ◌∙◌, subst, append_assoc, append-nil, encode_utf8_all, arith}
-use Rattle.std.specs.Char.{encode_utf8, len_utf8}
-use Rattle.std.specs.List.{list_all}
-use Rattle.std.specs.Str.{IsUtf8, chars}
+use Rattle.hmarkup.proofs.Names.{◌≡◌, ℕ, ◌+◌, Bool, true, false, eqb, List, [], ◌∷◌, ◌++◌, length, nat_lt, sym, refl, ap, ◌∙◌, subst, append_assoc, append-nil, arith, encode_utf8, list_all, IsUtf8, chars, and_parts, nat_tests, ParseError, NestedComment, Placed, all, placed, error_if, text_bytes, without_null, CommentKind, errors_here, Progress, begun, IsInComment, IsInBogus, is_whole, next}
+use Rattle.std.proofs.Common.{encode_utf8_all}
+use Rattle.std.specs.Char.{len_utf8}
 use Rattle.std.proofs.lemmas.List.Folds.{list_all-append}
-use Rattle.std.proofs.lemmas.Bool.{and_parts}
-use Rattle.std.proofs.lemmas.Bool.Decides.{nat_tests}
 use Rattle.std.proofs.lemmas.Str.{encode_ascii, encodes-chars}
-use Rattle.names.specs.declared.error.ParseError.{ParseError}
-use Rattle.names.specs.declared.error.ErrorCode.TheVariants.{NestedComment}
-use Rattle.names.specs.declared.placed.Placed.{Placed}
-use Rattle.names.specs.Placed.{all, placed, error_if, text_bytes, without_null}
-use Rattle.hmarkup.specs.declared.comment.CommentKind.{CommentKind}
-use Rattle.hmarkup.specs.Comment.{errors_here, is_only_data}
-use Rattle.hmarkup.specs.CommentWalk.{Progress, begun, IsInComment, IsInBogus, is_whole}
-use Rattle.hmarkup.specs.Steps.{next, next_run, ending_text}
+use Rattle.hmarkup.specs.Comment.{is_only_data}
+use Rattle.hmarkup.specs.Steps.{next_run, ending_text}
 use Rattle.hmarkup.proofs.InBogus.{bogus_kept}
 use Rattle.hmarkup.proofs.Walking.{kept_other}
 

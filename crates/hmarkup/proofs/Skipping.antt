@@ -1,12 +1,5 @@
 -- A skipped rest and what follows the system identifier: each character.
-use Rattle.std.proofs.Common.{◌≡◌, ℕ, Bool, true, false, List, [], ◌∷◌, ◌++◌, sym, refl, ap, ◌∙◌, subst, None}
-use Rattle.std.proofs.lemmas.Bool.{false≢true, and_from}
-use Rattle.names.specs.declared.error.ParseError.{ParseError}
-use Rattle.names.specs.declared.error.ErrorCode.TheVariants.{UnexpectedCharacterAfterDoctypeSystemIdentifier}
-use Rattle.names.specs.declared.placed.Placed.{Placed}
-use Rattle.names.specs.Placed.{characters, begins, is_space, is_greater, is_greater_or_end}
-use Rattle.hmarkup.specs.Doctype.{Found, closed, AfterSpace, IsSkipped, AfterSystemIdentifier, system_ends, system_skips}
-use Rattle.hmarkup.specs.DoctypeSteps.{in_skipped, after_system, step_errors, found_by}
+use Rattle.hmarkup.proofs.Names.{◌≡◌, ℕ, Bool, true, false, List, [], ◌∷◌, ◌++◌, sym, refl, ap, ◌∙◌, subst, None, false≢true, and_from, ParseError, UnexpectedCharacterAfterDoctypeSystemIdentifier, Placed, characters, begins, is_space, is_greater, is_greater_or_end, Found, closed, AfterSpace, IsSkipped, AfterSystemIdentifier, system_ends, system_skips, in_skipped, after_system, step_errors, found_by}
 use Rattle.hmarkup.proofs.Spaces.{past_space, at_once, with_space, with_none, any_space}
 use Rattle.hmarkup.proofs.Endings.{end_at, end_not_space, greater_spells, skipped_ends, skipped_goes, skipped_more, skips_at, skips_from, skips_not_space}
 use Rattle.hmarkup.proofs.Stepping.{Goes, Stepped, plain_errors, space_error, greater_error}

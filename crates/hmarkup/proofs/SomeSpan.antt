@@ -1,20 +1,6 @@
 -- Every text begins with a comment, with a bogus comment and with a doctype.
-use Rattle.std.proofs.Common.{◌≡◌, ℕ, Bool, true, false, eqb, List, [], ◌∷◌, ◌++◌, length, sym, refl, ap, ◌∙◌, Option, Some, None, append_assoc}
-use Rattle.std.proofs.lemmas.Bool.{eqb-true, false≢true}
-use Rattle.std.specs.Char.{encode_utf8}
-use Rattle.names.specs.declared.error.ParseError.{ParseError}
-use Rattle.names.specs.declared.placed.Placed.{Placed}
-use Rattle.names.specs.Placed.{without_null}
-use Rattle.hmarkup.specs.declared.comment.CommentKind.{CommentKind}
-use Rattle.hmarkup.specs.declared.comment.CommentKind.TheVariants.{Comment, Bogus}
-use Rattle.hmarkup.specs.declared.doctype_state.DoctypeState.{DoctypeState}
-use Rattle.hmarkup.specs.declared.tail.Ending.{Ending}
-use Rattle.hmarkup.specs.declared.tail.Ending.TheVariants.{Plain, Dash, Dashes, Bang}
-use Rattle.hmarkup.specs.Doctype.{IsDoctype}
-use Rattle.hmarkup.specs.DoctypeSteps.{step, found_by}
-use Rattle.hmarkup.specs.DoctypeWalk.{Reading, HasReadDoctype}
+use Rattle.hmarkup.proofs.Names.{◌≡◌, ℕ, Bool, true, false, eqb, List, [], ◌∷◌, ◌++◌, length, sym, refl, ap, ◌∙◌, Option, Some, None, append_assoc, eqb-true, false≢true, encode_utf8, ParseError, Placed, without_null, CommentKind, Comment, Bogus, DoctypeState, Ending, Plain, Dash, Dashes, Bang, IsDoctype, step, found_by, Reading, HasReadDoctype, Progress, begun, IsInComment, IsInBogus, IsSpan, is_whole}
 use Rattle.hmarkup.specs.Walk.{HasSpan}
-use Rattle.hmarkup.specs.CommentWalk.{Progress, begun, IsInComment, IsInBogus, IsSpan, is_whole}
 use Rattle.hmarkup.proofs.Moving.{closes}
 use Rattle.hmarkup.proofs.Walking.{comment_begins, kept_other, kept_past, closed_now, bang_closed_now, empty_now, unclosed_at}
 use Rattle.hmarkup.proofs.InBogus.{plain_read, bogus_kept, bogus_closed, bogus_unclosed}

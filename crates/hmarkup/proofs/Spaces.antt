@@ -1,11 +1,6 @@
 -- White space before a production, a character at a time.
-use Rattle.std.proofs.Common.{◌≡◌, ℕ, Bool, true, false, not, ◌||◌, List, [], ◌∷◌, ◌++◌, sym, refl, ap, ◌∙◌, subst}
+use Rattle.hmarkup.proofs.Names.{◌≡◌, ℕ, Bool, true, false, not, ◌||◌, List, [], ◌∷◌, ◌++◌, sym, refl, ap, ◌∙◌, subst, false≢true, and_from, and_parts, ParseError, Placed, begins, is_empty, all, is_space, Found, Stands, AfterSpace}
 use Rattle.std.proofs.Math.Bool.{or-true, or-false}
-use Rattle.std.proofs.lemmas.Bool.{false≢true, and_from, and_parts}
-use Rattle.names.specs.declared.error.ParseError.{ParseError}
-use Rattle.names.specs.declared.placed.Placed.{Placed}
-use Rattle.names.specs.Placed.{begins, is_empty, all, is_space}
-use Rattle.hmarkup.specs.Doctype.{Found, Stands, AfterSpace}
 
 module _ (T : Bool → Stands) (spaced : Bool) (end : ℕ) (rest : List Placed) (found : Found) (errors : List ParseError) where
   -- white space leaves the production after it

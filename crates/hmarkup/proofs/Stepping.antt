@@ -1,14 +1,5 @@
 -- A character of a doctype: what goes on after it.
-use Rattle.std.proofs.Common.{◌≡◌, ℕ, Bool, true, false, not, if◌then◌else◌, List, [], ◌∷◌, ◌++◌, refl, ap, ◌∙◌, Option, Some, None, append-nil}
-use Rattle.names.specs.declared.error.ParseError.{ParseError}
-use Rattle.names.specs.declared.error.ErrorCode.{ErrorCode}
-use Rattle.names.specs.declared.placed.Placed.{Placed}
-use Rattle.names.specs.Placed.{is_space, is_greater, is_quote, error, error_if, null_errors}
-use Rattle.hmarkup.specs.declared.doctype_state.DoctypeState.{DoctypeState}
-use Rattle.hmarkup.specs.declared.doctype_state.Step.{Step}
-use Rattle.hmarkup.specs.Doctype.{Found, Stands}
-use Rattle.hmarkup.specs.DoctypeSteps.{found_by, step_errors, fault_errors}
-use Rattle.hmarkup.specs.DoctypeWalk.{GoesOn}
+use Rattle.hmarkup.proofs.Names.{◌≡◌, ℕ, Bool, true, false, not, if◌then◌else◌, List, [], ◌∷◌, ◌++◌, refl, ap, ◌∙◌, Option, Some, None, append-nil, ParseError, ErrorCode, Placed, is_space, is_greater, is_quote, error, error_if, null_errors, DoctypeState, Step, Found, Stands, found_by, step_errors, fault_errors, GoesOn}
 use Rattle.hmarkup.proofs.Characters.{space_not_null, greater_not_null, quote_not_null, no_null_error}
 
 -- what is after the character: the rest of the doctype, or nothing

@@ -1,13 +1,7 @@
 -- A text begins with at most one comment.
-use Rattle.std.proofs.Common.{◌≡◌, ℕ, ◌≤◌, ◌+◌, Bool, true, false, ◌&&◌, eqb, List, [], ◌∷◌, ◌++◌, length, sym, refl, ap, ◌∙◌, subst, codes, arith, length-append, append_assoc, append-nil, if◌then◌else◌, drop}
-use Rattle.std.proofs.lemmas.Bool.{false≢true, eqb-true, and_parts, and_right, or_from, or_left, or_parts, or_right}
-use Rattle.std.proofs.lemmas.List.{length-map, drop_at, drop_all, map-append}
-use Rattle.names.specs.declared.error.ParseError.{ParseError}
-use Rattle.names.specs.declared.error.ErrorCode.TheVariants.{AbruptClosingOfEmptyComment, EofInComment, IncorrectlyClosedComment}
-use Rattle.names.specs.declared.placed.Placed.{Placed}
-use Rattle.names.specs.Placed.{characters, place, spells, is_front, before, Avoids, error, text_bytes}
-use Rattle.hmarkup.specs.Comment.{closes_comment, closes_at_once, is_ending, errors_after, IsComment, closed_at_once, closed, closed_with_bang, unclosed}
-use Rattle.hmarkup.specs.Walk.{IsOneSpan}
+use Rattle.hmarkup.proofs.Names.{◌≡◌, ℕ, ◌≤◌, ◌+◌, Bool, true, false, ◌&&◌, eqb, List, [], ◌∷◌, ◌++◌, length, sym, refl, ap, ◌∙◌, subst, codes, arith, length-append, append_assoc, append-nil, if◌then◌else◌, drop, false≢true, eqb-true, and_parts, and_right, or_from, or_left, or_parts, or_right, drop_at, drop_all, map-append, ParseError, AbruptClosingOfEmptyComment, EofInComment, IncorrectlyClosedComment, Placed, characters, place, spells, is_front, before, Avoids, error, text_bytes, closes_comment, closes_at_once, is_ending, errors_after, IsComment, closed_at_once, closed_with_bang, unclosed, IsOneSpan}
+use Rattle.std.proofs.lemmas.List.{length-map}
+use Rattle.hmarkup.specs.Comment.{closed}
 use Rattle.hmarkup.proofs.Marks.{before-avoids, before-here, avoids-before, spells-long, spells-characters, first_is}
 use Rattle.hmarkup.proofs.Fronts.{same_front}
 

@@ -1,18 +1,11 @@
 -- A comment that has not ended, and one more character or the end.
-use Rattle.std.proofs.Common.{◌≡◌, ℕ, ◌≤◌, Bool, true, false, ◌&&◌, eqb, List, [], ◌∷◌, ◌++◌, map, length, sym, refl, ap, ◌∙◌, subst, append_assoc, append-nil, codes, arith, length-append}
-use Rattle.std.proofs.lemmas.Bool.{false≢true, eqb-true, and_right, or_from, or_parts}
+use Rattle.hmarkup.proofs.Names.{◌≡◌, ℕ, ◌≤◌, Bool, true, false, ◌&&◌, eqb, List, [], ◌∷◌, ◌++◌, map, length, sym, refl, ap, ◌∙◌, subst, append_assoc, append-nil, codes, arith, length-append, false≢true, eqb-true, and_right, or_from, or_parts, ParseError, AbruptClosingOfEmptyComment, EofInComment, IncorrectlyClosedComment, Placed, characters, error, before, Avoids, text_bytes, without_null, Comment, Dashes, Bang, closes_comment, closes_at_once, is_ending, errors_here, errors_after, IsComment, closed_at_once, closed_with_bang, unclosed, Progress, begun, holds_nothing, IsInComment, backwards, is_whole, next, decided}
 use Rattle.std.proofs.lemmas.Str.{length-le-encodes}
-use Rattle.names.specs.declared.error.ParseError.{ParseError}
-use Rattle.names.specs.declared.error.ErrorCode.TheVariants.{AbruptClosingOfEmptyComment, EofInComment, IncorrectlyClosedComment}
-use Rattle.names.specs.declared.placed.Placed.{Placed}
-use Rattle.names.specs.Placed.{characters, error, before, Avoids, text_bytes, without_null}
-use Rattle.hmarkup.specs.declared.comment.CommentKind.TheVariants.{Comment}
 use Rattle.hmarkup.specs.declared.tail.Opening.{Opening}
 use Rattle.hmarkup.specs.declared.tail.Opening.TheVariants.{Outside, Less, LessBang, LessBangDash, Whole}
-use Rattle.hmarkup.specs.declared.tail.Ending.TheVariants.{Dashes, Bang}
-use Rattle.hmarkup.specs.Comment.{closes_comment, closes_at_once, is_ending, errors_here, errors_after, ends_with_opening, IsComment, closed_at_once, closed, closed_with_bang, unclosed}
-use Rattle.hmarkup.specs.CommentWalk.{Progress, begun, holds_nothing, IsOpening, IsInComment, backwards, is_whole}
-use Rattle.hmarkup.specs.Steps.{next, next_opening, opening_by_dash, opening_by_bang, decided}
+use Rattle.hmarkup.specs.Comment.{ends_with_opening, closed}
+use Rattle.hmarkup.specs.CommentWalk.{IsOpening}
+use Rattle.hmarkup.specs.Steps.{next_opening, opening_by_dash, opening_by_bang}
 use Rattle.hmarkup.proofs.Marks.{Avoids-more, Avoids-append, before-avoids, text_bytes-append}
 use Rattle.hmarkup.proofs.Moving.{moves, closes, closes-more, ending-more, dashes_close, bang_closes, dash_held, held_at_end, held_long}
 

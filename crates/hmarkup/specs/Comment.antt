@@ -17,7 +17,7 @@ closes_at_once text = spells (codes ">") text || spells (codes "->") text
 abbrev pub is_ending : List Placed → Bool
 is_ending text = is_front text (codes "--!")
 
--- the errors of a character: right after an inner `<!--` (13.2.5.49), and for NUL (13.2.5.45)
+-- the errors of a character: right after an inner `<!--` (#comment-less-than-sign-bang-dash-dash-state), and for NUL (#comment-state)
 abbrev pub errors_here : Bool → Placed → List ParseError
 errors_here nested p = error_if (nested && not (is_greater p.ch)) NestedComment p.at ++ null_errors (p ∷ [])
 
@@ -36,10 +36,10 @@ is_only_data c = not ((c == 45 || c == 33) || (c == 60 || (c == 62 || c == 0)))
 
 -- The text after `<!--` is a comment; `rest` follows it, and the input ends at `end`.
 pub data IsComment (end : ℕ) (rest text : List Placed) («data» : List ℕ) (errors : List ParseError) : Type 0 where
-  -- `>` or `->` right at the start (13.2.5.43, 13.2.5.44)
+  -- `>` or `->` right at the start (#comment-start-state, #comment-start-dash-state)
   closed_at_once : (dash close : List Placed) → text ≡ dash ++ close → is_front dash (codes "-") ≡ true → characters close ≡ codes ">"
       → «data» ≡ [] → errors ≡ errors_after [] text ++ error AbruptClosingOfEmptyComment (place end close) ∷ [] → IsComment end rest text «data» errors
-  -- up to the earliest closing mark (13.2.5.51, 13.2.5.52)
+  -- up to the earliest closing mark (#comment-end-state, #comment-end-bang-state)
   closed : (inner close : List Placed) → text ≡ inner ++ close → closes_at_once text ≡ false → inner ≡ before closes_comment text
       → characters close ≡ codes "-->"
       → «data» ≡ text_bytes inner → errors ≡ errors_after [] text → IsComment end rest text «data» errors
@@ -59,7 +59,7 @@ closes_bogus text = spells (codes ">") text
 abbrev pub is_plain_in_bogus : ℕ → Bool
 is_plain_in_bogus c = not (c == 62 || c == 0)
 
--- A bogus comment: the text up to the first `>`, or to the end of input (13.2.5.41).
+-- A bogus comment: the text up to the first `>`, or to the end of input (#bogus-comment-state).
 pub data IsBogus (rest text : List Placed) («data» : List ℕ) (errors : List ParseError) : Type 0 where
   closed_bogus : (inner close : List Placed) → text ≡ inner ++ close → inner ≡ before closes_bogus text → characters close ≡ codes ">"
       → «data» ≡ text_bytes inner → errors ≡ null_errors inner → IsBogus rest text «data» errors

@@ -79,7 +79,7 @@ pub data IsEnd (known : Found) (end : ℕ) (rest text : List Placed) (found : Fo
   closed : characters text ≡ codes ">" → found ≡ known → errors ≡ [] → IsEnd known end rest text found errors
   cut_off : rest ≡ [] → text ≡ [] → found ≡ force known → errors ≡ error EofInDoctype end ∷ [] → IsEnd known end rest text found errors
 
--- A skipped rest: everything up to `>` or the end (13.2.5.68).
+-- A skipped rest: everything up to `>` or the end (the bogus DOCTYPE state, #bogus-doctype-state).
 pub record IsSkipped (known : Found) (end : ℕ) (rest text : List Placed) (found : Found) (errors : List ParseError) : Type 0 where
   pub skipped : List Placed
   pub close : List Placed
@@ -99,7 +99,8 @@ pub record Skips (test : List Placed → Bool) (fault : ErrorCode) (known : Foun
   pub errors_are : errors ≡ error fault (place end text) ∷ later
 
 -- The inside of an identifier, after its opening quote. It ends at the same quote, or at `>` or the end of input, which force
--- quirks mode (13.2.5.59, 13.2.5.60, 13.2.5.65, 13.2.5.66).
+-- quirks mode (#doctype-public-identifier-(double-quoted)-state, #doctype-public-identifier-(single-quoted)-state,
+-- #doctype-system-identifier-(double-quoted)-state, #doctype-system-identifier-(single-quoted)-state).
 pub data IsInside (which : Identifier) (mark : ℕ) (After : Found → Stands) (known : Found) (end : ℕ) (rest text : List Placed) (found : Found)
     (errors : List ParseError) : Type 0 where
   quoted : (inside close after : List Placed) (later : List ParseError) → text ≡ inside ++ (close ++ after)
@@ -124,7 +125,7 @@ pub record IsIdentifier (which : Identifier) (at_once : ErrorCode) (After : Foun
   pub inside : IsInside which quote.ch After (identified which [] known) end rest more found later
   pub errors_are : errors ≡ error_if (not spaced) at_once quote.at ++ later
 
--- what follows the system identifier and white space (13.2.5.67)
+-- what follows the system identifier and white space (#after-doctype-system-identifier-state)
 pub data AfterSystemIdentifier (known : Found) (end : ℕ) (rest text : List Placed) (found : Found) (errors : List ParseError) : Type 0 where
   system_ends : IsEnd known end rest text found errors → AfterSystemIdentifier known end rest text found errors
   system_skips : Skips (λ text. false) UnexpectedCharacterAfterDoctypeSystemIdentifier known end rest text found errors
@@ -133,7 +134,8 @@ pub data AfterSystemIdentifier (known : Found) (end : ℕ) (rest text : List Pla
 abbrev pub FollowsSystem : Found → Stands
 FollowsSystem known = AfterSpace (λ spaced. AfterSystemIdentifier known) false
 
--- what follows the public identifier and white space (13.2.5.61, 13.2.5.62)
+-- what follows the public identifier and white space (#after-doctype-public-identifier-state,
+-- #between-doctype-public-and-system-identifiers-state)
 pub data AfterPublicIdentifier (known : Found) (spaced : Bool) (end : ℕ) (rest text : List Placed) (found : Found) (errors : List ParseError) : Type 0 where
   public_ends : IsEnd known end rest text found errors → AfterPublicIdentifier known spaced end rest text found errors
   public_skips : Skips (begins is_quote) (no_quote System) (force known) end rest text found errors
@@ -148,7 +150,8 @@ abbrev pub Follows : Identifier → Found → Stands
 Follows Public = FollowsPublic
 Follows System = FollowsSystem
 
--- what follows PUBLIC or SYSTEM and white space (13.2.5.57, 13.2.5.58, 13.2.5.63, 13.2.5.64)
+-- what follows PUBLIC or SYSTEM and white space (#after-doctype-public-keyword-state, #before-doctype-public-identifier-state,
+-- #after-doctype-system-keyword-state, #before-doctype-system-identifier-state)
 pub data AfterKeyword (which : Identifier) (known : Found) (spaced : Bool) (end : ℕ) (rest text : List Placed) (found : Found)
     (errors : List ParseError) : Type 0 where
   identifier : IsIdentifier which (no_space_after_keyword which) (Follows which) known spaced end rest text found errors
@@ -165,7 +168,7 @@ FollowsKeyword which known = AfterSpace (AfterKeyword which known) false
 abbrev pub is_keyword : List Placed → Bool
 is_keyword text = spells_in_any_case (keyword Public) text || spells_in_any_case (keyword System) text
 
--- what follows the name and white space (13.2.5.56)
+-- what follows the name and white space (#after-doctype-name-state)
 pub data AfterName (known : Found) (end : ℕ) (rest text : List Placed) (found : Found) (errors : List ParseError) : Type 0 where
   name_ends : IsEnd known end rest text found errors → AfterName known end rest text found errors
   name_skips : Skips is_keyword InvalidCharacterSequenceAfterDoctypeName (force known) end rest text found errors → AfterName known end rest text found errors
@@ -175,7 +178,7 @@ pub data AfterName (known : Found) (end : ℕ) (rest text : List Placed) (found 
 abbrev pub FollowsName : Found → Stands
 FollowsName known = AfterSpace (λ spaced. AfterName known) false
 
--- A name, up to white space, `>` or the end, and what follows it (13.2.5.55).
+-- A name, up to white space, `>` or the end, and what follows it (#doctype-name-state).
 pub record IsName (known : Found) (end : ℕ) (rest text : List Placed) (found : Found) (errors : List ParseError) : Type 0 where
   pub name : List Placed
   pub after : List Placed
@@ -185,7 +188,7 @@ pub record IsName (known : Found) (end : ℕ) (rest text : List Placed) (found :
   pub follows : FollowsName (named (name_bytes name) known) end rest after found later
   pub errors_are : errors ≡ null_errors name ++ later
 
--- what follows `<!DOCTYPE` and white space (13.2.5.53, 13.2.5.54)
+-- what follows `<!DOCTYPE` and white space (#doctype-state, #before-doctype-name-state)
 pub data AfterOpening (known : Found) (spaced : Bool) (end : ℕ) (rest text : List Placed) (found : Found) (errors : List ParseError) : Type 0 where
   begins_name : (later : List ParseError) → begins (λ c. not (is_space c || is_greater c)) text ≡ true → IsName known end rest text found later
       → errors ≡ error_if (not spaced) MissingWhitespaceBeforeDoctypeName (place end text) ++ later → AfterOpening known spaced end rest text found errors

@@ -1,4 +1,4 @@
-//! Reads a comment or a bogus comment, one character at a time.
+//! Reads a comment or a bogus comment (HTML Standard, 13.2.5.41 and 13.2.5.43 to 13.2.5.52), one character at a time.
 
 ghost use Rattle.std.specs.Prelude.{◌≡◌, ◌++◌, ℕ, List, [], true, IfOk, OnOk, string_bytes};
 ghost use Rattle.std.specs.Char.{encode_utf8};
@@ -25,9 +25,9 @@ use std::marker::Model;
 /// The two kinds of comment.
 #[derive(Clone, Copy)]
 pub enum CommentKind {
-    /// A comment that begins with `<!--`.
+    /// A comment that begins with `<!--` (`#comment-start-state` and the states after it).
     Comment,
-    /// A bogus comment (HTML Standard, 13.2.5.41): everything up to the first `>`.
+    /// A bogus comment (`#bogus-comment-state`): everything up to the first `>`.
     Bogus,
 }
 
@@ -76,14 +76,14 @@ impl CommentWalk {
         }
     }
 
-    /// A walk for what follows `<!--`.
+    /// A walk for what follows `<!--`, as the markup declaration open state (`#markup-declaration-open-state`) begins it.
     pub fn comment(alloc: Global) -> CommentWalk
         ensures { HasReadOf Comment result [] [] }
     {
         CommentWalk::with(CommentKind::Comment, String::new(alloc))
     }
 
-    /// A walk for a bogus comment, which ends at the first `>`.
+    /// A walk in the bogus comment state (`#bogus-comment-state`), which ends at the first `>`.
     pub fn bogus(alloc: Global) -> CommentWalk
         ensures { HasReadOf Bogus result [] [] }
     {
@@ -116,7 +116,7 @@ impl CommentWalk {
         }
     }
 
-    /// Reads a character of a bogus comment.
+    /// Reads a character in the bogus comment state.
     fn take_in_bogus<S: ErrorSink>(
         &mut self,
         ch: char,
@@ -136,7 +136,7 @@ impl CommentWalk {
         }
     }
 
-    /// Reads a character of a comment.
+    /// Reads a character in the comment start state, the comment state, or one of those around a closing mark or an inner `<!--`.
     fn take_in_comment<S: ErrorSink>(
         &mut self,
         ch: char,

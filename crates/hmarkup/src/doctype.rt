@@ -1,4 +1,4 @@
-//! Reads a doctype, one character at a time.
+//! Reads a doctype (HTML Standard, 13.2.5.53 to 13.2.5.68), one character at a time.
 
 ghost use Rattle.std.specs.Prelude.{◌≡◌, ◌++◌, ◌∷◌, ℕ, [], List, Option, Some, OnOk, codes};
 ghost use Rattle.std.specs.Char.{encode_utf8};
@@ -98,7 +98,7 @@ fn begin(part: &mut Option<String>, alloc: Global)
 }
 
 impl Doctype {
-    /// Forces quirks mode.
+    /// Sets the force-quirks flag.
     fn force(&mut self)
         ensures { self.new ≡ force self.old }
     {
@@ -138,7 +138,7 @@ impl Doctype {
 }
 
 impl DoctypeWalk {
-    /// A walk for what follows `<!DOCTYPE`.
+    /// A walk for what follows `<!DOCTYPE`, in the DOCTYPE state (`#doctype-state`).
     pub fn new(alloc: Global) -> DoctypeWalk
         ensures { HasReadDoctype result [] [] }
     {

@@ -1,4 +1,4 @@
-//! The phases of reading a doctype, and what a character does in each.
+//! The states of reading a doctype (HTML Standard, 13.2.5.53 to 13.2.5.68), and what a character does in each.
 
 ghost use Rattle.std.specs.Prelude.{◌≡◌, ◌==◌};
 ghost use Rattle.std.specs.Char.{to_ascii_lowercase};
@@ -9,19 +9,31 @@ ghost use Rattle.hmarkup.specs.DoctypeSteps.{in_quotes, after_public, after_syst
 use crate::keyword::{Identifier, Letters};
 use names::{ErrorCode, ParseError};
 
-/// Where in a doctype the walk is. A `bool` says whether white space was read there.
+/// The tokenizer state in a doctype; two that differ in whether white space was read are one, with a `bool` for it.
 #[derive(Clone, Copy)]
 pub enum DoctypeState {
+    /// The DOCTYPE state (`#doctype-state`), or after white space the before DOCTYPE name state (`#before-doctype-name-state`).
     BeforeName(bool),
+    /// The DOCTYPE name state (`#doctype-name-state`).
     Name,
+    /// The after DOCTYPE name state (`#after-doctype-name-state`).
     AfterName,
-    /// In a keyword: its letters so far, and the byte offset of the first.
+    /// The same state within `PUBLIC` or `SYSTEM`: the letters so far, and the byte offset of the first.
     Keyword(Letters, u64),
+    /// The after DOCTYPE public keyword state (`#after-doctype-public-keyword-state`), or after white space the before DOCTYPE public
+    /// identifier state (`#before-doctype-public-identifier-state`); the same two of the system identifier
+    /// (`#after-doctype-system-keyword-state`, `#before-doctype-system-identifier-state`).
     AfterKeyword(Identifier, bool),
-    /// Inside an identifier that this quote opened.
+    /// The DOCTYPE public or system identifier state, double-quoted or single-quoted by the quote that opened it
+    /// (`#doctype-public-identifier-(double-quoted)-state`, `#doctype-public-identifier-(single-quoted)-state`,
+    /// `#doctype-system-identifier-(double-quoted)-state`, `#doctype-system-identifier-(single-quoted)-state`).
     Quoted(Identifier, char),
+    /// The after DOCTYPE public identifier state (`#after-doctype-public-identifier-state`), or after white space the between DOCTYPE
+    /// public and system identifiers state (`#between-doctype-public-and-system-identifiers-state`).
     AfterPublic(bool),
+    /// The after DOCTYPE system identifier state (`#after-doctype-system-identifier-state`).
     AfterSystem,
+    /// The bogus DOCTYPE state (`#bogus-doctype-state`).
     Skipped,
 }
 
@@ -45,12 +57,12 @@ pub struct Step {
     pub keeps: Keeps,
     /// Whether it forces quirks mode.
     pub forces: bool,
-    /// The next phase, or none if the character ends the doctype.
+    /// The next state, or none if the character ends the doctype.
     pub next: Option<DoctypeState>,
 }
 
 impl Step {
-    /// Only the phase changes.
+    /// Only the state changes.
     fn to(next: DoctypeState) -> Step
         ensures { result ≡ goes_to next }
     {
@@ -85,7 +97,7 @@ impl Step {
         }
     }
 
-    /// An error after which the rest is skipped.
+    /// An error that leads to the bogus DOCTYPE state.
     fn skip(code: ErrorCode, at: u64, forces: bool) -> Step
         ensures { result ≡ skips code at forces }
     {
@@ -155,7 +167,7 @@ fn is_mark(ch: char) -> bool
     ch == '"' || ch == '\''
 }
 
-/// What a character does in each phase.
+/// What a character does in each state.
 impl Step {
     fn before_name(spaced: bool, ch: char, at: u64) -> Step
         ensures { result ≡ before_name spaced (is_space ch) (is_greater ch) at }

@@ -1,4 +1,5 @@
-//! How much of a closing mark, and of an inner `<!--`, the text read so far ends with.
+//! How much of a closing mark, and of an inner `<!--`, a comment ends with so far: the tokenizer states of comments (HTML Standard,
+//! 13.2.5.43 to 13.2.5.52).
 
 ghost use Rattle.std.specs.Prelude.{◌≡◌};
 ghost use Rattle.hmarkup.specs.Steps.{next_opening, next_ending, decided_text, ending_text};
@@ -7,9 +8,13 @@ ghost use Rattle.hmarkup.specs.CommentWalk.{is_whole};
 /// The part of a closing mark that the text ends with: nothing, `-`, `--` or `--!`.
 #[derive(Clone, Copy, PartialEq, Eq)]
 pub enum Ending {
+    /// The comment start state (`#comment-start-state`) or the comment state (`#comment-state`).
     Plain,
+    /// The comment start dash state (`#comment-start-dash-state`) or the comment end dash state (`#comment-end-dash-state`).
     Dash,
+    /// The comment end state (`#comment-end-state`).
     Dashes,
+    /// The comment end bang state (`#comment-end-bang-state`).
     Bang,
 }
 
@@ -17,9 +22,13 @@ pub enum Ending {
 #[derive(Clone, Copy)]
 pub enum Opening {
     Outside,
+    /// The comment less-than sign state (`#comment-less-than-sign-state`).
     Less,
+    /// The comment less-than sign bang state (`#comment-less-than-sign-bang-state`).
     LessBang,
+    /// The comment less-than sign bang dash state (`#comment-less-than-sign-bang-dash-state`).
     LessBangDash,
+    /// The comment less-than sign bang dash dash state (`#comment-less-than-sign-bang-dash-dash-state`).
     Whole,
 }
 

@@ -1,9 +1,5 @@
 -- To move the first child of a node until none is left is to move them all.
-use Rattle.std.proofs.Common.{◌≡◌, ◌≢◌, ℕ, zero, suc, ◌+◌, ◌<◌, ◌≤◌, Bool, true, false, eqb, cond, Some, None, refl, sym, ◌∙◌, ap, subst, arith}
-use Rattle.std.proofs.lemmas.Bool.{eqb-true, eq-eqb, ne_eqb}
-use Rattle.hnodes.specs.Forest.{What, document, Forest, none, tree, size, times, join, tree_at, cut, children_of, change_children, IsOutside}
-use Rattle.hnodes.specs.Spots.{first_or, first_child_of}
-use Rattle.hnodes.specs.Edits.{Nodes, AreNodes, graft_last, move_all}
+use Rattle.hnodes.proofs.Names.{◌≡◌, ◌≢◌, ℕ, zero, suc, ◌+◌, ◌<◌, ◌≤◌, Bool, true, false, eqb, cond, Some, None, refl, sym, ◌∙◌, ap, subst, arith, eqb-true, eq-eqb, ne_eqb, What, document, Forest, none, tree, size, times, join, tree_at, cut, children_of, change_children, IsOutside, first_or, first_child_of, Nodes, AreNodes, graft_last, move_all}
 use Rattle.hnodes.proofs.Forests.{some_inj, join-none, join-assoc, times-join, tree_at-absent, children_of-absent, change_children-absent, times-changed, times-cut, children-apart, change-const}
 use Rattle.hnodes.proofs.Counted.{at-most, is-there}
 use Rattle.hnodes.proofs.Families.{Sited, at_root, in_kids, in_rest, sited, family, first-cut, first_child-is, children-among}

@@ -1,8 +1,5 @@
 -- Where a child of a node is.
-use Rattle.std.proofs.Common.{◌≡◌, ℕ, ◌+◌, ◌<◌, ◌≤◌, Bool, true, false, eqb, cond, Option, Some, None, refl, sym, ◌∙◌, ap, subst, arith}
-use Rattle.std.proofs.lemmas.Bool.{eqb-true, eq-eqb}
-use Rattle.hnodes.specs.Forest.{What, Forest, none, tree, times, join, children_of}
-use Rattle.hnodes.specs.Spots.{Spot, spot_below, spot_of, either_of, last_or}
+use Rattle.hnodes.proofs.Names.{◌≡◌, ℕ, ◌+◌, ◌<◌, ◌≤◌, Bool, true, false, eqb, cond, Option, Some, None, refl, sym, ◌∙◌, ap, subst, arith, eqb-true, eq-eqb, What, Forest, none, tree, times, join, children_of, Spot, spot_below, spot_of, either_of, last_or}
 use Rattle.hnodes.proofs.Forests.{times-join, join-none, children_of-absent}
 use Rattle.hnodes.proofs.Spots.{either-none, spot_below-absent, spot_of-absent}
 use Rattle.hnodes.proofs.Fresh.{spot_of-join}

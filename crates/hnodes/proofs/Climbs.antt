@@ -1,18 +1,10 @@
 -- From a node to its parent.
-use Rattle.std.proofs.Common.{◌≡◌, ◌≢◌, ℕ, Bool, true, false, not, eqb, ◌-◌, ◌<◌, Some, None, length, get_or, refl, sym, ◌∙◌, ap, arith}
-use Rattle.std.proofs.lemmas.Bool.{eqb-true, eq-eqb}
-use Rattle.hnodes.specs.Forest.{size, times, tree_at, IsOutside}
-use Rattle.hnodes.specs.Edits.{Nodes}
-use Rattle.hnodes.specs.Links.{parent_in}
-use Rattle.hnodes.specs.Rows.{look_in, row_of}
-use Rattle.hnodes.specs.View.{nodes_of, IsTree}
+use Rattle.hnodes.proofs.Names.{◌≡◌, ◌≢◌, ℕ, Bool, true, false, not, eqb, ◌-◌, ◌<◌, Some, None, length, get_or, refl, sym, ◌∙◌, ap, arith, eqb-true, eq-eqb, size, times, tree_at, IsOutside, Nodes, parent_in, look_in, row_of, nodes_of, IsTree, Node, Inside}
 use Rattle.hnodes.proofs.Forests.{some_inj}
 use Rattle.hnodes.proofs.Within.{one-of, once-of}
 use Rattle.hnodes.proofs.Rows.{row_seen}
 use Rattle.hnodes.proofs.Opened.{Opened, opened, linked}
 use Rattle.hnodes.proofs.Inside.{Up, at_end, higher, up, top-inside, tree_at-size}
-use Rattle.hnodes.specs.declared.node.Node.{Node}
-use Rattle.hnodes.specs.declared.tree.Tree.TheInside.{Inside}
 
 pub unlike : (a b : ℕ) → true ≡ not (eqb a b) → a ≢ b
 unlike a b e j = let z : true ≡ not true = e ∙ ap not (eq-eqb a b j) in cc

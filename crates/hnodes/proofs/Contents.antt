@@ -1,15 +1,6 @@
 -- What a node holds, and what is seen of it.
-use Rattle.std.proofs.Common.{◌≡◌, ℕ, ◌<◌, Bool, true, false, eqb, cond, List, Option, Some, None, length, get_or, set, refl, ◌∙◌, Vec, Global, String, Box}
-use Rattle.std.specs.Option.{option_map}
-use Rattle.hnodes.specs.Forest.{Attribute}
-use Rattle.hnodes.specs.Edits.{with_text, with_attribute}
-use Rattle.hnodes.specs.Links.{Row}
-use Rattle.hnodes.specs.Rows.{content_is, row_of, look_in, IsChanged, IsUnchanged}
-use Rattle.hnodes.specs.declared.node.Node.{Node}
-use Rattle.hnodes.specs.declared.node.NodeData.{NodeData}
+use Rattle.hnodes.proofs.Names.{◌≡◌, ℕ, ◌<◌, Bool, true, false, eqb, cond, List, Option, Some, None, length, get_or, set, refl, ◌∙◌, Vec, Global, String, Box, option_map, Attribute, with_text, with_attribute, Row, content_is, row_of, look_in, IsChanged, IsUnchanged, Node, NodeData, Attr, ArrayString}
 use Rattle.hnodes.specs.declared.node.NodeData.TheVariants as content
-use Rattle.names.specs.declared.attr.Attr.{Attr}
-use Rattle.arrayvec.specs.ArrayString.{ArrayString}
 use Rattle.hnodes.proofs.Rows.{changed}
 
 -- a write that does not show

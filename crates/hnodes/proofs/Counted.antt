@@ -1,10 +1,5 @@
 -- What the edits keep: each node is in the forest once, and the document's tree comes first.
-use Rattle.std.proofs.Common.{◌≡◌, ◌≢◌, ℕ, zero, suc, ◌+◌, ◌<◌, ◌≤◌, Bool, true, false, eqb, ltb, cond, if◌then◌else◌, refl, ◌∙◌, subst, arith, ◌⊎◌, inl, inr}
-use Rattle.std.proofs.lemmas.Bool.{eq-eqb, ne_eqb, cases_lt, le-leb, lt-leb}
-use Rattle.hnodes.specs.Forest.{What, document, Forest, none, tree, times, join, tree_at, cut, children_of, change_children, change_what, put_before}
-use Rattle.hnodes.specs.Edits.{AreCounted, place_node, graft, move_all}
-use Rattle.hnodes.specs.declared.node.Place.{Place}
-use Rattle.hnodes.specs.declared.node.Place.TheVariants.{LastIn, Before}
+use Rattle.hnodes.proofs.Names.{◌≡◌, ◌≢◌, ℕ, zero, suc, ◌+◌, ◌<◌, ◌≤◌, Bool, true, false, eqb, ltb, cond, if◌then◌else◌, refl, ◌∙◌, subst, arith, ◌⊎◌, inl, inr, eq-eqb, ne_eqb, cases_lt, le-leb, lt-leb, What, document, Forest, none, tree, times, join, tree_at, cut, children_of, change_children, change_what, put_before, AreCounted, place_node, graft, move_all, Place, LastIn, Before}
 use Rattle.hnodes.proofs.Forests.{times-join, times-cut, times-emptied, children-apart}
 use Rattle.hnodes.proofs.Whats.{times-what}
 use Rattle.hnodes.proofs.Counts.{emptied, times-hung, times-put, times-emptied-apart}

@@ -1,6 +1,5 @@
 -- How often a node is in a forest after each step of an edit.
-use Rattle.std.proofs.Common.{◌≡◌, ℕ, zero, suc, ◌+◌, ◌≤◌, Bool, true, false, eqb, cond, refl, arith}
-use Rattle.hnodes.specs.Forest.{Forest, none, tree, times, join, children_of, change_children, put_before}
+use Rattle.hnodes.proofs.Names.{◌≡◌, ℕ, zero, suc, ◌+◌, ◌≤◌, Bool, true, false, eqb, cond, refl, arith, Forest, none, tree, times, join, children_of, change_children, put_before}
 use Rattle.hnodes.proofs.Forests.{times-join, change_children-absent}
 use Rattle.hnodes.proofs.Levels.{put_before-absent}
 

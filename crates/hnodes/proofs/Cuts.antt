@@ -1,10 +1,5 @@
 -- A node that leaves its parent and its siblings.
-use Rattle.std.proofs.Common.{◌≡◌, ◌≢◌, ℕ, ◌+◌, ◌<◌, ◌≤◌, Bool, eqb, cond, Option, Some, None, refl, sym, ◌∙◌, ap, subst, arith, ◌⊎◌, inl, inr}
-use Rattle.std.proofs.lemmas.Bool.{eq-eqb}
-use Rattle.std.specs.Option.{option_map}
-use Rattle.hnodes.specs.Forest.{Forest, none, tree, times, join, tree_at, cut, change_children, children_of}
-use Rattle.hnodes.specs.Spots.{first_or, last_or}
-use Rattle.hnodes.specs.Links.{Look, Linked, Loose, at_row, spliced, detached, with_place, with_ends}
+use Rattle.hnodes.proofs.Names.{◌≡◌, ◌≢◌, ℕ, ◌+◌, ◌<◌, ◌≤◌, Bool, eqb, cond, Option, Some, None, refl, sym, ◌∙◌, ap, subst, arith, ◌⊎◌, inl, inr, eq-eqb, option_map, Forest, none, tree, times, join, tree_at, cut, change_children, children_of, first_or, last_or, Look, Linked, Loose, at_row, spliced, detached, with_place, with_ends}
 use Rattle.hnodes.proofs.Forests.{times-join, first_or-join, last_or-join, times-emptied, children-apart}
 use Rattle.hnodes.proofs.Linked.{Linked-agree, Loose-agree, Linked-join, Linked-split, last-among, first-among}
 use Rattle.hnodes.proofs.Levels.{Here, Below, level}

@@ -1,6 +1,5 @@
 -- How often a node is another one or inside it. Where each node is once, 0 says that it is outside.
-use Rattle.std.proofs.Common.{◌≡◌, ℕ, zero, suc, ◌+◌, ◌<◌, ◌≤◌, Bool, true, false, eqb, cond, if◌then◌else◌, refl, arith}
-use Rattle.hnodes.specs.Forest.{Forest, none, tree, times, join, tree_at, children_of}
+use Rattle.hnodes.proofs.Names.{◌≡◌, ℕ, zero, suc, ◌+◌, ◌<◌, ◌≤◌, Bool, true, false, eqb, cond, if◌then◌else◌, refl, arith, Forest, none, tree, times, join, tree_at, children_of}
 use Rattle.hnodes.proofs.Forests.{times-join, times-cut}
 
 module _ {N : Type 0} where

@@ -1,7 +1,5 @@
 -- What the steps of an edit do to the count of one node inside another.
-use Rattle.std.proofs.Common.{◌≡◌, ◌≢◌, ℕ, zero, suc, ◌+◌, ◌<◌, ◌≤◌, Bool, true, false, eqb, cond, if◌then◌else◌, refl, sym, ◌∙◌, arith}
-use Rattle.std.proofs.lemmas.Bool.{eqb-true}
-use Rattle.hnodes.specs.Forest.{Forest, none, tree, times, join, tree_at, cut, children_of, put_before}
+use Rattle.hnodes.proofs.Names.{◌≡◌, ◌≢◌, ℕ, zero, suc, ◌+◌, ◌<◌, ◌≤◌, Bool, true, false, eqb, cond, if◌then◌else◌, refl, sym, ◌∙◌, arith, eqb-true, Forest, none, tree, times, join, tree_at, cut, children_of, put_before}
 use Rattle.hnodes.proofs.Forests.{times-join, times-cut, change_children-absent}
 use Rattle.hnodes.proofs.Levels.{put_before-absent}
 use Rattle.hnodes.proofs.Counts.{hung, emptied, times-hung, times-hung-apart, times-put, times-put-apart, times-emptied-less, times-emptied-apart}

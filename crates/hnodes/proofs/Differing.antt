@@ -1,21 +1,16 @@
 -- Attributes whose names differ, and their names in ascending order.
-use Rattle.std.proofs.Common.{◌≡◌, ◌↔◌, ℕ, ◌+◌, ◌-◌, ◌<◌, ◌≤◌, Bool, true, false, not, eqb, nat_eq, List, [], ◌∷◌, ◌++◌, length, length-drop, map, get_or, refl, sym, ◌∙◌, ap, subst, arith, drop-cons, drop, take, add-one, Vec, Global}
-use Rattle.std.proofs.lemmas.Bool.{lt-ltb, ltb-true}
-use Rattle.std.proofs.lemmas.Bool.Decides.{Decides-eqb}
-use Rattle.std.proofs.lemmas.List.{take_all, drop_all, map-append, take-append-le}
-use Rattle.std.proofs.lemmas.List.Folds.{list_any-append}
+use Rattle.hnodes.proofs.Names.{◌≡◌, ℕ, ◌+◌, ◌-◌, ◌<◌, ◌≤◌, Bool, true, false, not, eqb, nat_eq, List, [], ◌∷◌, ◌++◌, length, length-drop, map, get_or, refl, sym, ◌∙◌, ap, subst, arith, drop, take, Vec, Global, lt-ltb, Decides-eqb, take_all, map-append, list_any-append, list_any, IsTrue, Attr, names_differ, Attribute, names_of, numbers_of, attribute_of}
+use Rattle.std.proofs.Common.{◌↔◌, drop-cons, add-one}
+use Rattle.std.proofs.lemmas.Bool.{ltb-true}
+use Rattle.std.proofs.lemmas.List.{drop_all, take-append-le}
 use Rattle.std.proofs.lemmas.List.Sorted.{IsPermutation-sym}
 use Rattle.std.proofs.lemmas.Map.Keys.{IsDistinct-IsPermutation, IsDistinct-cons, IsDistinct-head, IsDistinct-tail, IsDistinct-from_sorted, IsStrictlyIncreasing-from_distinct, sorted_from_strictly_increasing}
 use Rattle.std.specs.Cmp.{unsigned_tied}
-use Rattle.std.specs.List.{AllByRecursion, IsAllAdjacentAnswer, IsDistinct, list_any}
+use Rattle.std.specs.List.{AllByRecursion, IsAllAdjacentAnswer, IsDistinct}
 use Rattle.std.specs.List.Sorted.{IsNonDecreasing, IsPermutation, IsStrictlyIncreasing}
 use Rattle.std.specs.Ordering.{nat_cmp}
-use Rattle.std.specs.Prelude.{◌&&◌, ◌||◌, ltb, IsTrue}
-use Rattle.names.specs.declared.attr.Attr.{Attr}
-use Rattle.hnodes.specs.Differing.{names_differ}
-use Rattle.hnodes.specs.Forest.{Attribute}
-use Rattle.hnodes.specs.Numbered.{AreNumbered, attributes_in, names_of, numbers_of}
-use Rattle.hnodes.specs.Rows.{attribute_of}
+use Rattle.std.specs.Prelude.{◌&&◌, ◌||◌, ltb}
+use Rattle.hnodes.specs.Numbered.{AreNumbered, attributes_in}
 use Rattle.hnodes.specs.declared.attributes.Indexed.TheInside.{Inside}
 use Rattle.hnodes.proofs.Indexed.{searched-is, within}
 

@@ -1,23 +1,18 @@
 -- The numbers that stand for a text, and the elements among siblings.
-use Rattle.std.proofs.Common.{◌≡◌, ℕ, ◌<◌, Bool, true, false, cond, nat_eq, nat_lt, List, [], ◌∷◌, ◌++◌, length, get_or, Option, Some, None, refl, sym, ◌∙◌, ap, subst, arith, option_and_then}
+use Rattle.hnodes.proofs.Names.{◌≡◌, ℕ, ◌<◌, Bool, true, false, cond, nat_eq, List, [], ◌∷◌, ◌++◌, length, get_or, Option, Some, None, refl, sym, ◌∙◌, ap, subst, arith, option_and_then, Decides-eqb, All-cons, All-head, All-nil, All, option_eq, option_map_or, AreCounted, elements_among, is_element, stands_for, Attribute, Forest, none, tree, roots, children_of, order, value_in}
+use Rattle.std.proofs.Common.{nat_lt}
 use Rattle.std.proofs.lemmas.Bool.{false_from_ne_true}
-use Rattle.std.proofs.lemmas.Bool.Decides.{Decides-eqb, Decides-like, same_from_decides, nat_tests}
+use Rattle.std.proofs.lemmas.Bool.Decides.{Decides-like, same_from_decides, nat_tests}
 use Rattle.std.proofs.Math.Seq.{drop-append_seam}
-use Rattle.std.proofs.lemmas.List.Elements.{All-cons, All-drop, All-filter, All-head, All-nil, All-tail}
+use Rattle.std.proofs.lemmas.List.Elements.{All-drop, All-filter, All-tail}
 use Rattle.std.proofs.lemmas.List.Quantifiers.{position-Some}
 use Rattle.std.proofs.lemmas.List.Sums.{fails_before_first}
 use Rattle.std.proofs.lemmas.Option.{get_or_from_slice_get, slice_get-get_or, slice_get_within}
 use Rattle.std.proofs.lemmas.Slice.Eq.{bytes_eq-Decides}
 use Rattle.std.specs.Bool.{Decides}
-use Rattle.std.specs.List.{All, position, position_or_len}
-use Rattle.std.specs.Option.{option_eq, option_map_or}
+use Rattle.std.specs.List.{position, position_or_len}
 use Rattle.std.specs.Prelude.{bytes_eq, slice_get}
 use Rattle.names.specs.Names.{Texts, AreNames}
-use Rattle.hnodes.specs.Edits.{AreCounted}
-use Rattle.hnodes.specs.Elements.{elements_among, is_element, stands_for}
-use Rattle.hnodes.specs.Forest.{Attribute, Forest, none, tree, roots, children_of}
-use Rattle.hnodes.specs.Passed.{order}
-use Rattle.hnodes.specs.Spots.{value_in}
 use Rattle.hnodes.proofs.Forests.{some_inj}
 use Rattle.hnodes.proofs.TextOrder.{within-order}
 

@@ -1,9 +1,5 @@
 -- A node and its children.
-use Rattle.std.proofs.Common.{◌≡◌, ℕ, zero, suc, ◌+◌, ◌<◌, ◌≤◌, Bool, true, false, eqb, cond, Option, Some, None, refl, sym, ◌∙◌, ap, subst, arith, option_and_then}
-use Rattle.std.proofs.lemmas.Bool.{eqb-true, eq-eqb}
-use Rattle.std.specs.Option.{option_map}
-use Rattle.hnodes.specs.Forest.{What, Forest, none, tree, times, join, tree_at, cut, children_of, change_children}
-use Rattle.hnodes.specs.Spots.{Spot, spot_below, spot_of, first_or, last_or, first_child_of, last_child_of}
+use Rattle.hnodes.proofs.Names.{◌≡◌, ℕ, zero, suc, ◌+◌, ◌<◌, ◌≤◌, Bool, true, false, eqb, cond, Option, Some, None, refl, sym, ◌∙◌, ap, subst, arith, option_and_then, eqb-true, eq-eqb, option_map, What, Forest, none, tree, times, join, tree_at, cut, children_of, change_children, Spot, spot_below, spot_of, first_or, last_or, first_child_of, last_child_of}
 use Rattle.hnodes.proofs.Forests.{some_inj, times-join, join-none, cut-absent, tree_at-absent, children_of-absent, change_children-absent}
 use Rattle.hnodes.proofs.Spots.{spot_below-absent, spot_of-absent, either-none}
 

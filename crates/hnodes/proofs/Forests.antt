@@ -1,7 +1,5 @@
 -- Laws of forests.
-use Rattle.std.proofs.Common.{◌≡◌, ℕ, zero, suc, ◌+◌, Bool, true, false, eqb, cond, if◌then◌else◌, List, [], ◌∷◌, ◌++◌, Option, Some, refl, ap, arith}
-use Rattle.hnodes.specs.Forest.{Forest, none, tree, roots, size, times, join, tree_at, cut, children_of, change_children}
-use Rattle.hnodes.specs.Spots.{first_or, last_or}
+use Rattle.hnodes.proofs.Names.{◌≡◌, ℕ, zero, suc, ◌+◌, Bool, true, false, eqb, cond, if◌then◌else◌, List, [], ◌∷◌, ◌++◌, Option, Some, refl, ap, arith, Forest, none, tree, roots, size, times, join, tree_at, cut, children_of, change_children, first_or, last_or}
 
 pub some_inj : {A : Type 0} {a b : A} → Some a ≡ Some b → a ≡ b
 some_inj e = cc

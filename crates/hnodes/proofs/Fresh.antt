@@ -1,21 +1,10 @@
 -- A node that was just made is outside of every place.
-use Rattle.std.proofs.Common.{◌≡◌, ◌≢◌, ℕ, suc, ◌+◌, ◌<◌, Bool, true, false, eqb, cond, [], ◌∷◌, ◌++◌, length, Option, Some, None, refl, sym, ◌∙◌, ap, subst, arith, option_and_then, IsSome}
-use Rattle.std.proofs.lemmas.Bool.{eq-eqb, ne_eqb, lt-leb}
-use Rattle.hnodes.specs.Forest.{What, Forest, none, tree, times, join, tree_at, IsOutside}
-use Rattle.hnodes.specs.Spots.{spot_of, spot_below, either_of, parent_of}
-use Rattle.hnodes.specs.Edits.{Nodes, make, IsPlace, place_node}
-use Rattle.hnodes.specs.declared.node.Place.{Place}
-use Rattle.hnodes.specs.declared.node.Place.TheVariants.{LastIn, Before}
+use Rattle.hnodes.proofs.Names.{◌≡◌, ◌≢◌, ℕ, suc, ◌+◌, ◌<◌, Bool, true, false, eqb, cond, [], ◌∷◌, ◌++◌, length, Option, Some, None, refl, sym, ◌∙◌, ap, subst, arith, option_and_then, IsSome, eq-eqb, ne_eqb, lt-leb, What, Forest, none, tree, times, join, tree_at, IsOutside, spot_of, spot_below, either_of, parent_of, Nodes, make, IsPlace, place_node, Place, LastIn, Before, alone, whole, row_of, look_in, nodes_of, IsTree, Node, Inside}
 use Rattle.hnodes.proofs.Forests.{tree_at-absent}
 use Rattle.hnodes.proofs.Spots.{either-none}
 use Rattle.hnodes.proofs.Inside.{tree_at-joined, tree_at-among}
 use Rattle.hnodes.proofs.Opened.{Opened, opened}
 use Rattle.hnodes.proofs.Makes.{made_view}
-use Rattle.hnodes.specs.Links.{alone, whole}
-use Rattle.hnodes.specs.Rows.{row_of, look_in}
-use Rattle.hnodes.specs.View.{nodes_of, IsTree}
-use Rattle.hnodes.specs.declared.node.Node.{Node}
-use Rattle.hnodes.specs.declared.tree.Tree.TheInside.{Inside}
 
 either-assoc : {A : Type 0} (x y z : Option A) → either_of x (either_of y z) ≡ either_of (either_of x y) z
 either-assoc None y z = refl

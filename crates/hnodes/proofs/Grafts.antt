@@ -1,10 +1,5 @@
 -- A node leaves its place and is put at another.
-use Rattle.std.proofs.Common.{◌≡◌, ◌≢◌, ℕ, ◌+◌, ◌<◌, ◌≤◌, Option, Some, None, refl, sym, ◌∙◌, ap, subst, arith, ◌⊎◌, inl, inr}
-use Rattle.std.proofs.lemmas.Bool.{eq-eqb}
-use Rattle.hnodes.specs.Forest.{What, Forest, none, tree, size, times, join, tree_at, cut, change_children, children_of, IsOutside}
-use Rattle.hnodes.specs.Spots.{first_or, last_or}
-use Rattle.hnodes.specs.Edits.{graft_last, graft_before}
-use Rattle.hnodes.specs.Links.{Row, Look, Linked, Loose, StandsIn, standing, hooked, detached, last_in, parent_in, previous_in, next_in}
+use Rattle.hnodes.proofs.Names.{◌≡◌, ◌≢◌, ℕ, ◌+◌, ◌<◌, ◌≤◌, Option, Some, None, refl, sym, ◌∙◌, ap, subst, arith, ◌⊎◌, inl, inr, eq-eqb, What, Forest, none, tree, size, times, join, tree_at, cut, change_children, children_of, IsOutside, first_or, last_or, graft_last, graft_before, Row, Look, Linked, Loose, StandsIn, standing, hooked, detached, last_in, parent_in, previous_in, next_in}
 use Rattle.hnodes.proofs.Forests.{some_inj, without, join-none, times-join, size-join, times-cut, size-cut, roots-cut, roots-change_children, times-changed, size-changed, change-const}
 use Rattle.hnodes.proofs.Levels.{level, Here, Below}
 use Rattle.hnodes.proofs.Loose.{Holds, Loose-holds}

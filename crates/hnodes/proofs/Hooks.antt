@@ -1,10 +1,5 @@
 -- A node that stands for itself comes below another, between two siblings.
-use Rattle.std.proofs.Common.{◌≡◌, ◌≢◌, ℕ, ◌+◌, ◌<◌, ◌≤◌, Bool, eqb, cond, Option, Some, None, refl, sym, ◌∙◌, ap, subst, arith}
-use Rattle.std.proofs.lemmas.Bool.{eq-eqb}
-use Rattle.std.specs.Option.{option_map}
-use Rattle.hnodes.specs.Forest.{What, Forest, none, tree, times, join, change_children, children_of}
-use Rattle.hnodes.specs.Spots.{first_or, last_or}
-use Rattle.hnodes.specs.Links.{Look, Linked, Loose, spliced, hooked, with_place, with_ends}
+use Rattle.hnodes.proofs.Names.{◌≡◌, ◌≢◌, ℕ, ◌+◌, ◌<◌, ◌≤◌, Bool, eqb, cond, Option, Some, None, refl, sym, ◌∙◌, ap, subst, arith, eq-eqb, option_map, What, Forest, none, tree, times, join, change_children, children_of, first_or, last_or, Look, Linked, Loose, spliced, hooked, with_place, with_ends}
 use Rattle.hnodes.proofs.Forests.{times-join, first_or-join, last_or-join, times-emptied, children-apart}
 use Rattle.hnodes.proofs.Linked.{Linked-agree, Linked-join, Linked-split, last-among, first-among}
 use Rattle.hnodes.proofs.Loose.{Holds, Loose-holds, Loose-children}

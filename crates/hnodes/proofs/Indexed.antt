@@ -1,15 +1,10 @@
 -- Where a number is last in a list of numbers, and whether an attribute of a name is there.
-use Rattle.std.proofs.Common.{◌≡◌, ℕ, zero, suc, ◌-◌, ◌<◌, ◌≤◌, ◌==◌, ◌||◌, Bool, true, false, cond, ltb, nat_eq, List, [], ◌∷◌, length, length-drop, map, get_or, take, drop, refl, sym, ◌∙◌, ap, arith}
+use Rattle.hnodes.proofs.Names.{◌≡◌, ℕ, zero, suc, ◌-◌, ◌<◌, ◌≤◌, Bool, true, false, cond, ltb, nat_eq, List, [], ◌∷◌, length, length-drop, map, get_or, take, drop, refl, sym, ◌∙◌, ap, arith, lt-ltb, map-append, take_all, list_any-append, list_any, Attr, Attribute, numbers_of, attribute_of}
+use Rattle.std.proofs.Common.{◌==◌, ◌||◌}
 use Rattle.std.proofs.Math.Dec.{eqb-suc-suc}
-use Rattle.std.proofs.lemmas.Bool.{lt-ltb, le-ltb}
-use Rattle.std.proofs.lemmas.List.{length-map, length-take, map-append, take_all, take-append-drop}
-use Rattle.std.proofs.lemmas.List.Folds.{list_any-append}
-use Rattle.std.specs.List.{list_any}
-use Rattle.names.specs.declared.attr.Attr.{Attr}
+use Rattle.std.proofs.lemmas.Bool.{le-ltb}
+use Rattle.std.proofs.lemmas.List.{length-map, length-take, take-append-drop}
 use Rattle.hchain.specs.Chains.{last_up}
-use Rattle.hnodes.specs.Forest.{Attribute}
-use Rattle.hnodes.specs.Numbered.{numbers_of}
-use Rattle.hnodes.specs.Rows.{attribute_of}
 
 module _ (s : ℕ → Bool) where
   -- where it is with a number more at the front, which is sought or not

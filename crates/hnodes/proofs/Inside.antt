@@ -1,8 +1,5 @@
 -- Whether a node is inside another: its parent says so.
-use Rattle.std.proofs.Common.{◌≡◌, ◌≢◌, ℕ, ◌+◌, ◌<◌, ◌≤◌, Bool, true, false, eqb, cond, Some, None, refl, sym, ◌∙◌, ap, subst, arith, ◌⊎◌, inl, inr}
-use Rattle.std.proofs.lemmas.Bool.{eq-eqb, ne_eqb}
-use Rattle.hnodes.specs.Forest.{What, Forest, none, tree, size, times, join, tree_at, children_of, IsOutside}
-use Rattle.hnodes.specs.Links.{Look, Loose, parent_in}
+use Rattle.hnodes.proofs.Names.{◌≡◌, ◌≢◌, ℕ, ◌+◌, ◌<◌, ◌≤◌, Bool, true, false, eqb, cond, Some, None, refl, sym, ◌∙◌, ap, subst, arith, ◌⊎◌, inl, inr, eq-eqb, ne_eqb, What, Forest, none, tree, size, times, join, tree_at, children_of, IsOutside, Look, Loose, parent_in}
 use Rattle.hnodes.proofs.Forests.{times-join, size-join, times-cut, size-cut, join-none, children_of-absent}
 use Rattle.hnodes.proofs.Levels.{level, Here, Below}
 use Rattle.hnodes.proofs.Families.{Sited, at_root, in_kids, in_rest, sited, family, children-among}

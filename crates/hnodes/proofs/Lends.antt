@@ -1,25 +1,13 @@
 -- What the calls that lend answer.
-use Rattle.std.proofs.Common.{◌≡◌, ℕ, ◌<◌, List, [], Option, Some, None, length, get_or, refl, sym, ◌∙◌, ap, arith, option_and_then, IfSome, Vec, Global, String, Box}
-use Rattle.std.specs.Option.{option_map}
-use Rattle.hnodes.specs.Forest.{Attribute, times}
-use Rattle.hnodes.specs.Spots.{Spot, spot_of, parent_of, what_of, name_in, attributes_in, text_in, doctype_in}
-use Rattle.hnodes.specs.Edits.{Nodes}
-use Rattle.hnodes.specs.Passed.{own_text}
-use Rattle.hnodes.specs.Links.{Row, Look, row_at, parent_in, first_in, last_in, previous_in, next_in}
-use Rattle.hnodes.specs.Rows.{row_of, look_in, content_is}
-use Rattle.hnodes.specs.View.{nodes_of, IsTree}
+use Rattle.hnodes.proofs.Names.{◌≡◌, ℕ, ◌<◌, List, [], Option, Some, None, length, get_or, refl, sym, ◌∙◌, ap, arith, option_and_then, Vec, Global, String, Box, option_map, Attribute, times, Spot, spot_of, parent_of, what_of, name_in, attributes_in, text_in, doctype_in, Nodes, own_text, Row, Look, row_at, parent_in, first_in, last_in, previous_in, next_in, row_of, look_in, content_is, nodes_of, IsTree, Node, NodeData, Attr, ArrayString, Inside}
+use Rattle.std.proofs.Common.{IfSome}
 use Rattle.hnodes.proofs.Spots.{Loose-spot}
 use Rattle.hnodes.proofs.Forests.{some_inj}
 use Rattle.hnodes.proofs.Within.{one-of, once-of, there as is_there, links-among, ends-among}
 use Rattle.hnodes.proofs.Rows.{row_seen}
 use Rattle.hnodes.proofs.Opened.{Opened, opened}
-use Rattle.hnodes.specs.declared.node.Node.{Node}
-use Rattle.hnodes.specs.declared.node.NodeData.{NodeData}
 use Rattle.hnodes.specs.declared.node.NodeData.TheVariants as content
 use Rattle.hnodes.specs.declared.node.DocumentType.{DocumentType as DoctypeOf}
-use Rattle.names.specs.declared.attr.Attr.{Attr}
-use Rattle.arrayvec.specs.ArrayString.{ArrayString}
-use Rattle.hnodes.specs.declared.tree.Tree.TheInside.{Inside}
 
 -- the row of a node is that of its place
 pub place_seen : (t : Inside) (v : Nodes ℕ) (n : ℕ) → Opened t v → n < v.made → look_in t.nodes.items n ≡ option_map row_at (spot_of n v.trees)

@@ -1,7 +1,5 @@
 -- Where a node is: among the roots, or among the children of a node.
-use Rattle.std.proofs.Common.{◌≡◌, ℕ, zero, suc, ◌+◌, ◌≤◌, Bool, true, false, eqb, cond, refl, subst, arith, ◌⊎◌, inl, inr}
-use Rattle.std.proofs.lemmas.Bool.{eqb-true, eq-eqb}
-use Rattle.hnodes.specs.Forest.{What, Forest, none, tree, times, join, tree_at, cut, change_children, children_of, put_before}
+use Rattle.hnodes.proofs.Names.{◌≡◌, ℕ, zero, suc, ◌+◌, ◌≤◌, Bool, true, false, eqb, cond, refl, subst, arith, ◌⊎◌, inl, inr, eqb-true, eq-eqb, What, Forest, none, tree, times, join, tree_at, cut, change_children, children_of, put_before}
 use Rattle.hnodes.proofs.Forests.{join-none, cut-absent, tree_at-absent, children_of-absent, change_children-absent}
 
 module _ {N : Type 0} where

@@ -1,3 +1,4 @@
+pub mod Names
 pub mod Forests
 pub mod Linked
 pub mod Levels

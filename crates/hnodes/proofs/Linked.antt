@@ -1,10 +1,6 @@
 -- Laws of linked nodes.
-use Rattle.std.proofs.Common.{◌≡◌, ◌≢◌, ℕ, zero, suc, ◌+◌, ◌<◌, ◌≤◌, Bool, true, false, eqb, cond, Option, Some, None, refl, sym, ◌∙◌, ap, subst, arith}
-use Rattle.std.proofs.lemmas.Bool.{eqb-true, eq-eqb, eqb-false}
-use Rattle.std.specs.Option.{option_map}
-use Rattle.hnodes.specs.Forest.{Forest, none, tree, roots, size, times, join, change_children}
-use Rattle.hnodes.specs.Spots.{first_or, last_or}
-use Rattle.hnodes.specs.Links.{Look, Linked, Loose, seen, seen_each, with_next, with_previous, with_ends}
+use Rattle.hnodes.proofs.Names.{◌≡◌, ◌≢◌, ℕ, zero, suc, ◌+◌, ◌<◌, ◌≤◌, Bool, true, false, eqb, cond, Option, Some, None, refl, sym, ◌∙◌, ap, subst, arith, eqb-true, eq-eqb, eqb-false, option_map, Forest, none, tree, roots, size, times, join, change_children, first_or, last_or, Look, Linked, Loose, with_next, with_previous, with_ends}
+use Rattle.hnodes.specs.Links.{seen, seen_each}
 use Rattle.hnodes.proofs.Forests.{some_inj, first_or-join, change_children-absent}
 
 module _ {N : Type 0} where

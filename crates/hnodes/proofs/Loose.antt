@@ -1,10 +1,5 @@
 -- Laws of linked trees, each of which stands for itself.
-use Rattle.std.proofs.Common.{◌≡◌, ◌≢◌, ℕ, zero, suc, ◌+◌, ◌<◌, Bool, true, false, eqb, cond, Option, Some, None, refl, subst, arith}
-use Rattle.std.proofs.lemmas.Bool.{eqb-true}
-use Rattle.std.specs.Option.{option_map}
-use Rattle.hnodes.specs.Forest.{Forest, none, tree, times, join, change_children, children_of}
-use Rattle.hnodes.specs.Spots.{first_or, last_or}
-use Rattle.hnodes.specs.Links.{Row, Look, Linked, Loose, with_ends}
+use Rattle.hnodes.proofs.Names.{◌≡◌, ◌≢◌, ℕ, zero, suc, ◌+◌, ◌<◌, Bool, true, false, eqb, cond, Option, Some, None, refl, subst, arith, eqb-true, option_map, Forest, none, tree, times, join, change_children, children_of, first_or, last_or, Row, Look, Linked, Loose, with_ends}
 use Rattle.hnodes.proofs.Forests.{join-none, children_of-absent, change_children-absent}
 use Rattle.hnodes.proofs.Linked.{Linked-agree, Loose-agree, Linked-children, not-among}
 

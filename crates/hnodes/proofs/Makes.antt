@@ -1,20 +1,12 @@
 -- A node more.
-use Rattle.std.proofs.Common.{◌≡◌, ℕ, suc, ◌+◌, ◌<◌, ◌≤◌, eqb, ltb, cond, List, [], ◌∷◌, ◌++◌, Some, None, length, refl, ◌∙◌, ap, subst, arith, ◌⊎◌, inl, inr}
-use Rattle.std.proofs.lemmas.Bool.{eq-eqb, ne_eqb, lt-leb, le-leb, cases_lt}
+use Rattle.hnodes.proofs.Names.{◌≡◌, ℕ, suc, ◌+◌, ◌<◌, ◌≤◌, eqb, ltb, cond, List, [], ◌∷◌, ◌++◌, Some, None, length, refl, ◌∙◌, ap, subst, arith, ◌⊎◌, inl, inr, eq-eqb, ne_eqb, lt-leb, le-leb, cases_lt, What, document, Forest, join, tree, none, make, Look, StandsIn, standing, whole, alone, is_loose, row_of, look_in, nodes_of, IsTree, Node, Inside}
 use Rattle.std.proofs.lemmas.List.{length_push}
-use Rattle.hnodes.specs.Forest.{What, document, Forest, join, tree, none}
-use Rattle.hnodes.specs.Edits.{make}
-use Rattle.hnodes.specs.Links.{Look, StandsIn, standing, whole, alone, is_loose}
-use Rattle.hnodes.specs.Rows.{row_of, look_in}
-use Rattle.hnodes.specs.View.{nodes_of, IsTree}
 use Rattle.hnodes.proofs.Forests.{times-join, size-join, roots-join}
 use Rattle.hnodes.proofs.Linked.{Loose-agree, seen_loose}
 use Rattle.hnodes.proofs.Loose.{Loose-join}
 use Rattle.hnodes.proofs.Roots.{loose-same}
 use Rattle.hnodes.proofs.Within.{test_under}
 use Rattle.hnodes.proofs.Rows.{look_in-before, look_in-last}
-use Rattle.hnodes.specs.declared.node.Node.{Node}
-use Rattle.hnodes.specs.declared.tree.Tree.TheInside.{Inside}
 
 one_more : (n count : ℕ) → cond (ltb n count) 1 0 + cond (eqb count n) 1 0 ≡ cond (ltb n (suc count)) 1 0
 one_more n count = go (cases_lt n count) (cases_lt count n)

@@ -1,17 +1,9 @@
 -- What `append` and `insert_before` have to show.
-use Rattle.std.proofs.Common.{◌≡◌, ℕ, ◌<◌, false, true, List, Option, Some, None, length, get_or, sym, ◌∙◌, ap, subst, arith, IsSome}
-use Rattle.hnodes.specs.Forest.{IsOutside}
-use Rattle.hnodes.specs.Spots.{parent_of}
-use Rattle.hnodes.specs.Edits.{Nodes, graft_last, graft_before}
-use Rattle.hnodes.specs.Links.{StandsIn, standing, detached, hooked, parent_in, previous_in, last_in}
-use Rattle.hnodes.specs.Rows.{look_in, row_of, IsSeenAs, IsWithin}
-use Rattle.hnodes.specs.View.{nodes_of, IsTree}
+use Rattle.hnodes.proofs.Names.{◌≡◌, ℕ, ◌<◌, false, true, List, Option, Some, None, length, get_or, sym, ◌∙◌, ap, subst, arith, IsSome, IsOutside, parent_of, Nodes, graft_last, graft_before, StandsIn, standing, detached, hooked, parent_in, previous_in, last_in, look_in, row_of, IsSeenAs, IsWithin, nodes_of, IsTree, Node, Inside}
 use Rattle.hnodes.proofs.Grafts.{Cut, cut_of, append-within, graft-standing, StandsIn-append, before-within, before-parent, StandsIn-before}
 use Rattle.hnodes.proofs.Rows.{row_seen}
 use Rattle.hnodes.proofs.Opened.{Opened, opened}
 use Rattle.hnodes.proofs.Lends.{parent_is}
-use Rattle.hnodes.specs.declared.node.Node.{Node}
-use Rattle.hnodes.specs.declared.tree.Tree.TheInside.{Inside}
 
 -- node n has left its place, q is outside of it, and x is q's row
 pub record Gone (t : Inside) (v : Nodes ℕ) (mid : List Node) (n q : ℕ) (x : Node) : Type 0 where

@@ -1,16 +1,10 @@
 -- What the vector says of the value of a tree, and what is left to show after an edit.
-use Rattle.std.proofs.Common.{◌≡◌, ℕ, zero, suc, true, ltb, cond, is_none, ◌++◌, ◌<◌, ◌≤◌, List, [], ◌∷◌, Option, Some, None, Result, Ok, Err, OnOk, OnErr, length, refl, sym, ◌∙◌, ap, subst, arith}
-use Rattle.hnodes.specs.Forest.{Forest, What, document, tree, none, roots, change_what}
-use Rattle.hnodes.specs.Edits.{Nodes, AreNodes}
-use Rattle.hnodes.specs.Links.{Row, Look, Loose, StandsIn, standing, loose, is_loose, whole, parent_in, previous_in, next_in, with_what}
-use Rattle.hnodes.specs.Rows.{look_in, IsWithin, IsChanged, IsUnchanged}
-use Rattle.hnodes.specs.View.{nodes_of, IsTree}
+use Rattle.hnodes.proofs.Names.{◌≡◌, ℕ, zero, suc, true, ltb, cond, is_none, ◌++◌, ◌<◌, ◌≤◌, List, [], ◌∷◌, Option, Some, None, length, refl, sym, ◌∙◌, ap, subst, arith, Forest, What, document, tree, none, roots, change_what, Nodes, AreNodes, Row, Look, Loose, StandsIn, standing, loose, is_loose, whole, parent_in, previous_in, next_in, with_what, look_in, IsWithin, IsChanged, IsUnchanged, nodes_of, IsTree, Node, Inside}
+use Rattle.std.proofs.Common.{Result, Ok, Err, OnOk, OnErr}
 use Rattle.hnodes.proofs.Forests.{some_inj}
 use Rattle.hnodes.proofs.Within.{one-of, once-of, there, links-among}
 use Rattle.hnodes.proofs.Whats.{StandsIn-same, StandsIn-what, document-what}
 use Rattle.hnodes.proofs.Makes.{whole-stands}
-use Rattle.hnodes.specs.declared.node.Node.{Node}
-use Rattle.hnodes.specs.declared.tree.Tree.TheInside.{Inside}
 
 -- what the fields of a tree say of its value
 pub record Opened (t : Inside) (v : Nodes ℕ) : Type 0 where

@@ -1,10 +1,5 @@
 -- What the edits do to what is inside and what is outside.
-use Rattle.std.proofs.Common.{◌≡◌, ◌≢◌, ℕ, ◌+◌, ◌<◌, ◌≤◌, Bool, true, false, eqb, cond, if◌then◌else◌, refl, sym, ◌∙◌, arith}
-use Rattle.std.proofs.lemmas.Bool.{eq-eqb, ne_eqb}
-use Rattle.hnodes.specs.Forest.{What, document, Forest, none, tree, times, join, tree_at, cut, children_of, change_what, IsOutside}
-use Rattle.hnodes.specs.Edits.{AreCounted, place_node, graft, move_all}
-use Rattle.hnodes.specs.declared.node.Place.{Place}
-use Rattle.hnodes.specs.declared.node.Place.TheVariants.{LastIn, Before}
+use Rattle.hnodes.proofs.Names.{◌≡◌, ◌≢◌, ℕ, ◌+◌, ◌<◌, ◌≤◌, Bool, true, false, eqb, cond, if◌then◌else◌, refl, sym, ◌∙◌, arith, eq-eqb, ne_eqb, What, document, Forest, none, tree, times, join, tree_at, cut, children_of, change_what, IsOutside, AreCounted, place_node, graft, move_all, Place, LastIn, Before}
 use Rattle.hnodes.proofs.Forests.{times-cut, children-apart}
 use Rattle.hnodes.proofs.Whats.{times-what}
 use Rattle.hnodes.proofs.Counts.{emptied, times-emptied-less}

@@ -1,12 +1,5 @@
 -- A new node at a place: where it is, and that a change of it changes what came there.
-use Rattle.std.proofs.Common.{◌≡◌, ◌≢◌, ℕ, ◌+◌, ◌<◌, Bool, true, false, eqb, cond, List, Option, Some, None, refl, sym, ◌∙◌, ap, subst, arith, option_and_then, IsSome, ◌⊎◌, inl, inr}
-use Rattle.std.proofs.lemmas.Bool.{eq-eqb, ne_eqb}
-use Rattle.std.specs.Option.{option_map}
-use Rattle.hnodes.specs.Forest.{What, text, Forest, none, tree, times, join, tree_at, cut, children_of, change_children, change_what, put_before}
-use Rattle.hnodes.specs.Spots.{Spot, last_or, parent_of, last_child_of}
-use Rattle.hnodes.specs.Edits.{Nodes, AreCounted, graft, IsPlace}
-use Rattle.hnodes.specs.declared.node.Place.{Place}
-use Rattle.hnodes.specs.declared.node.Place.TheVariants.{LastIn, Before}
+use Rattle.hnodes.proofs.Names.{◌≡◌, ◌≢◌, ℕ, ◌+◌, ◌<◌, Bool, true, false, eqb, cond, List, Option, Some, None, refl, sym, ◌∙◌, ap, subst, arith, option_and_then, IsSome, ◌⊎◌, inl, inr, eq-eqb, ne_eqb, option_map, What, text, Forest, none, tree, times, join, tree_at, cut, children_of, change_children, change_what, put_before, Spot, last_or, parent_of, last_child_of, Nodes, AreCounted, graft, IsPlace, Place, LastIn, Before}
 use Rattle.hnodes.proofs.Forests.{join-none, join-assoc, cut-absent, children_of-absent, change_children-absent, last_or-join}
 use Rattle.hnodes.proofs.Levels.{level, Here, Below}
 use Rattle.hnodes.proofs.Families.{Sited, at_root, in_kids, in_rest, sited, last_child-is}

@@ -1,9 +1,5 @@
 -- What the rows say after several writes.
-use Rattle.std.proofs.Common.{◌≡◌, ℕ, eqb, cond, List, Option, Some, None, refl, ◌∙◌, ap}
-use Rattle.std.specs.Option.{option_map}
-use Rattle.hnodes.specs.Links.{Row, Look, at_row, with_last, with_previous, with_place, after_link, before_link, spliced, detached}
-use Rattle.hnodes.specs.Rows.{row_of, look_in, IsSeenAs, IsChanged}
-use Rattle.hnodes.specs.declared.node.Node.{Node}
+use Rattle.hnodes.proofs.Names.{◌≡◌, ℕ, eqb, cond, List, Option, Some, None, refl, ◌∙◌, ap, option_map, Row, Look, at_row, with_last, with_previous, with_place, after_link, before_link, spliced, detached, row_of, look_in, IsSeenAs, IsChanged, Node}
 
 at_row-same : (k : ℕ) (f : Row ℕ → Row ℕ) (look new : Look ℕ) (n : ℕ) → new n ≡ look n → at_row k f new n ≡ at_row k f look n
 at_row-same k f look new n e = ap (λ o. cond (eqb n k) (option_map f o) o) e

@@ -1,12 +1,5 @@
 -- Where a node is once another one has become something else.
-use Rattle.std.proofs.Common.{◌≡◌, ℕ, Bool, true, false, eqb, cond, if◌then◌else◌, List, ◌++◌, Option, Some, None, refl, sym, ◌∙◌, ap, option_and_then}
-use Rattle.std.proofs.lemmas.Bool.{eqb-true, eq-eqb}
-use Rattle.std.specs.Option.{option_map}
-use Rattle.hnodes.specs.Forest.{What, document, doctype, element, comment, text, Forest, none, tree, change_what}
-use Rattle.hnodes.specs.Spots.{Spot, spot_below, spot_of, either_of, last_or, what_of, last_child_of, previous_of}
-use Rattle.hnodes.specs.Edits.{with_text, before_place, if_text, text_before}
-use Rattle.hnodes.specs.declared.node.Place.{Place}
-use Rattle.hnodes.specs.declared.node.Place.TheVariants.{LastIn, Before}
+use Rattle.hnodes.proofs.Names.{◌≡◌, ℕ, Bool, true, false, eqb, cond, if◌then◌else◌, List, ◌++◌, Option, Some, None, refl, sym, ◌∙◌, ap, option_and_then, eqb-true, eq-eqb, option_map, What, document, doctype, element, comment, text, Forest, none, tree, change_what, Spot, spot_below, spot_of, either_of, last_or, what_of, last_child_of, previous_of, with_text, before_place, if_text, text_before, Place, LastIn, Before}
 use Rattle.hnodes.proofs.Whats.{last_or-what}
 
 module _ {N : Type 0} (n : ℕ) (g : What N → What N) where

@@ -1,9 +1,7 @@
 -- Which nodes are loose.
-use Rattle.std.proofs.Common.{◌≡◌, ◌≢◌, ℕ, zero, suc, ◌<◌, ◌≤◌, Bool, true, false, eqb, cond, List, [], ◌∷◌, ◌++◌, Option, Some, None, is_none, refl, sym, ◌∙◌, ap, arith}
-use Rattle.std.proofs.lemmas.Bool.{eqb-true, eq-eqb, ne_eqb, eqb-false}
-use Rattle.std.specs.Option.{option_map}
-use Rattle.hnodes.specs.Forest.{What}
-use Rattle.hnodes.specs.Links.{Row, Look, standing, loose, is_loose, at_row, after_link, before_link, spliced, leave, hooked, with_place, with_last, with_first, with_next, with_previous}
+use Rattle.hnodes.proofs.Names.{◌≡◌, ◌≢◌, ℕ, zero, suc, ◌<◌, ◌≤◌, Bool, true, false, eqb, cond, List, [], ◌∷◌, ◌++◌, Option, Some, None, is_none, refl, sym, ◌∙◌, ap, arith, eqb-true, eq-eqb, ne_eqb, eqb-false, option_map, What, Row, Look, standing, loose, is_loose, at_row, after_link, before_link, spliced, hooked, with_place, with_last, with_first, with_next, with_previous}
+use Rattle.std.proofs.Common.{append-nil}
+use Rattle.hnodes.specs.Links.{leave}
 use Rattle.hnodes.proofs.Forests.{some_inj, without}
 
 assoc : (xs ys zs : List ℕ) → (xs ++ ys) ++ zs ≡ xs ++ (ys ++ zs)
@@ -17,10 +15,6 @@ without-end n c (x ∷ xs) h = go (without-end n c xs h) (eqb x n)
     go : without n (xs ++ c ∷ []) ≡ without n xs ++ c ∷ [] → (v : Bool) → cond v (xs ++ c ∷ []) (x ∷ without n (xs ++ c ∷ [])) ≡ cond v xs (x ∷ without n xs) ++ c ∷ []
     go r true = refl
     go r false = ap (λ l. x ∷ l) r
-
-nil-right : (xs : List ℕ) → xs ++ [] ≡ xs
-nil-right [] = refl
-nil-right (x ∷ xs) = ap (λ l. x ∷ l) (nil-right xs)
 
 module _ {N : Type 0} where
   standing-loose : (o u : Option (Row N)) → standing o ≡ standing u → is_loose o ≡ is_loose u
@@ -90,11 +84,11 @@ module _ {N : Type 0} where
     where
       other : (v : Bool) → c ≢ n → loose c new ≡ without n (loose c look) → loose c new ++ cond v (c ∷ []) [] ≡ without n (loose c look ++ cond v (c ∷ []) [])
       other true h r = ap (λ xs. xs ++ c ∷ []) r ∙ sym (without-end n c (loose c look) h)
-      other false h r = nil-right (loose c new) ∙ r ∙ ap (without n) (sym (nil-right (loose c look)))
+      other false h r = append-nil (loose c new) ∙ r ∙ ap (without n) (sym (append-nil (loose c look)))
 
       self : (v : Bool) → c ≡ n → loose c new ≡ loose c look → loose c new ++ [] ≡ without n (loose c look ++ cond v (c ∷ []) [])
-      self true j r = nil-right (loose c new) ∙ r ∙ sym (past n look c (c ∷ []) (omega arith) ∙ rw (eq-eqb c n j) (nil-right (loose c look)))
-      self false j r = nil-right (loose c new) ∙ r ∙ sym (past n look c [] (omega arith) ∙ nil-right (loose c look))
+      self true j r = append-nil (loose c new) ∙ r ∙ sym (past n look c (c ∷ []) (omega arith) ∙ rw (eq-eqb c n j) (append-nil (loose c look)))
+      self false j r = append-nil (loose c new) ∙ r ∙ sym (past n look c [] (omega arith) ∙ append-nil (loose c look))
 
       go : loose c new ≡ without n (loose c look) → (v : Bool) → eqb c n ≡ v → loose c new ++ cond (is_loose (new c)) (c ∷ []) [] ≡ without n (loose c look ++ cond (is_loose (look c)) (c ∷ []) [])
       go r true e =

@@ -1,11 +1,6 @@
 -- What the rows say after a write, and after a push.
-use Rattle.std.proofs.Common.{◌≡◌, ◌≢◌, ℕ, zero, suc, ◌<◌, Bool, true, false, eqb, cond, List, [], ◌∷◌, ◌++◌, Some, length, get_or, set, refl, sym, ◌∙◌, ap, arith}
+use Rattle.hnodes.proofs.Names.{◌≡◌, ◌≢◌, ℕ, zero, suc, ◌<◌, Bool, true, false, eqb, cond, List, [], ◌∷◌, ◌++◌, Some, length, get_or, set, refl, sym, ◌∙◌, ap, arith, eqb-true, eqb-false, option_map, Row, at_row, row_of, look_in, IsChanged, Node}
 use Rattle.std.proofs.lemmas.List.{length-set}
-use Rattle.std.proofs.lemmas.Bool.{eqb-true, eqb-false}
-use Rattle.std.specs.Option.{option_map}
-use Rattle.hnodes.specs.Links.{Row, at_row}
-use Rattle.hnodes.specs.Rows.{row_of, look_in, IsChanged}
-use Rattle.hnodes.specs.declared.node.Node.{Node}
 
 look_in-other : (xs : List Node) (k : ℕ) (y : Node) (n : ℕ) → n ≢ k → look_in (set xs k y) n ≡ look_in xs n
 look_in-other [] k y n h = refl

@@ -1,12 +1,10 @@
 -- Characters that are put one by one make one text.
-use Rattle.std.proofs.Common.{◌≡◌, ℕ, ◌+◌, ◌<◌, length, Bool, true, false, eqb, cond, List, [], ◌∷◌, ◌++◌, Some, None, refl, sym, ◌∙◌, ap, arith, append_assoc, append-nil}
+use Rattle.hnodes.proofs.Names.{◌≡◌, ℕ, ◌+◌, ◌<◌, length, Bool, true, false, eqb, cond, List, [], ◌∷◌, ◌++◌, Some, None, refl, sym, ◌∙◌, ap, arith, encode_utf8, What, document, doctype, element, comment, text, Forest, none, tree, join, change_what, Nodes, AreNodes, with_text, with_char, graft, IsPlace, text_before, char_into, Place}
+use Rattle.std.proofs.Common.{append_assoc, append-nil}
 use Rattle.std.proofs.lemmas.List.{nil_from_length}
 use Rattle.std.proofs.lemmas.Str.{chars-nil, encodes-chars}
 use Rattle.std.specs.Str.{chars, encode_utf8_all, IsUtf8}
-use Rattle.std.specs.Char.{encode_utf8}
-use Rattle.hnodes.specs.Forest.{What, document, doctype, element, comment, text, Forest, none, tree, join, change_what}
-use Rattle.hnodes.specs.Edits.{Nodes, AreNodes, with_text, with_char, graft, IsPlace, text_before, char_into, add_char, add_chars}
-use Rattle.hnodes.specs.declared.node.Place.{Place}
+use Rattle.hnodes.specs.Edits.{add_char, add_chars}
 use Rattle.hnodes.proofs.Counted.{not-there}
 use Rattle.hnodes.proofs.Respots.{IsTextBefore, is-text_before, text_before-is, text_before-longer}
 use Rattle.hnodes.proofs.Placed.{placed, graft-made, placed-text, what-placed}

@@ -1,10 +1,6 @@
 -- A walk over siblings.
-use Rattle.std.proofs.Common.{◌≡◌, ℕ, ◌<◌, ◌∷◌, Some, None, refl, sym, ◌∙◌, ap, arith, option_and_then, ◌⊎◌, inl, inr}
-use Rattle.std.proofs.lemmas.Bool.{eq-eqb}
-use Rattle.hnodes.specs.Forest.{What, Forest, none, tree, roots, times, join, children_of}
-use Rattle.hnodes.specs.Spots.{Spot, spot_of, first_or, first_child_of, next_of}
-use Rattle.hnodes.specs.Edits.{AreCounted}
-use Rattle.hnodes.specs.Passed.{following, siblings_from}
+use Rattle.hnodes.proofs.Names.{◌≡◌, ℕ, ◌<◌, ◌∷◌, Some, None, refl, sym, ◌∙◌, ap, arith, option_and_then, ◌⊎◌, inl, inr, eq-eqb, What, Forest, none, tree, roots, times, join, children_of, Spot, spot_of, first_or, first_child_of, next_of, AreCounted, siblings_from}
+use Rattle.hnodes.specs.Passed.{following}
 use Rattle.hnodes.proofs.Forests.{times-join, join-assoc}
 use Rattle.hnodes.proofs.Levels.{level, Here, Below}
 use Rattle.hnodes.proofs.Families.{first_child-is, children-among}

@@ -1,14 +1,7 @@
 -- A forest under other names.
-use Rattle.std.proofs.Common.{◌≡◌, ℕ, ◌+◌, Bool, true, false, eqb, cond, [], ◌∷◌, map, Option, Some, None, refl, sym, ◌∙◌, ap, option_and_then}
-use Rattle.std.proofs.lemmas.List.{map-append}
-use Rattle.std.specs.Option.{option_map}
-use Rattle.std.specs.Char.{encode_utf8}
-use Rattle.hnodes.specs.Forest.{Attribute, What, document, doctype, element, comment, text, Forest, none, tree, join, tree_at, cut, children_of, change_children, change_what, put_before}
-use Rattle.hnodes.specs.Spots.{Spot, first_or, last_or, spot_below, spot_of, either_of, parent_of, last_child_of, previous_of, what_of, kind_in, name_in, attributes_in, text_in, doctype_in}
-use Rattle.hnodes.specs.Edits.{Nodes, graft, graft_last, graft_before, move_all, with_attribute, with_char, before_place, if_text, text_before, char_into}
+use Rattle.hnodes.proofs.Names.{◌≡◌, ℕ, ◌+◌, Bool, true, false, eqb, cond, [], ◌∷◌, map, Option, Some, None, refl, sym, ◌∙◌, ap, option_and_then, map-append, option_map, encode_utf8, Attribute, What, document, doctype, element, comment, text, Forest, none, tree, join, tree_at, cut, children_of, change_children, change_what, put_before, Spot, first_or, last_or, spot_below, spot_of, either_of, parent_of, last_child_of, previous_of, what_of, kind_in, name_in, attributes_in, text_in, doctype_in, Nodes, graft, graft_last, graft_before, move_all, with_attribute, with_char, before_place, if_text, text_before, char_into, Place, LastIn, Before}
+use Rattle.std.proofs.lemmas.Iterator.Adapters.{option_map_id}
 use Rattle.hnodes.specs.Spelled.{spelled_attribute, spelled_what, spelled, spelled_nodes, spelled_spot, EditsKnowNoNames, QuestionsKnowNoNames}
-use Rattle.hnodes.specs.declared.node.Place.{Place}
-use Rattle.hnodes.specs.declared.node.Place.TheVariants.{LastIn, Before}
 
 module _ {N M : Type 0} (g : N → M) where
   spelled-join : (f h : Forest N) → spelled g (join f h) ≡ join (spelled g f) (spelled g h)
@@ -127,10 +120,6 @@ module _ {N M : Type 0} (g : N → M) where
       go None = refl
       go (Some w) = same w
 
-  option_map-id : {A : Type 0} (o : Option A) → option_map (λ a. a) o ≡ o
-  option_map-id None = refl
-  option_map-id (Some a) = refl
-
   spelled-kind : (w : What N) → kind_in (spelled_what g w) ≡ kind_in w
   spelled-kind document = refl
   spelled-kind (doctype n p s) = refl
@@ -185,8 +174,8 @@ module _ {N M : Type 0} (g : N → M) where
     kind = λ n f. (ap (option_map kind_in) (spelled-what_of n f) ∙ kinds (what_of n f));
     name = λ n f. asked-what name_in name_in g spelled-name n f;
     attrs = λ n f. asked-what attributes_in attributes_in (map (spelled_attribute g)) spelled-attributes n f;
-    text = λ n f. (asked-what text_in text_in (λ a. a) spelled-text n f ∙ option_map-id (option_and_then text_in (what_of n f)));
-    doctype = λ n f. (asked-what doctype_in doctype_in (λ a. a) spelled-doctype n f ∙ option_map-id (option_and_then doctype_in (what_of n f)));
+    text = λ n f. (asked-what text_in text_in (λ a. a) spelled-text n f ∙ option_map_id (option_and_then text_in (what_of n f)));
+    doctype = λ n f. (asked-what doctype_in doctype_in (λ a. a) spelled-doctype n f ∙ option_map_id (option_and_then doctype_in (what_of n f)));
   }
     where
       kinds : (o : Option (What N)) → option_map kind_in (option_map (spelled_what g) o) ≡ option_map kind_in o

@@ -1,10 +1,5 @@
 -- What comes of new links between two neighbours below a node.
-use Rattle.std.proofs.Common.{◌≡◌, ◌≢◌, ℕ, ◌+◌, ◌<◌, ◌≤◌, Option, Some, None, refl, sym, ◌∙◌, ap, subst, arith}
-use Rattle.std.proofs.lemmas.Bool.{eq-eqb, ne_eqb}
-use Rattle.std.specs.Option.{option_map}
-use Rattle.hnodes.specs.Forest.{Forest, none, tree, times}
-use Rattle.hnodes.specs.Spots.{first_or, last_or}
-use Rattle.hnodes.specs.Links.{Row, Look, Linked, at_row, after_link, before_link, spliced, with_first, with_last, with_next, with_previous, with_ends}
+use Rattle.hnodes.proofs.Names.{◌≡◌, ◌≢◌, ℕ, ◌+◌, ◌<◌, ◌≤◌, Option, Some, None, refl, sym, ◌∙◌, ap, subst, arith, eq-eqb, ne_eqb, option_map, Forest, none, tree, times, first_or, last_or, Row, Look, Linked, at_row, after_link, before_link, spliced, with_first, with_last, with_next, with_previous, with_ends}
 use Rattle.hnodes.proofs.Linked.{Linked-end, Linked-begin, last-among, first-among}
 
 module _ {N : Type 0} where

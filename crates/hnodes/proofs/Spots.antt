@@ -1,10 +1,5 @@
 -- The row of a node is that of its place.
-use Rattle.std.proofs.Common.{◌≡◌, ℕ, zero, suc, ◌+◌, Bool, true, false, eqb, cond, Option, Some, None, refl, arith}
-use Rattle.std.proofs.lemmas.Bool.{eqb-true}
-use Rattle.std.specs.Option.{option_map}
-use Rattle.hnodes.specs.Forest.{Forest, none, tree, times}
-use Rattle.hnodes.specs.Spots.{spot_below, spot_of, either_of}
-use Rattle.hnodes.specs.Links.{Look, Linked, Loose, row_at}
+use Rattle.hnodes.proofs.Names.{◌≡◌, ℕ, zero, suc, ◌+◌, Bool, true, false, eqb, cond, Option, Some, None, refl, arith, eqb-true, option_map, Forest, none, tree, times, spot_below, spot_of, either_of, Look, Linked, Loose, row_at}
 
 pub either-none : {A : Type 0} → (o : Option A) → either_of o None ≡ o
 either-none None = refl

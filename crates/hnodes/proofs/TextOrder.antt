@@ -1,13 +1,7 @@
 -- The nodes and the texts in tree order.
-use Rattle.std.proofs.Common.{◌≡◌, ℕ, ◌<◌, List, [], ◌++◌, refl, sym, ◌∙◌, ap, unwrap_or}
+use Rattle.hnodes.proofs.Names.{◌≡◌, ℕ, ◌<◌, List, [], ◌++◌, refl, sym, ◌∙◌, ap, unwrap_or, All-nil, All-cons, flat_map, All, option_map, Forest, none, tree, join, children_of, what_of, AreCounted, order, own_text, texts}
 use Rattle.std.proofs.lemmas.Grind.{flat_map-append}
-use Rattle.std.proofs.lemmas.List.Elements.{All-nil, All-cons, All-append}
-use Rattle.std.specs.List.{flat_map, All}
-use Rattle.std.specs.Option.{option_map}
-use Rattle.hnodes.specs.Forest.{Forest, none, tree, join, children_of}
-use Rattle.hnodes.specs.Spots.{what_of}
-use Rattle.hnodes.specs.Edits.{AreCounted}
-use Rattle.hnodes.specs.Passed.{order, own_text, texts}
+use Rattle.std.proofs.lemmas.List.Elements.{All-append}
 use Rattle.hnodes.proofs.Forests.{join-assoc}
 use Rattle.hnodes.proofs.TreeOrder.{Entered, entered}
 

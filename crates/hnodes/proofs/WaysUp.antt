@@ -1,10 +1,5 @@
 -- From a node to its parent, and so on.
-use Rattle.std.proofs.Common.{◌≡◌, ℕ, ◌+◌, ◌<◌, Bool, true, false, eqb, cond, List, [], ◌∷◌, Some, None, refl, sym, ◌∙◌, ap, arith, option_and_then, unwrap_or, ◌⊎◌, inl, inr}
-use Rattle.std.proofs.lemmas.Bool.{eqb-true, eq-eqb}
-use Rattle.hnodes.specs.Forest.{What, Forest, none, tree, times, join, children_of}
-use Rattle.hnodes.specs.Spots.{Spot, either_of, parent_of}
-use Rattle.hnodes.specs.Edits.{AreCounted}
-use Rattle.hnodes.specs.Passed.{above, ancestors_of, way_up}
+use Rattle.hnodes.proofs.Names.{◌≡◌, ℕ, ◌+◌, ◌<◌, Bool, true, false, eqb, cond, List, [], ◌∷◌, Some, None, refl, sym, ◌∙◌, ap, arith, option_and_then, unwrap_or, ◌⊎◌, inl, inr, eqb-true, eq-eqb, What, Forest, none, tree, times, join, children_of, Spot, either_of, parent_of, AreCounted, above, ancestors_of, way_up}
 use Rattle.hnodes.proofs.Levels.{level, Here, Below}
 use Rattle.hnodes.proofs.Counted.{at-most, is-there}
 use Rattle.hnodes.proofs.ChildSpots.{Child, of_root, of_kids, of_rest, child, left-apart, child-spot, root-spot}

@@ -1,9 +1,5 @@
 -- A node becomes something else, and is where it was.
-use Rattle.std.proofs.Common.{◌≡◌, ℕ, Bool, true, false, eqb, cond, ◌∷◌, Option, Some, None, refl, sym, ◌∙◌, ap, arith}
-use Rattle.std.specs.Option.{option_map}
-use Rattle.hnodes.specs.Forest.{What, document, Forest, none, tree, roots, size, times, change_what}
-use Rattle.hnodes.specs.Spots.{first_or, last_or}
-use Rattle.hnodes.specs.Links.{Row, Look, Linked, Loose, StandsIn, standing, is_loose, at_row, with_what}
+use Rattle.hnodes.proofs.Names.{◌≡◌, ℕ, Bool, true, false, eqb, cond, ◌∷◌, Option, Some, None, refl, sym, ◌∙◌, ap, arith, option_map, What, document, Forest, none, tree, roots, size, times, change_what, first_or, last_or, Row, Look, Linked, Loose, StandsIn, standing, is_loose, at_row, with_what}
 use Rattle.hnodes.proofs.Linked.{Loose-agree}
 use Rattle.hnodes.proofs.Roots.{loose-same}
 

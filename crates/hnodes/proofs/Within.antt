@@ -1,8 +1,5 @@
 -- Links are to nodes that are there.
-use Rattle.std.proofs.Common.{◌≡◌, ℕ, suc, ◌<◌, ◌≤◌, Bool, true, false, ltb, cond, Some, None, refl, sym, ◌∙◌, ap, subst, arith, ◌⊎◌, inl, inr}
-use Rattle.std.proofs.lemmas.Bool.{le-leb, lt-leb, cases_lt}
-use Rattle.hnodes.specs.Forest.{Forest, times, children_of}
-use Rattle.hnodes.specs.Links.{Look, Loose, StandsIn, parent_in, previous_in, next_in, first_in, last_in}
+use Rattle.hnodes.proofs.Names.{◌≡◌, ℕ, suc, ◌<◌, ◌≤◌, Bool, true, false, ltb, cond, Some, None, refl, sym, ◌∙◌, ap, subst, arith, ◌⊎◌, inl, inr, le-leb, lt-leb, cases_lt, Forest, times, children_of, Look, Loose, StandsIn, parent_in, previous_in, next_in, first_in, last_in}
 use Rattle.hnodes.proofs.Forests.{some_inj, times-emptied}
 use Rattle.hnodes.proofs.Linked.{last-among, first-among}
 use Rattle.hnodes.proofs.Levels.{level, Here, Below}

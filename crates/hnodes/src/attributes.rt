@@ -13,6 +13,9 @@ use std::alloc::{AllocError, Global};
 use std::marker::Model;
 use std::mem;
 
+/// So many attributes are looked at one by one; the names of more are numbered or sorted.
+pub const FEW_ATTRIBUTES: usize = 16;
+
 /// Attributes, whether their names differ, and the numbers of the names of the first of them, by which one is found in about
 /// constant time. The names that came since are taken into the index before the next attribute is sought.
 #[derive(Drop)]

@@ -1,4 +1,4 @@
-//! Laws of the definitions.
+//! Laws of the tree: its edits, and what is asked of its nodes, are the same under any names that the numbers stand for.
 
 ghost use Rattle.std.specs.Prelude.{ℕ, List};
 ghost use Rattle.hnodes.specs.Spelled.{EditsKnowNoNames, QuestionsKnowNoNames};

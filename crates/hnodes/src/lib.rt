@@ -10,7 +10,7 @@ mod shared;
 mod tree;
 mod walks;
 
-pub use attributes::{index_attrs, name_number};
+pub use attributes::{FEW_ATTRIBUTES, index_attrs, name_number};
 pub use elements::ChildElements;
 pub use laws::{edits_know_no_names, questions_know_no_names};
 pub use node::{DocumentType, NodeId, NodeKind, Place};

@@ -6,7 +6,7 @@ ghost use Rattle.hnodes.specs.Forest.{element, text};
 ghost use Rattle.hnodes.specs.Links.{alone, with_what};
 ghost use Rattle.hnodes.specs.Rows.{attribute_of, content_is, row_of, IsChanged, IsUnchanged};
 
-use crate::attributes::Indexed;
+use crate::attributes::{FEW_ATTRIBUTES, Indexed};
 use crate::shared::Attributes;
 use arrayvec::ArrayString;
 use names::{Attr, NameId, Refusal};
@@ -65,9 +65,6 @@ pub struct DocumentType {
     pub system_id: String,
 }
 
-/// An element that has more attributes than these is wide.
-const FEW: usize = 16;
-
 /// A text of at most this many bytes is kept in its node.
 const SHORT: usize = 16;
 
@@ -77,7 +74,7 @@ pub(crate) enum NodeData {
     Document,
     Doctype(Box<DocumentType>),
     Element(NameId, Vec<Attr>),
-    /// An element that had more than `FEW` attributes when it was made, or when it got others.
+    /// An element that had more than `FEW_ATTRIBUTES` when it was made, or when it got others.
     Wide(NameId, Box<Indexed>),
     /// An element that was made with attributes that others may have too.
     Shared(NameId, Attributes),
@@ -341,7 +338,7 @@ fn widen_content(content: &mut NodeData, alloc: Global) -> Result<(), AllocError
     let NodeData::Element(name, attrs) = content else {
         return Ok(());
     };
-    if attrs.len() <= FEW {
+    if attrs.len() <= FEW_ATTRIBUTES {
         return Ok(());
     }
     let name = *name;

@@ -4,14 +4,11 @@ ghost use Rattle.std.specs.Prelude.{◌≡◌, ◌++◌, ◌∷◌, [], IfOk, ma
 ghost use Rattle.hnodes.specs.Differing.{names_differ};
 ghost use Rattle.hnodes.specs.Rows.{attribute_of};
 
-use crate::attributes::{few_differ, many_differ};
+use crate::attributes::{FEW_ATTRIBUTES, few_differ, many_differ};
 use names::Attr;
 use std::alloc::{AllocError, Global};
 use std::marker::Model;
 use std::rc::Rc;
-
-/// The names of so many attributes are compared one by one.
-const FEW: usize = 16;
 
 /// A list of attributes that is stored once, however many share it. An empty one takes no memory of its own.
 #[derive(Debug, Drop)]
@@ -41,7 +38,7 @@ impl Model for Attributes {
 fn do_differ(attrs: &[Attr], alloc: Global) -> Result<bool, AllocError>
     ensures { IfOk result (λ differ. differ ≡ names_differ nat_eq (map attribute_of attrs.now)) }
 {
-    if attrs.len() <= FEW {
+    if attrs.len() <= FEW_ATTRIBUTES {
         return Ok(few_differ(attrs));
     }
     many_differ(attrs, alloc)

@@ -1,22 +1,9 @@
 -- How a front of bytes is read, and the bytes after it.
-use Rattle.std.proofs.Common.{◌≡◌, ℕ, zero, suc, ◌<◌, ◌≤◌, ◌+◌, ◌-◌, Bool, true, false, List, [], ◌∷◌, ◌++◌, length, map, take, drop, sym, refl, ap, ◌∙◌, subst, arith, append_assoc, append-nil, None, Some, Result, Ok, Err}
-use Rattle.std.proofs.lemmas.List.{drop_at, take_at, take-append-le, drop-append-le, length-append, length-take-le, take-append-drop, length-drop, drop-drop, take_all}
-use Rattle.std.proofs.lemmas.Str.{IsUtf8-nil}
-use Rattle.std.specs.Str.{chars, IsUtf8}
-use Rattle.std.specs.Str.Lossy.{utf8_valid_len, utf8_error_len, utf8_invalid_len}
-use Rattle.names.specs.Placed.{placed}
-use Rattle.names.specs.Sink.{Hands}
-use Rattle.names.specs.declared.refusal.Refusal.{Refusal}
-use Rattle.htext.specs.declared.Bom.{Bom}
-use Rattle.htext.specs.declared.BadBytes.{BadBytes}
-use Rattle.htext.specs.declared.BadBytes.TheVariants.{Refuse, Replace}
-use Rattle.htext.specs.declared.progress.Front.{Front}
-use Rattle.htext.specs.declared.progress.Front.TheVariants.{Bad as NextBad, Waits, Refused}
-use Rattle.htext.specs.Next.{next_of, AreBad, AreReplaced}
-use Rattle.htext.specs.Text.{Policy, Read, Whole, Bad, reads, normalized, ends_in_return, text as text_of, valid_len, front_len, decoded, settled, refusal_of, reads_at}
-use Rattle.htext.specs.Items.{CharItem, items, bad_each}
-use Rattle.htext.specs.Decoding.{HasRead, IsReading, IsRefusedFrom, IsUndecided, HandsOn, Feeds, sink_refused, took_all, Stops, by_sink, by_bytes}
-use Rattle.htext.proofs.Valid.{take-take, valid_front, valid_len_le, valid_front_utf8, length-valid_front, valid_len-append}
+use Rattle.htext.proofs.Names.{◌≡◌, ℕ, zero, suc, ◌<◌, ◌≤◌, ◌+◌, ◌-◌, Bool, true, false, List, [], ◌∷◌, ◌++◌, length, map, take, drop, sym, refl, ap, ◌∙◌, subst, arith, append_assoc, append-nil, None, Some, Result, Ok, Err, drop_at, take_at, take-take, take-append-le, length-append, length-take-le, take-append-drop, length-drop, drop-drop, take_all, IsUtf8-nil, chars, IsUtf8, utf8_valid_len, utf8_error_len, utf8_invalid_len, placed, Hands, Refusal, Bom, BadBytes, Refuse, Replace, Front, NextBad, Waits, Refused, next_of, AreBad, Policy, Read, Whole, Bad, reads, normalized, ends_in_return, text_of, valid_len, front_len, decoded, settled, refusal_of, reads_at, CharItem, items, bad_each, HasRead, IsReading, IsRefusedFrom, IsUndecided, HandsOn, Feeds, sink_refused, took_all}
+use Rattle.std.proofs.lemmas.List.{drop-append-le}
+use Rattle.htext.specs.Next.{AreReplaced}
+use Rattle.htext.specs.Decoding.{Stops, by_sink, by_bytes}
+use Rattle.htext.proofs.Valid.{valid_front, valid_len_le, valid_front_utf8, length-valid_front, valid_len-append}
 use Rattle.htext.proofs.Parts.{reads_nil, reads_of_text, reads_after_bad}
 use Rattle.htext.proofs.Errors.{error_bounds, error_cut}
 use Rattle.htext.proofs.Fronts.{IsFront, front_more, front_is, front_past, front_le, reads_past, cut_none, text_more, part_more, undecided_bad}

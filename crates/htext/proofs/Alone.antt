@@ -1,15 +1,7 @@
 -- Bytes that are bad parts by themselves.
-use Rattle.std.proofs.Common.{◌≡◌, ℕ, zero, suc, ◌<◌, ◌≤◌, ◌+◌, ◌/◌, ◌%◌, Bool, true, false, List, [], ◌∷◌, ◌++◌, length, drop, slice_index_or, sym, refl, ap, ◌∙◌, subst, arith, inl, inr, None, Some}
-use Rattle.std.specs.Prelude.{◌↔◌, not, IsTrue}
-use Rattle.std.specs.Int.{is_in_range}
-use Rattle.std.proofs.lemmas.Bool.{cases_lt}
-use Rattle.std.proofs.lemmas.List.{drop-drop}
-use Rattle.std.proofs.lemmas.Str.{encode_ascii}
-use Rattle.std.proofs.Math.Utf8.{low_scalar}
-use Rattle.std.specs.Str.Lossy.{utf8_valid_len, utf8_error_len, second_byte_min, second_byte_max}
-use Rattle.std.specs.Char.{IsScalar, encode_utf8}
-use Rattle.htext.specs.Text.{BeginsNoCharacter}
-use Rattle.htext.specs.Next.{AreBad, IsBadAlone}
+use Rattle.htext.proofs.Names.{◌≡◌, ℕ, zero, suc, ◌<◌, ◌≤◌, ◌+◌, ◌/◌, ◌%◌, Bool, true, false, List, [], ◌∷◌, ◌++◌, length, drop, sym, refl, ap, ◌∙◌, subst, arith, inl, inr, None, Some, ◌↔◌, is_in_range, cases_lt, drop-drop, encode_ascii, low_scalar, utf8_valid_len, utf8_error_len, second_byte_min, second_byte_max, IsScalar, encode_utf8, BeginsNoCharacter, AreBad, IsBadAlone}
+use Rattle.std.proofs.Common.{slice_index_or}
+use Rattle.std.specs.Prelude.{not, IsTrue}
 use Rattle.htext.proofs.Valid.{starts_back, none_valid}
 use Rattle.htext.proofs.Errors.{error_first, error_second, error_follows}
 use Rattle.htext.proofs.Beginnings.{MayFollow, follows_tested, two_bytes, three_bytes, four_bytes, second_of_two, second_of_three, second_of_four, below_all, in_range, from_range, one_open}

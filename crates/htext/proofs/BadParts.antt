@@ -1,14 +1,6 @@
 -- The bad part at the front of bytes.
-use Rattle.std.proofs.Common.{◌≡◌, ℕ, ◌<◌, ◌≤◌, ◌+◌, Bool, true, false, cond, List, [], ◌∷◌, ◌++◌, length, map, take, drop, sym, refl, ap, ◌∙◌, subst, arith, inl, inr, append-nil, Option, None, Some}
-use Rattle.std.specs.Prelude.{◌⊎◌, ◌↔◌, nat_lt}
-use Rattle.std.proofs.lemmas.Bool.{cases_lt}
-use Rattle.std.proofs.lemmas.Bool.Decides.{nat_tests}
-use Rattle.std.proofs.lemmas.List.{take_all, take-append-drop, length-take-le}
-use Rattle.std.specs.Option.{unwrap_or}
-use Rattle.std.specs.Str.{chars, IsUtf8}
-use Rattle.std.specs.Str.Lossy.{utf8_valid_len, utf8_error_len, utf8_invalid_len}
-use Rattle.names.specs.Placed.{placed}
-use Rattle.htext.specs.Text.{Read, Whole, Bad, reads_at, or_rest, bad_len, BeginsNoCharacter, BeginsCharacter, IsBadPart}
+use Rattle.htext.proofs.Names.{◌≡◌, ℕ, ◌<◌, ◌≤◌, ◌+◌, Bool, true, false, cond, List, [], ◌∷◌, ◌++◌, length, map, take, drop, sym, refl, ap, ◌∙◌, subst, arith, inl, inr, append-nil, Option, None, Some, ◌⊎◌, ◌↔◌, nat_lt, cases_lt, nat_tests, take_all, take-append-drop, length-take-le, unwrap_or, chars, IsUtf8, utf8_valid_len, utf8_error_len, utf8_invalid_len, some_same, placed, Read, Whole, Bad, reads_at, or_rest, bad_len, BeginsNoCharacter, BeginsCharacter}
+use Rattle.htext.specs.Text.{IsBadPart}
 use Rattle.htext.proofs.Valid.{starts_back, none_valid}
 use Rattle.htext.proofs.Errors.{error_bounds, error_short, error_more, error_open}
 use Rattle.htext.proofs.Beginnings.{front_of, completed, none_after, under_limit}
@@ -19,9 +11,6 @@ use Rattle.htext.proofs.Refusals.{last_part}
 no_character : (bytes : List ℕ) → utf8_valid_len bytes ≡ 0 → BeginsNoCharacter bytes
 no_character bytes none = λ ch more scalar is. let begun : 0 < utf8_valid_len bytes = starts_back bytes more ch scalar is in omega (arith, begun, none)
 
-length_is : (m n : ℕ) → Some m ≡ Some n → m ≡ n
-length_is m n e = cc
-
 -- it begins a character, or is one byte
 begins_by : (o : Option ℕ) (bytes : List ℕ) (n : ℕ) → utf8_error_len (take n bytes) ≡ o → utf8_valid_len bytes ≡ 0 → utf8_error_len bytes ≡ Some n → (n ≡ 1) ⊎ BeginsCharacter (take n bytes)
 begins_by None bytes n e none bad =
@@ -29,7 +18,7 @@ begins_by None bytes n e none bad =
     inr (completed (take n bytes) (omega (arith, b.0, length-take-le n bytes b.1)) (under_limit n bytes none) e)
 begins_by (Some k) bytes n e none bad =
     let whole : utf8_error_len bytes ≡ Some k = ap utf8_error_len (sym (take-append-drop n bytes)) ∙ error_more (take n bytes) (drop n bytes) k e in
-    let same : k ≡ n = length_is k n (sym whole ∙ bad) in
+    let same : k ≡ n = some_same k n (sym whole ∙ bad) in
     elim (error_short (take n bytes) k e) [
       | inl one ↦ inl (sym same ∙ one)
       | inr less ↦ absurd (omega (arith, less, same, length-take-le n bytes (error_bounds bytes n bad).1))
@@ -95,7 +84,7 @@ at_end bytes n = (
   λ h.
       let none : utf8_valid_len bytes ≡ 0 = no_valid (nat_lt 0 (utf8_valid_len bytes)) bytes (or_rest true bytes (utf8_error_len bytes)) n refl h in
       let some : 0 < length bytes = omega (arith, bad_bounds true bytes n h) in
-      let is : utf8_invalid_len bytes ≡ n = length_is _ n (sym (last_part bytes none some) ∙ h) in
+      let is : utf8_invalid_len bytes ≡ n = some_same _ n (sym (last_part bytes none some) ∙ h) in
       subst (IsBadPart bytes) is (part_by (utf8_error_len bytes) bytes refl none some),
   λ h. last_part bytes (none_valid bytes h.none) (omega (arith, h.some, h.within)) ∙ ap Some (invalid_is bytes n h),
 )

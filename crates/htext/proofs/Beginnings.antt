@@ -1,13 +1,6 @@
 -- Bytes that may still become a character, and bytes that no more can.
-use Rattle.std.proofs.Common.{◌≡◌, ℕ, ◌<◌, ◌≤◌, ◌+◌, ◌-◌, ◌*◌, ◌/◌, ◌%◌, Bool, true, false, cond, eqb, List, [], ◌∷◌, ◌++◌, length, take, drop, sym, refl, ap, ◌∙◌, subst, arith, inl, inr, append_assoc, Option, None, Some}
-use Rattle.std.specs.Int.{is_in_range}
-use Rattle.std.proofs.lemmas.Bool.Decides.{nat_tests}
-use Rattle.std.proofs.lemmas.Bool.{cases_lt, cases_eq, lt-ltb, le-ltb, le-leb, leb-true, eqb-true, and_parts}
-use Rattle.std.proofs.lemmas.List.{take_at, take-append-drop, take-append-le}
-use Rattle.std.proofs.Math.Utf8.{scalar_cases, low_scalar}
-use Rattle.std.specs.Str.Lossy.{utf8_valid_len, utf8_error_len, second_byte_min, second_byte_max}
-use Rattle.std.specs.Char.{IsScalar, encode_utf8}
-use Rattle.htext.specs.Text.{valid_len, BeginsCharacter}
+use Rattle.htext.proofs.Names.{◌≡◌, ℕ, ◌<◌, ◌≤◌, ◌+◌, ◌-◌, ◌*◌, ◌/◌, ◌%◌, Bool, true, false, cond, eqb, List, [], ◌∷◌, ◌++◌, length, take, drop, sym, refl, ap, ◌∙◌, subst, arith, inl, inr, append_assoc, Option, None, Some, is_in_range, nat_tests, cases_lt, cases_eq, lt-ltb, le-ltb, le-leb, leb-true, eqb-true, and_parts, take_at, take-append-drop, take-append-le, low_scalar, utf8_valid_len, utf8_error_len, second_byte_min, second_byte_max, IsScalar, encode_utf8, valid_len, BeginsCharacter}
+use Rattle.std.proofs.Math.Utf8.{scalar_cases}
 use Rattle.htext.proofs.Valid.{starts, starts_back}
 
 pub in_range : (low high c : ℕ) → low ≤ c → c ≤ high → is_in_range low high c ≡ true

@@ -1,16 +1,7 @@
 -- Where a text is cut by the count of bytes that pass a test.
-use Rattle.std.proofs.Common.{◌≡◌, ℕ, ◌<◌, ◌≤◌, ◌+◌, zero, suc, Bool, true, false, not, cond, List, [], ◌∷◌, ◌++◌, length, take, drop, sym, refl, ap, ◌∙◌, subst, arith, append_assoc, inl, inr}
-use Rattle.std.specs.Prelude.{encode_utf8_all}
-use Rattle.std.specs.List.{list_all, prefix_len}
-use Rattle.std.proofs.lemmas.Bool.{and_parts, and_from, cases_lt, not-true}
-use Rattle.std.proofs.lemmas.Bool.Decides.{nat_tests}
-use Rattle.std.proofs.lemmas.List.{take_at, drop_at, take-append-drop, length-append}
-use Rattle.std.proofs.lemmas.List.Folds.{list_all-append}
-use Rattle.std.proofs.lemmas.Str.{chars-encodes, encodes-chars, chars-nil, encode_ascii, IsUtf8-nil}
-use Rattle.std.specs.Str.{all_scalars as scalars}
-use Rattle.std.specs.Str.{chars, IsUtf8}
-use Rattle.std.specs.Char.{encode_utf8}
-use Rattle.htext.specs.Run.{is_plain_byte, is_plain, is_clean, is_clean_byte, is_text_byte, is_inner_byte, IsCut, IsCleanFront}
+use Rattle.htext.proofs.Names.{◌≡◌, ℕ, ◌<◌, ◌≤◌, ◌+◌, zero, suc, Bool, true, false, not, cond, List, [], ◌∷◌, ◌++◌, length, take, drop, sym, refl, ap, ◌∙◌, subst, arith, inl, inr, encode_utf8_all, list_all, prefix_len, and_parts, and_from, cases_lt, nat_tests, take_at, drop_at, take-append-drop, length-append, list_all-append, encodes-chars, chars-nil, encode_ascii, IsUtf8-nil, scalars, chars, IsUtf8, encode_utf8, is_plain_byte, is_plain, is_clean, is_clean_byte, is_text_byte, is_inner_byte, IsCut, IsCleanFront}
+use Rattle.std.proofs.lemmas.Bool.{not-true}
+use Rattle.std.proofs.lemmas.Str.{chars-encodes, encodes-append}
 use Rattle.htext.proofs.Plain.{BeginsOutside, clean_bytes, other_bytes, long_bytes, begins_anew, plain_of_text, plain_of_inner}
 use Rattle.htext.proofs.Runs.{counted, plain_bytes}
 use Rattle.htext.proofs.Wide.{chars_cut}
@@ -19,10 +10,6 @@ take_scalars : (n : ℕ) (cs : List ℕ) → scalars cs ≡ true → (scalars (t
 take_scalars zero cs s = (refl, s)
 take_scalars (suc n) [] s = (refl, refl)
 take_scalars (suc n) (c ∷ cs) s = let k = and_parts _ (scalars cs) s in let more = take_scalars n cs k.1 in (and_from _ _ k.0 more.0, more.1)
-
-encodes_both : (xs ys : List ℕ) → encode_utf8_all (xs ++ ys) ≡ encode_utf8_all xs ++ encode_utf8_all ys
-encodes_both [] ys = refl
-encodes_both (x ∷ xs) ys = ap (λ (l : List ℕ). encode_utf8 x ++ l) (encodes_both xs ys) ∙ sym (append_assoc (encode_utf8 x) (encode_utf8_all xs) (encode_utf8_all ys))
 
 through : (test : ℕ → Bool) (xs ys : List ℕ) → list_all test xs ≡ true → prefix_len test (xs ++ ys) ≡ length xs + prefix_len test ys
 through test [] ys h = omega arith
@@ -68,7 +55,7 @@ module _ (test byte_test : ℕ → Bool) (inside : (c : ℕ) → test c ≡ true
       let cs : List ℕ = u.0 in
       let k : ℕ = prefix_len test cs in
       let parts = take_scalars k cs u.1.0 in
-      let both : encode_utf8_all (take k cs) ++ encode_utf8_all (drop k cs) ≡ encode_utf8_all cs = sym (encodes_both (take k cs) (drop k cs)) ∙ ap encode_utf8_all (take-append-drop k cs) in
+      let both : encode_utf8_all (take k cs) ++ encode_utf8_all (drop k cs) ≡ encode_utf8_all cs = sym (encodes-append (take k cs) (drop k cs)) ∙ ap encode_utf8_all (take-append-drop k cs) in
       subst (λ (l : List ℕ). IsFront (prefix_len byte_test l) l) (both ∙ u.1.1)
       (cut_characters (take k cs) (drop k cs) _ parts.0 parts.1 (ap (prefix_len byte_test) both ∙ counts cs) (counted test cs))
 

@@ -1,22 +1,8 @@
 -- When bytes are refused whatever comes after them.
-use Rattle.std.proofs.Common.{◌≡◌, ℕ, ◌<◌, ◌≤◌, ◌+◌, ◌-◌, Bool, false, cond, eqb, List, [], ◌∷◌, ◌++◌, length, take, drop, sym, refl, ap, ◌∙◌, arith, inl, inr, append_assoc, append-nil, Option, None, Some}
-use Rattle.std.proofs.lemmas.Bool.{cases_lt, lt-ltb, le-ltb}
-use Rattle.std.proofs.lemmas.Bool.Decides.{nat_tests}
-use Rattle.std.proofs.lemmas.List.{length-append, length-take, take-append-drop, take_at, nil_from_length}
-use Rattle.std.proofs.lemmas.Str.{length-encode, encode_same, utf8_valid_len_le, utf8_valid_len-IsUtf8, IsUtf8-encode, IsUtf8-append}
-use Rattle.std.specs.Str.{IsUtf8}
-use Rattle.std.specs.Str.Lossy.{utf8_valid_len, utf8_error_len}
-use Rattle.std.specs.Char.{encode_utf8, len_utf8}
-use Rattle.names.specs.declared.refusal.Refusal.{Refusal}
-use Rattle.names.specs.declared.refusal.Refusal.TheVariants.{NotUtf8, TooLarge}
-use Rattle.htext.specs.declared.Bom.TheVariants.{Keep}
-use Rattle.htext.specs.declared.BadBytes.{BadBytes}
-use Rattle.htext.specs.declared.BadBytes.TheVariants.{Refuse, Replace}
-use Rattle.htext.specs.declared.progress.Front.{Front}
-use Rattle.htext.specs.declared.progress.Front.TheVariants.{Bad, Waits, Refused}
-use Rattle.htext.specs.Next.{next_of, next_part}
-use Rattle.htext.specs.Text.{Policy, valid_len, refusal_with, StaysRefused, BeginsCharacter}
-use Rattle.htext.proofs.Valid.{refusal_within, take-take, starts, starts_back, going_on, refusal_past}
+use Rattle.htext.proofs.Names.{◌≡◌, ℕ, ◌<◌, ◌≤◌, ◌+◌, ◌-◌, Bool, false, cond, eqb, List, [], ◌∷◌, ◌++◌, length, take, drop, sym, refl, ap, ◌∙◌, arith, inl, inr, append_assoc, append-nil, Option, None, Some, cases_lt, lt-ltb, le-ltb, nat_tests, length-append, length-take, take-append-drop, take-take, take_at, nil_from_length, length-encode, encode_same, utf8_valid_len_le, utf8_valid_len-IsUtf8, IsUtf8-encode, IsUtf8-append, IsUtf8, utf8_valid_len, utf8_error_len, encode_utf8, len_utf8, Refusal, NotUtf8, TooLarge, Keep, BadBytes, Refuse, Replace, Front, Waits, Refused, next_of, Policy, valid_len, refusal_with, StaysRefused, BeginsCharacter}
+use Rattle.htext.specs.declared.progress.Front.TheVariants.{Bad}
+use Rattle.htext.specs.Next.{next_part}
+use Rattle.htext.proofs.Valid.{refusal_within, starts, starts_back, going_on, refusal_past}
 use Rattle.htext.proofs.Beginnings.{completed, some_left, none_after, under_limit}
 use Rattle.htext.proofs.Refusals.{accepted, too_large}
 

@@ -1,21 +1,6 @@
 -- The end of an input.
-use Rattle.std.proofs.Common.{◌≡◌, ℕ, ◌<◌, ◌≤◌, ◌+◌, ◌-◌, Bool, true, false, cond, eqb, List, [], ◌∷◌, ◌++◌, length, take, drop, sym, refl, ap, ◌∙◌, subst, arith, append-nil, None, Some, Option, Result, Ok, Err}
-use Rattle.std.proofs.lemmas.Bool.Decides.{nat_tests}
-use Rattle.std.proofs.lemmas.List.{length-drop, take-append-drop, take_all}
-use Rattle.std.specs.Option.{unwrap_or}
-use Rattle.std.specs.Str.Lossy.{utf8_valid_len, utf8_error_len, utf8_invalid_len}
-use Rattle.names.specs.Sink.{Hands}
-use Rattle.names.specs.declared.refusal.Refusal.{Refusal}
-use Rattle.names.specs.declared.refusal.Refusal.TheVariants.{NotUtf8}
-use Rattle.htext.specs.declared.Bom.{Bom}
-use Rattle.htext.specs.declared.BadBytes.{BadBytes}
-use Rattle.htext.specs.declared.BadBytes.TheVariants.{Refuse, Replace}
-use Rattle.htext.specs.declared.progress.Front.{Front}
-use Rattle.htext.specs.declared.progress.Front.TheVariants.{Bad as NextBad, Waits, Refused}
-use Rattle.htext.specs.Next.{next_of}
-use Rattle.htext.specs.Text.{Read, Bad, normalized, ends_in_return, reads, text as text_of, valid_len, fitting_within, fitting, front_len, refusal_of, refusal_with, decoded, settled, reads_at}
-use Rattle.htext.specs.Items.{CharItem, items}
-use Rattle.htext.specs.Decoding.{HasRead, IsReading, IsUndecided, HandsOn, Ends, end_refused, end_reached, answer_at_end}
+use Rattle.htext.proofs.Names.{◌≡◌, ℕ, ◌<◌, ◌≤◌, ◌+◌, ◌-◌, Bool, true, false, cond, eqb, List, [], ◌∷◌, ◌++◌, length, take, drop, sym, refl, ap, ◌∙◌, subst, arith, append-nil, None, Some, Option, Result, Ok, Err, nat_tests, length-drop, take-append-drop, take_all, unwrap_or, utf8_valid_len, utf8_error_len, utf8_invalid_len, Hands, Refusal, NotUtf8, Bom, BadBytes, Refuse, Replace, Front, NextBad, Waits, Refused, next_of, Read, Bad, normalized, ends_in_return, reads, text_of, valid_len, fitting_within, fitting, front_len, refusal_of, refusal_with, decoded, settled, reads_at, CharItem, items, HasRead, IsReading, IsUndecided, HandsOn}
+use Rattle.htext.specs.Decoding.{Ends, end_refused, end_reached, answer_at_end}
 use Rattle.htext.proofs.Valid.{refusal_within, refusal_past}
 use Rattle.htext.proofs.Errors.{error_bounds}
 use Rattle.htext.proofs.Parts.{reads_nil, reads_after_bad}

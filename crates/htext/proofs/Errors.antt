@@ -1,11 +1,5 @@
 -- How long a bad part is, whatever follows it.
-use Rattle.std.proofs.Common.{◌≡◌, ℕ, ◌<◌, ◌≤◌, ◌+◌, Bool, true, false, cond, eqb, List, [], ◌∷◌, ◌++◌, length, sym, refl, ◌∙◌, arith, inl, inr, Option, None, Some}
-use Rattle.std.specs.Prelude.{◌⊎◌}
-use Rattle.std.specs.Int.{is_in_range}
-use Rattle.std.proofs.lemmas.Bool.Decides.{nat_tests}
-use Rattle.std.proofs.lemmas.Bool.{le-ltb}
-use Rattle.std.specs.Option.{unwrap_or}
-use Rattle.std.specs.Str.Lossy.{utf8_error_len, utf8_invalid_len, second_byte_min, second_byte_max}
+use Rattle.htext.proofs.Names.{◌≡◌, ℕ, ◌<◌, ◌≤◌, ◌+◌, Bool, true, false, cond, eqb, List, [], ◌∷◌, ◌++◌, length, sym, refl, ◌∙◌, arith, inl, inr, Option, None, Some, ◌⊎◌, is_in_range, nat_tests, le-ltb, unwrap_or, utf8_error_len, utf8_invalid_len, second_byte_min, second_byte_max, some_same}
 
 -- the length, byte by byte
 abbrev after_third : List ℕ → Option ℕ
@@ -47,36 +41,33 @@ same_test : (b : Bool) (o p q : Option ℕ) (m : ℕ) → (o ≡ Some m → p �
 same_test true o p q m f h = f h
 same_test false o p q m f h = h
 
-is : (m n : ℕ) → Some m ≡ Some n → m ≡ n
-is m n h = cc
-
 -- the least and the greatest length
 third_is : (ws : List ℕ) (m : ℕ) → after_third ws ≡ Some m → (3 ≤ m) × (m ≤ 2 + length ws)
 third_is [] m h = absurd cc
-third_is (w ∷ ws) m h = let e = is 3 m h in (omega arith, omega arith)
+third_is (w ∷ ws) m h = let e = some_same 3 m h in (omega arith, omega arith)
 
 second_is : (zs : List ℕ) (m : ℕ) → after_second zs ≡ Some m → (2 ≤ m) × (m ≤ 1 + length zs)
 second_is [] m h = absurd cc
 second_is (z ∷ zs) m h =
-    let k = by_test (is_in_range 0x80 0xBF z) (after_third zs) (Some 2) m (λ n. (2 ≤ n) × (n ≤ 2 + length zs)) (λ e. let k = third_is zs m e in (omega (arith, k.0), k.1)) (λ e. let k = is 2 m e in (omega arith, omega arith)) h in
+    let k = by_test (is_in_range 0x80 0xBF z) (after_third zs) (Some 2) m (λ n. (2 ≤ n) × (n ≤ 2 + length zs)) (λ e. let k = third_is zs m e in (omega (arith, k.0), k.1)) (λ e. let k = some_same 2 m e in (omega arith, omega arith)) h in
     (k.0, omega (arith, k.1))
 
 first_is : (x : ℕ) (ys : List ℕ) (m : ℕ) → after_first x ys ≡ Some m → (1 ≤ m) × (m ≤ length ys)
 first_is x [] m h = absurd cc
 first_is x (y ∷ ys) m h =
-    let k = by_test (is_in_range (second_byte_min x) (second_byte_max x) y) (after_second ys) (Some 1) m (λ n. (1 ≤ n) × (n ≤ 1 + length ys)) (λ e. let k = second_is ys m e in (omega (arith, k.0), k.1)) (λ e. let k = is 1 m e in (omega arith, omega arith)) h in
+    let k = by_test (is_in_range (second_byte_min x) (second_byte_max x) y) (after_second ys) (Some 1) m (λ n. (1 ≤ n) × (n ≤ 1 + length ys)) (λ e. let k = second_is ys m e in (omega (arith, k.0), k.1)) (λ e. let k = some_same 1 m e in (omega arith, omega arith)) h in
     (k.0, omega (arith, k.1))
 
 bounds : (bs : List ℕ) (m : ℕ) → by_bytes bs ≡ Some m → (1 ≤ m) × (m ≤ length bs)
 bounds [] m h = absurd cc
 bounds (x ∷ xs) m h =
-    let k = by_test (is_in_range 0xC2 0xF4 x) (after_first x xs) (Some 1) m (λ n. (1 ≤ n) × (n ≤ 1 + length xs)) (λ e. let k = first_is x xs m e in (k.0, omega (arith, k.1))) (λ e. let k = is 1 m e in (omega arith, omega arith)) h in
+    let k = by_test (is_in_range 0xC2 0xF4 x) (after_first x xs) (Some 1) m (λ n. (1 ≤ n) × (n ≤ 1 + length xs)) (λ e. let k = first_is x xs m e in (k.0, omega (arith, k.1))) (λ e. let k = some_same 1 m e in (omega arith, omega arith)) h in
     (k.0, omega (arith, k.1))
 
 short : (bs : List ℕ) (m : ℕ) → by_bytes bs ≡ Some m → (m ≡ 1) ⊎ (m < length bs)
 short [] m h = absurd cc
 short (x ∷ xs) m h =
-    by_test (is_in_range 0xC2 0xF4 x) (after_first x xs) (Some 1) m (λ n. (n ≡ 1) ⊎ (n < length (x ∷ xs))) (λ e. inr (omega (arith, (first_is x xs m e).1))) (λ e. inl (sym (is 1 m e))) h
+    by_test (is_in_range 0xC2 0xF4 x) (after_first x xs) (Some 1) m (λ n. (n ≡ 1) ⊎ (n < length (x ∷ xs))) (λ e. inr (omega (arith, (first_is x xs m e).1))) (λ e. inl (sym (some_same 1 m e))) h
 
 -- more bytes change nothing
 third_more : (ws more : List ℕ) (m : ℕ) → after_third ws ≡ Some m → after_third (ws ++ more) ≡ Some m
@@ -157,7 +148,7 @@ error_open bs more m h g = by_bytes_open bs more m (sym (is_by_bytes bs) ∙ h) 
 -- where the bytes end within or right after the part, or later
 cut_by : (o : Option ℕ) (bs more : List ℕ) (m : ℕ) → utf8_error_len bs ≡ o → utf8_error_len (bs ++ more) ≡ Some m → m ≤ length bs → unwrap_or o (length bs) ≡ m
 cut_by None bs more m e h within = omega (arith, error_open bs more m e h)
-cut_by (Some k) bs more m e h within = is k m (sym (error_more bs more k e) ∙ h)
+cut_by (Some k) bs more m e h within = some_same k m (sym (error_more bs more k e) ∙ h)
 
 pub error_cut : (bs more : List ℕ) (m : ℕ) → utf8_error_len (bs ++ more) ≡ Some m → m ≤ length bs → utf8_invalid_len bs ≡ m
 error_cut bs more m h within = cut_by (utf8_error_len bs) bs more m refl h within

@@ -1,17 +1,5 @@
 -- Fronts of bytes that end where a character or a bad part ends.
-use Rattle.std.proofs.Common.{◌≡◌, ℕ, zero, suc, ◌<◌, ◌≤◌, ◌+◌, ◌-◌, Bool, true, false, ◌&&◌, cond, List, [], ◌∷◌, ◌++◌, length, map, take, drop, sym, refl, ap, ◌∙◌, subst, arith, inl, inr, append_assoc, append-nil, Option, None, Some}
-use Rattle.std.specs.Prelude.{nat_le, nat_lt}
-use Rattle.std.proofs.lemmas.Bool.Decides.{nat_tests}
-use Rattle.std.proofs.lemmas.Bool.{cases_lt, lt-ltb, le-leb, leb-true}
-use Rattle.std.proofs.lemmas.List.{length-append, length-drop, length-take-le, take-append-drop, drop-drop}
-use Rattle.std.proofs.Math.Seq.{take-append-add, drop-append-add}
-use Rattle.std.proofs.lemmas.Str.{IsUtf8-append}
-use Rattle.std.specs.Str.{chars, IsUtf8}
-use Rattle.std.specs.Str.Lossy.{utf8_valid_len, utf8_error_len}
-use Rattle.names.specs.Placed.{placed}
-use Rattle.htext.specs.declared.BadBytes.{BadBytes}
-use Rattle.htext.specs.declared.BadBytes.TheVariants.{Refuse, Replace}
-use Rattle.htext.specs.Text.{Read, Whole, Bad, valid_len, or_rest, bad_len, after_part, fitting_within, fitting, front_len, reads_at}
+use Rattle.htext.proofs.Names.{◌≡◌, ℕ, zero, suc, ◌<◌, ◌≤◌, ◌+◌, ◌-◌, Bool, true, false, ◌&&◌, cond, List, [], ◌∷◌, ◌++◌, length, map, take, drop, sym, refl, ap, ◌∙◌, subst, arith, inl, inr, append_assoc, append-nil, Option, None, Some, nat_le, nat_lt, nat_tests, cases_lt, lt-ltb, le-leb, leb-true, length-append, length-drop, length-take-le, take-append-drop, drop-drop, take-append-add, drop-append-add, IsUtf8-append, chars, IsUtf8, utf8_valid_len, utf8_error_len, placed, BadBytes, Refuse, Replace, Read, Whole, Bad, valid_len, or_rest, bad_len, after_part, fitting_within, fitting, front_len, reads_at}
 use Rattle.htext.proofs.Valid.{valid_len_le, valid_len-append, valid_front_utf8, going_on}
 use Rattle.htext.proofs.Errors.{error_bounds, error_more, error_cut}
 use Rattle.htext.proofs.Beginnings.{none_after, under_limit}

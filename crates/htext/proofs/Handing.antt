@@ -1,20 +1,12 @@
 -- How items are handed to a sink.
-use Rattle.std.proofs.Common.{◌≡◌, ℕ, suc, ◌+◌, ◌-◌, ◌<◌, ◌≤◌, Bool, eqb, List, [], ◌∷◌, ◌++◌, sym, refl, ap, ◌∙◌, subst, Result, Ok, Err, MatchResult, append_assoc, append-nil, map, true, false, length, arith}
-use Rattle.std.proofs.lemmas.List.{length-append, nil_from_length}
-use Rattle.std.proofs.lemmas.Str.{chars_past_char, chars-nil}
+use Rattle.htext.proofs.Names.{◌≡◌, ℕ, suc, ◌+◌, ◌-◌, ◌<◌, ◌≤◌, Bool, eqb, List, [], ◌∷◌, ◌++◌, sym, refl, ap, ◌∙◌, subst, Result, Ok, Err, append_assoc, append-nil, map, true, false, length, arith, length-append, nil_from_length, chars_past_char, chars-nil, chars, IsUtf8, encode_utf8, len_utf8, placed, Hands, Continues, Refusal, Bom, Policy, Read, Whole, Bad, read_as, normalized, refusal_of, decoded, settled, CharItem, Character, InputError, items, bad_each, HandsOn, Feeds, IsRefusedFrom, sink_refused, took_all}
+use Rattle.std.proofs.Common.{MatchResult}
 use Rattle.std.specs.Prelude.{⊤}
-use Rattle.std.specs.Str.{chars, IsUtf8}
-use Rattle.std.specs.Char.{encode_utf8, len_utf8}
-use Rattle.names.specs.Placed.{placed, error}
+use Rattle.names.specs.Placed.{error}
 use Rattle.names.specs.declared.error.ErrorCode.TheVariants.{ReplacedBytes}
 use Rattle.names.proofs.Handing.{Hands-append}
-use Rattle.names.specs.Sink.{Hands, Continues}
-use Rattle.names.specs.declared.refusal.Refusal.{Refusal}
 use Rattle.names.specs.declared.refusal.Refusal.TheVariants.{Memory}
-use Rattle.htext.specs.declared.Bom.{Bom}
-use Rattle.htext.specs.Text.{Policy, Read, Whole, Bad, read_as, normalized, refusal_of, decoded, settled}
-use Rattle.htext.specs.Items.{CharItem, Character, InputError, items, bad_each}
-use Rattle.htext.specs.Decoding.{HandsOn, Feeds, IsRefusedFrom, ran_out, sink_refused, took_all}
+use Rattle.htext.specs.Decoding.{ran_out}
 use Rattle.htext.proofs.Texts.{items-append, goes_on}
 
 -- where the sink refused, whatever would have come after

@@ -1,14 +1,11 @@
 -- Runs of bytes, seen a vector at a time through the mask of those that end them.
-use Rattle.std.proofs.Common.{◌≡◌, ℕ, zero, suc, ◌+◌, ◌*◌, ◌/◌, ◌%◌, ◌^◌, ◌<◌, ◌≤◌, Bool, true, false, not, cond, eqb, T, ◌&&◌, List, [], ◌∷◌, map, length, drop, get_or, replicate, bit_and, refl, sym, ap, ap₂, ◌∙◌, subst, arith, w8, Fits}
-use Rattle.std.proofs.lemmas.Simd.{chunk-drop, length-chunk, zip2_splat, map-map, mask_l-mod, leading_from_mask_l, trailing_mask_l, swz_l, SwzOk, SwzOk-from_below, length-swz_l, get_or-swz_l_below, length-zip2, Each1-all, Each1-weaker, Each1-zip2, Each1-get_or, Each2-splat, below_from_Fits}
-use Rattle.std.proofs.lemmas.List.{length-map, get_or-map, ext_get_or}
-use Rattle.std.proofs.lemmas.Nat.{and_le_r}
+use Rattle.htext.proofs.Names.{◌≡◌, ℕ, zero, suc, ◌+◌, ◌*◌, ◌/◌, ◌%◌, ◌<◌, ◌≤◌, Bool, true, false, not, cond, eqb, ◌&&◌, List, [], ◌∷◌, map, length, drop, get_or, replicate, bit_and, refl, sym, ap, ◌∙◌, subst, arith, zip2_splat, map-map, length-map, and_le_r, prefix_len-le-length, eqb-true, prefix_len, zip2, count_trailing_zeros}
+use Rattle.std.proofs.Common.{◌^◌, T, ap₂, w8, Fits}
+use Rattle.std.proofs.lemmas.Simd.{chunk-drop, length-chunk, mask_l-mod, leading_from_mask_l, trailing_mask_l, swz_l, SwzOk, SwzOk-from_below, length-swz_l, get_or-swz_l_below, length-zip2, Each1-all, Each1-weaker, Each1-zip2, Each1-get_or, Each2-splat, below_from_Fits}
+use Rattle.std.proofs.lemmas.List.{get_or-map, ext_get_or}
 use Rattle.std.proofs.lemmas.List.Folds.{prefix_len-append}
-use Rattle.std.proofs.lemmas.List.Sums.{prefix_len-le-length}
-use Rattle.std.proofs.lemmas.Bool.{eq-eqb, ne_eqb, eqb-true, eqb-false}
-use Rattle.std.specs.List.{prefix_len}
-use lib.Lanes.{zip2, chunk, mask_l, top, Each1}
-use lib.Count.{count_trailing_zeros}
+use Rattle.std.proofs.lemmas.Bool.{eq-eqb, ne_eqb, eqb-false}
+use lib.Lanes.{chunk, mask_l, top, Each1}
 
 -- COMPARISONS, LANE BY LANE
 

@@ -1,3 +1,4 @@
+pub mod Names
 pub mod Valid
 pub mod Errors
 pub mod Parts

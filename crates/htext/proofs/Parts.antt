@@ -1,16 +1,7 @@
 -- Characters and bad parts, one after another.
-use Rattle.std.proofs.Common.{◌≡◌, ℕ, zero, suc, ◌<◌, ◌≤◌, ◌+◌, ◌-◌, Bool, true, false, cond, eqb, List, [], ◌∷◌, ◌++◌, length, map, take, drop, sym, refl, ap, ◌∙◌, arith, inl, inr, append_assoc, append-nil}
-use Rattle.std.proofs.lemmas.Bool.Decides.{nat_tests}
-use Rattle.std.proofs.lemmas.Bool.{cases_eq}
-use Rattle.std.proofs.lemmas.List.{map-append, length-append, length-drop}
-use Rattle.std.proofs.Math.Seq.{take-append-add, drop-append-add}
-use Rattle.std.proofs.lemmas.Str.{chars-append, chars-nil, encodes-chars, length-encode, utf8_valid_len_le}
-use Rattle.std.specs.Str.{chars, IsUtf8, encode_utf8_all}
-use Rattle.std.specs.Str.Lossy.{utf8_valid_len, utf8_invalid_len}
-use Rattle.std.specs.Char.{encode_utf8, len_utf8}
-use Rattle.names.specs.Placed.{placed}
-use Rattle.names.specs.declared.placed.Placed.{Placed}
-use Rattle.htext.specs.Text.{Read, Whole, Bad, reads_within, reads_at}
+use Rattle.htext.proofs.Names.{◌≡◌, ℕ, zero, suc, ◌<◌, ◌≤◌, ◌+◌, ◌-◌, Bool, true, false, cond, eqb, List, [], ◌∷◌, ◌++◌, length, map, take, drop, sym, refl, ap, ◌∙◌, arith, inl, inr, append_assoc, append-nil, nat_tests, cases_eq, length-append, length-drop, take-append-add, drop-append-add, chars-append, chars-nil, encodes-chars, length-encode, utf8_valid_len_le, chars, IsUtf8, utf8_valid_len, utf8_invalid_len, encode_utf8, len_utf8, placed, Placed, Read, Whole, Bad, reads_within, reads_at}
+use Rattle.std.proofs.lemmas.List.{map-append}
+use Rattle.std.specs.Str.{encode_utf8_all}
 use Rattle.htext.proofs.Valid.{utf8_valid_len-append}
 use Rattle.htext.proofs.Errors.{invalid_bounds}
 

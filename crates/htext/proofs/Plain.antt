@@ -1,27 +1,15 @@
 -- Plain and clean characters, and the bytes of characters in UTF-8.
-use Rattle.std.proofs.Common.{◌≡◌, ℕ, ◌<◌, ◌≤◌, ◌+◌, ◌/◌, ◌%◌, Bool, true, false, cond, eqb, List, [], ◌∷◌, refl, ap, ◌∙◌, arith, inl, inr}
-use Rattle.std.specs.Prelude.{nat_le, nat_lt, ◌&&◌, ◌||◌}
-use Rattle.std.specs.List.{list_all}
-use Rattle.std.proofs.lemmas.Bool.{cases_lt}
-use Rattle.std.proofs.lemmas.Bool.Decides.{nat_tests}
-use Rattle.std.proofs.lemmas.Str.{encode_ascii}
-use Rattle.std.specs.Char.{encode_utf8}
-use lib.Utf8.{encode}
+use Rattle.htext.proofs.Names.{◌≡◌, ℕ, ◌<◌, ◌≤◌, ◌+◌, ◌/◌, ◌%◌, Bool, true, false, cond, eqb, List, [], ◌∷◌, refl, ap, ◌∙◌, arith, inl, inr, nat_le, list_all, cases_lt, nat_tests, encode_ascii, encode_utf8, Placed, Bom, Keep, Whole, read_as, Character, items_of, is_plain_byte, is_plain, is_clean, is_clean_byte, is_inner_byte, is_text_byte}
+use Rattle.std.specs.Prelude.{◌&&◌, ◌||◌}
+use Rattle.std.proofs.lemmas.Bool.{or_left}
 use Rattle.names.specs.Placed.{is_noncharacter}
-use Rattle.names.specs.declared.placed.Placed.{Placed}
-use Rattle.htext.specs.declared.Bom.{Bom}
-use Rattle.htext.specs.declared.Bom.TheVariants.{Drop, Keep}
-use Rattle.htext.specs.Text.{Whole, read_as}
-use Rattle.htext.specs.Items.{Character, items_of, is_stray_control}
-use Rattle.htext.specs.Run.{is_plain_byte, is_plain, is_clean, is_clean_byte, is_inner_byte, is_text_byte}
+use Rattle.htext.specs.declared.Bom.TheVariants.{Drop}
+use Rattle.htext.specs.Items.{is_stray_control}
+use Rattle.htext.proofs.Beginnings.{two_bytes, three_bytes, four_bytes}
 
 -- a plain byte is ASCII, and a plain character
 pub plain_small : (x : ℕ) → is_plain_byte x ≡ true → x < 127
 plain_small x h = grind (arith, nat_tests)
-
-or_left : (a b : Bool) → a ≡ true → (a || b) ≡ true
-or_left true b h = refl
-or_left false b h = absurd cc
 
 pub byte_plain : (x : ℕ) → is_plain_byte x ≡ true → is_plain x ≡ true
 byte_plain x h = or_left (is_plain_byte x) (nat_le 0xC0 x && nat_le x 0xEFFF) h
@@ -97,29 +85,6 @@ small_clean c l =
     let b : nat_le 0xC3 c ≡ false = grind (arith, nat_tests) in
     let d : nat_le 0xC0 c ≡ false = grind (arith, nat_tests) in
     rw (a, b, d) (or_none (is_plain_byte c) (eqb c 60) (eqb c 38))
-
-two_bytes : (c : ℕ) → 128 ≤ c → c < 2048 → encode_utf8 c ≡ (192 + c / 64) ∷ (128 + c % 64) ∷ []
-unfolding encode
-two_bytes c l m =
-    let a : nat_lt c 128 ≡ false = grind (arith, nat_tests) in
-    let b : nat_lt c 2048 ≡ true = grind (arith, nat_tests) in
-    rw (a, b) refl
-
-three_bytes : (c : ℕ) → 2048 ≤ c → c < 65536 → encode_utf8 c ≡ (224 + c / 4096) ∷ (128 + c / 64 % 64) ∷ (128 + c % 64) ∷ []
-unfolding encode
-three_bytes c l m =
-    let a : nat_lt c 128 ≡ false = grind (arith, nat_tests) in
-    let b : nat_lt c 2048 ≡ false = grind (arith, nat_tests) in
-    let d : nat_lt c 65536 ≡ true = grind (arith, nat_tests) in
-    rw (a, b, d) refl
-
-four_bytes : (c : ℕ) → 65536 ≤ c → encode_utf8 c ≡ (240 + c / 262144) ∷ (128 + c / 4096 % 64) ∷ (128 + c / 64 % 64) ∷ (128 + c % 64) ∷ []
-unfolding encode
-four_bytes c l =
-    let a : nat_lt c 128 ≡ false = grind (arith, nat_tests) in
-    let b : nat_lt c 2048 ≡ false = grind (arith, nat_tests) in
-    let d : nat_lt c 65536 ≡ false = grind (arith, nat_tests) in
-    rw (a, b, d) refl
 
 next_clean : (n : ℕ) → is_clean_byte (128 + n % 64) ≡ true
 next_clean n = let l : n % 64 < 64 = omega arith in continues (128 + n % 64) (omega arith) (omega (arith, l))

@@ -1,19 +1,5 @@
 -- Which bytes are refused, and how.
-use Rattle.std.proofs.Common.{◌≡◌, ℕ, ◌<◌, ◌≤◌, ◌+◌, ◌-◌, Bool, true, false, cond, eqb, List, ◌++◌, length, take, drop, sym, refl, ap, ◌∙◌, subst, arith, inl, inr, append_assoc, None, Some, Option, zero, suc}
-use Rattle.std.proofs.lemmas.Bool.{cases_lt, eqb-true, lt-ltb, le-leb}
-use Rattle.std.proofs.lemmas.Bool.Decides.{nat_tests}
-use Rattle.std.proofs.lemmas.List.{take_all, take-append-drop, length-append, length-take, length-take-le, length-drop}
-use Rattle.std.proofs.lemmas.Str.{encode_same, length-encode, utf8_valid_len-IsUtf8}
-use Rattle.std.specs.Prelude.{◌↔◌, nat_lt, nat_le}
-use Rattle.std.specs.Char.{IsScalar, encode_utf8, len_utf8}
-use Rattle.std.specs.Str.{IsUtf8}
-use Rattle.std.specs.Str.Lossy.{utf8_valid_len, utf8_error_len, utf8_invalid_len}
-use Rattle.std.specs.Option.{unwrap_or}
-use Rattle.names.specs.declared.refusal.Refusal.{Refusal}
-use Rattle.htext.specs.declared.Bom.{Bom}
-use Rattle.names.specs.declared.refusal.Refusal.TheVariants.{NotUtf8, TooLarge}
-use Rattle.htext.specs.declared.BadBytes.TheVariants.{Refuse, Replace}
-use Rattle.htext.specs.Text.{valid_len, bad_len, or_rest, after_part, fitting_within, fitting, refusal_with, refusal_of, BeginsNoCharacter}
+use Rattle.htext.proofs.Names.{◌≡◌, ℕ, ◌<◌, ◌≤◌, ◌+◌, ◌-◌, Bool, true, false, cond, eqb, List, ◌++◌, length, take, drop, sym, refl, ap, ◌∙◌, subst, arith, inl, inr, append_assoc, None, Some, Option, zero, suc, cases_lt, eqb-true, lt-ltb, le-leb, nat_tests, take_all, take-append-drop, length-append, length-take, length-take-le, length-drop, encode_same, length-encode, utf8_valid_len-IsUtf8, ◌↔◌, nat_lt, nat_le, IsScalar, encode_utf8, len_utf8, IsUtf8, utf8_valid_len, utf8_error_len, utf8_invalid_len, unwrap_or, Refusal, Bom, NotUtf8, TooLarge, Refuse, Replace, valid_len, bad_len, or_rest, after_part, fitting_within, fitting, refusal_with, refusal_of, BeginsNoCharacter}
 use Rattle.htext.proofs.Valid.{refusal_within, valid_len_le, valid_front_utf8, utf8_valid_len-append, starts, starts_back, none_valid, refusal_same, refusal_past}
 use Rattle.htext.proofs.Errors.{invalid_bounds}
 use Rattle.htext.proofs.Beginnings.{under_limit}

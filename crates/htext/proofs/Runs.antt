@@ -1,16 +1,11 @@
 -- Runs of plain bytes, each a character.
-use Rattle.std.proofs.Common.{◌≡◌, ℕ, ◌<◌, ◌≤◌, ◌+◌, ◌-◌, zero, suc, Bool, true, false, cond, List, [], ◌∷◌, ◌++◌, length, take, drop, sym, refl, ap, ◌∙◌, subst, arith, append-nil}
-use Rattle.std.specs.Prelude.{encode_utf8_all}
-use Rattle.std.specs.List.{list_all, prefix_len, slice_range}
-use Rattle.std.proofs.lemmas.List.{length-take-le, take-append-drop}
-use Rattle.std.proofs.lemmas.Bool.{and_parts, and_from}
-use Rattle.std.proofs.lemmas.Str.{encode_ascii, len_utf8_ascii, IsUtf8-past_char, chars_past_char, chars-nil}
-use Rattle.std.specs.Str.{chars, IsUtf8}
-use Rattle.std.specs.Char.{encode_utf8, len_utf8}
-use Rattle.names.specs.Placed.{placed, all}
-use Rattle.names.specs.declared.placed.Placed.{Placed}
-use Rattle.htext.specs.Run.{is_plain_byte}
+use Rattle.htext.proofs.Names.{◌≡◌, ℕ, ◌<◌, ◌≤◌, ◌+◌, ◌-◌, suc, Bool, true, false, cond, List, [], ◌∷◌, ◌++◌, length, take, drop, sym, refl, ap, ◌∙◌, subst, arith, append-nil, encode_utf8_all, list_all, prefix_len, take-add, length-take-le, take-append-drop, list_all-append, and_parts, and_from, encode_ascii, IsUtf8-past_char, chars_past_char, chars-nil, chars, IsUtf8, encode_utf8, len_utf8, placed, Placed, is_plain_byte}
+use Rattle.std.specs.List.{slice_range}
+use Rattle.std.proofs.lemmas.Str.{len_utf8_ascii}
+use Rattle.names.specs.Placed.{all}
 use Rattle.htext.proofs.Plain.{plain_small}
+-- under the name by which the crates above cite it
+pub use Rattle.std.proofs.Math.Seq.{take-add as take_more}
 
 pub one_long : (x : ℕ) → is_plain_byte x ≡ true → len_utf8 x ≡ 1
 one_long x h = let small : x < 127 = plain_small x h in len_utf8_ascii x (omega arith)
@@ -26,16 +21,12 @@ run_chars (x ∷ xs) ys a u =
     (more.0, chars_past_char (x ∷ (xs ++ ys)) (xs ++ ys) x u is ∙ ap (λ (cs : List ℕ). x ∷ cs) more.1)
 
 -- what is counted passes
-counted_by : (test : ℕ → Bool) (b : Bool) (x : ℕ) (xs : List ℕ) → test x ≡ b → list_all test (take (prefix_len test xs) xs) ≡ true
-    → list_all test (take (cond b (1 + prefix_len test xs) 0) (x ∷ xs)) ≡ true
-counted_by test true x xs e h =
-    let next : 1 + prefix_len test xs ≡ suc (prefix_len test xs) = omega arith in
-    rw next (and_from _ _ e h)
-counted_by test false x xs e h = refl
-
 pub counted : (test : ℕ → Bool) (xs : List ℕ) → list_all test (take (prefix_len test xs) xs) ≡ true
 counted test [] = refl
-counted test (x ∷ xs) = counted_by test (test x) x xs refl (counted test xs)
+counted test (x ∷ xs) = by (test x) refl (counted test xs) where
+  by : (b : Bool) → test x ≡ b → list_all test (take (prefix_len test xs) xs) ≡ true → list_all test (take (cond b (1 + prefix_len test xs) 0) (x ∷ xs)) ≡ true
+  by true e more = let next : 1 + prefix_len test xs ≡ suc (prefix_len test xs) = omega arith in rw next (and_from _ _ e more)
+  by false e more = refl
 
 -- the front of a slice
 pub front_of : (n : ℕ) (xs : List ℕ) → slice_range xs 0 n ≡ take n xs
@@ -54,30 +45,19 @@ placed-append at (x ∷ xs) ys h =
     ap (λ (ps : List Placed). record { ch = x; at = at } ∷ ps) (placed-append (at + len_utf8 x) xs ys k.1)
     ∙ ap (λ (n : ℕ). record { ch = x; at = at } ∷ (placed (at + len_utf8 x) xs ++ placed n ys)) end
 
+plain_parts : (n : ℕ) (xs : List ℕ) → list_all is_plain_byte xs ≡ true → (list_all is_plain_byte (take n xs) ≡ true) × (list_all is_plain_byte (drop n xs) ≡ true)
+plain_parts n xs h = and_parts _ _ (sym (list_all-append is_plain_byte (take n xs) (drop n xs)) ∙ ap (list_all is_plain_byte) (take-append-drop n xs) ∙ h)
+
 pub plain_take : (n : ℕ) (xs : List ℕ) → list_all is_plain_byte xs ≡ true → list_all is_plain_byte (take n xs) ≡ true
-plain_take zero xs h = refl
-plain_take (suc n) [] h = refl
-plain_take (suc n) (x ∷ xs) h = let k = and_parts (is_plain_byte x) (list_all is_plain_byte xs) h in and_from _ _ k.0 (plain_take n xs k.1)
+plain_take n xs h = (plain_parts n xs h).0
 
 pub plain_drop : (n : ℕ) (xs : List ℕ) → list_all is_plain_byte xs ≡ true → list_all is_plain_byte (drop n xs) ≡ true
-plain_drop zero xs h = h
-plain_drop (suc n) [] h = refl
-plain_drop (suc n) (x ∷ xs) h = plain_drop n xs (and_parts (is_plain_byte x) (list_all is_plain_byte xs) h).1
-
--- a front, and what is after it as far as a longer one goes
-nothing : (n : ℕ) → take {A = ℕ} n [] ≡ []
-nothing zero = refl
-nothing (suc n) = refl
-
-pub take_more : (i n : ℕ) (xs : List ℕ) → take (i + n) xs ≡ take i xs ++ take n (drop i xs)
-take_more zero n xs = let none : 0 + n ≡ n = omega arith in ap (λ (k : ℕ). take k xs) none
-take_more (suc i) n [] = let one : suc i + n ≡ suc (i + n) = omega arith in ap (λ (k : ℕ). take {A = ℕ} k []) one ∙ sym (nothing n)
-take_more (suc i) n (x ∷ xs) = let one : suc i + n ≡ suc (i + n) = omega arith in ap (λ (k : ℕ). take k (x ∷ xs)) one ∙ ap (λ (ys : List ℕ). x ∷ ys) (take_more i n xs)
+plain_drop n xs h = (plain_parts n xs h).1
 
 -- a run that goes on with the part between two places
 pub placed_part : (at i n : ℕ) (run : List ℕ) → list_all is_plain_byte run ≡ true → i ≤ length run → placed at (take (i + n) run) ≡ placed at (take i run) ++ placed (at + i) (take n (drop i run))
 placed_part at i n run h l =
-    ap (placed at) (take_more i n run) ∙ placed-append at (take i run) (take n (drop i run)) (plain_take i run h) ∙ ap (λ (k : ℕ). placed at (take i run) ++ placed (at + k) (take n (drop i run))) (length-take-le i run l)
+    ap (placed at) (take-add i n run) ∙ placed-append at (take i run) (take n (drop i run)) (plain_take i run h) ∙ ap (λ (k : ℕ). placed at (take i run) ++ placed (at + k) (take n (drop i run))) (length-take-le i run l)
 
 pub placed_rest : (at i : ℕ) (run : List ℕ) → list_all is_plain_byte run ≡ true → i ≤ length run → placed at run ≡ placed at (take i run) ++ placed (at + i) (drop i run)
 placed_rest at i run h l =

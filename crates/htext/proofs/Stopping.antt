@@ -1,21 +1,6 @@
 -- What is left of bytes after a front, and doesn't fit or isn't settled.
-use Rattle.std.proofs.Common.{◌≡◌, ℕ, suc, ◌<◌, ◌≤◌, ◌+◌, ◌-◌, Bool, true, false, cond, List, [], ◌++◌, length, take, drop, sym, refl, ap, ◌∙◌, subst, arith, append_assoc, append-nil, Option, None, Some}
-use Rattle.std.specs.Prelude.{nat_lt, nat_le}
-use Rattle.std.proofs.lemmas.Bool.{lt-ltb}
-use Rattle.std.proofs.lemmas.Bool.Decides.{nat_tests}
-use Rattle.std.proofs.lemmas.List.{length-append, take-append-le, take_at}
-use Rattle.std.proofs.lemmas.Str.{utf8_valid_len_le}
-use Rattle.std.specs.Str.Lossy.{utf8_valid_len, utf8_error_len}
-use Rattle.names.specs.declared.refusal.Refusal.{Refusal}
-use Rattle.names.specs.declared.refusal.Refusal.TheVariants.{TooLarge}
-use Rattle.htext.specs.declared.Bom.{Bom}
-use Rattle.htext.specs.declared.BadBytes.{BadBytes}
-use Rattle.htext.specs.declared.BadBytes.TheVariants.{Refuse, Replace}
-use Rattle.htext.specs.declared.progress.Front.{Front}
-use Rattle.htext.specs.declared.progress.Front.TheVariants.{Bad, Waits, Refused}
-use Rattle.htext.specs.Next.{next_of}
-use Rattle.htext.specs.Text.{valid_len, bad_len, or_rest, after_part, fitting_within, front_len, refusal_of, StaysRefused, text as text_of}
-use Rattle.htext.specs.Decoding.{IsRefusedFrom, IsUndecided}
+use Rattle.htext.proofs.Names.{◌≡◌, ℕ, suc, ◌<◌, ◌≤◌, ◌+◌, ◌-◌, Bool, true, false, cond, List, [], ◌++◌, length, take, drop, sym, refl, ap, ◌∙◌, subst, arith, append_assoc, append-nil, Option, None, Some, nat_lt, nat_le, lt-ltb, nat_tests, length-append, take-append-le, take_at, utf8_valid_len_le, utf8_valid_len, utf8_error_len, Refusal, TooLarge, Bom, BadBytes, Refuse, Replace, Front, Waits, Refused, next_of, valid_len, bad_len, or_rest, after_part, fitting_within, front_len, refusal_of, StaysRefused, text_of, IsRefusedFrom, IsUndecided}
+use Rattle.htext.specs.declared.progress.Front.TheVariants.{Bad}
 use Rattle.htext.proofs.Valid.{going_on}
 use Rattle.htext.proofs.Errors.{error_bounds, error_more, error_open}
 use Rattle.htext.proofs.Beginnings.{some_left, none_after, under_limit}

@@ -1,18 +1,10 @@
 -- Laws of texts.
-use Rattle.std.proofs.Common.{◌≡◌, ℕ, zero, suc, ◌+◌, ◌-◌, ◌≤◌, ◌<◌, Bool, true, false, cond, ◌&&◌, ◌||◌, subst, List, [], ◌∷◌, ◌++◌, length, take, drop, sym, refl, ap, ◌∙◌, arith, append_assoc, eqb, map}
-use Rattle.std.proofs.lemmas.List.{length-append, length-drop, length-take-le, take-append-drop}
-use Rattle.std.proofs.Math.Seq.{take-append-add}
-use Rattle.std.proofs.lemmas.Str.{encodes-chars, length-encode, len_utf8_bounds, utf8_valid_len_le}
-use Rattle.std.specs.Str.{chars, encode_utf8_all}
-use Rattle.std.specs.Str.Lossy.{utf8_valid_len, utf8_invalid_len}
-use Rattle.std.specs.Char.{encode_utf8, len_utf8}
-use Rattle.names.specs.Placed.{placed}
-use Rattle.names.specs.declared.placed.Placed.{Placed}
+use Rattle.htext.proofs.Names.{◌≡◌, ℕ, zero, suc, ◌+◌, ◌-◌, ◌≤◌, ◌<◌, Bool, true, false, cond, ◌&&◌, subst, List, [], ◌∷◌, ◌++◌, length, take, drop, sym, refl, ap, ◌∙◌, arith, append_assoc, eqb, map, length-append, length-drop, length-take-le, take-append-drop, take-append-add, encodes-chars, length-encode, len_utf8_bounds, utf8_valid_len_le, chars, utf8_valid_len, utf8_invalid_len, encode_utf8, len_utf8, placed, Placed, BadBytes, Bom, Read, Whole, Bad, character_of, PlacesRise, read_as, reads, reads_within, normalized, ends_in_return, text, front_len, reads_at, CharItem, Character, InputError, items_of, items}
+use Rattle.std.proofs.Common.{◌||◌}
+use Rattle.std.specs.Str.{encode_utf8_all}
 use Rattle.names.specs.declared.error.ParseError.{ParseError}
-use Rattle.htext.specs.declared.BadBytes.{BadBytes}
-use Rattle.htext.specs.declared.Bom.{Bom}
-use Rattle.htext.specs.Text.{Read, Whole, Bad, character_of, is_dropped_mark, PlacesRise, read_as, reads, reads_within, normalized, ends_in_return, text, front_len, reads_at}
-use Rattle.htext.specs.Items.{CharItem, Character, InputError, errors_of, items_of, items, input_errors, characters_among, errors_among}
+use Rattle.htext.specs.Text.{is_dropped_mark}
+use Rattle.htext.specs.Items.{errors_of, input_errors, characters_among, errors_among}
 use Rattle.htext.proofs.Valid.{front_utf8}
 use Rattle.htext.proofs.Parts.{more_left}
 use Rattle.htext.proofs.Errors.{invalid_bounds}

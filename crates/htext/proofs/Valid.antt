@@ -1,19 +1,8 @@
 -- Laws of the valid front.
-use Rattle.std.proofs.Common.{◌≡◌, ℕ, zero, suc, ◌<◌, ◌≤◌, ◌+◌, ◌-◌, Bool, true, false, cond, List, [], ◌∷◌, ◌++◌, length, take, drop, sym, refl, ap, ◌∙◌, subst, arith, inl, inr, ◌&&◌, append_assoc, eqb, None, Some, Option}
-use Rattle.std.proofs.lemmas.Bool.Decides.{nat_tests}
-use Rattle.std.proofs.lemmas.Bool.{cases_lt}
-use Rattle.std.proofs.lemmas.List.{take_at, drop_at, take-append-le, take_all, length-append, length-take, length-take-le, take-append-drop}
-use Rattle.std.proofs.Math.Seq.{take-append-add}
-use Rattle.std.proofs.lemmas.Str.{IsUtf8-nil, IsUtf8-append, IsUtf8-drop, IsCharBoundary-from_take, IsUtf8-from_is_utf8, is_utf8-from_IsUtf8, utf8_valid_len_le, length-encode, len_utf8_bounds, IsUtf8-encode}
-use Rattle.std.specs.Str.{all_scalars as scalars}
-use Rattle.std.specs.Str.{IsUtf8, is_utf8, encode_utf8_all}
-use Rattle.std.specs.Str.Lossy.{utf8_valid_len, valid_len_up_to}
-use Rattle.std.specs.Char.{IsScalar, encode_utf8}
-use Rattle.names.specs.declared.refusal.Refusal.TheVariants.{NotUtf8, TooLarge}
-use Rattle.names.specs.declared.refusal.Refusal.{Refusal}
-use Rattle.htext.specs.declared.BadBytes.TheVariants.{Refuse}
-use Rattle.htext.specs.declared.Bom.TheVariants.{Keep}
-use Rattle.htext.specs.Text.{valid_len, refusal_with, refusal_of, BeginsNoCharacter}
+use Rattle.htext.proofs.Names.{◌≡◌, ℕ, zero, suc, ◌<◌, ◌≤◌, ◌+◌, ◌-◌, Bool, true, false, cond, List, [], ◌∷◌, ◌++◌, length, take, drop, sym, refl, ap, ◌∙◌, subst, arith, inl, inr, append_assoc, eqb, None, Some, Option, nat_tests, cases_lt, and_parts, take_at, take-take, drop_at, length-append, length-take, length-take-le, take-append-drop, take-append-add, IsUtf8-nil, IsUtf8-append, IsUtf8-drop, utf8_valid_len_le, length-encode, len_utf8_bounds, IsUtf8-encode, scalars, IsUtf8, utf8_valid_len, IsScalar, encode_utf8, NotUtf8, TooLarge, Refusal, Refuse, Keep, valid_len, refusal_with, refusal_of, BeginsNoCharacter}
+use Rattle.std.proofs.lemmas.Str.{IsCharBoundary-from_take, IsUtf8-from_is_utf8, is_utf8-from_IsUtf8}
+use Rattle.std.specs.Str.{is_utf8, encode_utf8_all}
+use Rattle.std.specs.Str.Lossy.{valid_len_up_to}
 
 -- the longest front that is UTF-8 and fits, and why the bytes are refused for what follows it, if they are
 abbrev pub valid_front : ℕ → List ℕ → List ℕ
@@ -21,15 +10,6 @@ valid_front limit bytes = take (valid_len limit bytes) bytes
 
 abbrev pub refusal_within : ℕ → List ℕ → Option Refusal
 refusal_within limit bytes = refusal_of (record { bom = Keep; bad = Refuse; limit = limit }) bytes
-
--- a front of a front
-pub take-take : (m n : ℕ) (bs : List ℕ) → m ≤ n → take m (take n bs) ≡ take m bs
-take-take m n bs le = elim (cases_lt n (length bs)) [
-  | inl less ↦
-      let k : length (take n bs) ≡ n = length-take-le n bs (omega arith) in
-      sym (ap (take m) (sym (take-append-drop n bs)) ∙ take-append-le m (take n bs) (drop n bs) (omega arith))
-  | inr ge ↦ ap (take m) (take_all n bs ge)
-]
 
 -- what follows a text in a text is one
 tail_utf8 : (xs zs : List ℕ) → IsUtf8 xs → IsUtf8 (xs ++ zs) → IsUtf8 zs
@@ -117,17 +97,13 @@ valid_front_utf8 limit bs = subst IsUtf8 (take-take (valid_len limit bs) limit b
 pub length-valid_front : (limit : ℕ) (bs : List ℕ) → length (valid_front limit bs) ≡ valid_len limit bs
 length-valid_front limit bs = length-take-le (valid_len limit bs) bs (valid_len_le limit bs).1
 
-first_true : (x y : Bool) → (x && y) ≡ true → x ≡ true
-first_true true y h = refl
-first_true false y h = h
-
 -- a character that begins bytes is in their valid front, and nothing else begins one
 starts_by : (bs : List ℕ) (cs : List ℕ) (n : ℕ) → scalars cs ≡ true → encode_utf8_all cs ≡ take n bs → 0 < length (take n bs) → (c : ℕ) × (more : List ℕ) × IsScalar c × (bs ≡ encode_utf8 c ++ more)
 starts_by bs [] n s e h = absurd (omega (arith, ap length e))
 starts_by bs (c ∷ cs) n s e h = (
   c,
   encode_utf8_all cs ++ drop n bs,
-  first_true _ _ s,
+  (and_parts _ _ s).0,
   sym (take-append-drop n bs) ∙ ap (λ (x : List ℕ). x ++ drop n bs) (sym e) ∙ append_assoc (encode_utf8 c) (encode_utf8_all cs) (drop n bs),
 )
 

@@ -1,14 +1,5 @@
 -- What is wholly read.
-use Rattle.std.proofs.Common.{◌≡◌, ℕ, ◌≤◌, true, false, List, length, map, take, ap, ◌∙◌, arith}
-use Rattle.std.proofs.lemmas.List.{take_all}
-use Rattle.std.proofs.lemmas.Str.{utf8_valid_len-IsUtf8}
-use Rattle.std.specs.Str.{chars, IsUtf8}
-use Rattle.std.specs.Str.Lossy.{utf8_valid_len}
-use Rattle.names.specs.Placed.{placed}
-use Rattle.htext.specs.declared.Bom.{Bom}
-use Rattle.htext.specs.declared.BadBytes.{BadBytes}
-use Rattle.htext.specs.declared.BadBytes.TheVariants.{Refuse, Replace}
-use Rattle.htext.specs.Text.{Policy, Whole, normalized, text as text_of, front_len, read_len, decoded}
+use Rattle.htext.proofs.Names.{◌≡◌, ℕ, ◌≤◌, true, false, List, length, map, take, ap, ◌∙◌, arith, take_all, utf8_valid_len-IsUtf8, chars, IsUtf8, utf8_valid_len, placed, Bom, BadBytes, Refuse, Replace, Policy, Whole, normalized, text_of, front_len, read_len, decoded}
 use Rattle.htext.proofs.Valid.{valid_front, valid_front_utf8}
 use Rattle.htext.proofs.Parts.{reads_of_text}
 use Rattle.htext.proofs.Refusals.{all_read}

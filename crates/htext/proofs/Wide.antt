@@ -1,29 +1,14 @@
 -- Runs of characters in a text, by its bytes.
-use Rattle.std.proofs.Common.{◌≡◌, ℕ, ◌≤◌, ◌+◌, Bool, true, false, eqb, List, [], ◌∷◌, ◌++◌, map, length, take, drop, get_or, sym, refl, ap, ◌∙◌, subst, arith, append-nil, Result, Ok, Err}
-use Rattle.std.specs.Prelude.{encode_utf8_all}
-use Rattle.std.specs.List.{list_all}
-use Rattle.std.proofs.lemmas.Bool.Decides.{nat_tests}
-use Rattle.std.proofs.lemmas.Bool.{and_parts, and_from, eqb-true}
-use Rattle.std.proofs.lemmas.List.{take_at, drop_at, take-append-drop, length-append, length-take-le, length-drop, drop-drop, take_all, drop_all, nil_from_length}
-use Rattle.std.proofs.lemmas.List.Folds.{list_all-append}
+use Rattle.htext.proofs.Names.{◌≡◌, ℕ, ◌≤◌, ◌+◌, Bool, true, false, eqb, List, [], ◌∷◌, ◌++◌, map, length, take, drop, get_or, sym, refl, ap, ◌∙◌, subst, arith, append-nil, Result, Ok, Err, encode_utf8_all, list_all, nat_tests, and_parts, and_from, eqb-true, take_at, drop_at, take-append-drop, length-append, length-take-le, length-drop, drop-drop, take_all, nil_from_length, list_all-append, take-add, chars-append, encodes-chars, IsUtf8-append, IsUtf8-nil, IsUtf8-encode, IsUtf8-drop, length-encode, chars_past_char, chars-nil, scalars, chars, IsUtf8, IsScalar, encode_utf8, len_utf8, placed, Hands, Continues, Placed, Refusal, Bom, Whole, normalized, ends_in_return, CharItem, Character, items, items_of, is_plain_byte, is_plain, is_clean, run_items, IsCut, IsCleanFront}
+use Rattle.std.proofs.lemmas.List.{drop_all}
 use Rattle.std.proofs.Math.Seq.{get_or-append_seam}
-use Rattle.std.proofs.lemmas.Str.{chars-append, encodes-chars, scalars-chars, IsUtf8-append, IsUtf8-nil, IsUtf8-encode, IsUtf8-take, IsUtf8-drop, length-encode, chars_past_char, chars-nil}
-use Rattle.std.specs.Str.{all_scalars as scalars}
-use Rattle.std.specs.Str.{chars, IsUtf8, IsCharBoundary}
-use Rattle.std.specs.Char.{IsScalar, encode_utf8, len_utf8}
-use Rattle.names.specs.Placed.{placed}
-use Rattle.names.specs.Sink.{Hands, Continues}
-use Rattle.names.specs.declared.placed.Placed.{Placed}
-use Rattle.names.specs.declared.refusal.Refusal.{Refusal}
+use Rattle.std.proofs.lemmas.Str.{scalars-chars, IsUtf8-take}
+use Rattle.std.specs.Str.{IsCharBoundary}
 use Rattle.names.proofs.Handing.{Continues-more}
-use Rattle.htext.specs.declared.Bom.{Bom}
-use Rattle.htext.specs.Text.{Whole, normalized, ends_in_return}
-use Rattle.htext.specs.Items.{CharItem, Character, items, items_of}
-use Rattle.htext.specs.Run.{is_plain_byte, is_plain, is_clean, run_items, IsCut, IsCleanFront}
 use Rattle.htext.proofs.Handing.{Hands-front}
 use Rattle.htext.proofs.Parts.{placed-append}
 use Rattle.htext.proofs.Plain.{byte_plain, no_return, as_it_came, item_alone, begins_anew}
-use Rattle.htext.proofs.Runs.{take_more, plain_chars}
+use Rattle.htext.proofs.Runs.{plain_chars}
 
 -- a run of plain bytes as one of plain characters
 pub bytes_plain : (xs : List ℕ) → list_all is_plain_byte xs ≡ true → list_all is_plain xs ≡ true
@@ -53,13 +38,13 @@ module _ (n m : ℕ) (bytes : List ℕ) (cut : IsCut n bytes) (again : IsCut m (
   pub cut_more : IsCut (n + m) bytes
   cut_more = record {
     within = omega (arith, cut.within, again.within, length-drop n bytes);
-    front = subst IsUtf8 (sym (take_more n m bytes)) (IsUtf8-append (take n bytes) (take m (drop n bytes)) cut.front again.front);
+    front = subst IsUtf8 (sym (take-add n m bytes)) (IsUtf8-append (take n bytes) (take m (drop n bytes)) cut.front again.front);
     back = subst IsUtf8 (drop-drop m n bytes) again.back;
   }
 
   pub placed_more : (at : ℕ) → placed at (chars (take (n + m) bytes)) ≡ placed at (chars (take n bytes)) ++ placed (at + n) (chars (take m (drop n bytes)))
   placed_more at =
-      ap (λ (l : List ℕ). placed at (chars l)) (take_more n m bytes) ∙ ap (placed at) (chars-append (take n bytes) (take m (drop n bytes)) cut.front)
+      ap (λ (l : List ℕ). placed at (chars l)) (take-add n m bytes) ∙ ap (placed at) (chars-append (take n bytes) (take m (drop n bytes)) cut.front)
       ∙ placed-append at (chars (take n bytes)) (chars (take m (drop n bytes))) ∙ ap (λ (k : ℕ). placed at (chars (take n bytes)) ++ placed (at + k) (chars (take m (drop n bytes)))) (front_long n bytes cut)
 
 pub cut_all : (bytes : List ℕ) → IsUtf8 bytes → IsCut (length bytes) bytes

@@ -12,7 +12,7 @@ use Rattle.htext.specs.Text.{Read, Whole, Bad, character_of}
 abbrev pub is_stray_control : ℕ → Bool
 is_stray_control c = is_control c && not (c == 0 || is_space c)
 
--- the errors of the input stream that a character raises
+-- the errors of the input stream that a character raises (#preprocessing-the-input-stream)
 abbrev pub char_errors : Placed → List ParseError
 char_errors p = error_if (is_stray_control p.ch) ControlCharacterInInputStream p.at
     ++ error_if (is_noncharacter p.ch) NoncharacterInInputStream p.at

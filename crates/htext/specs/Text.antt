@@ -49,7 +49,8 @@ abbrev pub is_dropped_mark : Bom → Placed → Bool
 is_dropped_mark Drop p = p.at == 0 && p.ch == 0xFEFF
 is_dropped_mark Keep p = false
 
--- What a character is in the text, where newlines are normalized: an LF right after a CR is left out, and each CR is an LF.
+-- What a character is in the text. Normalize newlines (Infra Standard, #normalize-newlines): an LF right after a CR is left out, and each
+-- CR is an LF.
 abbrev pub read_as : Bom → Bool → Placed → List Placed
 read_as bom after_return p =
     if is_dropped_mark bom p || (after_return && p.ch == 0x0A) then []
@@ -67,7 +68,7 @@ ends_in_return after_return [] = after_return
 ends_in_return after_return (Whole p ∷ rs) = ends_in_return (p.ch == 0x0D) rs
 ends_in_return after_return (Bad at ∷ rs) = ends_in_return false rs
 
--- the text of bytes that are all read
+-- the text of bytes that are all read: preprocessing the input stream (#preprocessing-the-input-stream)
 abbrev pub text : Bom → List ℕ → List Read
 text bom bytes = normalized bom false (reads bytes)
 

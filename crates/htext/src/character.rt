@@ -13,7 +13,8 @@ use names::{ErrorCode, ParseError, Refusal, is_noncharacter};
 
 const BYTE_ORDER_MARK: char = '\u{FEFF}';
 
-/// Hands over what a character is in the text, after its errors.
+/// Hands over what a character is in the text, with newlines normalized, after its errors: preprocessing the input stream
+/// (`#preprocessing-the-input-stream`).
 #[inline]
 pub(crate) fn hand_char<S: CharSink>(
     bom: Bom,

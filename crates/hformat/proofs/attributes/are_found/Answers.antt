@@ -1,10 +1,5 @@
-use Rattle.std.proofs.Common.{rules, tests, ◌∙◌, sym, nat_eq, map}
-use Rattle.std.specs.List.{list_any}
-use Rattle.std.proofs.lemmas.Iterator.{YieldsList-from_slice}
+use Rattle.hformat.proofs.Names.{rules, tests, ◌∙◌, sym, nat_eq, map, list_any, YieldsList-from_slice, list_all-map, attribute_of, same_attribute}
 use Rattle.std.proofs.lemmas.Iterator.Search.{all_from_yields_List}
-use Rattle.std.proofs.lemmas.List.Folds.{list_all-map}
-use Rattle.hnodes.specs.Rows.{attribute_of}
-use Rattle.hformat.specs.Formatting.{same_attribute}
 use Rattle.hformat.proofs.attributes.are_found.Goals as goal
 
 pub returns : goal.returns

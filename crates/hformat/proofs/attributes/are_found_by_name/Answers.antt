@@ -1,10 +1,6 @@
-use Rattle.std.proofs.Common.{◌≡◌, Bool, false, List, map, nat_eq, rules, sym, ◌∙◌, ap, arith}
-use Rattle.std.specs.List.{list_all, list_any}
+use Rattle.hformat.proofs.Names.{◌≡◌, Bool, false, List, map, nat_eq, rules, sym, ◌∙◌, ap, arith, list_all, list_any, list_all-map, attribute_of, Attr, are_among, same_attribute}
 use Rattle.std.proofs.lemmas.List.{take_all}
-use Rattle.std.proofs.lemmas.List.Folds.{list_all-map, list_all_at}
-use Rattle.hnodes.specs.Rows.{attribute_of}
-use Rattle.names.specs.declared.attr.Attr.{Attr}
-use Rattle.hformat.specs.Formatting.{are_among, same_attribute}
+use Rattle.std.proofs.lemmas.List.Folds.{list_all_at}
 use Rattle.hformat.proofs.attributes.are_found_by_name.Goals as goal
 
 -- whether an attribute is in the other list

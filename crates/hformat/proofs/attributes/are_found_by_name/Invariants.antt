@@ -1,7 +1,4 @@
-use Rattle.std.proofs.Common.{◌≡◌, true, map, nat_eq, take}
-use Rattle.std.specs.List.{list_all, list_any}
-use Rattle.hnodes.specs.Rows.{attribute_of}
-use Rattle.hformat.specs.Formatting.{same_attribute}
+use Rattle.hformat.proofs.Names.{◌≡◌, true, map, nat_eq, take, list_all, list_any, attribute_of, same_attribute}
 use Rattle.hformat.proofs.attributes.are_found_by_name.Given as goal
 
 abbrev pub invariant-loop-attr : goal.invariant-loop-attr

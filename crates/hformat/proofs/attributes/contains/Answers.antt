@@ -1,9 +1,5 @@
-use Rattle.std.proofs.Common.{rules, tests, ◌∙◌, sym, refl, nat_eq}
-use Rattle.std.proofs.lemmas.Iterator.{YieldsList-from_slice}
+use Rattle.hformat.proofs.Names.{rules, tests, ◌∙◌, sym, refl, nat_eq, YieldsList-from_slice, attribute_of, same_attribute, any-map}
 use Rattle.std.proofs.lemmas.Iterator.Search.{any_from_yields_List}
-use Rattle.hnodes.specs.Rows.{attribute_of}
-use Rattle.hformat.specs.Formatting.{same_attribute}
-use Rattle.hchain.proofs.Images.{any-map}
 use Rattle.hformat.proofs.attributes.contains.Goals as goal
 
 pub returns : goal.returns

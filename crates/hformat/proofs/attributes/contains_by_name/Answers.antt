@@ -1,14 +1,8 @@
-use Rattle.std.proofs.Common.{◌≡◌, ℕ, suc, ◌-◌, ◌<◌, ◌==◌, Bool, true, false, ◌&&◌, List, map, length, take, get_or, nat_eq, bytes_eq, refl, sym, ◌∙◌, ap, subst, arith}
-use Rattle.std.specs.List.{list_any}
-use Rattle.std.proofs.lemmas.Bool.{eqb-true}
-use Rattle.std.proofs.lemmas.List.{length-map, take_all}
+use Rattle.hformat.proofs.Names.{◌≡◌, ℕ, suc, ◌-◌, ◌<◌, ◌==◌, Bool, true, false, ◌&&◌, List, map, length, take, get_or, nat_eq, refl, sym, ◌∙◌, ap, subst, arith, list_any, eqb-true, length-map, last_up, attribute_of, Attr, same_attribute, any-map}
+use Rattle.std.proofs.Common.{bytes_eq}
+use Rattle.std.proofs.lemmas.List.{take_all}
 use Rattle.std.proofs.lemmas.List.Folds.{list_any_at}
-use Rattle.hchain.specs.Chains.{last_up}
-use Rattle.hnodes.specs.Rows.{attribute_of}
-use Rattle.names.specs.declared.attr.Attr.{Attr}
-use Rattle.hformat.specs.Formatting.{same_attribute}
 use Rattle.hformat.proofs.ByName.{Last, any-less, last-found}
-use Rattle.hchain.proofs.Images.{any-map}
 use Rattle.hformat.proofs.attributes.contains_by_name.Goals as goal
 
 abbrev sought : Attr → Attr → Bool

@@ -1,8 +1,4 @@
-use Rattle.std.proofs.Common.{◌≡◌, suc, nat_eq, ◌-◌, ◌<◌, ◌≤◌, length, take, get_or}
-use Rattle.std.specs.List.{list_any}
-use Rattle.hnodes.specs.Rows.{attribute_of}
-use Rattle.names.specs.declared.attr.Attr.{Attr}
-use Rattle.hformat.specs.Formatting.{same_attribute}
+use Rattle.hformat.proofs.Names.{◌≡◌, suc, nat_eq, ◌-◌, ◌<◌, ◌≤◌, length, take, get_or, list_any, attribute_of, Attr, same_attribute}
 use Rattle.hformat.proofs.attributes.contains_by_name.Given as goal
 
 -- after the place the attribute is nowhere

@@ -1,6 +1,4 @@
-use Rattle.std.proofs.Common.{◌∙◌, ap, sym, subst, refl}
-use Rattle.hformat.specs.Items.{items_of, live}
-use Rattle.hformat.specs.Listed.{IsListed}
+use Rattle.hformat.proofs.Names.{◌∙◌, ap, sym, subst, refl, items_of, live, IsListed}
 use Rattle.hformat.proofs.Slotted.{listed-same}
 use Rattle.hformat.proofs.Holes.{live-tail}
 use Rattle.hformat.proofs.formatting.make_room.Goals as goal

@@ -1,6 +1,4 @@
-use Rattle.std.proofs.Common.{◌≡◌, ◌-◌, ◌≤◌, Some, length, sym, ◌∙◌, ap, arith}
-use Rattle.std.specs.Option.{option_map}
-use Rattle.hformat.specs.Items.{items_of}
+use Rattle.hformat.proofs.Names.{◌≡◌, ◌-◌, ◌≤◌, Some, length, sym, ◌∙◌, ap, arith, option_map, items_of}
 use Rattle.hformat.proofs.Holes.{solid-end}
 use Rattle.hformat.proofs.ItemLists.{length-items_of}
 use Rattle.hformat.proofs.Live.{nth-solid}

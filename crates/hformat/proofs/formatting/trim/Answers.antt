@@ -1,5 +1,4 @@
-use Rattle.std.proofs.Common.{◌≡◌, ◌-◌, true, take_all, subst, sym, ◌∙◌, ap, arith}
-use Rattle.hformat.specs.Items.{IsStored, is_hole, item_of, items_of, live}
+use Rattle.hformat.proofs.Names.{◌≡◌, ◌-◌, true, take_all, subst, sym, ◌∙◌, ap, arith, IsStored, is_hole, item_of, items_of, live}
 use Rattle.hformat.proofs.Holes.{gone-is, live-dropped}
 use Rattle.hformat.proofs.formatting.trim.Goals as goal
 

@@ -1,5 +1,4 @@
-use Rattle.std.proofs.Common.{◌≡◌, ◌≤◌, length, take}
-use Rattle.hformat.specs.Items.{items_of, live}
+use Rattle.hformat.proofs.Names.{◌≡◌, ◌≤◌, length, take, items_of, live}
 use Rattle.hformat.proofs.formatting.trim.Given as goal
 
 abbrev pub invariant-loop-len : goal.invariant-loop-len

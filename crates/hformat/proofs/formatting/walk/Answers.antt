@@ -1,7 +1,4 @@
-use Rattle.std.proofs.Common.{◌≡◌, suc, ◌+◌, ◌-◌, true, take, arith, subst, ◌∷◌, sym, ◌∙◌, ap}
-use Rattle.std.specs.Option.{option_map}
-use Rattle.hformat.specs.Holes.{nth_live}
-use Rattle.hformat.specs.Items.{IsStored, is_hole, item_of, items_of}
+use Rattle.hformat.proofs.Names.{◌≡◌, suc, ◌+◌, ◌-◌, true, take, arith, subst, ◌∷◌, sym, ◌∙◌, ap, option_map, nth_live, IsStored, is_hole, item_of, items_of}
 use Rattle.hformat.proofs.Holes.{further, gone-is, none-further, nth-hole, taken}
 use Rattle.hformat.proofs.formatting.walk.Goals as goal
 

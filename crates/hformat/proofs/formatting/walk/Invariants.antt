@@ -1,7 +1,4 @@
-use Rattle.std.proofs.Common.{◌≡◌, ◌+◌, ◌-◌, ◌≤◌, take}
-use Rattle.std.specs.Option.{option_map}
-use Rattle.hformat.specs.Holes.{nth_live}
-use Rattle.hformat.specs.Items.{items_of}
+use Rattle.hformat.proofs.Names.{◌≡◌, ◌+◌, ◌-◌, ◌≤◌, take, option_map, nth_live, items_of}
 use Rattle.hformat.proofs.formatting.walk.Given as goal
 
 abbrev pub invariant-loop-index : goal.invariant-loop-index

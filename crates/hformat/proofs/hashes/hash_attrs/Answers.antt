@@ -1,7 +1,5 @@
-use Rattle.std.proofs.Common.{eqb, map, ◌∙◌, ap, take_all}
+use Rattle.hformat.proofs.Names.{eqb, map, ◌∙◌, ap, take_all, attribute_of, distinct, hash_of}
 use Rattle.std.proofs.lemmas.List.Filters.{dedup_is}
-use Rattle.hnodes.specs.Rows.{attribute_of}
-use Rattle.hformat.specs.Hashes.{distinct, hash_of}
 use Rattle.hformat.proofs.SameHash.{sorted-distinct}
 use Rattle.hformat.proofs.hashes.hash_attrs.Goals as goal
 

@@ -1,6 +1,4 @@
-use Rattle.std.proofs.Common.{◌≡◌, map, take}
-use Rattle.hnodes.specs.Rows.{attribute_of}
-use Rattle.hformat.specs.Hashes.{hash_of}
+use Rattle.hformat.proofs.Names.{◌≡◌, map, take, attribute_of, hash_of}
 use Rattle.hformat.proofs.hashes.hash_attrs.Given as goal
 
 abbrev pub invariant-loop-attr : goal.invariant-loop-attr

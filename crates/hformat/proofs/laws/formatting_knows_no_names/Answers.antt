@@ -1,4 +1,5 @@
-use Rattle.std.specs.Prelude.{nat_eq, bytes_eq}
+use Rattle.hformat.proofs.Names.{bytes_eq}
+use Rattle.std.specs.Prelude.{nat_eq}
 use Rattle.hformat.proofs.Spellings.{formatting_spelled}
 use Rattle.hformat.proofs.laws.formatting_knows_no_names.Goals as goal
 

@@ -1,15 +1,7 @@
-use Rattle.std.proofs.Common.{◌≡◌, ℕ, suc, ◌+◌, ◌<◌, ◌++◌, ◌∷◌, [], List, length, take, get_or, set, subst, refl, sym, ◌∙◌, ap, arith}
-use Rattle.std.proofs.lemmas.List.{length-append, length-map, length-take-le, map-append}
+use Rattle.hformat.proofs.Names.{◌≡◌, ℕ, suc, ◌+◌, ◌<◌, ◌++◌, ◌∷◌, [], List, length, take, get_or, set, subst, refl, sym, ◌∙◌, ap, arith, length-append, length-map, length-take-le, map-append, ne_eqb, All-get_or, none, EntryOf, IsStored, item_of, nowhere, by_hash, number_by, numbers_by, Stored}
 use Rattle.std.proofs.Math.Seq.{set-append_seam}
-use Rattle.std.proofs.lemmas.Bool.{ne_eqb}
-use Rattle.std.proofs.lemmas.List.Elements.{All-get_or}
 use Rattle.hformat.specs.Hashes.{token_hash}
-use Rattle.hchain.specs.Chains.{none}
 use Rattle.hchain.proofs.Tables.{take-more}
-use Rattle.hformat.specs.Formatting.{EntryOf}
-use Rattle.hformat.specs.Items.{IsStored, item_of, nowhere}
-use Rattle.hformat.specs.Listed.{by_hash, number_by, numbers_by}
-use Rattle.hformat.specs.declared.entry.Slot.{Slot as Stored}
 use Rattle.hformat.proofs.slots.hash_items.Goals as goal
 use Rattle.hformat.proofs.slots.hash_items.Goals.{in-Entry+in_ok-find_hash-in-Entry+in_ok-push-in-Entry, in-Marker+in_ok-push-in-Marker, in-Hole+in_ok-push-in-Hole}
 

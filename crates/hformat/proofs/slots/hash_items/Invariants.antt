@@ -1,5 +1,4 @@
-use Rattle.std.proofs.Common.{◌≡◌, take}
-use Rattle.hformat.specs.Listed.{by_hash, numbers_by}
+use Rattle.hformat.proofs.Names.{◌≡◌, take, by_hash, numbers_by}
 use Rattle.hformat.proofs.slots.hash_items.Given as goal
 
 abbrev pub invariant-loop-index : goal.invariant-loop-index

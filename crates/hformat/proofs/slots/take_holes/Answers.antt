@@ -1,7 +1,5 @@
-use Rattle.std.proofs.Common.{◌≡◌, ◌+◌, ◌<◌, get_or, length, sym, ◌∙◌, ap, arith, subst, Vec, Global}
-use Rattle.std.proofs.lemmas.List.{get_or_read}
-use Rattle.hformat.specs.Items.{is_gone}
-use Rattle.hformat.specs.declared.entry.Slot.{Slot as Stored}
+use Rattle.hformat.proofs.Names.{◌≡◌, ◌+◌, ◌<◌, get_or, length, sym, ◌∙◌, ap, arith, subst, get_or_read, is_gone, Stored}
+use Rattle.std.proofs.Common.{Vec, Global}
 use Rattle.hformat.specs.declared.entry.Slot.TheVariants as stored
 use Rattle.hformat.proofs.Closed.{IsTaken, taken-hole, taken-item}
 use Rattle.hformat.proofs.slots.take_holes.Goals as goal

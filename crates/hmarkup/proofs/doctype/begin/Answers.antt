@@ -1,4 +1,4 @@
-use Rattle.std.proofs.Common.{rules}
+use Rattle.hmarkup.proofs.Names.{rules}
 use Rattle.hmarkup.proofs.doctype.begin.Goals as goal
 
 pub returns-then-is_none : goal.returns-then-is_none

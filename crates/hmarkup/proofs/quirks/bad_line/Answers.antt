@@ -1,4 +1,4 @@
-use Rattle.std.proofs.Common.{rules}
+use Rattle.hmarkup.proofs.Names.{rules}
 use Rattle.hmarkup.proofs.quirks.bad_line.Goals as goal
 
 pub returns : goal.returns

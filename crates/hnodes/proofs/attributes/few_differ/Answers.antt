@@ -1,4 +1,4 @@
-use Rattle.std.proofs.Common.{true, false}
+use Rattle.hnodes.proofs.Names.{true, false}
 use Rattle.hnodes.proofs.Differing.{differ-one, none-left}
 use Rattle.hnodes.proofs.attributes.few_differ.Goals as goal
 

@@ -1,4 +1,4 @@
-use Rattle.std.proofs.Common.{◌≡◌}
+use Rattle.hnodes.proofs.Names.{◌≡◌}
 use Rattle.hnodes.proofs.Differing.{differ_from}
 use Rattle.hnodes.proofs.attributes.few_differ.Given as goal
 

@@ -1,5 +1,4 @@
-use Rattle.std.proofs.Common.{arith}
-use Rattle.std.proofs.lemmas.Grind.{common_steps}
+use Rattle.hnodes.proofs.Names.{arith, common_steps}
 use Rattle.hnodes.proofs.attributes.index_more.Goals as goal
 
 pub loop-index-preserved : goal.loop-index-preserved

@@ -1,5 +1,4 @@
-use Rattle.std.proofs.Common.{◌≡◌, take}
-use Rattle.hnodes.specs.Numbered.{numbers_of}
+use Rattle.hnodes.proofs.Names.{◌≡◌, take, numbers_of}
 use Rattle.hnodes.proofs.attributes.index_more.Given as goal
 
 abbrev pub invariant-loop-index : goal.invariant-loop-index

@@ -1,5 +1,4 @@
-use Rattle.std.proofs.Common.{◌≡◌, take}
-use Rattle.hnodes.specs.Numbered.{names_of}
+use Rattle.hnodes.proofs.Names.{◌≡◌, take, names_of}
 use Rattle.hnodes.proofs.attributes.ordered_names.Given as goal
 
 abbrev pub invariant-loop-attr : goal.invariant-loop-attr

@@ -1,4 +1,4 @@
-use Rattle.std.proofs.Common.{rules}
+use Rattle.hnodes.proofs.Names.{rules}
 use Rattle.std.proofs.lemmas.Fn.{always_returns_same}
 use Rattle.std.specs.Prelude.{ltb}
 use Rattle.hnodes.proofs.Differing.{rising}

@@ -1,6 +1,4 @@
-use Rattle.std.proofs.Common.{ℕ, Option, sym, ◌∙◌, ap, subst}
-use Rattle.hnodes.specs.Links.{parent_in, previous_in, next_in, with_place}
-use Rattle.hnodes.specs.Rows.{IsChanged}
+use Rattle.hnodes.proofs.Names.{ℕ, Option, sym, ◌∙◌, ap, subst, parent_in, previous_in, next_in, with_place, IsChanged}
 use Rattle.hnodes.proofs.Rows.{row_seen}
 use Rattle.hnodes.proofs.Relinks.{detached_by, stays_by}
 use Rattle.hnodes.proofs.links.detach.Goals as goal

@@ -1,6 +1,4 @@
-use Rattle.std.proofs.Common.{ℕ, Option, subst}
-use Rattle.hnodes.specs.Links.{after_link, before_link, with_place}
-use Rattle.hnodes.specs.Rows.{IsSeenAs, IsChanged}
+use Rattle.hnodes.proofs.Names.{ℕ, Option, subst, after_link, before_link, with_place, IsSeenAs, IsChanged}
 use Rattle.hnodes.proofs.Relinks.{placed_by}
 use Rattle.hnodes.proofs.links.hook.Goals as goal
 

@@ -1,4 +1,4 @@
-use Rattle.std.proofs.Common.{refl}
+use Rattle.hnodes.proofs.Names.{refl}
 use Rattle.hnodes.proofs.Rows.{changed}
 use Rattle.hnodes.proofs.links.set_first.Goals as goal
 

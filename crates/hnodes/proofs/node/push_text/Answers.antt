@@ -1,8 +1,4 @@
-use Rattle.std.proofs.lemmas.Result.{err_from_is_err_and}
-use Rattle.std.proofs.Common.{ap}
-use Rattle.hnodes.specs.Edits.{with_text}
-use Rattle.hnodes.specs.Links.{with_what}
-use Rattle.hnodes.specs.Rows.{row_of}
+use Rattle.hnodes.proofs.Names.{err_from_is_err_and, ap, with_text, with_what, row_of}
 use Rattle.hnodes.proofs.Rows.{changed}
 use Rattle.hnodes.proofs.Contents.{unchanged}
 use Rattle.hnodes.proofs.node.push_text.Goals as goal

@@ -1,5 +1,4 @@
-use Rattle.std.proofs.Common.{ap}
-use Rattle.hnodes.specs.Rows.{row_of}
+use Rattle.hnodes.proofs.Names.{ap, row_of}
 use Rattle.hnodes.proofs.Contents.{unchanged}
 use Rattle.hnodes.proofs.node.widen.Goals as goal
 

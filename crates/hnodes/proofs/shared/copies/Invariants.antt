@@ -1,5 +1,4 @@
-use Rattle.std.proofs.Common.{◌≡◌, map, take}
-use Rattle.hnodes.specs.Rows.{attribute_of}
+use Rattle.hnodes.proofs.Names.{◌≡◌, map, take, attribute_of}
 use Rattle.hnodes.proofs.shared.copies.Given as goal
 
 abbrev pub invariant-loop-attr : goal.invariant-loop-attr

@@ -1,4 +1,4 @@
-use Rattle.std.proofs.Common.{rules}
+use Rattle.htext.proofs.Names.{rules}
 use Rattle.htext.proofs.character.is_dropped_mark.Goals as goal
 
 pub returns-in-Keep : goal.returns-in-Keep

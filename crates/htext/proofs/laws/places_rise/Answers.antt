@@ -1,6 +1,4 @@
-use Rattle.std.proofs.Common.{map, take, subst, true}
-use Rattle.std.proofs.lemmas.List.{length-take-le}
-use Rattle.htext.specs.Text.{PlacesRise, character_of, decoded, read_len}
+use Rattle.htext.proofs.Names.{map, take, subst, true, length-take-le, PlacesRise, character_of, decoded, read_len}
 use Rattle.htext.proofs.Fronts.{front_le}
 use Rattle.htext.proofs.Texts.{text_rises}
 use Rattle.htext.proofs.laws.places_rise.Goals as goal

@@ -1,10 +1,5 @@
-use Rattle.std.proofs.Common.{◌≡◌, ◌++◌, length, subst, sym, None, Some}
-use Rattle.std.specs.Prelude.{◌↔◌, ◌≤◌}
-use Rattle.std.specs.Char.{encode_utf8}
-use Rattle.std.specs.Str.{IsUtf8}
-use Rattle.names.specs.declared.refusal.Refusal.TheVariants.{NotUtf8, TooLarge}
-use Rattle.htext.specs.declared.BadBytes.{BadBytes}
-use Rattle.htext.specs.Text.{refusal_of}
+use Rattle.htext.proofs.Names.{◌≡◌, ◌++◌, length, subst, sym, None, Some, ◌↔◌, encode_utf8, IsUtf8, NotUtf8, TooLarge, BadBytes, refusal_of}
+use Rattle.std.specs.Prelude.{◌≤◌}
 use Rattle.htext.proofs.Refusals.{accepted, too_large, not_utf8, replaced}
 use Rattle.htext.proofs.laws.refusals_are_of_what_follows.Goals as goal
 

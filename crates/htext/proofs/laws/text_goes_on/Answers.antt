@@ -1,4 +1,4 @@
-use Rattle.std.proofs.Common.{true, false}
+use Rattle.htext.proofs.Names.{true, false}
 use Rattle.htext.proofs.Texts.{goes_on}
 use Rattle.htext.proofs.laws.text_goes_on.Goals as goal
 

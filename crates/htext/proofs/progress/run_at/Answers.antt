@@ -1,6 +1,4 @@
-use Rattle.std.proofs.Common.{◌∙◌, ap, sym, subst, ℕ}
-use Rattle.std.specs.List.{prefix_len}
-use Rattle.htext.specs.Run.{is_clean_byte, IsCleanFront}
+use Rattle.htext.proofs.Names.{◌∙◌, ap, sym, subst, ℕ, prefix_len, is_clean_byte, IsCleanFront}
 use Rattle.htext.proofs.Clean.{clean_front, nothing_front}
 use Rattle.htext.proofs.progress.run_at.Goals as goal
 

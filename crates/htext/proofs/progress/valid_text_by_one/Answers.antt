@@ -1,6 +1,4 @@
-use Rattle.std.proofs.Common.{sym, ◌∙◌, arith}
-use Rattle.std.proofs.lemmas.Str.{utf8_valid_len-IsUtf8}
-use Rattle.std.proofs.lemmas.List.{take_all}
+use Rattle.htext.proofs.Names.{sym, ◌∙◌, arith, utf8_valid_len-IsUtf8, take_all}
 use Rattle.htext.proofs.progress.valid_text_by_one.Goals as goal
 
 pub returns-in-Ok : goal.returns-in-Ok

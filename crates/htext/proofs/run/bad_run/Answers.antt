@@ -1,6 +1,4 @@
-use Rattle.std.proofs.Common.{arith, refl, subst, length, drop, ◌-◌}
-use Rattle.std.proofs.lemmas.List.{take_all, length-drop}
-use Rattle.htext.specs.Next.{IsBadAlone}
+use Rattle.htext.proofs.Names.{arith, refl, subst, length, drop, ◌-◌, take_all, length-drop, IsBadAlone}
 use Rattle.htext.proofs.Alone.{are_bad_more}
 use Rattle.htext.proofs.run.bad_run.Goals as goal
 

@@ -1,5 +1,4 @@
-use Rattle.std.proofs.Common.{◌≤◌, ◌-◌}
-use Rattle.htext.specs.Next.{AreBad}
+use Rattle.htext.proofs.Names.{◌≤◌, ◌-◌, AreBad}
 use Rattle.htext.proofs.run.bad_run.Given as goal
 
 abbrev pub invariant-loop-count : goal.invariant-loop-count

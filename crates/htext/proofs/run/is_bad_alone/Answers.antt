@@ -1,5 +1,4 @@
-use Rattle.std.proofs.Common.{◌≤◌, length, refl, arith}
-use Rattle.std.proofs.lemmas.Bool.Decides.{nat_tests}
+use Rattle.htext.proofs.Names.{◌≤◌, length, refl, arith, nat_tests}
 use Rattle.htext.proofs.Alone.{alone_first, not_ascii, not_last, by_next}
 use Rattle.htext.proofs.run.is_bad_alone.Goals as goal
 

@@ -1,8 +1,6 @@
-use Rattle.std.proofs.Common.{◌≡◌, ◌∙◌, ℕ, List, ap, bit_and, bit_or, cond, ltb, length, map, replicate, sym, arith}
-use Rattle.std.proofs.lemmas.List.{length-map, map-id}
-use Rattle.std.proofs.lemmas.Simd.{map-map, zip2_of_maps, zip2_splat, zip2_splat_left}
-use lib.Lanes.{zip2}
-use Rattle.htext.specs.Run.{is_not_of}
+use Rattle.htext.proofs.Names.{◌≡◌, ◌∙◌, ℕ, List, ap, bit_and, bit_or, cond, length, map, replicate, sym, arith, length-map, map-map, zip2_of_maps, zip2_splat, zip2_splat_left, zip2, is_not_of}
+use Rattle.std.proofs.Common.{ltb}
+use Rattle.std.proofs.lemmas.List.{map-id}
 use Rattle.htext.specs.declared.run.RunBytes.TheVariants.{Alphanumeric}
 use Rattle.htext.proofs.Lanes.{masked}
 use Rattle.htext.proofs.run.others_than_alphanumerics.Goals as goal

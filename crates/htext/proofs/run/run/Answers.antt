@@ -1,6 +1,4 @@
-use Rattle.std.proofs.Common.{ap, ◌∙◌, sym, arith}
-use lib.Count.{count_trailing_zeros}
-use Rattle.htext.specs.Run.{is_of}
+use Rattle.htext.proofs.Names.{ap, ◌∙◌, sym, arith, count_trailing_zeros, is_of}
 use Rattle.htext.proofs.Lanes.{run_through, run_stops}
 use Rattle.htext.proofs.run.run.Goals as goal
 

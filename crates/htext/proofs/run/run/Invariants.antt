@@ -1,6 +1,4 @@
-use Rattle.std.proofs.Common.{◌≡◌, ◌+◌, ◌-◌, ◌≤◌, length, drop}
-use Rattle.std.specs.List.{prefix_len}
-use Rattle.htext.specs.Run.{is_of}
+use Rattle.htext.proofs.Names.{◌≡◌, ◌+◌, ◌-◌, ◌≤◌, length, drop, prefix_len, is_of}
 use Rattle.htext.proofs.run.run.Given as goal
 
 abbrev pub invariant-loop-count : goal.invariant-loop-count

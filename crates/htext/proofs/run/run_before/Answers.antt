@@ -1,5 +1,5 @@
-use Rattle.std.proofs.Common.{◌==◌, not, arith}
-use Rattle.std.proofs.lemmas.List.Sums.{prefix_len-le-length}
+use Rattle.htext.proofs.Names.{not, arith, prefix_len-le-length}
+use Rattle.std.proofs.Common.{◌==◌}
 use Rattle.htext.proofs.run.run_before.Goals as goal
 
 pub returns-clause-few : goal.returns-clause-few

@@ -1,6 +1,4 @@
-use Rattle.std.proofs.Common.{◌≡◌, ◌+◌, drop}
-use Rattle.std.specs.List.{prefix_len}
-use Rattle.htext.specs.Run.{is_of}
+use Rattle.htext.proofs.Names.{◌≡◌, ◌+◌, drop, prefix_len, is_of}
 use Rattle.htext.proofs.run.run_by_one.Given as goal
 
 abbrev pub invariant-loop-index : goal.invariant-loop-index

@@ -1,7 +1,5 @@
-use Rattle.std.proofs.Common.{◌≡◌, ℕ, List, bit_or, cond, leb, length, map, replicate, arith}
-use Rattle.std.proofs.lemmas.Simd.{zip2_splat, zip2_splat_left, zip2_of_maps}
-use lib.Lanes.{zip2}
-use Rattle.htext.specs.Run.{is_not_of}
+use Rattle.htext.proofs.Names.{◌≡◌, ℕ, List, bit_or, cond, length, map, replicate, arith, zip2_splat, zip2_splat_left, zip2_of_maps, zip2, is_not_of}
+use Rattle.std.proofs.Common.{leb}
 use Rattle.htext.specs.declared.run.RunBytes.TheVariants.{Inner, Text, Other}
 use Rattle.htext.proofs.Lanes.{hit, hit_top, masked, masked_by}
 use Rattle.htext.proofs.run.stops.Goals as goal

@@ -1,7 +1,4 @@
-use Rattle.std.proofs.Common.{◌/◌, ℕ, bit_and, get_or, arith}
-use Rattle.std.proofs.lemmas.Nat.{and_le_r}
-use Rattle.std.proofs.lemmas.Simd.{zip2_splat, zip2_of_maps}
-use Rattle.htext.specs.Run.{is_not_of}
+use Rattle.htext.proofs.Names.{◌/◌, ℕ, bit_and, get_or, arith, and_le_r, zip2_splat, zip2_of_maps, is_not_of}
 use Rattle.htext.specs.declared.run.RunBytes.TheVariants.{Clean}
 use Rattle.htext.specs.declared.run.TheConstants.{BY_LOW, BY_HIGH}
 use Rattle.htext.proofs.Lanes.{down, hit, hit_of, low_half, high_half, looked_up, masked}

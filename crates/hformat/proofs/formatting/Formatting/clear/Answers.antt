@@ -1,7 +1,4 @@
-use Rattle.std.proofs.Common.{◌≡◌, reverse, sym, ◌∙◌, ap, arith}
-use Rattle.hformat.specs.Formatting.{cleared}
-use Rattle.hformat.specs.Items.{items_of, live}
-use Rattle.hformat.specs.Listed.{by_name}
+use Rattle.hformat.proofs.Names.{◌≡◌, reverse, sym, ◌∙◌, ap, arith, cleared, items_of, live, by_name}
 use Rattle.hformat.proofs.Chained.{last-is, last_of}
 use Rattle.hformat.proofs.ItemLists.{length-items_of}
 use Rattle.hformat.proofs.Listed.{numbers-back, marker_place, place-le, cleared-take}

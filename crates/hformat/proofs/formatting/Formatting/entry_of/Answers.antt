@@ -1,14 +1,9 @@
-use Rattle.std.proofs.Common.{◌≡◌, suc, ◌+◌, ◌-◌, ◌<◌, length, reverse, sym, ◌∙◌, ap, arith}
-use Rattle.std.specs.Option.{option_and_then}
-use Rattle.hformat.specs.Formatting.{as_entry, entry_of, is_entry}
-use Rattle.hformat.specs.Items.{item_of, items_of}
-use Rattle.hformat.specs.Listed.{by_node}
+use Rattle.hformat.proofs.Names.{◌≡◌, suc, ◌+◌, ◌-◌, ◌<◌, length, reverse, sym, ◌∙◌, ap, arith, option_and_then, as_entry, entry_of, is_entry, item_of, items_of, by_node, no_words, slice_get_nearest, words}
 use Rattle.hformat.proofs.Chained.{last-is, last_of}
 use Rattle.hformat.proofs.Holes.{entry_of-is, no-position, node-at, node-none, node_place, place-there, slots-are, told-is}
 use Rattle.hformat.proofs.ItemLists.{length-items_of}
 use Rattle.hformat.proofs.Listed.{numbers-back, place-le}
 use Rattle.hformat.proofs.Live.{entry_of-live}
-use Rattle.hchain.proofs.Nearest.{no_words, slice_get_nearest, words}
 use Rattle.hformat.proofs.formatting.Formatting.entry_of.Goals as goal
 
 pub returns-then-place-eq0 : goal.returns-then-place-eq0

@@ -1,14 +1,9 @@
-use Rattle.std.proofs.Common.{◌≡◌, suc, ◌+◌, ◌-◌, length, reverse, nat_eq, sym, ◌∙◌, ap, arith}
-use Rattle.std.specs.Option.{option_and_then}
-use Rattle.hformat.specs.Formatting.{as_entry, find_entry}
-use Rattle.hformat.specs.Items.{item_of, items_of}
-use Rattle.hformat.specs.Listed.{by_name}
+use Rattle.hformat.proofs.Names.{◌≡◌, suc, ◌+◌, ◌-◌, length, reverse, nat_eq, sym, ◌∙◌, ap, arith, option_and_then, as_entry, find_entry, item_of, items_of, by_name, slice_get_nearest}
 use Rattle.hformat.proofs.Chained.{last-is, last_of}
 use Rattle.hformat.proofs.Holes.{place-there, told-is}
 use Rattle.hformat.proofs.ItemLists.{length-items_of}
 use Rattle.hformat.proofs.Listed.{numbers-back, marker_place, name_place, place-le, find-none, find-at}
 use Rattle.hformat.proofs.Live.{find-live}
-use Rattle.hchain.proofs.Nearest.{slice_get_nearest}
 use Rattle.hformat.proofs.formatting.Formatting.find.Goals as goal
 
 pub returns-then-place-last : goal.returns-then-place-last

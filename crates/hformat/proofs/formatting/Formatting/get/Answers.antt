@@ -1,8 +1,5 @@
-use Rattle.std.proofs.Common.{sym, ◌∙◌, ap}
-use Rattle.std.specs.Option.{option_and_then, option_map}
+use Rattle.hformat.proofs.Names.{sym, ◌∙◌, ap, option_and_then, option_map, as_entry, entry_at, entry_is, items_of, live}
 use Rattle.std.proofs.lemmas.Option.{slice_get_past}
-use Rattle.hformat.specs.Formatting.{as_entry, entry_at}
-use Rattle.hformat.specs.Items.{entry_is, items_of, live}
 use Rattle.hformat.proofs.Holes.{nth-index, nth-item, nth-missing, nth-there, told-is}
 use Rattle.hformat.proofs.Live.{nth-get}
 use Rattle.hformat.proofs.formatting.Formatting.get.Goals as goal

@@ -1,10 +1,5 @@
-use Rattle.std.proofs.Common.{◌≡◌, suc, ◌+◌, ◌-◌, ◌<◌, length, reverse, refl, sym, ◌∙◌, ap, arith}
-use Rattle.std.specs.List.{list_any, remove}
+use Rattle.hformat.proofs.Names.{◌≡◌, suc, ◌+◌, ◌-◌, ◌<◌, length, reverse, refl, sym, ◌∙◌, ap, arith, list_any, remove, is_entry, hole, item_of, items_of, live, by_node, without, drop_nearest, is_some-position, no_words, set_nearest, words}
 use Rattle.std.specs.Option.{is_some}
-use Rattle.hformat.specs.Formatting.{is_entry}
-use Rattle.hformat.specs.Items.{hole, item_of, items_of, live}
-use Rattle.hformat.specs.Listed.{by_node}
-use Rattle.hchain.specs.Nearest.{without}
 use Rattle.hformat.specs.declared.entry.Slot.TheVariants as stored
 use Rattle.hformat.proofs.Chained.{last-is, last_of}
 use Rattle.hformat.proofs.Holes.{no-position, node-at, node-none, node_place, slots-are}
@@ -12,7 +7,6 @@ use Rattle.hformat.proofs.ItemLists.{length-items_of}
 use Rattle.hformat.proofs.Listed.{numbers-back, place-le}
 use Rattle.hformat.proofs.Live.{any-live}
 use Rattle.hformat.proofs.LiveEdits.{hide-live, without1-live}
-use Rattle.hchain.proofs.Nearest.{drop_nearest, is_some-position, no_words, set_nearest, words}
 use Rattle.hformat.proofs.formatting.Formatting.hide.Goals as goal
 use Rattle.hformat.proofs.formatting.Formatting.hide.Goals.{then-place-len, else-place-len}
 

@@ -1,5 +1,4 @@
-use Rattle.std.proofs.Common.{not, filter, length, take_all, sym, ◌∙◌, ap}
-use Rattle.hformat.specs.Items.{is_gone}
+use Rattle.hformat.proofs.Names.{not, filter, length, take_all, sym, ◌∙◌, ap, is_gone}
 use Rattle.hformat.proofs.Holes.{length-live}
 use Rattle.hformat.proofs.formatting.Formatting.len.Goals as goal
 

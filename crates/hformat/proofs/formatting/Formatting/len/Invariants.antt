@@ -1,5 +1,4 @@
-use Rattle.std.proofs.Common.{◌≡◌, ◌≤◌, not, filter, length, take}
-use Rattle.hformat.specs.Items.{is_gone}
+use Rattle.hformat.proofs.Names.{◌≡◌, ◌≤◌, not, filter, length, take, is_gone}
 use Rattle.hformat.proofs.formatting.Formatting.len.Given as goal
 
 abbrev pub invariant-loop-item : goal.invariant-loop-item

@@ -1,6 +1,4 @@
-use Rattle.std.proofs.Common.{◌∷◌, ◌∙◌, ap}
-use Rattle.hformat.specs.Formatting.{marker}
-use Rattle.hformat.specs.Items.{items_of, live}
+use Rattle.hformat.proofs.Names.{◌∷◌, ◌∙◌, ap, marker, items_of, live}
 use Rattle.hformat.specs.declared.entry.Slot.TheVariants as stored
 use Rattle.hformat.proofs.ItemLists.{items_of_more}
 use Rattle.hformat.proofs.formatting.Formatting.marker.Goals as goal

@@ -1,5 +1,4 @@
-use Rattle.std.proofs.Common.{length, ap, arith}
-use Rattle.hformat.specs.Items.{items_of}
+use Rattle.hformat.proofs.Names.{length, ap, arith, items_of}
 use Rattle.hformat.proofs.Holes.{length-live-le}
 use Rattle.hformat.proofs.ItemLists.{length-items_of}
 use Rattle.hformat.proofs.formatting.Formatting.max_len.Goals as goal

@@ -1,9 +1,4 @@
-use Rattle.std.proofs.Common.{◌≡◌, ◌<◌, true, reverse, ◌∙◌, ap, arith}
-use Rattle.std.specs.List.{list_any}
-use Rattle.hformat.specs.Formatting.{booked, has_bookmark, is_entry}
-use Rattle.hformat.specs.Items.{items_of, live}
-use Rattle.hformat.specs.Listed.{by_node}
-use Rattle.hformat.specs.declared.bookmark.Bookmark.TheVariants.{After}
+use Rattle.hformat.proofs.Names.{◌≡◌, ◌<◌, true, reverse, ◌∙◌, ap, arith, list_any, booked, has_bookmark, is_entry, items_of, live, by_node, After}
 use Rattle.hformat.proofs.Chained.{last-is, last_of}
 use Rattle.hformat.proofs.Holes.{node_place}
 use Rattle.hformat.proofs.Listed.{numbers-back}

@@ -1,10 +1,6 @@
-use Rattle.std.proofs.Common.{◌≡◌, ℕ, suc, ◌+◌, ◌-◌, ◌∷◌, None, Some, length, refl, ◌∙◌, ap, nat_eq, arith}
-use Rattle.hformat.specs.Formatting.{EntryOf, entry, pushed}
-use Rattle.hformat.specs.Items.{hole, item_of, items_of, live}
-use Rattle.hchain.specs.Nearest.{changed_at}
+use Rattle.hformat.proofs.Names.{◌≡◌, ℕ, suc, ◌+◌, ◌-◌, ◌∷◌, None, Some, length, refl, ◌∙◌, ap, nat_eq, arith, EntryOf, entry, pushed, hole, item_of, items_of, live, changed_at, set_nearest}
 use Rattle.hformat.specs.declared.entry.Slot.TheVariants as stored
 use Rattle.hformat.proofs.ItemLists.{items_of_last, length-items_of}
-use Rattle.hchain.proofs.Nearest.{set_nearest}
 use Rattle.hformat.proofs.Pushed.{pushed-live}
 use Rattle.hformat.proofs.formatting.Formatting.push.Goals as goal
 

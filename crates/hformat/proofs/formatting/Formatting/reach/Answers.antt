@@ -1,5 +1,4 @@
-use Rattle.std.proofs.Common.{◌∙◌, ap}
-use Rattle.hformat.specs.Items.{items_of, live}
+use Rattle.hformat.proofs.Names.{◌∙◌, ap, items_of, live}
 use Rattle.hformat.proofs.Holes.{live-tail}
 use Rattle.hformat.proofs.formatting.Formatting.reach.Goals as goal
 

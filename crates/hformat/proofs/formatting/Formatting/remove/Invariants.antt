@@ -1,5 +1,4 @@
-use Rattle.std.proofs.Common.{◌≡◌, length}
-use Rattle.hformat.specs.Formatting.{without_entry}
+use Rattle.hformat.proofs.Names.{◌≡◌, length, without_entry}
 use Rattle.hformat.proofs.formatting.Formatting.remove.Given as goal
 
 abbrev pub invariant-loop-node : goal.invariant-loop-node

@@ -1,8 +1,5 @@
-use Rattle.std.proofs.Common.{◌≡◌, ◌-◌, false, Some, length, sym, ◌∙◌, ap, arith}
+use Rattle.hformat.proofs.Names.{◌≡◌, ◌-◌, false, Some, length, sym, ◌∙◌, ap, arith, for_node, entry_is, items_of, live, told, changed_at}
 use Rattle.std.specs.Option.{is_some}
-use Rattle.hformat.specs.Formatting.{for_node}
-use Rattle.hformat.specs.Items.{entry_is, items_of, live, told}
-use Rattle.hchain.specs.Nearest.{changed_at}
 use Rattle.hformat.proofs.Bookmarks.{is_some-option_map}
 use Rattle.hformat.proofs.Holes.{changed-marker, marker-is, nth-index, nth-item, nth-missing, nth-there}
 use Rattle.hformat.proofs.Live.{is_hole-for_node, nth-changed}

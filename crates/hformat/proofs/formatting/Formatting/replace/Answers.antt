@@ -1,16 +1,10 @@
-use Rattle.std.proofs.Common.{◌≡◌, suc, ◌-◌, ◌<◌, length, get_or, reverse, sym, ◌∙◌, ap, arith}
-use Rattle.std.proofs.lemmas.List.{get_or_default}
-use Rattle.hformat.specs.Formatting.{for_node, is_entry, with_node}
-use Rattle.hformat.specs.Items.{items_of, live}
-use Rattle.hformat.specs.Listed.{by_node}
-use Rattle.hchain.specs.Nearest.{changed_at}
+use Rattle.hformat.proofs.Names.{◌≡◌, suc, ◌-◌, ◌<◌, length, get_or, reverse, sym, ◌∙◌, ap, arith, get_or_default, for_node, is_entry, with_node, items_of, live, by_node, changed_at, no_words, words}
 use Rattle.hformat.specs.declared.entry.Slot.TheVariants as stored
 use Rattle.hformat.proofs.Chained.{last-is, last_of}
 use Rattle.hformat.proofs.Holes.{no-position, node-at, node-none, node_place, place-told, slots-are}
 use Rattle.hformat.proofs.ItemLists.{length-items_of}
 use Rattle.hformat.proofs.Listed.{numbers-back, place-le}
 use Rattle.hformat.proofs.LiveEdits.{with_node-live}
-use Rattle.hchain.proofs.Nearest.{no_words, words}
 use Rattle.hformat.proofs.formatting.Formatting.replace.Goals as goal
 
 pub renew-requires-clause-within : goal.renew-requires-clause-within

@@ -1,6 +1,4 @@
-use Rattle.std.proofs.Common.{◌≡◌, ◌==◌, ◌++◌, ℕ, List, true, not, is_some, take, drop, filter, refl, ap, sym, ◌∙◌}
-use Rattle.std.proofs.lemmas.Bool.{false≢true}
-use Rattle.hchain.specs.Chains.{none}
+use Rattle.hformat.proofs.Names.{◌≡◌, ◌==◌, ◌++◌, ℕ, List, true, not, is_some, take, drop, filter, refl, ap, sym, ◌∙◌, false≢true, none}
 use Rattle.hformat.proofs.Closed.{closed, listed-closed}
 use Rattle.hformat.proofs.Slotted.{all-but-hashes}
 use Rattle.hformat.proofs.slots.Slots.close.Goals as goal

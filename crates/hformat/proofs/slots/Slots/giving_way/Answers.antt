@@ -1,18 +1,10 @@
-use Rattle.std.proofs.Common.{◌≡◌, ℕ, suc, ◌+◌, ◌-◌, ◌<◌, ◌≤◌, None, Some, Option, List, [], IfSome, map, length, get_or, take, nat_eq, drop, drop_of_length-le, reverse, zero-add, add-zero, ap, sym, ◌∙◌, subst, Bool, true, false, arith, if◌then◌else◌}
-use Rattle.std.specs.List.{remove}
-use Rattle.std.specs.Option.{option_map_or}
-use Rattle.std.proofs.lemmas.List.{length-map}
-use Rattle.hnodes.specs.Rows.{attribute_of}
-use Rattle.hformat.specs.Formatting.{EntryOf, Listed, after_marker, as_entry, is_equal}
-use Rattle.hformat.specs.Items.{item_of, items_of, nowhere}
-use Rattle.hformat.specs.Listed.{by_hash, number_by, numbers_by}
-use Rattle.hformat.specs.declared.entry.Slot.{Slot as Stored}
+use Rattle.hformat.proofs.Names.{◌≡◌, ℕ, suc, ◌+◌, ◌-◌, ◌<◌, ◌≤◌, None, Some, Option, List, [], IfSome, map, length, get_or, take, nat_eq, drop, reverse, add-zero, ap, sym, ◌∙◌, subst, Bool, true, false, arith, if◌then◌else◌, remove, option_map_or, length-map, attribute_of, EntryOf, Listed, after_marker, as_entry, is_equal, item_of, items_of, nowhere, by_hash, number_by, numbers_by, Stored, slice_get_nearest}
+use Rattle.std.proofs.Common.{drop_of_length-le, zero-add}
 use Rattle.hformat.proofs.ByHash.{Steps, last-at, length-after, number-at, numbers-before, skips, steps}
 use Rattle.hformat.proofs.Chained.{before-is, last-is, last_of}
 use Rattle.hformat.proofs.Earliest.{farthest, farthest-within, room-made, room-there}
 use Rattle.hformat.proofs.ItemLists.{length-items_of}
 use Rattle.hformat.proofs.Listed.{numbers-back, place, place-le}
-use Rattle.hchain.proofs.Nearest.{slice_get_nearest}
 use Rattle.hformat.proofs.SameHash.{same-number, told-equal}
 use Rattle.hformat.proofs.slots.Slots.giving_way.Goals as goal
 use Rattle.hformat.proofs.slots.Slots.giving_way.Goals.{then-branch, else-branch}

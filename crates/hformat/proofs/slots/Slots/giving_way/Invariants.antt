@@ -1,8 +1,4 @@
-use Rattle.std.proofs.Common.{◌≡◌, ℕ, ◌+◌, ◌-◌, ◌<◌, ◌≤◌, None, List, map, length, get_or, nat_eq, filter, drop}
-use Rattle.hnodes.specs.Rows.{attribute_of}
-use Rattle.hformat.specs.Formatting.{EntryOf, after_marker, is_equal}
-use Rattle.hformat.specs.Items.{items_of}
-use Rattle.hformat.specs.Listed.{by_hash, number_by}
+use Rattle.hformat.proofs.Names.{◌≡◌, ℕ, ◌+◌, ◌-◌, ◌<◌, ◌≤◌, None, List, map, length, get_or, nat_eq, filter, drop, attribute_of, EntryOf, after_marker, is_equal, items_of, by_hash, number_by}
 use Rattle.hformat.proofs.Earliest.{farthest}
 use Rattle.hformat.proofs.Listed.{place}
 use Rattle.hformat.proofs.slots.Slots.giving_way.Given as goal

@@ -1,10 +1,4 @@
-use Rattle.std.proofs.Common.{◌≡◌, suc, ◌<◌, ◌-◌, List, get_or, length, refl, sym, subst, ◌∙◌, ap, arith}
-use Rattle.std.proofs.lemmas.Bool.{ltb-true, ne_eqb}
-use Rattle.std.proofs.lemmas.List.{get_or-map, get_or_read, length-map}
-use Rattle.std.proofs.lemmas.List.Elements.{All-get_or}
-use Rattle.hformat.specs.Items.{IsStored, item_of, nowhere}
-use Rattle.hformat.specs.Listed.{by_name, number_by}
-use Rattle.hformat.specs.declared.entry.Slot.{Slot as Stored}
+use Rattle.hformat.proofs.Names.{◌≡◌, suc, ◌<◌, ◌-◌, List, get_or, length, refl, sym, subst, ◌∙◌, ap, arith, ltb-true, ne_eqb, get_or-map, get_or_read, length-map, All-get_or, IsStored, item_of, nowhere, by_name, number_by, Stored}
 use Rattle.hformat.specs.declared.entry.Slot.TheVariants as stored
 use Rattle.hformat.proofs.slots.Slots.is_crowded.Goals as goal
 

@@ -1,6 +1,4 @@
-use Rattle.std.proofs.Common.{◌≡◌, ◌+◌, ◌-◌, length, get_or, sym, ◌∙◌, ap, arith}
-use Rattle.std.specs.List.{insert, remove}
-use Rattle.std.proofs.lemmas.List.Edits.{length-remove}
+use Rattle.hformat.proofs.Names.{◌≡◌, ◌+◌, ◌-◌, length, get_or, sym, ◌∙◌, ap, arith, insert, remove, length-remove}
 use Rattle.hformat.specs.declared.entry.Slot.TheVariants as stored
 use Rattle.hformat.proofs.Moved.{exchanged, exchanged-down, insert-remove}
 use Rattle.hformat.proofs.slots.Slots.lower.Goals as goal

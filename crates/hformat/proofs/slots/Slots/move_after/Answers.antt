@@ -1,15 +1,7 @@
-use Rattle.std.proofs.Common.{◌≡◌, ◌<◌, ◌==◌, suc, length, get_or, set, reverse, refl, ◌∙◌, ap, arith}
-use Rattle.std.specs.List.{insert, remove}
-use Rattle.std.proofs.lemmas.List.{get_or_read, get_or-set_same, length-reverse, length-set}
-use Rattle.std.proofs.lemmas.List.Edits.{length-remove}
-use Rattle.hchain.specs.Chains.{last_up}
-use Rattle.hformat.specs.Formatting.{is_entry}
-use Rattle.hformat.specs.Items.{item_of, items_of, nowhere, renamed}
-use Rattle.hchain.specs.Nearest.{put_before}
-use Rattle.hchain.specs.Places.{last_place}
+use Rattle.hformat.proofs.Names.{◌≡◌, ◌<◌, ◌==◌, suc, length, get_or, set, reverse, refl, ◌∙◌, ap, arith, insert, remove, get_or_read, length-reverse, length-set, length-remove, last_up, is_entry, item_of, items_of, nowhere, renamed, put_before, last_place, last_place-le}
+use Rattle.std.proofs.lemmas.List.{get_or-set_same}
 use Rattle.hformat.specs.declared.entry.Slot.TheVariants as stored
 use Rattle.hformat.proofs.Moved.{insert-after, listed-renewed, mark-place, remove-set, renamed-item}
-use Rattle.hchain.proofs.Places.{last_place-le}
 use Rattle.hformat.proofs.slots.Slots.move_after.Goals as goal
 use Rattle.hformat.proofs.slots.Slots.move_after.Goals.{then-place-index, else-place-index}
 

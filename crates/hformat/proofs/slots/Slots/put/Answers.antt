@@ -1,4 +1,4 @@
-use Rattle.std.proofs.Common.{refl, ◌≡◌, ◌++◌, ◌∷◌, [], ◌∙◌, ap, rules}
+use Rattle.hformat.proofs.Names.{refl, ◌≡◌, ◌++◌, ◌∷◌, [], ◌∙◌, ap, rules}
 use Rattle.hformat.proofs.Slotted.{listed-put}
 use Rattle.hformat.proofs.slots.Slots.put.Goals as goal
 

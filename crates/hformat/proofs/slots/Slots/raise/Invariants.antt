@@ -1,6 +1,4 @@
-use Rattle.std.proofs.Common.{◌≡◌, get_or}
-use Rattle.std.specs.List.{insert, remove}
-use Rattle.hformat.specs.Listed.{IsListed}
+use Rattle.hformat.proofs.Names.{◌≡◌, get_or, insert, remove, IsListed}
 use Rattle.hformat.specs.declared.entry.Slot.TheVariants as stored
 use Rattle.hformat.proofs.slots.Slots.raise.Given as goal
 

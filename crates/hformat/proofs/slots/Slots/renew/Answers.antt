@@ -1,6 +1,4 @@
-use Rattle.std.proofs.Common.{◌≡◌, suc, get_or, set, refl, ◌∙◌, ap, arith}
-use Rattle.std.proofs.lemmas.List.{get_or_read}
-use Rattle.hformat.specs.Items.{items_of, renamed}
+use Rattle.hformat.proofs.Names.{◌≡◌, suc, get_or, set, refl, ◌∙◌, ap, arith, get_or_read, items_of, renamed}
 use Rattle.hformat.specs.declared.entry.Slot.TheVariants as stored
 use Rattle.hformat.proofs.Moved.{listed-renewed, renewed-items}
 use Rattle.hformat.proofs.slots.Slots.renew.Goals as goal

@@ -1,10 +1,4 @@
-use Rattle.std.proofs.Common.{◌≡◌, ◌+◌, ◌<◌, true, is_some, length, sym, ◌∙◌, ap, arith, subst}
-use Rattle.std.proofs.lemmas.Bool.{false≢true}
-use Rattle.std.specs.List.{All, swap}
-use Rattle.std.specs.Prelude.{max}
-use Rattle.std.proofs.lemmas.List.Edits.{swap_is}
-use Rattle.hformat.specs.Items.{IsStored}
-use Rattle.hformat.specs.Listed.{by_hash, by_name, by_node, numbers_by}
+use Rattle.hformat.proofs.Names.{◌≡◌, ◌+◌, ◌<◌, true, is_some, length, sym, ◌∙◌, ap, arith, subst, false≢true, All, swap, max, swap_is, IsStored, by_hash, by_name, by_node, numbers_by}
 use Rattle.hformat.specs.declared.entry.Slot.TheVariants as stored
 use Rattle.hformat.proofs.Moved.{NoHoleFrom, All-exchanged, exchanged, length-exchanged, numbers-exchanged, solid-exchanged}
 use Rattle.hformat.proofs.Slotted.{all-but-hashes}

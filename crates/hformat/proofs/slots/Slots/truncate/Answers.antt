@@ -1,5 +1,4 @@
-use Rattle.std.proofs.Common.{◌≡◌, true, is_some, take, min, ap, sym, ◌∙◌}
-use Rattle.std.proofs.lemmas.Bool.{false≢true}
+use Rattle.hformat.proofs.Names.{◌≡◌, true, is_some, take, min, ap, sym, ◌∙◌, false≢true}
 use Rattle.hformat.proofs.Slotted.{all-but-hashes, listed-take}
 use Rattle.hformat.proofs.slots.Slots.truncate.Goals as goal
 use Rattle.hformat.proofs.slots.Slots.truncate.Goals.{then-is_some, else-is_some}

@@ -1,4 +1,4 @@
-use Rattle.std.proofs.Common.{[], refl}
+use Rattle.hmarkup.proofs.Names.{[], refl}
 use Rattle.hmarkup.proofs.InBogus.{plain_read}
 use Rattle.hmarkup.proofs.comment.CommentWalk.bogus.Goals as goal
 

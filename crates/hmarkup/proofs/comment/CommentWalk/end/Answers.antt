@@ -1,7 +1,4 @@
-use Rattle.std.proofs.Common.{◌≡◌, ap, sym, ◌∙◌, Ok}
-use Rattle.hmarkup.specs.declared.comment.CommentKind.TheVariants.{Comment, Bogus}
-use Rattle.hmarkup.specs.CommentWalk.{Progress, IsSpan}
-use Rattle.hmarkup.specs.Walk.{Ends}
+use Rattle.hmarkup.proofs.Names.{◌≡◌, ap, sym, ◌∙◌, Ok, Comment, Bogus, Progress, IsSpan, Ends}
 use Rattle.hmarkup.proofs.OneKind.{comment_only, bogus_only}
 use Rattle.hmarkup.proofs.Ending.{end_in_comment, end_in_bogus}
 use Rattle.hmarkup.proofs.comment.CommentWalk.end.Goals as goal

@@ -1,4 +1,4 @@
-use Rattle.std.proofs.Common.{arith}
+use Rattle.hmarkup.proofs.Names.{arith}
 use Rattle.std.proofs.lemmas.Grind.{common_steps}
 use Rattle.hmarkup.proofs.comment.CommentWalk.keep.Goals as goal
 

@@ -1,7 +1,4 @@
-use Rattle.std.proofs.Common.{◌≡◌, ap, sym, ◌∙◌}
-use Rattle.hmarkup.specs.declared.comment.CommentKind.TheVariants.{Comment, Bogus}
-use Rattle.hmarkup.specs.CommentWalk.{Progress, HasReadOf, IsSpan}
-use Rattle.hmarkup.specs.Walk.{Takes}
+use Rattle.hmarkup.proofs.Names.{◌≡◌, ap, sym, ◌∙◌, Comment, Bogus, Progress, HasReadOf, IsSpan, Takes}
 use Rattle.hmarkup.proofs.OneKind.{comment_only, bogus_only}
 use Rattle.hmarkup.proofs.comment.CommentWalk.take_char.Goals as goal
 

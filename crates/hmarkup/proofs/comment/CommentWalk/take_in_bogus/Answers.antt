@@ -1,8 +1,4 @@
-use Rattle.std.proofs.Common.{◌≡◌, refl, eqb, false, arith, [], string_bytes}
-use Rattle.std.proofs.lemmas.Result.{err_from_is_err_and}
-use Rattle.std.proofs.lemmas.Bool.Decides.{nat_tests}
-use Rattle.hmarkup.specs.Comment.{errors_here}
-use Rattle.hmarkup.specs.Walk.{ran_out, sink_refused, goes_on, ended}
+use Rattle.hmarkup.proofs.Names.{◌≡◌, refl, eqb, false, arith, [], string_bytes, err_from_is_err_and, nat_tests, errors_here, ran_out, sink_refused, goes_on, ended}
 use Rattle.hmarkup.proofs.InBogus.{bogus_kept, bogus_closed}
 use Rattle.hmarkup.proofs.Begins.{bogus_more}
 use Rattle.hmarkup.proofs.comment.CommentWalk.take_in_bogus.Goals as goal

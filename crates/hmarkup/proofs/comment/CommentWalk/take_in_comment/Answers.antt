@@ -1,12 +1,5 @@
-use Rattle.std.proofs.lemmas.Bool.{eqb-true, eqb-false}
-use Rattle.std.proofs.Common.{◌∙◌, sym}
-use Rattle.std.proofs.Common.{string_len, ◌≡◌, refl, eqb, false, arith, [], ◌∷◌, ◌++◌, length, string_bytes}
-use Rattle.std.proofs.lemmas.Result.{err_from_is_err_and}
-use Rattle.std.proofs.lemmas.Bool.Decides.{nat_tests}
-use Rattle.names.specs.declared.error.ErrorCode.TheVariants.{AbruptClosingOfEmptyComment, IncorrectlyClosedComment}
-use Rattle.names.specs.Placed.{error}
-use Rattle.hmarkup.specs.Comment.{errors_here, IsComment}
-use Rattle.hmarkup.specs.Walk.{ran_out, sink_refused, goes_on, ended}
+use Rattle.hmarkup.proofs.Names.{eqb-true, eqb-false, ◌∙◌, sym, ◌≡◌, refl, eqb, false, arith, [], ◌∷◌, ◌++◌, length, string_bytes, err_from_is_err_and, nat_tests, AbruptClosingOfEmptyComment, IncorrectlyClosedComment, error, errors_here, IsComment, ran_out, sink_refused, goes_on, ended}
+use Rattle.std.proofs.Common.{string_len}
 use Rattle.hmarkup.proofs.Handing.{hand_too}
 use Rattle.hmarkup.proofs.Walking.{errors_now_are, kept_past, kept_other, closed_now, bang_closed_now, empty_now}
 use Rattle.hmarkup.proofs.Begins.{begins_more, begins_whole}

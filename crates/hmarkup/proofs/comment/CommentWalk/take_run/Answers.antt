@@ -1,11 +1,5 @@
-use Rattle.std.proofs.Common.{◌≡◌, ◌++◌, [], string_bytes, subst, ap, sym, refl, ◌∙◌, append-nil, Err, Ok}
-use Rattle.std.proofs.lemmas.Result.{err_from_is_err_and}
-use Rattle.std.specs.Str.{chars}
-use Rattle.names.specs.Placed.{placed}
-use Rattle.names.specs.declared.refusal.Refusal.TheVariants.{Memory}
-use Rattle.hmarkup.specs.declared.comment.CommentKind.TheVariants.{Comment, Bogus}
-use Rattle.hmarkup.specs.CommentWalk.{Progress, HasReadOf, IsInBogus, IsSpan}
-use Rattle.hmarkup.specs.Walk.{TakesRun, run_ran_out, run_goes_on}
+use Rattle.hmarkup.proofs.Names.{◌≡◌, ◌++◌, [], string_bytes, subst, ap, sym, refl, ◌∙◌, append-nil, Err, Ok, err_from_is_err_and, chars, placed, Memory, Comment, Bogus, Progress, HasReadOf, IsInBogus, IsSpan, run_ran_out, run_goes_on}
+use Rattle.hmarkup.specs.Walk.{TakesRun}
 use Rattle.hmarkup.proofs.Begins.{begins_of}
 use Rattle.hmarkup.proofs.Running.{run_in_bogus}
 use Rattle.hmarkup.proofs.OneKind.{comment_only, bogus_only}

@@ -1,14 +1,7 @@
-use Rattle.std.proofs.lemmas.Bool.{eqb-true, eqb-false}
-use Rattle.std.proofs.Common.{◌∙◌, sym}
-use Rattle.std.proofs.Common.{◌≡◌, [], refl, length, append-nil}
+use Rattle.hmarkup.proofs.Names.{eqb-true, eqb-false, ◌∙◌, sym, ◌≡◌, [], refl, length, append-nil, err_from_is_err_and, NestedComment, error_if, Comment, is_whole, run_ran_out, run_goes_on}
 use Rattle.std.proofs.lemmas.List.{nil_from_length}
-use Rattle.std.proofs.lemmas.Result.{err_from_is_err_and}
 use Rattle.std.proofs.lemmas.Str.{chars-nil}
-use Rattle.names.specs.declared.error.ErrorCode.TheVariants.{NestedComment}
-use Rattle.names.specs.Placed.{error_if}
-use Rattle.hmarkup.specs.declared.comment.CommentKind.TheVariants.{Comment}
-use Rattle.hmarkup.specs.CommentWalk.{is_whole}
-use Rattle.hmarkup.specs.Walk.{run_ran_out, run_refused, run_goes_on}
+use Rattle.hmarkup.specs.Walk.{run_refused}
 use Rattle.hmarkup.proofs.Begins.{begins_of}
 use Rattle.hmarkup.proofs.Running.{run_in_comment}
 use Rattle.hmarkup.proofs.comment.CommentWalk.take_run_in_comment.Goals as goal

@@ -1,4 +1,4 @@
-use Rattle.std.proofs.Common.{sym, ◌∙◌}
+use Rattle.hmarkup.proofs.Names.{sym, ◌∙◌}
 use Rattle.hmarkup.proofs.Outcomes.{end_faulty, end_plain}
 use Rattle.hmarkup.proofs.doctype.DoctypeWalk.end.Goals as goal
 

@@ -1,4 +1,4 @@
-use Rattle.std.proofs.lemmas.Result.{err_from_is_err_and}
+use Rattle.hmarkup.proofs.Names.{err_from_is_err_and}
 use Rattle.hmarkup.proofs.Outcomes.{take_refused, take_ran_out, take_goes_on, take_ended}
 use Rattle.hmarkup.proofs.doctype.DoctypeWalk.take_char.Goals as goal
 

@@ -1,4 +1,4 @@
-use Rattle.std.proofs.Common.{rules}
+use Rattle.hmarkup.proofs.Names.{rules}
 use Rattle.hmarkup.proofs.doctype_state.Step.after_name.Goals as goal
 
 pub returns-in-Some : goal.returns-in-Some

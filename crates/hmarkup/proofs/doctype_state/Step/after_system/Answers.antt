@@ -1,4 +1,4 @@
-use Rattle.std.proofs.Common.{rules}
+use Rattle.hmarkup.proofs.Names.{rules}
 use Rattle.hmarkup.proofs.doctype_state.Step.after_system.Goals as goal
 
 pub returns-else-ch-eq62 : goal.returns-else-ch-eq62

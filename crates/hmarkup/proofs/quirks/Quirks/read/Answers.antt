@@ -1,6 +1,4 @@
-use Rattle.std.proofs.Common.{List, ℕ, [], ◌∷◌, ◌++◌, length, sym, ap, ◌∙◌, arith, append_assoc}
-use Rattle.std.proofs.lemmas.Bool.Decides.{nat_tests}
-use Rattle.hmarkup.specs.Quirks.{lines}
+use Rattle.hmarkup.proofs.Names.{List, ℕ, [], ◌∷◌, ◌++◌, length, sym, ap, ◌∙◌, arith, append_assoc, nat_tests, lines}
 use Rattle.hmarkup.proofs.Lines.{are_more, at_bad_line, at_end}
 use Rattle.hmarkup.proofs.quirks.Quirks.read.Goals as goal
 

@@ -1,6 +1,4 @@
-use Rattle.std.proofs.Common.{◌≡◌, ℕ, List, ◌++◌, length}
-use Rattle.std.specs.Str.{IsUtf8}
-use Rattle.hmarkup.specs.Quirks.{lines, AreQuirkLines}
+use Rattle.hmarkup.proofs.Names.{◌≡◌, ℕ, List, ◌++◌, length, IsUtf8, lines, AreQuirkLines}
 use Rattle.hmarkup.proofs.quirks.Quirks.read.Given as goal
 
 abbrev pub invariant-loop-rest : goal.invariant-loop-rest

@@ -1,4 +1,4 @@
-use Rattle.std.proofs.Common.{rules}
+use Rattle.hnodes.proofs.Names.{rules}
 use Rattle.hnodes.proofs.attributes.Indexed.differ_from.Goals as goal
 
 pub returns-then-self : goal.returns-then-self

@@ -1,5 +1,4 @@
-use Rattle.std.proofs.Common.{◌∙◌, ap, nat_eq}
-use Rattle.std.specs.List.{list_any}
+use Rattle.hnodes.proofs.Names.{◌∙◌, ap, nat_eq, list_any}
 use Rattle.hnodes.proofs.Indexed.{found_first, found_rest}
 use Rattle.hnodes.proofs.attributes.Indexed.has.Goals as goal
 

@@ -1,7 +1,4 @@
-use Rattle.std.proofs.Common.{◌<◌, ◌∷◌, ◌∙◌, ap, sym, subst, length, Option, ℕ, rules}
-use Rattle.std.specs.Prelude.{IfSome, IsTrue}
-use Rattle.hnodes.specs.Elements.{elements_among, is_element}
-use Rattle.hnodes.specs.Passed.{siblings_from}
+use Rattle.hnodes.proofs.Names.{◌<◌, ◌∷◌, ◌∙◌, ap, sym, subst, length, Option, ℕ, rules, IfSome, IsTrue, elements_among, is_element, siblings_from}
 use Rattle.hnodes.proofs.ElementLemmas.{element-first}
 use Rattle.hnodes.proofs.Siblings.{siblings-step}
 use Rattle.hnodes.proofs.elements.ChildElementsIterator.next.Goals as goal

@@ -1,8 +1,4 @@
-use Rattle.std.proofs.Common.{[], map, sym, ◌∙◌, ap}
-use Rattle.std.specs.Option.{option_map_or}
-use Rattle.std.specs.Prelude.{vec_items}
-use Rattle.std.specs.Rc.{rc_value}
-use Rattle.hnodes.specs.Rows.{attribute_of}
+use Rattle.hnodes.proofs.Names.{[], map, sym, ◌∙◌, ap, option_map_or, vec_items, rc_value, attribute_of}
 use Rattle.hnodes.proofs.shared.Attributes.as_slice.Goals as goal
 
 pub returns-in-Some : goal.returns-in-Some

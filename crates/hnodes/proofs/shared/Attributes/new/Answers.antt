@@ -1,7 +1,4 @@
-use Rattle.std.proofs.Common.{map, nat_eq, sym, ◌∙◌, ap, refl, arith}
-use Rattle.std.proofs.lemmas.Grind.{common_steps}
-use Rattle.hnodes.specs.Differing.{names_differ}
-use Rattle.hnodes.specs.Rows.{attribute_of}
+use Rattle.hnodes.proofs.Names.{map, nat_eq, sym, ◌∙◌, ap, refl, arith, common_steps, names_differ, attribute_of}
 use Rattle.hnodes.proofs.shared.Attributes.new.Goals as goal
 
 pub invariant_of-result : goal.invariant_of-result

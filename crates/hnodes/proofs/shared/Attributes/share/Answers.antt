@@ -1,9 +1,4 @@
-use Rattle.std.proofs.Common.{[], map, nat_eq, sym, ◌∙◌, ap}
-use Rattle.std.specs.Option.{option_map_or}
-use Rattle.std.specs.Prelude.{vec_items}
-use Rattle.std.specs.Rc.{rc_value}
-use Rattle.hnodes.specs.Differing.{names_differ}
-use Rattle.hnodes.specs.Rows.{attribute_of}
+use Rattle.hnodes.proofs.Names.{[], map, nat_eq, sym, ◌∙◌, ap, option_map_or, vec_items, rc_value, names_differ, attribute_of}
 use Rattle.hnodes.proofs.shared.Attributes.share.Goals as goal
 use Rattle.hnodes.proofs.shared.Attributes.share.Goals.{in-Some+in_ok-clone-in-Some, in-None}
 

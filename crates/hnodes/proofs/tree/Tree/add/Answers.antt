@@ -1,8 +1,7 @@
-use Rattle.std.proofs.Common.{arith, rules, subst, sym}
+use Rattle.hnodes.proofs.Names.{arith, rules, subst, sym, IsPlace}
 use Rattle.hnodes.proofs.Makes.{made_stands, made_view}
 use Rattle.hnodes.proofs.Opened.{opened}
 use Rattle.hnodes.proofs.Fresh.{add-outside, add-apart, place-made}
-use Rattle.hnodes.specs.Edits.{IsPlace}
 use Rattle.hnodes.proofs.tree.Tree.add.Goals as goal
 
 pub invariant_of-self-2 : goal.invariant_of-self-2

@@ -1,4 +1,4 @@
-use Rattle.std.proofs.Common.{ap, sym, List, ℕ, drop}
+use Rattle.hnodes.proofs.Names.{ap, sym, List, ℕ, drop}
 use Rattle.hnodes.proofs.WaysUp.{way-step}
 use Rattle.hnodes.proofs.tree.Tree.ancestors.Goals as goal
 

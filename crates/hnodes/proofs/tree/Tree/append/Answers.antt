@@ -1,6 +1,4 @@
-use Rattle.std.proofs.Common.{ℕ, Option, None, ◌∙◌, subst}
-use Rattle.hnodes.specs.Links.{hooked}
-use Rattle.hnodes.specs.Rows.{IsSeenAs}
+use Rattle.hnodes.proofs.Names.{ℕ, Option, None, ◌∙◌, subst, hooked, IsSeenAs}
 use Rattle.hnodes.proofs.Opened.{opened, linked, edited, edited_view}
 use Rattle.hnodes.proofs.Moves.{gone, document_stays, last_within, appended}
 use Rattle.hnodes.proofs.tree.Tree.append.Goals as goal

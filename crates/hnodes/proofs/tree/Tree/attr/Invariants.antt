@@ -1,6 +1,4 @@
-use Rattle.std.proofs.Common.{◌≡◌, map, drop, nat_eq}
-use Rattle.hnodes.specs.Spots.{value_in}
-use Rattle.hnodes.specs.Rows.{attribute_of}
+use Rattle.hnodes.proofs.Names.{◌≡◌, map, drop, nat_eq, value_in, attribute_of}
 use Rattle.hnodes.proofs.tree.Tree.attr.Given as goal
 
 -- the value is that of an attribute that is still to come

@@ -1,6 +1,4 @@
-use Rattle.std.proofs.Common.{ap, sym, ◌∙◌}
-use Rattle.std.specs.Option.{option_map}
-use Rattle.hnodes.specs.Elements.{stands_for}
+use Rattle.hnodes.proofs.Names.{ap, sym, ◌∙◌, option_map, stands_for}
 use Rattle.hnodes.specs.Spots.{attributes_of, value_of}
 use Rattle.hnodes.proofs.ElementLemmas.{no-value, stands-found, stands-missing}
 use Rattle.hnodes.proofs.tree.Tree.attribute.Goals as goal

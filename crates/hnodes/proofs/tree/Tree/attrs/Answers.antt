@@ -1,6 +1,4 @@
-use Rattle.std.proofs.Common.{ap, sym, ◌∙◌, Some, map, option_and_then}
-use Rattle.hnodes.specs.Spots.{attributes_in}
-use Rattle.hnodes.specs.Rows.{content_is, attribute_of}
+use Rattle.hnodes.proofs.Names.{ap, sym, ◌∙◌, Some, map, option_and_then, attributes_in, content_is, attribute_of}
 use Rattle.hnodes.proofs.Lends.{lent_what, no_attributes}
 use Rattle.hnodes.proofs.tree.Tree.attrs.Goals as goal
 

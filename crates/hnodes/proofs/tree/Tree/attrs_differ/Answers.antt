@@ -1,9 +1,4 @@
-use Rattle.std.proofs.Common.{◌∙◌, Some, ap, sym, true, nat_eq, map, ℕ, Bool, Option, option_and_then}
-use Rattle.std.specs.Option.{option_map_or}
-use Rattle.hnodes.specs.Differing.{names_differ}
-use Rattle.hnodes.specs.Forest.{What}
-use Rattle.hnodes.specs.Spots.{attributes_in}
-use Rattle.hnodes.specs.Rows.{attribute_of, content_is}
+use Rattle.hnodes.proofs.Names.{◌∙◌, Some, ap, sym, true, nat_eq, map, ℕ, Bool, Option, option_and_then, option_map_or, names_differ, What, attributes_in, attribute_of, content_is}
 use Rattle.hnodes.proofs.Lends.{lent_what, no_attributes}
 use Rattle.hnodes.proofs.tree.Tree.attrs_differ.Goals as goal
 

@@ -1,7 +1,4 @@
-use Rattle.std.proofs.Common.{◌<◌, ◌∙◌, ap, sym, subst, List, ℕ}
-use Rattle.std.specs.List.{All}
-use Rattle.hnodes.specs.Elements.{elements_among}
-use Rattle.hnodes.specs.Passed.{siblings_from}
+use Rattle.hnodes.proofs.Names.{◌<◌, ◌∙◌, ap, sym, subst, List, ℕ, All, elements_among, siblings_from}
 use Rattle.hnodes.proofs.ElementLemmas.{elements-made}
 use Rattle.hnodes.proofs.Siblings.{children-from}
 use Rattle.hnodes.proofs.tree.Tree.child_elements.Goals as goal

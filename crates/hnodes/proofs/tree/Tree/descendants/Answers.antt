@@ -1,5 +1,4 @@
-use Rattle.std.proofs.Common.{sym, subst, List, ℕ, ◌<◌}
-use Rattle.std.specs.List.{All}
+use Rattle.hnodes.proofs.Names.{sym, subst, List, ℕ, ◌<◌, All}
 use Rattle.hnodes.proofs.TreeOrder.{begins, first-inside}
 use Rattle.hnodes.proofs.TextOrder.{within-order}
 use Rattle.hnodes.proofs.tree.Tree.descendants.Goals as goal

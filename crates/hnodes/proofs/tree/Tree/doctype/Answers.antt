@@ -1,6 +1,5 @@
-use Rattle.std.proofs.Common.{ap, sym, ◌∙◌, Some, option_and_then}
-use Rattle.hnodes.specs.Spots.{doctype_in}
-use Rattle.hnodes.specs.Rows.{content_is, doctype_texts}
+use Rattle.hnodes.proofs.Names.{ap, sym, ◌∙◌, Some, option_and_then, doctype_in, content_is}
+use Rattle.hnodes.specs.Rows.{doctype_texts}
 use Rattle.hnodes.proofs.Lends.{lent_what, no_doctype}
 use Rattle.hnodes.proofs.tree.Tree.doctype.Goals as goal
 

@@ -1,7 +1,5 @@
-use Rattle.std.proofs.Common.{◌≡◌, ◌<◌, ◌∷◌, ◌∙◌, ap, sym, subst, arith, false, length, Option, ℕ}
-use Rattle.std.specs.Prelude.{IfSome, is_some}
-use Rattle.hnodes.specs.Elements.{elements_among, is_element}
-use Rattle.hnodes.specs.Passed.{siblings_from}
+use Rattle.hnodes.proofs.Names.{◌≡◌, ◌<◌, ◌∷◌, ◌∙◌, ap, sym, subst, arith, false, length, Option, ℕ, IfSome, elements_among, is_element, siblings_from}
+use Rattle.std.specs.Prelude.{is_some}
 use Rattle.hnodes.proofs.ElementLemmas.{element-none}
 use Rattle.hnodes.proofs.Siblings.{siblings-step}
 use Rattle.hnodes.proofs.tree.Tree.element_from.Goals as goal

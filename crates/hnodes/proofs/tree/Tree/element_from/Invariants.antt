@@ -1,7 +1,4 @@
-use Rattle.std.proofs.Common.{◌≡◌, ◌<◌, length}
-use Rattle.std.specs.Prelude.{IfSome}
-use Rattle.hnodes.specs.Elements.{elements_among}
-use Rattle.hnodes.specs.Passed.{siblings_from}
+use Rattle.hnodes.proofs.Names.{◌≡◌, ◌<◌, length, IfSome, elements_among, siblings_from}
 use Rattle.hnodes.proofs.tree.Tree.element_from.Given as goal
 
 abbrev pub invariant-loop-next : goal.invariant-loop-next

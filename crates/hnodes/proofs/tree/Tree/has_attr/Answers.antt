@@ -1,10 +1,5 @@
-use Rattle.std.proofs.Common.{◌∙◌, ap, sym, nat_eq, ℕ, Option, option_and_then}
-use Rattle.std.specs.List.{list_any}
-use Rattle.names.specs.declared.attr.Attr.{Attr}
+use Rattle.hnodes.proofs.Names.{◌∙◌, ap, sym, nat_eq, ℕ, Option, option_and_then, list_any, Attr, Attribute, What, attributes_in, content_is}
 use Rattle.hnodes.specs.Attributes.{is_present}
-use Rattle.hnodes.specs.Forest.{Attribute, What}
-use Rattle.hnodes.specs.Spots.{attributes_in}
-use Rattle.hnodes.specs.Rows.{content_is}
 use Rattle.hnodes.proofs.Indexed.{searched-is}
 use Rattle.hnodes.proofs.Lends.{lent_what, no_attributes}
 use Rattle.hnodes.proofs.tree.Tree.has_attr.Goals as goal

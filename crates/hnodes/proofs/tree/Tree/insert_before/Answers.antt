@@ -1,6 +1,4 @@
-use Rattle.std.proofs.Common.{ℕ, Option, Some, sym, ◌∙◌, subst}
-use Rattle.hnodes.specs.Links.{hooked}
-use Rattle.hnodes.specs.Rows.{IsSeenAs}
+use Rattle.hnodes.proofs.Names.{ℕ, Option, Some, sym, ◌∙◌, subst, hooked, IsSeenAs}
 use Rattle.hnodes.proofs.Opened.{opened, linked, edited, edited_view}
 use Rattle.hnodes.proofs.Moves.{gone, document_stays, neighbours_within, inserted, no_orphan}
 use Rattle.hnodes.proofs.tree.Tree.insert_before.Goals as goal

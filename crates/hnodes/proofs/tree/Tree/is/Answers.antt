@@ -1,5 +1,4 @@
-use Rattle.std.proofs.Common.{ap, sym, ◌∙◌, ◌≡◌, Some}
-use Rattle.std.specs.Option.{option_map}
+use Rattle.hnodes.proofs.Names.{ap, sym, ◌∙◌, ◌≡◌, Some, option_map}
 use denote.Enum.Bare.{same_true, true_same}
 use Rattle.names.specs.contracts.tag.Tag.{the_type}
 use Rattle.names.specs.Tags.{tag_of}

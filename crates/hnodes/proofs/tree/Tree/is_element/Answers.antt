@@ -1,6 +1,4 @@
-use Rattle.std.proofs.Common.{◌∙◌, ap, sym, false, nat_eq, Some, Option, ℕ}
-use Rattle.std.specs.Option.{option_eq, option_map_or}
-use Rattle.hnodes.specs.Elements.{stands_for}
+use Rattle.hnodes.proofs.Names.{◌∙◌, ap, sym, false, nat_eq, Some, Option, ℕ, option_eq, option_map_or, stands_for}
 use Rattle.hnodes.proofs.ElementLemmas.{stands-is}
 use Rattle.hnodes.proofs.tree.Tree.is_element.Goals as goal
 

@@ -1,5 +1,4 @@
-use Rattle.std.proofs.Common.{◌≡◌, sym, ◌∙◌, ap, refl}
-use Rattle.hnodes.specs.Forest.{times, tree_at}
+use Rattle.hnodes.proofs.Names.{◌≡◌, sym, ◌∙◌, ap, refl, times, tree_at}
 use Rattle.hnodes.proofs.Climbs.{unlike, alike, stepped, ended, reached}
 use Rattle.hnodes.proofs.tree.Tree.is_inside.Goals as goal
 

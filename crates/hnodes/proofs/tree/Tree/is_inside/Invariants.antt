@@ -1,5 +1,4 @@
-use Rattle.std.proofs.Common.{◌≡◌, ◌<◌, ◌-◌}
-use Rattle.hnodes.specs.Forest.{times, size, tree_at}
+use Rattle.hnodes.proofs.Names.{◌≡◌, ◌<◌, ◌-◌, times, size, tree_at}
 use Rattle.hnodes.proofs.tree.Tree.is_inside.Given as goal
 
 abbrev pub invariant-loop-self : goal.invariant-loop-self

@@ -1,7 +1,4 @@
-use Rattle.std.proofs.Common.{ap, sym, ◌∙◌, Some}
-use Rattle.std.specs.Option.{option_map}
-use Rattle.hnodes.specs.Spots.{kind_in}
-use Rattle.hnodes.specs.Rows.{content_is}
+use Rattle.hnodes.proofs.Names.{ap, sym, ◌∙◌, Some, option_map, kind_in, content_is}
 use Rattle.hnodes.proofs.Lends.{lent_what}
 use Rattle.hnodes.proofs.tree.Tree.kind.Goals as goal
 

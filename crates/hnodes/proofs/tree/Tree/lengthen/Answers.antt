@@ -1,5 +1,4 @@
-use Rattle.std.proofs.Common.{refl}
-use Rattle.hnodes.specs.Edits.{with_char}
+use Rattle.hnodes.proofs.Names.{refl, with_char}
 use Rattle.hnodes.proofs.Opened.{opened, became, became_view}
 use Rattle.hnodes.proofs.tree.Tree.lengthen.Goals as goal
 

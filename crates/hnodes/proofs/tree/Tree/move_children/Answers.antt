@@ -1,4 +1,4 @@
-use Rattle.std.proofs.Common.{refl, sym, ◌∙◌}
+use Rattle.hnodes.proofs.Names.{refl, sym, ◌∙◌}
 use Rattle.hnodes.proofs.Chains.{moves, none-left}
 use Rattle.hnodes.proofs.Outside.{moved-outside}
 use Rattle.hnodes.proofs.Opened.{opened, are_nodes}

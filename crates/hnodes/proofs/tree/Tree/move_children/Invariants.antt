@@ -1,6 +1,4 @@
-use Rattle.std.proofs.Common.{◌≡◌}
-use Rattle.hnodes.specs.Forest.{size, children_of, IsOutside}
-use Rattle.hnodes.specs.Edits.{AreNodes, move_all}
+use Rattle.hnodes.proofs.Names.{◌≡◌, size, children_of, IsOutside, AreNodes, move_all}
 use Rattle.hnodes.proofs.tree.Tree.move_children.Given as goal
 
 abbrev pub invariant-loop-child : goal.invariant-loop-child

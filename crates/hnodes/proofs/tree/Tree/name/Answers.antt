@@ -1,6 +1,4 @@
-use Rattle.std.proofs.Common.{ap, sym, ◌∙◌, option_and_then}
-use Rattle.hnodes.specs.Spots.{name_in}
-use Rattle.hnodes.specs.Rows.{content_is}
+use Rattle.hnodes.proofs.Names.{ap, sym, ◌∙◌, option_and_then, name_in, content_is}
 use Rattle.hnodes.proofs.Lends.{lent_what, no_name}
 use Rattle.hnodes.proofs.tree.Tree.name.Goals as goal
 

@@ -1,7 +1,4 @@
-use Rattle.std.proofs.Common.{◌≡◌, ℕ, zero, suc, ltb, cond, Some, refl, ap, arith}
-use Rattle.std.proofs.lemmas.Bool.{ne_eqb, lt-leb}
-use Rattle.hnodes.specs.Forest.{tree, none, document, times}
-use Rattle.hnodes.specs.Links.{Row, standing}
+use Rattle.hnodes.proofs.Names.{◌≡◌, ℕ, zero, suc, ltb, cond, Some, refl, ap, arith, ne_eqb, lt-leb, tree, none, document, times, Row, standing}
 use Rattle.hnodes.proofs.tree.Tree.new.Goals as goal
 
 once_alone : (n : ℕ) → times {N = ℕ} n (tree 0 document none none) ≡ cond (ltb n 1) 1 0

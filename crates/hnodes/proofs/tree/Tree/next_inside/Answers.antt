@@ -1,4 +1,4 @@
-use Rattle.std.proofs.Common.{◌∙◌, ◌∷◌, ap, sym}
+use Rattle.hnodes.proofs.Names.{◌∙◌, ◌∷◌, ap, sym}
 use Rattle.hnodes.proofs.TreeOrder.{child-inside, descends, leaf, own-inside}
 use Rattle.hnodes.proofs.tree.Tree.next_inside.Goals as goal
 

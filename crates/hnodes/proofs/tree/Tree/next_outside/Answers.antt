@@ -1,6 +1,4 @@
-use Rattle.std.proofs.Common.{◌≡◌, ℕ, ◌∙◌, ap, sym, subst, eqb, false, Option}
-use Rattle.std.specs.Prelude.{IsTrue}
-use Rattle.hnodes.specs.Passed.{is_among, way_up, after_each}
+use Rattle.hnodes.proofs.Names.{◌≡◌, ℕ, ◌∙◌, ap, sym, subst, eqb, false, Option, IsTrue, is_among, way_up, after_each}
 use Rattle.hnodes.proofs.TreeOrder.{differ, passes, climbs, shorter, still-inside}
 use Rattle.hnodes.proofs.tree.Tree.next_outside.Goals as goal
 

@@ -1,6 +1,4 @@
-use Rattle.std.proofs.Common.{◌≡◌, ◌<◌, Some, length}
-use Rattle.std.specs.Prelude.{IsTrue}
-use Rattle.hnodes.specs.Passed.{ancestors_of, way_up, after_each, is_among}
+use Rattle.hnodes.proofs.Names.{◌≡◌, ◌<◌, Some, length, IsTrue, ancestors_of, way_up, after_each, is_among}
 use Rattle.hnodes.proofs.tree.Tree.next_outside.Given as goal
 
 abbrev pub invariant-loop-top : goal.invariant-loop-top

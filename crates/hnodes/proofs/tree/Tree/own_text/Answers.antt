@@ -1,7 +1,4 @@
-use Rattle.std.proofs.Common.{ap, sym, ◌∙◌, Some}
-use Rattle.std.specs.Option.{option_map}
-use Rattle.hnodes.specs.Passed.{own_text}
-use Rattle.hnodes.specs.Rows.{content_is}
+use Rattle.hnodes.proofs.Names.{ap, sym, ◌∙◌, Some, option_map, own_text, content_is}
 use Rattle.hnodes.proofs.Lends.{lent_what, no_characters}
 use Rattle.hnodes.proofs.tree.Tree.own_text.Goals as goal
 

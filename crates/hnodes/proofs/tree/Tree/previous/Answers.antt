@@ -1,4 +1,4 @@
-use Rattle.std.proofs.Common.{◌∙◌}
+use Rattle.hnodes.proofs.Names.{◌∙◌}
 use Rattle.hnodes.proofs.Opened.{opened, are_nodes}
 use Rattle.hnodes.proofs.Lends.{asked, lent, near}
 use Rattle.hnodes.proofs.tree.Tree.previous.Goals as goal

@@ -1,6 +1,4 @@
-use Rattle.std.proofs.Common.{refl}
-use Rattle.hnodes.specs.Edits.{with_attribute}
-use Rattle.hnodes.specs.Rows.{attribute_of}
+use Rattle.hnodes.proofs.Names.{refl, with_attribute, attribute_of}
 use Rattle.hnodes.proofs.Opened.{opened, became, became_view}
 use Rattle.hnodes.proofs.tree.Tree.push_attr.Goals as goal
 

@@ -1,6 +1,4 @@
-use Rattle.std.specs.Char.{encode_utf8}
-use Rattle.hnodes.specs.Forest.{text}
-use Rattle.hnodes.specs.Edits.{place_node}
+use Rattle.hnodes.proofs.Names.{encode_utf8, text, place_node}
 use Rattle.hnodes.proofs.Fresh.{place-made, place-under}
 use Rattle.hnodes.proofs.tree.Tree.put_char.Goals as goal
 

@@ -1,6 +1,4 @@
-use Rattle.std.proofs.Common.{refl, sym, ◌∙◌, length, arith}
-use Rattle.std.proofs.lemmas.Bool.{eqb-true, eqb-false}
-use Rattle.hnodes.specs.Forest.{text}
+use Rattle.hnodes.proofs.Names.{refl, sym, ◌∙◌, length, arith, eqb-true, eqb-false, text}
 use Rattle.hnodes.proofs.Fresh.{place-made}
 use Rattle.hnodes.proofs.Runs.{put-nothing, put-joins, put-makes}
 use Rattle.hnodes.proofs.tree.Tree.put_text.Goals as goal

@@ -1,4 +1,4 @@
-use Rattle.std.proofs.Common.{rules}
+use Rattle.hnodes.proofs.Names.{rules}
 use Rattle.hnodes.proofs.tree.Tree.room.Goals as goal
 
 pub returns : goal.returns

@@ -1,6 +1,4 @@
-use Rattle.std.proofs.Common.{ap, sym, ◌∙◌, Some, option_and_then}
-use Rattle.hnodes.specs.Spots.{text_in}
-use Rattle.hnodes.specs.Rows.{content_is}
+use Rattle.hnodes.proofs.Names.{ap, sym, ◌∙◌, Some, option_and_then, text_in, content_is}
 use Rattle.hnodes.proofs.Lends.{lent_what, no_text}
 use Rattle.hnodes.proofs.tree.Tree.text.Goals as goal
 

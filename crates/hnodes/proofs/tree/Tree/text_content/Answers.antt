@@ -1,7 +1,5 @@
-use Rattle.std.proofs.Common.{◌≡◌, ◌<◌, [], ◌++◌, string_bytes, sym, ◌∙◌, ap, unwrap_or}
-use Rattle.std.proofs.lemmas.List.{append_assoc, append-nil}
-use Rattle.std.proofs.lemmas.List.Elements.{All-head, All-same, All-rest}
-use Rattle.std.specs.List.{flat_map}
+use Rattle.hnodes.proofs.Names.{◌≡◌, ◌<◌, [], ◌++◌, string_bytes, sym, ◌∙◌, ap, unwrap_or, append_assoc, append-nil, All-head, flat_map}
+use Rattle.std.proofs.lemmas.List.Elements.{All-same, All-rest}
 use Rattle.hnodes.proofs.TextOrder.{text_at, texts-order}
 use Rattle.hnodes.proofs.tree.Tree.text_content.Goals as goal
 

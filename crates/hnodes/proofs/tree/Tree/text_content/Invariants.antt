@@ -1,7 +1,4 @@
-use Rattle.std.proofs.Common.{◌≡◌, ◌<◌, ◌++◌, string_bytes}
-use Rattle.std.specs.List.{flat_map, All}
-use Rattle.hnodes.specs.Forest.{children_of}
-use Rattle.hnodes.specs.Passed.{texts}
+use Rattle.hnodes.proofs.Names.{◌≡◌, ◌<◌, ◌++◌, string_bytes, flat_map, All, children_of, texts}
 use Rattle.hnodes.proofs.TextOrder.{text_at}
 use Rattle.hnodes.proofs.tree.Tree.text_content.Given as goal
 

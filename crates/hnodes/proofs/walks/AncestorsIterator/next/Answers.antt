@@ -1,6 +1,4 @@
-use Rattle.std.proofs.Common.{ap, sym, ◌∙◌, ◌<◌, ◌∷◌, length, subst, Option, ℕ, rules}
-use Rattle.std.specs.Prelude.{IfSome}
-use Rattle.hnodes.specs.Passed.{way_up}
+use Rattle.hnodes.proofs.Names.{ap, sym, ◌∙◌, ◌<◌, ◌∷◌, length, subst, Option, ℕ, rules, IfSome, way_up}
 use Rattle.hnodes.proofs.WaysUp.{way-step}
 use Rattle.hnodes.proofs.walks.AncestorsIterator.next.Goals as goal
 

@@ -1,6 +1,4 @@
-use Rattle.std.proofs.Common.{ap, sym, ◌∙◌, ◌<◌, ◌∷◌, length, subst, Option, ℕ, rules}
-use Rattle.std.specs.Prelude.{IfSome}
-use Rattle.hnodes.specs.Passed.{siblings_from}
+use Rattle.hnodes.proofs.Names.{ap, sym, ◌∙◌, ◌<◌, ◌∷◌, length, subst, Option, ℕ, rules, IfSome, siblings_from}
 use Rattle.hnodes.proofs.Siblings.{siblings-step}
 use Rattle.hnodes.proofs.walks.ChildrenIterator.next.Goals as goal
 

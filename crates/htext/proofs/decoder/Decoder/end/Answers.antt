@@ -1,6 +1,4 @@
-use Rattle.std.proofs.Common.{◌≡◌, ◌<◌, length, sym, ap, ◌∙◌, arith, Ok, Err}
-use Rattle.std.proofs.lemmas.Bool.Decides.{nat_tests}
-use Rattle.std.proofs.lemmas.Result.{err_from_is_err_and}
+use Rattle.htext.proofs.Names.{◌≡◌, ◌<◌, length, sym, ap, ◌∙◌, arith, Ok, Err, nat_tests, err_from_is_err_and}
 use Rattle.htext.proofs.Ending.{ends_at_once, ends_held, read_all}
 use Rattle.htext.proofs.decoder.Decoder.end.Goals as goal
 

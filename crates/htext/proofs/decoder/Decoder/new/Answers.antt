@@ -1,4 +1,4 @@
-use Rattle.std.proofs.Common.{ap, length, arith, refl}
+use Rattle.htext.proofs.Names.{ap, length, arith, refl}
 use Rattle.htext.proofs.Advancing.{nothing_read, nothing_settled, nothing_decided}
 use Rattle.htext.proofs.decoder.Decoder.new.Goals as goal
 

@@ -1,7 +1,4 @@
-use Rattle.std.proofs.Common.{ℕ, ◌++◌, ◌∷◌, [], List, length, drop, sym, ap, ◌∙◌, arith, Ok}
-use Rattle.std.proofs.lemmas.List.{length-drop}
-use Rattle.std.proofs.lemmas.Result.{err_from_is_err_and}
-use Rattle.htext.specs.Decoding.{took_all}
+use Rattle.htext.proofs.Names.{ℕ, ◌++◌, ◌∷◌, [], List, length, drop, sym, ap, ◌∙◌, arith, Ok, length-drop, err_from_is_err_and, took_all}
 use Rattle.htext.proofs.Handing.{ran_out_before}
 use Rattle.htext.proofs.Advancing.{reading_on, joined_is, piece_handed, piece_stops}
 use Rattle.htext.proofs.decoder.Decoder.read_byte.Goals as goal

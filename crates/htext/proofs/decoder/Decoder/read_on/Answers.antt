@@ -1,8 +1,6 @@
-use Rattle.std.proofs.Common.{◌≡◌, ℕ, ◌+◌, ◌-◌, ◌++◌, ◌∷◌, [], List, length, take, drop, get_or, Ok, Err, sym, ap, ◌∙◌, subst, arith, append_assoc}
-use Rattle.std.proofs.lemmas.List.{take_all, take_more, take-append-drop, length-drop}
-use Rattle.std.proofs.lemmas.Result.{err_from_is_err_and, on_ok_weaker}
-use Rattle.htext.specs.Text.{settled}
-use Rattle.htext.specs.Decoding.{HasFed, Feeds, HandsOn}
+use Rattle.htext.proofs.Names.{◌≡◌, ℕ, ◌+◌, ◌-◌, ◌++◌, ◌∷◌, [], List, length, take, drop, get_or, Ok, Err, sym, ap, ◌∙◌, subst, arith, append_assoc, take_all, take-append-drop, length-drop, err_from_is_err_and, settled, HasFed, Feeds, HandsOn}
+use Rattle.std.proofs.lemmas.List.{take_more}
+use Rattle.std.proofs.lemmas.Result.{on_ok_weaker}
 use Rattle.htext.proofs.Handing.{HandsOn-append, Feeds-append, Feeds-more, handed_all}
 use Rattle.htext.proofs.decoder.Decoder.read_on.Goals as goal
 

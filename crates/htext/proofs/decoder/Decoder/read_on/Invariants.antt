@@ -1,6 +1,4 @@
-use Rattle.std.proofs.Common.{◌≡◌, ℕ, ◌++◌, List, take, Ok}
-use Rattle.htext.specs.Text.{settled}
-use Rattle.htext.specs.Decoding.{HasFed, HandsOn}
+use Rattle.htext.proofs.Names.{◌≡◌, ℕ, ◌++◌, List, take, Ok, settled, HasFed, HandsOn}
 use Rattle.htext.proofs.decoder.Decoder.read_on.Given as goal
 
 -- The first bytes were fed, one by one.

@@ -1,6 +1,4 @@
-use Rattle.std.proofs.Common.{◌≡◌, ◌≤◌, ◌+◌, ◌-◌, ℕ, List, length, take, drop, sym, ap, ◌∙◌, arith, Ok}
-use Rattle.std.proofs.lemmas.Result.{err_from_is_err_and}
-use Rattle.std.proofs.lemmas.List.{length-drop}
+use Rattle.htext.proofs.Names.{◌≡◌, ◌≤◌, ◌+◌, ◌-◌, ℕ, List, length, take, drop, sym, ap, ◌∙◌, arith, Ok, err_from_is_err_and, length-drop}
 use Rattle.htext.proofs.Beginnings.{open_short}
 use Rattle.htext.proofs.Errors.{error_bounds}
 use Rattle.htext.proofs.Stopping.{what_waits, what_is_bad}

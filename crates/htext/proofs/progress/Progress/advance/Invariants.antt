@@ -1,6 +1,4 @@
-use Rattle.std.proofs.Common.{◌≡◌, ◌≤◌, ◌-◌, ℕ, List, length, take, drop, Ok}
-use Rattle.htext.specs.Text.{text}
-use Rattle.htext.specs.Decoding.{HandsOn, IsReading}
+use Rattle.htext.proofs.Names.{◌≡◌, ◌≤◌, ◌-◌, ℕ, List, length, take, drop, Ok, text, HandsOn, IsReading}
 use Rattle.htext.proofs.Advancing.{policy}
 use Rattle.htext.proofs.progress.Progress.advance.Given as goal
 

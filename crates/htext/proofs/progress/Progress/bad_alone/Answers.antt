@@ -1,5 +1,4 @@
-use Rattle.std.proofs.Common.{◌-◌, length, drop, ap, arith, false}
-use Rattle.std.proofs.lemmas.List.{length-take, length-drop}
+use Rattle.htext.proofs.Names.{◌-◌, length, drop, ap, arith, false, length-take, length-drop}
 use Rattle.htext.proofs.Fronts.{bad_bounds}
 use Rattle.htext.proofs.progress.Progress.bad_alone.Goals as goal
 

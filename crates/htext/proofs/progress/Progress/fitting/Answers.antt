@@ -1,4 +1,4 @@
-use Rattle.std.proofs.Common.{arith}
+use Rattle.htext.proofs.Names.{arith}
 use Rattle.std.proofs.lemmas.Grind.{common_steps}
 use Rattle.htext.proofs.progress.Progress.fitting.Goals as goal
 

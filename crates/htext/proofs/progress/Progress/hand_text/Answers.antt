@@ -1,11 +1,5 @@
-use Rattle.std.proofs.Common.{◌≡◌, ℕ, ◌-◌, List, length, map, sym, ap, ◌∙◌, arith}
-use Rattle.std.proofs.lemmas.Result.{err_from_is_err_and}
-use Rattle.std.proofs.lemmas.Str.{IsCharBoundary-from_drop, IsUtf8-past_char, chars_past_char, length-encode, chars-nil}
-use Rattle.std.proofs.lemmas.List.{length-append, length-drop}
-use Rattle.std.specs.Char.{encode_utf8, len_utf8}
-use Rattle.std.specs.Str.{chars}
-use Rattle.names.specs.Placed.{placed}
-use Rattle.htext.specs.Text.{Whole, ends_in_return}
+use Rattle.htext.proofs.Names.{◌≡◌, ℕ, ◌-◌, List, length, map, sym, ap, ◌∙◌, arith, err_from_is_err_and, IsUtf8-past_char, chars_past_char, length-encode, chars-nil, length-append, length-drop, encode_utf8, len_utf8, chars, placed, Whole, ends_in_return}
+use Rattle.std.proofs.lemmas.Str.{IsCharBoundary-from_drop}
 use Rattle.htext.proofs.Handing.{hand_more, hand_refused, hand_all}
 use Rattle.htext.proofs.Runs.{front_of}
 use Rattle.htext.proofs.Wide.{run_more, run_refused, ends_after}

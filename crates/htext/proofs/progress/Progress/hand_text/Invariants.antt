@@ -1,9 +1,4 @@
-use Rattle.std.proofs.Common.{◌≡◌, ◌+◌, length, map}
-use Rattle.std.specs.Str.{chars, IsUtf8}
-use Rattle.names.specs.Placed.{placed}
-use Rattle.names.specs.Sink.{Continues}
-use Rattle.htext.specs.Text.{Whole, normalized, ends_in_return}
-use Rattle.htext.specs.Items.{items}
+use Rattle.htext.proofs.Names.{◌≡◌, ◌+◌, length, map, chars, IsUtf8, placed, Continues, Whole, normalized, ends_in_return, items}
 use Rattle.htext.proofs.progress.Progress.hand_text.Given as goal
 
 -- The sink is given the rest as it was given all, and the rest is after a CR as all does.

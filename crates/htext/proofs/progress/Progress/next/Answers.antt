@@ -1,5 +1,4 @@
-use Rattle.std.proofs.Common.{rules, List, ℕ, ◌-◌, sym, ap, ◌∙◌}
-use Rattle.htext.specs.Next.{next_of}
+use Rattle.htext.proofs.Names.{rules, List, ℕ, ◌-◌, sym, ap, ◌∙◌, next_of}
 use Rattle.htext.proofs.Deciding.{nothing_next, text_next}
 use Rattle.htext.proofs.progress.Progress.next.Goals as goal
 

@@ -1,4 +1,4 @@
-use Rattle.std.proofs.Common.{rules}
+use Rattle.htext.proofs.Names.{rules}
 use Rattle.htext.proofs.progress.Progress.next_part.Goals as goal
 
 pub returns-in-Replace-Some-2 : goal.returns-in-Replace-Some-2

@@ -1,5 +1,4 @@
-use Rattle.std.proofs.Common.{arith}
-use Rattle.std.proofs.lemmas.Result.{err_from_is_err_and}
+use Rattle.htext.proofs.Names.{arith, err_from_is_err_and}
 use Rattle.htext.proofs.Handing.{bad_goes_on, bad_untold, bad_ungiven}
 use Rattle.htext.proofs.sink.CharSink.take_bad_by_one.Goals as goal
 

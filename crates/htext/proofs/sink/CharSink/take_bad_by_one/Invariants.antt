@@ -1,6 +1,4 @@
-use Rattle.std.proofs.Common.{◌+◌, ◌-◌, ◌≤◌}
-use Rattle.names.specs.Sink.{Continues}
-use Rattle.htext.specs.Items.{items, bad_each}
+use Rattle.htext.proofs.Names.{◌+◌, ◌-◌, ◌≤◌, Continues, items, bad_each}
 use Rattle.htext.proofs.sink.CharSink.take_bad_by_one.Given as goal
 
 -- To take the rest of the parts is to take all of them.

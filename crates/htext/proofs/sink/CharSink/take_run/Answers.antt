@@ -1,7 +1,4 @@
-use Rattle.std.proofs.Common.{◌+◌, arith}
-use Rattle.std.proofs.lemmas.Result.{err_from_is_err_and}
-use Rattle.std.proofs.lemmas.Str.{IsUtf8-past_char}
-use Rattle.htext.specs.Items.{Character}
+use Rattle.htext.proofs.Names.{◌+◌, arith, err_from_is_err_and, IsUtf8-past_char, Character}
 use Rattle.htext.proofs.Wide.{one_more, one_refused, none_left}
 use Rattle.htext.proofs.sink.CharSink.take_run.Goals as goal
 

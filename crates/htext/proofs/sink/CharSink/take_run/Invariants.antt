@@ -1,7 +1,4 @@
-use Rattle.std.proofs.Common.{◌+◌}
-use Rattle.std.specs.Str.{chars, IsUtf8}
-use Rattle.names.specs.Sink.{Continues}
-use Rattle.htext.specs.Run.{run_items}
+use Rattle.htext.proofs.Names.{◌+◌, chars, IsUtf8, Continues, run_items}
 use Rattle.htext.proofs.sink.CharSink.take_run.Given as goal
 
 -- To take the rest of the run is to take all of it.

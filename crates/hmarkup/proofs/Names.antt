@@ -1,0 +1,37 @@
+-- The names of other crates and of specs/ that several proofs cite, in one place.
+pub use Rattle.hmarkup.specs.Comment.{closes_comment, closes_at_once, closes_bogus, errors_here, errors_after, IsComment, closed_at_once, closed_with_bang, unclosed, IsBogus, closed_bogus, unclosed_bogus, is_ending}
+pub use Rattle.hmarkup.specs.CommentWalk.{Progress, IsInComment, IsInBogus, HasReadOf, IsSpan, backwards, is_whole, begun, holds_nothing}
+pub use Rattle.hmarkup.specs.Doctype.{closed, Found, IsDoctype, force, IsEnd, cut_off, IsSkipped, AfterName, name_ends, name_skips, names_identifier, FollowsName, named, AfterSpace, AfterOpening, begins_name, nameless, unfinished, identified, IsInside, quoted, abrupt, AfterSystemIdentifier, system_ends, system_skips, AfterPublicIdentifier, public_ends, public_skips, second, Follows, AfterKeyword, identifier, missing, keyword_skips, keyword_cut_off, Stands}
+pub use Rattle.hmarkup.specs.DoctypeSteps.{next_letter, step, after_name, begins_keyword, first_letter, goes_on_with, in_keyword, letters_after, step_errors, found_by, before_name, in_name, fault_errors, end_fault, found_at_end, after_keyword, follows, in_quotes, after_public, after_system, in_skipped}
+pub use Rattle.hmarkup.specs.DoctypeWalk.{Reading, Fits, HasReadDoctype, IsInKeyword, whole, fails, identifier_of, GoesOn}
+pub use Rattle.hmarkup.specs.Quirks.{lines, AreQuirkLines}
+pub use Rattle.hmarkup.specs.Steps.{next, next_ending, decided}
+pub use Rattle.hmarkup.specs.Walk.{Begins, BeginsSpans, IsOpen, IsOneSpan, Ends, Takes, ran_out, sink_refused, goes_on, ended, run_ran_out, run_goes_on}
+pub use Rattle.hmarkup.specs.declared.comment.CommentKind.{CommentKind}
+pub use Rattle.hmarkup.specs.declared.comment.CommentKind.TheVariants.{Comment, Bogus}
+pub use Rattle.hmarkup.specs.declared.doctype_state.DoctypeState.{DoctypeState}
+pub use Rattle.hmarkup.specs.declared.doctype_state.Step.{Step}
+pub use Rattle.hmarkup.specs.declared.keyword.Identifier.{Identifier}
+pub use Rattle.hmarkup.specs.declared.keyword.Identifier.TheVariants.{Public, System}
+pub use Rattle.hmarkup.specs.declared.keyword.Letters.{Letters}
+pub use Rattle.hmarkup.specs.declared.tail.Ending.{Ending}
+pub use Rattle.hmarkup.specs.declared.tail.Ending.TheVariants.{Plain, Dash, Dashes, Bang}
+pub use Rattle.names.specs.Placed.{characters, place, spells, is_front, error, null_errors, without_null, is_space, is_greater, is_quote, placed, begins, is_empty, all, is_greater_or_end, before, Avoids, text_bytes, spells_in_any_case, name_bytes, error_if}
+pub use Rattle.names.specs.Sink.{Hands}
+pub use Rattle.names.specs.declared.error.ErrorCode.{ErrorCode}
+pub use Rattle.names.specs.declared.error.ErrorCode.TheVariants.{AbruptClosingOfEmptyComment, EofInComment, IncorrectlyClosedComment, EofInDoctype, InvalidCharacterSequenceAfterDoctypeName, MissingDoctypeName, MissingWhitespaceBeforeDoctypeName, MissingWhitespaceBetweenDoctypePublicAndSystemIdentifiers, UnexpectedCharacterAfterDoctypeSystemIdentifier, UnexpectedNullCharacter, NestedComment}
+pub use Rattle.names.specs.declared.error.ParseError.{ParseError}
+pub use Rattle.names.specs.declared.placed.Placed.{Placed}
+pub use Rattle.names.specs.declared.refusal.Refusal.{Refusal}
+pub use Rattle.names.specs.declared.refusal.Refusal.TheVariants.{Memory}
+pub use Rattle.std.proofs.Common.{◌≡◌, ℕ, ◌≤◌, true, false, ◌&&◌, ◌||◌, eqb, List, [], ◌∷◌, ◌++◌, length, sym, refl, ap, ◌∙◌, subst, codes, arith, append_assoc, append-nil, ◌+◌, Bool, cond, nat_lt, ◌<◌, None, Some, Result, Ok, not, take, Err, suc, drop, get_or, if◌then◌else◌, Option, map, length-append, string_bytes, rules}
+pub use Rattle.std.proofs.lemmas.Bool.{false≢true, eqb-true, and_parts, or_left, or_right, and_from, not-true, or_from, or_parts, and_right, false_from_ne_true, eqb-false}
+pub use Rattle.std.proofs.lemmas.Bool.Decides.{nat_tests}
+pub use Rattle.std.proofs.lemmas.List.{map-append, append_cancel_left, drop_all, drop_at}
+pub use Rattle.std.proofs.lemmas.Result.{err_from_is_err_and}
+pub use Rattle.std.proofs.lemmas.Str.{encodes-append}
+pub use Rattle.std.specs.Char.{encode_utf8, to_ascii_lowercase}
+pub use Rattle.std.specs.List.{list_all}
+pub use Rattle.std.specs.Prelude.{encode_utf8_all, is_some}
+pub use Rattle.std.specs.Str.{IsUtf8, chars}
+unfoldable pub use lib.Utf8.{encode}

@@ -1,0 +1,42 @@
+-- The names of other crates and of specs/ that several proofs cite, in one place.
+pub use Rattle.htext.specs.Decoding.{HasRead, IsReading, IsRefusedFrom, IsUndecided, HandsOn, Feeds, sink_refused, took_all, HasFed}
+pub use Rattle.htext.specs.Items.{CharItem, items, bad_each, Character, InputError, items_of}
+pub use Rattle.htext.specs.Next.{next_of, AreBad, IsBadAlone}
+pub use Rattle.htext.specs.Run.{is_plain_byte, is_plain, is_clean, is_clean_byte, is_text_byte, is_inner_byte, IsCut, IsCleanFront, run_items, is_not_of, is_of}
+pub use Rattle.htext.specs.Text.{Policy, Read, Whole, Bad, reads, normalized, ends_in_return, text as text_of, valid_len, front_len, decoded, settled, refusal_of, reads_at, BeginsNoCharacter, or_rest, bad_len, BeginsCharacter, refusal_with, StaysRefused, fitting, after_part, read_as, character_of, PlacesRise, text, read_len}
+unfoldable pub use Rattle.htext.specs.Text.{fitting_within, reads_within}
+pub use Rattle.htext.specs.declared.BadBytes.{BadBytes}
+pub use Rattle.htext.specs.declared.BadBytes.TheVariants.{Refuse, Replace}
+pub use Rattle.htext.specs.declared.Bom.{Bom}
+pub use Rattle.htext.specs.declared.Bom.TheVariants.{Keep}
+pub use Rattle.htext.specs.declared.progress.Front.{Front}
+pub use Rattle.htext.specs.declared.progress.Front.TheVariants.{Bad as NextBad, Waits, Refused}
+pub use Rattle.names.proofs.Words.{some_same}
+pub use Rattle.names.specs.Placed.{placed}
+pub use Rattle.names.specs.Sink.{Hands, Continues}
+pub use Rattle.names.specs.declared.placed.Placed.{Placed}
+pub use Rattle.names.specs.declared.refusal.Refusal.{Refusal}
+pub use Rattle.names.specs.declared.refusal.Refusal.TheVariants.{NotUtf8, TooLarge}
+pub use Rattle.std.proofs.Common.{◌≡◌, ℕ, zero, suc, ◌<◌, ◌≤◌, ◌+◌, ◌-◌, Bool, true, false, List, [], ◌∷◌, ◌++◌, length, map, take, drop, sym, refl, ap, ◌∙◌, subst, arith, append_assoc, append-nil, None, Some, Result, Ok, Err, ◌/◌, ◌%◌, inl, inr, not, cond, Option, ◌*◌, eqb, ◌&&◌, get_or, replicate, bit_and, rules, bit_or}
+pub use Rattle.std.proofs.Math.Seq.{take-append-add, drop-append-add, take-add}
+pub use Rattle.std.proofs.Math.Utf8.{low_scalar}
+pub use Rattle.std.proofs.lemmas.Bool.{cases_lt, cases_eq, lt-ltb, le-ltb, le-leb, leb-true, eqb-true, and_parts, and_from}
+pub use Rattle.std.proofs.lemmas.Bool.Decides.{nat_tests}
+pub use Rattle.std.proofs.lemmas.List.{drop_at, take_at, take-take, take-append-le, length-append, length-take-le, take-append-drop, length-drop, drop-drop, take_all, length-take, nil_from_length, length-map}
+pub use Rattle.std.proofs.lemmas.List.Folds.{list_all-append}
+pub use Rattle.std.proofs.lemmas.List.Sums.{prefix_len-le-length}
+pub use Rattle.std.proofs.lemmas.Nat.{and_le_r}
+pub use Rattle.std.proofs.lemmas.Result.{err_from_is_err_and}
+pub use Rattle.std.proofs.lemmas.Simd.{zip2_splat, map-map, zip2_of_maps, zip2_splat_left}
+pub use Rattle.std.proofs.lemmas.Str.{IsUtf8-nil, encode_ascii, encodes-chars, chars-nil, length-encode, encode_same, utf8_valid_len_le, utf8_valid_len-IsUtf8, IsUtf8-encode, IsUtf8-append, chars_past_char, chars-append, IsUtf8-past_char, len_utf8_bounds, IsUtf8-drop}
+pub use Rattle.std.specs.Char.{IsScalar, len_utf8}
+unfoldable pub use Rattle.std.specs.Char.{encode_utf8}
+pub use Rattle.std.specs.Int.{is_in_range}
+pub use Rattle.std.specs.List.{list_all, prefix_len}
+pub use Rattle.std.specs.Option.{unwrap_or}
+pub use Rattle.std.specs.Prelude.{◌↔◌, ◌⊎◌, nat_lt, encode_utf8_all, nat_le}
+pub use Rattle.std.specs.Str.{chars, IsUtf8, all_scalars as scalars}
+pub use Rattle.std.specs.Str.Lossy.{utf8_invalid_len, second_byte_min, second_byte_max}
+unfoldable pub use Rattle.std.specs.Str.Lossy.{utf8_valid_len, utf8_error_len}
+pub use lib.Count.{count_trailing_zeros}
+pub use lib.Lanes.{zip2}
