@@ -1,30 +1,36 @@
--- A reference that stands whole in a run of the input.
-use Rattle.std.proofs.Common.{arith, ◌≡◌, ℕ, ◌+◌, ◌-◌, ◌≤◌, ◌<◌, Bool, true, false, true≢false, not, nat_eq, nat_lt, List, [], ◌∷◌, ◌++◌, length, take, drop, slice_get, get_or, Some, None, Bor, refl, sym, ap, ◌∙◌, subst}
+-- What the bytes after an `&` settle of it.
+use Rattle.std.proofs.Common.{arith, ◌≡◌, ℕ, zero, suc, ◌+◌, ◌-◌, ◌≤◌, ◌<◌, min, Bool, true, false, true≢false, not, nat_eq, nat_le, nat_lt, List, [], ◌∷◌, ◌++◌, length, take, drop, slice_get, get_or, Option, Some, None, Bor, refl, sym, ap, ◌∙◌, subst, length-append, append_assoc, take-take, take-append-drop}
 use Rattle.std.proofs.lemmas.Bool.{and_parts, and_from}
 use Rattle.std.proofs.lemmas.Bool.Decides.{nat_tests}
-use Rattle.std.proofs.lemmas.List.{take_more, length-map}
-use Rattle.std.proofs.lemmas.List.Folds.{list_all_more}
+use Rattle.std.proofs.lemmas.List.{take_more, length-map, length-take, length-take-le, get_or-take}
+use Rattle.std.proofs.lemmas.List.Folds.{list_all_at}
+use Rattle.std.specs.Option.{IsNone, MatchOption}
 use Rattle.std.specs.Char.{is_ascii, len_utf8}
 use Rattle.std.specs.List.{starts_with, list_all}
 use Rattle.names.specs.declared.placed.Placed.{Placed}
-use Rattle.names.specs.Placed.{placed, characters, all, is_alphanumeric}
+use Rattle.names.specs.Placed.{placed, characters, all, is_alphanumeric, is_empty}
 use Rattle.charref.specs.declared.reference.Reference.{Reference}
 use Rattle.charref.specs.declared.reference.Characters.TheVariants.{Named}
 use Rattle.charref.specs.declared.search.Search.{Search}
 use Rattle.charref.specs.declared.last.Last.TheVariants.{Alphanumeric}
-use Rattle.charref.specs.Reference.{Entry, Entities, IsTable, longest, is_key, is_key_name, ends_in_semicolon}
-use Rattle.charref.specs.Table.{IsSortedTable, IsRange, IsOver, GoesOn, HasNone, HasRead}
+use Rattle.charref.specs.declared.walk.Walk.{Walk}
+use Rattle.charref.specs.Reference.{Entry, Entities, IsTable, Piece, longest, is_key, is_key_name, ends_in_semicolon}
+use Rattle.charref.specs.Table.{IsAfterKey, IsSortedTable, IsRange, IsOver, GoesOn, HasNone, HasRead}
 use Rattle.charref.specs.declared.reference_state.ReferenceState.TheVariants.{Name}
-use Rattle.charref.specs.Held.{key_bytes, IsHeld}
-use Rattle.charref.specs.Pieces.{IsRead, unknown_of}
-use Rattle.charref.specs.AtOnce.{HasWhole, Settles}
+use Rattle.charref.specs.Held.{key_bytes, IsHeld, in_name}
+use Rattle.charref.specs.Open.{IsOpen}
+use Rattle.charref.specs.Pieces.{IsRead, characters_of, errors_of, unknown_of}
+use Rattle.charref.specs.Walk.{HasTaken, Takes}
+use Rattle.charref.specs.AtOnce.{IsAfterKeyOf, HasWalked, HasWhole, Settles, SettlesNothing}
 use Rattle.charref.proofs.Keys.{longest-whole, longest-over, no_longer}
 use Rattle.charref.proofs.Core.{once}
 use Rattle.charref.proofs.Naming.{is_key_of, key_of}
-use Rattle.charref.proofs.Ranges.{some_same, within}
-use Rattle.charref.proofs.Taking.{held_name}
+use Rattle.charref.proofs.Ranges.{only_first, some_same, within}
 use Rattle.charref.proofs.Searching.{read_ampersand}
+use Rattle.charref.proofs.Fronts.{run_more}
 use Rattle.charref.proofs.Extending.{front_of, follows, ends, closes, continues, last_letter, best_before, settled_before}
+use Rattle.charref.proofs.Opening.{open_taken}
+use Rattle.charref.proofs.OneReference.{one_of}
 use Rattle.charref.proofs.Telling.{read_named, read_unknown}
 
 -- ONE BYTE MORE
@@ -40,49 +46,78 @@ last_placed at (x ∷ xs) byte =
     let more : Last (at + len_utf8 x) xs byte = last_placed (at + len_utf8 x) xs byte in
     record { p = more.p; ch = more.ch; is = ap (λ ps. record { ch = x; at = at } ∷ ps) more.is }
 
--- The search has read an `&` and the first `count` of these bytes, all letters and digits.
-pub record HasReadName (search : Search) (table : Entities) (bytes : List ℕ) (count : ℕ) : Type 0 where
-  pub few : count ≤ length bytes
-  pub ascii : list_all is_ascii (take count bytes) ≡ true
-  pub read : (at : ℕ) → HasRead search table (key_bytes (placed at (take count bytes)))
-  pub letters : (at : ℕ) → all is_alphanumeric (placed at (take count bytes)) ≡ true
+pub more_bytes : (bytes : List ℕ) (k : ℕ) → k < length bytes → (at : ℕ) (last : Last at (take k bytes) (get_or bytes k 0)) → placed at (take (k + 1) bytes) ≡ placed at (take k bytes) ++ last.p ∷ []
+more_bytes bytes k within at last = ap (placed at) (take_more bytes k 0 within) ∙ last.is
 
-pub nothing_read : (search : Search) (table : Entities) (bytes : List ℕ) → HasRead search table (38 ∷ []) → HasReadName search table bytes 0
-nothing_read search table bytes read = record { few = omega arith; ascii = refl; read = λ at. read; letters = λ at. refl }
+pub walked_nothing : (walk : Walk) (table : Entities) (bytes : List ℕ) → HasTaken walk table false [] → HasWalked walk table bytes 0
+walked_nothing walk table bytes taken = record { few = omega arith; ascii = refl; taken = λ at. taken }
 
-more_placed : (bytes : List ℕ) (k byte : ℕ) → k < length bytes → byte ≡ get_or bytes k 0 → (at : ℕ) (last : Last at (take k bytes) byte) → placed at (take (k + 1) bytes) ≡ placed at (take k bytes) ++ last.p ∷ []
-more_placed bytes k byte within is at last = ap (placed at) (take_more bytes k 0 within ∙ ap (λ b. take k bytes ++ b ∷ []) (sym is)) ∙ last.is
+module _ (table : Entities) (bytes : List ℕ) (k : ℕ) (walk next : Walk) (within : k < length bytes) (ascii : is_ascii (get_or bytes k 0) ≡ true) (before : HasWalked walk table bytes k) where
+  abbrev takes : Option Reference → Type 0
+  takes answer = (text : List Placed) (p : Placed) → HasTaken walk table false text → p.ch ≡ get_or bytes k 0 → Takes table false (text ++ p ∷ []) answer next
 
-more_ascii : (bytes : List ℕ) (k byte : ℕ) → k < length bytes → byte ≡ get_or bytes k 0 → is_ascii byte ≡ true → list_all is_ascii (take k bytes) ≡ true → list_all is_ascii (take (k + 1) bytes) ≡ true
-more_ascii bytes k byte within is ascii before = list_all_more is_ascii bytes k 0 within ∙ and_from _ _ before (ap is_ascii (sym is) ∙ ascii)
+  taken_more : (answer : Option Reference) → takes answer → (at : ℕ) → Takes table false (placed at (take (k + 1) bytes)) answer next
+  taken_more answer take-next at =
+      let last : Last at (take k bytes) (get_or bytes k 0) = last_placed at (take k bytes) (get_or bytes k 0) in
+      subst (λ text. Takes table false text answer next) (sym (more_bytes bytes k within at last)) (take-next (placed at (take k bytes)) last.p (before.taken at) last.ch)
 
--- some key goes on after it
-pub name_byte : (table : Entities) (bytes : List ℕ) (k byte : ℕ) (search next : Search) → k < length bytes → byte ≡ get_or bytes k 0 → is_ascii byte ≡ true → HasReadName search table bytes k
-    → ((in_value : Bool) (text : List Placed) (p : Placed) → HasRead search table (key_bytes text) → p.ch ≡ byte → IsHeld table in_value (Name next) (text ++ p ∷ []))
-    → HasReadName next table bytes (k + 1)
-name_byte table bytes k byte search next within is ascii before holds = record {
-  few = omega arith;
-  ascii = more_ascii bytes k byte within is ascii before.ascii;
-  read = λ at. (after at).0;
-  letters = λ at. (after at).1;
-}
+  pub walked_more : takes None → HasWalked next table bytes (k + 1)
+  walked_more take-next = record { few = omega arith; ascii = run_more is_ascii bytes k within before.ascii ascii; taken = taken_more None take-next }
+
+  pub walk_settles : (found : Reference) → takes (Some found) → Settles table bytes (k + 1) found
+  walk_settles found take-next =
+      record { some = omega arith; few = omega arith; ascii = run_more is_ascii bytes k within before.ascii ascii; read = taken_more (Some found) take-next }
+
+-- WHAT SETTLES NOTHING
+
+pub if_none : {A : Type 0} (o : Option A) (P : Type 0) (Q : A → Type 0) → MatchOption o P Q → IsNone o → P
+if_none None P Q h none = h
+if_none (Some x) P Q h none = absurd (true≢false none)
+
+some_more : (ps : List Placed) → is_empty ps ≡ false → 1 ≤ length ps
+some_more [] some = absurd (true≢false some)
+some_more (p ∷ ps) some = omega arith
+
+-- what may become a longer reference is settled by none of its characters
+unsettled : (table : Entities) (amp : Placed) (text rest : List Placed) (found : Reference) → amp.ch ≡ 38 → IsOpen table amp (text ++ rest) → ((after : List Placed) → IsRead table false text after found) → ⊥
+unsettled table amp text rest found is open' reads =
+    let n : ℕ = length text - found.left in
+    let more : List Placed = open'.more in
+    let after : List Placed = (rest ++ more) ++ open'.rest in
+    let seam : text ++ after ≡ take n text ++ (drop n text ++ after) = ap (λ xs. xs ++ after) (sym (take-append-drop n text)) ∙ append_assoc (take n text) (drop n text) after in
+    let joined : ((text ++ rest) ++ more) ++ open'.rest ≡ text ++ after = ap (λ xs. xs ++ open'.rest) (append_assoc text rest more) ∙ append_assoc text (rest ++ more) open'.rest in
+    let other : Piece = record { text = amp ∷ take n text; gives = characters_of found.characters; errors = errors_of found amp.at after } in
+    let same : open'.piece ≡ other = (one_of table false open'.piece other open'.rest (drop n text ++ after) open'.is_reference ((reads after).reads amp is) (ap (λ xs. xs ++ open'.rest) open'.text_is ∙ ap (λ xs. amp ∷ xs) (joined ∙ seam))).0 in
+    let sizes : length (amp ∷ ((text ++ rest) ++ more)) ≡ length (amp ∷ take n text) = ap length (sym open'.text_is ∙ ap (λ (q : Piece). q.text) same) in
+    let long : length ((text ++ rest) ++ more) ≡ length (text ++ rest) + length more = length-append (text ++ rest) more in
+    let front : length (text ++ rest) ≡ length text + length rest = length-append text rest in
+    let some : 1 ≤ length more = some_more more open'.is_more in
+    let cut : length (take n text) ≡ min n (length text) = length-take n text in
+    absurd (omega arith)
+
+front_placed : (at n : ℕ) (xs : List ℕ) → (rest : List Placed) × (placed at xs ≡ placed at (take n xs) ++ rest)
+front_placed at zero [] = ([], refl)
+front_placed at zero (x ∷ xs) = (placed at (x ∷ xs), refl)
+front_placed at (suc n) [] = ([], refl)
+front_placed at (suc n) (x ∷ xs) = let more = front_placed (at + len_utf8 x) n xs in (more.0, ap (λ ps. record { ch = x; at = at } ∷ ps) more.1)
+
+-- a walk that has taken all of the bytes, or all before one that is not ASCII
+pub nothing_settled : (walk : Walk) (table : Entities) (bytes : List ℕ) (count : ℕ) → IsTable table → HasWalked walk table bytes count → (count < length bytes → is_ascii (get_or bytes count 0) ≡ false) → SettlesNothing table bytes
+nothing_settled walk table bytes count is_table walked stops n found settles =
+    let few : n ≤ count = before (nat_le n count) refl in
+    let more = front_placed 0 n (take count bytes) in
+    let amp : Placed = record { ch = 38; at = 0 } in
+    let text-is : placed 0 (take count bytes) ≡ placed 0 (take n bytes) ++ more.0 = more.1 ∙ ap (λ xs. placed 0 xs ++ more.0) (take-take n count bytes few) in
+    unsettled table amp (placed 0 (take n bytes)) more.0 found refl (subst (IsOpen table amp) text-is (open_taken walk table (placed 0 (take count bytes)) amp is_table (walked.taken 0) refl)) (settles.read 0)
   where
-    after : (at : ℕ) → HasRead next table (key_bytes (placed at (take (k + 1) bytes))) × (all is_alphanumeric (placed at (take (k + 1) bytes)) ≡ true)
-    after at =
-        let last : Last at (take k bytes) byte = last_placed at (take k bytes) byte in
-        held_name table false next (placed at (take (k + 1) bytes)) (subst (IsHeld table false (Name next)) (sym (more_placed bytes k byte within is at last)) (holds false (placed at (take k bytes)) last.p (before.read at) last.ch))
-
--- the reference is known after it
-pub name_ended : (table : Entities) (bytes : List ℕ) (k byte : ℕ) (search : Search) (found : Reference) → k < length bytes → byte ≡ get_or bytes k 0 → is_ascii byte ≡ true → HasReadName search table bytes k
-    → ((text : List Placed) (p : Placed) → HasRead search table (key_bytes text) → all is_alphanumeric text ≡ true → p.ch ≡ byte → (after : List Placed) → IsRead table false (text ++ p ∷ []) after found)
-    → Settles table bytes (k + 1) found
-name_ended table bytes k byte search found within is ascii before reads = record {
-  some = omega arith;
-  few = omega arith;
-  ascii = more_ascii bytes k byte within is ascii before.ascii;
-  read = λ at after. let last : Last at (take k bytes) byte = last_placed at (take k bytes) byte in
-      subst (λ text. IsRead table false text after found) (sym (more_placed bytes k byte within is at last)) (reads (placed at (take k bytes)) last.p (before.read at) (before.letters at) last.ch after);
-}
+    before : (b : Bool) → nat_le n count ≡ b → n ≤ count
+    before true is = grind (arith, nat_tests)
+    before false is =
+        let within : count < n = grind (arith, nat_tests) in
+        let least : n ≤ length bytes = settles.few in
+        let none : list_all is_ascii (take n bytes) ≡ false =
+        list_all_at is_ascii (take n bytes) count 0 (let size : length (take n bytes) ≡ n = length-take-le n bytes least in omega arith) (ap is_ascii (get_or-take n bytes count 0 within) ∙ stops (omega arith)) in
+        absurd (true≢false (sym settles.ascii ∙ none))
 
 -- no key begins with the first letter
 none_over : (table : Entities) (bytes : List ℕ) (low high : ℕ) → IsRange table bytes low high → low ≡ high → HasNone table bytes
@@ -158,21 +193,58 @@ key_name_ascii (c ∷ cs) h =
       | continues more ↦ key_name_ascii cs more
     ])
 
+-- These bytes begin with the name of this key, so many of them.
+pub record StandsAt (bytes key : List ℕ) (count : ℕ) : Type 0 where
+  pub some : 0 < count
+  pub few : count ≤ length bytes
+  pub ascii : list_all is_ascii (take count bytes) ≡ true
+  pub is : (at : ℕ) → key ≡ key_bytes (placed at (take count bytes))
+
+pub key_stands : (bytes key : List ℕ) (count : ℕ) → is_key key ≡ true → starts_with nat_eq bytes (drop 1 key) ≡ true → count ≡ length key - 1 → StandsAt bytes key count
+key_stands bytes [] count key opens size = absurd (true≢false (sym key))
+key_stands bytes (c ∷ []) count key opens size = absurd (true≢false (sym (and_parts _ _ key).1))
+key_stands bytes (c ∷ d ∷ ds) count key opens size =
+    let amp : c ≡ 38 = (let t : nat_eq c 38 ≡ true = (and_parts _ _ key).0 in grind (arith, nat_tests)) in
+    let name : d ∷ ds ≡ take (length (d ∷ ds)) bytes = key_of bytes (d ∷ ds) opens in
+    let count-is : length (d ∷ ds) ≡ count = omega arith in
+    subst (StandsAt bytes (c ∷ d ∷ ds)) count-is (record {
+      some = omega arith;
+      few = no_longer bytes (d ∷ ds) opens;
+      ascii = subst (λ xs. list_all is_ascii xs ≡ true) name (key_name_ascii (d ∷ ds) (and_parts _ _ key).1);
+      is = λ at. ap (λ x. x ∷ d ∷ ds) amp ∙ ap (λ xs. 38 ∷ xs) (name ∙ sym (characters-placed at (take (length (d ∷ ds)) bytes)));
+    })
+
 pub key_settles : (table : Entities) (bytes : List ℕ) (place count : ℕ) (lent : Bor (List ℕ)) → (has : HasWhole table bytes place) → count ≡ length has.entry.key - 1 → lent.now ≡ has.entry.stands_for → Settles table bytes count (whole lent)
-key_settles table bytes place count lent has size stands = by has.entry.key refl (is_key_of table place has.entry has.is_table has.stands) has.opens
-  where
-    by : (key : List ℕ) → has.entry.key ≡ key → is_key key ≡ true → starts_with nat_eq bytes (drop 1 key) ≡ true → Settles table bytes count (whole lent)
-    by [] is key opens = absurd (true≢false (sym key))
-    by (c ∷ []) is key opens = absurd (true≢false (sym (and_parts _ _ key).1))
-    by (c ∷ d ∷ ds) is key opens =
-        let amp : c ≡ 38 = (let t : nat_eq c 38 ≡ true = (and_parts _ _ key).0 in grind (arith, nat_tests)) in
-        let name : d ∷ ds ≡ take (length (d ∷ ds)) bytes = key_of bytes (d ∷ ds) opens in
-        let long : length has.entry.key ≡ length (c ∷ d ∷ ds) = ap length is in
-        let count-is : length (d ∷ ds) ≡ count = omega arith in
-        subst (λ n. Settles table bytes n (whole lent)) count-is (record {
-          some = omega arith;
-          few = no_longer bytes (d ∷ ds) opens;
-          ascii = subst (λ xs. list_all is_ascii xs ≡ true) name (key_name_ascii (d ∷ ds) (and_parts _ _ key).1);
-          read = λ at after. read_closed table (placed at (take (length (d ∷ ds)) bytes)) after place has.entry lent has.is_table has.stands
-              (is ∙ ap (λ x. x ∷ d ∷ ds) amp ∙ ap (λ xs. 38 ∷ xs) (name ∙ sym (characters-placed at (take (length (d ∷ ds)) bytes)))) has.closed stands;
-        })
+key_settles table bytes place count lent has size stands =
+    let at-front : StandsAt bytes has.entry.key count = key_stands bytes has.entry.key count (is_key_of table place has.entry has.is_table has.stands) has.opens size in
+    record {
+      some = at-front.some;
+      few = at-front.few;
+      ascii = at-front.ascii;
+      read = λ at after. read_closed table (placed at (take count bytes)) after place has.entry lent has.is_table has.stands (at-front.is at) has.closed stands;
+    }
+
+-- FRONTS
+
+pub after_key : (table : Entities) (place : ℕ) (e : Entry) (search : Search) → IsSortedTable table → slice_get table place ≡ Some e → HasRead search table e.key → GoesOn table e.key → IsAfterKey table search
+after_key table place e search sorted at read goes =
+    let here : place ≡ search.low = (only_first table e.key search.low search.high sorted read.range).here place e at refl in
+    record { entry = e; stands = ap (slice_get table) (sym here) ∙ at; read = read; goes_on = goes }
+
+pub key_walked : (walk : Walk) (table : Entities) (bytes : List ℕ) (count : ℕ) (search : Search) → IsTable table → IsAfterKeyOf table bytes search → count ≡ search.depth - 1 → walk.table.now ≡ table → walk.in_value ≡ false → walk.state ≡ Name search
+    → HasWalked walk table bytes count
+key_walked walk table bytes count search is_table has size table-is value-is state-is =
+    let front : IsAfterKey table search = has.read in
+    let depth : search.depth ≡ length front.entry.key = front.read.depth in
+    let at-front : StandsAt bytes front.entry.key count = key_stands bytes front.entry.key count (is_key_of table search.low front.entry is_table front.stands) has.opens (omega arith) in
+    record {
+      few = at-front.few;
+      ascii = at-front.ascii;
+      taken = λ at. let text : List Placed = placed at (take count bytes) in
+          let goes : GoesOn table (key_bytes text) = subst (GoesOn table) (at-front.is at) front.goes_on in
+          record {
+            table_is = table-is;
+            in_value_is = value-is;
+            held = subst (λ state. IsHeld table false state text) (sym state-is) (in_name search text (subst (HasRead search table) (at-front.is at) front.read) (front_of table text is_table goes) (λ outside some. goes));
+          };
+    }

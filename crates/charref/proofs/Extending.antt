@@ -196,10 +196,6 @@ pub something_read : (text : List Placed) (P : Type 0) → (length (key_bytes te
 something_read [] P h is = h refl
 something_read (q ∷ qs) P h is = absurd (true≢false (sym is))
 
-pub run_more : (text : List Placed) (p : Placed) → all is_alphanumeric text ≡ true → is_alphanumeric p.ch ≡ true → all is_alphanumeric (text ++ p ∷ []) ≡ true
-run_more [] p h is = and_from _ _ is refl
-run_more (q ∷ qs) p h is = and_from _ _ (and_parts _ _ h).0 (run_more qs p (and_parts _ _ h).1 is)
-
 -- how many characters were read
 pub count_read : (text : List Placed) (p : Placed) (depth : ℕ) → depth ≡ length (key_bytes text) → depth ≡ length (text ++ p ∷ [])
 count_read text p depth is =

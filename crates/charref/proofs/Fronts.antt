@@ -2,6 +2,7 @@
 use Rattle.std.proofs.Common.{arith, ◌≡◌, ℕ, zero, suc, ◌+◌, ◌<◌, ◌⊎◌, inl, inr, Bool, true, false, true≢false, nat_eq, ◌||◌, ◌==◌, bytes_eq, codes, List, [], ◌∷◌, ◌++◌, length, take, slice_get, get_or, refl, sym, ◌∙◌, subst}
 use Rattle.std.proofs.lemmas.Bool.{and_parts, and_from, agree_below_at}
 use Rattle.std.proofs.lemmas.Bool.Decides.{nat_tests}
+use Rattle.std.proofs.lemmas.List.Folds.{list_all_more}
 use Rattle.std.specs.List.{list_all}
 use Rattle.std.specs.Prelude.{slice_index}
 use Rattle.names.specs.Placed.{is_alphanumeric}
@@ -23,13 +24,8 @@ pub past_end : (bytes : List ℕ) → passes is_alphanumeric (slice_get bytes (l
 past_end [] = refl
 past_end (b ∷ bs) = past_end bs
 
-pub run_more : (bytes : List ℕ) (n : ℕ) → n < length bytes → list_all is_alphanumeric (take n bytes) ≡ true → is_alphanumeric (get_or bytes n 0) ≡ true → list_all is_alphanumeric (take (n + 1) bytes) ≡ true
-run_more bytes n less run test = subst (λ k. list_all is_alphanumeric (take k bytes) ≡ true) (let e : suc n ≡ n + 1 = omega arith in e) (by bytes n less run test)
-  where
-    by : (bytes : List ℕ) (n : ℕ) → n < length bytes → list_all is_alphanumeric (take n bytes) ≡ true → is_alphanumeric (get_or bytes n 0) ≡ true → list_all is_alphanumeric (take (suc n) bytes) ≡ true
-    by [] n less run test = absurd (omega arith)
-    by (b ∷ bs) zero less run test = and_from (is_alphanumeric b) true test refl
-    by (b ∷ bs) (suc n) less run test = and_from (is_alphanumeric b) _ (and_parts (is_alphanumeric b) _ run).0 (by bs n (omega arith) (and_parts (is_alphanumeric b) _ run).1 test)
+pub run_more : (test : ℕ → Bool) (bytes : List ℕ) (n : ℕ) → n < length bytes → list_all test (take n bytes) ≡ true → test (get_or bytes n 0) ≡ true → list_all test (take (n + 1) bytes) ≡ true
+run_more test bytes n less run one = list_all_more test bytes n 0 less ∙ and_from _ _ run one
 
 pub passes_within : (test : ℕ → Bool) (bytes : List ℕ) (n : ℕ) → passes test (slice_get bytes n) ≡ true → n < length bytes
 passes_within test [] n h = absurd (true≢false (sym h))

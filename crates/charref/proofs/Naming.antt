@@ -35,6 +35,9 @@ pub all-append : (test : ℕ → Bool) (xs ys : List Placed) → all test xs ≡
 all-append test [] ys h g = g
 all-append test (p ∷ ps) ys h g = and_from _ _ (and_parts _ _ h).0 (all-append test ps ys (and_parts _ _ h).1 g)
 
+pub all-snoc : (test : ℕ → Bool) (xs : List Placed) (p : Placed) → all test xs ≡ true → test p.ch ≡ true → all test (xs ++ p ∷ []) ≡ true
+all-snoc test xs p h is = all-append test xs (p ∷ []) h (and_from _ _ is refl)
+
 pub past-run : (xs ys : List Placed) → all is_alphanumeric xs ≡ true → past is_alphanumeric (xs ++ ys) ≡ past is_alphanumeric ys
 past-run [] ys h = refl
 past-run (p ∷ ps) ys h = let test : is_alphanumeric p.ch ≡ true = (and_parts _ _ h).0 in rw test (past-run ps ys (and_parts _ _ h).1)
@@ -56,7 +59,7 @@ drop-within [] ys (suc n) h = absurd (omega arith)
 drop-within (p ∷ ps) ys (suc n) h = drop-within ps ys n (omega arith)
 
 -- keys of a table
-key_in : (table : Entities) (k : ℕ) (e : Entry) → list_all (λ entry. is_key entry.key) table ≡ true → slice_get table k ≡ Some e → is_key e.key ≡ true
+pub key_in : (table : Entities) (k : ℕ) (e : Entry) → list_all (λ entry. is_key entry.key) table ≡ true → slice_get table k ≡ Some e → is_key e.key ≡ true
 key_in [] k e keys h = absurd (cc)
 key_in (x ∷ xs) zero e keys h = let same : x ≡ e = cc in subst (λ (y : Entry). is_key y.key ≡ true) same (and_parts _ _ keys).0
 key_in (x ∷ xs) (suc k) e keys h = key_in xs k e (and_parts _ _ keys).1 h

@@ -15,7 +15,7 @@ use Rattle.charref.specs.Reference.{Entities, is_hex_digit, digit_value, number_
 use Rattle.charref.specs.Number.{is_digit_of, radix}
 use Rattle.charref.specs.Held.{IsSign, number_sign, small_x, capital_x, IsHeld, after_sign, after_x, in_number}
 use Rattle.charref.specs.Pieces.{IsRead, errors_of, number_of}
-use Rattle.charref.proofs.Naming.{drop-seam}
+use Rattle.charref.proofs.Naming.{all-snoc, drop-seam}
 use Rattle.charref.proofs.Telling.{begins-append, no_run, read_text, drop-all}
 
 -- SIGNS
@@ -123,10 +123,6 @@ all-not-not : (test : ℕ → Bool) (xs : List Placed) → all test xs ≡ true 
 all-not-not test [] h = refl
 all-not-not test (p ∷ ps) h = let first : test p.ch ≡ true = (and_parts _ _ h).0 in rw first (all-not-not test ps (and_parts _ _ h).1)
 
-all-one : (test : ℕ → Bool) (xs : List Placed) (p : Placed) → all test xs ≡ true → test p.ch ≡ true → all test (xs ++ p ∷ []) ≡ true
-all-one test [] p h is = and_from _ _ is refl
-all-one test (q ∷ qs) p h is = and_from _ _ (and_parts _ _ h).0 (all-one test qs p (and_parts _ _ h).1 is)
-
 -- the first digit, and one more
 pub first_digit : (table : Entities) (in_value : Bool) (base : Base) (sign : List Placed) (p : Placed) (d : ℕ) → IsSign base sign → is_digit_of base p.ch ≡ true → d ≡ digit_value p.ch → d < 16
     → IsHeld table in_value (Number base d) (sign ++ p ∷ [])
@@ -142,7 +138,7 @@ pub next_digit : (table : Entities) (in_value : Bool) (base : Base) (value : ℕ
     → next ≡ min (value * radix base + d) 0x110000 → IsHeld table in_value (Number base next) (text ++ p ∷ [])
 next_digit table in_value _ _ _ p d next (in_number base value sign digits text text-is is opens run value-is) test d-is next-is =
     in_number base next sign (digits ++ p ∷ []) (text ++ p ∷ []) (ap (λ xs. xs ++ p ∷ []) text-is ∙ append_assoc sign digits (p ∷ [])) is
-    (begins-append (is_digit_of base) digits (p ∷ []) opens) (all-one (is_digit_of base) digits p run test)
+    (begins-append (is_digit_of base) digits (p ∷ []) opens) (all-snoc (is_digit_of base) digits p run test)
     (next-is ∙ ap (λ v. min (v * radix base + d) 0x110000) value-is ∙ min-more base (number_from 0 (radix base) digits) d ∙ ap (λ n. min (number_from 0 (radix base) digits * radix base + n) 0x110000) d-is
     ∙ ap (λ n. min n 0x110000) (sym (number_from-more 0 (radix base) digits p)))
 

@@ -1,9 +1,6 @@
 -- A numeric reference that stands whole in a run of the input, outside a value.
 use Rattle.std.proofs.Common.{arith, ◌≡◌, ℕ, ◌+◌, ◌*◌, ◌≤◌, ◌<◌, min, Bool, true, false, nat_eq, List, [], ◌∷◌, ◌++◌, length, take, slice_get, get_or, Some, inl, inr, ◌⊎◌, refl, sym, ap, ◌∙◌, subst}
-use Rattle.std.proofs.lemmas.Bool.{and_from}
 use Rattle.std.proofs.lemmas.Bool.Decides.{nat_tests}
-use Rattle.std.proofs.lemmas.List.{take_more}
-use Rattle.std.proofs.lemmas.List.Folds.{list_all_more}
 use Rattle.std.specs.Char.{is_ascii}
 use Rattle.std.specs.List.{list_all}
 use Rattle.names.specs.declared.placed.Placed.{Placed}
@@ -20,14 +17,8 @@ use Rattle.charref.specs.AtOnce.{HasSign, Settles}
 use Rattle.charref.proofs.Numbers.{two_signs, first_digit, next_digit, number_closed}
 use Rattle.charref.proofs.Taking.{held_x}
 use Rattle.charref.proofs.Ranges.{some_same}
-use Rattle.charref.proofs.AtOnce.{Last, last_placed}
-
--- one byte more
-more_bytes : (bytes : List ℕ) (count : ℕ) → count < length bytes → (at : ℕ) (last : Last at (take count bytes) (get_or bytes count 0)) → placed at (take (count + 1) bytes) ≡ placed at (take count bytes) ++ last.p ∷ []
-more_bytes bytes count within at last = ap (placed at) (take_more bytes count 0 within) ∙ last.is
-
-more_ascii : (bytes : List ℕ) (count : ℕ) → count < length bytes → list_all is_ascii (take count bytes) ≡ true → is_ascii (get_or bytes count 0) ≡ true → list_all is_ascii (take (count + 1) bytes) ≡ true
-more_ascii bytes count within before ascii = list_all_more is_ascii bytes count 0 within ∙ and_from _ _ before ascii
+use Rattle.charref.proofs.AtOnce.{Last, last_placed, more_bytes}
+use Rattle.charref.proofs.Fronts.{run_more}
 
 -- SIGNS
 
@@ -48,7 +39,7 @@ x_ascii c (inr h) = ap is_ascii h
 pub x_taken : (bytes : List ℕ) (x : ℕ) → HasSign Decimal bytes 1 → 1 < length bytes → x ≡ get_or bytes 1 0 → (x ≡ 120) ⊎ (x ≡ 88) → HasSign Hexadecimal bytes 2
 x_taken bytes x before within same is = record {
   few = omega arith;
-  ascii = more_ascii bytes 1 within before.ascii (x_ascii (get_or bytes 1 0) (is_x (get_or bytes 1 0) x (sym same) is));
+  ascii = run_more is_ascii bytes 1 within before.ascii (x_ascii (get_or bytes 1 0) (is_x (get_or bytes 1 0) x (sym same) is));
   sign = λ at. let last : Last at (take 1 bytes) (get_or bytes 1 0) = last_placed at (take 1 bytes) (get_or bytes 1 0) in
       subst (IsSign Hexadecimal) (sym (more_bytes bytes 1 within at last))
       (held_x [] false (placed at (take 1 bytes) ++ last.p ∷ []) (two_signs [] false (placed at (take 1 bytes)) last.p (before.sign at) (is_x last.p.ch x (last.ch ∙ sym same) is)));
@@ -81,7 +72,7 @@ one_digit_more base bytes start count value byte d next sign before within is di
       after = omega arith;
       few = omega arith;
       small = omega arith;
-      ascii = more_ascii bytes count within before.ascii (ap is_ascii (sym is) ∙ digit_ascii base byte digit);
+      ascii = run_more is_ascii bytes count within before.ascii (ap is_ascii (sym is) ∙ digit_ascii base byte digit);
       none = λ same. absurd (omega arith);
       some = λ less table at. let last : Last at (take count bytes) (get_or bytes count 0) = last_placed at (take count bytes) (get_or bytes count 0) in
           subst (IsHeld table false (Number base next)) (sym (more_bytes bytes count within at last))
@@ -108,7 +99,7 @@ pub number_settles : (base : Base) (bytes : List ℕ) (start count value : ℕ) 
 number_settles base bytes start count value found digits some within semicolon is table = record {
   some = omega arith;
   few = omega arith;
-  ascii = more_ascii bytes count within digits.ascii (ap is_ascii semicolon);
+  ascii = run_more is_ascii bytes count within digits.ascii (ap is_ascii semicolon);
   read = λ at after. let last : Last at (take count bytes) (get_or bytes count 0) = last_placed at (take count bytes) (get_or bytes count 0) in
       subst (λ text. IsRead table false text after found) (sym (more_bytes bytes count within at last))
       (subst (λ r. IsRead table false (placed at (take count bytes) ++ last.p ∷ []) after r) (sym is)

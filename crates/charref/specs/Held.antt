@@ -25,7 +25,7 @@ is_number NumberSign = false
 is_number HexadecimalSign = false
 is_number (Number base value) = true
 
--- what of the text taken may be read again: nothing of a number, which is a reference whatever follows (13.2.5.78, 13.2.5.79)
+-- what of the text taken may be read again: nothing of a number, which is a reference whatever follows
 abbrev pub kept : ReferenceState → List Placed → List Placed
 kept state text = if is_number state then [] else text
 

@@ -1,4 +1,4 @@
--- Character references (HTML Standard, 13.2.5.72 to 13.2.5.80): `&` and what it stands for.
+-- Character references (HTML Standard, 13.2.5, from #character-reference-state on): `&` and what it stands for.
 use Rattle.std.specs.Prelude.{◌≡◌, ℕ, ◌+◌, ◌-◌, ◌*◌, Bool, true, false, not, ◌&&◌, ◌||◌, ◌==◌, nat_eq, nat_lt, nat_le, if◌then◌else◌, List, [], ◌∷◌, ◌++◌}
 use Rattle.std.specs.Prelude.{map, length, drop, codes, Option, Some, None, option_to_list, bytes_eq, Contains}
 use Rattle.std.specs.List.{starts_with, list_all, IsDistinct, AllByRecursion}
@@ -70,7 +70,7 @@ ends_in_semicolon [] = false
 ends_in_semicolon (c ∷ []) = c == 59
 ends_in_semicolon (c ∷ d ∷ cs) = ends_in_semicolon (d ∷ cs)
 
--- the rule for attribute values: without `;`, and before `=` or an alphanumeric, a key is no reference there (13.2.5.73)
+-- the rule for attribute values: without `;`, and before `=` or an alphanumeric, a key is no reference there (#named-character-reference-state)
 abbrev pub is_kept : Bool → List ℕ → List Placed → Bool
 is_kept in_value key after = in_value && not (ends_in_semicolon key) && begins (λ c. is_equals c || is_alphanumeric c) after
 
@@ -82,17 +82,19 @@ is_hex_digit c = is_digit c || (nat_le 65 c && nat_le c 70) || (nat_le 97 c && n
 abbrev pub digit_value : ℕ → ℕ
 digit_value c = if is_digit c then c - 48 else (if nat_le c 70 then c - 55 else c - 87)
 
--- the number that the digits write, after those of `value`
+-- the number that the digits write, after those of `value` (#hexadecimal-character-reference-state,
+-- #decimal-character-reference-state)
 abbrev pub number_from : ℕ → ℕ → List Placed → ℕ
 number_from value base [] = value
 number_from value base (p ∷ ps) = number_from (value * base + digit_value p.ch) base ps
 
--- whether `#` and a digit, or `#x` and a hex digit, are here (13.2.5.75 to 13.2.5.77)
+-- whether `#` and a digit, or `#x` and a hex digit, are here (#numeric-character-reference-state,
+-- #decimal-character-reference-start-state, #hexadecimal-character-reference-start-state)
 abbrev pub begins_number : List Placed → Bool
 begins_number text = spells (codes "#") text
     && (begins is_digit (drop 1 text) || (begins (λ c. c == 120 || c == 88) (drop 1 text) && begins is_hex_digit (drop 2 text)))
 
--- the replacements of C1 controls (13.2.5.80)
+-- the replacements of C1 controls (#numeric-character-reference-end-state)
 abbrev pub replacements : List (ℕ × ℕ)
 replacements = (0x80, 0x20AC) ∷ (0x82, 0x201A) ∷ (0x83, 0x0192) ∷ (0x84, 0x201E) ∷ (0x85, 0x2026) ∷ (0x86, 0x2020) ∷ (0x87, 0x2021)
     ∷ (0x88, 0x02C6) ∷ (0x89, 0x2030) ∷ (0x8A, 0x0160) ∷ (0x8B, 0x2039) ∷ (0x8C, 0x0152) ∷ (0x8E, 0x017D) ∷ (0x91, 0x2018)
@@ -109,7 +111,7 @@ is_surrogate c = nat_le 0xD800 c && nat_le c 0xDFFF
 abbrev pub is_control : ℕ → Bool
 is_control c = nat_lt c 32 || (nat_le 127 c && nat_le c 159)
 
--- the character of a number, and what is wrong with it (13.2.5.80)
+-- the character of a number, and what is wrong with it (#numeric-character-reference-end-state)
 abbrev pub numbered : ℕ → ℕ
 numbered value = if value == 0 || nat_lt 0x10FFFF value || is_surrogate value then 0xFFFD else replaced replacements value
 
@@ -154,7 +156,7 @@ numeric_piece base opening digits close =
 
 -- The text at `&` is this piece where `rest` follows it. All errors are at the `&`.
 pub data IsReference (table : Entities) (in_value : Bool) (rest : List Placed) (piece : Piece) : Type 0 where
-  -- a key: the longest one that is here (13.2.5.73)
+  -- a key: the longest one that is here (#named-character-reference-state)
   named : (amp : Placed) (name : List Placed) (entry : Entry) → amp.ch ≡ 38 → begins is_alphanumeric name ≡ true
       → longest table (characters (amp ∷ name ++ rest)) ≡ Some entry → characters (amp ∷ name) ≡ entry.key
       → is_kept in_value entry.key rest ≡ false → piece ≡ named_piece (amp ∷ name) entry → IsReference table in_value rest piece
@@ -162,20 +164,20 @@ pub data IsReference (table : Entities) (in_value : Bool) (rest : List Placed) (
   kept : (amp : Placed) (entry : Entry) → amp.ch ≡ 38 → begins is_alphanumeric rest ≡ true
       → longest table (characters (amp ∷ rest)) ≡ Some entry → is_kept in_value entry.key (drop (length entry.key - 1) rest) ≡ true
       → piece ≡ ampersand amp [] → IsReference table in_value rest piece
-  -- no key (13.2.5.74)
+  -- no key: an ambiguous ampersand (#ambiguous-ampersand-state)
   unknown : (amp : Placed) → amp.ch ≡ 38 → begins is_alphanumeric rest ≡ true → longest table (characters (amp ∷ rest)) ≡ None
       → piece ≡ ampersand amp (error_if (begins (λ c. c == 59) (past is_alphanumeric rest)) UnknownNamedCharacterReference amp.at)
       → IsReference table in_value rest piece
-  -- a number (13.2.5.78 to 13.2.5.80)
+  -- a number (#numeric-character-reference-end-state)
   decimal : (opening digits close : List Placed) → characters opening ≡ codes "&#" → begins is_digit digits ≡ true
       → RunsTo (λ c. not (is_digit c)) digits (close ++ rest) → is_semicolon_if_any close rest ≡ true
       → piece ≡ numeric_piece 10 opening digits close → IsReference table in_value rest piece
   hexadecimal : (opening digits close : List Placed) → lowered opening ≡ codes "&#x" → begins is_hex_digit digits ≡ true
       → RunsTo (λ c. not (is_hex_digit c)) digits (close ++ rest) → is_semicolon_if_any close rest ≡ true
       → piece ≡ numeric_piece 16 opening digits close → IsReference table in_value rest piece
-  -- `&#` with no number (13.2.5.75 to 13.2.5.77)
+  -- `&#` with no number (#numeric-character-reference-state)
   no_digits : (amp : Placed) → amp.ch ≡ 38 → begins (λ c. c == 35) rest ≡ true → begins_number rest ≡ false
       → piece ≡ ampersand amp (error AbsenceOfDigitsInNumericCharacterReference amp.at ∷ []) → IsReference table in_value rest piece
-  -- any other `&` (13.2.5.72)
+  -- any other `&` (#character-reference-state)
   alone : (amp : Placed) → amp.ch ≡ 38 → begins (λ c. is_alphanumeric c || c == 35) rest ≡ false
       → piece ≡ ampersand amp [] → IsReference table in_value rest piece

@@ -91,6 +91,13 @@ pub record GoesOn (table : Entities) (bytes : List ℕ) : Type 0 where
   pub opens : starts_with nat_eq entry.key bytes ≡ true
   pub is_longer : length bytes < length entry.key
 
+-- A search has read the key of the first entry of its range, and a longer key begins with it.
+pub record IsAfterKey (table : Entities) (search : Search) : Type 0 where
+  pub entry : Entry
+  pub stands : slice_get table search.low ≡ Some entry
+  pub read : HasRead search table entry.key
+  pub goes_on : GoesOn table entry.key
+
 -- whether the key found has as many bytes as were read
 abbrev pub is_as_long : ℕ → Option Entry → Bool
 is_as_long depth None = false

@@ -1,6 +1,6 @@
-//! References that stand whole in one run of the input.
+//! What the bytes after an `&` settle of it, outside an attribute value.
 
-ghost use Rattle.std.specs.Prelude.{◌≡◌, ◌<◌, ◌≤◌, ℕ, List, true, false, length, take, IfSome};
+ghost use Rattle.std.specs.Prelude.{◌≡◌, ◌<◌, ◌≤◌, ℕ, List, true, false, length, take, IfSome, IsNone, MatchOption};
 ghost use Rattle.std.specs.Char.{is_ascii};
 ghost use Rattle.std.specs.List.{list_all};
 ghost use Rattle.names.specs.declared.placed.Placed.{Placed};
@@ -8,23 +8,22 @@ ghost use Rattle.names.specs.Placed.{placed};
 ghost use Rattle.charref.specs.Reference.{Entities, IsTable};
 ghost use Rattle.charref.specs.Pieces.{IsRead};
 ghost use Rattle.charref.specs.Table.{is_search_within};
-ghost use Rattle.charref.specs.Walk.{NextIs};
-ghost use Rattle.charref.specs.AtOnce.{HasSign, HasWhole, Settles};
+ghost use Rattle.charref.specs.AtOnce.{HasSign, HasWalked, HasWhole, Settles, SettlesNothing};
 
 use crate::key::is_alphanumeric;
 use crate::last::Last;
-use crate::next::Next;
 use crate::number::Base;
 use crate::reference::{Characters, Reference};
+use crate::reference_state::ReferenceState;
 use crate::search::Search;
 use crate::slots::is_whole;
 use crate::table::Table;
 use crate::walk::Walk;
-use crate::walking::{after_name, longer, number, unknown};
+use crate::walking::{number, unknown};
 
 impl<'t> Walk<'t> {
-    /// What is at an `&` outside an attribute value after which these bytes come, and how many of them settle it; `None`
-    /// where they do not, or a byte before that is not ASCII.
+    /// What is at an `&` outside an attribute value after which these bytes come, and how many of them settle it, whatever comes
+    /// after them; `None` where they settle nothing, as also where a character that is not ASCII comes before they do.
     #[inline(always)]
     pub fn settled(table: &'t Table, bytes: &[u8]) -> Option<(Reference<'t>, usize)>
         ensures table { IsTable table.now }
@@ -32,33 +31,36 @@ impl<'t> Walk<'t> {
         ensures ascii { IfSome result (λ it. list_all is_ascii (take it.1 bytes.now) ≡ true) }
         ensures read { IfSome result (λ it. (at : ℕ) (after : List Placed)
             → IsRead table.now false (placed at (take it.1 bytes.now)) after it.0) }
+        ensures none { IsNone result → SettlesNothing table.now bytes.now }
     {
         settled(table, bytes)
     }
 }
 
-/// The same.
+/// The same: at once where it is a reference that ends in a `;`, or an `&` before a letter or digit with which no key begins.
 #[inline(always)]
 fn settled<'t>(table: &'t Table, bytes: &[u8]) -> Option<(Reference<'t>, usize)>
     ensures table { IsTable table.now }
-    ensures settles { IfSome result (λ it. Settles table.now bytes.now it.1 it.0) }
+    ensures settles { MatchOption result (SettlesNothing table.now bytes.now) (λ it. Settles table.now bytes.now it.1 it.0) }
 {
     let flat = &table.flat;
-    let first = *bytes.first()?;
-    if first == b'#' {
-        return settled_number(bytes);
+    if let Some(first) = bytes.first() {
+        let first = *first;
+        if first == b'#' {
+            return settled_number(table, bytes);
+        }
+        if is_alphanumeric(first)
+            && let Some(search) = Search::after_first(flat, &table.starts, char::from(first))
+        {
+            if search.is_over() {
+                return Some((unknown(1, Last::Alphanumeric), 1));
+            }
+            if let Some(place) = whole_place(table, search, bytes) {
+                return Some(whole_key(table, place));
+            }
+        }
     }
-    if !is_alphanumeric(first) {
-        return settled_by_steps(table, bytes);
-    }
-    let search = Search::after_first(flat, &table.starts, char::from(first))?;
-    if search.is_over() {
-        return Some((unknown(1, Last::Alphanumeric), 1));
-    }
-    match whole_place(table, search, bytes) {
-        Some(place) => Some(whole_key(table, place)),
-        None => settled_by_steps(table, bytes),
-    }
+    settled_by_steps(table, bytes)
 }
 
 /// The place of a key that ends in a `;` and with all of which, after its `&`, these bytes begin, if one is found at once: the
@@ -94,42 +96,57 @@ fn whole_key<'t>(table: &'t Table, place: usize) -> (Reference<'t>, usize)
     (found, table.flat.key(place).len() - 1)
 }
 
-/// What the name at the front of these bytes is, by the steps of a walk.
-fn settled_by_steps<'t>(table: &'t Table, bytes: &[u8]) -> Option<(Reference<'t>, usize)>
-    ensures { IfSome result (λ it. Settles table.now bytes.now it.1 it.0) }
+/// A walk that has taken a key at the front of these bytes, if one is found at once, or nothing yet; and how many bytes it has
+/// taken.
+#[inline(always)]
+fn begun<'t>(table: &'t Table, bytes: &[u8]) -> (Walk<'t>, usize)
+    ensures table { IsTable table.now }
+    ensures walked { HasWalked result.0 table.now bytes.now result.1 }
 {
-    let mut search = Search::after_ampersand(&table.flat);
-    for (index, byte) in bytes.iter().enumerate() {
-        if !byte.is_ascii() {
-            return None;
+    match table.open_keys.find(&table.flat, bytes) {
+        Some(search) => {
+            let walk = Walk {
+                table,
+                in_value: false,
+                state: ReferenceState::Name(search),
+            };
+            (walk, search.depth - 1)
         }
-        match longer(table, search, char::from(*byte)) {
-            Some(next) => search = next,
-            None => {
-                let found = ended(after_name(table, false, search, char::from(*byte)))?;
-                return Some((found, index + 1));
-            }
+        None => (Walk::new(table, false), 0),
+    }
+}
+
+/// What is at the `&` before these bytes, and how many of them settle it, by the steps of a walk.
+fn settled_by_steps<'t>(table: &'t Table, bytes: &[u8]) -> Option<(Reference<'t>, usize)>
+    ensures table { IsTable table.now }
+    ensures settles { MatchOption result (SettlesNothing table.now bytes.now) (λ it. Settles table.now bytes.now it.1 it.0) }
+{
+    let (mut walk, mut count) = begun(table, bytes);
+    while count < bytes.len() && bytes[count].is_ascii() {
+        if let Some(found) = walk.take(char::from(bytes[count])) {
+            return Some((found, count + 1));
         }
+        count += 1;
     }
     None
 }
 
-/// The reference that a step has shown, if it has.
-#[inline(always)]
-fn ended<'t>(next: Next<'t>) -> Option<Reference<'t>>
-    ensures { IfSome result (λ found. (table : Entities) (text : List Placed) → NextIs table false text next.entry
-        → (after : List Placed) → IsRead table false text after found) }
+/// What is at an `&` before these bytes, the first of them a `#`.
+#[inline(never)]
+fn settled_number<'t>(table: &'t Table, bytes: &[u8]) -> Option<(Reference<'t>, usize)>
+    requires { HasSign Base.Decimal bytes.now 1 }
+    ensures { MatchOption result (SettlesNothing table.now bytes.now) (λ it. Settles table.now bytes.now it.1 it.0) }
 {
-    match next {
-        Next::Ended(found) => Some(found),
-        Next::Goes(_) => None,
+    match whole_number(bytes) {
+        Some(it) => Some(it),
+        None => settled_by_steps(table, bytes),
     }
 }
 
 /// A numeric reference, if these bytes, the first of them a `#`, begin with the rest of it after its `&`, and it has a digit
 /// and a `;`; and how many of the bytes are its own.
-#[inline(never)]
-fn settled_number<'t>(bytes: &[u8]) -> Option<(Reference<'t>, usize)>
+#[inline(always)]
+fn whole_number<'t>(bytes: &[u8]) -> Option<(Reference<'t>, usize)>
     requires { HasSign Base.Decimal bytes.now 1 }
     ensures { IfSome result (λ it. (table : Entities) → Settles table bytes.now it.1 it.0) }
 {

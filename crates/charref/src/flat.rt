@@ -1,13 +1,14 @@
 //! A table in its flat form.
 
-ghost use Rattle.std.specs.Prelude.{◌≡◌, ◌<◌, length, slice_get, true, Some, IfOk, IfErr};
-ghost use Rattle.std.specs.List.{list_all};
+ghost use Rattle.std.specs.Prelude.{◌≡◌, ◌<◌, drop, length, nat_eq, slice_get, true, Some, IfOk, IfErr};
+ghost use Rattle.std.specs.List.{list_all, starts_with};
 ghost use Rattle.charref.specs.Reference.{Entry, Entities};
 ghost use Rattle.charref.specs.Table.{entry, entries, is_inside};
 ghost use Rattle.charref.specs.Flat.{flat_of, IsReadable, IsRefusedFlat};
 
 use crate::entity::Entity;
 use crate::entries::entities_of;
+use crate::key::begin_with;
 use names::Refusal;
 use std::alloc::Global;
 use std::marker::Model;
@@ -70,5 +71,17 @@ impl Flat {
         ensures { (e : Entry) × (slice_get self.now at ≡ Some e) × (result.now ≡ e.stands_for) }
     {
         self.entities[at].characters.as_slice()
+    }
+
+    /// Whether these bytes begin with all of the key of an entry after its `&`.
+    #[inline(always)]
+    pub(crate) fn opens(&self, at: usize, bytes: &[u8]) -> bool
+        requires { at < length self.now }
+        ensures { (e : Entry) × (slice_get self.now at ≡ Some e) × (result ≡ starts_with nat_eq bytes.now (drop 1 e.key)) }
+    {
+        match self.key(at) {
+            [_, name @ ..] => begin_with(bytes, name),
+            [] => true,
+        }
     }
 }

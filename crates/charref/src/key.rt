@@ -1,7 +1,7 @@
 //! The keys of a table.
 
-ghost use Rattle.std.specs.Prelude.{◌≡◌, ◌≤◌, ℕ, List, true, false, length, take, slice_get, MatchOption};
-ghost use Rattle.std.specs.List.{list_all};
+ghost use Rattle.std.specs.Prelude.{◌≡◌, ◌≤◌, ℕ, List, true, false, length, nat_eq, take, slice_get, MatchOption};
+ghost use Rattle.std.specs.List.{list_all, starts_with};
 ghost use Rattle.std.specs.Ordering.{nat_cmp, is_lt};
 ghost use Rattle.std.specs.Cmp.Lexicographic.{slice_cmp};
 ghost use Rattle.names.specs.Placed.{is_alphanumeric};
@@ -128,4 +128,20 @@ pub(crate) fn is_before(a: &[u8], b: &[u8]) -> bool
         }
     }
     false
+}
+
+/// Whether these bytes begin with a name; by hand, since a key is too short for the groups that `starts_with` compares.
+#[inline(always)]
+pub(crate) fn begin_with(bytes: &[u8], name: &[u8]) -> bool
+    ensures { result ≡ starts_with nat_eq bytes.now name.now }
+{
+    if bytes.len() < name.len() {
+        return false;
+    }
+    for (index, byte) in name.iter().enumerate() {
+        if bytes[index] != *byte {
+            return false;
+        }
+    }
+    true
 }

@@ -38,7 +38,8 @@ impl Last {
     }
 }
 
-/// Whether the rule for attribute values keeps a key as text, where `left` characters were read after it (13.2.5.73).
+/// Whether the rule for attribute values keeps a key as text, where `left` characters were read after it
+/// (`#named-character-reference-state`).
 pub(crate) fn is_kept(in_value: bool, semicolon: bool, left: usize, last: Last) -> bool
     ensures { result ≡ is_kept_before in_value semicolon left last }
 {

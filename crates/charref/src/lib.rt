@@ -1,4 +1,5 @@
-//! Character references (HTML Standard, 13.2.5.72 to 13.2.5.80): the table of named ones, and reading what follows an `&`.
+//! Character references (HTML Standard, 13.2.5, from `#character-reference-state` on): the table of named ones, and reading what
+//! follows an `&`.
 #![tactic(auto)]
 
 mod at_once;
@@ -10,6 +11,7 @@ mod last;
 mod laws;
 mod next;
 mod number;
+mod open_keys;
 mod read;
 mod reference;
 mod reference_state;

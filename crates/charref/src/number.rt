@@ -1,4 +1,4 @@
-//! The characters of numeric references (HTML Standard, 13.2.5.75 to 13.2.5.80).
+//! The characters of numeric references (HTML Standard, from `#numeric-character-reference-state` on).
 
 ghost use Rattle.std.specs.Prelude.{◌≡◌, ◌+◌, ◌*◌, ◌≤◌, ◌<◌, true, false, min, MatchOption};
 ghost use Rattle.charref.specs.Reference.{numbered, number_fault, replaced, replacements, is_surrogate, is_control, digit_value};
@@ -81,7 +81,7 @@ fn is_space(value: u32) -> bool
     matches!(value, 9 | 10 | 12 | 13 | 32)
 }
 
-/// The replacement of a C1 control (13.2.5.80); any other value is its own.
+/// The replacement of a C1 control (`#numeric-character-reference-end-state`); any other value is its own.
 fn replaced(value: u32) -> u32
     ensures { result ≡ replaced replacements value }
 {
@@ -117,7 +117,7 @@ fn replaced(value: u32) -> u32
     }
 }
 
-/// The character that a number stands for (13.2.5.80).
+/// The character that a number stands for (`#numeric-character-reference-end-state`).
 pub(crate) fn numbered(value: u32) -> char
     ensures { result ≡ numbered value }
 {
@@ -127,7 +127,7 @@ pub(crate) fn numbered(value: u32) -> char
     }
 }
 
-/// The parse error of a number, if it has one (13.2.5.80).
+/// The parse error of a number, if it has one (`#numeric-character-reference-end-state`).
 pub(crate) fn number_fault(value: u32) -> Option<ErrorCode>
     ensures { result ≡ number_fault value }
 {

@@ -17,7 +17,7 @@ pub enum Characters<'t> {
 ///
 /// Its parse errors are placed at the `&`: missing-semicolon-after-character-reference if `missing_semicolon` is set, and
 /// then `fault`. If `in_run` is set, no key matches, all characters taken are alphanumerics to be read again, and their run may
-/// go on: the error is unknown-named-character-reference if a `;` follows that run.
+/// go on (`#ambiguous-ampersand-state`): the error is unknown-named-character-reference if a `;` follows that run.
 #[derive(Clone, Copy)]
 pub struct Reference<'t> {
     pub characters: Characters<'t>,

@@ -1,7 +1,6 @@
 //! Where the keys that end in a `;` are, by the hash of their names.
 
-ghost use Rattle.std.specs.Prelude.{◌≡◌, ◌<◌, ◌≤◌, length, nat_eq, IfSome, IsTrue};
-ghost use Rattle.std.specs.List.{starts_with};
+ghost use Rattle.std.specs.Prelude.{◌<◌, ◌≤◌, length, IfSome, IsTrue};
 ghost use Rattle.charref.specs.Reference.{IsTable};
 ghost use Rattle.charref.specs.AtOnce.{HasWhole};
 
@@ -46,22 +45,6 @@ fn hash_of(name: &[u8]) -> u32
     hash ^ hash >> 15
 }
 
-/// Whether these bytes begin with a name; by hand, since a name is too short for the groups that `starts_with` compares.
-#[inline(always)]
-fn begin_with(bytes: &[u8], name: &[u8]) -> bool
-    ensures { result ≡ starts_with nat_eq bytes.now name.now }
-{
-    if bytes.len() < name.len() {
-        return false;
-    }
-    for (index, byte) in name.iter().enumerate() {
-        if bytes[index] != *byte {
-            return false;
-        }
-    }
-    true
-}
-
 /// Whether the key at this place ends in a `;`, and these bytes begin with all of it after its `&`.
 #[inline(always)]
 pub(crate) fn is_whole(flat: &Flat, place: usize, bytes: &[u8]) -> bool
@@ -69,8 +52,7 @@ pub(crate) fn is_whole(flat: &Flat, place: usize, bytes: &[u8]) -> bool
     requires within { place < length flat.now }
     ensures { IsTrue result → HasWhole flat.now bytes.now place }
 {
-    let key = flat.key(place);
-    ends_in_semicolon(key) && begin_with(bytes, &key[1..])
+    ends_in_semicolon(flat.key(place)) && flat.opens(place, bytes)
 }
 
 impl Slots {

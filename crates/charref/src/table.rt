@@ -1,11 +1,13 @@
-//! The table of named character references.
+//! The table of named character references: read from its flat form, and asked for the longest key that a text begins with.
 
 ghost use Rattle.std.specs.Prelude.{◌≡◌, ◌↔◌, [], ◌∷◌, length, Some, None, IfOk, IfErr, IsTrue, Contains, MatchOption};
+ghost use Rattle.std.specs.List.{All};
 ghost use Rattle.charref.specs.Reference.{Entry, Entities, IsTable, HasCore, core, longest};
-ghost use Rattle.charref.specs.Table.{IsIndex};
+ghost use Rattle.charref.specs.Table.{IsAfterKey, IsIndex};
 ghost use Rattle.charref.specs.Flat.{flat_of, IsReadable, IsRefusedFlat};
 
 use crate::flat::Flat;
+use crate::open_keys::OpenKeys;
 use crate::search::search_for;
 use crate::slots::Slots;
 use crate::starts::starts_of;
@@ -16,13 +18,14 @@ use std::marker::Model;
 /// A table of named character references, sorted by the bytes of the keys, so that the keys with a common beginning are a
 /// range. A look-up narrows this range byte by byte until no key goes on with what was read: all keys begin with the `&`, an
 /// index has the ranges of the bytes after it, and each further byte takes two binary searches. A key that stands whole, with
-/// its `;`, is found by its hash. A look-up allocates nothing.
+/// its `;`, is found by its hash, and one without a `;` by its first two letters. A look-up allocates nothing.
 #[derive(Drop)]
 pub struct Table {
     pub(crate) flat: Flat,
     /// By the code of a byte after the `&`, the first entry whose key has at least this code there.
     pub(crate) starts: Vec<usize>,
     pub(crate) slots: Slots,
+    pub(crate) open_keys: OpenKeys,
 }
 
 impl Model for Table {
@@ -30,7 +33,8 @@ impl Model for Table {
 
     ghost view = { λ table. table.flat };
 
-    ghost invariant = { λ table. IsReadable table.flat × IsIndex table.flat table.starts.items 130 };
+    ghost invariant = { λ table. IsReadable table.flat × IsIndex table.flat table.starts.items 130
+        × All (IsAfterKey table.flat) table.open_keys.read.items };
 }
 
 /// A key that a text begins with: its length in bytes, including the `&`, and the characters that it stands for.
@@ -72,10 +76,12 @@ impl Table {
         let flat = Flat::read(alloc, bytes)?;
         let starts = starts_of(alloc, &flat)?;
         let slots = Slots::new(alloc, &flat)?;
+        let open_keys = OpenKeys::new(alloc, &flat)?;
         Ok(Table {
             flat,
             starts,
             slots,
+            open_keys,
         })
     }
 

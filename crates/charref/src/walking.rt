@@ -124,7 +124,7 @@ pub(crate) fn ends_in_semicolon(key: &[u8]) -> bool
     !key.is_empty() && key[key.len() - 1] == b';'
 }
 
-/// An `&` that is text because no key matches (13.2.5.73, 13.2.5.74).
+/// An `&` that is text because no key matches (`#named-character-reference-state`, `#ambiguous-ampersand-state`).
 pub(crate) fn unknown<'t>(left: usize, last: Last) -> Reference<'t>
     ensures { result ≡ unknown_of left last }
 {
@@ -136,7 +136,7 @@ pub(crate) fn unknown<'t>(left: usize, last: Last) -> Reference<'t>
 }
 
 /// The outcome once no further character can change the longest match, the entry at `best`: `read` characters were read
-/// after the `&`, and `last` is the kind of the last one (13.2.5.73).
+/// after the `&`, and `last` is the kind of the last one (`#named-character-reference-state`).
 fn decided<'t>(
     table: &'t Table,
     in_value: bool,
@@ -168,7 +168,7 @@ fn decided<'t>(
     }
 }
 
-/// A numeric reference (13.2.5.80).
+/// A numeric reference: the numeric character reference end state (`#numeric-character-reference-end-state`).
 pub(crate) fn number<'t>(value: u32, left: usize, missing_semicolon: bool) -> Reference<'t>
     ensures { result ≡ number_of value left missing_semicolon }
 {
@@ -181,7 +181,7 @@ pub(crate) fn number<'t>(value: u32, left: usize, missing_semicolon: bool) -> Re
     }
 }
 
-/// After `#` (13.2.5.75).
+/// After `#` (`#numeric-character-reference-state`, `#decimal-character-reference-start-state`).
 #[inline(always)]
 fn after_sign<'t>(ch: char) -> Next<'t>
     ensures within { (count : ℕ) → is_next_within result count ≡ true }
@@ -201,7 +201,7 @@ fn after_sign<'t>(ch: char) -> Next<'t>
     }
 }
 
-/// After `#x` (13.2.5.76).
+/// After `#x` (`#hexadecimal-character-reference-start-state`).
 fn after_x<'t>(ch: char) -> Next<'t>
     ensures within { (count : ℕ) → is_next_within result count ≡ true }
     ensures next { (table : Entities) (in_value : Bool) (text : List Placed) (p : Placed) → IsSign Base.Hexadecimal text
@@ -217,7 +217,8 @@ fn after_x<'t>(ch: char) -> Next<'t>
     }
 }
 
-/// After the digits of a number (13.2.5.78, 13.2.5.79).
+/// After the digits of a number: the hexadecimal and decimal character reference states (`#hexadecimal-character-reference-state`,
+/// `#decimal-character-reference-state`).
 #[inline(always)]
 fn after_digits<'t>(base: Base, value: u32, ch: char) -> Next<'t>
     requires { value ≤ TOO_GREAT }
@@ -233,7 +234,7 @@ fn after_digits<'t>(base: Base, value: u32, ch: char) -> Next<'t>
     }
 }
 
-/// Right after the `&`, before a character that is no alphanumeric (13.2.5.72).
+/// Right after the `&`, before a character that is no alphanumeric (`#character-reference-state`).
 #[inline(always)]
 fn after_ampersand<'t>(ch: char) -> Next<'t>
     ensures within { (count : ℕ) → is_next_within result count ≡ true }
@@ -248,7 +249,7 @@ fn after_ampersand<'t>(ch: char) -> Next<'t>
 }
 
 /// Whether the characters read are a key that must wait for the next character, by the rule for attribute values
-/// (13.2.5.73).
+/// (`#named-character-reference-state`).
 #[inline(always)]
 fn waits(in_value: bool, last: Last, search: Search, flat: &Flat) -> bool
     requires { IfSome search.best (λ k. k < length flat.now) }
@@ -290,7 +291,7 @@ pub(crate) fn longer(table: &Table, search: Search, ch: char) -> Option<Search>
     }
 }
 
-/// After the beginning of a name (13.2.5.73).
+/// The named character reference state (`#named-character-reference-state`), after the beginning of a name.
 #[inline(always)]
 pub(crate) fn after_name<'t>(table: &'t Table, in_value: bool, search: Search, ch: char) -> Next<'t>
     requires { is_search_within search (length table.now) ≡ true }

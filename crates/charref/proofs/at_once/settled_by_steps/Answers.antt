@@ -1,22 +1,24 @@
-use Rattle.std.proofs.Common.{◌≡◌, [], ◌∷◌, ◌++◌, true, sym, ap, ◌∙◌}
-use Rattle.std.specs.Char.{is_ascii}
-use Rattle.charref.proofs.Indexing.{search_within}
-use Rattle.charref.proofs.AtOnce.{name_byte, name_ended}
+use Rattle.std.proofs.Common.{false, sym, ◌∙◌, arith}
+use Rattle.charref.proofs.AtOnce.{nothing_settled, walk_settles, walked_more}
 use Rattle.charref.proofs.at_once.settled_by_steps.Goals as goal
+use Rattle.charref.proofs.at_once.settled_by_steps.Goals.{then-loop-count-test+else-is_ascii, else-loop-count-test}
 
-pub longer-requires : goal.longer-requires
-longer-requires c = search_within c.args.table.now c.loop-index.search _ (c.loop-index.invariant.read 0)
+pub returns-in-Some-clause-settles : goal.returns-in-Some-clause-settles
+returns-in-Some-clause-settles c =
+    let l = c.loop-count in
+    walk_settles c.args.table.now c.args.bytes.now l.count l.walk c.take.new.self c.loop-count-test.true (sym c.is_ascii.ensures ∙ c.if-is_ascii.true) l.invariant c.in-Some.found
+    (λ text p taken is. c.in-Some.ensures.taken c.args.table.now false text p taken (is ∙ sym c.from.ensures))
 
-pub after_name-requires : goal.after_name-requires
-after_name-requires c = search_within c.args.table.now c.loop-index.search _ (c.loop-index.invariant.read 0)
+pub loop-count-preserved : goal.loop-count-preserved
+loop-count-preserved c =
+    let l = c.loop-count in
+    walked_more c.args.table.now c.args.bytes.now l.count l.walk c.take.new.self c.loop-count-test.true (sym c.is_ascii.ensures ∙ c.if-is_ascii.true) l.invariant
+    (λ text p taken is. c.in_default.ensures.taken c.args.table.now false text p taken (is ∙ sym c.from.ensures))
 
-pub returns-in-None : goal.returns-in-None
-returns-in-None c =
-    let ascii : is_ascii c.from-in-None.result ≡ true = ap is_ascii c.from-in-None.ensures ∙ sym c.is_ascii.ensures ∙ c.if-not-is_ascii.false in
-    name_ended c.args.table.now c.args.bytes.now c.loop-index.index c.from-in-None.result c.loop-index.search c.in_ok-found-in-None.found c.loop-index-test.true c.from-in-None.ensures ascii c.loop-index.invariant
-    (λ text p read run is after. c.in_ok-found-in-None.ensures c.args.table.now (text ++ p ∷ []) (c.after_name.ensures.next text p read run is) after)
-
-pub loop-index-preserved : goal.loop-index-preserved
-loop-index-preserved c =
-    let ascii : is_ascii c.from.result ≡ true = ap is_ascii c.from.ensures ∙ sym c.is_ascii.ensures ∙ c.if-not-is_ascii.false in
-    name_byte c.args.table.now c.args.bytes.now c.loop-index.index c.from.result c.loop-index.search c.in-Some.next c.loop-index-test.true c.from.ensures ascii c.loop-index.invariant c.in-Some.ensures.held
+pub returns-clause-settles : goal.returns-clause-settles
+returns-clause-settles c =
+    let l = c.loop-count in
+    nothing_settled l.walk c.args.table.now c.args.bytes.now l.count c.begun-count.ensures.table l.invariant (λ within. elim c.loop-count-test.branch [
+      | then-loop-count-test+else-is_ascii w ↦ sym w.is_ascii.ensures ∙ w.if-is_ascii.false
+      | else-loop-count-test w ↦ absurd (omega (arith, within, w.loop-count-test.false))
+    ])

@@ -1,5 +1,9 @@
-use Rattle.charref.proofs.AtOnce.{HasReadName}
+use Rattle.std.proofs.Common.{◌-◌, length}
+use Rattle.charref.specs.AtOnce.{HasWalked}
 use Rattle.charref.proofs.at_once.settled_by_steps.Given as goal
 
-abbrev pub invariant-loop-index : goal.invariant-loop-index
-invariant-loop-index l = HasReadName l.search l.table l.bytes l.index
+abbrev pub invariant-loop-count : goal.invariant-loop-count
+invariant-loop-count l = HasWalked l.walk l.table l.bytes l.count
+
+abbrev pub decreases-loop-count : goal.decreases-loop-count
+decreases-loop-count l = length l.bytes - l.count

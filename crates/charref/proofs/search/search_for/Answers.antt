@@ -1,10 +1,8 @@
-use Rattle.std.proofs.Common.{◌≡◌, ◌++◌, ◌∷◌, [], ◌+◌, ℕ, List, get_or, subst, add-one}
-use Rattle.std.proofs.Math.Seq.{take-suc}
+use Rattle.std.proofs.Common.{take, drop, sym, subst}
+use Rattle.std.proofs.lemmas.List.{take-append-drop, take_more}
 use Rattle.charref.specs.Table.{HasRead}
-use Rattle.std.proofs.Common.{take, drop, sym}
 use Rattle.charref.proofs.Searching.{read_over}
 use Rattle.charref.proofs.search.search_for.Goals as goal
-use Rattle.std.proofs.lemmas.List.{take-append-drop}
 
 pub returns-then-is_over-clause-best : goal.returns-then-is_over-clause-best
 returns-then-is_over-clause-best c = read_over c.args.flat.now c.loop-byte.search (take c.loop-byte.byte-index c.args.text.now) (drop c.loop-byte.byte-index c.args.text.now) c.args.text.now
@@ -13,9 +11,7 @@ returns-then-is_over-clause-best c = read_over c.args.flat.now c.loop-byte.searc
 pub loop-byte-preserved : goal.loop-byte-preserved
 loop-byte-preserved c =
     let i = c.loop-byte.byte-index in
-    let text : List ℕ = c.args.text.now in
-    let more : take (i + 1) text ≡ take i text ++ get_or text i 0 ∷ [] = rw add-one (take-suc text i 0 c.loop-byte-test.true) in
-    subst (HasRead c.narrow.new.self c.args.flat.now) (sym more) (c.narrow.ensures.read (take i text) c.loop-byte.invariant)
+    subst (HasRead c.narrow.new.self c.args.flat.now) (sym (take_more c.args.text.now i 0 c.loop-byte-test.true)) (c.narrow.ensures.read (take i c.args.text.now) c.loop-byte.invariant)
 
 pub narrow-requires-clause-within : goal.narrow-requires-clause-within
 narrow-requires-clause-within c = (c.loop-byte.invariant.range.ordered, c.loop-byte.invariant.range.within)

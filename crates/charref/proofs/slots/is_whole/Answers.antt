@@ -1,18 +1,16 @@
-use Rattle.std.proofs.Common.{◌≡◌, ◌-◌, true, nat_eq, length, take, drop, sym, ap, ◌∙◌, subst, arith}
-use Rattle.std.proofs.lemmas.List.{take_all, length-drop}
-use Rattle.std.specs.List.{starts_with}
+use Rattle.std.proofs.Common.{◌≡◌, true, sym, ap, ◌∙◌, subst}
 use Rattle.charref.specs.Reference.{Entry, ends_in_semicolon}
+use Rattle.charref.proofs.Ranges.{some_same}
 use Rattle.charref.proofs.slots.is_whole.Goals as goal
 
 pub returns-then-ends_in_semicolon : goal.returns-then-ends_in_semicolon
-returns-then-ends_in_semicolon c =
-    let e : Entry = c.key-key.ensures.0 in
-    let key = c.key-key.result.now in
-    let name : take (length key - 1) (drop 1 key) ≡ drop 1 e.key = take_all _ _ (omega (arith, length-drop 1 key)) ∙ ap (drop 1) c.key-key.ensures.2 in
-    λ is. record {
+returns-then-ends_in_semicolon c = λ is.
+    let e : Entry = c.opens.ensures.0 in
+    let same : c.key.ensures.0 ≡ e = some_same c.key.ensures.0 e (sym c.key.ensures.1 ∙ c.opens.ensures.1) in
+    record {
       is_table = c.requires.table;
       entry = e;
-      stands = c.key-key.ensures.1;
-      closed = subst (λ key. ends_in_semicolon key ≡ true) c.key-key.ensures.2 (sym c.ends_in_semicolon.ensures ∙ c.if-ends_in_semicolon.true);
-      opens = subst (λ name. starts_with nat_eq c.args.bytes.now name ≡ true) name (sym c.begin_with.ensures ∙ is);
+      stands = c.opens.ensures.1;
+      closed = subst (λ key. ends_in_semicolon key ≡ true) (c.key.ensures.2 ∙ ap (λ (x : Entry). x.key) same) (sym c.ends_in_semicolon.ensures ∙ c.if-ends_in_semicolon.true);
+      opens = sym c.opens.ensures.2 ∙ is;
     }

@@ -1,7 +1,7 @@
 use Rattle.std.proofs.Common.{inl, inr}
 use Rattle.charref.proofs.WholeNumbers.{x_taken}
-use Rattle.charref.proofs.at_once.settled_number.Goals as goal
-use Rattle.charref.proofs.at_once.settled_number.Goals.{then-second-eq120-via-then-second-eq120, then-second-eq120-via-else-second-eq120+then-second-eq88}
+use Rattle.charref.proofs.at_once.whole_number.Goals as goal
+use Rattle.charref.proofs.at_once.whole_number.Goals.{then-second-eq120-via-then-second-eq120, then-second-eq120-via-else-second-eq120+then-second-eq88}
 
 pub number_after-requires : goal.number_after-requires
 number_after-requires c = x_taken c.args.bytes.now c.in_ok-second.field-0.now c.requires c.in_ok-second.ensures.lookup.3.0 (c.in_ok-second.ensures.lookup.3.1 0) (elim c.then-second-eq120.branch [

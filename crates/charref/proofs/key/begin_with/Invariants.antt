@@ -1,6 +1,6 @@
 use Rattle.std.proofs.Common.{◌≡◌, drop, nat_eq}
 use Rattle.std.specs.List.{starts_with}
-use Rattle.charref.proofs.slots.begin_with.Given as goal
+use Rattle.charref.proofs.key.begin_with.Given as goal
 
 abbrev pub invariant-loop-index : goal.invariant-loop-index
 invariant-loop-index l = starts_with nat_eq l.bytes l.name ≡ starts_with nat_eq (drop l.index l.bytes) (drop l.index l.name)

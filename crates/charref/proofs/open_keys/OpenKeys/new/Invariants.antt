@@ -1,0 +1,6 @@
+use Rattle.std.specs.List.{All}
+use Rattle.charref.specs.Table.{IsAfterKey}
+use Rattle.charref.proofs.open_keys.OpenKeys.new.Given as goal
+
+abbrev pub invariant-loop-place : goal.invariant-loop-place
+invariant-loop-place l = All (IsAfterKey l.flat) l.keys.read.items

@@ -1,0 +1,6 @@
+use Rattle.std.proofs.Common.{take}
+use Rattle.charref.specs.Table.{HasRead}
+use Rattle.charref.proofs.search.search_of.Given as goal
+
+abbrev pub invariant-loop-byte : goal.invariant-loop-byte
+invariant-loop-byte l = HasRead l.search l.flat (take l.byte-index l.text)
